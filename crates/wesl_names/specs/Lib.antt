@@ -1,0 +1,4 @@
+pub mod Path
+pub mod PathText
+pub mod PathOrder
+pub mod Errors
