@@ -1,8 +1,10 @@
 -- What an error says: of a diagnostic its error counts, of a path and a text what they spell.
-use Rattle.std.specs.Prelude.{◌≡◌, ℕ, List, ◌⊎◌, string_bytes}
+use Rattle.std.specs.Prelude.{◌≡◌, ℕ, List, ◌⊎◌, None, string_bytes}
 use Rattle.wesl_names.specs.Path.{Path, path_view}
 use Rattle.wesl_names.specs.declared.errors.Error as error
 use Rattle.wesl_names.specs.declared.errors.ResolveError as resolve_error
+use Rattle.wesl_names.specs.declared.errors.ImportError as import_error
+use Rattle.wesl_names.specs.declared.errors.Diagnostic as diagnostic
 
 -- the module is not there, told by this message
 abbrev pub IsModuleNotFound : Path → List ℕ → resolve_error.ResolveError → Type 0
@@ -17,3 +19,12 @@ IsRefusedWith P _ = ⊥
 -- memory was refused, or P holds
 abbrev pub OrMemory : (resolve_error.ResolveError → Type 0) → resolve_error.ResolveError → Type 0
 OrMemory P e = (e ≡ resolve_error.Memory) ⊎ P e
+
+-- what a resolver's refusal becomes in a link: want of memory stays that, and any other is a fault of an import
+abbrev pub error_of_resolve : resolve_error.ResolveError → error.Error
+error_of_resolve resolve_error.Memory = error.Memory
+error_of_resolve fault = error.Import (import_error.ResolveError fault)
+
+-- a diagnostic of this error that tells no place
+abbrev pub IsBare : error.Error → diagnostic.Diagnostic → Type 0
+IsBare e d = diagnostic.out-Diagnostic d ≡ record { error = e; declaration = None; «module» = None; display = None; span = None; source = None }

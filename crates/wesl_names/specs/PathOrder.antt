@@ -1,5 +1,5 @@
 -- The order of paths.
-use Rattle.std.specs.Prelude.{ℕ, Bool, true, false, ◌&&◌, ◌||◌, ◌==◌, nat_lt, List, [], ◌∷◌, bytes_eq}
+use Rattle.std.specs.Prelude.{Bool, true, false, ◌&&◌, ◌||◌, ◌==◌, nat_lt, List, [], ◌∷◌, bytes_eq}
 use Rattle.wesl_names.specs.Path.{Text, Origin, absolute, relative, from_package, same_origin, Path}
 
 -- the first list stands before the second, where `before` orders their elements: a beginning first

@@ -1,34 +1,53 @@
 //! The error types. They hold one another: a refusal of a resolver may hold the diagnostic of a
 //! unit, whose error may be a refusal of a resolver.
+//!
+//! Want of memory is `Memory` wherever it comes up, and no call wraps it in another error.
+ghost use Rattle.std.specs.Prelude.{◌≡◌};
+ghost use Rattle.wesl_names.specs.Errors.{error_of_resolve, IsBare};
+
 use crate::path::ModulePath;
 use crate::span::Span;
 use std::alloc::{AllocError, AllocFailed};
 use thiserror::Error;
 
+/// Why a conditional attribute is refused (WESL, "ConditionalTranslation").
 #[derive(Debug, Drop, Error)]
 pub enum CondCompError {
+    /// A flag is written with template arguments. It carries the flag's name.
     #[error("invalid feature flag `{0}`")]
     InvalidFeatureFlag(String),
+    /// The features answer a flag with a refusal. It carries the flag's name.
     #[error("unexpected feature flag `{0}`")]
     UnexpectedFeatureFlag(String),
+    /// A condition is none of `true`, `false`, a flag, parentheses, `!`, `&&` and `||`.
     #[error("invalid expression in a condition")]
     InvalidExpression,
+    /// An `@elif` or `@else` does not stand directly after an `@if` or `@elif`.
     #[error("no `@if` stands before this branch")]
     NoPrecedingIf,
+    /// A node has two conditional attributes.
     #[error("two conditions on one node")]
     DuplicateIf,
 }
 
+/// Why a linked module is refused by a validator (WGSL, "Declaration and Scope").
 #[derive(Debug, Drop, Error)]
 pub enum ValidateError {
+    /// A reference that is no declaration's and no builtin's. It carries the name.
     #[error("undefined symbol `{0}`")]
     UndefinedSymbol(String),
+    /// A call with the wrong number of arguments. It carries the name of what is called, how many
+    /// arguments it takes, and how many it got.
     #[error("`{0}` takes {1} arguments, and got {2}")]
     ParamCount(String, usize, usize),
+    /// A call of what is no function and no type. It carries its name.
     #[error("`{0}` cannot be called")]
     NotCallable(String),
+    /// Two declarations of one scope have one name. It carries the name.
     #[error("`{0}` is declared twice")]
     Duplicate(String),
+    /// A declaration refers to itself, by way of others. It carries its name, and the name of a
+    /// declaration on the way that refers to it.
     #[error("`{0}` reaches itself by `{1}`")]
     Cycle(String, String),
 }
@@ -37,11 +56,17 @@ pub enum ValidateError {
 #[cycle(errors)]
 #[derive(Debug, Drop)]
 pub struct Diagnostic {
+    /// What the fault is.
     pub error: Error,
+    /// The name of the module's declaration that holds the fault. Validators alone set it.
     pub declaration: Option<String>,
+    /// The path of the module that holds the fault.
     pub module: Option<ModulePath>,
+    /// The name by which the module is shown, as a file's.
     pub display: Option<String>,
+    /// The place of the fault in the module's source.
     pub span: Option<Span>,
+    /// The source of the module.
     pub source: Option<String>,
 }
 
@@ -49,52 +74,103 @@ pub struct Diagnostic {
 #[cycle(errors)]
 #[derive(Debug, Drop, Error)]
 pub enum ResolveError {
+    /// A file is not there, for resolvers that read files. It carries the file's name and the reason.
     #[error("file not found: `{0}` ({1})")]
     FileNotFound(String, String),
+    /// The resolver has no module at a path. It carries the path and the reason.
     #[error("module not found ({1})")]
     ModuleNotFound(ModulePath, String),
+    /// The module is there, and cannot be read or is refused. It carries the diagnostic.
     #[error("the module was refused")]
     Error(Box<Diagnostic>),
+    /// Want of memory.
     #[error("out of memory")]
     Memory,
 }
 
+/// Why an import or a path is refused (WESL, "Imports" and "Visibility").
 #[cycle(errors)]
 #[derive(Debug, Drop, Error)]
 pub enum ImportError {
+    /// Two declarations or imports of one module have one name. It carries the name.
     #[error("two symbols have the name `{0}`")]
     DuplicateSymbol(String),
+    /// The resolver refuses a module that is reached. It carries the resolver's refusal, which is not
+    /// want of memory.
     #[error("{0}")]
     ResolveError(ResolveError),
+    /// A module has no declaration of a name. It carries the module's path and the name.
     #[error("no declaration `{1}`")]
     MissingDecl(ModulePath, String),
+    /// A name is an import of a module that does not publish it. It carries the name and the path of the
+    /// module.
     #[error("`{0}` is private")]
     Private(String, ModulePath),
 }
 
+/// Any fault of the linker.
 #[cycle(errors)]
 #[derive(Debug, Drop, Error)]
 pub enum Error {
+    /// A fault of a conditional attribute.
     #[error("{0}")]
     CondComp(CondCompError),
+    /// A fault of an import or a path.
     #[error("{0}")]
     Import(ImportError),
+    /// A refusal of a resolver that was asked directly.
     #[error("{0}")]
     Resolve(ResolveError),
+    /// A fault that a validator found.
     #[error("{0}")]
     Validate(ValidateError),
+    /// More modules are reached than the caller allows. It carries how many are allowed.
     #[error("more than {0} modules")]
     ModuleLimit(usize),
+    /// A type expression stands where it has no form of its own.
     #[error("not a type")]
     NotNormalType,
+    /// The input is no JSON text.
     #[error("not JSON")]
     NotJson,
+    /// The JSON value is no tree. It carries the place in the value where that shows.
     #[error("not a tree at `{0}`")]
     BadTree(String),
+    /// The JSON value is no bundle. It carries the place in the value where that shows.
     #[error("not a bundle at `{0}`")]
     BadBundle(String),
+    /// Want of memory.
     #[error("out of memory")]
     Memory,
+}
+
+impl Error {
+    /// The error of a link whose resolver refuses a module: want of memory stays that, and anything else
+    /// is a fault of an import.
+    pub fn of_resolve(fault: ResolveError) -> Error
+        ensures { result ≡ error_of_resolve fault }
+    {
+        match fault {
+            ResolveError::Memory => Error::Memory,
+            fault => Error::Import(ImportError::ResolveError(fault)),
+        }
+    }
+}
+
+impl Diagnostic {
+    /// The diagnostic of an error of which no place is known: the other fields are `None`.
+    pub fn of(error: Error) -> Diagnostic
+        ensures { IsBare error result }
+    {
+        Diagnostic {
+            error,
+            declaration: None,
+            module: None,
+            display: None,
+            span: None,
+            source: None,
+        }
+    }
 }
 
 impl From<AllocError> for ResolveError {
@@ -160,5 +236,81 @@ impl From<ResolveError> for ImportError {
 
     fn from(fault: ResolveError) -> ImportError {
         ImportError::ResolveError(fault)
+    }
+}
+
+impl From<CondCompError> for Error {
+    ghost use Rattle.std.specs.Prelude.{◌≡◌};
+    ghost use Rattle.wesl_names.specs.declared.errors.Error as error;
+
+    ghost from_gives = { λ fault e. e ≡ error.CondComp fault };
+
+    fn from(fault: CondCompError) -> Error {
+        Error::CondComp(fault)
+    }
+}
+
+impl From<ImportError> for Error {
+    ghost use Rattle.std.specs.Prelude.{◌≡◌};
+    ghost use Rattle.wesl_names.specs.declared.errors.Error as error;
+
+    ghost from_gives = { λ fault e. e ≡ error.Import fault };
+
+    fn from(fault: ImportError) -> Error {
+        Error::Import(fault)
+    }
+}
+
+impl From<ResolveError> for Error {
+    ghost use Rattle.std.specs.Prelude.{◌≡◌};
+    ghost use Rattle.wesl_names.specs.declared.errors.Error as error;
+
+    ghost from_gives = { λ fault e. e ≡ error.Resolve fault };
+
+    fn from(fault: ResolveError) -> Error {
+        Error::Resolve(fault)
+    }
+}
+
+impl From<ValidateError> for Error {
+    ghost use Rattle.std.specs.Prelude.{◌≡◌};
+    ghost use Rattle.wesl_names.specs.declared.errors.Error as error;
+
+    ghost from_gives = { λ fault e. e ≡ error.Validate fault };
+
+    fn from(fault: ValidateError) -> Error {
+        Error::Validate(fault)
+    }
+}
+
+impl From<Error> for Diagnostic {
+    ghost use Rattle.wesl_names.specs.Errors.{IsBare};
+
+    ghost from_gives = { IsBare };
+
+    fn from(error: Error) -> Diagnostic {
+        Diagnostic::of(error)
+    }
+}
+
+impl From<AllocError> for Diagnostic {
+    ghost use Rattle.wesl_names.specs.declared.errors.Error as error;
+    ghost use Rattle.wesl_names.specs.Errors.{IsBare};
+
+    ghost from_gives = { λ _ d. IsBare error.Memory d };
+
+    fn from(_: AllocError) -> Diagnostic {
+        Diagnostic::of(Error::Memory)
+    }
+}
+
+impl<T: Drop> From<AllocFailed<T>> for Diagnostic {
+    ghost use Rattle.wesl_names.specs.declared.errors.Error as error;
+    ghost use Rattle.wesl_names.specs.Errors.{IsBare};
+
+    ghost from_gives = { λ _ d. IsBare error.Memory d };
+
+    fn from(_: AllocFailed<T>) -> Diagnostic {
+        Diagnostic::of(Error::Memory)
     }
 }

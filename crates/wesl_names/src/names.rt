@@ -6,7 +6,9 @@ use crate::errors::Error;
 use std::alloc::Global;
 use std::marker::Model;
 
-/// The number of an identifier: its place in a table of names.
+/// An identifier of a module: its place in the module's table of names.
+///
+/// Two identifiers of one name are one only where they have one number.
 #[derive(Clone, Copy, Debug, PartialEq, Eq, Hash)]
 pub struct Ident(pub usize);
 
@@ -39,7 +41,7 @@ impl Names {
         self.names.len()
     }
 
-    /// A new identifier of this name, also where another has the name.
+    /// A new identifier of the name `name`, also where another has it.
     ///
     /// Refused for want of memory alone; the table is then as before.
     pub fn add(&mut self, name: &str) -> Result<Ident, Error>
@@ -54,7 +56,7 @@ impl Names {
         Ok(ident)
     }
 
-    /// The name of an identifier of this table.
+    /// The name of `ident`, an identifier of this table.
     pub fn name(&self, ident: Ident) -> &str
         requires { ident.0 < length self.now }
         ensures { result.now ≡ get_or self.now ident.0 [] }

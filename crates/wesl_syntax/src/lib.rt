@@ -2,6 +2,7 @@
 #![tactic(auto)]
 
 mod attribute;
+mod copy;
 mod declaration;
 mod expression;
 mod import;
@@ -9,6 +10,10 @@ mod span;
 mod statement;
 
 pub use attribute::{Attribute, AttributeNode, Attributes};
+pub use copy::{
+    copy_attributes, copy_declarations, copy_directives, copy_expressions, copy_import_statements,
+    copy_statements,
+};
 pub use declaration::{
     AccessMode, AddressSpace, ConstAssert, Declaration, DeclarationKind, FormalParameter, Function,
     GlobalDeclaration, GlobalDeclarationNode, GlobalDirective, GlobalDirectiveNode, Struct,
@@ -19,7 +24,7 @@ pub use expression::{
     UnaryOperator,
 };
 pub use import::{Import, ImportContent, ImportItem, ImportStatement, ImportStatementNode};
-pub use span::Spanned;
+pub use span::{Spanned, law_of_equality};
 pub use statement::{
     AssignmentOperator, BreakIfStatement, CaseSelector, CompoundStatement, ContinuingStatement,
     ElseClause, ElseIfClause, IfClause, Statement, StatementNode, SwitchClause,

@@ -1,0 +1,5 @@
+pub mod Bytes
+pub mod Places
+pub mod Readings
+pub mod Units
+pub mod Faults

@@ -1,0 +1,105 @@
+-- Lists and objects, read item by item and member by member.
+use Rattle.std.proofs.Common.{◌≡◌, ◌⊎◌, ℕ, zero, suc, ◌+◌, ◌<◌, ◌≤◌, List, [], ◌∷◌, ◌++◌, map, take, length, get_or, Bool, true, false, ◌||◌, Option, Some, None, option_map, option_and_then, string_bytes, refl, sym, ap, ◌∙◌, subst, inl, inr, arith, Bor, codes}
+use Rattle.std.proofs.lemmas.List.{take_more, take_all, map-append}
+use Rattle.serde_json.specs.Data.{Data, null, boolean, number, string, array, object, Items, no_items, item, Members, no_members, member}
+use Rattle.serde_json.specs.Find.{get, at, get_item, as_array}
+use Rattle.serde_json.specs.Written.{has_float, items_have_float, members_have_float}
+use Rattle.serde_json.specs.View.{view, items_view, members_view}
+use Rattle.serde_json.specs.declared.value.Value.{Value}
+use Rattle.serde_json.proofs.Views.{Entry, get_item_within}
+use Rattle.wesl_names.specs.Path.{Text, Path}
+use Rattle.wesl.specs.Place.{HasMember}
+use Rattle.wesl.specs.Bundle.{items_in, has_only, bundle_keys, required_in, path_in, or_empty, name_in, module_in, bundle_in, Module}
+use Rattle.wesl.specs.Fault.{Fault}
+use Rattle.wesl.specs.Line.{texts_value, fault_value}
+
+-- ---- items
+
+pub item-at : (d : Data) (vs : List Value) (i : ℕ) (v : Value) → as_array d ≡ Some (items_view vs) → i < length vs → v ≡ get_or vs i v → at i d ≡ Some (view v)
+item-at null vs i v h low e = cc
+item-at (boolean b) vs i v h low e = cc
+item-at (number n) vs i v h low e = cc
+item-at (string s) vs i v h low e = cc
+item-at (array es) vs i v h low e =
+    let same : es ≡ items_view vs = cc in
+    ap (get_item i) same ∙ sym (get_item_within vs i v low) ∙ ap (λ x. Some (view x)) (sym e)
+item-at (object ms) vs i v h low e = cc
+
+pub item-found : (vs : List Value) (i : ℕ) (v : Value) → i < length vs → v ≡ get_or vs i v → get_item i (items_view vs) ≡ Some (view v)
+item-found vs i v low e = sym (get_item_within vs i v low) ∙ ap (λ x. Some (view x)) (sym e)
+
+pub longer : {X : Type 0} (vs : List X) (i : ℕ) (v : X) → i < length vs → v ≡ get_or vs i v → take (i + 1) vs ≡ take i vs ++ v ∷ []
+longer vs i v low e = take_more vs i v low ∙ ap (λ x. take i vs ++ x ∷ []) (sym e)
+
+floats-append : (vs : List Value) (v : Value) → items_have_float (items_view vs) ≡ false → has_float (view v) ≡ false → items_have_float (items_view (vs ++ v ∷ [])) ≡ false
+floats-append [] v before here = rw here
+floats-append (w ∷ vs) v before here = both (has_float (view w)) (items_have_float (items_view vs)) before (λ later. floats-append vs v later here)
+  where
+    both : (a b : Bool) {c : Bool} → (a || b) ≡ false → (b ≡ false → c ≡ false) → (a || c) ≡ false
+    both true b h next = cc
+    both false b h next = next h
+
+pub floats-turn : (vs : List Value) (i : ℕ) (v : Value) → i < length vs → v ≡ get_or vs i v → items_have_float (items_view (take i vs)) ≡ false → has_float (view v) ≡ false → items_have_float (items_view (take (i + 1) vs)) ≡ false
+floats-turn vs i v low e before here = ap (λ ws. items_have_float (items_view ws)) (longer vs i v low e) ∙ floats-append (take i vs) v before here
+
+pub items_in-append : {A : Type 0} (r : Data → Option A) (vs : List Value) (v : Value) (xs : List A) (x : A) → items_in r (items_view vs) ≡ Some xs → r (view v) ≡ Some x → items_in r (items_view (vs ++ v ∷ [])) ≡ Some (xs ++ x ∷ [])
+items_in-append {A = A} r [] v xs x before here =
+    let none : [] ≡ xs = cc in
+    rw here (ap (λ ys. Some (ys ++ x ∷ [])) none)
+items_in-append {A = A} r (w ∷ vs) v xs x before here = step (r (view w)) (items_in r (items_view vs)) (items_in r (items_view (vs ++ v ∷ []))) before (λ ys h. items_in-append r vs v ys x h here)
+  where
+    step : (o : Option A) (rest grown : Option (List A)) → option_and_then (λ y. option_and_then (λ ys. Some (y ∷ ys)) rest) o ≡ Some xs → ((ys : List A) → rest ≡ Some ys → grown ≡ Some (ys ++ x ∷ [])) → option_and_then (λ y. option_and_then (λ ys. Some (y ∷ ys)) grown) o ≡ Some (xs ++ x ∷ [])
+    step None rest grown h next = cc
+    step (Some y) None grown h next = cc
+    step (Some y) (Some ys) grown h next =
+        let same : y ∷ ys ≡ xs = cc in
+        rw (next ys refl) (ap (λ zs. Some (zs ++ x ∷ [])) same)
+
+pub items_in-turn : {A : Type 0} (r : Data → Option A) (vs : List Value) (i : ℕ) (v : Value) (xs ys : List A) (x : A) → i < length vs → v ≡ get_or vs i v → ys ≡ xs ++ x ∷ [] → items_in r (items_view (take i vs)) ≡ Some xs → r (view v) ≡ Some x → items_in r (items_view (take (i + 1) vs)) ≡ Some ys
+items_in-turn r vs i v xs ys x low e grown before here = ap (λ ws. items_in r (items_view ws)) (longer vs i v low e) ∙ items_in-append r (take i vs) v xs x before here ∙ ap Some (sym grown)
+
+pub list_in-whole : {A : Type 0} (r : Data → Option A) (d : Data) (vs : List Value) (i : ℕ) (xs : List A) → as_array d ≡ Some (items_view vs) → length vs ≤ i → items_in r (items_view (take i vs)) ≡ Some xs → option_and_then (items_in r) (as_array d) ≡ Some xs
+list_in-whole r d vs i xs is all read = ap (option_and_then (items_in r)) is ∙ ap (λ ws. items_in r (items_view ws)) (sym (take_all i vs all)) ∙ read
+
+-- ---- members
+
+pub HasMember-middle : (done : List Entry) (e : Entry) (left : List Entry) → HasMember (string_bytes e.0) (view e.1) (members_view (done ++ e ∷ left))
+HasMember-middle [] e left = inl (refl, refl)
+HasMember-middle (x ∷ done) e left = inr (HasMember-middle done e left)
+
+pub floats-member : (done : List Entry) (e : Entry) → members_have_float (members_view done) ≡ false → has_float (view e.1) ≡ false → members_have_float (members_view (done ++ e ∷ [])) ≡ false
+floats-member [] e before here = rw here
+floats-member (x ∷ done) e before here = both (has_float (view x.1)) (members_have_float (members_view done)) before (λ later. floats-member done e later here)
+  where
+    both : (a b : Bool) {c : Bool} → (a || b) ≡ false → (b ≡ false → c ≡ false) → (a || c) ≡ false
+    both true b h next = cc
+    both false b h next = next h
+
+-- ---- texts
+
+pub texts-append : (vs : List Value) (v : Value) (ss : List Text) (s : Text) → items_view vs ≡ texts_value ss → view v ≡ string s → items_view (vs ++ v ∷ []) ≡ texts_value (ss ++ s ∷ [])
+texts-append [] v [] s before here = rw here
+texts-append [] v (t ∷ ss) s before here = cc
+texts-append (w ∷ vs) v [] s before here = cc
+texts-append (w ∷ vs) v (t ∷ ss) s before here =
+    let first : view w ≡ string t = cc in
+    let rest : items_view vs ≡ texts_value ss = cc in
+    rw first (ap (item (string t)) (texts-append vs v ss s rest here))
+
+pub texts-whole : (ss : List Text) → items_have_float (texts_value ss) ≡ false
+texts-whole [] = refl
+texts-whole (s ∷ ss) = texts-whole ss
+
+pub fault-whole : (f : Fault) → has_float (fault_value f) ≡ false
+fault-whole f = rw (texts-whole f.arguments)
+
+pub texts-turn : (vs ws : List Value) (said : List (Bor Text)) (i : ℕ) (v : Value) (a : Bor Text) → i < length said → a ≡ get_or said i a → ws ≡ vs ++ v ∷ [] → items_view vs ≡ texts_value (map (λ t. t.now) (take i said)) → view v ≡ string a.now → items_view ws ≡ texts_value (map (λ t. t.now) (take (i + 1) said))
+texts-turn vs ws said i v a low e grown before here =
+    ap items_view grown
+    ∙ texts-append vs v (map (λ t. t.now) (take i said)) a.now before here
+    ∙ sym (ap texts_value (ap (map (λ t. t.now)) (longer said i a low e) ∙ map-append (λ t. t.now) (take i said) (a ∷ [])))
+
+-- ---- objects
+
+pub bundle-read : (d : Data) (root : Path) (keep : List Text) (modules : List Module) → has_only bundle_keys d ≡ true → required_in path_in (codes "root") d ≡ Some root → or_empty name_in (get (codes "keep") d) ≡ Some keep → or_empty module_in (get (codes "modules") d) ≡ Some modules → bundle_in d ≡ Some (record { root = root; keep = keep; modules = modules })
+bundle-read d root keep modules known is_root is_keep is_modules = rw (known, is_root, is_keep, is_modules) refl

@@ -1,0 +1,32 @@
+//! The linker as one call: a bundle of modules in, one line out.
+#![tactic(auto)]
+
+mod answer_line;
+mod bundle;
+mod bundle_resolver;
+mod fault_line;
+mod floats;
+mod linking;
+mod members;
+mod modules;
+mod program;
+mod streams;
+mod text_line;
+
+pub use program::{Outcome, RunError, run};
+pub use wesl_json::{unit_of_value, value_of_unit};
+pub use wesl_link::{Resolutions, Resolver, resolve_lazy};
+pub use wesl_mangle::{
+    CacheMangler, EscapeMangler, HashMangler, Mangler, NoMangler, PathHash, UnicodeMangler,
+};
+pub use wesl_tree::{
+    AccessMode, AddressSpace, AssignmentOperator, Attribute, AttributeNode, Attributes,
+    BinaryOperator, BreakIfStatement, CaseSelector, CompoundStatement, CondCompError, ConstAssert,
+    ContinuingStatement, Declaration, DeclarationKind, Diagnostic, ElseClause, ElseIfClause, Error,
+    Expression, ExpressionNode, FormalParameter, Function, FunctionCall, GlobalDeclaration,
+    GlobalDeclarationNode, GlobalDirective, GlobalDirectiveNode, Ident, IfClause, Import,
+    ImportContent, ImportError, ImportItem, ImportStatement, ImportStatementNode, Literal,
+    ModulePath, Names, PathOrigin, ResolveError, Span, Spanned, Statement, StatementNode, Struct,
+    StructMember, StructMemberNode, SwitchClause, TemplateArg, TranslationUnit, TypeAlias,
+    TypeExpression, UnaryOperator, ValidateError,
+};

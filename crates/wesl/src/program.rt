@@ -1,0 +1,154 @@
+//! The program: the bytes of a bundle in, one line out.
+ghost use Rattle.std.specs.Prelude.{◌≡◌, Ok, Err, Some, IfOk, IfErr, OnErr, string_bytes, true};
+ghost use Rattle.serde_json.specs.Read.{read};
+ghost use Rattle.serde_json.specs.View.{view};
+ghost use Rattle.wesl.specs.Fault.{fault_of};
+ghost use Rattle.wesl.specs.Line.{IsAnswerLine, IsRefusal, Tells};
+ghost use Rattle.wesl.specs.Run.{IsLine, IsLineFor, Wrote, WroteBeginning};
+ghost use Rattle.wesl.specs.Made.{bytes_of};
+
+use crate::answer_line::answer_line;
+use crate::bundle::read_bundle;
+use crate::fault_line::fault_line;
+use crate::linking::linked;
+use crate::streams::{Failures, ReadFault, read_whole, write_whole};
+use serde_json::Value;
+use std::alloc::Global;
+use std::io::{Read, Write};
+use wesl_tree::Error;
+
+/// What a line says: the linked unit, or why there is none.
+#[derive(Clone, Copy, Debug, PartialEq, Eq)]
+pub enum Outcome {
+    Linked,
+    Refused,
+}
+
+/// Why there is no line: the reader failed, or the writer failed or took no byte.
+#[derive(Clone, Copy, Debug, PartialEq, Eq)]
+pub enum RunError {
+    Input,
+    Output,
+}
+
+// The line for want of memory, which takes none.
+const MEMORY: &str = "{\"args\":[],\"fault\":\"Memory\"}\n";
+
+// A line that was made, or one that takes no memory.
+#[derive(Drop)]
+enum Line {
+    Made(String),
+    Constant(&'static str),
+}
+
+impl Line {
+    ghost use Rattle.wesl.specs.Made.{bytes_of};
+
+    fn as_bytes(&self) -> &[u8]
+        ensures { result.now ≡ bytes_of self.now }
+    {
+        match self {
+            Line::Made(text) => text.as_bytes(),
+            Line::Constant(text) => text.as_bytes(),
+        }
+    }
+}
+
+/// Reads a bundle whole, links it, and writes its line.
+///
+/// The line is the answer (`Linked`) or a fault (`Refused`). With `RunError::Input`, which comes only where a
+/// read failed, nothing was written; with `RunError::Output`, which comes only where a write failed or took no
+/// byte, a beginning of the line was.
+pub fn run<R: Read, W: Write>(
+    alloc: Global,
+    reader: &mut R,
+    writer: &mut W,
+) -> Result<Outcome, RunError>
+    ensures line { IfOk result (Wrote (R.remaining reader.old) (W.contents writer.old) (W.contents writer.new)) }
+    ensures input { result ≡ Err RunError.Input → W.contents writer.new ≡ W.contents writer.old }
+    ensures output { result ≡ Err RunError.Output → WroteBeginning (R.remaining reader.old) (W.contents writer.old) (W.contents writer.new) }
+{
+    let mut failures = Failures {
+        read: false,
+        write: false,
+    };
+    run_noting(alloc, reader, writer, &mut failures)
+}
+
+fn run_noting<R: Read, W: Write>(
+    alloc: Global,
+    reader: &mut R,
+    writer: &mut W,
+    failures: &mut Failures,
+) -> Result<Outcome, RunError>
+    ensures line { IfOk result (Wrote (R.remaining reader.old) (W.contents writer.old) (W.contents writer.new)) }
+    ensures input { result ≡ Err RunError.Input → W.contents writer.new ≡ W.contents writer.old }
+    ensures output { result ≡ Err RunError.Output → WroteBeginning (R.remaining reader.old) (W.contents writer.old) (W.contents writer.new) }
+    ensures read_failed { result ≡ Err RunError.Input → failures.new.read ≡ true }
+    ensures write_failed { result ≡ Err RunError.Output → failures.new.write ≡ true }
+{
+    let (outcome, line) = line_for(alloc, reader, failures)?;
+    if write_whole(writer, line.as_bytes(), failures) {
+        Ok(outcome)
+    } else {
+        Err(RunError::Output)
+    }
+}
+
+// The line of what the reader has.
+fn line_for<R: Read>(
+    alloc: Global,
+    reader: &mut R,
+    failures: &mut Failures,
+) -> Result<(Outcome, Line), RunError>
+    ensures line { IfOk result (λ made. IsLineFor (R.remaining reader.old) made.0 (bytes_of made.1)) }
+    ensures error { IfErr result (λ e. e ≡ RunError.Input) }
+    ensures failed { OnErr result (failures.new.read ≡ true) }
+{
+    match read_whole(alloc, reader, failures) {
+        Ok(bytes) => Ok(line_of_bytes(alloc, &bytes)),
+        Err(ReadFault::Input) => Err(RunError::Input),
+        Err(ReadFault::Memory) => Ok((Outcome::Refused, Line::Constant(MEMORY))),
+    }
+}
+
+fn line_of_bytes(alloc: Global, bytes: &[u8]) -> (Outcome, Line)
+    ensures { IsLine result.0 bytes.now (bytes_of result.1) }
+{
+    match answer(alloc, bytes) {
+        Ok(line) => (Outcome::Linked, Line::Made(line)),
+        Err(error) => (Outcome::Refused, refusal(alloc, &error)),
+    }
+}
+
+// The line of an error, or the one for want of memory.
+fn refusal(alloc: Global, error: &Error) -> Line
+    ensures { Tells (fault_of error.now) (bytes_of result) }
+{
+    match fault_line(alloc, error) {
+        Ok(line) => Line::Made(line),
+        Err(_) => Line::Constant(MEMORY),
+    }
+}
+
+// The answer of the bytes.
+fn answer(alloc: Global, bytes: &[u8]) -> Result<String, Error>
+    ensures line { IfOk result (λ line. IsAnswerLine bytes.now (string_bytes line)) }
+    ensures refused { IfErr result (IsRefusal bytes.now) }
+{
+    let value = value_of_bytes(alloc, bytes)?;
+    let bundle = read_bundle(alloc, &value)?;
+    let unit = linked(alloc, &bundle)?;
+    Ok(answer_line(alloc, unit)?)
+}
+
+fn value_of_bytes(alloc: Global, bytes: &[u8]) -> Result<Value, Error>
+    ensures value { IfOk result (λ v. read bytes.now ≡ Some (view v)) }
+    ensures refused { IfErr result (IsRefusal bytes.now) }
+{
+    match Value::from_slice(alloc, bytes) {
+        Ok(value) => Ok(value),
+        Err(error) if error.is_memory() => Err(Error::Memory),
+        Err(_) => Err(Error::NotJson),
+    }
+}

@@ -1,0 +1,9 @@
+pub mod Schema
+pub mod Words
+pub mod Nodes
+pub mod Reading
+pub mod Place
+pub mod Kinds
+pub mod Writing
+pub mod Profile
+pub mod Units

@@ -1,0 +1,2 @@
+//! The JSON form of trees.
+#![tactic(auto)]

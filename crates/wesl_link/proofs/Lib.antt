@@ -1,0 +1,5 @@
+pub mod Knowing
+pub mod Below
+pub mod NodeViews
+pub mod Within
+pub mod Refusing

@@ -1,0 +1,15 @@
+-- Each part is below the numbers given when it was made, which are no more than those at the end.
+use Rattle.std.proofs.Common.{arith, refl, ℕ, ◌≤◌, ◌∷◌, [], rules}
+use Rattle.indexmap.specs.IndexSet.{index_set_len}
+use Rattle.wesl_syntax.specs.Tree.{branch, leaf, ident, binder}
+use Rattle.wesl_syntax.specs.View.{attributes_tree, expression_tree, type_view, optional, kind_tree, ident_tree}
+use Rattle.wesl_link.proofs.Below.{tree_below_more, forest_below-all, AllBelow, none, one, both}
+use Rattle.wesl_link.proofs.NodeViews.{kind_below, ident_below}
+use Rattle.wesl_link.proofs.relink_global.linked_assert.Goals as goal
+
+pub returns-clause-below : goal.returns-clause-below
+returns-clause-below c =
+    let n : ℕ = index_set_len c.linked_operand.new.meanings.meanings in
+    forest_below-all n (attributes_tree c.in_ok-attributes.attributes ∷ expression_tree c.in_ok-expression.expression ∷ [])
+    (one _ _ (tree_below_more (index_set_len c.linked_attributes.new.meanings.meanings) n (omega arith) (attributes_tree c.in_ok-attributes.attributes) c.in_ok-attributes.ensures.below)
+    (one _ _ c.in_ok-expression.ensures.below none))

@@ -1,0 +1,6 @@
+pub mod Asked
+pub mod Known
+pub mod NumbersView
+pub mod Base
+pub mod Assembly
+pub mod Refusal

@@ -1,0 +1,67 @@
+//! Names with a number.
+ghost use Rattle.std.specs.Prelude.{◌≡◌, ℕ, Some, None, false};
+ghost use Rattle.wesl_names.specs.Path.{Text, Path, path_view};
+ghost use Rattle.wesl_mangle.specs.Mangler.{numbered};
+
+use crate::mangler::Mangler;
+use crate::numbered::number_item;
+use std::alloc::Global;
+use wesl_names::{Error, ModulePath, Names};
+use wesl_syntax::TypeExpression;
+
+/// A number for each item of a module, which never changes.
+pub trait PathHash {
+    // the number of an item of a module
+    ghost hash_of: { Self → Path → Text → ℕ };
+
+    /// The number of `item` of the module at `path`.
+    fn hash(&self, path: &ModulePath, item: &str) -> u64
+        ensures { result ≡ hash_of self.now (path_view path.now) item.now };
+}
+
+/// Names an item by itself and its number, as `x_7`. It remembers and reads nothing.
+#[derive(Drop)]
+pub struct HashMangler<H> {
+    hasher: H,
+}
+
+impl<H> HashMangler<H> {
+    /// A mangler with these numbers.
+    pub fn new(hasher: H) -> HashMangler<H>
+        ensures { result.hasher ≡ hasher }
+    {
+        HashMangler { hasher }
+    }
+}
+
+impl<H: PathHash> Mangler for HashMangler<H> {
+    ghost name_of = { λ s p i. numbered i (H.hash_of s.hasher p i) };
+
+    ghost recorded = { λ _ name. None };
+
+    ghost writes = { false };
+
+    ghost item_of = { λ _ name. None };
+
+    ghost variant_of = { λ _ names item number types. Some (numbered item number) };
+
+    fn mangle(&mut self, alloc: Global, path: &ModulePath, item: &str) -> Result<String, Error> {
+        let hash = self.hasher.hash(path, item);
+        Ok(number_item(alloc, item, hash)?)
+    }
+
+    fn unmangle(&self, _: Global, _: &str) -> Result<Option<(ModulePath, String)>, Error> {
+        Ok(None)
+    }
+
+    fn mangle_types(
+        &self,
+        alloc: Global,
+        _: &Names,
+        item: &str,
+        variant: u32,
+        _: &[TypeExpression],
+    ) -> Result<String, Error> {
+        Ok(number_item(alloc, item, u64::from(variant))?)
+    }
+}

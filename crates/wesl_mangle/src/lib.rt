@@ -1,0 +1,22 @@
+//! Manglers: what an item of a module is called in a linked unit (WESL, "NameMangling").
+#![tactic(auto)]
+
+mod cache;
+mod escape;
+mod hash;
+mod laws;
+mod mangler;
+mod numbered;
+mod reversible;
+#[cfg(test)]
+mod tests;
+mod types;
+mod unescape;
+mod unicode;
+mod ununicode;
+
+pub use cache::CacheMangler;
+pub use escape::EscapeMangler;
+pub use hash::{HashMangler, PathHash};
+pub use mangler::{Mangler, NoMangler};
+pub use unicode::UnicodeMangler;

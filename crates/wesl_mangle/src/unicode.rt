@@ -1,0 +1,143 @@
+//! The Unicode form.
+ghost use Rattle.std.specs.Prelude.{◌≡◌, ◌≤◌, ◌++◌, IfOk, IfErr, IfSome, string_bytes, option_map, Some, None, true, false, length, map};
+ghost use Rattle.std.specs.List.{list_all};
+ghost use Rattle.wesl_names.specs.Path.{path_view, origin_view, relative};
+ghost use Rattle.wesl_names.specs.declared.errors.Error as error;
+ghost use Rattle.wesl_syntax.specs.Tree.{tree_below};
+ghost use Rattle.wesl_syntax.specs.View.{type_view};
+ghost use Rattle.wesl_mangle.specs.Mangler.{item_view};
+ghost use Rattle.wesl_mangle.specs.TypeText.{is_normal_type, bracketed, tree_text, unicode_variant};
+ghost use Rattle.wesl_mangle.specs.Unicode.{separator, from_words, origin_words, unicode, from_unicode, has_own_words};
+
+use crate::mangler::Mangler;
+use crate::types::{is_normal_type, push_types};
+use crate::ununicode::read_item;
+use std::alloc::{AllocError, Global};
+use wesl_names::{Error, ModulePath, Names, PathOrigin};
+use wesl_syntax::TypeExpression;
+
+/// Stands between two words: U+02D0, which looks like a colon, twice.
+pub const SEPARATOR: &str = "\u{2d0}\u{2d0}";
+
+/// Joins the names of a path and an item by marks that look like colons, and writes types in brackets
+/// that look like angle brackets. It remembers nothing, and reads the names that it writes.
+#[derive(Clone, Copy, Debug, Default)]
+pub struct UnicodeMangler;
+
+/// Appends a separator and the word.
+fn push_word(text: &mut String, word: &str) -> Result<(), AllocError>
+    ensures { IfOk result (λ _. string_bytes text.new ≡ string_bytes text.old ++ (separator ++ word.now)) }
+{
+    text.push_str(SEPARATOR)?;
+    text.push_str(word)
+}
+
+/// `self`, or `super` so many times.
+fn write_relative(alloc: Global, up: usize) -> Result<String, AllocError>
+    ensures { IfOk result (λ text. string_bytes text ≡ from_words (origin_words (relative up))) }
+{
+    if up == 0 {
+        return String::from_str(alloc, "self");
+    }
+    let mut text = String::from_str(alloc, "super")?;
+    for _done in 1..up {
+        push_word(&mut text, "super")?;
+    }
+    Ok(text)
+}
+
+/// What the origin is written as.
+fn write_origin(alloc: Global, origin: &PathOrigin) -> Result<String, AllocError>
+    ensures { IfOk result (λ text. string_bytes text ≡ from_words (origin_words (origin_view origin.now))) }
+{
+    match origin {
+        PathOrigin::Absolute => String::from_str(alloc, "package"),
+        PathOrigin::Relative(up) => write_relative(alloc, *up),
+        PathOrigin::Package(name) => String::from_str(alloc, name.as_str()),
+    }
+}
+
+/// The words of the origin, the components and the item.
+fn write_item(alloc: Global, path: &ModulePath, item: &str) -> Result<String, AllocError>
+    ensures { IfOk result (λ text. string_bytes text ≡ unicode (path_view path.now) item.now) }
+{
+    let mut text = write_origin(alloc, &path.origin)?;
+    for component in &path.components {
+        push_word(&mut text, component.as_str())?;
+    }
+    push_word(&mut text, item)?;
+    Ok(text)
+}
+
+/// Whether each of the types can be written.
+fn are_normal_types(types: &[TypeExpression]) -> bool
+    ensures { result ≡ list_all is_normal_type (map type_view types.now) }
+{
+    for ty in types {
+        if !is_normal_type(ty) {
+            return false;
+        }
+    }
+    true
+}
+
+/// The item, and the types in brackets.
+fn write_variant(
+    alloc: Global,
+    names: &Names,
+    item: &str,
+    types: &[TypeExpression],
+) -> Result<String, AllocError>
+    requires below { list_all (tree_below (length names.now)) (map type_view types.now) ≡ true }
+    requires normal { list_all is_normal_type (map type_view types.now) ≡ true }
+    ensures { IfOk result (λ text. string_bytes text ≡ item.now ++ bracketed (map (tree_text names.now) (map type_view types.now))) }
+{
+    let mut text = String::from_str(alloc, item)?;
+    push_types(&mut text, names, types)?;
+    Ok(text)
+}
+
+impl Mangler for UnicodeMangler {
+    ghost name_of = { λ _ p i. unicode p i };
+
+    ghost recorded = { λ _ name. None };
+
+    ghost writes = { false };
+
+    ghost item_of = { λ _ name. from_unicode name };
+
+    ghost variant_of = { λ _ names item number types. unicode_variant names item types };
+
+    /// The Unicode form of `item` of the module at `path`. Refused for want of memory alone.
+    ///
+    /// Where no name is empty, has a U+02D0 or is `package`, `self` or `super`, `unmangle` reads it back.
+    fn mangle(&mut self, alloc: Global, path: &ModulePath, item: &str) -> Result<String, Error>
+        ensures named { IfOk result (λ name. string_bytes name ≡ unicode (path_view path.now) item.now) }
+        ensures read_back { IfOk result (λ name. has_own_words (path_view path.now) item.now ≡ true → from_unicode (string_bytes name) ≡ Some (path_view path.now, item.now)) }
+        ensures refused { IfErr result (λ e. e ≡ error.Memory) }
+    {
+        Ok(write_item(alloc, path, item)?)
+    }
+
+    fn unmangle(
+        &self,
+        alloc: Global,
+        mangled: &str,
+    ) -> Result<Option<(ModulePath, String)>, Error> {
+        Ok(read_item(alloc, mangled)?)
+    }
+
+    fn mangle_types(
+        &self,
+        alloc: Global,
+        names: &Names,
+        item: &str,
+        _: u32,
+        types: &[TypeExpression],
+    ) -> Result<String, Error> {
+        if !are_normal_types(types) {
+            return Err(Error::NotNormalType);
+        }
+        Ok(write_variant(alloc, names, item, types)?)
+    }
+}

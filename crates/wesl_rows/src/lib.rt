@@ -1,0 +1,11 @@
+//! Tests of the whole linker over memory: worked bundles, faults, and readers and writers that fail.
+#![tactic(auto)]
+
+#[cfg(test)]
+mod faults;
+#[cfg(test)]
+mod memory;
+#[cfg(test)]
+mod rows;
+#[cfg(test)]
+mod streams;

@@ -1,0 +1,5 @@
+mod Bools
+mod Pairs
+mod Respelled
+mod UnlikeExpressions
+mod Views

@@ -1,0 +1,13 @@
+//! Whether two lists of nodes are the same once each identifier is replaced by its name.
+#![tactic(auto)]
+
+mod attribute;
+mod declaration;
+mod expression;
+mod global;
+mod import;
+mod spelling;
+mod statement;
+mod tables;
+
+pub use spelling::{same_declarations, same_directives, same_imports};

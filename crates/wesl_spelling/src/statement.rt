@@ -1,0 +1,391 @@
+//! Statements.
+ghost use Rattle.std.specs.Prelude.{◌≡◌};
+ghost use Rattle.std.specs.Box.{box_value};
+ghost use Rattle.wesl_syntax.specs.Tree.{clauses, list, statements};
+ghost use Rattle.wesl_syntax.specs.View.{statement_view, statement_tree, compound_view, continuing_view, else_view, else_if_view, if_view, clause_view, selector_view, break_if_view, listed, optional};
+
+use crate::tables::Tables;
+use wesl_syntax::{
+    BreakIfStatement, CaseSelector, CompoundStatement, ContinuingStatement, ElseClause,
+    ElseIfClause, IfClause, Statement, StatementNode, SwitchClause,
+};
+
+impl Tables<'_> {
+    ghost use Rattle.wesl_spelling.specs.Tables.{same_in};
+
+    #[tactic(auto, using(crate::proofs::Bools::steps))]
+    fn same_selector(&self, left: &CaseSelector, right: &CaseSelector) -> bool
+        ensures { result ≡ same_in self.now (selector_view left.now) (selector_view right.now) }
+    {
+        match (left, right) {
+            (CaseSelector::Default, CaseSelector::Default) => true,
+            (CaseSelector::Expression(left), CaseSelector::Expression(right)) => self.same_node(
+                left, right,
+            ),
+            _ => false,
+        }
+    }
+
+    #[tactic(auto, using(crate::proofs::Pairs::steps))]
+    fn same_selectors(&self, left: &Vec<CaseSelector>, right: &Vec<CaseSelector>) -> bool
+        ensures { result ≡ same_in self.now (listed selector_view list left.now) (listed selector_view list right.now) }
+    {
+        if left.len() != right.len() {
+            return false;
+        }
+        for i in 0..left.len() {
+            if !self.same_selector(&left[i], &right[i]) {
+                return false;
+            }
+        }
+        true
+    }
+
+    #[tactic(auto, using(crate::proofs::Bools::steps))]
+    fn same_break_if(&self, left: &BreakIfStatement, right: &BreakIfStatement) -> bool
+        ensures { result ≡ same_in self.now (break_if_view left.now) (break_if_view right.now) }
+    {
+        self.same_attributes(&left.attributes, &right.attributes)
+            && self.same_node(&left.expression, &right.expression)
+    }
+
+    #[cycle(statement)]
+    #[tactic(auto, using(crate::proofs::Bools::steps))]
+    fn same_statement(&self, left: &Statement, right: &Statement) -> bool
+        ensures { result ≡ same_in self.now (statement_view left.now) (statement_view right.now) }
+    {
+        match (left, right) {
+            (Statement::Void, Statement::Void) => true,
+            (Statement::Compound(left), Statement::Compound(right)) => self.same_compound(
+                left, right,
+            ),
+            (
+                Statement::Assignment {
+                    attributes: left_attributes,
+                    operator: left_operator,
+                    lhs: left_lhs,
+                    rhs: left_rhs,
+                },
+                Statement::Assignment {
+                    attributes: right_attributes,
+                    operator: right_operator,
+                    lhs: right_lhs,
+                    rhs: right_rhs,
+                },
+            ) => *left_operator == *right_operator
+                && self.same_attributes(left_attributes, right_attributes)
+                && self.same_node(left_lhs, right_lhs)
+                && self.same_node(left_rhs, right_rhs),
+            (
+                Statement::Increment {
+                    attributes: left_attributes,
+                    expression: left_expression,
+                },
+                Statement::Increment {
+                    attributes: right_attributes,
+                    expression: right_expression,
+                },
+            ) => self.same_attributes(left_attributes, right_attributes)
+                && self.same_node(left_expression, right_expression),
+            (
+                Statement::Decrement {
+                    attributes: left_attributes,
+                    expression: left_expression,
+                },
+                Statement::Decrement {
+                    attributes: right_attributes,
+                    expression: right_expression,
+                },
+            ) => self.same_attributes(left_attributes, right_attributes)
+                && self.same_node(left_expression, right_expression),
+            (
+                Statement::If {
+                    attributes: left_attributes,
+                    if_clause: left_if_clause,
+                    else_if_clauses: left_else_if_clauses,
+                    else_clause: left_else_clause,
+                },
+                Statement::If {
+                    attributes: right_attributes,
+                    if_clause: right_if_clause,
+                    else_if_clauses: right_else_if_clauses,
+                    else_clause: right_else_clause,
+                },
+            ) => self.same_attributes(left_attributes, right_attributes)
+                && self.same_if(left_if_clause, right_if_clause)
+                && self.same_else_ifs(left_else_if_clauses, right_else_if_clauses)
+                && self.same_optional_else(left_else_clause, right_else_clause),
+            (
+                Statement::Switch {
+                    attributes: left_attributes,
+                    expression: left_expression,
+                    body_attributes: left_body_attributes,
+                    clauses: left_clauses,
+                },
+                Statement::Switch {
+                    attributes: right_attributes,
+                    expression: right_expression,
+                    body_attributes: right_body_attributes,
+                    clauses: right_clauses,
+                },
+            ) => self.same_attributes(left_attributes, right_attributes)
+                && self.same_node(left_expression, right_expression)
+                && self.same_attributes(left_body_attributes, right_body_attributes)
+                && self.same_clauses(left_clauses, right_clauses),
+            (
+                Statement::Loop {
+                    attributes: left_attributes,
+                    body: left_body,
+                    continuing: left_continuing,
+                },
+                Statement::Loop {
+                    attributes: right_attributes,
+                    body: right_body,
+                    continuing: right_continuing,
+                },
+            ) => self.same_attributes(left_attributes, right_attributes)
+                && self.same_compound(left_body, right_body)
+                && self.same_optional_continuing(left_continuing, right_continuing),
+            (
+                Statement::For {
+                    attributes: left_attributes,
+                    initializer: left_initializer,
+                    condition: left_condition,
+                    update: left_update,
+                    body: left_body,
+                },
+                Statement::For {
+                    attributes: right_attributes,
+                    initializer: right_initializer,
+                    condition: right_condition,
+                    update: right_update,
+                    body: right_body,
+                },
+            ) => self.same_attributes(left_attributes, right_attributes)
+                && self.same_optional_statement(left_initializer, right_initializer)
+                && self.same_optional_node(left_condition, right_condition)
+                && self.same_optional_statement(left_update, right_update)
+                && self.same_compound(left_body, right_body),
+            (
+                Statement::While {
+                    attributes: left_attributes,
+                    condition: left_condition,
+                    body: left_body,
+                },
+                Statement::While {
+                    attributes: right_attributes,
+                    condition: right_condition,
+                    body: right_body,
+                },
+            ) => self.same_attributes(left_attributes, right_attributes)
+                && self.same_node(left_condition, right_condition)
+                && self.same_compound(left_body, right_body),
+            (
+                Statement::Break {
+                    attributes: left_attributes,
+                },
+                Statement::Break {
+                    attributes: right_attributes,
+                },
+            ) => self.same_attributes(left_attributes, right_attributes),
+            (
+                Statement::Continue {
+                    attributes: left_attributes,
+                },
+                Statement::Continue {
+                    attributes: right_attributes,
+                },
+            ) => self.same_attributes(left_attributes, right_attributes),
+            (
+                Statement::Return {
+                    attributes: left_attributes,
+                    expression: left_expression,
+                },
+                Statement::Return {
+                    attributes: right_attributes,
+                    expression: right_expression,
+                },
+            ) => self.same_attributes(left_attributes, right_attributes)
+                && self.same_optional_node(left_expression, right_expression),
+            (
+                Statement::Discard {
+                    attributes: left_attributes,
+                },
+                Statement::Discard {
+                    attributes: right_attributes,
+                },
+            ) => self.same_attributes(left_attributes, right_attributes),
+            (
+                Statement::FunctionCall {
+                    attributes: left_attributes,
+                    call: left_call,
+                },
+                Statement::FunctionCall {
+                    attributes: right_attributes,
+                    call: right_call,
+                },
+            ) => self.same_attributes(left_attributes, right_attributes)
+                && self.same_call(left_call, right_call),
+            (Statement::ConstAssert(left), Statement::ConstAssert(right)) => self.same_assert(
+                left, right,
+            ),
+            (Statement::Declaration(left), Statement::Declaration(right)) => self.same_declaration(
+                left, right,
+            ),
+            _ => false,
+        }
+    }
+
+    #[cycle(statement)]
+    #[tactic(auto, using(crate::proofs::Bools::steps))]
+    fn same_optional_statement(
+        &self,
+        left: &Option<Box<StatementNode>>,
+        right: &Option<Box<StatementNode>>,
+    ) -> bool
+        ensures { result ≡ same_in self.now (optional (λ s. statement_tree (box_value s)) left.now) (optional (λ s. statement_tree (box_value s)) right.now) }
+    {
+        match (left, right) {
+            (None, None) => true,
+            (Some(left), Some(right)) => self.same_statement(&left.node, &right.node),
+            _ => false,
+        }
+    }
+
+    #[cycle(statement)]
+    #[tactic(auto, using(crate::proofs::Bools::steps, crate::proofs::Views::view_compound))]
+    pub fn same_compound(&self, left: &CompoundStatement, right: &CompoundStatement) -> bool
+        ensures { result ≡ same_in self.now (compound_view left.now) (compound_view right.now) }
+    {
+        self.same_attributes(&left.attributes, &right.attributes)
+            && self.same_statements(&left.statements, &right.statements)
+    }
+
+    #[cycle(statement)]
+    #[tactic(auto, using(crate::proofs::Pairs::steps))]
+    fn same_statements(&self, left: &Vec<StatementNode>, right: &Vec<StatementNode>) -> bool
+        ensures { result ≡ same_in self.now (listed statement_tree statements left.now) (listed statement_tree statements right.now) }
+    {
+        if left.len() != right.len() {
+            return false;
+        }
+        for i in 0..left.len() {
+            if !self.same_statement(&left[i].node, &right[i].node) {
+                return false;
+            }
+        }
+        true
+    }
+
+    #[cycle(statement)]
+    #[tactic(auto, using(crate::proofs::Bools::steps))]
+    fn same_if(&self, left: &IfClause, right: &IfClause) -> bool
+        ensures { result ≡ same_in self.now (if_view left.now) (if_view right.now) }
+    {
+        self.same_node(&left.expression, &right.expression)
+            && self.same_compound(&left.body, &right.body)
+    }
+
+    #[cycle(statement)]
+    #[tactic(auto, using(crate::proofs::Bools::steps))]
+    fn same_else_if(&self, left: &ElseIfClause, right: &ElseIfClause) -> bool
+        ensures { result ≡ same_in self.now (else_if_view left.now) (else_if_view right.now) }
+    {
+        self.same_attributes(&left.attributes, &right.attributes)
+            && self.same_node(&left.expression, &right.expression)
+            && self.same_compound(&left.body, &right.body)
+    }
+
+    #[cycle(statement)]
+    #[tactic(auto, using(crate::proofs::Pairs::steps))]
+    fn same_else_ifs(&self, left: &Vec<ElseIfClause>, right: &Vec<ElseIfClause>) -> bool
+        ensures { result ≡ same_in self.now (listed else_if_view list left.now) (listed else_if_view list right.now) }
+    {
+        if left.len() != right.len() {
+            return false;
+        }
+        for i in 0..left.len() {
+            if !self.same_else_if(&left[i], &right[i]) {
+                return false;
+            }
+        }
+        true
+    }
+
+    #[cycle(statement)]
+    #[tactic(auto, using(crate::proofs::Bools::steps))]
+    fn same_else(&self, left: &ElseClause, right: &ElseClause) -> bool
+        ensures { result ≡ same_in self.now (else_view left.now) (else_view right.now) }
+    {
+        self.same_attributes(&left.attributes, &right.attributes)
+            && self.same_compound(&left.body, &right.body)
+    }
+
+    #[cycle(statement)]
+    #[tactic(auto, using(crate::proofs::Bools::steps))]
+    fn same_optional_else(&self, left: &Option<ElseClause>, right: &Option<ElseClause>) -> bool
+        ensures { result ≡ same_in self.now (optional else_view left.now) (optional else_view right.now) }
+    {
+        match (left, right) {
+            (None, None) => true,
+            (Some(left), Some(right)) => self.same_else(left, right),
+            _ => false,
+        }
+    }
+
+    #[cycle(statement)]
+    #[tactic(auto, using(crate::proofs::Bools::steps))]
+    fn same_clause(&self, left: &SwitchClause, right: &SwitchClause) -> bool
+        ensures { result ≡ same_in self.now (clause_view left.now) (clause_view right.now) }
+    {
+        self.same_attributes(&left.attributes, &right.attributes)
+            && self.same_selectors(&left.case_selectors, &right.case_selectors)
+            && self.same_compound(&left.body, &right.body)
+    }
+
+    #[cycle(statement)]
+    #[tactic(auto, using(crate::proofs::Pairs::steps))]
+    fn same_clauses(&self, left: &Vec<SwitchClause>, right: &Vec<SwitchClause>) -> bool
+        ensures { result ≡ same_in self.now (listed clause_view clauses left.now) (listed clause_view clauses right.now) }
+    {
+        if left.len() != right.len() {
+            return false;
+        }
+        for i in 0..left.len() {
+            if !self.same_clause(&left[i], &right[i]) {
+                return false;
+            }
+        }
+        true
+    }
+
+    #[cycle(statement)]
+    #[tactic(auto, using(crate::proofs::Bools::steps))]
+    fn same_continuing(&self, left: &ContinuingStatement, right: &ContinuingStatement) -> bool
+        ensures { result ≡ same_in self.now (continuing_view left.now) (continuing_view right.now) }
+    {
+        self.same_attributes(&left.attributes, &right.attributes)
+            && self.same_compound(&left.body, &right.body)
+            && match (&left.break_if, &right.break_if) {
+                (None, None) => true,
+                (Some(left), Some(right)) => self.same_break_if(left, right),
+                _ => false,
+            }
+    }
+
+    #[cycle(statement)]
+    #[tactic(auto, using(crate::proofs::Bools::steps))]
+    fn same_optional_continuing(
+        &self,
+        left: &Option<ContinuingStatement>,
+        right: &Option<ContinuingStatement>,
+    ) -> bool
+        ensures { result ≡ same_in self.now (optional continuing_view left.now) (optional continuing_view right.now) }
+    {
+        match (left, right) {
+            (None, None) => true,
+            (Some(left), Some(right)) => self.same_continuing(left, right),
+            _ => false,
+        }
+    }
+}

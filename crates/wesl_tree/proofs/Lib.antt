@@ -1,0 +1,3 @@
+pub mod Below
+mod Kept
+mod Views

@@ -1,0 +1,14 @@
+pub use Rattle.wesl_names.specs.Path
+pub use Rattle.wesl_names.specs.PathText
+pub use Rattle.wesl_names.specs.PathOrder
+pub use Rattle.wesl_names.specs.PathForm
+pub use Rattle.wesl_names.specs.PathLaws
+pub use Rattle.wesl_names.specs.PathRows
+pub use Rattle.wesl_names.specs.Borrowed
+pub use Rattle.wesl_names.specs.Errors
+pub use Rattle.wesl_syntax.specs.Tree
+pub use Rattle.wesl_syntax.specs.View
+pub use Rattle.wesl_syntax.specs.Nodes
+pub use Rattle.wesl_syntax.specs.Unit
+pub mod Parts
+pub mod Translation

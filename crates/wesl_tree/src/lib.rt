@@ -1,0 +1,29 @@
+//! Units: whole modules, each of whose identifiers has a name. With all that they are made of, under one name.
+#![tactic(auto)]
+
+mod bounds;
+mod parts_bounds;
+mod statement_bounds;
+mod unit;
+mod voids;
+
+pub use unit::TranslationUnit;
+pub use wesl_names::{
+    CondCompError, Diagnostic, Error, Ident, ImportError, ModulePath, Names, PathOrigin,
+    ResolveError, Span, ValidateError, law_of_equality as law_of_path_equality, law_of_order,
+    law_of_rows, law_of_texts,
+};
+pub use wesl_syntax::{
+    AccessMode, AddressSpace, AssignmentOperator, Attribute, AttributeNode, Attributes,
+    BinaryOperator, BreakIfStatement, CaseSelector, CompoundStatement, ConstAssert,
+    ContinuingStatement, Declaration, DeclarationKind, ElseClause, ElseIfClause, Expression,
+    ExpressionNode, FormalParameter, Function, FunctionCall, GlobalDeclaration,
+    GlobalDeclarationNode, GlobalDirective, GlobalDirectiveNode, IfClause, Import, ImportContent,
+    ImportItem, ImportStatement, ImportStatementNode, Literal, Spanned, Statement, StatementNode,
+    Struct, StructMember, StructMemberNode, SwitchClause, TemplateArg, TypeAlias, TypeExpression,
+    UnaryOperator, copy_attributes, copy_declarations, copy_directives, copy_expressions,
+    copy_import_statements, copy_statements, law_of_equality as law_of_node_equality,
+};
+
+#[cfg(test)]
+mod tests;

@@ -1,0 +1,144 @@
+-- What the names used in a module ask for.
+use Rattle.std.proofs.Common.{◌≡◌, ◌↔◌, inl, inr, ℕ, ◌<◌, ◌≤◌, ◌+◌, List, [], ◌∷◌, ◌++◌, length, take, slice_get, slice_index_or, Option, Some, None, IfNone, Contains, arith, subst, sym, ap, ◌∙◌}
+use Rattle.std.proofs.lemmas.List.Elements.{Contains-push_cases, Contains-append_left, Contains-push}
+use Rattle.std.proofs.lemmas.List.{take_more, take_all}
+use Rattle.std.proofs.lemmas.Option.{slice_get_within}
+use Rattle.std.proofs.lemmas.Bool.{cases_lt}
+use Rattle.std.proofs.Math.Nat.{eq-or-lt_of_le}
+use Rattle.wesl_world.specs.Tables.{Import, LookUp, Reference, Declaration, Table}
+use Rattle.wesl_world.specs.World.{Declares, Imports, Asks, AsksUnder, AsksFrom}
+use Rattle.wesl_world.specs.Faults.{Agrees}
+use Rattle.wesl_world.specs.Index.{IsLast, IsNamed, Gains, AsksIn, AsksBehind}
+use Rattle.wesl_world.proofs.Lists.{contains_nil}
+use Rattle.wesl_world.proofs.Least.{asks_for_one}
+use Rattle.wesl_world.proofs.Indexing.{one_at, at_contains, contains_at}
+
+module _ {P N : Type 0} where
+  pub free_name : (t : Table P N) (n : N) → (Declares t n → ⊥) → ((i : Import P N) → Imports t n i → ⊥) → (l : LookUp P N) → AsksUnder t None n l → ⊥
+  free_name t n undeclared unimported l (inl (d, e)) = undeclared d
+  free_name t n undeclared unimported l (inr (_, i, imp, e)) = unimported i imp
+
+  pub free_reference : (t : Table P N) (r : Reference P N) (o : Option (LookUp P N)) → r.path ≡ None → IfNone o ((l : LookUp P N) → AsksUnder t None r.name l → ⊥) → IfNone o ((l : LookUp P N) → Asks t r l → ⊥)
+  free_reference t r None e h = λ l asks. h l (subst (λ (p : Option P). AsksUnder t p r.name l) e asks)
+  free_reference t r (Some l) e h = h
+
+  one_under : (t : Table P N) (p : Option P) (n : N) (l m : LookUp P N) → Agrees t → AsksUnder t p n l → AsksUnder t p n m → l ≡ m
+  one_under t (Some q) n l m a e f = e ∙ sym f
+  one_under t None n l m a e f = asks_for_one t n l m a e f
+
+  -- a reference asks for one look-up at most
+  pub asks_one : (t : Table P N) (r : Reference P N) (l m : LookUp P N) → Agrees t → Asks t r l → Asks t r m → l ≡ m
+  asks_one t r l m a e f = one_under t r.path r.name l m a e f
+
+  -- ---- the look-ups of a list of references
+
+  pub asked_start : (t : Table P N) (rs : List (Reference P N)) (from : List (LookUp P N)) → Gains from from (AsksIn t (take 0 rs))
+  asked_start t rs from = record {
+    kept = λ l h. h;
+    only = λ l h. inl h;
+    all = λ l (r, held, asks). absurd (contains_nil r held);
+  }
+
+  asked_some_by : (t : Table P N) (seen more : List (Reference P N)) (r : Reference P N) (from mid to : List (LookUp P N)) (l : LookUp P N) → Agrees t → more ≡ seen ++ r ∷ []
+      → Gains from mid (AsksIn t seen) → Asks t r l → to ≡ mid ++ l ∷ [] → Gains from to (AsksIn t more)
+  asked_some_by t seen more r from mid to l a e g asks f = record {
+    kept = λ m h. subst (λ (xs : List (LookUp P N)). Contains xs m) (sym f) (Contains-append_left mid (l ∷ []) m (g.kept m h));
+    only = λ m h. elim (Contains-push_cases mid l m (subst (λ (xs : List (LookUp P N)). Contains xs m) f h)) [
+      | inl old ↦ elim (g.only m old) [
+        | inl before ↦ inl before
+        | inr (q, held, asks2) ↦ inr (q, subst (λ (xs : List (Reference P N)). Contains xs q) (sym e) (Contains-append_left seen (r ∷ []) q held), asks2)
+      ]
+      | inr same ↦ inr (r, subst (λ (xs : List (Reference P N)). Contains xs r) (sym e) (Contains-push seen r), subst (λ (x : LookUp P N). Asks t r x) same asks)
+    ];
+    all = λ m (q, held, asks2). elim (Contains-push_cases seen r q (subst (λ (xs : List (Reference P N)). Contains xs q) e held)) [
+      | inl old ↦ subst (λ (xs : List (LookUp P N)). Contains xs m) (sym f) (Contains-append_left mid (l ∷ []) m (g.all m (q, old, asks2)))
+      | inr same ↦
+          (let is : l ≡ m = asks_one t r l m a asks (subst (λ (x : Reference P N). Asks t x m) (sym same) asks2) in
+          subst (λ (xs : List (LookUp P N)). Contains xs m) (sym f) (subst (λ (x : LookUp P N). Contains (mid ++ l ∷ []) x) is (Contains-push mid l)))
+    ];
+  }
+
+  asked_none_by : (t : Table P N) (seen more : List (Reference P N)) (r : Reference P N) (from to : List (LookUp P N)) → more ≡ seen ++ r ∷ []
+      → Gains from to (AsksIn t seen) → ((l : LookUp P N) → Asks t r l → ⊥) → Gains from to (AsksIn t more)
+  asked_none_by t seen more r from to e g free = record {
+    kept = g.kept;
+    only = λ m h. elim (g.only m h) [
+      | inl before ↦ inl before
+      | inr (q, held, asks) ↦ inr (q, subst (λ (xs : List (Reference P N)). Contains xs q) (sym e) (Contains-append_left seen (r ∷ []) q held), asks)
+    ];
+    all = λ m (q, held, asks). elim (Contains-push_cases seen r q (subst (λ (xs : List (Reference P N)). Contains xs q) e held)) [
+      | inl old ↦ g.all m (q, old, asks)
+      | inr same ↦ absurd (free m (subst (λ (x : Reference P N). Asks t x m) (sym same) asks))
+    ];
+  }
+
+  pub asked_some : (t : Table P N) (rs : List (Reference P N)) (i : ℕ) (d : Reference P N) (from mid to : List (LookUp P N)) (l : LookUp P N) → Agrees t → i < length rs
+      → Gains from mid (AsksIn t (take i rs)) → Asks t (slice_index_or rs i d) l → to ≡ mid ++ l ∷ [] → Gains from to (AsksIn t (take (i + 1) rs))
+  asked_some t rs i d from mid to l a b g asks f = asked_some_by t (take i rs) (take (i + 1) rs) (slice_index_or rs i d) from mid to l a (take_more rs i d b) g asks f
+
+  pub asked_none : (t : Table P N) (rs : List (Reference P N)) (i : ℕ) (d : Reference P N) (from to : List (LookUp P N)) → i < length rs
+      → Gains from to (AsksIn t (take i rs)) → ((l : LookUp P N) → Asks t (slice_index_or rs i d) l → ⊥) → Gains from to (AsksIn t (take (i + 1) rs))
+  asked_none t rs i d from to b g free = asked_none_by t (take i rs) (take (i + 1) rs) (slice_index_or rs i d) from to (take_more rs i d b) g free
+
+  pub asked_all : (t : Table P N) (rs qs : List (Reference P N)) (i : ℕ) (from to : List (LookUp P N)) → rs ≡ qs → length rs ≤ i → Gains from to (AsksIn t (take i rs)) → Gains from to (AsksIn t qs)
+  asked_all t rs qs i from to e b g = subst (λ (xs : List (Reference P N)). Gains from to (AsksIn t xs)) (take_all i rs b ∙ e) g
+
+  -- ---- the look-ups of the declarations of a name, from the last to the first
+
+  pub behind_start : (t : Table P N) (name : Option N) (o : Option ℕ) (to : List (LookUp P N)) → to ≡ [] → IsLast (IsNamed name) t.declarations (length t.declarations) o
+      → (n : ℕ) × IsLast (IsNamed name) t.declarations n o × (n ≤ length t.declarations) × Gains [] to (AsksBehind t name n)
+  behind_start t name o to e last = (
+    length t.declarations,
+    last,
+    omega arith,
+    record {
+      kept = λ l h. absurd (contains_nil l h);
+      only = λ l h. absurd (contains_nil l (subst (λ (xs : List (LookUp P N)). Contains xs l) e h));
+      all = λ l (i, above, d, at, name_is, rest). absurd (let b = slice_get_within t.declarations i d at in omega arith);
+    },
+  )
+
+  pub behind_next : (t : Table P N) (name : Option N) (n i : ℕ) (d : Declaration P N) (o : Option ℕ) (mid to : List (LookUp P N)) → IsLast (IsNamed name) t.declarations n (Some i)
+      → n ≤ length t.declarations → Gains [] mid (AsksBehind t name n) → slice_get t.declarations i ≡ Some d → Gains mid to (AsksIn t d.references)
+      → IsLast (IsNamed name) t.declarations i o → (k : ℕ) × IsLast (IsNamed name) t.declarations k o × (k ≤ length t.declarations) × Gains [] to (AsksBehind t name k)
+  behind_next t name n i d o mid to (below, (x, here, named), none) room g at more last = (
+    i,
+    last,
+    omega arith,
+    record {
+      kept = λ l h. absurd (contains_nil l h);
+      only = λ l h. elim (more.only l h) [
+        | inl old ↦ elim (g.only l old) [
+          | inl before ↦ inl before
+          | inr (j, above, y, there, name_is, rest) ↦ inr (j, omega arith, y, there, name_is, rest)
+        ]
+        | inr asks ↦ inr (i, omega arith, d, at, ap (λ (z : Declaration P N). z.name) (one_at t.declarations i d x at here) ∙ named, asks)
+      ];
+      all = λ l (j, above, y, there, name_is, asks). by l j above y there name_is asks;
+    },
+  )
+    where
+      by : (l : LookUp P N) (j : ℕ) → i ≤ j → (y : Declaration P N) → slice_get t.declarations j ≡ Some y → y.name ≡ name → AsksIn t y.references l → Contains to l
+      by l j above y there name_is asks = elim (eq-or-lt_of_le above) [
+        | inl same ↦ more.all l (subst (λ (z : Declaration P N). AsksIn t z.references l) (one_at t.declarations i y d (ap (λ (k : ℕ). slice_get t.declarations k) same ∙ there) at) asks)
+        | inr beyond ↦ elim (cases_lt j n) [
+          | inl within ↦ absurd (none j beyond within (y, there, name_is))
+          | inr past ↦ more.kept l (g.all l (j, past, y, there, name_is, asks))
+        ]
+      ]
+
+  pub behind_all : (t : Table P N) (name : Option N) (n : ℕ) (o : Option ℕ) (to : List (LookUp P N)) → o ≡ None → IsLast (IsNamed name) t.declarations n o → Gains [] to (AsksBehind t name n)
+      → (l : LookUp P N) → Contains to l ↔ AsksFrom t name l
+  behind_all t name n o to e last g = λ l. (
+    λ h. elim (g.only l h) [
+      | inl before ↦ absurd (contains_nil l before)
+      | inr (i, above, d, at, name_is, (r, held, asks)) ↦ (r, (d, at_contains t.declarations i d at, name_is, held), asks)
+    ],
+    λ (r, (d, in_table, name_is, held), asks).
+        (let (i, b, at) = contains_at t.declarations d in_table in
+        let none : (j : ℕ) → j < n → (x : Declaration P N) × (slice_get t.declarations j ≡ Some x) × (x.name ≡ name) → ⊥ = subst (λ (q : Option ℕ). IsLast (IsNamed name) t.declarations n q) e last in
+        elim (cases_lt i n) [
+          | inl within ↦ absurd (none i within (d, at, name_is))
+          | inr past ↦ g.all l (i, past, d, at, name_is, (r, held, asks))
+        ]),
+  )

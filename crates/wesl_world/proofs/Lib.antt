@@ -1,0 +1,16 @@
+pub mod Lists
+pub mod Entries
+pub mod Growth
+pub mod Least
+pub mod Exclusive
+pub mod Settled
+pub mod Indexing
+pub mod Asking
+pub mod Agreeing
+pub mod Growing
+pub mod Steps
+pub mod Placing
+pub mod Following
+pub mod Turns
+pub mod Ends
+pub mod Declaring

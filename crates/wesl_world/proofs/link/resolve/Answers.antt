@@ -1,0 +1,12 @@
+use Rattle.std.proofs.Common.{refl}
+use Rattle.wesl_world.specs.Linking.{task_of}
+use Rattle.wesl_world.proofs.Ends.{zero_refused, root_refused}
+use Rattle.wesl_world.proofs.link.resolve.Goals as goal
+
+pub returns-then-max_modules-eq0-clause-refused : goal.returns-then-max_modules-eq0-clause-refused
+returns-then-max_modules-eq0-clause-refused g c =
+    zero_refused (g.L.Loader.hands c.args.loader.now) (g.L.Loader.refuses c.args.loader.now) c.args.root (task_of c.args.root c.args.kept.items c.args.is_eager) c.args.max_modules refl c.if-max_modules-eq0.true
+
+pub returns-in-Some-clause-refused : goal.returns-in-Some-clause-refused
+returns-in-Some-clause-refused g c =
+    root_refused (g.L.Loader.hands c.args.loader.now) (g.L.Loader.refuses c.args.loader.now) c.args.root (task_of c.args.root c.args.kept.items c.args.is_eager) c.args.max_modules c.in-Some.name refl (rw c.in-Some.is at c.in_ok-name.ensures.clash)

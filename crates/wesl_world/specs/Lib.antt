@@ -1,0 +1,14 @@
+pub mod Keyed
+pub mod Tables
+pub mod World
+pub mod Index
+pub mod Answers
+pub mod Agreement
+pub mod Loader
+pub mod Refusal
+pub mod Loading
+pub mod Keeping
+pub mod Eager
+pub mod Faults
+pub mod Linking
+pub mod Laws

@@ -1,0 +1,121 @@
+-- Look-ups between modules, and what they reach (WESL, "Imports" and "Visibility").
+use Rattle.std.specs.Prelude.{◌≡◌, ◌⊎◌, Bool, true, Option, Some, None, List, [], ◌∷◌, Contains}
+use Rattle.wesl_world.specs.Tables.{Import, Reference, Symbol, LookUp, Declaration, Table}
+
+-- ---- one module
+
+module _ {P N : Type 0} where
+  abbrev pub Declares : Table P N → N → Type 0
+  Declares t n = (d : Declaration P N) × Contains t.declarations d × (d.name ≡ Some n)
+
+  abbrev pub Imports : Table P N → N → Import P N → Type 0
+  Imports t n i = Contains t.imports i × (i.bound ≡ n)
+
+  -- A reference under a path asks for the name there. One without a path asks for the module's own declaration,
+  -- else for what an import of the name aims at, else for nothing.
+  abbrev pub AsksUnder : Table P N → Option P → N → LookUp P N → Type 0
+  AsksUnder t (Some q) n l = l ≡ record { asker = Some t.path; path = q; name = n }
+  AsksUnder t None n l =
+      (Declares t n × (l ≡ record { asker = Some t.path; path = t.path; name = n }))
+      ⊎ ((Declares t n → ⊥) × (i : Import P N) × Imports t n i × (l ≡ record { asker = Some t.path; path = i.path; name = i.item }))
+
+  abbrev pub Asks : Table P N → Reference P N → LookUp P N → Type 0
+  Asks t r l = AsksUnder t r.path r.name l
+
+  -- the reference stands in a declaration of that name, or where there is none in a const_assert
+  abbrev pub RefersFrom : Table P N → Option N → Reference P N → Type 0
+  RefersFrom t name r = (d : Declaration P N) × Contains t.declarations d × (d.name ≡ name) × Contains d.references r
+
+  -- such a reference asks for it
+  abbrev pub AsksFrom : Table P N → Option N → LookUp P N → Type 0
+  AsksFrom t name l = (r : Reference P N) × RefersFrom t name r × Asks t r l
+
+  -- ---- between modules: a world is a list of modules
+
+  abbrev pub IsAt : List (Table P N) → P → Table P N → Type 0
+  IsAt w p t = Contains w t × (t.path ≡ p)
+
+-- the root is the one given, every other was handed out at its path, and no path has two modules
+pub record IsWorld {P N : Type 0} (hands : P → Table P N → Type 0) (root : Table P N) (w : List (Table P N)) : Type 0 where
+  pub root_in : Contains w root
+  pub handed : (t : Table P N) → Contains w t → (t ≡ root) ⊎ hands t.path t
+  pub one_table : (t u : Table P N) → Contains w t → Contains w u → t.path ≡ u.path → t ≡ u
+
+module _ {P N : Type 0} where
+  -- from another module an import must be published
+  abbrev pub Shows : Option P → P → Import P N → Type 0
+  Shows asker p i = (i.published ≡ true) ⊎ (asker ≡ Some p)
+
+  abbrev pub Finds : List (Table P N) → LookUp P N → Symbol P N → Type 0
+  Finds w l s = (t : Table P N) × IsAt w l.path t × Declares t l.name × (s ≡ record { path = l.path; name = l.name })
+
+  -- the module asked declares no such name, and asks further by an import that it shows
+  abbrev pub Hops : List (Table P N) → LookUp P N → LookUp P N → Type 0
+  Hops w a b =
+      (t : Table P N) × (i : Import P N) × IsAt w a.path t × (Declares t a.name → ⊥) × Imports t a.name i × Shows a.asker a.path i
+      × (b ≡ record { asker = Some a.path; path = i.path; name = i.item })
+
+-- by a finite chain of imports
+pub data LeadsTo {P N : Type 0} (w : List (Table P N)) : LookUp P N → Symbol P N → Type 0 where
+  here : (l : LookUp P N) (s : Symbol P N) → Finds w l s → LeadsTo w l s
+  through : (l next : LookUp P N) (s : Symbol P N) → Hops w l next → LeadsTo w next s → LeadsTo w l s
+
+-- no hop or more
+pub data ComesTo {P N : Type 0} (w : List (Table P N)) : LookUp P N → LookUp P N → Type 0 where
+  stays : (l : LookUp P N) → ComesTo w l l
+  hops : (l next a : LookUp P N) → Hops w l next → ComesTo w next a → ComesTo w l a
+
+module _ {P N : Type 0} where
+  abbrev pub SameQuestion : LookUp P N → LookUp P N → Type 0
+  SameQuestion a b = (a.path ≡ b.path) × (a.name ≡ b.name)
+
+  abbrev pub HasMet : List (LookUp P N) → LookUp P N → Type 0
+  HasMet met a = (b : LookUp P N) × Contains met b × SameQuestion a b
+
+-- by hops from the first look-up to where it stands, through those that were met, no question twice
+pub data Walk {P N : Type 0} (w : List (Table P N)) (start : LookUp P N) : List (LookUp P N) → LookUp P N → Type 0 where
+  begin : (a : LookUp P N) → a ≡ start → Walk w start [] a
+  step : (met : List (LookUp P N)) (a b : LookUp P N) → Walk w start met a → (HasMet met a → ⊥) → Hops w a b → Walk w start (a ∷ met) b
+
+module _ {P N : Type 0} where
+  -- a walk comes to a module without that name, or comes to a question for the second time
+  abbrev pub IsMissingAt : List (Table P N) → LookUp P N → P → N → Type 0
+  IsMissingAt w l p n =
+      (met : List (LookUp P N)) × (a : LookUp P N) × Walk w l met a × (a.path ≡ p) × (a.name ≡ n)
+      × (((t : Table P N) × IsAt w p t × (Declares t n → ⊥) × ((i : Import P N) → Imports t n i → ⊥)) ⊎ HasMet met a)
+
+  -- a walk comes to another module that imports the name, and shows none of these imports
+  abbrev pub IsPrivateAt : List (Table P N) → LookUp P N → N → P → Type 0
+  IsPrivateAt w l n p =
+      (met : List (LookUp P N)) × (a : LookUp P N) × (t : Table P N) × Walk w l met a × (a.path ≡ p) × (a.name ≡ n)
+      × IsAt w p t × (Declares t n → ⊥) × ((i : Import P N) × Imports t n i) × ((i : Import P N) → Imports t n i → Shows a.asker p i → ⊥)
+
+-- ---- what is reached
+
+-- what is linked: the root, the names that are kept, and whether all that is declared is held
+pub record Task (P N : Type 0) : Type 0 where
+  pub root : P
+  pub kept : List N
+  pub is_eager : Bool
+
+module _ {P N : Type 0} where
+  -- a kept name is asked for from outside
+  abbrev pub IsKept : Task P N → LookUp P N → Type 0
+  IsKept task l = (n : N) × Contains task.kept n × (l ≡ record { asker = None; path = task.root; name = n })
+
+-- The least sets of entered paths, reached symbols and followed look-ups. The eager link, besides, reaches all
+-- that an entered module declares, and enters the path of each of its imports.
+mutual
+  pub data Entered {P N : Type 0} (w : List (Table P N)) (task : Task P N) : P → Type 0 where
+    root : (p : P) → p ≡ task.root → Entered w task p
+    asked : (l a : LookUp P N) (p : P) → Followed w task l → ComesTo w l a → a.path ≡ p → Entered w task p
+    imported : (q p : P) (t : Table P N) (i : Import P N) → task.is_eager ≡ true → Entered w task q → IsAt w q t → Contains t.imports i → i.path ≡ p → Entered w task p
+
+  pub data Reached {P N : Type 0} (w : List (Table P N)) (task : Task P N) : Symbol P N → Type 0 where
+    led_to : (l : LookUp P N) (s : Symbol P N) → Followed w task l → LeadsTo w l s → Reached w task s
+    declared : (s : Symbol P N) (t : Table P N) → task.is_eager ≡ true → Entered w task s.path → IsAt w s.path t → Declares t s.name → Reached w task s
+
+  pub data Followed {P N : Type 0} (w : List (Table P N)) (task : Task P N) : LookUp P N → Type 0 where
+    kept : (l : LookUp P N) → IsKept task l → Followed w task l
+    by_assert : (p : P) (t : Table P N) (l : LookUp P N) → Entered w task p → IsAt w p t → AsksFrom t None l → Followed w task l
+    by_symbol : (s : Symbol P N) (t : Table P N) (l : LookUp P N) → Reached w task s → IsAt w s.path t → AsksFrom t (Some s.name) l → Followed w task l

@@ -1,0 +1,202 @@
+//! Linking: what a root module reaches.
+ghost use Rattle.std.specs.Prelude.{◌≡◌, ◌↔◌, ◌<◌, Some, None, [], true, false, IsTrue, IfSome, IfNone, IfOk, IfErr, Contains};
+ghost use Rattle.wesl_world.specs.declared.ids.PathId.{PathId};
+ghost use Rattle.wesl_world.specs.declared.ids.NameId.{NameId};
+ghost use Rattle.wesl_world.specs.Tables as tables;
+ghost use Rattle.wesl_world.specs.Tables.{LookUp};
+ghost use Rattle.wesl_world.specs.World.{Asks, LeadsTo};
+ghost use Rattle.wesl_world.specs.Faults.{Agrees};
+ghost use Rattle.wesl_world.specs.Linking.{IsLinked, task_of};
+ghost use Rattle.wesl_world.specs.Loader.{IsReady, OnlyAdds};
+ghost use Rattle.wesl_world.specs.Refusal.{IsExplained};
+ghost use Rattle.wesl_world.specs.Keeping.{StandsHeld};
+
+use crate::error::LinkError;
+use crate::ids::{NameId, PathId};
+use crate::loader::Loader;
+use crate::request::{Loaded, Request};
+use crate::run::{self, Reach};
+use crate::symbols::{LookUp, Reference, Symbol};
+use crate::table::Table;
+use crate::{keyed, names};
+use indexmap::{IndexMap, IndexSet};
+use std::alloc::Global;
+use std::marker::Model;
+
+/// The modules that a link loaded, the symbols that it reached, and what each name used in them stands for.
+#[derive(Drop)]
+pub struct Linked {
+    tables: Vec<Table>,
+    symbols: IndexSet<Symbol<PathId, NameId>>,
+    answers: IndexMap<LookUp<PathId, NameId>, Symbol<PathId, NameId>>,
+    turns: usize,
+}
+
+impl Model for Linked {
+    ghost use Rattle.wesl_world.specs.Linking.{Linking};
+    ghost use Rattle.wesl_world.specs.Keeping.{IsKept};
+    ghost use Rattle.wesl_world.specs.declared.ids.PathId.{PathId};
+    ghost use Rattle.wesl_world.specs.declared.ids.NameId.{NameId};
+
+    ghost Value = { Linking PathId NameId };
+
+    ghost view = { λ k. record { tables = k.tables.items; symbols = k.symbols.keys; turns = k.turns } };
+
+    ghost invariant = { λ k. IsKept k.tables.items k.symbols.keys k.answers.entries };
+}
+
+impl Linked {
+    /// The modules: the root's first, and then by loading.
+    pub fn tables(&self) -> &[Table]
+        ensures { result.now ≡ self.now.tables }
+    {
+        &self.tables
+    }
+
+    /// The symbols that are reached, in the order in which they were found.
+    pub fn symbols(&self) -> &[Symbol<PathId, NameId>]
+        ensures { result.now ≡ self.now.symbols }
+    {
+        self.symbols.as_slice()
+    }
+
+    /// How many modules and symbols were taken.
+    pub fn turns(&self) -> usize
+        ensures { result ≡ self.now.turns }
+    {
+        self.turns
+    }
+
+    /// Whether the symbol of that name in the module at that path is reached.
+    pub fn holds(&self, path: PathId, name: NameId) -> bool
+        ensures { IsTrue result ↔ Contains self.now.symbols (record { path = path; name = name }) }
+    {
+        keyed::has_key(&self.symbols, Symbol { path, name })
+    }
+
+    /// The symbol that a name used in a held declaration of a module stands for (WESL, "Imports"); none where the module
+    /// does not bind it.
+    pub fn denotes(
+        &self,
+        table: &Table,
+        reference: &Reference<PathId, NameId>,
+    ) -> Option<Symbol<PathId, NameId>>
+        requires loaded { Contains self.now.tables table.now }
+        requires held { StandsHeld self.now table.now reference.now }
+        ensures found { IfSome result (λ s. (l : LookUp PathId NameId) × Asks table.now reference.now l × LeadsTo self.now.tables l s) }
+        ensures every { (l : LookUp PathId NameId) (s : tables.Symbol PathId NameId) → Asks table.now reference.now l → LeadsTo self.now.tables l s → result ≡ Some s }
+        ensures free { IfNone result ((l : LookUp PathId NameId) → Asks table.now reference.now l → ⊥) }
+    {
+        let answers = &self.answers;
+        match names::ask(table, reference) {
+            Some(look_up) => keyed::value_at(answers, look_up),
+            None => None,
+        }
+    }
+}
+
+/// Links a root whose binders agree.
+fn link<E, L: Loader<E>>(
+    alloc: Global,
+    request: Request,
+    loader: &mut L,
+) -> Result<Linked, LinkError<E>>
+    requires agrees { Agrees request.root }
+    requires ready_paths { IsReady (L.ready loader.old) request.root }
+    requires room { 0 < request.max_modules }
+    ensures linked { IfOk result (IsLinked (L.hands loader.new) (L.refuses loader.new) request.root (task_of request.root request.kept.items request.is_eager) request.max_modules) }
+    ensures refused { IfErr result (IsExplained (L.hands loader.new) (L.refuses loader.new) request.root (task_of request.root request.kept.items request.is_eager) request.max_modules) }
+    ensures adds { OnlyAdds (L.hands loader.old) (L.refuses loader.old) (L.ready loader.old) (L.hands loader.new) (L.refuses loader.new) (L.ready loader.new) }
+{
+    let reach = run::reach_all(alloc, &request, loader)?;
+    let Request {
+        root,
+        kept: _,
+        is_eager: _,
+        max_modules: _,
+    } = request;
+    let Reach { loaded, turns } = reach;
+    let Loaded {
+        others,
+        places: _,
+        symbols,
+        answers,
+    } = loaded;
+    let mut others = others;
+    let mut tables = Vec::new(alloc);
+    tables.push(root)?;
+    tables.append(&mut others)?;
+    Ok(Linked {
+        tables,
+        symbols,
+        answers,
+        turns,
+    })
+}
+
+/// Links a root.
+fn resolve<E, L: Loader<E>>(
+    alloc: Global,
+    root: Table,
+    kept: Vec<NameId>,
+    is_eager: bool,
+    loader: &mut L,
+    max_modules: usize,
+) -> Result<Linked, LinkError<E>>
+    requires { IsReady (L.ready loader.old) root }
+    ensures linked { IfOk result (IsLinked (L.hands loader.new) (L.refuses loader.new) root (task_of root kept.items is_eager) max_modules) }
+    ensures refused { IfErr result (IsExplained (L.hands loader.new) (L.refuses loader.new) root (task_of root kept.items is_eager) max_modules) }
+    ensures adds { OnlyAdds (L.hands loader.old) (L.refuses loader.old) (L.ready loader.old) (L.hands loader.new) (L.refuses loader.new) (L.ready loader.new) }
+{
+    if max_modules == 0 {
+        return Err(LinkError::ModuleLimit(0));
+    }
+    if let Some(name) = names::clash(alloc, &root)? {
+        return Err(LinkError::DuplicateSymbol(name));
+    }
+    let request = Request {
+        root,
+        kept,
+        is_eager,
+        max_modules,
+    };
+    link(alloc, request, loader)
+}
+
+/// Loads the modules that the kept names of the root and the const_asserts reach, and no others.
+///
+/// `loader` hands out each module but the root, once a path at most; no more than `max_modules` are loaded, the root counted.
+/// It is refused where a name has two targets, where the loader refuses a path, where a look-up finds nothing or nothing
+/// that it may see, and where there are more modules than may be (WESL, "Imports" and "Visibility").
+pub fn resolve_lazy<E, L: Loader<E>>(
+    alloc: Global,
+    root: Table,
+    keep: Vec<NameId>,
+    loader: &mut L,
+    max_modules: usize,
+) -> Result<Linked, LinkError<E>>
+    requires { IsReady (L.ready loader.old) root }
+    ensures linked { IfOk result (IsLinked (L.hands loader.new) (L.refuses loader.new) root (task_of root keep.items false) max_modules) }
+    ensures refused { IfErr result (IsExplained (L.hands loader.new) (L.refuses loader.new) root (task_of root keep.items false) max_modules) }
+    ensures adds { OnlyAdds (L.hands loader.old) (L.refuses loader.old) (L.ready loader.old) (L.hands loader.new) (L.refuses loader.new) (L.ready loader.new) }
+{
+    resolve(alloc, root, keep, false, loader, max_modules)
+}
+
+/// Loads the modules that the root imports from, and those that they import from, and holds all that they declare.
+///
+/// The loader, the limit and the refusals are those of `resolve_lazy`.
+pub fn resolve_eager<E, L: Loader<E>>(
+    alloc: Global,
+    root: Table,
+    loader: &mut L,
+    max_modules: usize,
+) -> Result<Linked, LinkError<E>>
+    requires { IsReady (L.ready loader.old) root }
+    ensures linked { IfOk result (IsLinked (L.hands loader.new) (L.refuses loader.new) root (task_of root [] true) max_modules) }
+    ensures refused { IfErr result (IsExplained (L.hands loader.new) (L.refuses loader.new) root (task_of root [] true) max_modules) }
+    ensures adds { OnlyAdds (L.hands loader.old) (L.refuses loader.old) (L.ready loader.old) (L.hands loader.new) (L.refuses loader.new) (L.ready loader.new) }
+{
+    let kept = Vec::new(alloc);
+    resolve(alloc, root, kept, true, loader, max_modules)
+}
