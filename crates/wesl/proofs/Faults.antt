@@ -28,19 +28,19 @@ not_found p message (resolve_error.FileNotFound file text) h = absurd h
 not_found p message (resolve_error.Error' at inner declaration place display span source) h = absurd h
 not_found p message resolve_error.Memory h = absurd h
 
-bad_tree : (e : resolve_error.ResolveError) → IsRefusedWith IsTreeFault e → IsOfModules (fault_of_resolver e)
-bad_tree (resolve_error.Error' at inner declaration place display span source) h =
+bad_tree : (d : Data) (e : resolve_error.ResolveError) → IsRefusedWith (IsTreeFault d) e → IsOfModules (fault_of_resolver e)
+bad_tree d (resolve_error.Error' at inner declaration place display span source) h =
     subst (λ x. IsOfModules (fault_of x)) (sym h.1) (of_modules (fault_of (error.BadTree h.0)) refl refl)
-bad_tree (resolve_error.ModuleNotFound q text) h = absurd h
-bad_tree (resolve_error.FileNotFound file text) h = absurd h
-bad_tree resolve_error.Memory h = absurd h
+bad_tree d (resolve_error.ModuleNotFound q text) h = absurd h
+bad_tree d (resolve_error.FileNotFound file text) h = absurd h
+bad_tree d resolve_error.Memory h = absurd h
 
 refused_at : (p : Path) (o : Origin) (u : Option Data) (e : resolve_error.ResolveError) → IsRefusedAt p o u e → IsOfModules (fault_of_resolver e)
 refused_at p (from_package name) u e h = not_found p (no_dependency name) e h
 refused_at p absolute None e h = not_found p (codes "virtual module") e h
-refused_at p absolute (Some d) e h = bad_tree e h
+refused_at p absolute (Some d) e h = bad_tree d e h
 refused_at p (relative n) None e h = not_found p (codes "virtual module") e h
-refused_at p (relative n) (Some d) e h = bad_tree e h
+refused_at p (relative n) (Some d) e h = bad_tree d e h
 
 wrapped : (e : resolve_error.ResolveError) → IsOfModules (fault_of_resolver e) → IsModuleFault (error_of_resolve e)
 wrapped (resolve_error.Error' at inner declaration place display span source) h = inr h
@@ -57,9 +57,9 @@ pub or_not_found : (p : Path) (message : Text) (e : resolve_error.ResolveError) 
 or_not_found p message e (inl is) = inl is
 or_not_found p message e (inr h) = inr (not_found p message e h)
 
-pub or_bad_tree : (e : resolve_error.ResolveError) → OrMemory (IsRefusedWith IsTreeFault) e → OrMemory IsResolverFault e
-or_bad_tree e (inl is) = inl is
-or_bad_tree e (inr h) = inr (bad_tree e h)
+pub or_bad_tree : (d : Data) (e : resolve_error.ResolveError) → OrMemory (IsRefusedWith (IsTreeFault d)) e → OrMemory IsResolverFault e
+or_bad_tree d e (inl is) = inl is
+or_bad_tree d e (inr h) = inr (bad_tree d e h)
 
 import-is-of-modules : (e : import_error.ImportError) → IsImportFault IsResolverFault e → IsModuleFault (error.Import e)
 import-is-of-modules (import_error.DuplicateSymbol n) h = inr (of_modules (fault_of (error.Import (import_error.DuplicateSymbol n))) refl refl)

@@ -2,14 +2,16 @@
 use Rattle.std.proofs.Common.{◌≡◌, ◌⊎◌, ℕ, zero, suc, ◌+◌, ◌<◌, ◌≤◌, List, [], ◌∷◌, ◌++◌, map, take, length, get_or, Bool, true, false, ◌||◌, Option, Some, None, option_map, option_and_then, string_bytes, refl, sym, ap, ◌∙◌, subst, inl, inr, arith, Bor, codes}
 use Rattle.std.proofs.lemmas.List.{take_more, take_all, map-append}
 use Rattle.serde_json.specs.Data.{Data, null, boolean, number, string, array, object, Items, no_items, item, Members, no_members, member}
-use Rattle.serde_json.specs.Find.{get, at, get_item, as_array}
+use Rattle.serde_json.specs.Find.{get, at, get_item, as_array, as_bool}
 use Rattle.serde_json.specs.Written.{has_float, items_have_float, members_have_float}
 use Rattle.serde_json.specs.View.{view, items_view, members_view}
 use Rattle.serde_json.specs.declared.value.Value.{Value}
 use Rattle.serde_json.proofs.Views.{Entry, get_item_within}
 use Rattle.wesl_names.specs.Path.{Text, Path}
 use Rattle.wesl.specs.Place.{HasMember}
-use Rattle.wesl.specs.Bundle.{items_in, has_only, bundle_keys, required_in, path_in, or_empty, name_in, module_in, bundle_in, Module}
+use Rattle.wesl.specs.Bundle.{items_in, has_only, bundle_keys, required_in, path_in, or_empty, name_in, module_in, bundle_in, Module, Options, options_in, or_default, naming_in, limit_in}
+use Rattle.wesl.specs.declared.options.Naming.{Naming}
+use Rattle.wesl.specs.declared.options.Naming.TheVariants as naming
 use Rattle.wesl.specs.Fault.{Fault}
 use Rattle.wesl.specs.Line.{texts_value, fault_value}
 
@@ -101,5 +103,8 @@ texts-turn vs ws said i v a low e grown before here =
 
 -- ---- objects
 
-pub bundle-read : (d : Data) (root : Path) (keep : List Text) (modules : List Module) → has_only bundle_keys d ≡ true → required_in path_in (codes "root") d ≡ Some root → or_empty name_in (get (codes "keep") d) ≡ Some keep → or_empty module_in (get (codes "modules") d) ≡ Some modules → bundle_in d ≡ Some (record { root = root; keep = keep; modules = modules })
-bundle-read d root keep modules known is_root is_keep is_modules = rw (known, is_root, is_keep, is_modules) refl
+pub bundle-read : (d : Data) (root : Path) (keep : List Text) (modules : List Module) (options : Options) → has_only bundle_keys d ≡ true → required_in path_in (codes "root") d ≡ Some root → or_empty name_in (get (codes "keep") d) ≡ Some keep → or_empty module_in (get (codes "modules") d) ≡ Some modules → options_in d ≡ Some options → bundle_in d ≡ Some (record { root = root; keep = keep; modules = modules; options = options })
+bundle-read d root keep modules options known is_root is_keep is_modules are_options = rw (known, is_root, is_keep, is_modules, are_options) refl
+
+pub options-read : (d : Data) (mangler : Naming) (mangle_root : Bool) (max_modules : ℕ) → or_default naming.Escape naming_in (get (codes "mangler") d) ≡ Some mangler → or_default false as_bool (get (codes "mangle_root") d) ≡ Some mangle_root → or_default 1000 limit_in (get (codes "max_modules") d) ≡ Some max_modules → options_in d ≡ Some (record { mangler = mangler; mangle_root = mangle_root; max_modules = max_modules })
+options-read d mangler mangle_root max_modules is_mangler is_root is_max = rw (is_mangler, is_root, is_max) refl

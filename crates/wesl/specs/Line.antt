@@ -4,6 +4,8 @@ use Rattle.serde_json.specs.Data.{Data, string, array, object, item, no_items, m
 use Rattle.serde_json.specs.Read.{read}
 use Rattle.serde_json.specs.Written.{compact_text}
 use Rattle.wesl_names.specs.Path.{Text}
+use Rattle.wesl_syntax.specs.Unit.{UnitView}
+use Rattle.wesl_form.specs.Units.{unit_value}
 use Rattle.wesl.specs.Bundle.{Bundle, bundle_of, IsBrokenBundle}
 use Rattle.wesl_names.specs.declared.errors.Error as error
 use Rattle.wesl.specs.Fault.{Fault, fault, fault_of}
@@ -64,6 +66,6 @@ IsFaultLine bytes line = (line ≡ fault_line memory) ⊎ ((f : Fault) × Stands
 abbrev pub answer_value : Data → Data
 answer_value unit = object (member (codes "unit") unit no_members)
 
--- the line of a unit that was linked of the bytes' bundle
+-- the bytes are a bundle's, and the line has the written form of a unit
 abbrev pub IsAnswerLine : List ℕ → Text → Type 0
-IsAnswerLine bytes line = (d : Data) × (b : Bundle) × (unit : Data) × (read bytes ≡ Some d) × (bundle_of d ≡ Some b) × (line ≡ line_of (answer_value unit))
+IsAnswerLine bytes line = (d : Data) × (b : Bundle) × (u : UnitView) × (read bytes ≡ Some d) × (bundle_of d ≡ Some b) × (line ≡ line_of (answer_value (unit_value u)))

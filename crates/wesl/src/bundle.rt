@@ -14,6 +14,7 @@ use crate::members::{
     BundleError, check_keys, member, name_of, path_member, under, under_index, wrong,
 };
 use crate::modules::Modules;
+use crate::options::{Options, read_options};
 use serde_json::Value;
 use std::alloc::Global;
 use wesl_tree::ModulePath;
@@ -24,6 +25,7 @@ pub(crate) struct Bundle<'v> {
     pub(crate) root: ModulePath,
     pub(crate) keep: Vec<String>,
     pub(crate) modules: Modules<'v>,
+    pub(crate) options: Options,
 }
 
 /// The bundle that a value is. Refused at a place of the value that breaks the form, or for want of memory.
@@ -41,14 +43,24 @@ fn read_members<'v>(alloc: Global, value: &'v Value) -> Result<Bundle<'v>, Bundl
     ensures fixed { IfOk result (λ b. is_relative (path_view b.root) ≡ false) }
     ensures place { IfErr result (Locates a_bundle (view value.now)) }
 {
-    check_keys(alloc, value, &["root", "keep", "modules"])?;
+    let known = [
+        "root",
+        "keep",
+        "modules",
+        "mangler",
+        "mangle_root",
+        "max_modules",
+    ];
+    check_keys(alloc, value, &known)?;
     let root = path_member(alloc, value, "root")?;
     let keep = names_member(alloc, value, "keep")?;
     let modules = modules_member(alloc, value, "modules")?;
+    let options = read_options(alloc, value)?;
     Ok(Bundle {
         root,
         keep,
         modules,
+        options,
     })
 }
 

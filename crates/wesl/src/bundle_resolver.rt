@@ -1,9 +1,12 @@
 //! The modules of a bundle, as a resolver: the unit at a path is read only when it is asked for.
-ghost use Rattle.std.specs.Prelude.{◌≡◌, ◌==◌, ◌++◌, List, IfOk, IfErr, OnOk, codes, string_bytes};
+ghost use Rattle.std.specs.Prelude.{◌≡◌, ◌==◌, ◌++◌, List, IfOk, IfErr, codes, string_bytes};
 ghost use Rattle.std.specs.List.{before_first};
 ghost use Rattle.wesl_names.specs.Path.{path_view};
 ghost use Rattle.wesl_names.specs.Errors.{IsModuleNotFound, IsRefusedWith, OrMemory};
-ghost use Rattle.wesl.specs.Hands.{Hands, Refuses, IsTreeFault, no_dependency};
+ghost use Rattle.serde_json.specs.View.{view};
+ghost use Rattle.wesl_syntax.specs.Unit.{spelled};
+ghost use Rattle.wesl_tree.specs.Translation.{unit_view};
+ghost use Rattle.wesl.specs.Hands.{Hands, Refuses, IsReadAs, IsTreeFault, no_dependency};
 ghost use Rattle.wesl.specs.Refused.{IsResolverFault};
 
 use crate::modules::Modules;
@@ -23,7 +26,7 @@ impl Resolver for BundleResolver<'_, '_> {
     ghost use Rattle.wesl.specs.Hands.{Hands, Refuses};
     ghost use Rattle.wesl.specs.Refused.{IsResolverFault};
 
-    ghost hands = { λ r p u. Hands r.modules.now p };
+    ghost hands = { λ r p u. Hands r.modules.now p u };
 
     ghost refuses = { λ r p e. Refuses r.modules.now p e };
 
@@ -44,7 +47,7 @@ fn unit_of_module(
     modules: &Modules,
     path: &ModulePath,
 ) -> Result<TranslationUnit, ResolveError>
-    ensures handed { OnOk result (Hands modules.now (path_view path.now)) }
+    ensures handed { IfOk result (λ u. Hands modules.now (path_view path.now) (spelled (unit_view u))) }
     ensures refused { IfErr result (OrMemory (Refuses modules.now (path_view path.now))) }
     ensures faults { IfErr result (OrMemory IsResolverFault) }
 {
@@ -63,7 +66,8 @@ fn unit_of_module(
 
 // The unit that a value stands for.
 fn read_unit(alloc: Global, value: &Value) -> Result<TranslationUnit, ResolveError>
-    ensures { IfErr result (OrMemory (IsRefusedWith IsTreeFault)) }
+    ensures read { IfOk result (λ u. IsReadAs (view value.now) (spelled (unit_view u))) }
+    ensures refused { IfErr result (OrMemory (IsRefusedWith (IsTreeFault (view value.now)))) }
 {
     match unit_of_value(alloc, value) {
         Ok(unit) => Ok(unit),

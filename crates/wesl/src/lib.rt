@@ -9,6 +9,7 @@ mod floats;
 mod linking;
 mod members;
 mod modules;
+mod options;
 mod program;
 mod streams;
 mod text_line;

@@ -3,6 +3,10 @@ ghost use Rattle.std.specs.Prelude.{◌≡◌, ◌⊎◌, ◌∷◌, [], List, f
 ghost use Rattle.serde_json.specs.View.{view};
 ghost use Rattle.serde_json.specs.Written.{has_float};
 ghost use Rattle.wesl_names.specs.Path.{path_view, is_relative};
+ghost use Rattle.wesl_names.specs.declared.errors.Error as error;
+ghost use Rattle.wesl_syntax.specs.Unit.{UnitView};
+ghost use Rattle.wesl_tree.specs.Translation.{unit_view};
+ghost use Rattle.wesl_form.specs.Units.{unit_value};
 ghost use Rattle.wesl.specs.Bundle.{Module};
 ghost use Rattle.wesl.specs.Holds.{Holds};
 ghost use Rattle.wesl.specs.Refused.{IsModuleFault};
@@ -10,20 +14,19 @@ ghost use Rattle.wesl.specs.Refused.{IsModuleFault};
 use crate::bundle::Bundle;
 use crate::bundle_resolver::BundleResolver;
 use crate::floats::check_whole;
+use crate::options::{Naming, Options};
 use serde_json::Value;
 use std::alloc::{AllocError, Global};
 use wesl_json::value_of_unit;
-use wesl_link::{Resolver, resolve_lazy};
-use wesl_mangle::EscapeMangler;
+use wesl_link::{Resolutions, Resolver, resolve_lazy};
+use wesl_mangle::{EscapeMangler, NoMangler, UnicodeMangler};
 use wesl_tree::{Error, TranslationUnit};
-
-/// How many modules a link may load, the root counted.
-const MAX_MODULES: usize = 1000;
 
 /// The value of the unit that is linked of a bundle's modules.
 pub(crate) fn linked(alloc: Global, bundle: &Bundle) -> Result<Value, Error>
     requires fixed { is_relative (path_view bundle.now.root) ≡ false }
     requires held { (ms : List Module) × Holds ms bundle.now.modules }
+    ensures written { IfOk result (λ v. (u : UnitView) × (view v ≡ unit_value u)) }
     ensures whole { IfOk result (λ v. has_float (view v) ≡ false) }
     ensures refused { IfErr result IsModuleFault }
 {
@@ -32,7 +35,8 @@ pub(crate) fn linked(alloc: Global, bundle: &Bundle) -> Result<Value, Error>
 }
 
 /// The root is handed out as each other module is. Of the other modules those are loaded that are reached from the
-/// names that are kept; the names of the root's declarations stay, and those of the others are in the escape form.
+/// names that are kept, and no more than the bundle allows; the names of their items are as its mangler gives them, and
+/// those of the root's stay where it says nothing else.
 fn linked_unit(alloc: Global, bundle: &Bundle) -> Result<TranslationUnit, Error>
     requires fixed { is_relative (path_view bundle.now.root) ≡ false }
     requires held { (ms : List Module) × Holds ms bundle.now.modules }
@@ -46,14 +50,33 @@ fn linked_unit(alloc: Global, bundle: &Bundle) -> Result<TranslationUnit, Error>
         Err(fault) => return Err(Error::of_resolve(fault)),
     };
     let keep = names(alloc, &bundle.keep)?;
-    match resolve_lazy(alloc, &keep, unit, &bundle.root, &mut resolver, MAX_MODULES) {
+    let options = bundle.options;
+    match resolve_lazy(
+        alloc,
+        &keep,
+        unit,
+        &bundle.root,
+        &mut resolver,
+        options.max_modules,
+    ) {
         Ok(mut resolutions) => {
-            let mut mangler = EscapeMangler;
-            resolutions.mangle(alloc, &mut mangler, false)?;
+            mangle(alloc, &mut resolutions, options)?;
             let unit = resolutions.assemble(alloc, true)?;
             Ok(unit)
         }
         Err(diagnostic) => Err(diagnostic.error),
+    }
+}
+
+// The names of the modules' items become those of the mangler, the root's where the options say so.
+fn mangle(alloc: Global, resolutions: &mut Resolutions, options: Options) -> Result<(), Error>
+    ensures refused { IfErr result (λ e. e ≡ error.Memory) }
+{
+    let root = options.mangle_root;
+    match options.mangler {
+        Naming::Escape => resolutions.mangle(alloc, &mut EscapeMangler, root),
+        Naming::Unicode => resolutions.mangle(alloc, &mut UnicodeMangler, root),
+        Naming::Own => resolutions.mangle(alloc, &mut NoMangler, root),
     }
 }
 
@@ -67,12 +90,11 @@ fn names<'b>(alloc: Global, keep: &'b [String]) -> Result<Vec<&'b str>, AllocErr
 
 // The value of a unit. It has no number at all.
 fn whole_value(alloc: Global, unit: &TranslationUnit) -> Result<Value, Error>
+    ensures written { IfOk result (λ v. view v ≡ unit_value (unit_view unit.now)) }
     ensures whole { IfOk result (λ v. has_float (view v) ≡ false) }
-    ensures refused { IfErr result IsModuleFault }
+    ensures refused { IfErr result (λ e. e ≡ error.Memory) }
 {
-    let Ok(value) = value_of_unit(alloc, unit) else {
-        return Err(Error::Memory);
-    };
+    let value = value_of_unit(alloc, unit)?;
     match check_whole(alloc, &value) {
         Ok(()) => Ok(value),
         Err(_) => Err(Error::Memory),

@@ -7,3 +7,5 @@ pub mod Kinds
 pub mod Writing
 pub mod Profile
 pub mod Units
+pub mod Laws
+pub mod Writable

@@ -1,5 +1,5 @@
 -- Which unit a value stands for, and which value a unit is written as.
-use Rattle.std.specs.Prelude.{◌≡◌, ◌⊎◌, ℕ, ◌+◌, ◌<◌, List, [], ◌∷◌, length, Option, Some, slice_get}
+use Rattle.std.specs.Prelude.{◌≡◌, ◌⊎◌, ℕ, ◌+◌, ◌<◌, List, [], ◌∷◌, length, Option, Some, None, slice_get}
 use Rattle.serde_json.specs.Data.{Data, depth}
 use Rattle.wesl_names.specs.Path.{Text}
 use Rattle.wesl_syntax.specs.Tree.{Tree, kind, unit, respell}
@@ -42,6 +42,10 @@ module _ (table : Table) where
   -- a place of a value that stands for none
   abbrev pub IsBrokenUnit : Data → Text → Type 0
   IsBrokenUnit d place = IsBroken table (node a_unit) d place
+
+  -- no number of levels reads the value
+  abbrev pub IsNoUnit : Data → Type 0
+  IsNoUnit d = (n : ℕ) → reading table n (node a_unit) d ≡ None
 
 -- the value that a unit is written as
 abbrev pub unit_value : UnitView → Data

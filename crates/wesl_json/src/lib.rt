@@ -10,7 +10,6 @@ mod numbering;
 mod tests;
 mod unit;
 mod words;
-mod writing;
 
 pub use unit::unit_of_value;
-pub use writing::value_of_unit;
+pub use wesl_writing::value_of_unit;

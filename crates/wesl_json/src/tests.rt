@@ -3,7 +3,10 @@ use crate::{unit_of_value, value_of_unit};
 use serde_json::Value;
 use std::alloc::Global;
 use std::test::Fail;
-use wesl_tree::Error;
+use wesl_tree::{
+    Attribute, CompoundStatement, Error, Expression, Function, GlobalDeclaration, GlobalDirective,
+    Names, Span, Spanned, Statement, TranslationUnit, TypeExpression,
+};
 
 // What is written of the unit that a text stands for, or the place where it stands for none.
 fn answer(alloc: Global, text: &str) -> Result<String, Fail> {
@@ -105,6 +108,63 @@ fn faults_tell_their_places(rt: HostRuntime) -> Result<(), Fail> {
             r#"{"imports":[{"content":{"item":"c"}}]}"#,
             "/imports/0"
         )?
+    );
+    Ok(())
+}
+
+fn spanned<T>(node: T) -> Spanned<T> {
+    Spanned {
+        node,
+        span: Span { start: 1, end: 2 },
+    }
+}
+
+// `enable f16; @const fn f() { return x<>; ; }`
+fn unit_of_a_function(alloc: Global) -> Result<TranslationUnit, Fail> {
+    let mut names = Names::new(alloc);
+    let function = names.add("f")?;
+    let ty = TypeExpression {
+        path: None,
+        ident: names.add("x")?,
+        template_args: Some(Vec::new(alloc)),
+    };
+    let statements = vec![in alloc;
+        spanned(Statement::Return {
+            attributes: Vec::new(alloc),
+            expression: Some(spanned(Expression::TypeOrIdentifier(ty))),
+        }),
+        spanned(Statement::Void),
+    ]?;
+    let body = CompoundStatement {
+        attributes: Vec::new(alloc),
+        statements,
+    };
+    let function = GlobalDeclaration::Function(Function {
+        attributes: vec![in alloc; spanned(Attribute::Const)]?,
+        ident: function,
+        parameters: Vec::new(alloc),
+        return_attributes: Vec::new(alloc),
+        return_type: None,
+        body,
+    });
+    let enable = GlobalDirective::Enable {
+        attributes: Vec::new(alloc),
+        names: vec![in alloc; String::from_str(alloc, "f16")?]?,
+    };
+    let directives = vec![in alloc; spanned(enable)]?;
+    let declarations = vec![in alloc; spanned(function)]?;
+    let unit = TranslationUnit::from_parts(names, Vec::new(alloc), directives, declarations);
+    Ok(unit.ok_or(Error::Memory)?)
+}
+
+#[test]
+fn functions_are_written(rt: HostRuntime) -> Result<(), Fail> {
+    let alloc = rt.alloc();
+    let unit = unit_of_a_function(alloc)?;
+    let text = value_of_unit(alloc, &unit)?.to_string(alloc)?;
+    assert!(rt;
+        text.as_str()
+            == r#"{"declarations":[{"attrs":["const"],"body":{"stmts":[{"expr":{"args":[],"name":"x"},"k":"return"},{"k":"void"}]},"k":"fn","name":"f"}],"directives":[{"k":"enable","names":["f16"]}]}"#
     );
     Ok(())
 }

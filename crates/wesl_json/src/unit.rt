@@ -5,7 +5,7 @@ ghost use Rattle.wesl_syntax.specs.Tree.{declarations, imports};
 ghost use Rattle.wesl_syntax.specs.View.{declarations_tree, imports_tree};
 ghost use Rattle.wesl_form.specs.Schema.{a_declaration, an_import, list_of};
 ghost use Rattle.wesl_form.specs.Profile.{first_profile};
-ghost use Rattle.wesl_form.specs.Units.{IsBrokenUnit, IsUnitOf};
+ghost use Rattle.wesl_form.specs.Units.{IsBrokenUnit, IsNoUnit, IsUnitOf};
 ghost use Rattle.wesl_tree.specs.Translation.{unit_view};
 ghost use Rattle.wesl_json.specs.Faults.{IfPlace, Locates, LocatesInside};
 ghost use Rattle.wesl_json.specs.Numbers.{ReadsForm, ReadsList};
@@ -25,6 +25,14 @@ use wesl_tree::{Error, GlobalDeclarationNode, ImportStatementNode, TranslationUn
 /// with an unknown key or without a key that it needs, of an unknown word, of an empty name, of a number, or of a value
 /// of another kind than its place asks for. Otherwise it is refused for want of memory alone.
 pub fn unit_of_value(alloc: Global, value: &Value) -> Result<TranslationUnit, Error>
+    ensures unit { IfOk result (λ u. IsUnitOf first_profile (view value.now) (unit_view u)) }
+    ensures place { IfErr result (λ e. IfPlace e (IsBrokenUnit first_profile (view value.now))) }
+    ensures unread { IfErr result (λ e. IfPlace e (λ _. IsNoUnit first_profile (view value.now))) }
+{
+    read_unit(alloc, value)
+}
+
+fn read_unit(alloc: Global, value: &Value) -> Result<TranslationUnit, Error>
     ensures unit { IfOk result (λ u. IsUnitOf first_profile (view value.now) (unit_view u)) }
     ensures place { IfErr result (λ e. IfPlace e (IsBrokenUnit first_profile (view value.now))) }
 {

@@ -8,8 +8,6 @@ mod laws;
 mod mangler;
 mod numbered;
 mod reversible;
-#[cfg(test)]
-mod tests;
 mod types;
 mod unescape;
 mod unicode;

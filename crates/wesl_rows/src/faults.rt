@@ -37,7 +37,7 @@ fn reports_an_unknown_key(rt: HostRuntime) -> Result<(), Fail> {
     expect_refusal(
         &rt,
         rt.alloc(),
-        "{\"root\":\"package::m\",\"mangler\":\"escape\"}",
+        "{\"root\":\"package::m\",\"validators\":\"all\"}",
         "{\"args\":[\"\"],\"fault\":\"BadBundle\"}\n",
     )?;
     expect_refusal(
@@ -91,6 +91,38 @@ fn reports_a_wrong_member(rt: HostRuntime) -> Result<(), Fail> {
         rt.alloc(),
         "{\"root\":\"package::m\",\"modules\":[{\"path\":\"a:b\",\"unit\":{}}]}",
         "{\"args\":[\"/modules/0/path\"],\"fault\":\"BadBundle\"}\n",
+    )
+}
+
+#[test]
+fn reports_an_unknown_mangler(rt: HostRuntime) -> Result<(), Fail> {
+    let line = "{\"args\":[\"/mangler\"],\"fault\":\"BadBundle\"}\n";
+    for bundle in [
+        "{\"root\":\"package::m\",\"mangler\":\"hash\"}",
+        "{\"root\":\"package::m\",\"mangler\":\"\"}",
+        "{\"root\":\"package::m\",\"mangler\":null}",
+    ] {
+        expect_refusal(&rt, rt.alloc(), bundle, line)?;
+    }
+    Ok(())
+}
+
+#[test]
+fn reports_a_wrong_option(rt: HostRuntime) -> Result<(), Fail> {
+    let line = "{\"args\":[\"/max_modules\"],\"fault\":\"BadBundle\"}\n";
+    for bundle in [
+        "{\"root\":\"package::m\",\"max_modules\":-1}",
+        "{\"root\":\"package::m\",\"max_modules\":1.0}",
+        "{\"root\":\"package::m\",\"max_modules\":4294967296}",
+        "{\"root\":\"package::m\",\"max_modules\":\"9\"}",
+    ] {
+        expect_refusal(&rt, rt.alloc(), bundle, line)?;
+    }
+    expect_refusal(
+        &rt,
+        rt.alloc(),
+        "{\"root\":\"package::m\",\"mangle_root\":\"true\"}",
+        "{\"args\":[\"/mangle_root\"],\"fault\":\"BadBundle\"}\n",
     )
 }
 

@@ -86,3 +86,59 @@ fn refuses_a_package(rt: HostRuntime) -> Result<(), Fail> {
         "{\"args\":[\"x/y::a\",\"dependency `x` not found\"],\"fault\":\"ModuleNotFound\"}\n",
     )
 }
+
+#[test]
+fn names_as_the_mangler_does(rt: HostRuntime) -> Result<(), Fail> {
+    let alloc = rt.alloc();
+    expect_answer(
+        &rt,
+        alloc,
+        "{\"mangler\":\"escape\",\"root\":\"package::main\",\"keep\":[\"total\"],\"modules\":[{\"path\":\"package::main\",\"unit\":{\"imports\":[{\"path\":\"package::util\",\"content\":{\"item\":\"two\"}}],\"declarations\":[{\"k\":\"const\",\"name\":\"total\",\"init\":{\"k\":\"binary\",\"op\":\"+\",\"left\":\"two\",\"right\":\"two\"}},{\"k\":\"const\",\"name\":\"spare\",\"init\":\"two\"}]}},{\"path\":\"package::util\",\"unit\":{\"declarations\":[{\"k\":\"const\",\"name\":\"two\",\"init\":{\"k\":\"lit\",\"text\":\"2\"}},{\"k\":\"const\",\"name\":\"three\",\"init\":{\"k\":\"lit\",\"text\":\"3\"}}]}}]}",
+        TWO_MODULES_LINE,
+    )?;
+    expect_answer(
+        &rt,
+        alloc,
+        "{\"mangler\":\"none\",\"root\":\"package::main\",\"keep\":[\"total\"],\"modules\":[{\"path\":\"package::main\",\"unit\":{\"imports\":[{\"path\":\"package::util\",\"content\":{\"item\":\"two\"}}],\"declarations\":[{\"k\":\"const\",\"name\":\"total\",\"init\":{\"k\":\"binary\",\"op\":\"+\",\"left\":\"two\",\"right\":\"two\"}},{\"k\":\"const\",\"name\":\"spare\",\"init\":\"two\"}]}},{\"path\":\"package::util\",\"unit\":{\"declarations\":[{\"k\":\"const\",\"name\":\"two\",\"init\":{\"k\":\"lit\",\"text\":\"2\"}},{\"k\":\"const\",\"name\":\"three\",\"init\":{\"k\":\"lit\",\"text\":\"3\"}}]}}]}",
+        "{\"unit\":{\"declarations\":[{\"init\":{\"k\":\"binary\",\"left\":\"two\",\"op\":\"+\",\"right\":\"two\"},\"k\":\"const\",\"name\":\"total\"},{\"init\":{\"k\":\"lit\",\"text\":\"2\"},\"k\":\"const\",\"name\":\"two\"}]}}\n",
+    )?;
+    expect_answer(
+        &rt,
+        alloc,
+        "{\"mangler\":\"unicode\",\"root\":\"package::main\",\"keep\":[\"total\"],\"modules\":[{\"path\":\"package::main\",\"unit\":{\"imports\":[{\"path\":\"package::util\",\"content\":{\"item\":\"two\"}}],\"declarations\":[{\"k\":\"const\",\"name\":\"total\",\"init\":{\"k\":\"binary\",\"op\":\"+\",\"left\":\"two\",\"right\":\"two\"}},{\"k\":\"const\",\"name\":\"spare\",\"init\":\"two\"}]}},{\"path\":\"package::util\",\"unit\":{\"declarations\":[{\"k\":\"const\",\"name\":\"two\",\"init\":{\"k\":\"lit\",\"text\":\"2\"}},{\"k\":\"const\",\"name\":\"three\",\"init\":{\"k\":\"lit\",\"text\":\"3\"}}]}}]}",
+        "{\"unit\":{\"declarations\":[{\"init\":{\"k\":\"binary\",\"left\":\"packageːːutilːːtwo\",\"op\":\"+\",\"right\":\"packageːːutilːːtwo\"},\"k\":\"const\",\"name\":\"total\"},{\"init\":{\"k\":\"lit\",\"text\":\"2\"},\"k\":\"const\",\"name\":\"packageːːutilːːtwo\"}]}}\n",
+    )
+}
+
+#[test]
+fn mangles_the_root_too(rt: HostRuntime) -> Result<(), Fail> {
+    expect_answer(
+        &rt,
+        rt.alloc(),
+        "{\"mangle_root\":true,\"root\":\"package::main\",\"keep\":[\"total\"],\"modules\":[{\"path\":\"package::main\",\"unit\":{\"imports\":[{\"path\":\"package::util\",\"content\":{\"item\":\"two\"}}],\"declarations\":[{\"k\":\"const\",\"name\":\"total\",\"init\":{\"k\":\"binary\",\"op\":\"+\",\"left\":\"two\",\"right\":\"two\"}},{\"k\":\"const\",\"name\":\"spare\",\"init\":\"two\"}]}},{\"path\":\"package::util\",\"unit\":{\"declarations\":[{\"k\":\"const\",\"name\":\"two\",\"init\":{\"k\":\"lit\",\"text\":\"2\"}},{\"k\":\"const\",\"name\":\"three\",\"init\":{\"k\":\"lit\",\"text\":\"3\"}}]}}]}",
+        "{\"unit\":{\"declarations\":[{\"init\":{\"k\":\"binary\",\"left\":\"package_util_two\",\"op\":\"+\",\"right\":\"package_util_two\"},\"k\":\"const\",\"name\":\"package_main_total\"},{\"init\":{\"k\":\"lit\",\"text\":\"2\"},\"k\":\"const\",\"name\":\"package_util_two\"}]}}\n",
+    )
+}
+
+#[test]
+fn loads_no_more_modules_than_allowed(rt: HostRuntime) -> Result<(), Fail> {
+    let alloc = rt.alloc();
+    expect_refusal(
+        &rt,
+        alloc,
+        "{\"max_modules\":0,\"root\":\"package::main\",\"keep\":[\"total\"],\"modules\":[{\"path\":\"package::main\",\"unit\":{\"imports\":[{\"path\":\"package::util\",\"content\":{\"item\":\"two\"}}],\"declarations\":[{\"k\":\"const\",\"name\":\"total\",\"init\":{\"k\":\"binary\",\"op\":\"+\",\"left\":\"two\",\"right\":\"two\"}},{\"k\":\"const\",\"name\":\"spare\",\"init\":\"two\"}]}},{\"path\":\"package::util\",\"unit\":{\"declarations\":[{\"k\":\"const\",\"name\":\"two\",\"init\":{\"k\":\"lit\",\"text\":\"2\"}},{\"k\":\"const\",\"name\":\"three\",\"init\":{\"k\":\"lit\",\"text\":\"3\"}}]}}]}",
+        "{\"args\":[\"0\"],\"fault\":\"ModuleLimit\"}\n",
+    )?;
+    expect_refusal(
+        &rt,
+        alloc,
+        "{\"max_modules\":1,\"root\":\"package::main\",\"keep\":[\"total\"],\"modules\":[{\"path\":\"package::main\",\"unit\":{\"imports\":[{\"path\":\"package::util\",\"content\":{\"item\":\"two\"}}],\"declarations\":[{\"k\":\"const\",\"name\":\"total\",\"init\":{\"k\":\"binary\",\"op\":\"+\",\"left\":\"two\",\"right\":\"two\"}},{\"k\":\"const\",\"name\":\"spare\",\"init\":\"two\"}]}},{\"path\":\"package::util\",\"unit\":{\"declarations\":[{\"k\":\"const\",\"name\":\"two\",\"init\":{\"k\":\"lit\",\"text\":\"2\"}},{\"k\":\"const\",\"name\":\"three\",\"init\":{\"k\":\"lit\",\"text\":\"3\"}}]}}]}",
+        "{\"args\":[\"1\"],\"fault\":\"ModuleLimit\"}\n",
+    )?;
+    expect_answer(
+        &rt,
+        alloc,
+        "{\"max_modules\":2,\"root\":\"package::main\",\"keep\":[\"total\"],\"modules\":[{\"path\":\"package::main\",\"unit\":{\"imports\":[{\"path\":\"package::util\",\"content\":{\"item\":\"two\"}}],\"declarations\":[{\"k\":\"const\",\"name\":\"total\",\"init\":{\"k\":\"binary\",\"op\":\"+\",\"left\":\"two\",\"right\":\"two\"}},{\"k\":\"const\",\"name\":\"spare\",\"init\":\"two\"}]}},{\"path\":\"package::util\",\"unit\":{\"declarations\":[{\"k\":\"const\",\"name\":\"two\",\"init\":{\"k\":\"lit\",\"text\":\"2\"}},{\"k\":\"const\",\"name\":\"three\",\"init\":{\"k\":\"lit\",\"text\":\"3\"}}]}}]}",
+        TWO_MODULES_LINE,
+    )
+}

@@ -11,6 +11,3 @@ pub use declaration::{copy_declarations, copy_directives};
 pub use expression::copy_expressions;
 pub use import::copy_import_statements;
 pub use statement::copy_statements;
-
-#[cfg(test)]
-mod tests;

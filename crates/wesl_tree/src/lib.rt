@@ -24,6 +24,3 @@ pub use wesl_syntax::{
     UnaryOperator, copy_attributes, copy_declarations, copy_directives, copy_expressions,
     copy_import_statements, copy_statements, law_of_equality as law_of_node_equality,
 };
-
-#[cfg(test)]
-mod tests;

@@ -15,5 +15,3 @@ mod request;
 mod run;
 pub mod symbols;
 pub mod table;
-#[cfg(test)]
-mod tests;

@@ -28,5 +28,6 @@ returns-clause-ok c =
     let root = path_view c.in_ok-root.root in
     let keep = map string_bytes c.in_ok-keep.keep.items in
     let modules = c.in_ok-modules.ensures.ok.0 in
+    let options = c.in_ok-options.ensures.ok in
     let known : has_only bundle_keys d ≡ true = search rules in
-    (record { root = root; keep = keep; modules = modules }, bundle-read d root keep modules known c.in_ok-root.ensures.ok c.in_ok-keep.ensures.ok c.in_ok-modules.ensures.ok.1, refl, refl, c.in_ok-modules.ensures.ok.2)
+    (record { root = root; keep = keep; modules = modules; options = options.0 }, bundle-read d root keep modules options.0 known c.in_ok-root.ensures.ok c.in_ok-keep.ensures.ok c.in_ok-modules.ensures.ok.1 options.1, refl, refl, c.in_ok-modules.ensures.ok.2, options.2)

@@ -1,0 +1,14 @@
+-- What the form promises, for any table of nodes.
+use Rattle.std.specs.Prelude.{◌≡◌, ℕ, List, Some, None}
+use Rattle.serde_json.specs.Data.{Data, array, Items}
+use Rattle.wesl_form.specs.Schema.{Form, Name, Table}
+use Rattle.wesl_form.specs.Reading.{reading}
+use Rattle.wesl_form.specs.Place.{Part, BreaksAt}
+
+-- a list is no short form of a node
+abbrev pub ListsAreNoNodes : Table → Type 0
+ListsAreNoNodes table = (m : Name) (ds : Items) → table.shorts m (array ds) ≡ None
+
+-- a value that breaks its form somewhere has no reading, at any number of levels
+abbrev pub BrokenIsRefused : Table → Type 0
+BrokenIsRefused table = (path : List Part) (f : Form) (d : Data) → BreaksAt table path (Some f) d → (n : ℕ) → reading table n f d ≡ None

@@ -1,0 +1,13 @@
+use Rattle.std.proofs.Common.{◌∙◌, rules}
+use Rattle.std.proofs.lemmas.Result.{IfOk-weaker}
+use Rattle.serde_json.specs.View.{view}
+use Rattle.serde_json.specs.declared.value.Value.{the_lemmas}
+use Rattle.wesl_writing.proofs.Expressions.{as-truth, as-literal}
+use Rattle.wesl_writing.proofs.expression.literal_value.Goals as goal
+
+pub returns-in-Bool-clause-written : goal.returns-in-Bool-clause-written
+returns-in-Bool-clause-written c = search (rules, the_lemmas) ∙ as-truth c.args.names.now c.args.literal.now c.in-Bool.truth c.in-Bool.is
+
+pub returns-in_ok-object-in-Text-clause-written : goal.returns-in_ok-object-in-Text-clause-written
+returns-in_ok-object-in-Text-clause-written c =
+    IfOk-weaker c.worded_value.result _ _ (λ v h. as-literal c.args.names.now c.args.literal.now c.in-Text.text (view v) c.in-Text.is (search rules)) c.worded_value.ensures.written

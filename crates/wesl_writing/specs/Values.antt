@@ -1,0 +1,85 @@
+-- What each node is written as, under a table of names.
+use Rattle.std.specs.Prelude.{ℕ, List, Option, codes}
+use Rattle.serde_json.specs.Data.{Data, array, string, object, Items, Members, no_members, put}
+use Rattle.wesl_names.specs.Path.{Text}
+use Rattle.wesl_syntax.specs.Tree.{Kind, at, Tree, Forest, before, end, respell, respell_forest, expression_node, statement_node, attribute_node, member_node, import_node, directive_node, declaration_node}
+use Rattle.wesl_syntax.specs.Unit.{name_in}
+use Rattle.wesl_syntax.specs.declared.declaration.DeclarationKind.{DeclarationKind}
+use Rattle.wesl_syntax.specs.declared.declaration.DeclarationKind.TheVariants as kinds
+use Rattle.wesl_form.specs.Schema.{Name, Form, Row, Words, SpelledLabel, node, may, nothing, an_expression, a_statement, an_attribute, a_member, an_import, a_directive, a_declaration}
+use Rattle.wesl_form.specs.Writing.{written, written_forest, put_list, word_of, text_or_null}
+use Rattle.wesl_form.specs.Nodes.{body_row, call_row, condition_row, space_row}
+
+-- a tree, by the form that is asked of it
+unfoldable pub value_in : List Text → Form → Tree → Data
+value_in names f t = written f (respell (name_in names) t)
+
+-- a node that has a span, by the node in it
+unfoldable pub placed_in : List Text → Name → Kind → Tree → Data
+placed_in names m k t = written (node m) (respell (name_in names) (record { label = at k 0 0; children = before t end }))
+
+-- the trees of a list
+unfoldable pub items_in : List Text → Name → Forest → Items
+items_in names m ts = (written_forest (respell_forest (name_in names) ts)).items m
+
+-- the members, with d at k
+unfoldable pub with_member : Text → Data → Members → Members
+with_member k d ms = put k d ms
+
+-- the members, with a list at k unless it is empty
+unfoldable pub with_list : Text → Items → Members → Members
+with_list k ds ms = put_list k (array ds) ms
+
+-- the members, with an option at k where it is there
+unfoldable pub with_option : Text → List Text → Form → Tree → Members → Members
+with_option k names f t ms = (written_forest (respell_forest (name_in names) (before t end))).row (may k f nothing) ms
+
+-- the members, with those that trees are by a row
+unfoldable pub with_row : List Text → Row → Forest → Members → Members
+with_row names row ts ms = (written_forest (respell_forest (name_in names) ts)).row row ms
+
+-- the members of a call
+abbrev pub call_members : List Text → Tree → Members
+call_members names t = with_row names call_row t.children no_members
+
+-- the members, with the space and the access mode of a variable
+abbrev pub with_space : List Text → Tree → Members → Members
+with_space names t ms = with_row names space_row t.children ms
+
+abbrev pub bare : Members → Data
+bare ms = object ms
+
+-- an object with a word
+abbrev pub worded : Text → Members → Data
+worded w ms = object (with_member (codes "k") (string w) ms)
+
+-- the word of an operator, an address space or an access mode
+abbrev pub word_value : Words → SpelledLabel → Data
+word_value words l = text_or_null (word_of words l)
+
+abbrev pub expression_in : List Text → Tree → Data
+expression_in names t = placed_in names an_expression expression_node t
+
+abbrev pub statement_in : List Text → Tree → Data
+statement_in names t = placed_in names a_statement statement_node t
+
+abbrev pub attribute_in : List Text → Tree → Data
+attribute_in names t = placed_in names an_attribute attribute_node t
+
+abbrev pub declaration_in : List Text → Tree → Data
+declaration_in names t = placed_in names a_declaration declaration_node t
+
+-- the word of a declaration
+abbrev pub kind_text : DeclarationKind → Text
+kind_text kinds.Const = codes "const"
+kind_text kinds.Override = codes "override"
+kind_text kinds.Let = codes "let"
+kind_text (kinds.Var s) = codes "var"
+
+-- the members of a body
+abbrev pub body_members : List Text → Tree → Members
+body_members names t = with_row names body_row t.children no_members
+
+-- the members, with a condition and its body
+abbrev pub with_clause : List Text → Tree → Members → Members
+with_clause names t ms = with_row names condition_row t.children ms

@@ -1,0 +1,13 @@
+//! Writing trees in their JSON form, with short forms, and without empty lists and absent options.
+#![tactic(auto)]
+
+mod attribute;
+mod declaration;
+mod expression;
+mod import;
+mod object;
+mod statement;
+mod unit;
+mod words;
+
+pub use unit::value_of_unit;
