@@ -1,0 +1,6 @@
+pub mod ResultLemmas
+pub mod RouteLemmas
+pub mod RouterLemmas
+pub mod TextsLemmas
+pub mod PreprocessorLemmas
+pub mod StandardLemmas

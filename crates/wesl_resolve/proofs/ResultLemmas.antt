@@ -1,0 +1,24 @@
+-- A fact of a result, weakened.
+use Rattle.std.proofs.Common.{◌⊎◌, ◌↔◌, Result, Ok, Err, IfOk, IfErr, inl, inr, ⊎_elim}
+use Rattle.wesl_names.specs.Errors.{OrMemory}
+use Rattle.wesl_names.specs.declared.errors.ResolveError.{ResolveError}
+
+pub IfOk-to : {A E : Type 0} (P Q : A → Type 0) → ((a : A) → P a → Q a) → (r : Result A E) → IfOk r P → IfOk r Q
+IfOk-to P Q f (Ok a) h = f a h
+IfOk-to P Q f (Err e) h = h
+
+pub IfErr-to : {A E : Type 0} (P Q : E → Type 0) → ((e : E) → P e → Q e) → (r : Result A E) → IfErr r P → IfErr r Q
+IfErr-to P Q f (Ok a) h = h
+IfErr-to P Q f (Err e) h = f e h
+
+pub OrMemory-to : (P Q : ResolveError → Type 0) → ((e : ResolveError) → P e → Q e) → (e : ResolveError) → OrMemory P e → OrMemory Q e
+OrMemory-to P Q f e = ⊎_elim inl (λ p. inr (f e p))
+
+pub refused-to : {A : Type 0} (P Q : ResolveError → Type 0) → ((e : ResolveError) → P e → Q e) → (r : Result A ResolveError) → IfErr r (OrMemory P) → IfErr r (OrMemory Q)
+refused-to P Q f r = IfErr-to (OrMemory P) (OrMemory Q) (OrMemory-to P Q f) r
+
+pub either-iff : {P Q R S : Type 0} → P ↔ Q → R ↔ S → (P ⊎ R) ↔ (Q ⊎ S)
+either-iff h k = (⊎_elim (λ p. inl (h.0 p)) (λ r. inr (k.0 r)), ⊎_elim (λ q. inl (h.1 q)) (λ s. inr (k.1 s)))
+
+pub both-iff : {P Q R S : Type 0} → P ↔ Q → R ↔ S → (P × R) ↔ (Q × S)
+both-iff h k = ((λ b. (h.0 b.0, k.0 b.1)), (λ b. (h.1 b.0, k.1 b.1)))

@@ -1,0 +1,28 @@
+use Rattle.std.proofs.Common.{inl, string_bytes, option_map}
+use Rattle.wesl_names.specs.Path.{path_view}
+use Rattle.wesl_resolve.proofs.ResultLemmas.{IfOk-to}
+use Rattle.wesl_resolve.proofs.RouterLemmas.{Takes-read, Takes-fits, Routed-by}
+use Rattle.wesl_resolve.proofs.router.RouterResolver.display_name.Goals as goal
+
+pub name_after-requires-clause-asked : goal.name_after-requires-clause-asked
+name_after-requires-clause-asked g c =
+    let mounts = c.args.self.now.mount_points.items in
+    let p = path_view c.args.path.now in
+    let m = c.index-mount.result.now in
+    let taken = Takes-read c.deref.result.now mounts p c.in-Some.place m c.deref.ensures.value c.in-Some.ensures c.index-mount.ensures in
+    c.requires.asked.mounted c.in-Some.place m taken.there
+
+pub name_after-requires-clause-within : goal.name_after-requires-clause-within
+name_after-requires-clause-within g c =
+    let mounts = c.args.self.now.mount_points.items in
+    let p = path_view c.args.path.now in
+    let m = c.index-mount.result.now in
+    Takes-fits mounts p c.in-Some.place m _ (Takes-read c.deref.result.now mounts p c.in-Some.place m c.deref.ensures.value c.in-Some.ensures c.index-mount.ensures) c.depth.ensures
+
+pub returns-in-Some-clause-named : goal.returns-in-Some-clause-named
+returns-in-Some-clause-named g c =
+    let mounts = c.args.self.now.mount_points.items in
+    let p = path_view c.args.path.now in
+    let m = c.index-mount.result.now in
+    let taken = Takes-read c.deref.result.now mounts p c.in-Some.place m c.deref.ensures.value c.in-Some.ensures c.index-mount.ensures in
+    IfOk-to _ _ (λ name h. inl (Routed-by (λ b q. g.B.Resolver.shown b q (option_map string_bytes name)) mounts c.args.self.now.fallback p c.in-Some.place m _ taken c.depth.ensures h)) c.name_after.result c.name_after.ensures.named

@@ -1,0 +1,54 @@
+use Rattle.std.proofs.Common.{inl, string_bytes}
+use Rattle.wesl_names.specs.Path.{path_view}
+use Rattle.wesl_resolve.proofs.ResultLemmas.{IfOk-to, refused-to}
+use Rattle.wesl_resolve.proofs.RouterLemmas.{Takes-read, Takes-fits, Routed-by, RouterMeans-set, RouterMeans-fallback, AllReady-set}
+use Rattle.wesl_resolve.proofs.router.RouterResolver.resolve_source.Goals as goal
+
+pub source_after-requires-clause-asked : goal.source_after-requires-clause-asked
+source_after-requires-clause-asked g c =
+    let mounts = c.args.self.now.mount_points.items in
+    let p = path_view c.args.path.now in
+    let m = c.index_mut-mount.result.now in
+    let taken = Takes-read c.deref.result.now mounts p c.in-Some.place m c.deref.ensures.value c.in-Some.ensures c.index_mut-mount.ensures.value in
+    c.requires.asked.mounted c.in-Some.place m taken.there
+
+pub source_after-requires-clause-within : goal.source_after-requires-clause-within
+source_after-requires-clause-within g c =
+    let mounts = c.args.self.now.mount_points.items in
+    let p = path_view c.args.path.now in
+    let m = c.index_mut-mount.result.now in
+    Takes-fits mounts p c.in-Some.place m _ (Takes-read c.deref.result.now mounts p c.in-Some.place m c.deref.ensures.value c.in-Some.ensures c.index_mut-mount.ensures.value) c.depth-count.ensures
+
+pub returns-in-Some-clause-given : goal.returns-in-Some-clause-given
+returns-in-Some-clause-given g c =
+    let mounts = c.args.self.now.mount_points.items in
+    let p = path_view c.args.path.now in
+    let m = c.index_mut-mount.result.now in
+    let taken = Takes-read c.deref.result.now mounts p c.in-Some.place m c.deref.ensures.value c.in-Some.ensures c.index_mut-mount.ensures.value in
+    IfOk-to _ _ (λ text h. Routed-by (λ b q. g.B.Resolver.source b q (string_bytes text)) mounts c.args.self.now.fallback p c.in-Some.place m _ taken c.depth-count.ensures h) c.source_after.result c.source_after.ensures.given
+
+pub returns-in-Some-clause-refused : goal.returns-in-Some-clause-refused
+returns-in-Some-clause-refused g c =
+    let mounts = c.args.self.now.mount_points.items in
+    let p = path_view c.args.path.now in
+    let m = c.index_mut-mount.result.now in
+    let taken = Takes-read c.deref.result.now mounts p c.in-Some.place m c.deref.ensures.value c.in-Some.ensures c.index_mut-mount.ensures.value in
+    refused-to _ _ (λ e h. inl (Routed-by (λ b q. g.B.Resolver.refuses b q e) mounts c.args.self.now.fallback p c.in-Some.place m _ taken c.depth-count.ensures h)) c.source_after.result c.source_after.ensures.refused
+
+pub returns-in-Some-clause-same : goal.returns-in-Some-clause-same
+returns-in-Some-clause-same g c =
+    let mounts = c.args.self.now.mount_points.items in
+    let p = path_view c.args.path.now in
+    let m = c.index_mut-mount.result.now in
+    let taken = Takes-read c.deref.result.now mounts p c.in-Some.place m c.deref.ensures.value c.in-Some.ensures c.index_mut-mount.ensures.value in
+    RouterMeans-set g.B.Resolver.hands g.B.Resolver.refuses g.B.Resolver.source g.B.Resolver.shown c.args.self.now c.in-Some.place m c.source_after.new.resolver taken.there c.source_after.ensures.same
+
+pub returns-in-Some-fallback-clause-same : goal.returns-in-Some-fallback-clause-same
+returns-in-Some-fallback-clause-same g c =
+    RouterMeans-fallback g.B.Resolver.hands g.B.Resolver.refuses g.B.Resolver.source g.B.Resolver.shown c.args.self.now _ c.source_after-in-Some-fallback.new.resolver c.in-Some-fallback.is c.source_after-in-Some-fallback.ensures.same
+
+pub returns-in-Some-clause-stays_ready : goal.returns-in-Some-clause-stays_ready
+returns-in-Some-clause-stays_ready g c =
+    let mounts = c.args.self.now.mount_points.items in
+    let m = c.index_mut-mount.result.now in
+    AllReady-set g.B.Resolver.ready mounts c.args.self.now.fallback c.in-Some.place m c.source_after.new.resolver c.requires.asked c.source_after.ensures.stays_ready

@@ -1,0 +1,105 @@
+//! Modules of packages.
+ghost use Rattle.std.specs.Prelude.{◌≡◌, ◌++◌, ◌∷◌, [], None, IfOk, IfErr, OnOk, OnErr, string_bytes};
+ghost use Rattle.wesl_names.specs.Path.{path_view};
+ghost use Rattle.wesl_names.specs.Errors.{OrMemory};
+ghost use Rattle.wesl_names.specs.declared.errors.Error as error;
+ghost use Rattle.wesl_syntax.specs.Unit.{spelled};
+ghost use Rattle.wesl_tree.specs.Translation.{unit_view};
+ghost use Rattle.wesl_resolve.specs.Packages.{IsReadIn, IsRefusedIn, IsSourceIn};
+
+use crate::packages::{CodegenPkg, module_at};
+use crate::resolver::Resolver;
+use crate::unit_text::{UnitText, read_module};
+use std::alloc::Global;
+use wesl_names::{Error, ModulePath, ResolveError};
+use wesl_tree::TranslationUnit;
+
+/// Hands out the modules of packages, each read from its source when it is asked for.
+///
+/// A path leads by the name of its package, of which each part after a slash is a dependency of the one before, and
+/// then by its components, each a submodule of the one before. Of several with one name the first counts. A source
+/// that cannot be read is refused with the error of its reading, the path and the source. No module has a display
+/// name.
+#[derive(Drop)]
+pub struct PkgResolver<P> {
+    text: P,
+    packages: Vec<CodegenPkg>,
+}
+
+impl<P> PkgResolver<P> {
+    /// A resolver without packages, which will read sources by `text`. It takes no memory.
+    pub fn new(alloc: Global, text: P) -> PkgResolver<P>
+        ensures text { result.text ≡ text }
+        ensures packages { result.packages.items ≡ [] }
+    {
+        PkgResolver {
+            text,
+            packages: Vec::new(alloc),
+        }
+    }
+
+    /// Adds a package after the others. Refused for want of memory alone, which leaves the packages as they were.
+    pub fn add_package(&mut self, package: CodegenPkg) -> Result<(), Error>
+        ensures added { OnOk result (self.new.packages.items ≡ self.old.packages.items ++ «package» ∷ []) }
+        ensures kept { OnErr result (self.new.packages.items ≡ self.old.packages.items) }
+        ensures text { self.new.text ≡ self.old.text }
+        ensures refused { IfErr result (λ e. e ≡ error.Memory) }
+    {
+        self.packages.push(package)?;
+        Ok(())
+    }
+}
+
+impl<P: UnitText> PkgResolver<P> {
+    /// The source of the module at a path.
+    fn source_at(&self, alloc: Global, path: &ModulePath) -> Result<String, ResolveError>
+        ensures given { IfOk result (λ text. IsSourceIn self.now.packages.items (path_view path.now) (string_bytes text)) }
+        ensures refused { IfErr result (OrMemory (IsRefusedIn (P.unreadable self.now.text) self.now.packages.items (path_view path.now))) }
+    {
+        let module = module_at(alloc, &self.packages, path)?;
+        Ok(String::from_str(alloc, module.source.as_str())?)
+    }
+
+    /// The unit of the module at a path.
+    fn read_at(&self, alloc: Global, path: &ModulePath) -> Result<TranslationUnit, ResolveError>
+        ensures read { IfOk result (λ u. IsReadIn (P.reads self.now.text) self.now.packages.items (path_view path.now) (spelled (unit_view u))) }
+        ensures refused { IfErr result (OrMemory (IsRefusedIn (P.unreadable self.now.text) self.now.packages.items (path_view path.now))) }
+    {
+        let module = module_at(alloc, &self.packages, path)?;
+        read_module(&self.text, alloc, path, module.source.as_str())
+    }
+}
+
+impl<P: UnitText> Resolver for PkgResolver<P> {
+    ghost use Rattle.wesl_resolve.specs.Packages.{IsReadIn, IsRefusedIn, IsSourceIn};
+
+    ghost ready = { λ _. Unit {0} };
+
+    ghost hands = { λ s p u. IsReadIn (P.reads s.text) s.packages.items p u };
+
+    ghost refuses = { λ s p e. IsRefusedIn (P.unreadable s.text) s.packages.items p e };
+
+    ghost source = { λ s p text. IsSourceIn s.packages.items p text };
+
+    ghost shown = { λ _ p name. name ≡ None };
+
+    fn resolve_source(&mut self, alloc: Global, path: &ModulePath) -> Result<String, ResolveError> {
+        self.source_at(alloc, path)
+    }
+
+    fn resolve_module(
+        &mut self,
+        alloc: Global,
+        path: &ModulePath,
+    ) -> Result<TranslationUnit, ResolveError> {
+        self.read_at(alloc, path)
+    }
+
+    fn display_name(
+        &self,
+        _alloc: Global,
+        _path: &ModulePath,
+    ) -> Result<Option<String>, ResolveError> {
+        Ok(None)
+    }
+}

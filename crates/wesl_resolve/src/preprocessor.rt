@@ -1,0 +1,97 @@
+//! A resolver that changes each unit before it hands it out.
+ghost use Rattle.std.specs.Prelude.{◌≡◌, ◌⊎◌, false, Ok, Err};
+ghost use Rattle.wesl_names.specs.Path.{path_view, is_relative};
+ghost use Rattle.wesl_names.specs.Errors.{OrMemory};
+ghost use Rattle.wesl_tree.specs.declared.unit.TranslationUnit.{TranslationUnit};
+ghost use Rattle.wesl_resolve.specs.Refusals.{IsRefusedFor};
+ghost use Rattle.wesl_resolve.specs.Preprocessor.{IsMade, IsMadeFault};
+
+use crate::refusals::refused;
+use crate::resolver::Resolver;
+use std::alloc::Global;
+use wesl_names::{Error, ModulePath, ResolveError};
+use wesl_tree::TranslationUnit;
+
+/// Hands out what a function makes of the units of another resolver.
+///
+/// Where the function refuses a unit, the module is refused with its error, path and display name, and without a
+/// source. Sources and display names are those of the other resolver.
+#[derive(Drop)]
+pub struct Preprocessor<R, F> {
+    /// The resolver whose units are changed.
+    pub resolver: R,
+    /// What is made of a unit.
+    pub preprocess: F,
+}
+
+impl<R, F> Preprocessor<R, F> {
+    /// A preprocessor of a resolver's units, by a function that may be called on every unit.
+    pub fn new(resolver: R, preprocess: F) -> Preprocessor<R, F>
+    where
+        F: Fn(TranslationUnit) -> Result<TranslationUnit, Error>,
+        requires { F.IsAlwaysCallable preprocess }
+        ensures resolver { result.resolver ≡ resolver }
+        ensures preprocess { result.preprocess ≡ preprocess }
+    {
+        Preprocessor {
+            resolver,
+            preprocess,
+        }
+    }
+}
+
+/// The refusal of the unit at a path, with the name by which the resolver shows it.
+fn refused_by<R: Resolver>(
+    resolver: &R,
+    alloc: Global,
+    fault: Error,
+    path: &ModulePath,
+) -> ResolveError
+    requires asked { R.ready resolver.now }
+    requires rooted { is_relative (path_view path.now) ≡ false }
+    ensures { OrMemory (IsRefusedFor (λ e. e ≡ fault)) result }
+{
+    match resolver.display_name(alloc, path) {
+        Ok(display) => refused(alloc, fault, path, display, None),
+        Err(_) => ResolveError::Memory,
+    }
+}
+
+impl<R: Resolver, F: Fn(TranslationUnit) -> Result<TranslationUnit, Error>> Resolver
+    for Preprocessor<R, F> {
+    ghost ready = { λ s. R.ready s.resolver × ((u : TranslationUnit) → F.pre s.preprocess u) };
+
+    ghost hands = { λ s p u. IsMade (R.hands s.resolver p) (λ given answer. F.post s.preprocess given answer) u };
+
+    ghost refuses = { λ s p e. R.refuses s.resolver p e
+        ⊎ IsMadeFault (R.hands s.resolver p) (λ given answer. F.post s.preprocess given answer) e };
+
+    ghost source = { λ s p text. R.source s.resolver p text };
+
+    ghost shown = { λ s p name. R.shown s.resolver p name };
+
+    fn resolve_source(&mut self, alloc: Global, path: &ModulePath) -> Result<String, ResolveError> {
+        self.resolver.resolve_source(alloc, path)
+    }
+
+    fn resolve_module(
+        &mut self,
+        alloc: Global,
+        path: &ModulePath,
+    ) -> Result<TranslationUnit, ResolveError> {
+        let unit = self.resolver.resolve_module(alloc, path)?;
+        let fault = match (self.preprocess)(unit) {
+            Ok(unit) => return Ok(unit),
+            Err(fault) => fault,
+        };
+        Err(refused_by(&self.resolver, alloc, fault, path))
+    }
+
+    fn display_name(
+        &self,
+        alloc: Global,
+        path: &ModulePath,
+    ) -> Result<Option<String>, ResolveError> {
+        self.resolver.display_name(alloc, path)
+    }
+}

@@ -1,0 +1,227 @@
+//! A resolver that sends each path to one of several others.
+ghost use Rattle.std.specs.Prelude.{◌≡◌, ◌≤◌, ◌++◌, ◌∷◌, [], false, OnOk, OnErr, IfOk, IfErr, Some, None, length, option_map, string_bytes};
+ghost use Rattle.wesl_names.specs.Path.{Path, path_view, is_relative};
+ghost use Rattle.wesl_names.specs.Errors.{OrMemory};
+ghost use Rattle.wesl_names.specs.declared.errors.Error as error;
+ghost use Rattle.wesl_names.specs.declared.errors.ResolveError as resolve_error;
+ghost use Rattle.wesl_syntax.specs.Unit.{spelled};
+ghost use Rattle.wesl_tree.specs.Translation.{unit_view};
+ghost use Rattle.wesl_resolve.specs.Resolver.{MeansTheSame};
+ghost use Rattle.wesl_resolve.specs.Router.{IsRoute, AllReady, suffix};
+
+use crate::refusals::not_found;
+use crate::resolver::Resolver;
+use std::alloc::Global;
+use wesl_names::{Error, ModulePath, ResolveError};
+use wesl_tree::TranslationUnit;
+
+/// The number of components.
+fn depth(path: &ModulePath) -> usize
+    ensures { result ≡ length (path_view path.now).components }
+{
+    path.components.as_slice().len()
+}
+
+/// The path of the components after the first `count`, from the root.
+fn path_after(alloc: Global, path: &ModulePath, count: usize) -> Result<ModulePath, Error>
+    requires { count ≤ length (path_view path.now).components }
+    ensures after { IfOk result (λ p. path_view p ≡ suffix count (path_view path.now)) }
+    ensures refused { IfErr result (λ e. e ≡ error.Memory) }
+{
+    ModulePath::new_root(alloc).join(alloc, &path.components[count..])
+}
+
+/// The place of the mount that takes the path.
+fn route<B>(mounts: &[(ModulePath, B)], path: &ModulePath) -> Option<usize>
+    ensures { IsRoute mounts.now (path_view path.now) result }
+{
+    let mut best: Option<(usize, usize)> = None;
+    for (place, mount) in mounts.iter().enumerate() {
+        if path.starts_with(&mount.0) {
+            let len = depth(&mount.0);
+            match best {
+                Some((_, longest)) if len < longest => {}
+                _ => best = Some((place, len)),
+            }
+        }
+    }
+    match best {
+        Some((place, _)) => Some(place),
+        None => None,
+    }
+}
+
+/// The source that a resolver gives at the components after the first `count`.
+fn source_after<R: Resolver>(
+    resolver: &mut R,
+    alloc: Global,
+    path: &ModulePath,
+    count: usize,
+) -> Result<String, ResolveError>
+    requires asked { R.ready resolver.old }
+    requires within { count ≤ length (path_view path.now).components }
+    ensures given { IfOk result (λ text. R.source resolver.old (suffix count (path_view path.now)) (string_bytes text)) }
+    ensures refused { IfErr result (OrMemory (R.refuses resolver.old (suffix count (path_view path.now)))) }
+    ensures same { MeansTheSame R.hands R.refuses R.source R.shown resolver.old resolver.new }
+    ensures stays_ready { R.ready resolver.new }
+{
+    match path_after(alloc, path, count) {
+        Ok(after) => resolver.resolve_source(alloc, &after),
+        Err(_) => Err(ResolveError::Memory),
+    }
+}
+
+/// The unit that a resolver hands out at the components after the first `count`.
+fn module_after<R: Resolver>(
+    resolver: &mut R,
+    alloc: Global,
+    path: &ModulePath,
+    count: usize,
+) -> Result<TranslationUnit, ResolveError>
+    requires asked { R.ready resolver.old }
+    requires within { count ≤ length (path_view path.now).components }
+    ensures handed { IfOk result (λ u. R.hands resolver.old (suffix count (path_view path.now)) (spelled (unit_view u))) }
+    ensures refused { IfErr result (OrMemory (R.refuses resolver.old (suffix count (path_view path.now)))) }
+    ensures same { MeansTheSame R.hands R.refuses R.source R.shown resolver.old resolver.new }
+    ensures stays_ready { R.ready resolver.new }
+{
+    match path_after(alloc, path, count) {
+        Ok(after) => resolver.resolve_module(alloc, &after),
+        Err(_) => Err(ResolveError::Memory),
+    }
+}
+
+/// The name by which a resolver shows the components after the first `count`.
+fn name_after<R: Resolver>(
+    resolver: &R,
+    alloc: Global,
+    path: &ModulePath,
+    count: usize,
+) -> Result<Option<String>, ResolveError>
+    requires asked { R.ready resolver.now }
+    requires within { count ≤ length (path_view path.now).components }
+    ensures named { IfOk result (λ name. R.shown resolver.now (suffix count (path_view path.now)) (option_map string_bytes name)) }
+    ensures refused { IfErr result (λ e. e ≡ resolve_error.Memory) }
+{
+    match path_after(alloc, path, count) {
+        Ok(after) => resolver.display_name(alloc, &after),
+        Err(_) => Err(ResolveError::Memory),
+    }
+}
+
+/// Resolvers mounted at prefixes of paths, and one for the paths that no prefix begins.
+///
+/// A path goes to the mount with the longest prefix that begins it, of those with equally long ones the last. The
+/// resolver is asked for the components after the prefix, as a path from the root. What no mount takes goes to the
+/// fallback, whole; without one it is not found.
+#[derive(Drop)]
+pub struct Router<B = Box<dyn Resolver + Drop>> {
+    mount_points: Vec<(ModulePath, B)>,
+    fallback: Option<B>,
+}
+
+impl<B: Resolver + Drop> Router<B> {
+    /// A router without mounts and without a fallback. It takes no memory.
+    pub fn new(alloc: Global) -> Router<B>
+        ensures mounts { result.mount_points.items ≡ [] }
+        ensures fallback { result.fallback ≡ None }
+        ensures ready { AllReady B.ready result.mount_points.items result.fallback }
+    {
+        Router {
+            mount_points: Vec::new(alloc),
+            fallback: None,
+        }
+    }
+
+    /// Mounts a resolver at a prefix, which is not relative. Refused for want of memory alone, which leaves the
+    /// mounts as they were.
+    pub fn mount_resolver(&mut self, prefix: ModulePath, resolver: B) -> Result<(), Error>
+        requires { is_relative (path_view prefix) ≡ false }
+        ensures mounted { OnOk result (self.new.mount_points.items ≡ self.old.mount_points.items ++ (prefix, resolver) ∷ []) }
+        ensures kept { OnErr result (self.new.mount_points.items ≡ self.old.mount_points.items) }
+        ensures fallback { self.new.fallback ≡ self.old.fallback }
+        ensures ready { AllReady B.ready self.old.mount_points.items self.old.fallback → B.ready resolver
+            → AllReady B.ready self.new.mount_points.items self.new.fallback }
+        ensures refused { IfErr result (λ e. e ≡ error.Memory) }
+    {
+        self.mount_points.push((prefix, resolver))?;
+        Ok(())
+    }
+
+    /// Sets the resolver of the paths that no prefix begins, in place of an earlier one.
+    pub fn mount_fallback_resolver(&mut self, resolver: B)
+        ensures mounts { self.new.mount_points.items ≡ self.old.mount_points.items }
+        ensures fallback { self.new.fallback ≡ Some resolver }
+        ensures ready { AllReady B.ready self.old.mount_points.items self.old.fallback → B.ready resolver
+            → AllReady B.ready self.new.mount_points.items self.new.fallback }
+    {
+        self.fallback = Some(resolver);
+    }
+}
+
+impl<B: Resolver> Resolver for Router<B> {
+    ghost use Rattle.std.specs.Prelude.{◌⊎◌, codes};
+    ghost use Rattle.wesl_names.specs.Errors.{IsModuleNotFound};
+    ghost use Rattle.wesl_resolve.specs.Router.{AllReady, Routed, NoRoute};
+
+    ghost ready = { λ r. AllReady B.ready r.mount_points.items r.fallback };
+
+    ghost hands = { λ r p u. Routed (λ b q. B.hands b q u) r.mount_points.items r.fallback p };
+
+    ghost refuses = { λ r p e. Routed (λ b q. B.refuses b q e) r.mount_points.items r.fallback p
+        ⊎ (NoRoute r.mount_points.items r.fallback p × IsModuleNotFound p (codes "no mount point") e) };
+
+    ghost source = { λ r p text. Routed (λ b q. B.source b q text) r.mount_points.items r.fallback p };
+
+    ghost shown = { λ r p name. Routed (λ b q. B.shown b q name) r.mount_points.items r.fallback p
+        ⊎ (NoRoute r.mount_points.items r.fallback p × (name ≡ None)) };
+
+    fn resolve_source(&mut self, alloc: Global, path: &ModulePath) -> Result<String, ResolveError> {
+        match route(&self.mount_points, path) {
+            Some(place) => {
+                let mount = &mut self.mount_points[place];
+                let count = depth(&mount.0);
+                source_after(&mut mount.1, alloc, path, count)
+            }
+            None => match &mut self.fallback {
+                Some(resolver) => source_after(resolver, alloc, path, 0),
+                None => Err(not_found(alloc, path, "no mount point")),
+            },
+        }
+    }
+
+    fn resolve_module(
+        &mut self,
+        alloc: Global,
+        path: &ModulePath,
+    ) -> Result<TranslationUnit, ResolveError> {
+        match route(&self.mount_points, path) {
+            Some(place) => {
+                let mount = &mut self.mount_points[place];
+                let count = depth(&mount.0);
+                module_after(&mut mount.1, alloc, path, count)
+            }
+            None => match &mut self.fallback {
+                Some(resolver) => module_after(resolver, alloc, path, 0),
+                None => Err(not_found(alloc, path, "no mount point")),
+            },
+        }
+    }
+
+    fn display_name(
+        &self,
+        alloc: Global,
+        path: &ModulePath,
+    ) -> Result<Option<String>, ResolveError> {
+        match route(&self.mount_points, path) {
+            Some(place) => {
+                let mount = &self.mount_points[place];
+                name_after(&mount.1, alloc, path, depth(&mount.0))
+            }
+            None => match &self.fallback {
+                Some(resolver) => name_after(resolver, alloc, path, 0),
+                None => Ok(None),
+            },
+        }
+    }
+}

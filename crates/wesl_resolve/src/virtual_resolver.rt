@@ -1,0 +1,160 @@
+//! Modules that are held in memory, as texts.
+ghost use Rattle.std.specs.Prelude.{◌≡◌, false, None, Some, [], IfOk, IfErr, OnOk, OnErr, map, option_map, string_bytes};
+ghost use Rattle.wesl_names.specs.Path.{Text, Path, path_view, is_relative};
+ghost use Rattle.wesl_names.specs.Errors.{OrMemory};
+ghost use Rattle.wesl_names.specs.declared.errors.Error as error;
+ghost use Rattle.wesl_syntax.specs.Unit.{spelled};
+ghost use Rattle.wesl_tree.specs.Translation.{unit_view};
+ghost use Rattle.wesl_resolve.specs.Texts.{texts_of, text_at, put, IsLast, IsMissing, IsReadAt, IsRefusedAt};
+
+use crate::refusals::not_found;
+use crate::resolver::Resolver;
+use crate::unit_text::{UnitText, read_module};
+use indexmap::IndexMap;
+use std::alloc::Global;
+use wesl_names::{Diagnostic, Error, ModulePath, ResolveError};
+use wesl_tree::TranslationUnit;
+
+/// Puts a text at a path, in the place of the one that is there.
+fn put(
+    texts: &mut IndexMap<ModulePath, String>,
+    path: ModulePath,
+    text: String,
+) -> Result<(), Error>
+    ensures done { OnOk result (texts_of texts.new.entries ≡ put (path_view path) (string_bytes text) (texts_of texts.old.entries)) }
+    ensures last { OnOk result (IsLast (path_view path) (string_bytes text) (texts_of texts.old.entries) (texts_of texts.new.entries)) }
+    ensures kept { OnErr result (texts_of texts.new.entries ≡ texts_of texts.old.entries) }
+    ensures refused { IfErr result (λ e. e ≡ error.Memory) }
+{
+    texts.insert(path, text)?;
+    Ok(())
+}
+
+/// Hands out the modules that were added, each read from its text when it is asked for.
+///
+/// At each path the text that was added last counts. A text that cannot be read is refused with the error of its
+/// reading, the path and the text as source. No module has a display name.
+#[derive(Drop)]
+pub struct VirtualResolver<P> {
+    text: P,
+    modules: IndexMap<ModulePath, String>,
+}
+
+impl<P> VirtualResolver<P> {
+    /// A resolver without modules, which will read texts by `text`. It takes no memory.
+    pub fn new(alloc: Global, text: P) -> VirtualResolver<P>
+        ensures text { result.text ≡ text }
+        ensures modules { texts_of result.modules.entries ≡ [] }
+    {
+        VirtualResolver {
+            text,
+            modules: IndexMap::new(alloc),
+        }
+    }
+
+    /// Adds the text of the module at a path, which is not relative. A path that is there keeps its place and
+    /// takes the new text. Refused for want of memory alone, which leaves the modules as they were.
+    pub fn add_module(&mut self, path: ModulePath, source: String) -> Result<(), Error>
+        requires { is_relative (path_view path) ≡ false }
+        ensures added { OnOk result (texts_of self.new.modules.entries ≡ put (path_view path) (string_bytes source) (texts_of self.old.modules.entries)) }
+        ensures last { OnOk result (IsLast (path_view path) (string_bytes source) (texts_of self.old.modules.entries) (texts_of self.new.modules.entries)) }
+        ensures kept { OnErr result (texts_of self.new.modules.entries ≡ texts_of self.old.modules.entries) }
+        ensures text { self.new.text ≡ self.old.text }
+        ensures refused { IfErr result (λ e. e ≡ error.Memory) }
+    {
+        put(&mut self.modules, path, source)
+    }
+
+    /// The text of the module at a path. Refused where there is none, and for want of memory.
+    pub fn get_module(&self, alloc: Global, path: &ModulePath) -> Result<&str, ResolveError>
+        ensures found { IfOk result (λ text. text_at (path_view path.now) (texts_of self.now.modules.entries) ≡ Some text.now) }
+        ensures missing { IfErr result (OrMemory (IsMissing (texts_of self.now.modules.entries) (path_view path.now))) }
+    {
+        match self.modules.get(path) {
+            Some(source) => Ok(source.as_str()),
+            None => Err(not_found(alloc, path, "virtual module")),
+        }
+    }
+
+    /// The paths and the texts of the modules, in the order in which the paths were first added. Refused for want
+    /// of memory alone.
+    pub fn modules(&self, alloc: Global) -> Result<Vec<(&ModulePath, &str)>, Error>
+        ensures listed { IfOk result (λ ms. map (λ m. (path_view m.0.now, m.1.now)) ms.items ≡ texts_of self.now.modules.entries) }
+        ensures refused { IfErr result (λ e. e ≡ error.Memory) }
+    {
+        let mut modules = Vec::new(alloc);
+        for (path, source) in self.modules.iter() {
+            modules.push((path, source.as_str()))?;
+        }
+        Ok(modules)
+    }
+}
+
+impl<P: UnitText> VirtualResolver<P> {
+    /// Adds a unit as the module at a path, which is not relative: the text that is printed of it. Refused for
+    /// want of memory alone, which leaves the modules as they were.
+    pub fn add_translation_unit(
+        &mut self,
+        alloc: Global,
+        path: ModulePath,
+        unit: TranslationUnit,
+    ) -> Result<(), Error>
+        requires { is_relative (path_view path) ≡ false }
+        ensures added { OnOk result ((text : Text) × P.prints self.old.text (spelled (unit_view unit)) text
+            × (texts_of self.new.modules.entries ≡ put (path_view path) text (texts_of self.old.modules.entries))
+            × IsLast (path_view path) text (texts_of self.old.modules.entries) (texts_of self.new.modules.entries)) }
+        ensures kept { OnErr result (texts_of self.new.modules.entries ≡ texts_of self.old.modules.entries) }
+        ensures text { self.new.text ≡ self.old.text }
+        ensures refused { IfErr result (λ e. e ≡ error.Memory) }
+    {
+        let source = match self.text.print(alloc, &unit) {
+            Ok(source) => source,
+            Err(_) => return Err(Error::Memory),
+        };
+        self.add_module(path, source)
+    }
+
+    /// The unit of the module at a path.
+    fn read_at(&self, alloc: Global, path: &ModulePath) -> Result<TranslationUnit, ResolveError>
+        ensures read { IfOk result (λ u. IsReadAt (P.reads self.now.text) (texts_of self.now.modules.entries) (path_view path.now) (spelled (unit_view u))) }
+        ensures refused { IfErr result (OrMemory (IsRefusedAt (P.unreadable self.now.text) (texts_of self.now.modules.entries) (path_view path.now))) }
+    {
+        let source = self.get_module(alloc, path)?;
+        read_module(&self.text, alloc, path, source)
+    }
+}
+
+impl<P: UnitText> Resolver for VirtualResolver<P> {
+    ghost use Rattle.wesl_resolve.specs.Texts.{texts_of, text_at, IsReadAt, IsRefusedAt};
+
+    ghost ready = { λ _. Unit {0} };
+
+    ghost hands = { λ s p u. IsReadAt (P.reads s.text) (texts_of s.modules.entries) p u };
+
+    ghost refuses = { λ s p e. IsRefusedAt (P.unreadable s.text) (texts_of s.modules.entries) p e };
+
+    ghost source = { λ s p text. text_at p (texts_of s.modules.entries) ≡ Some text };
+
+    ghost shown = { λ _ p name. name ≡ None };
+
+    fn resolve_source(&mut self, alloc: Global, path: &ModulePath) -> Result<String, ResolveError> {
+        let source = self.get_module(alloc, path)?;
+        Ok(String::from_str(alloc, source)?)
+    }
+
+    fn resolve_module(
+        &mut self,
+        alloc: Global,
+        path: &ModulePath,
+    ) -> Result<TranslationUnit, ResolveError> {
+        self.read_at(alloc, path)
+    }
+
+    fn display_name(
+        &self,
+        _alloc: Global,
+        _path: &ModulePath,
+    ) -> Result<Option<String>, ResolveError> {
+        Ok(None)
+    }
+}
