@@ -1,0 +1,5 @@
+pub mod Sought
+pub mod Walk
+pub mod Lent
+pub mod Run
+pub mod Holders
