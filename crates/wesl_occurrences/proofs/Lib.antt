@@ -1,0 +1,7 @@
+pub mod Bounds
+pub mod Ended
+pub mod Joined
+pub mod Listed
+pub mod Nodes
+pub mod Respelled
+pub mod Views

@@ -1,0 +1,5 @@
+pub mod Occurrences
+pub mod Walk
+pub mod Ways
+pub mod Views
+pub mod Identified

@@ -1,0 +1,18 @@
+//! The identifiers of a module in document order, each with how it stands, its place in that order and its block.
+#![tactic(auto)]
+
+mod attributes;
+mod declarations;
+mod expressions;
+mod functions;
+mod imports;
+mod occurrence;
+mod statements;
+mod walk;
+mod whole;
+
+pub use occurrence::{Occurrence, Standing};
+pub use whole::{Identifiers, occurrences};
+
+#[cfg(test)]
+mod tests;
