@@ -1,0 +1,22 @@
+-- Entry points, one declaration after the other.
+use Rattle.std.proofs.Common.{◌≡◌, ℕ, ◌+◌, ◌<◌, Bool, ◌||◌, List, [], ◌∷◌, ◌++◌, length, get_or, map, drop, refl, add-one, drop-cons}
+use Rattle.wesl_syntax.specs.Tree.{Tree, forest_of, attribute_node, declaration_node}
+use Rattle.wesl_syntax.specs.View.{attribute_view, global_view, placed}
+use Rattle.wesl_syntax.specs.declared.span.Spanned.{Spanned}
+use Rattle.wesl_syntax.specs.declared.attribute.Attribute.{Attribute}
+use Rattle.wesl_syntax.specs.declared.declaration.GlobalDeclaration.{GlobalDeclaration}
+use Rattle.wesl_scope.specs.EntryPoints.{is_stage, begins, one_begins, entry_points_of, entry_points_in}
+
+abbrev pub one_stage : List (Spanned Attribute) → Bool
+one_stage xs = one_begins is_stage (forest_of (map (placed attribute_view attribute_node) xs))
+
+pub stage_next : (xs : List (Spanned Attribute)) (i : ℕ) (x : Spanned Attribute) → i < length xs → x ≡ get_or xs i x
+    → one_stage (drop i xs) ≡ begins is_stage (forest_of (attribute_view x.node ∷ [])) || one_stage (drop (i + 1) xs)
+stage_next xs i x h is = rw (drop-cons xs i x h, ← is, add-one) refl
+
+abbrev pub points : List (Spanned GlobalDeclaration) → List ℕ
+points xs = entry_points_of (forest_of (map (placed global_view declaration_node) xs))
+
+pub point_next : (xs : List (Spanned GlobalDeclaration)) (i : ℕ) (x : Spanned GlobalDeclaration) → i < length xs → x ≡ get_or xs i x
+    → points (drop i xs) ≡ entry_points_in (forest_of (global_view x.node ∷ [])) ++ points (drop (i + 1) xs)
+point_next xs i x h is = rw (drop-cons xs i x h, ← is, add-one) refl

@@ -1,0 +1,11 @@
+pub mod Scopes
+pub mod Numbers
+pub mod Declarations
+pub mod Marks
+pub mod Strip
+pub mod EntryPoints
+pub mod Laws
+pub mod Canonical
+pub mod Builders
+pub mod Rows
+pub mod Retarget

@@ -1,0 +1,17 @@
+//! Scopes: what each identifier of a module means (WGSL, "Declaration and Scope").
+#![tactic(auto)]
+
+mod entry_points;
+mod kept;
+mod laws;
+mod rows;
+mod strip;
+
+pub use entry_points::SyntaxUtil;
+pub use kept::kept_declarations;
+pub use laws::{law_of_numbers, law_of_stripping};
+pub use rows::{numbers_of_rows, retarget_row};
+pub use strip::strip_except;
+
+#[cfg(test)]
+mod tests;
