@@ -1,0 +1,3 @@
+pub mod WrittenBack
+pub mod Listed
+pub mod Steps

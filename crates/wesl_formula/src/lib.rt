@@ -1,0 +1,15 @@
+//! Feature flags, and formulas over them (WESL, "ConditionalTranslation").
+#![tactic(auto)]
+
+mod evaluate;
+mod features;
+mod formula;
+mod judge;
+
+pub use evaluate::eval_attr;
+pub use features::{Feature, Features, Truth};
+pub use formula::{decided, name_of, simplify};
+pub use judge::check_formula;
+
+#[cfg(test)]
+mod tests;
