@@ -1,0 +1,95 @@
+-- A walk over trees finds what stands in them, after what was found before.
+use Rattle.std.proofs.Common.{◌≡◌, ℕ, Bool, true, false, Option, Some, None, List, [], ◌∷◌, ◌++◌, refl, sym, ap, ◌∙◌, append_assoc, append-nil}
+use Rattle.std.specs.Prelude.{if◌then◌else◌, option_map, OnOk, Result, Ok, Err}
+use Rattle.wesl_names.specs.Path.{Path, path_view}
+use Rattle.wesl_names.specs.declared.path.ModulePath.{ModulePath}
+use Rattle.wesl_syntax.specs.Tree.{Forest, end, tree, before, identifiers, binder}
+use Rattle.wesl_syntax.specs.Nodes.{is_type, is_formula}
+use Rattle.wesl_syntax.specs.View.{kind_tree, optional, path_tree, content_view, attributes_tree, import_view, type_view, expression_tree, ident_tree, declaration_view}
+use Rattle.wesl_syntax.specs.declared.declaration.Declaration.{Declaration}
+use Rattle.wesl_syntax.specs.declared.import.ImportStatement.{ImportStatement}
+use Rattle.wesl_syntax.specs.declared.declaration.DeclarationKind.{DeclarationKind}
+use Rattle.wesl_syntax.specs.declared.declaration.DeclarationKind.TheVariants as kinds
+use Rattle.wesl_world.specs.declared.symbols.Reference.{Reference}
+use Rattle.wesl_world.specs.declared.symbols.Import.{Import}
+use Rattle.wesl_table.specs.Imports as imports
+use Rattle.wesl_table.specs.Mentions.{mentions, type_mention}
+use Rattle.wesl_table.specs.Walks.{mentioned, imported}
+
+here : {X : Type 0} (b : Bool) (found tm : List X) → (if b then found ++ tm else found) ≡ found ++ (if b then tm else [])
+here true found tm = refl
+here false found tm = sym (append-nil found)
+
+inside : {X : Type 0} (b : Bool) (found deep more : List X) → deep ≡ found ++ more → (if b then found else deep) ≡ found ++ (if b then [] else more)
+inside true found deep more e = sym (append-nil found)
+inside false found deep more e = e
+
+pub mentioned_is : (found : List (Reference Path ℕ)) (f : Forest) → mentioned found f ≡ found ++ mentions f
+mentioned_is found end = sym (append-nil found)
+mentioned_is found (tree l children others) =
+    let a : List (Reference Path ℕ) = if is_type l then found ++ type_mention children else found in
+    let b : List (Reference Path ℕ) = if is_formula l then a else mentioned a children in
+    let t : List (Reference Path ℕ) = if is_type l then type_mention children else [] in
+    let m : List (Reference Path ℕ) = if is_formula l then [] else mentions children in
+    let e : a ≡ found ++ t = here (is_type l) found (type_mention children) in
+    let f : b ≡ a ++ m = inside (is_formula l) a (mentioned a children) (mentions children) (mentioned_is a children) in
+    let g : mentioned b others ≡ b ++ mentions others = mentioned_is b others in
+    g ∙ (ap (λ z. z ++ mentions others) (f ∙ ap (λ z. z ++ m) e) ∙ (append_assoc (found ++ t) m (mentions others) ∙ append_assoc found t (m ++ mentions others)))
+
+-- what kind a declaration is of holds no mention
+pub mentioned_kind : (k : DeclarationKind) (found : List (Reference Path ℕ)) (others : Forest) → mentioned found (before (kind_tree k) others) ≡ mentioned found others
+mentioned_kind kinds.Const found others = refl
+mentioned_kind kinds.Override found others = refl
+mentioned_kind kinds.Let found others = refl
+mentioned_kind (kinds.Var None) found others = refl
+mentioned_kind (kinds.Var (Some (s, None))) found others = refl
+mentioned_kind (kinds.Var (Some (s, Some a))) found others = refl
+
+taken : {X : Type 0} (i e : Bool) (found items deep deeper some more rest : List X) → deep ≡ found ++ some → deeper ≡ found ++ more
+    → (if i then found ++ items else if e then deep else deeper) ≡ found ++ (if i then items else if e then some else more)
+taken true e found items deep deeper some more rest f g = refl
+taken false true found items deep deeper some more rest f g = f
+taken false false found items deep deeper some more rest f g = g
+
+pub imported_is : (published : Bool) (base : imports.Base) (found : List (Import Path ℕ)) (f : Forest) → imported published base found f ≡ found ++ imports.content_imports published base f
+imported_is published base found end = sym (append-nil found)
+imported_is published base found (tree l children others) =
+    let inner : imports.Base = imports.entered base (imports.first_label [] imports.label_texts children) in
+    let deep : List (Import Path ℕ) = imported published inner found children in
+    let deeper : List (Import Path ℕ) = imported published base found children in
+    let items : List (Import Path ℕ) = imports.item_imports published base (identifiers children) in
+    let a : List (Import Path ℕ) = if imports.is_item l then found ++ items else if imports.is_entry l then deep else deeper in
+    let t : List (Import Path ℕ) = if imports.is_item l then items else if imports.is_entry l then imports.content_imports published inner children else imports.content_imports published base children in
+    let e : a ≡ found ++ t =
+    taken (imports.is_item l) (imports.is_entry l) found items deep deeper (imports.content_imports published inner children) (imports.content_imports published base children) []
+    (imported_is published inner found children) (imported_is published base found children) in
+    imported_is published base a others ∙ (ap (λ z. z ++ imports.content_imports published base others) e ∙ append_assoc found t (imports.content_imports published base others))
+
+-- the path of a statement, as its tree has it
+pub written_path : (o : Option ModulePath) → imports.first_label None imports.label_path (optional path_tree o).children ≡ option_map path_view o
+written_path None = refl
+written_path (Some p) = refl
+
+pub on_ok : {X E : Type 0} {P Q : Type 0} (r : Result X E) → (P → Q) → OnOk r P → OnOk r Q
+on_ok (Ok x) f h = f h
+on_ok (Err e) f h = tt
+
+-- the imports of a statement, after those found before
+pub statement_is : (own : Path) (s : ImportStatement) (published : Bool) (base : imports.Base) (found : List (Import Path ℕ))
+    → published ≡ imports.is_published (attributes_tree s.attributes).children → base ≡ imports.base_of own (option_map path_view s.path)
+    → imported published base found (before (content_view s.content) end) ≡ found ++ imports.statement_imports own (import_view s).children
+statement_is own s published base found e f =
+    let g : base ≡ imports.base_of own (imports.first_label None imports.label_path (optional path_tree s.path).children) = f ∙ ap (imports.base_of own) (sym (written_path s.path)) in
+    imported_is published base found (before (content_view s.content) end)
+    ∙ (ap (λ b. found ++ imports.content_imports b base (before (content_view s.content) end)) e
+    ∙ ap (λ b. found ++ imports.content_imports (imports.is_published (attributes_tree s.attributes).children) b (before (content_view s.content) end)) g)
+
+-- the attributes, the type and the initializer of a declaration, one after the other
+pub declaration_found : (d : Declaration) (a b c : List (Reference Path ℕ)) → a ≡ mentioned [] (before (attributes_tree d.attributes) end) → b ≡ mentioned a (before (optional type_view d.ty) end)
+    → c ≡ mentioned b (before (optional expression_tree d.initializer) end) → c ≡ mentions (declaration_view d).children
+declaration_found d a b c e f g =
+    let typed : List (Reference Path ℕ) → List (Reference Path ℕ) = λ found. mentioned found (before (optional type_view d.ty) end) in
+    let initialized : List (Reference Path ℕ) → List (Reference Path ℕ) = λ found. mentioned found (before (optional expression_tree d.initializer) end) in
+    g ∙ (ap initialized f ∙ (ap (λ found. initialized (typed found)) e
+    ∙ (sym (mentioned_kind d.kind (mentioned [] (before (attributes_tree d.attributes) end)) (before (ident_tree binder d.ident) (before (optional type_view d.ty) (before (optional expression_tree d.initializer) end))))
+    ∙ mentioned_is [] (declaration_view d).children)))

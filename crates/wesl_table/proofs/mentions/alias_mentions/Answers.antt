@@ -1,0 +1,10 @@
+use Rattle.std.proofs.Common.{◌≡◌, ◌∙◌, [], map, rules}
+use Rattle.wesl_syntax.specs.View.{alias_view}
+use Rattle.wesl_table.specs.Walks.{mention_view, mentioned}
+use Rattle.wesl_table.proofs.Walked.{mentioned_is, mentioned_kind}
+use Rattle.wesl_table.proofs.mentions.alias_mentions.Goals as goal
+
+pub returns : goal.returns
+returns c =
+    let e : map mention_view c.add_type.new.found.items ≡ mentioned [] (alias_view c.args.alias.now).children = search (rules, mentioned_kind) in
+    e ∙ mentioned_is [] (alias_view c.args.alias.now).children

@@ -1,0 +1,97 @@
+-- Numbers for names and paths, and symbol tables that are the same but for the numbers in place of names and paths.
+use Rattle.std.specs.Prelude.{◌≡◌, ◌⊎◌, ℕ, Bool, false, Option, Some, None, List, [], ◌∷◌, ◌++◌, slice_get}
+use Rattle.std.specs.List.{list_any}
+use Rattle.wesl_names.specs.Path.{Text, Path}
+use Rattle.wesl_world.specs.declared.ids.PathId.{PathId}
+use Rattle.wesl_world.specs.declared.ids.NameId.{NameId}
+use Rattle.wesl_world.specs.declared.symbols.Import.{Import}
+use Rattle.wesl_world.specs.declared.symbols.Reference.{Reference}
+use Rattle.wesl_world.specs.Tables.{Declaration, Table}
+
+-- ---- tables over paths `P` and names `N`, and over `Q` and `M`, that say the same
+
+-- both lists have as many elements, and each is related to the one at its place
+abbrev pub AreRelated : {X Y : Type 0} → (X → Y → Type 0) → List X → List Y → Type 0
+AreRelated R [] [] = Unit {0}
+AreRelated R (x ∷ xs) (y ∷ ys) = R x y × AreRelated R xs ys
+AreRelated R _ _ = ⊥
+
+abbrev pub IsRelatedOption : {X Y : Type 0} → (X → Y → Type 0) → Option X → Option Y → Type 0
+IsRelatedOption R None None = Unit {0}
+IsRelatedOption R (Some x) (Some y) = R x y
+IsRelatedOption R _ _ = ⊥
+
+module _ {P N Q M : Type 0} (R : P → Q → Type 0) (S : N → M → Type 0) where
+  pub record SameImport (i : Import P N) (j : Import Q M) : Type 0 where
+    pub bound : S i.bound j.bound
+    pub path : R i.path j.path
+    pub item : S i.item j.item
+    pub published : i.published ≡ j.published
+
+  pub record SameReference (r : Reference P N) (s : Reference Q M) : Type 0 where
+    pub path : IsRelatedOption R r.path s.path
+    pub name : S r.name s.name
+
+  pub record SameDeclaration (d : Declaration P N) (e : Declaration Q M) : Type 0 where
+    pub name : IsRelatedOption S d.name e.name
+    pub references : AreRelated SameReference d.references e.references
+
+  pub record SameTable (t : Table P N) (u : Table Q M) : Type 0 where
+    pub path : R t.path u.path
+    pub imports : AreRelated SameImport t.imports u.imports
+    pub declarations : AreRelated SameDeclaration t.declarations u.declarations
+
+-- ---- numbers
+
+-- the names and the paths that have numbers, in their order
+pub record Numbering : Type 0 where
+  pub names : List Text
+  pub paths : List Path
+
+-- the list goes on from the other
+abbrev pub IsLonger : {X : Type 0} → List X → List X → Type 0
+IsLonger {X} old new = (more : List X) × (new ≡ old ++ more)
+
+-- a key that equals none goes last; else the keys stay as they are
+abbrev pub Puts : {K : Type 0} → (K → K → Bool) → List K → K → List K → Type 0
+Puts eq old key new = (new ≡ old) ⊎ ((list_any (eq key) old ≡ false) × (new ≡ old ++ key ∷ []))
+
+-- nothing stands twice
+abbrev pub AreDifferent : {X : Type 0} → List X → Type 0
+AreDifferent {X} xs = (i j : ℕ) (x : X) → slice_get xs i ≡ Some x → slice_get xs j ≡ Some x → i ≡ j
+
+-- names and paths are added at the end
+pub record Grows (old new : Numbering) : Type 0 where
+  pub names : IsLonger old.names new.names
+  pub paths : IsLonger old.paths new.paths
+
+-- the name of a number, and the path of one
+abbrev pub NameAt : Numbering → NameId → Text → Type 0
+NameAt numbering n x = slice_get numbering.names n.0 ≡ Some x
+
+abbrev pub PathAt : Numbering → PathId → Path → Type 0
+PathAt numbering p q = slice_get numbering.paths p.0 ≡ Some q
+
+-- the table has these numbers where the other has names and paths
+abbrev pub IsNumbered : Numbering → Table PathId NameId → Table Path Text → Type 0
+IsNumbered numbering t u = SameTable (PathAt numbering) (NameAt numbering) t u
+
+module _ (numbering : Numbering) where
+  abbrev pub IsNumberedImport : Import PathId NameId → Import Path Text → Type 0
+  IsNumberedImport i j = SameImport (PathAt numbering) (NameAt numbering) i j
+
+  abbrev pub AreNumberedImports : List (Import PathId NameId) → List (Import Path Text) → Type 0
+  AreNumberedImports is js = AreRelated (SameImport (PathAt numbering) (NameAt numbering)) is js
+
+  abbrev pub AreNumberedReferences : List (Reference PathId NameId) → List (Reference Path Text) → Type 0
+  AreNumberedReferences rs ss = AreRelated (SameReference (PathAt numbering) (NameAt numbering)) rs ss
+
+  abbrev pub AreNumberedDeclarations : List (Declaration PathId NameId) → List (Declaration Path Text) → Type 0
+  AreNumberedDeclarations ds es = AreRelated (SameDeclaration (PathAt numbering) (NameAt numbering)) ds es
+
+-- a list of references, or of declarations, gains numbers for those in `more`
+abbrev pub ReferencesGain : Numbering → Numbering → List (Reference PathId NameId) → List (Reference PathId NameId) → List (Reference Path Text) → Type 0
+ReferencesGain a b old new more = (before : List (Reference Path Text)) → AreNumberedReferences a old before → AreNumberedReferences b new (before ++ more)
+
+abbrev pub DeclarationsGain : Numbering → Numbering → List (Declaration PathId NameId) → List (Declaration PathId NameId) → List (Declaration Path Text) → Type 0
+DeclarationsGain a b old new more = (before : List (Declaration Path Text)) → AreNumberedDeclarations a old before → AreNumberedDeclarations b new (before ++ more)

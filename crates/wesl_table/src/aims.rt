@@ -1,0 +1,91 @@
+//! Where the paths before names lead (WESL, "Imports").
+ghost use Rattle.std.specs.Prelude.{◌≡◌, ◌++◌, false, All, map, IfOk, OnOk};
+ghost use Rattle.wesl_names.specs.Path.{path_view, origin_view, push, extend, join, is_relative};
+ghost use Rattle.wesl_table.specs.Mentions as mentions;
+ghost use Rattle.wesl_table.specs.Spelling.{spelled_import, spelled_imports};
+
+use crate::numbers::spelling;
+use std::alloc::Global;
+use wesl_names::{Error, Ident, ModulePath, Names, PathOrigin};
+use wesl_world::symbols::Import;
+
+/// A module as its names are read: where it stands, its table of names, and its imports.
+#[derive(Clone, Copy)]
+pub struct Scope<'a> {
+    pub own: &'a ModulePath,
+    pub names: &'a Names,
+    pub imports: &'a [Import<ModulePath, Ident>],
+}
+
+/// Whether a path begins with the package of that name.
+fn is_package(origin: &PathOrigin, name: &str) -> bool
+    ensures { result ≡ mentions.is_package (origin_view origin.now) name.now }
+{
+    match origin {
+        PathOrigin::Package(package) => package.as_str() == name,
+        _ => false,
+    }
+}
+
+/// The item of an import as a module, and on from there the components of `path`.
+fn module_in_place(
+    alloc: Global,
+    names: &Names,
+    path: &ModulePath,
+    import: &Import<ModulePath, Ident>,
+) -> Result<ModulePath, Error>
+    ensures { let named = spelled_import names.now import.now in IfOk result (λ module_path. path_view module_path ≡ extend (push named.path named.item) (path_view path.now).components) }
+{
+    let mut item = import.path.try_clone(alloc)?;
+    item.push(spelling(names, import.item))?;
+    item.join(alloc, &path.components)
+}
+
+/// The module that stands for a path which begins with the name that the import binds.
+fn add_in_place(
+    alloc: Global,
+    names: &Names,
+    found: &mut Vec<ModulePath>,
+    path: &ModulePath,
+    import: &Import<ModulePath, Ident>,
+) -> Result<(), Error>
+    ensures { OnOk result (map path_view found.new.items ≡ map path_view found.old.items ++ mentions.in_place (path_view path.now) (spelled_import names.now import.now)) }
+{
+    if !is_package(&path.origin, spelling(names, import.bound)) {
+        return Ok(());
+    }
+    found.push(module_in_place(alloc, names, path, import)?)?;
+    Ok(())
+}
+
+/// These modules, and where there are none the one that the path leads to from the module at `own`.
+fn or_else(
+    alloc: Global,
+    own: &ModulePath,
+    path: &ModulePath,
+    found: Vec<ModulePath>,
+) -> Result<Vec<ModulePath>, Error>
+    ensures { IfOk result (λ aims. map path_view aims.items ≡ mentions.or_else (map path_view found.items) (join (path_view own.now) (path_view path.now))) }
+{
+    if !found.is_empty() {
+        return Ok(found);
+    }
+    let mut joined = found;
+    joined.push(own.join_path(alloc, path)?)?;
+    Ok(joined)
+}
+
+/// The modules that a path before a name aims at: where it begins with a name that imports bind, the items of these
+/// imports in its place, else the path as the module means it. Refused for want of memory alone.
+pub fn aims(alloc: Global, scope: Scope<'_>, path: &ModulePath) -> Result<Vec<ModulePath>, Error>
+    requires own { is_relative (path_view scope.own.now) ≡ false }
+    requires imports { All (λ i. is_relative (path_view i.path) ≡ false) scope.imports.now }
+    ensures asked { IfOk result (λ found. All (λ p. is_relative (path_view p) ≡ false) found.items) }
+    ensures aims { IfOk result (λ found. map path_view found.items ≡ mentions.aims (path_view scope.entry.own.now) (spelled_imports scope.entry.names.now scope.entry.imports.now) (path_view path.now)) }
+{
+    let mut found = Vec::new(alloc);
+    for import in scope.imports {
+        add_in_place(alloc, scope.names, &mut found, path, import)?;
+    }
+    or_else(alloc, scope.own, path, found)
+}

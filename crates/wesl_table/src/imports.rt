@@ -1,0 +1,157 @@
+//! What the imports of a module bind (WESL, "Imports").
+ghost use Rattle.std.specs.Prelude.{◌≡◌, ◌++◌, false, All, map, option_map, string_bytes, IfOk, OnOk};
+ghost use Rattle.wesl_names.specs.Path.{path_view, is_relative};
+ghost use Rattle.wesl_syntax.specs.Tree.{before, end};
+ghost use Rattle.wesl_syntax.specs.View.{attribute_view, attributes_tree, content_view, item_view, import_view as statement_view, imports_tree};
+ghost use Rattle.wesl_table.specs.Imports as imports;
+ghost use Rattle.wesl_table.specs.Base.{base_view};
+ghost use Rattle.wesl_table.specs.Walks.{import_view, imported};
+
+use std::alloc::Global;
+use wesl_names::{Error, Ident, ModulePath, PathOrigin};
+use wesl_syntax::{
+    Attribute, Attributes, ImportContent, ImportItem, ImportStatement, ImportStatementNode,
+};
+use wesl_world::symbols::Import;
+
+/// Where the parts of an import statement lead.
+#[derive(Drop)]
+enum Base {
+    /// The statement has no path: the first component of an entry names a package.
+    Unset,
+    /// No module.
+    Nowhere,
+    /// The module at this path.
+    At(ModulePath),
+}
+
+impl Base {
+    /// Where the entry with these components leads.
+    fn entered(&self, alloc: Global, components: &[String]) -> Result<Base, Error>
+        ensures { IfOk result (λ b. base_view b ≡ imports.entered (base_view self.now) (map string_bytes components.now)) }
+    {
+        match self {
+            Base::At(path) => Ok(Base::At(path.join(alloc, components)?)),
+            Base::Nowhere => Ok(Base::Nowhere),
+            Base::Unset => in_package(alloc, components),
+        }
+    }
+}
+
+/// The module that these components name, of which the first is a package.
+fn in_package(alloc: Global, components: &[String]) -> Result<Base, Error>
+    ensures { IfOk result (λ b. base_view b ≡ imports.entered imports.unset (map string_bytes components.now)) }
+{
+    let Some((package, names)) = components.split_first() else {
+        return Ok(Base::Nowhere);
+    };
+    let origin = PathOrigin::Package(package.clone()?);
+    let root = ModulePath::new(origin, Vec::new(alloc));
+    Ok(Base::At(root.join(alloc, names)?))
+}
+
+/// Where a statement with this path leads in the module at `own`.
+fn base_of(alloc: Global, own: &ModulePath, path: &Option<ModulePath>) -> Result<Base, Error>
+    ensures { IfOk result (λ b. base_view b ≡ imports.base_of (path_view own.now) (option_map path_view path.now)) }
+{
+    match path {
+        Some(path) => Ok(Base::At(own.join_path(alloc, path)?)),
+        None => Ok(Base::Unset),
+    }
+}
+
+/// The imports with a target of the module at `own`, in the order of the source. Refused for want of memory alone.
+pub fn imports(
+    alloc: Global,
+    own: &ModulePath,
+    statements: &Vec<ImportStatementNode>,
+) -> Result<Vec<Import<ModulePath, Ident>>, Error>
+    requires { is_relative (path_view own.now) ≡ false }
+    ensures imports { IfOk result (λ found. map import_view found.items ≡ imports.all_imports (path_view own.now) (imports_tree statements.now).children) }
+    ensures asked { IfOk result (λ found. All (λ i. is_relative (path_view i.path) ≡ false) found.items) }
+{
+    let mut found = Vec::new(alloc);
+    for statement in statements {
+        add_statement(alloc, own, &mut found, &statement.node)?;
+    }
+    Ok(found)
+}
+
+fn add_statement(
+    alloc: Global,
+    own: &ModulePath,
+    found: &mut Vec<Import<ModulePath, Ident>>,
+    statement: &ImportStatement,
+) -> Result<(), Error>
+    ensures { OnOk result (map import_view found.new.items ≡ map import_view found.old.items ++ imports.statement_imports (path_view own.now) (statement_view statement.now).children) }
+{
+    let base = base_of(alloc, own, &statement.path)?;
+    let published = is_published(&statement.attributes);
+    add_content(alloc, found, published, &base, &statement.content)
+}
+
+#[cycle(imports)]
+#[tactic(auto, using(crate::proofs::Nodes::view_entry))]
+fn add_content(
+    alloc: Global,
+    found: &mut Vec<Import<ModulePath, Ident>>,
+    published: bool,
+    base: &Base,
+    content: &ImportContent,
+) -> Result<(), Error>
+    ensures { OnOk result (map import_view found.new.items ≡ imported published (base_view base.now) (map import_view found.old.items) (before (content_view content.now) end)) }
+{
+    match content {
+        ImportContent::Item(item) => add_item(alloc, found, published, base, item),
+        ImportContent::Collection(entries) => {
+            for entry in entries {
+                let inner = base.entered(alloc, &entry.path)?;
+                add_content(alloc, found, published, &inner, &entry.content)?;
+            }
+            Ok(())
+        }
+    }
+}
+
+fn add_item(
+    alloc: Global,
+    found: &mut Vec<Import<ModulePath, Ident>>,
+    published: bool,
+    base: &Base,
+    item: &ImportItem,
+) -> Result<(), Error>
+    ensures { OnOk result (map import_view found.new.items ≡ imported published (base_view base.now) (map import_view found.old.items) (before (item_view item.now) end)) }
+{
+    let Base::At(path) = base else {
+        return Ok(());
+    };
+    let import = Import {
+        bound: match item.rename {
+            Some(rename) => rename,
+            None => item.ident,
+        },
+        path: path.try_clone(alloc)?,
+        item: item.ident,
+        published,
+    };
+    found.push(import)?;
+    Ok(())
+}
+
+/// Whether the attributes hold `@publish`.
+fn is_published(attributes: &Attributes) -> bool
+    ensures { result ≡ imports.is_published (attributes_tree attributes.now).children }
+{
+    for attribute in attributes {
+        if is_publish(&attribute.node) {
+            return true;
+        }
+    }
+    false
+}
+
+fn is_publish(attribute: &Attribute) -> bool
+    ensures { result ≡ imports.is_publish (attribute_view attribute.now).label }
+{
+    matches!(attribute, Attribute::Publish)
+}

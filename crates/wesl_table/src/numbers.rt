@@ -1,0 +1,162 @@
+//! The numbers of paths and of names: one numbering for all modules of a link.
+ghost use Rattle.std.specs.Prelude.{◌≡◌, [], true, false, All, IfOk, IfErr, IfSome, IfNone, Some, None, map, slice_get, string_bytes};
+ghost use Rattle.wesl_names.specs.Path.{path_view, is_relative};
+ghost use Rattle.wesl_names.specs.declared.errors.Error as error;
+ghost use Rattle.wesl_syntax.specs.Unit.{name_in};
+ghost use Rattle.wesl_table.specs.Numbering.{AreDifferent, IsLonger, Puts, Grows, NameAt, PathAt};
+
+use indexmap::IndexSet;
+use std::alloc::Global;
+use std::hash::Hash;
+use wesl_names::{Error, Ident, ModulePath, Names, law_of_equality};
+use wesl_world::ids::{NameId, PathId};
+
+/// The index of a key, which goes last unless one equal to it is there.
+fn put<K: Eq + Hash + Drop>(keys: &mut IndexSet<K>, key: K) -> Result<usize, Error>
+    ensures stored { IfOk result (λ i. (k : K) × (slice_get keys.new.keys i ≡ Some k) × (K.eq key k ≡ true)) }
+    ensures puts { Puts K.eq keys.old.keys key keys.new.keys }
+    ensures refused { IfErr result (λ e. e ≡ error.Memory) }
+{
+    let (index, _) = keys.insert_full(key)?;
+    Ok(index)
+}
+
+/// Numbers for names: equal names have one number, and numbers run 0, 1, 2, .. by first occurrence.
+#[derive(Drop)]
+pub struct NameNumbers {
+    names: IndexSet<String>,
+    pub ghost different: { AreDifferent (map string_bytes names.keys) },
+}
+
+impl NameNumbers {
+    ghost use Rattle.wesl_table.specs.NumbersView.{names_of};
+
+    /// No names. It takes no memory.
+    pub fn new(alloc: Global) -> NameNumbers
+        ensures { names_of result ≡ [] }
+    {
+        NameNumbers {
+            names: IndexSet::new(alloc),
+        }
+    }
+
+    /// The number of a name. Refused for want of memory alone.
+    pub fn number(&mut self, name: &str) -> Result<NameId, Error>
+        ensures held { IfOk result (λ i. slice_get (names_of self.new) i.0 ≡ Some name.now) }
+        ensures grows { IsLonger (names_of self.old) (names_of self.new) }
+        ensures refused { IfErr result (λ e. e ≡ error.Memory) }
+    {
+        if let Some(index) = self.names.get_index_of(name) {
+            return Ok(NameId(index));
+        }
+        let alloc = *self.names.allocator();
+        let name = String::from_str(alloc, name)?;
+        Ok(NameId(put(&mut self.names, name)?))
+    }
+
+    /// The name of a number.
+    pub fn name(&self, id: NameId) -> Option<&str>
+        ensures found { IfSome result (λ x. slice_get (names_of self.now) id.0 ≡ Some x.now) }
+        ensures none { IfNone result (slice_get (names_of self.now) id.0 ≡ None) }
+    {
+        match self.names.get_index(id.0) {
+            Some(name) => Some(name.as_str()),
+            None => None,
+        }
+    }
+}
+
+/// Numbers for the paths of modules, none of them relative: equal paths have one number.
+#[derive(Drop)]
+pub struct PathNumbers {
+    paths: IndexSet<ModulePath>,
+    pub ghost different: { AreDifferent (map path_view paths.keys) },
+    pub ghost asked: { All (λ p. is_relative p ≡ false) (map path_view paths.keys) },
+}
+
+impl PathNumbers {
+    ghost use Rattle.wesl_table.specs.NumbersView.{paths_of};
+
+    /// No paths. It takes no memory.
+    pub fn new(alloc: Global) -> PathNumbers
+        ensures { paths_of result ≡ [] }
+    {
+        PathNumbers {
+            paths: IndexSet::new(alloc),
+        }
+    }
+
+    /// The number of a path, which is not relative. Refused for want of memory alone.
+    pub fn number(&mut self, alloc: Global, path: &ModulePath) -> Result<PathId, Error>
+        requires { is_relative (path_view path.now) ≡ false }
+        ensures held { IfOk result (λ i. slice_get (paths_of self.new) i.0 ≡ Some (path_view path.now)) }
+        ensures grows { IsLonger (paths_of self.old) (paths_of self.new) }
+        ensures refused { IfErr result (λ e. e ≡ error.Memory) }
+    {
+        law_of_equality();
+        if let Some(index) = self.paths.get_index_of(path) {
+            return Ok(PathId(index));
+        }
+        let path = path.try_clone(alloc)?;
+        Ok(PathId(put(&mut self.paths, path)?))
+    }
+
+    /// The path of a number.
+    pub fn path(&self, id: PathId) -> Option<&ModulePath>
+        ensures found { IfSome result (λ p. slice_get (paths_of self.now) id.0 ≡ Some (path_view p.now)) }
+        ensures none { IfNone result (slice_get (paths_of self.now) id.0 ≡ None) }
+    {
+        self.paths.get_index(id.0)
+    }
+}
+
+/// The name of an identifier, and the empty text where the table has none.
+pub fn spelling(names: &Names, ident: Ident) -> &str
+    ensures { result.now ≡ name_in names.now ident.0 }
+{
+    if ident.0 < names.len() {
+        names.name(ident)
+    } else {
+        ""
+    }
+}
+
+/// The numbers of names and of paths.
+#[derive(Drop)]
+pub struct Numbers {
+    pub names: NameNumbers,
+    pub paths: PathNumbers,
+}
+
+impl Numbers {
+    ghost use Rattle.wesl_table.specs.NumbersView.{numbering};
+
+    /// No names and no paths. It takes no memory.
+    pub fn new(alloc: Global) -> Numbers
+        ensures { numbering result ≡ record { names = []; paths = [] } }
+    {
+        Numbers {
+            names: NameNumbers::new(alloc),
+            paths: PathNumbers::new(alloc),
+        }
+    }
+
+    /// The number of a name. Refused for want of memory alone.
+    pub fn name(&mut self, name: &str) -> Result<NameId, Error>
+        ensures numbered { IfOk result (λ n. NameAt (numbering self.new) n name.now) }
+        ensures grows { Grows (numbering self.old) (numbering self.new) }
+        ensures refused { IfErr result (λ e. e ≡ error.Memory) }
+    {
+        self.names.number(name)
+    }
+
+    /// The number of a path, which is not relative. Refused for want of memory alone.
+    pub fn path(&mut self, alloc: Global, path: &ModulePath) -> Result<PathId, Error>
+        requires { is_relative (path_view path.now) ≡ false }
+        ensures numbered { IfOk result (λ p. PathAt (numbering self.new) p (path_view path.now)) }
+        ensures grows { Grows (numbering self.old) (numbering self.new) }
+        ensures refused { IfErr result (λ e. e ≡ error.Memory) }
+    {
+        self.paths.number(alloc, path)
+    }
+}
