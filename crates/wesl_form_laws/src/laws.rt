@@ -1,0 +1,8 @@
+//! Laws of whole units.
+ghost use Rattle.wesl_form_laws.specs.Readable.{UnitsReadBack};
+
+/// A unit whose path texts each say the same path or none is read, once it is written, as it was, and exactly where its
+/// names are nonempty, its literals are as the format says and its path texts say paths.
+pub fn law_of_units()
+    ensures { UnitsReadBack }
+{}
