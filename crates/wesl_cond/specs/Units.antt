@@ -1,0 +1,33 @@
+-- What features leave of a unit.
+use Rattle.std.specs.Prelude.{◌≡◌, ℕ}
+use Rattle.wesl_cond.specs.Flags.{flags_of, AgreesOn}
+use Rattle.wesl_cond.specs.Judging.{RefusesIn}
+use Rattle.wesl_cond.specs.Laws.{IsFaultless}
+use Rattle.wesl_cond.specs.Picked.{Choice, picked_unit}
+use Rattle.wesl_cond.specs.Residual.{residual_tree}
+use Rattle.wesl_formula.specs.Features.{Replies, known, by_number, HoldsNoError, then_replies}
+use Rattle.wesl_names.specs.Path.{Text}
+use Rattle.wesl_names.specs.declared.errors.Error as error
+use Rattle.wesl_syntax.specs.Unit.{UnitView, trees_of, forest_of_unit}
+
+-- what is left under the answers to the names of flags; the table of names stays
+abbrev pub left_of : Replies Text → UnitView → UnitView
+left_of reply u =
+    let answers = known (by_number u.names reply) in
+    record { names = u.names; imports = residual_tree answers u.imports; directives = residual_tree answers u.directives; declarations = residual_tree answers u.declarations }
+
+-- no fault of a condition stands in a unit
+abbrev pub IsFaultlessUnit : Replies Text → UnitView → Type 0
+IsFaultlessUnit reply u = IsFaultless (by_number u.names reply) (trees_of u)
+
+-- an error tells a fault that stands in a unit, or memory is wanting to tell one
+abbrev pub RefusesUnit : Replies Text → UnitView → error.Error → Type 0
+RefusesUnit reply u e = RefusesIn u.names (by_number u.names reply) (forest_of_unit (trees_of u)) e
+
+-- Whatever an earlier stage without refusals left a unit of, this one goes on with it: what is left now is what both in one leave.
+abbrev pub GoesOn : Replies Text → UnitView → UnitView → Type 0
+GoesOn second before after = (first : Replies Text) (u : UnitView) → HoldsNoError first → before ≡ left_of first u → after ≡ left_of (then_replies first second) u
+
+-- every choice that agrees with the answers on the flags of a unit picks the same before and after
+abbrev pub Picks : Replies Text → UnitView → UnitView → Type 0
+Picks reply before after = (choice : Choice ℕ) → AgreesOn (flags_of (trees_of before)) choice (known (by_number before.names reply)) → picked_unit choice (trees_of after) ≡ picked_unit choice (trees_of before)

@@ -1,0 +1,70 @@
+//! What is left of a unit.
+ghost use Rattle.std.specs.Prelude.{◌≡◌, IfOk, IfErr};
+ghost use Rattle.wesl_cond.specs.Judging.{Checks};
+ghost use Rattle.wesl_cond.specs.Nodes.{replies};
+ghost use Rattle.wesl_cond.specs.Units.{left_of, GoesOn, IsFaultlessUnit, Picks, RefusesUnit};
+ghost use Rattle.wesl_formula.specs.Features.{answer_to};
+ghost use Rattle.wesl_names.specs.declared.errors.Diagnostic.{out-Diagnostic};
+ghost use Rattle.wesl_syntax.specs.Unit.{forest_of_unit, trees_of};
+ghost use Rattle.wesl_tree.specs.Translation.{unit_view};
+
+use crate::declarations::{settle_declarations, settle_directives, settle_imports};
+use crate::judge::{check_declarations, check_directives, check_imports};
+use std::alloc::Global;
+use std::mem;
+use wesl_formula::Features;
+use wesl_names::{Diagnostic, Error};
+use wesl_tree::TranslationUnit;
+
+/// Conditional translation of a module (WESL, "ConditionalTranslation"): leaves of the unit what the features leave.
+///
+/// The lists judged are those of imports, directives, declarations, members, parameters, statements and switch clauses;
+/// a continuing block is a last node of its loop's list, and a `break if` one of its continuing block's. Nodes that go are
+/// not looked into.
+///
+/// It is refused, and the unit stays as it was, where a flag has template arguments or is answered by a refusal, where a
+/// formula is none, where an `@elif` or an `@else` goes on with no chain, and where a node has two conditions. Memory is
+/// taken to tell such a fault alone, so a unit without one is never refused.
+pub fn run(alloc: Global, unit: &mut TranslationUnit, features: &Features) -> Result<(), Diagnostic>
+    ensures faultless { IfOk result (λ _. IsFaultlessUnit (answer_to features.now) (unit_view unit.old)) }
+    ensures left { IfOk result (λ _. unit_view unit.new ≡ left_of (answer_to features.now) (unit_view unit.old)) }
+    ensures settled { IfOk result (λ _. left_of (answer_to features.now) (unit_view unit.new) ≡ unit_view unit.new) }
+    ensures staged { IfOk result (λ _. GoesOn (answer_to features.now) (unit_view unit.old) (unit_view unit.new)) }
+    ensures picks { IfOk result (λ _. Picks (answer_to features.now) (unit_view unit.old) (unit_view unit.new)) }
+    ensures refused { IfErr result (λ told. RefusesUnit (answer_to features.now) (unit_view unit.old) (out-Diagnostic told).error) }
+    ensures unchanged { IfErr result (λ _. unit.new ≡ unit.old) }
+{
+    check(alloc, unit, features)?;
+    resolve(alloc, unit, features);
+    Ok(())
+}
+
+/// Judges the conditions of a unit.
+fn check(alloc: Global, unit: &TranslationUnit, features: &Features) -> Result<(), Error>
+    ensures { Checks (unit_view unit.now).names (replies (unit_view unit.now).names features.now) (forest_of_unit (trees_of (unit_view unit.now))) result }
+{
+    let names = unit.names();
+    match check_imports(alloc, unit.imports(), names, features) {
+        Ok(()) => match check_directives(alloc, unit.global_directives(), names, features) {
+            Ok(()) => check_declarations(alloc, unit.global_declarations(), names, features),
+            Err(fault) => Err(fault),
+        },
+        Err(fault) => Err(fault),
+    }
+}
+
+/// Leaves what the features leave of a unit. Nodes move within their lists and operands within their formulas, so no
+/// memory is taken. Nothing is refused: a flag that the features refuse stays.
+fn resolve(alloc: Global, unit: &mut TranslationUnit, features: &Features)
+    ensures { unit_view unit.new ≡ left_of (answer_to features.now) (unit_view unit.old) }
+{
+    let whole = mem::replace(unit, TranslationUnit::new(alloc));
+    let (names, mut imports, mut directives, mut declarations) = whole.into_parts();
+    settle_imports(&mut imports, &names, features);
+    settle_directives(&mut directives, &names, features);
+    settle_declarations(&mut declarations, &names, features);
+    match TranslationUnit::from_parts(names, imports, directives, declarations) {
+        Some(left) => *unit = left,
+        None => {}
+    }
+}

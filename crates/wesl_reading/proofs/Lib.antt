@@ -1,0 +1,13 @@
+pub mod Depths
+pub mod Places
+pub mod Rows
+pub mod Spellings
+pub mod Lists
+pub mod Members
+pub mod Steps
+pub mod Expressions
+pub mod Arguments
+pub mod Trees
+pub mod Wheres
+pub mod NameLists
+pub mod Attributes

@@ -1,0 +1,21 @@
+use Rattle.std.proofs.Common.{◌≡◌, Some, None, codes, rules}
+use Rattle.serde_json.specs.Find.{get}
+use Rattle.serde_json.specs.View.{view}
+use Rattle.wesl_form.specs.Schema.{node, an_attribute}
+use Rattle.wesl_form.specs.Nodes.{nodes_of}
+use Rattle.wesl_reading.specs.Faults.{Locates}
+use Rattle.wesl_reading.proofs.Attributes.{no-attribute, no-word}
+use Rattle.wesl_reading.proofs.Places.{unknown-word}
+use Rattle.wesl_reading.proofs.attribute.attribute_word_of.Goals as goal
+
+pub returns-in_err-word-clause-place : goal.returns-in_err-word-clause-place
+returns-in_err-word-clause-place c =
+    let lacks : get (codes "k") (view c.args.value.now) ≡ None = search rules in
+    let located : Locates (node an_attribute) (view c.args.value.now) c.in_err-word.field-0.0 = no-word (view c.args.value.now) c.in_err-word.field-0.0 c.requires lacks c.in_err-word.ensures.place in
+    search rules
+
+pub returns-in-None-clause-place : goal.returns-in-None-clause-place
+returns-in-None-clause-place c =
+    let found : get (codes "k") (view c.args.value.now) ≡ Some (view c.in_ok-word.word.now) = search rules in
+    let none : nodes_of an_attribute (view c.args.value.now) ≡ None = no-attribute (view c.args.value.now) (view c.in_ok-word.word.now) found (search rules) in
+    unknown-word an_attribute (view c.args.value.now) (view c.in_ok-word.word.now) c.wrong.result c.under.result found none c.wrong.ensures c.under.ensures

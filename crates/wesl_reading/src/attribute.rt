@@ -1,0 +1,208 @@
+//! Reading attributes.
+ghost use Rattle.std.specs.Prelude.{◌≡◌, [], ◌∷◌, List, ℕ, MatchOption, None, Some, IfOk, IfErr, codes};
+ghost use Rattle.serde_json.specs.Find.{as_str};
+ghost use Rattle.serde_json.specs.View.{view};
+ghost use Rattle.wesl_syntax.specs.Tree.{Kind, attribute_node, attributes as attributes_kind, branch, kind};
+ghost use Rattle.wesl_syntax.specs.View.{attribute_view, attributes_tree, expression_tree, placed};
+ghost use Rattle.wesl_form.specs.Schema.{an_attribute, list_of, look, node as node_form};
+ghost use Rattle.wesl_form.specs.Words.{attribute_words};
+ghost use Rattle.wesl_reading.specs.Faults.{Locates, LocatesInside};
+ghost use Rattle.wesl_reading.specs.Forms.{HasWord, attribute_text, operand_kind, operand_text};
+ghost use Rattle.wesl_reading.specs.Numbers.{Reads, ReadsMany};
+
+use crate::expression::{expression_member, optional_expression, optional_expressions, unplaced};
+use crate::fields::{check_keys, name_member, required, text_member, under, under_index, wrong};
+use crate::names::names_member;
+use crate::numbering::Numbering;
+use crate::words::{AttributeWord, OperandWord, attribute_word};
+use serde_json::Value;
+use std::alloc::Global;
+use wesl_names::Error;
+use wesl_syntax::{Attribute, AttributeNode, Attributes, ExpressionNode};
+
+/// The attributes at `key`, a list.
+pub fn attributes_member(
+    alloc: Global,
+    numbering: &mut Numbering,
+    value: &Value,
+    key: &str,
+) -> Result<Attributes, Error>
+    ensures ok { IfOk result (λ e. ReadsMany key.now (list_of attributes_kind an_attribute) (view value.now) (attributes_tree e) numbering.old numbering.new) }
+    ensures place { IfErr result (LocatesInside key.now (list_of attributes_kind an_attribute) (view value.now)) }
+{
+    let Some(member) = value.get(key) else {
+        return Ok(Vec::new(alloc));
+    };
+    match read_attributes(alloc, numbering, member) {
+        Ok(attributes) => Ok(attributes),
+        Err(error) => Err(under(alloc, error, key)),
+    }
+}
+
+fn read_attributes(
+    alloc: Global,
+    numbering: &mut Numbering,
+    value: &Value,
+) -> Result<Attributes, Error>
+    ensures ok { IfOk result (λ e. Reads (list_of attributes_kind an_attribute) (view value.now) (attributes_tree e) numbering.old numbering.new) }
+    ensures place { IfErr result (Locates (list_of attributes_kind an_attribute) (view value.now)) }
+{
+    let Some(items) = value.as_array() else {
+        return Err(wrong(alloc));
+    };
+    let mut attributes = Vec::with_capacity(alloc, items.len())?;
+    for (index, item) in items.iter().enumerate() {
+        match read_attribute(alloc, numbering, item) {
+            Ok(attribute) => attributes.push(attribute)?,
+            Err(error) => return Err(under_index(alloc, error, index)),
+        }
+    }
+    Ok(attributes)
+}
+
+fn read_attribute(
+    alloc: Global,
+    numbering: &mut Numbering,
+    value: &Value,
+) -> Result<AttributeNode, Error>
+    ensures ok { IfOk result (λ e. Reads (node_form an_attribute) (view value.now) (placed attribute_view attribute_node e) numbering.old numbering.new) }
+    ensures place { IfErr result (Locates (node_form an_attribute) (view value.now)) }
+{
+    if let Some(text) = value.as_str() {
+        return match plain_attribute(text) {
+            Some(attribute) => Ok(unplaced(attribute)),
+            None => Err(wrong(alloc)),
+        };
+    }
+    match attribute_word_of(alloc, value)? {
+        AttributeWord::Operand(word) => read_operand(alloc, numbering, value, word),
+        AttributeWord::WorkgroupSize => read_workgroup_size(alloc, numbering, value),
+        AttributeWord::Builtin => read_builtin(alloc, value),
+        AttributeWord::Interpolate => read_interpolate(alloc, value),
+        AttributeWord::Diagnostic => read_diagnostic(alloc, value),
+        AttributeWord::Custom => read_custom(alloc, numbering, value),
+    }
+}
+
+// The attribute without operands that a word is.
+fn plain_attribute(text: &str) -> Option<Attribute>
+    ensures { MatchOption result (look attribute_words text.now ≡ None) (λ a. (k : Kind) × (look attribute_words text.now ≡ Some (kind k)) × (attribute_view a ≡ branch k [])) }
+{
+    match text {
+        "const" => Some(Attribute::Const),
+        "invariant" => Some(Attribute::Invariant),
+        "must_use" => Some(Attribute::MustUse),
+        "vertex" => Some(Attribute::Vertex),
+        "fragment" => Some(Attribute::Fragment),
+        "compute" => Some(Attribute::Compute),
+        "publish" => Some(Attribute::Publish),
+        "else" => Some(Attribute::Else),
+        _ => None,
+    }
+}
+
+fn attribute_of(word: OperandWord, operand: ExpressionNode) -> Attribute
+    ensures { attribute_view result ≡ branch (operand_kind word) (expression_tree operand ∷ []) }
+{
+    match word {
+        OperandWord::Align => Attribute::Align(operand),
+        OperandWord::Binding => Attribute::Binding(operand),
+        OperandWord::BlendSrc => Attribute::BlendSrc(operand),
+        OperandWord::Group => Attribute::Group(operand),
+        OperandWord::Id => Attribute::Id(operand),
+        OperandWord::Location => Attribute::Location(operand),
+        OperandWord::Size => Attribute::Size(operand),
+        OperandWord::If => Attribute::If(operand),
+        OperandWord::Elif => Attribute::Elif(operand),
+    }
+}
+
+// The word at `k`, of a value that is no text.
+fn attribute_word_of(alloc: Global, value: &Value) -> Result<AttributeWord, Error>
+    requires { as_str (view value.now) ≡ None }
+    ensures word { IfOk result (λ w. HasWord (attribute_text w) (view value.now)) }
+    ensures place { IfErr result (Locates (node_form an_attribute) (view value.now)) }
+{
+    let word = required(alloc, value, "k")?;
+    match word.as_str().and_then(attribute_word) {
+        Some(word) => Ok(word),
+        None => Err(under(alloc, wrong(alloc), "k")),
+    }
+}
+
+fn read_operand(
+    alloc: Global,
+    numbering: &mut Numbering,
+    value: &Value,
+    word: OperandWord,
+) -> Result<AttributeNode, Error>
+    requires { HasWord (operand_text word) (view value.now) }
+    ensures ok { IfOk result (λ e. Reads (node_form an_attribute) (view value.now) (placed attribute_view attribute_node e) numbering.old numbering.new) }
+    ensures place { IfErr result (Locates (node_form an_attribute) (view value.now)) }
+{
+    check_keys(alloc, value, &["k", "expr"])?;
+    let operand = expression_member(alloc, numbering, value, "expr")?;
+    Ok(unplaced(attribute_of(word, operand)))
+}
+
+fn read_workgroup_size(
+    alloc: Global,
+    numbering: &mut Numbering,
+    value: &Value,
+) -> Result<AttributeNode, Error>
+    requires { HasWord (codes "workgroup_size") (view value.now) }
+    ensures ok { IfOk result (λ e. Reads (node_form an_attribute) (view value.now) (placed attribute_view attribute_node e) numbering.old numbering.new) }
+    ensures place { IfErr result (Locates (node_form an_attribute) (view value.now)) }
+{
+    check_keys(alloc, value, &["k", "x", "y", "z"])?;
+    let x = expression_member(alloc, numbering, value, "x")?;
+    let y = optional_expression(alloc, numbering, value, "y")?;
+    let z = optional_expression(alloc, numbering, value, "z")?;
+    Ok(unplaced(Attribute::WorkgroupSize { x, y, z }))
+}
+
+fn read_builtin(alloc: Global, value: &Value) -> Result<AttributeNode, Error>
+    requires { HasWord (codes "builtin") (view value.now) }
+    ensures ok { IfOk result (λ e. (names : List (List ℕ)) → Reads (node_form an_attribute) (view value.now) (placed attribute_view attribute_node e) names names) }
+    ensures place { IfErr result (Locates (node_form an_attribute) (view value.now)) }
+{
+    check_keys(alloc, value, &["k", "name"])?;
+    let name = String::from_str(alloc, name_member(alloc, value, "name")?)?;
+    Ok(unplaced(Attribute::Builtin(name)))
+}
+
+fn read_diagnostic(alloc: Global, value: &Value) -> Result<AttributeNode, Error>
+    requires { HasWord (codes "diagnostic") (view value.now) }
+    ensures ok { IfOk result (λ e. (names : List (List ℕ)) → Reads (node_form an_attribute) (view value.now) (placed attribute_view attribute_node e) names names) }
+    ensures place { IfErr result (Locates (node_form an_attribute) (view value.now)) }
+{
+    check_keys(alloc, value, &["k", "severity", "rule"])?;
+    let severity = String::from_str(alloc, text_member(alloc, value, "severity")?)?;
+    let rule = String::from_str(alloc, text_member(alloc, value, "rule")?)?;
+    Ok(unplaced(Attribute::Diagnostic { severity, rule }))
+}
+
+fn read_custom(
+    alloc: Global,
+    numbering: &mut Numbering,
+    value: &Value,
+) -> Result<AttributeNode, Error>
+    requires { HasWord (codes "custom") (view value.now) }
+    ensures ok { IfOk result (λ e. Reads (node_form an_attribute) (view value.now) (placed attribute_view attribute_node e) numbering.old numbering.new) }
+    ensures place { IfErr result (Locates (node_form an_attribute) (view value.now)) }
+{
+    check_keys(alloc, value, &["k", "name", "args"])?;
+    let name = String::from_str(alloc, name_member(alloc, value, "name")?)?;
+    let arguments = optional_expressions(alloc, numbering, value, "args")?;
+    Ok(unplaced(Attribute::Custom { name, arguments }))
+}
+
+fn read_interpolate(alloc: Global, value: &Value) -> Result<AttributeNode, Error>
+    requires { HasWord (codes "interpolate") (view value.now) }
+    ensures ok { IfOk result (λ e. (names : List (List ℕ)) → Reads (node_form an_attribute) (view value.now) (placed attribute_view attribute_node e) names names) }
+    ensures place { IfErr result (Locates (node_form an_attribute) (view value.now)) }
+{
+    check_keys(alloc, value, &["k", "names"])?;
+    let names = names_member(alloc, value, "names")?;
+    Ok(unplaced(Attribute::Interpolate(names)))
+}

@@ -1,0 +1,10 @@
+pub mod Labels
+pub mod Steps
+pub mod Views
+pub mod Plain
+pub mod Words
+pub mod Expressions
+pub mod Parts
+pub mod Statements
+pub mod Roots
+pub mod Units

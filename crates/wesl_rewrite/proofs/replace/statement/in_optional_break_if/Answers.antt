@@ -1,0 +1,16 @@
+use Rattle.std.proofs.Common.{refl, ap, Some}
+use Rattle.wesl_syntax.specs.View.{optional}
+use Rattle.wesl_syntax.specs.View.{break_if_view}
+use Rattle.wesl_syntax.specs.Tree.{kind, present}
+use Rattle.wesl_rewrite.proofs.Steps.{inside, unmoved, viewed}
+use Rattle.wesl_rewrite.proofs.replace.statement.in_optional_break_if.Goals as goal
+
+pub returns-in-None : goal.returns-in-None
+returns-in-None g c =
+    let p = ap (optional break_if_view) c.in-None.is in
+    viewed _ _ p p (unmoved _ refl)
+
+pub returns-in-Some : goal.returns-in-Some
+returns-in-Some g c =
+    let d = c.in_break_if in
+    viewed _ (optional break_if_view (Some d.new.break_if)) (ap (optional break_if_view) c.in-Some.is) refl (inside (kind present) refl refl d.ensures)

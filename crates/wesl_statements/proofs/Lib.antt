@@ -1,0 +1,6 @@
+pub mod Named
+pub mod Worded
+pub mod Members
+pub mod Cases
+pub mod Views
+pub mod Spaces

@@ -1,0 +1,207 @@
+//! Reading imports (WESL, "Imports").
+ghost use Rattle.std.specs.Prelude.{◌≡◌, IfOk, IfErr, codes, is_some, false, true};
+ghost use Rattle.serde_json.specs.Find.{get};
+ghost use Rattle.serde_json.specs.View.{view};
+ghost use Rattle.wesl_syntax.specs.Tree.{binder, import_node, imports, list};
+ghost use Rattle.wesl_syntax.specs.View.{content_view, entry_view, ident_tree, import_view, imports_tree, item_view, listed, optional as option_view, placed};
+ghost use Rattle.wesl_form.specs.Schema.{a_content, an_entry, an_ident, an_import, leaf, list_of, node as node_form};
+ghost use Rattle.wesl_reading.specs.Faults.{Locates, LocatesInside, LocatesMember};
+ghost use Rattle.wesl_reading.specs.Numbers.{Reads, ReadsMany, ReadsMay, ReadsNeeded};
+
+use serde_json::Value;
+use std::alloc::Global;
+use wesl_names::{Error, Ident};
+use wesl_reading::{
+    Numbering, attributes_member, check_keys, name_member, name_of, names_member, optional_path,
+    required, under, under_index, unplaced, wrong,
+};
+use wesl_syntax::{Import, ImportContent, ImportItem, ImportStatement, ImportStatementNode};
+
+/// The imports at `imports`, a list.
+pub(crate) fn imports_member(
+    alloc: Global,
+    numbering: &mut Numbering,
+    value: &Value,
+) -> Result<Vec<ImportStatementNode>, Error>
+    ensures ok { IfOk result (λ e. ReadsMany (codes "imports") (list_of imports an_import) (view value.now) (imports_tree e) numbering.old numbering.new) }
+    ensures place { IfErr result (LocatesInside (codes "imports") (list_of imports an_import) (view value.now)) }
+{
+    let Some(member) = value.get("imports") else {
+        return Ok(Vec::new(alloc));
+    };
+    match read_imports(alloc, numbering, member) {
+        Ok(imports) => Ok(imports),
+        Err(error) => Err(under(alloc, error, "imports")),
+    }
+}
+
+fn read_imports(
+    alloc: Global,
+    numbering: &mut Numbering,
+    value: &Value,
+) -> Result<Vec<ImportStatementNode>, Error>
+    ensures ok { IfOk result (λ e. Reads (list_of imports an_import) (view value.now) (imports_tree e) numbering.old numbering.new) }
+    ensures place { IfErr result (Locates (list_of imports an_import) (view value.now)) }
+{
+    let Some(items) = value.as_array() else {
+        return Err(wrong(alloc));
+    };
+    let mut imports = Vec::with_capacity(alloc, items.len())?;
+    for (index, item) in items.iter().enumerate() {
+        match read_import(alloc, numbering, item) {
+            Ok(import) => imports.push(import)?,
+            Err(error) => return Err(under_index(alloc, error, index)),
+        }
+    }
+    Ok(imports)
+}
+
+fn read_import(
+    alloc: Global,
+    numbering: &mut Numbering,
+    value: &Value,
+) -> Result<ImportStatementNode, Error>
+    ensures ok { IfOk result (λ e. Reads (node_form an_import) (view value.now) (placed import_view import_node e) numbering.old numbering.new) }
+    ensures place { IfErr result (Locates (node_form an_import) (view value.now)) }
+{
+    check_keys(alloc, value, &["attrs", "path", "content"])?;
+    let attributes = attributes_member(alloc, numbering, value, "attrs")?;
+    let path = optional_path(alloc, value)?;
+    let content = content_member(alloc, numbering, value)?;
+    Ok(unplaced(ImportStatement {
+        attributes,
+        path,
+        content,
+    }))
+}
+
+// What is imported, at `content`.
+#[cycle(contents)]
+fn content_member(
+    alloc: Global,
+    numbering: &mut Numbering,
+    value: &Value,
+) -> Result<ImportContent, Error>
+    ensures ok { IfOk result (λ e. ReadsNeeded (codes "content") (node_form a_content) (view value.now) (content_view e) numbering.old numbering.new) }
+    ensures place { IfErr result (LocatesMember (codes "content") (node_form a_content) (view value.now)) }
+{
+    let member = required(alloc, value, "content")?;
+    match read_content(alloc, numbering, member) {
+        Ok(content) => Ok(content),
+        Err(error) => Err(under(alloc, error, "content")),
+    }
+}
+
+// A collection where the object has a list, an item elsewhere.
+#[cycle(contents)]
+fn read_content(
+    alloc: Global,
+    numbering: &mut Numbering,
+    value: &Value,
+) -> Result<ImportContent, Error>
+    ensures ok { IfOk result (λ e. Reads (node_form a_content) (view value.now) (content_view e) numbering.old numbering.new) }
+    ensures place { IfErr result (Locates (node_form a_content) (view value.now)) }
+{
+    if value.get("list").is_some() {
+        read_collection(alloc, numbering, value)
+    } else {
+        let item = read_item(alloc, numbering, value)?;
+        Ok(ImportContent::Item(item))
+    }
+}
+
+#[cycle(contents)]
+fn read_collection(
+    alloc: Global,
+    numbering: &mut Numbering,
+    value: &Value,
+) -> Result<ImportContent, Error>
+    requires { is_some (get (codes "list") (view value.now)) ≡ true }
+    ensures ok { IfOk result (λ e. Reads (node_form a_content) (view value.now) (content_view e) numbering.old numbering.new) }
+    ensures place { IfErr result (Locates (node_form a_content) (view value.now)) }
+{
+    check_keys(alloc, value, &["list"])?;
+    let entries = entries_member(alloc, numbering, value)?;
+    Ok(ImportContent::Collection(entries))
+}
+
+// The entries at `list`.
+#[cycle(contents)]
+fn entries_member(
+    alloc: Global,
+    numbering: &mut Numbering,
+    value: &Value,
+) -> Result<Vec<Import>, Error>
+    ensures ok { IfOk result (λ e. ReadsNeeded (codes "list") (list_of list an_entry) (view value.now) (listed entry_view list e) numbering.old numbering.new) }
+    ensures place { IfErr result (LocatesMember (codes "list") (list_of list an_entry) (view value.now)) }
+{
+    let member = required(alloc, value, "list")?;
+    match read_entries(alloc, numbering, member) {
+        Ok(entries) => Ok(entries),
+        Err(error) => Err(under(alloc, error, "list")),
+    }
+}
+
+#[cycle(contents)]
+fn read_entries(
+    alloc: Global,
+    numbering: &mut Numbering,
+    value: &Value,
+) -> Result<Vec<Import>, Error>
+    ensures ok { IfOk result (λ e. Reads (list_of list an_entry) (view value.now) (listed entry_view list e) numbering.old numbering.new) }
+    ensures place { IfErr result (Locates (list_of list an_entry) (view value.now)) }
+{
+    let Some(items) = value.as_array() else {
+        return Err(wrong(alloc));
+    };
+    let mut entries = Vec::with_capacity(alloc, items.len())?;
+    for (index, item) in items.iter().enumerate() {
+        match read_entry(alloc, numbering, item) {
+            Ok(entry) => entries.push(entry)?,
+            Err(error) => return Err(under_index(alloc, error, index)),
+        }
+    }
+    Ok(entries)
+}
+
+#[cycle(contents)]
+fn read_entry(alloc: Global, numbering: &mut Numbering, value: &Value) -> Result<Import, Error>
+    ensures ok { IfOk result (λ e. Reads (node_form an_entry) (view value.now) (entry_view e) numbering.old numbering.new) }
+    ensures place { IfErr result (Locates (node_form an_entry) (view value.now)) }
+{
+    check_keys(alloc, value, &["path", "content"])?;
+    let path = names_member(alloc, value, "path")?;
+    let content = content_member(alloc, numbering, value)?;
+    Ok(Import { path, content })
+}
+
+// One item, whose own name is bound here only where it has no other.
+fn read_item(alloc: Global, numbering: &mut Numbering, value: &Value) -> Result<ImportItem, Error>
+    requires { is_some (get (codes "list") (view value.now)) ≡ false }
+    ensures ok { IfOk result (λ e. Reads (node_form a_content) (view value.now) (item_view e) numbering.old numbering.new) }
+    ensures place { IfErr result (Locates (node_form a_content) (view value.now)) }
+{
+    check_keys(alloc, value, &["item", "as"])?;
+    let ident = numbering.number(alloc, name_member(alloc, value, "item")?)?;
+    let rename = optional_rename(alloc, numbering, value)?;
+    Ok(ImportItem { ident, rename })
+}
+
+// The name at `as`, an option.
+fn optional_rename(
+    alloc: Global,
+    numbering: &mut Numbering,
+    value: &Value,
+) -> Result<Option<Ident>, Error>
+    ensures ok { IfOk result (λ e. ReadsMay (codes "as") (leaf (an_ident binder)) (view value.now) (option_view (ident_tree binder) e) numbering.old numbering.new) }
+    ensures there { IfOk result (λ e. is_some e ≡ is_some (get (codes "as") (view value.now))) }
+    ensures place { IfErr result (LocatesInside (codes "as") (leaf (an_ident binder)) (view value.now)) }
+{
+    let Some(member) = value.get("as") else {
+        return Ok(None);
+    };
+    match name_of(alloc, member) {
+        Ok(name) => Ok(Some(numbering.number(alloc, name)?)),
+        Err(error) => Err(under(alloc, error, "as")),
+    }
+}

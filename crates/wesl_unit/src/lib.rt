@@ -1,0 +1,12 @@
+//! Reading units from their JSON form: imports, directives and declarations.
+#![tactic(auto)]
+
+mod declaration;
+mod directive;
+mod import;
+#[cfg(test)]
+mod tests;
+mod unit;
+mod words;
+
+pub use unit::unit_of_value;
