@@ -1,6 +1,7 @@
 -- The fault of a refused module is none of the bundle that holds it.
 use Rattle.std.proofs.Common.{◌≡◌, ◌⊎◌, ℕ, List, [], ◌∷◌, Bool, true, false, true≢false, Option, Some, None, bytes_eq, codes, refl, sym, ap, ◌∙◌, subst, inl, inr}
 use Rattle.serde_json.specs.Data.{Data}
+use Rattle.wesl_syntax.specs.Unit.{UnitOf}
 use Rattle.wesl_names.specs.Path.{Text, Origin, absolute, relative, from_package, Path}
 use Rattle.wesl_names.specs.Errors.{IsModuleNotFound, IsRefusedWith, OrMemory, error_of_resolve}
 use Rattle.wesl_names.specs.declared.errors.Error as error
@@ -11,9 +12,12 @@ use Rattle.wesl.specs.Holds.{Holds}
 use Rattle.wesl.specs.Bundle.{Module, unit_at}
 use Rattle.wesl.specs.declared.modules.Modules.{Modules}
 use Rattle.wesl.specs.Line.{memory, IsOfModules}
-use Rattle.wesl.specs.Refused.{IsModuleFault, IsResolverFault}
+use Rattle.wesl.specs.Refused.{IsModuleFault}
 use Rattle.wesl_names.specs.declared.errors.ImportError as import_error
-use Rattle.wesl_link.specs.Refusal.{IsImportFault, IsLinkFault}
+use Rattle.wesl_world.specs.World.{Task}
+use Rattle.wesl_world.specs.Faults as standing
+use Rattle.wesl_link.specs.Refusal.{TellsOfImport, TellsOf}
+use Rattle.wesl_link.specs.Worlds as worlds
 
 -- texts that a test tells apart
 apart : (s t : Text) → bytes_eq s t ≡ false → bytes_eq t t ≡ true → s ≡ t → ⊥
@@ -53,29 +57,26 @@ pub refusal-is-of-modules : (m : Modules) (p : Path) (e : resolve_error.ResolveE
 refusal-is-of-modules m p e held (inl is) = subst (λ x. IsModuleFault (error_of_resolve x)) (sym is) (inl refl)
 refusal-is-of-modules m p e held (inr h) = wrapped e (refused_at p p.origin (unit_at p held.0) e (h held.0 held.1))
 
-pub or_not_found : (p : Path) (message : Text) (e : resolve_error.ResolveError) → OrMemory (IsModuleNotFound p message) e → OrMemory IsResolverFault e
-or_not_found p message e (inl is) = inl is
-or_not_found p message e (inr h) = inr (not_found p message e h)
+-- what a link of these modules is refused with
+module _ (m : Modules) (held : (ms : List Module) × Holds ms m) (hands : Path → UnitOf Text → Type 0) (refuses : Path → resolve_error.ResolveError → Type 0) (same : (p : Path) (e : resolve_error.ResolveError) → refuses p e → Refuses m p e)
+    (root : worlds.Module) (task : Task Path Text) (limit : ℕ) where
+  abbrev IsStanding : standing.Fault Path Text resolve_error.ResolveError → Type 0
+  IsStanding = worlds.IsRefused hands refuses root task limit
 
-pub or_bad_tree : (d : Data) (e : resolve_error.ResolveError) → OrMemory (IsRefusedWith (IsTreeFault d)) e → OrMemory IsResolverFault e
-or_bad_tree d e (inl is) = inl is
-or_bad_tree d e (inr h) = inr (bad_tree d e h)
+  import-is-of-modules : (e : import_error.ImportError) → TellsOfImport IsStanding e → IsModuleFault (error.Import e)
+  import-is-of-modules (import_error.DuplicateSymbol n) h = inr (of_modules (fault_of (error.Import (import_error.DuplicateSymbol n))) refl refl)
+  import-is-of-modules (import_error.ResolveError r) (w, is_world, (p, entered, absent, h)) = inr (refused_at p p.origin (unit_at p held.0) r (same p r h held.0 held.1))
+  import-is-of-modules (import_error.MissingDecl p n) h = inr (of_modules (fault_of (error.Import (import_error.MissingDecl p n))) refl refl)
+  import-is-of-modules (import_error.Private n p) h = inr (of_modules (fault_of (error.Import (import_error.Private n p))) refl refl)
 
-import-is-of-modules : (e : import_error.ImportError) → IsImportFault IsResolverFault e → IsModuleFault (error.Import e)
-import-is-of-modules (import_error.DuplicateSymbol n) h = inr (of_modules (fault_of (error.Import (import_error.DuplicateSymbol n))) refl refl)
-import-is-of-modules (import_error.ResolveError r) h = inr h
-import-is-of-modules (import_error.MissingDecl p n) h = inr (of_modules (fault_of (error.Import (import_error.MissingDecl p n))) refl refl)
-import-is-of-modules (import_error.Private n p) h = inr (of_modules (fault_of (error.Import (import_error.Private n p))) refl refl)
-
--- what a link is refused with
-pub link-is-of-modules : (e : error.Error) → IsLinkFault IsResolverFault e → IsModuleFault e
-link-is-of-modules (error.Import e) h = import-is-of-modules e h
-link-is-of-modules (error.ModuleLimit k) h = inr (of_modules (fault_of (error.ModuleLimit k)) refl refl)
-link-is-of-modules error.Memory h = inl refl
-link-is-of-modules (error.CondComp e) h = absurd h
-link-is-of-modules (error.Resolve e) h = absurd h
-link-is-of-modules (error.Validate e) h = absurd h
-link-is-of-modules error.NotNormalType h = absurd h
-link-is-of-modules error.NotJson h = absurd h
-link-is-of-modules (error.BadTree place) h = absurd h
-link-is-of-modules (error.BadBundle place) h = absurd h
+  pub link-is-of-modules : (e : error.Error) → TellsOf IsStanding e → IsModuleFault e
+  link-is-of-modules (error.Import e) h = import-is-of-modules e h
+  link-is-of-modules (error.ModuleLimit k) h = inr (of_modules (fault_of (error.ModuleLimit k)) refl refl)
+  link-is-of-modules error.Memory h = inl refl
+  link-is-of-modules (error.CondComp e) h = absurd h
+  link-is-of-modules (error.Resolve e) h = absurd h
+  link-is-of-modules (error.Validate e) h = absurd h
+  link-is-of-modules error.NotNormalType h = absurd h
+  link-is-of-modules error.NotJson h = absurd h
+  link-is-of-modules (error.BadTree place) h = absurd h
+  link-is-of-modules (error.BadBundle place) h = absurd h

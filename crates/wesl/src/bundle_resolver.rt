@@ -7,13 +7,12 @@ ghost use Rattle.serde_json.specs.View.{view};
 ghost use Rattle.wesl_syntax.specs.Unit.{spelled};
 ghost use Rattle.wesl_tree.specs.Translation.{unit_view};
 ghost use Rattle.wesl.specs.Hands.{Hands, Refuses, IsReadAs, IsTreeFault, no_dependency};
-ghost use Rattle.wesl.specs.Refused.{IsResolverFault};
 
 use crate::modules::Modules;
 use serde_json::Value;
 use std::alloc::{AllocError, Global};
-use wesl_json::unit_of_value;
 use wesl_link::Resolver;
+use wesl_profile::unit_of_value;
 use wesl_tree::{Diagnostic, Error, ModulePath, PathOrigin, ResolveError, TranslationUnit};
 
 /// The modules of a bundle, each read when it is asked for.
@@ -24,13 +23,10 @@ pub(crate) struct BundleResolver<'b, 'v> {
 
 impl Resolver for BundleResolver<'_, '_> {
     ghost use Rattle.wesl.specs.Hands.{Hands, Refuses};
-    ghost use Rattle.wesl.specs.Refused.{IsResolverFault};
 
     ghost hands = { λ r p u. Hands r.modules.now p u };
 
     ghost refuses = { λ r p e. Refuses r.modules.now p e };
-
-    ghost faults = { IsResolverFault };
 
     fn resolve_module(
         &mut self,
@@ -49,7 +45,6 @@ fn unit_of_module(
 ) -> Result<TranslationUnit, ResolveError>
     ensures handed { IfOk result (λ u. Hands modules.now (path_view path.now) (spelled (unit_view u))) }
     ensures refused { IfErr result (OrMemory (Refuses modules.now (path_view path.now))) }
-    ensures faults { IfErr result (OrMemory IsResolverFault) }
 {
     if let PathOrigin::Package(name) = &path.origin {
         let message = no_dependency(alloc, name.as_str())?;

@@ -10,3 +10,4 @@ pub mod Attributes
 pub mod Declarations
 pub mod Statements
 pub mod Modules
+pub mod Whole

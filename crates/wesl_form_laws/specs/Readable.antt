@@ -1,10 +1,11 @@
 -- Which units are read again once they are written.
-use Rattle.std.specs.Prelude.{◌≡◌, ◌⊎◌, ◌<◌, ℕ, List, [], ◌∷◌, ◌++◌, Bool, true, ◌&&◌, if◌then◌else◌, is_some, Some, None, All}
+use Rattle.std.specs.Prelude.{◌≡◌, ◌⊎◌, ◌<◌, ℕ, List, [], ◌∷◌, ◌++◌, Bool, true, false, ◌&&◌, if◌then◌else◌, is_some, Some, None, All}
 use Rattle.serde_json.specs.Data.{depth}
+use Rattle.serde_json.specs.Written.{has_float}
 use Rattle.wesl_names.specs.Path.{Text, Path}
 use Rattle.wesl_names.specs.PathText.{parse, to_text}
 use Rattle.wesl_syntax.specs.Tree.{ForestOf, end, tree, kind, ident, text, texts, path, literal, diagnostic, diagnostic_directive, unit}
-use Rattle.wesl_syntax.specs.Unit.{forest_of_unit, spelled}
+use Rattle.wesl_syntax.specs.Unit.{UnitView, forest_of_unit, spelled}
 use Rattle.wesl_tree.specs.Translation.{unit_view}
 use Rattle.wesl_tree.specs.declared.unit.TranslationUnit.{TranslationUnit}
 use Rattle.wesl_form.specs.Schema.{SpelledLabel, SpelledForest, node, a_unit, nonempty}
@@ -52,3 +53,7 @@ abbrev pub UnitsReadBack : Type 0
 UnitsReadBack = (u : TranslationUnit) → All HasText (paths (forest_of_unit (spelled (unit_view u))))
     → (n : ℕ) → depth (unit_value (unit_view u)) < n
     → reading whole_form n (node a_unit) (unit_value (unit_view u)) ≡ (if are_readable (kind unit) (forest_of_unit (spelled (unit_view u))) then Some (unit_tree (spelled (unit_view u))) else None)
+
+-- what a unit is written as has no number that is not whole; it has no number at all
+abbrev pub HaveNoFloat : Type 0
+HaveNoFloat = (u : UnitView) → has_float (unit_value u) ≡ false

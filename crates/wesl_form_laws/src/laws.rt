@@ -1,8 +1,13 @@
 //! Laws of whole units.
-ghost use Rattle.wesl_form_laws.specs.Readable.{UnitsReadBack};
+ghost use Rattle.wesl_form_laws.specs.Readable.{HaveNoFloat, UnitsReadBack};
 
 /// A unit whose path texts each say the same path or none is read, once it is written, as it was, and exactly where its
 /// names are nonempty, its literals are as the format says and its path texts say paths.
 pub fn law_of_units()
     ensures { UnitsReadBack }
+{}
+
+/// What a unit is written as has no number that is not whole.
+pub fn law_of_numbers()
+    ensures { HaveNoFloat }
 {}

@@ -3,10 +3,7 @@ use crate::{unit_of_value, value_of_unit};
 use serde_json::Value;
 use std::alloc::Global;
 use std::test::Fail;
-use wesl_tree::{
-    Attribute, CompoundStatement, Error, Expression, Function, GlobalDeclaration, GlobalDirective,
-    Names, Span, Spanned, Statement, TranslationUnit, TypeExpression,
-};
+use wesl_tree::Error;
 
 // What is written of the unit that a text stands for, or the place where it stands for none.
 fn answer(alloc: Global, text: &str) -> Result<String, Fail> {
@@ -23,148 +20,64 @@ fn is_answered(alloc: Global, text: &str, expected: &str) -> Result<bool, Fail> 
 }
 
 #[test]
-fn units_are_written_as_they_were_read(rt: HostRuntime) -> Result<(), Fail> {
+fn each_form_is_written_as_it_was_read(rt: HostRuntime) -> Result<(), Fail> {
     for text in [
         r#"{}"#,
-        r#"{"declarations":[{"init":{"k":"binary","left":"one","op":"+","right":{"k":"lit","text":"2"}},"k":"const","name":"total"}],"imports":[{"content":{"as":"one","item":"two"},"path":"package::util"},{"content":{"item":"k"},"path":"super::super::a"}]}"#,
-        r#"{"declarations":[{"expr":{"expr":{"expr":{"args":[{"args":[],"name":"x"},true],"name":"y"},"k":"paren"},"k":"unary","op":"!"},"k":"assert"},{"k":"const","name":"x","ty":"f32"}]}"#,
+        r#"{"imports":[{"attrs":["publish",{"expr":"a","k":"if"}],"content":{"list":[{"content":{"item":"a"}},{"content":{"list":[{"content":{"as":"e","item":"d"}}]},"path":["b","c"]}]},"path":"package::m"},{"content":{"item":"g"},"path":"self::h"},{"content":{"item":"k"},"path":"super::super::a"},{"content":{"item":"k"},"path":"a/b::c"}]}"#,
+        r#"{"directives":[{"k":"enable","names":["f16"]},{"attrs":["else"],"k":"requires"},{"k":"diagnostic","rule":"","severity":"off"}]}"#,
+        r#"{"declarations":[{"k":"void"},{"attrs":["const"],"expr":true,"k":"assert"},{"k":"alias","name":"a","ty":{"args":["f32",{"k":"lit","text":"1"}],"name":"vec3"}},{"k":"struct","members":[{"attrs":[{"expr":"n","k":"align"},{"expr":"n","k":"size"},{"expr":"n","k":"location"}],"name":"m","ty":"f32"}],"name":"s"}]}"#,
+        r#"{"declarations":[{"init":"d","k":"const","name":"c"},{"attrs":[{"expr":"n","k":"id"}],"k":"override","name":"o","ty":"f32"},{"k":"let","name":"l"},{"k":"var","name":"v"},{"access":"read_write","attrs":[{"expr":"n","k":"group"},{"expr":"n","k":"binding"}],"k":"var","name":"v","space":"storage"},{"init":"x","k":"var","name":"v","space":"private","ty":"f32"}]}"#,
+        r#"{"declarations":[{"attrs":["compute","vertex","fragment","must_use",{"k":"workgroup_size","x":"a","z":"b"}],"body":{},"k":"fn","name":"f","params":[{"attrs":["invariant",{"k":"builtin","name":"p"},{"k":"interpolate","names":["flat"]}],"name":"x","ty":"T"}],"ret":{"name":"T","path":"package::m"},"ret_attrs":[{"args":[],"k":"custom","name":"c"},{"k":"custom","name":"d"},{"expr":"n","k":"blend_src"}]}]}"#,
+        r#"{"declarations":[{"body":{"attrs":[{"k":"diagnostic","rule":"r","severity":"off"}],"stmts":[{"k":"void"},{"k":"block"},{"k":"assign","lhs":"a","op":"+=","rhs":{"base":"a","index":"i","k":"index"}},{"expr":"a","k":"inc"},{"expr":"a","k":"dec"},{"k":"break"},{"k":"continue"},{"k":"discard"},{"k":"return"},{"expr":{"args":[],"name":"x"},"k":"return"},{"call":{"args":["a",{"k":"call","ty":"h"}],"ty":"g"},"k":"call"},{"init":{"expr":{"expr":{"base":"a","k":"field","name":"x"},"k":"paren"},"k":"unary","op":"-"},"k":"let","name":"l"},{"init":{"k":"binary","left":"a","op":"<<","right":"b"},"k":"const","name":"m"},{"expr":false,"k":"assert"}]},"k":"fn","name":"f"}]}"#,
+        r#"{"declarations":[{"body":{"stmts":[{"body":{},"cond":"a","elifs":[{"attrs":[{"expr":"b","k":"elif"}],"body":{},"cond":"a"}],"else":{"attrs":["else"],"body":{}},"k":"if"},{"body_attrs":["else"],"clauses":[{"body":{},"cases":["a",{"k":"default"},{"k":"lit","text":"1"},true]}],"expr":"a","k":"switch"},{"body":{},"continuing":{"body":{},"break_if":{"expr":"a"}},"k":"loop"},{"body":{},"cond":"i","init":{"k":"var","name":"i"},"k":"for","update":{"expr":"i","k":"inc"}},{"body":{},"k":"for"},{"body":{},"cond":"a","k":"while"}]},"k":"fn","name":"f"}]}"#,
+        r#"{"declarations":[{"body":{},"k":"fn","name":"f"}]}"#,
+        r#"{"declarations":[{"expr":{"args":[],"name":"x"},"k":"assert"}]}"#,
     ] {
         assert!(rt; is_answered(rt.alloc(), text, text)?);
     }
-    assert!(rt;
-        is_answered(
-            rt.alloc(),
+    Ok(())
+}
+
+#[test]
+fn short_forms_are_written_and_empty_lists_are_not(rt: HostRuntime) -> Result<(), Fail> {
+    let rows = [
+        (
             r#"{"imports":[],"declarations":[{"k":"assert","expr":{"name":"x"}}]}"#,
-            r#"{"declarations":[{"expr":"x","k":"assert"}]}"#
-        )?
-    );
-    Ok(())
-}
-
-#[test]
-fn faults_tell_their_places(rt: HostRuntime) -> Result<(), Fail> {
-    let alloc = rt.alloc();
-    assert!(rt; is_answered(alloc, r#"[]"#, "")?);
-    assert!(rt; is_answered(alloc, r#"{"directives":[]}"#, "")?);
-    assert!(rt;
-        is_answered(
-            alloc,
-            r#"{"declarations":[{"k":"const"}]}"#,
-            "/declarations/0"
-        )?
-    );
-    assert!(rt;
-        is_answered(
-            alloc,
-            r#"{"declarations":[{"k":"struct","name":"s"}]}"#,
-            "/declarations/0/k"
-        )?
-    );
-    assert!(rt;
-        is_answered(
-            alloc,
-            r#"{"declarations":[{"k":"const","name":"x","a/b":1}]}"#,
-            "/declarations/0"
-        )?
-    );
-    assert!(rt;
-        is_answered(
-            alloc,
-            r#"{"declarations":[{"k":"const","name":"x","init":1}]}"#,
-            "/declarations/0/init"
-        )?
-    );
-    assert!(rt;
-        is_answered(
-            alloc,
-            r#"{"declarations":[{"k":"const","name":""}]}"#,
-            "/declarations/0/name"
-        )?
-    );
-    assert!(rt;
-        is_answered(
-            alloc,
-            r#"{"declarations":[{"k":"assert","expr":{"k":"lit","text":"true"}}]}"#,
-            "/declarations/0/expr/text"
-        )?
-    );
-    assert!(rt;
-        is_answered(
-            alloc,
-            r#"{"declarations":[{"k":"assert","expr":{"k":"binary","op":"+","left":"a","right":{"name":"b","args":[null]}}}]}"#,
-            "/declarations/0/expr/right/args/0"
-        )?
-    );
-    assert!(rt;
-        is_answered(
-            alloc,
-            r#"{"imports":[{"path":"a:b","content":{"item":"c"}}]}"#,
-            "/imports/0/path"
-        )?
-    );
-    assert!(rt;
-        is_answered(
-            alloc,
-            r#"{"imports":[{"content":{"item":"c"}}]}"#,
-            "/imports/0"
-        )?
-    );
-    Ok(())
-}
-
-fn spanned<T>(node: T) -> Spanned<T> {
-    Spanned {
-        node,
-        span: Span { start: 1, end: 2 },
+            r#"{"declarations":[{"expr":"x","k":"assert"}]}"#,
+        ),
+        (
+            r#"{"declarations":[{"k":"fn","name":"f","params":[],"body":{"stmts":[],"attrs":[]}}],"directives":[]}"#,
+            r#"{"declarations":[{"body":{},"k":"fn","name":"f"}]}"#,
+        ),
+    ];
+    for (text, expected) in rows {
+        assert!(rt; is_answered(rt.alloc(), text, expected)?);
     }
-}
-
-// `enable f16; @const fn f() { return x<>; ; }`
-fn unit_of_a_function(alloc: Global) -> Result<TranslationUnit, Fail> {
-    let mut names = Names::new(alloc);
-    let function = names.add("f")?;
-    let ty = TypeExpression {
-        path: None,
-        ident: names.add("x")?,
-        template_args: Some(Vec::new(alloc)),
-    };
-    let statements = vec![in alloc;
-        spanned(Statement::Return {
-            attributes: Vec::new(alloc),
-            expression: Some(spanned(Expression::TypeOrIdentifier(ty))),
-        }),
-        spanned(Statement::Void),
-    ]?;
-    let body = CompoundStatement {
-        attributes: Vec::new(alloc),
-        statements,
-    };
-    let function = GlobalDeclaration::Function(Function {
-        attributes: vec![in alloc; spanned(Attribute::Const)]?,
-        ident: function,
-        parameters: Vec::new(alloc),
-        return_attributes: Vec::new(alloc),
-        return_type: None,
-        body,
-    });
-    let enable = GlobalDirective::Enable {
-        attributes: Vec::new(alloc),
-        names: vec![in alloc; String::from_str(alloc, "f16")?]?,
-    };
-    let directives = vec![in alloc; spanned(enable)]?;
-    let declarations = vec![in alloc; spanned(function)]?;
-    let unit = TranslationUnit::from_parts(names, Vec::new(alloc), directives, declarations);
-    Ok(unit.ok_or(Error::Memory)?)
+    Ok(())
 }
 
 #[test]
-fn functions_are_written(rt: HostRuntime) -> Result<(), Fail> {
-    let alloc = rt.alloc();
-    let unit = unit_of_a_function(alloc)?;
-    let text = value_of_unit(alloc, &unit)?.to_string(alloc)?;
-    assert!(rt;
-        text.as_str()
-            == r#"{"declarations":[{"attrs":["const"],"body":{"stmts":[{"expr":{"args":[],"name":"x"},"k":"return"},{"k":"void"}]},"k":"fn","name":"f"}],"directives":[{"k":"enable","names":["f16"]}]}"#
-    );
+fn values_of_no_unit_are_refused_at_their_place(rt: HostRuntime) -> Result<(), Fail> {
+    let rows = [
+        (
+            r#"{"declarations":[{"k":"fn","name":"f"}]}"#,
+            "/declarations/0",
+        ),
+        (
+            r#"{"declarations":[{"k":"const","name":"c","init":{"k":"lit","text":1}}]}"#,
+            "/declarations/0/init/text",
+        ),
+        (
+            r#"{"declarations":[{"k":"const","name":"x","a/b":1}]}"#,
+            "/declarations/0",
+        ),
+        (
+            r#"{"declarations":[{"k":"assert","expr":{"k":"lit","text":"true"}}]}"#,
+            "/declarations/0/expr/text",
+        ),
+    ];
+    for (text, expected) in rows {
+        assert!(rt; is_answered(rt.alloc(), text, expected)?);
+    }
     Ok(())
 }

@@ -1,5 +1,13 @@
-pub mod Knowing
 pub mod Below
 pub mod NodeViews
 pub mod Within
+pub mod Carried
+pub mod Built
 pub mod Refusing
+pub mod Readying
+pub mod Reaching
+pub mod Kept
+pub mod Keeping
+pub mod Taking
+pub mod Reordered
+pub mod Found

@@ -1,6 +1,6 @@
-pub mod Asked
-pub mod Known
-pub mod NumbersView
-pub mod Base
+pub mod Handing
+pub mod Worlds
+pub mod Taking
+pub mod Resolved
 pub mod Assembly
 pub mod Refusal

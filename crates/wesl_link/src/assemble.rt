@@ -7,7 +7,6 @@ ghost use Rattle.wesl_link.specs.Assembly.{IsWithin};
 ghost use Rattle.wesl_world.specs.Keeping.{IsHeld};
 
 use crate::meanings::{Meaning, Meanings};
-use crate::numbers::Numbers;
 use crate::relink::Origin;
 use crate::relink_global::{linked_directive, linked_global};
 use indexmap::IndexMap;
@@ -16,6 +15,7 @@ use wesl_names::{Error, Names};
 use wesl_syntax::{
     GlobalDeclaration, GlobalDeclarationNode, GlobalDirective, GlobalDirectiveNode, Spanned,
 };
+use wesl_table::numbers::Numbers;
 use wesl_tree::TranslationUnit;
 use wesl_world::ids::{NameId, PathId};
 use wesl_world::link::Linked;
@@ -238,7 +238,7 @@ impl<'a> Printing<'a> {
             Meaning::Free(text) => text,
             Meaning::Symbol(symbol) => match self.mangled.get(&symbol) {
                 Some(name) => name.as_str(),
-                None => self.numbers.names.get(symbol.name).unwrap_or(""),
+                None => self.numbers.names.name(symbol.name).unwrap_or(""),
             },
         }
     }

@@ -1,19 +1,17 @@
 //! Linking: many modules into one unit (WESL, "Imports").
 #![tactic(auto)]
 
-mod aims;
 mod assemble;
-mod imports;
+mod loaded;
 mod meanings;
-mod mentions;
 mod modules;
-mod numbers;
-mod references;
+mod refusals;
 mod relink;
 mod relink_global;
 mod resolutions;
+mod resolve;
 mod resolver;
-mod table;
 
-pub use resolutions::{Resolutions, resolve_lazy};
+pub use resolutions::Resolutions;
+pub use resolve::resolve_lazy;
 pub use resolver::Resolver;

@@ -5,12 +5,12 @@ ghost use Rattle.wesl_syntax.specs.Tree.{tree_below, list};
 ghost use Rattle.wesl_syntax.specs.View.{expression_view, expression_tree, type_view, call_view, optional, listed, argument_view};
 
 use crate::meanings::{Meaning, Meanings};
-use crate::numbers::spelling;
 use std::alloc::Global;
 use wesl_names::{Error, Ident, ModulePath, Names, Span};
 use wesl_syntax::{
     Expression, ExpressionNode, FunctionCall, Literal, Spanned, TemplateArg, TypeExpression,
 };
+use wesl_table::numbers::spelling;
 use wesl_world::ids::{NameId, PathId};
 use wesl_world::symbols::Symbol;
 

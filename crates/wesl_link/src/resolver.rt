@@ -18,9 +18,6 @@ pub trait Resolver {
     /// The path may be refused with the error.
     ghost refuses: { Self → Path → ResolveError → Type 0 };
 
-    /// What its refusals are, whatever the path.
-    ghost faults: { ResolveError → Type 0 };
-
     /// The unit of the module at a path, which is not relative. Refused where the resolver has no such module or
     /// cannot read it, and for want of memory.
     fn resolve_module(
@@ -31,7 +28,6 @@ pub trait Resolver {
         requires { is_relative (path_view path.now) ≡ false }
         ensures handed { IfOk result (λ u. hands self.old (path_view path.now) (spelled (unit_view u))) }
         ensures refused { IfErr result (OrMemory (refuses self.old (path_view path.now))) }
-        ensures faults { IfErr result (OrMemory faults) }
         ensures hands_as_before { (p : Path) (u : UnitOf Text) → hands self.new p u ↔ hands self.old p u }
         ensures refuses_as_before { (p : Path) (e : ResolveError) → refuses self.new p e ↔ refuses self.old p e };
 }
@@ -40,8 +36,6 @@ impl<T: Resolver> Resolver for &mut T {
     ghost hands = { λ r. T.hands r.now };
 
     ghost refuses = { λ r. T.refuses r.now };
-
-    ghost faults = { T.faults };
 
     fn resolve_module(
         &mut self,

@@ -1,6 +1,0 @@
-use Rattle.wesl_link.specs.Known.{Grows, AreKnownImports}
-use Rattle.wesl_link.specs.NumbersView.{held_by}
-use Rattle.wesl_link.proofs.imports.Importer.imports.Given as goal
-
-abbrev pub invariant-loop-statement : goal.invariant-loop-statement
-invariant-loop-statement l = AreKnownImports (held_by l.numbers) l.found.items × Grows (held_by l.initial.numbers) (held_by l.numbers)

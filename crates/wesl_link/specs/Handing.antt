@@ -1,0 +1,52 @@
+-- The modules that a link has from a resolver, under the numbers of the link.
+use Rattle.std.specs.Prelude.{◌≡◌, List, Contains}
+use Rattle.wesl_names.specs.Path.{Text, Path}
+use Rattle.wesl_names.specs.declared.errors.ResolveError.{ResolveError}
+use Rattle.wesl_syntax.specs.Unit.{UnitOf, spelled}
+use Rattle.wesl_tree.specs.Translation.{unit_view}
+use Rattle.wesl_tree.specs.declared.unit.TranslationUnit.{TranslationUnit}
+use Rattle.wesl_world.specs.declared.ids.PathId.{PathId}
+use Rattle.wesl_world.specs.declared.ids.NameId.{NameId}
+use Rattle.wesl_world.specs.Tables.{Table}
+use Rattle.wesl_world.specs.Keyed.{Puts}
+use Rattle.wesl_table.specs.Tables.{table_at}
+use Rattle.wesl_table.specs.Numbering.{Numbering, Grows, PathAt, IsNumbered}
+
+-- what is handed out and refused at least here, is so there
+pub record Follows {P U E : Type 0} (handed : P → U → Type 0) (refused : P → E → Type 0) (handed_there : P → U → Type 0) (refused_there : P → E → Type 0) : Type 0 where
+  pub hands : (p : P) (u : U) → handed p u → handed_there p u
+  pub refuses : (p : P) (e : E) → refused p e → refused_there p e
+
+-- no path has two units
+abbrev pub HaveOne : List (PathId × TranslationUnit) → Type 0
+HaveOne units = (p : PathId) (u w : TranslationUnit) → Contains units (p, u) → Contains units (p, w) → u ≡ w
+
+-- the entries after a unit is put at a path: it has that unit alone, and each other path keeps its own
+abbrev pub PutsUnit : List (PathId × TranslationUnit) → PathId → TranslationUnit → List (PathId × TranslationUnit) → Type 0
+PutsUnit old p unit new = Puts old p unit new
+
+-- the path has a number
+abbrev pub IsReadyPath : Numbering → PathId → Type 0
+IsReadyPath numbering p = (q : Path) × PathAt numbering p q
+
+-- each unit was handed out at the path that it is kept for
+abbrev pub AreHanded : (Path → UnitOf Text → Type 0) → Numbering → List (PathId × TranslationUnit) → Type 0
+AreHanded hands numbering units = (p : PathId) (u : TranslationUnit) → Contains units (p, u) → (q : Path) × PathAt numbering p q × hands q (spelled (unit_view u))
+
+-- the table is that of the unit that is kept for the path, which was handed out there
+abbrev pub IsHandedTable : (Path → UnitOf Text → Type 0) → Numbering → List (PathId × TranslationUnit) → PathId → Table PathId NameId → Type 0
+IsHandedTable hands numbering units p t =
+    (q : Path) × (unit : TranslationUnit) × PathAt numbering p q × Contains units (p, unit) × hands q (spelled (unit_view unit))
+    × IsNumbered numbering t (table_at q (spelled (unit_view unit)))
+
+-- the path of that number is refused with the error
+abbrev pub IsRefusedPath : (Path → ResolveError → Type 0) → Numbering → PathId → ResolveError → Type 0
+IsRefusedPath refuses numbering p e = (q : Path) × PathAt numbering p q × refuses q e
+
+-- What stays so as modules are loaded: the resolver hands out and refuses what it did, and units and numbers are kept.
+pub record Keeps (handed : Path → UnitOf Text → Type 0) (refused : Path → ResolveError → Type 0) (handed_there : Path → UnitOf Text → Type 0) (refused_there : Path → ResolveError → Type 0)
+    (first numbering : Numbering) (units : List (PathId × TranslationUnit)) : Type 0 where
+  pub follows : Follows handed refused handed_there refused_there
+  pub grows : Grows first numbering
+  pub one_unit : HaveOne units
+  pub handed_out : AreHanded handed_there numbering units

@@ -1,0 +1,233 @@
+-- What is read of one member, of a node, and of a value that is no object.
+use Rattle.std.proofs.Common.{◌≡◌, ◌⊎◌, ◌&&◌, nat_lt, ℕ, suc, zero, ◌+◌, ◌<◌, ◌≤◌, List, [], ◌∷◌, ◌++◌, Bool, true, false, if◌then◌else◌, length, get_or, slice_get, Option, Some, None, option_map, option_and_then, codes, refl, sym, ap, ◌∙◌, subst, inl, inr, ⊎_elim, append-nil, length-append, arith, rules}
+use Rattle.std.specs.Option.{is_some}
+use Rattle.std.proofs.lemmas.Bool.Decides.{nat_tests}
+use Rattle.serde_json.specs.Data.{Data, null, boolean, number, string, array, object, Members, depth}
+use Rattle.serde_json.specs.Find.{get, as_bool, as_object, as_str}
+use Rattle.wesl_names.specs.Path.{Text}
+use Rattle.wesl_syntax.specs.Tree.{Kind, Role, reference, Label, kind, at, ident, truth, Tree, Forest, end, tree, before, leaf as leaf_tree, forest_of, branch, identifiers, respell, respell_forest, respell_label, present, absent, expression_node, literal, type_or_identifier, type_expression, template_argument}
+use Rattle.wesl_syntax.specs.Unit.{name_in}
+use Rattle.wesl_form.specs.Schema.{Spelled, SpelledForest, SpelledLabel, leaf_of, labelled, nonempty, look, Form, leaf, list_of, node, Leaf, an_ident, Name, a_type, an_expression, a_template_argument, Head, fixed, chosen, Row, nothing, marked, inner, Node, within, under}
+use Rattle.wesl_form.specs.Nodes.{shorts_of, short_type, short_expression, by_word}
+use Rattle.wesl_form.specs.Reading.{reading, leaf_label, name_in as name_of, word_in, needed, optional, or_empty, empty_of, children_in, node_in, label_in, has_only, known_keys}
+use Rattle.wesl_form.specs.Units.{NumberedFrom, HasNoSpan, same_number}
+use Rattle.wesl_form.specs.Profile.{first_profile, first_nodes, first_expression, first_expression_words, lacking}
+use Rattle.wesl_profile.specs.Forms.{HasWord, expression_of, literal_row, parenthesized_row, unary_row, binary_row, type_row, type_or_identifier_row}
+use Rattle.wesl_profile.specs.Numbers.{Begins, IsNumbered, IsReadAs, AreReadAs, ReadsForm, ReadsMember, ReadsOptional, ReadsList, ReadsRow, ReadsNode, IsReadPlain, IsReadType}
+use Rattle.wesl_profile.proofs.Depths.{get-depth}
+use Rattle.wesl_profile.proofs.Rows.{IsPlain, plain-kind, plain-at, over, and-then, none-read, Begins-same, row-nothing, row-inner}
+use Rattle.wesl_profile.proofs.Lists.{one-up}
+
+-- ---- names
+
+Begins-number : (old new : List Text) (s : Text) (i : ℕ) → IsNumbered old s i new → Begins old new
+Begins-number old new s i h = ⊎_elim (λ e. ([], e.0 ∙ sym (append-nil old))) (λ e. (s ∷ [], e.0)) h.grows
+
+numbered-case : (old new : List Text) (s : Text) (i : ℕ) → (new ≡ old) × (i < length old) ⊎ (new ≡ old ++ s ∷ []) × (i ≡ length old) → NumberedFrom (length old) (i ∷ []) (length new)
+numbered-case old new s i (inl e) = inl (e.1, ap length e.0)
+numbered-case old new s i (inr e) = inr (e.1, ap length e.0 ∙ length-append old (s ∷ []))
+
+number-below : (old new : List Text) (s : Text) (i n : ℕ) → (new ≡ old) × (i < length old) ⊎ (new ≡ old ++ s ∷ []) × (i ≡ length old) → length new ≤ n → nat_lt i n ≡ true
+number-below old new s i n (inl e) low = let same : length new ≡ length old = ap length e.0 in let less : i < n = omega arith in grind (arith, nat_tests)
+number-below old new s i n (inr e) low = let grown : length new ≡ length old + 1 = ap length e.0 ∙ length-append old (s ∷ []) in let less : i < n = omega arith in grind (arith, nat_tests)
+
+name-begin : (xs ys : List Text) (i : ℕ) (s : Text) → slice_get xs i ≡ Some s → get_or (xs ++ ys) i [] ≡ s
+name-begin [] ys i s h = cc
+name-begin (x ∷ xs) ys zero s h = cc
+name-begin (x ∷ xs) ys (suc i) s h = name-begin xs ys i s h
+
+pub name-later : (new names : List Text) (i : ℕ) (s : Text) → slice_get new i ≡ Some s → Begins new names → name_in names i ≡ s
+name-later new names i s named later = ap (λ ns. get_or ns i []) later.1 ∙ name-begin new later.0 i s named
+
+-- ---- leaves
+
+leaf-case : {A : Type 0} (read : Data → Option A) (l : Leaf) (g : A → SpelledLabel) (k : Text) (d : Data) (x : A) (o : Option Data) → ((v : Data) → leaf_label l v ≡ option_map g (read v)) → get k d ≡ o → option_and_then read o ≡ Some x → (n : ℕ) → depth d ≤ n → needed (reading first_profile n (leaf l)) o ≡ Some (leaf_of (g x))
+leaf-case read l g k d x None agree found h n low = cc
+leaf-case read l g k d x (Some e) agree found h zero low = let below = get-depth k d e found in absurd (omega arith)
+leaf-case read l g k d x (Some e) agree found h (suc n) low = ap (option_map leaf_of) (agree e ∙ ap (option_map g) h)
+
+leaf-read : {A : Type 0} (read : Data → Option A) (l : Leaf) (g : A → SpelledLabel) (k : Text) (d : Data) (x : A) → ((v : Data) → leaf_label l v ≡ option_map g (read v)) → option_and_then read (get k d) ≡ Some x → (n : ℕ) → depth d ≤ n → needed (reading first_profile n (leaf l)) (get k d) ≡ Some (leaf_of (g x))
+leaf-read read l g k d x agree h n low = leaf-case read l g k d x (get k d) agree refl h n low
+
+-- a name that gets its number
+pub member-ident : (r : Role) (k : Text) (d : Data) (s : Text) (i : ℕ) (old new : List Text) → option_and_then name_of (get k d) ≡ Some s → IsNumbered old s i new → ReadsMember k (leaf (an_ident r)) d (leaf_tree (ident r i)) old new
+member-ident r k d s i old new h num = record {
+  spelled = λ n names low later. leaf-read name_of (an_ident r) (ident r) k d s (λ v. refl) h n low ∙ ap (λ x. Some (leaf_of (ident r x))) (sym (name-later new names i s num.named later));
+  numbered = numbered-case old new s i num.grows;
+  spanless = refl;
+  closed = λ n low. ap (λ x. (x && true) && true) (number-below old new s i n num.grows low);
+  begins = Begins-number old new s i num;
+}
+
+-- any other leaf
+pub member-leaf : {A : Type 0} (read : Data → Option A) (l : Leaf) (g : A → SpelledLabel) (k : Text) (d : Data) (x : A) (lab : Label) (a : List Text) → ((v : Data) → leaf_label l v ≡ option_map g (read v)) → IsPlain lab (g x) → option_and_then read (get k d) ≡ Some x → ReadsMember k (leaf l) d (leaf_tree lab) a a
+member-leaf read l g k d x lab a agree plain h =
+    over (λ n. Some end) (λ n. needed (reading first_profile n (leaf l)) (get k d)) (depth d) lab (g x) end a a plain (λ n us low e. leaf-read read l g k d x agree h n low ∙ ap (λ cs. Some (record { label = g x; children = cs })) (cc)) (none-read (λ n. Some end) (depth d) a (λ n. refl))
+
+-- ---- members that are trees
+
+pub member-form : (k : Text) (f : Form) (d e : Data) (t : Tree) (a b : List Text) → get k d ≡ Some e → ReadsForm f e t a b → ReadsMember k f d t a b
+member-form k f d e t a b found h =
+    let below = get-depth k d e found in
+    record {
+      spelled = λ n names low later. ap (needed (reading first_profile n f)) found ∙ h.spelled n names (omega arith) later;
+      numbered = h.numbered;
+      spanless = h.spanless;
+      closed = h.closed;
+      begins = h.begins;
+    }
+
+present-step : (o : Option Spelled) (us : SpelledForest) → option_map (λ u. before u end) o ≡ Some us → option_map {U = Spelled} (λ t. record { label = kind present; children = before t end }) o ≡ Some (record { label = kind present; children = us })
+present-step None us h = cc
+present-step (Some u) us h = let same : before u end ≡ us = cc in ap (λ cs. Some (record { label = kind present; children = cs })) same
+
+pub member-present : (k : Text) (f : Form) (d e : Data) (t : Tree) (a b : List Text) → get k d ≡ Some e → ReadsForm f e t a b → ReadsOptional k f d (branch present (t ∷ [])) a b
+member-present k f d e t a b found h =
+    let below = get-depth k d e found in
+    let read = λ (n : ℕ). reading first_profile n f e in
+    let children : AreReadAs (λ n. option_map (λ u. before u end) (read n)) (depth d) (before t end) a b = record {
+      spelled = λ n names low later. ap (option_map (λ u. before u end)) (h.spelled n names (omega arith) later);
+      numbered = h.numbered;
+      spanless = ap (λ u. before u end) h.spanless;
+      closed = h.closed;
+      begins = h.begins;
+    } in
+    over (λ n. option_map (λ u. before u end) (read n)) (λ n. optional (reading first_profile n f) (get k d)) (depth d) (kind present) (kind present) (before t end) a b (plain-kind present) (λ n us low is. ap (optional (reading first_profile n f)) found ∙ present-step (read n) us is) children
+
+pub member-absent : (k : Text) (f : Form) (d : Data) (a : List Text) → get k d ≡ None → ReadsOptional k f d (leaf_tree (kind absent)) a a
+member-absent k f d a none =
+    over (λ n. Some end) (λ n. optional (reading first_profile n f) (get k d)) (depth d) (kind absent) (kind absent) end a a (plain-kind absent) (λ n us low e. ap (optional (reading first_profile n f)) none ∙ ap (λ cs. Some (record { label = kind absent; children = cs })) (cc)) (none-read (λ n. Some end) (depth d) a (λ n. refl))
+
+-- ---- words
+
+word-case : (w : Text) (o : Option Data) → option_and_then as_str o ≡ Some w → look {A = SpelledLabel} ((w, kind present) ∷ []) w ≡ Some (kind present) → option_and_then (word_in ((w, kind present) ∷ [])) o ≡ Some (kind present)
+word-case w None h same = cc
+word-case w (Some e) h same = ap (option_and_then (look ((w, kind present) ∷ []))) h ∙ same
+
+pub word-label : (w : Text) (d : Data) → HasWord w d → look {A = SpelledLabel} ((w, kind present) ∷ []) w ≡ Some (kind present) → label_in (chosen (codes "k") ((w, kind present) ∷ [])) d ≡ Some (kind present)
+word-label w d h same = word-case w (get (codes "k") d) h same
+
+-- ---- nodes
+
+-- an object is read by its members
+pub node-of-row : (nd : Node) (d : Data) (l : Label) (s : SpelledLabel) (ts : Forest) (a b : List Text) → IsPlain l s → label_in nd.head d ≡ Some s → has_only (known_keys nd.row d) d ≡ true → ReadsRow nd.row d ts a b → ReadsNode nd d (record { label = l; children = ts }) a b
+node-of-row nd d l s ts a b plain head known h =
+    over (λ n. children_in (reading first_profile n) nd.row d) (λ n. node_in (reading first_profile n) d nd) (depth d) l s ts a b plain (λ n us low is. rw (known, head, is)) h
+
+-- one level up
+pub form-of-node : (m : Name) (nd : Node) (d : Data) (t : Tree) (a b : List Text) → is_some (as_object d) ≡ true → first_nodes m d ≡ Some nd → ReadsNode nd d t a b → ReadsForm (node m) d t a b
+form-of-node m nd d t a b object_like is h = one-up (node m) d t a b (record {
+  spelled = λ n names low later. rw (object_like, is) (h.spelled n names low later);
+  numbered = h.numbered;
+  spanless = h.spanless;
+  closed = h.closed;
+  begins = h.begins;
+})
+
+-- a value that is no object
+pub form-of-short : (m : Name) (d : Data) (t : Tree) (a b : List Text) → is_some (as_object d) ≡ false → IsReadAs (λ n. shorts_of m d) 0 t a b → ReadsForm (node m) d t a b
+form-of-short m d t a b plain h = one-up (node m) d t a b (record {
+  spelled = λ n names low later. rw plain (h.spelled n names (omega arith) later);
+  numbered = h.numbered;
+  spanless = h.spanless;
+  closed = h.closed;
+  begins = h.begins;
+})
+
+-- ---- types and expressions
+
+abbrev pub plain_type : ℕ → Tree
+plain_type i = branch type_expression (leaf_tree (kind absent) ∷ leaf_tree (ident reference i) ∷ leaf_tree (kind absent) ∷ [])
+
+abbrev pub as_expression : Tree → Tree
+as_expression t = record { label = at expression_node 0 0; children = forest_of (t ∷ []) }
+
+pub plain-type : (d : Data) (s : Text) (i : ℕ) (old new : List Text) → name_of d ≡ Some s → IsNumbered old s i new → IsReadPlain d (plain_type i) old new
+plain-type d s i old new h num = record {
+  spelled = λ n names low later. ap (option_map (λ x. branch type_expression (leaf_of (kind absent) ∷ leaf_of (ident reference x) ∷ leaf_of (kind absent) ∷ []))) (h ∙ ap Some (sym (name-later new names i s num.named later)));
+  numbered = numbered-case old new s i num.grows;
+  spanless = refl;
+  closed = λ n low. ap (λ x. (true && ((true && true) && ((x && true) && ((true && true) && true)))) && true) (number-below old new s i n num.grows low);
+  begins = Begins-number old new s i num;
+}
+
+short-truth : (d : Data) (o : Option Bool) → as_bool d ≡ o → short_expression d ≡ (elim o as (λ _. Option Spelled) [
+  | Some b ↦ Some (labelled (at expression_node 0 0) (branch literal (leaf_of (truth b) ∷ []) ∷ []))
+  | None ↦ option_map (λ t. labelled (at expression_node 0 0) (branch type_or_identifier (t ∷ []) ∷ [])) (short_type d)
+])
+short-truth d o h = ap (λ x. elim x as (λ _. Option Spelled) [
+  | Some b ↦ Some (labelled (at expression_node 0 0) (branch literal (leaf_of (truth b) ∷ []) ∷ []))
+  | None ↦ option_map (λ t. labelled (at expression_node 0 0) (branch type_or_identifier (t ∷ []) ∷ [])) (short_type d)
+]) h
+
+pub plain-wrong : (d : Data) → as_bool d ≡ None → short_type d ≡ None → short_expression d ≡ None
+plain-wrong d no_truth none = short-truth d None no_truth ∙ ap (option_map (λ t. labelled (at expression_node 0 0) (branch type_or_identifier (t ∷ []) ∷ []))) none
+
+bool-no-object : (d : Data) (b : Bool) → as_bool d ≡ Some b → is_some (as_object d) ≡ false
+bool-no-object null b h = cc
+bool-no-object (boolean c) b h = refl
+bool-no-object (number n) b h = cc
+bool-no-object (string s) b h = cc
+bool-no-object (array ds) b h = cc
+bool-no-object (object ms) b h = cc
+
+pub truth-read : (d : Data) (b : Bool) (a : List Text) → as_bool d ≡ Some b → ReadsForm (node an_expression) d (as_expression (branch literal (leaf_tree (truth b) ∷ []))) a a
+truth-read d b a h = form-of-short an_expression d _ a a (bool-no-object d b h) (record {
+  spelled = λ n names low later. short-truth d (Some b) h;
+  numbered = refl;
+  spanless = refl;
+  closed = λ n low. refl;
+  begins = Begins-same a;
+})
+
+wrapped-plain : (o : Option Spelled) (u : Spelled) → o ≡ Some u → option_map (λ t. labelled (at expression_node 0 0) (branch type_or_identifier (t ∷ []) ∷ [])) o ≡ Some (labelled (at expression_node 0 0) (branch type_or_identifier (u ∷ []) ∷ []))
+wrapped-plain o u h = ap (option_map (λ t. labelled (at expression_node 0 0) (branch type_or_identifier (t ∷ []) ∷ []))) h
+
+pub plain-expression : (d : Data) (i : ℕ) (a b : List Text) → as_bool d ≡ None → is_some (as_object d) ≡ false → IsReadPlain d (plain_type i) a b → ReadsForm (node an_expression) d (as_expression (branch type_or_identifier (plain_type i ∷ []))) a b
+plain-expression d i a b no_truth no_object h = form-of-short an_expression d _ a b no_object (record {
+  spelled = λ n names low later. short-truth d None no_truth ∙ wrapped-plain (short_type d) _ (h.spelled n names low later);
+  numbered = h.numbered;
+  spanless = ap (λ t. as_expression (branch type_or_identifier (t ∷ []))) h.spanless;
+  closed = λ n low. ap (λ x. (true && ((true && x) && true)) && true) (h.closed n low);
+  begins = h.begins;
+})
+
+-- a type's members, as the node that an expression is
+pub type-expression : (d : Data) (t : Tree) (a b : List Text) → IsReadType d t a b → ReadsNode (expression_of type_or_identifier_row) d (as_expression (branch type_or_identifier (t ∷ []))) a b
+type-expression d t a b h =
+    let row = row-inner d (fixed (kind type_or_identifier)) (inner (fixed (kind type_expression)) type_row nothing) nothing (kind type_or_identifier) (kind type_or_identifier) (tree (kind type_expression) t.children end) end a b b (plain-kind type_or_identifier) refl (row-inner d (fixed (kind type_expression)) type_row nothing (kind type_expression) (kind type_expression) t.children end a b b (plain-kind type_expression) refl h.members (row-nothing d b)) (row-nothing d b) in
+    let same : as_expression (branch type_or_identifier (record { label = kind type_expression; children = t.children } ∷ [])) ≡ as_expression (branch type_or_identifier (t ∷ [])) = ap (λ l. as_expression (branch type_or_identifier (record { label = l; children = t.children } ∷ []))) (sym h.is_type) in
+    subst (λ u. ReadsNode (expression_of type_or_identifier_row) d u a b) same (node-of-row (expression_of type_or_identifier_row) d (at expression_node 0 0) (at expression_node 0 0) (tree (kind type_or_identifier) (tree (kind type_expression) t.children end) end) a b (plain-at expression_node) refl h.known row)
+
+-- a type's members, as a type
+pub type-form : (d : Data) (t : Tree) (a b : List Text) → is_some (as_object d) ≡ true → IsReadType d t a b → ReadsForm (node a_type) d t a b
+type-form d t a b object_like h =
+    let nd : Node = record { head = fixed (kind type_expression); row = type_row } in
+    let same : record { label = kind type_expression; children = t.children } ≡ t = ap (λ l. record { label = l; children = t.children }) (sym h.is_type) in
+    form-of-node a_type nd d t a b object_like refl (subst (λ u. ReadsNode nd d u a b) same (node-of-row nd d (kind type_expression) (kind type_expression) t.children a b (plain-kind type_expression) refl h.known h.members))
+
+-- ---- lists and names by themselves
+
+pub list-there : (k : Text) (f : Form) (d e : Data) (t : Tree) (a b : List Text) → get k d ≡ Some e → ReadsForm f e t a b → ReadsList k f d t a b
+list-there k f d e t a b found h =
+    let below = get-depth k d e found in
+    record {
+      spelled = λ n names low later. ap (or_empty (empty_of f) (reading first_profile n f)) found ∙ h.spelled n names (omega arith) later;
+      numbered = h.numbered;
+      spanless = h.spanless;
+      closed = h.closed;
+      begins = h.begins;
+    }
+
+pub list-absent : (k : Text) (kd : Kind) (m : Name) (d : Data) (a : List Text) → get k d ≡ None → ReadsList k (list_of kd m) d (leaf_tree (kind kd)) a a
+list-absent k kd m d a none =
+    over (λ n. Some end) (λ n. or_empty (kind kd) (reading first_profile n (list_of kd m)) (get k d)) (depth d) (kind kd) (kind kd) end a a (plain-kind kd) (λ n us low e. ap (or_empty (kind kd) (reading first_profile n (list_of kd m))) none ∙ ap (λ cs. Some (record { label = kind kd; children = cs })) (cc)) (none-read (λ n. Some end) (depth d) a (λ n. refl))
+
+pub form-ident : (r : Role) (e : Data) (s : Text) (i : ℕ) (old new : List Text) → name_of e ≡ Some s → IsNumbered old s i new → ReadsForm (leaf (an_ident r)) e (leaf_tree (ident r i)) old new
+form-ident r e s i old new h num = one-up (leaf (an_ident r)) e (leaf_tree (ident r i)) old new (record {
+  spelled = λ n names low later. ap (λ o. option_map leaf_of (option_map (ident r) o)) h ∙ ap (λ x. Some (leaf_of (ident r x))) (sym (name-later new names i s num.named later));
+  numbered = numbered-case old new s i num.grows;
+  spanless = refl;
+  closed = λ n low. ap (λ x. (x && true) && true) (number-below old new s i n num.grows low);
+  begins = Begins-number old new s i num;
+})

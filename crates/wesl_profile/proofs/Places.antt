@@ -1,0 +1,132 @@
+-- Where the fault of a member is one of the object.
+use Rattle.std.proofs.Common.{◌≡◌, ◌⊎◌, ℕ, List, [], ◌∷◌, ◌++◌, Bool, true, false, map, Option, Some, None, option_map, codes, string_bytes, refl, sym, ap, ◌∙◌, subst, inl, inr}
+use Rattle.std.specs.Option.{is_some}
+use Rattle.serde_json.specs.Data.{Data, Members}
+use Rattle.serde_json.specs.Find.{get, at, as_object}
+use Rattle.wesl_names.specs.Path.{Text}
+use Rattle.wesl_names.specs.declared.errors.Error as error
+use Rattle.wesl_form.specs.Schema.{Form, node, leaf, list_of, Leaf, Name, Row, Node}
+use Rattle.wesl_form.specs.Nodes.{shorts_of}
+use Rattle.wesl_form.specs.Reading.{has_only, known_keys}
+use Rattle.wesl_form.specs.Place.{Part, key, index, part_text, pointer_text, escaped, Field, field, fields, find_field, fields_of, member_form, item_form, IsWrong, IsWrongLeaf, IsWrongNode, IsWrongValue, IsWrongObject, BreaksAt, IsBroken, HasUnknownWord}
+use Rattle.wesl_form.specs.Profile.{first_profile, first_nodes}
+use Rattle.wesl_profile.specs.Faults.{place_of, IfPlace, IsAtRoot, IsUnder, IsUnderIndex, LocatesHere, IsTextBroken, LocatesText, IsInside, LocatesInside, IsMemberBroken, LocatesMember, IsRowBroken, LocatesRow, Locates}
+
+-- an error that tells this place
+told : (P : Text → Type 0) (place : Text) (e : error.Error) → place_of e ≡ Some place → P place → IfPlace e P
+told P place (error.BadTree s) is holds = let same : place ≡ string_bytes s = cc in subst P same holds
+told P place _ is holds = cc
+
+pub IfPlace-more : (P Q : Text → Type 0) (e : error.Error) → ((place : Text) → P place → Q place) → IfPlace e P → IfPlace e Q
+IfPlace-more P Q error.Memory more h = tt
+IfPlace-more P Q (error.BadTree s) more h = more (string_bytes s) h
+IfPlace-more P Q _ more h = absurd h
+
+pub memory : (P : Text → Type 0) (e : error.Error) → e ≡ error.Memory → IfPlace e P
+memory P e is = subst (λ x. IfPlace x P) (sym is) tt
+
+-- the same fault, one part further out
+pub further : (part : Part) (P Q : Text → Type 0) (inside outside : error.Error) → ((place : Text) → P place → Q ((47 ∷ part_text part) ++ place)) → IfPlace inside P → (outside ≡ error.Memory) ⊎ (outside ≡ inside) × (place_of inside ≡ None) ⊎ (p : Text) × (place_of inside ≡ Some p) × (place_of outside ≡ Some ((47 ∷ part_text part) ++ p)) → IfPlace outside Q
+further part P Q error.Memory outside more h (inl m) = memory Q outside m
+further part P Q error.Memory outside more h (inr (inl s)) = memory Q outside s.0
+further part P Q error.Memory outside more h (inr (inr s)) = cc (s.1)
+further part P Q (error.BadTree t) outside more h (inl m) = memory Q outside m
+further part P Q (error.BadTree t) outside more h (inr (inl s)) = cc (s.1)
+further part P Q (error.BadTree t) outside more h (inr (inr s)) =
+    let same : string_bytes t ≡ s.0 = cc (s.1) in
+    told Q ((47 ∷ part_text part) ++ s.0) outside s.2 (subst (λ p. Q ((47 ∷ part_text part) ++ p)) same (more (string_bytes t) h))
+further part P Q _ outside more h u = absurd h
+
+-- ---- members
+
+pub root : (P : Text → Type 0) (e : error.Error) → IsAtRoot e → P [] → IfPlace e P
+root P e is h = told P [] e is h
+
+pub text-lacks : {A : Type 0} (read : Data → Option A) (k : Text) (d : Data) (e : error.Error) → get k d ≡ None → IsAtRoot e → LocatesText read k d e
+text-lacks read k d e lacks is = told (IsTextBroken read k d) [] e is (inl (lacks, refl))
+
+pub text-under : {A : Type 0} (read : Data → Option A) (k : Text) (d v : Data) (inside outside : error.Error) → get k d ≡ Some v → LocatesHere (read v) inside → IsUnder k inside outside → LocatesText read k d outside
+text-under read k d v inside outside found h u =
+    further (key k) (λ place. (place ≡ []) × (read v ≡ None)) (IsTextBroken read k d) inside outside (λ place w. inr (v, found, w.1, ap (λ p. (47 ∷ part_text (key k)) ++ p) w.0)) h u
+
+pub inside-under : (k : Text) (f : Form) (d v : Data) (inside outside : error.Error) → get k d ≡ Some v → Locates f v inside → IsUnder k inside outside → LocatesInside k f d outside
+inside-under k f d v inside outside found h u =
+    further (key k) (IsBroken first_profile f v) (IsInside k f d) inside outside (λ place w. (v, w.0, found, ap (λ p. (47 ∷ part_text (key k)) ++ p) w.1, w.2)) h u
+
+pub member-lacks : (k : Text) (f : Form) (d : Data) (e : error.Error) → get k d ≡ None → IsAtRoot e → LocatesMember k f d e
+member-lacks k f d e lacks is = told (IsMemberBroken k f d) [] e is (inl (lacks, refl))
+
+pub member-inside : (k : Text) (f : Form) (d : Data) (e : error.Error) → LocatesInside k f d e → LocatesMember k f d e
+member-inside k f d e h = IfPlace-more (IsInside k f d) (IsMemberBroken k f d) e (λ place w. inr w) h
+
+-- an item of a list
+pub item-under : (kd : _) (m : Name) (i : ℕ) (d v : Data) (inside outside : error.Error) → at i d ≡ Some v → Locates (node m) v inside → IsUnderIndex i inside outside → Locates (list_of kd m) d outside
+item-under kd m i d v inside outside found h u =
+    further (index i) (IsBroken first_profile (node m) v) (IsBroken first_profile (list_of kd m) d) inside outside (λ place w. (index i ∷ w.0, ap (λ p. (47 ∷ part_text (index i)) ++ p) w.1, (v, found, w.2))) h u
+
+-- ---- rows
+
+pub row-keys : (row : Row) (d : Data) (e : error.Error) → has_only (known_keys row d) d ≡ false → IsAtRoot e → LocatesRow row d e
+row-keys row d e wrong is = told (IsRowBroken row d) [] e is (inl (refl, inl wrong))
+
+lacking_field : (row : Row) (k : Text) (d : Data) (f : Form) → find_field k (fields row d) ≡ Some (field k true f) → get k d ≡ None → IsWrongObject row d
+lacking_field row k d f there lacks = inr (k, ap (option_map (λ x. x.is_required)) there, lacks)
+
+text-case : {A : Type 0} (row : Row) (read : Data → Option A) (k : Text) (l : Leaf) (d : Data) (place : Text) → find_field k (fields row d) ≡ Some (field k true (leaf l)) → ((v : Data) → read v ≡ None → IsWrongLeaf first_profile l v) → IsTextBroken read k d place → IsRowBroken row d place
+text-case row read k l d place there wrong (inl w) = inl (w.1, lacking_field row k d (leaf l) there w.0)
+text-case row read k l d place there wrong (inr w) = inr (k, field k true (leaf l), there, (w.0, [], w.1, w.3, wrong w.0 w.2))
+
+pub row-text : {A : Type 0} (row : Row) (read : Data → Option A) (k : Text) (l : Leaf) (d : Data) (e : error.Error) → find_field k (fields row d) ≡ Some (field k true (leaf l)) → ((v : Data) → read v ≡ None → IsWrongLeaf first_profile l v) → LocatesText read k d e → LocatesRow row d e
+row-text row read k l d e there wrong h = IfPlace-more (IsTextBroken read k d) (IsRowBroken row d) e (λ place w. text-case row read k l d place there wrong w) h
+
+pub row-inside : (row : Row) (k : Text) (must : Bool) (f : Form) (d : Data) (e : error.Error) → find_field k (fields row d) ≡ Some (field k must f) → LocatesInside k f d e → LocatesRow row d e
+row-inside row k must f d e there h = IfPlace-more (IsInside k f d) (IsRowBroken row d) e (λ place w. inr (k, field k must f, there, w)) h
+
+member-case : (row : Row) (k : Text) (f : Form) (d : Data) (place : Text) → find_field k (fields row d) ≡ Some (field k true f) → IsMemberBroken k f d place → IsRowBroken row d place
+member-case row k f d place there (inl w) = inl (w.1, lacking_field row k d f there w.0)
+member-case row k f d place there (inr w) = inr (k, field k true f, there, w)
+
+pub row-member : (row : Row) (k : Text) (f : Form) (d : Data) (e : error.Error) → find_field k (fields row d) ≡ Some (field k true f) → LocatesMember k f d e → LocatesRow row d e
+row-member row k f d e there h = IfPlace-more (IsMemberBroken k f d) (IsRowBroken row d) e (λ place w. member-case row k f d place there w) h
+
+-- ---- nodes
+
+wrong_node : (m : Name) (d : Data) (nd : Node) (o : Option Members) → is_some o ≡ true → first_nodes m d ≡ Some nd → IsWrongObject nd.row d → IsWrongValue first_profile m d o
+wrong_node m d nd None object is wrong = cc
+wrong_node m d nd (Some ms) object is wrong = subst (λ n. IsWrongNode first_profile n d) (sym is) wrong
+
+fields-of-node : (m : Name) (d : Data) (nd : Node) → first_nodes m d ≡ Some nd → fields_of first_profile m d ≡ fields nd.row d
+fields-of-node m d nd is = ap (λ o. elim o as (λ _. List Field) [ None ↦ [] | Some n ↦ fields n.row d ]) is
+
+node-case : (m : Name) (d : Data) (nd : Node) (place : Text) → is_some (as_object d) ≡ true → first_nodes m d ≡ Some nd → IsRowBroken nd.row d place → IsBroken first_profile (node m) d place
+node-case m d nd place object is (inl w) = ([], w.0, wrong_node m d nd (as_object d) object is w.1)
+node-case m d nd place object is (inr (k, f, there, w)) =
+    let form : member_form first_profile (node m) k d ≡ Some f.form = ap (λ fs. option_map (λ x. x.form) (find_field k fs)) (fields-of-node m d nd is) ∙ ap (option_map (λ x. x.form)) there in
+    (key k ∷ w.1, w.3, (w.0, w.2, inl (subst (λ o. BreaksAt first_profile w.1 o w.0) (sym form) w.4)))
+
+pub node-row : (m : Name) (d : Data) (nd : Node) (e : error.Error) → is_some (as_object d) ≡ true → first_nodes m d ≡ Some nd → LocatesRow nd.row d e → Locates (node m) d e
+node-row m d nd e object is h = IfPlace-more (IsRowBroken nd.row d) (IsBroken first_profile (node m) d) e (λ place w. node-case m d nd place object is w) h
+
+-- an unknown word
+pub unknown-word : (m : Name) (d v : Data) (inside outside : error.Error) → get (codes "k") d ≡ Some v → first_nodes m d ≡ None → IsAtRoot inside → IsUnder (codes "k") inside outside → Locates (node m) d outside
+unknown-word m d v inside outside found none is u =
+    let P : Text → Type 0 = λ place. place ≡ [] in
+    further (key (codes "k")) P (IsBroken first_profile (node m) d) inside outside
+    (λ place w. (key (codes "k") ∷ [], ap (λ p. (47 ∷ part_text (key (codes "k"))) ++ p) w, (v, found, inr (refl, (refl, none)))))
+    (told P [] inside is refl) u
+
+-- a value that is no object
+pub no-object : (m : Name) (d : Data) (e : error.Error) → as_object d ≡ None → shorts_of m d ≡ None → IsAtRoot e → Locates (node m) d e
+no-object m d e is short at_root =
+    let wrong : IsWrongValue first_profile m d (as_object d) = rw is short in
+    told (IsBroken first_profile (node m) d) [] e at_root ([], refl, wrong)
+
+no_object_case : (o : Option Members) → is_some o ≡ false → o ≡ None
+no_object_case None h = refl
+no_object_case (Some ms) h = cc
+
+pub is-no-object : (d : Data) → is_some (as_object d) ≡ false → as_object d ≡ None
+is-no-object d h = no_object_case (as_object d) h
+
+pub root-value : (m : Name) (d : Data) (e : error.Error) → IsWrongValue first_profile m d (as_object d) → IsAtRoot e → Locates (node m) d e
+root-value m d e wrong is = told (IsBroken first_profile (node m) d) [] e is ([], refl, wrong)

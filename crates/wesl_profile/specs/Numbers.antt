@@ -1,0 +1,71 @@
+-- What reading a part of a tree leaves: numbers for the names met, and the part's tree.
+use Rattle.std.specs.Prelude.{true, ◌≡◌, ◌⊎◌, ℕ, suc, ◌<◌, ◌≤◌, List, [], ◌∷◌, ◌++◌, length, Option, Some, slice_get}
+use Rattle.serde_json.specs.Data.{Data, depth}
+use Rattle.serde_json.specs.Find.{get}
+use Rattle.wesl_names.specs.Path.{Text}
+use Rattle.wesl_syntax.specs.Tree.{kind, type_expression, Tree, Forest, before, end, identifiers, forest_below, respell, respell_forest}
+use Rattle.wesl_syntax.specs.Unit.{name_in}
+use Rattle.wesl_form.specs.Schema.{Spelled, SpelledForest, Form, Row, Node}
+use Rattle.wesl_form.specs.Nodes.{short_type}
+use Rattle.wesl_profile.specs.Forms.{type_row}
+use Rattle.wesl_form.specs.Reading.{has_only, known_keys, reading, needed, optional, or_empty, empty_of, children_in, node_in}
+use Rattle.wesl_form.specs.Units.{NumberedFrom, HasNoSpan, same_number}
+use Rattle.wesl_form.specs.Profile.{first_profile}
+
+-- one table begins the other
+abbrev pub Begins : List Text → List Text → Type 0
+Begins old new = (later : List Text) × (new ≡ old ++ later)
+
+-- the name has the number i in the table `new`, which is `old`, or `old` with the name at the end
+pub record IsNumbered (old : List Text) (name : Text) (i : ℕ) (new : List Text) : Type 0 where
+  pub named : slice_get new i ≡ Some name
+  pub grows : (new ≡ old) × (i < length old) ⊎ (new ≡ old ++ name ∷ []) × (i ≡ length old)
+
+-- The tree's spelling is the reading, at each number of levels from `least` on, under the new table and each that it begins.
+-- The tree's numbers come in order, each has a name in the new table, and no node has a span.
+pub record IsReadAs (read : ℕ → Option Spelled) (least : ℕ) (t : Tree) (old new : List Text) : Type 0 where
+  pub spelled : (n : ℕ) (names : List Text) → least ≤ n → Begins new names → read n ≡ Some (respell (name_in names) t)
+  pub numbered : NumberedFrom (length old) (identifiers (before t end)) (length new)
+  pub spanless : HasNoSpan t
+  pub closed : (n : ℕ) → length new ≤ n → forest_below n (before t end) ≡ true
+  pub begins : Begins old new
+
+-- the same of trees after one another
+pub record AreReadAs (read : ℕ → Option SpelledForest) (least : ℕ) (ts : Forest) (old new : List Text) : Type 0 where
+  pub spelled : (n : ℕ) (names : List Text) → least ≤ n → Begins new names → read n ≡ Some (respell_forest (name_in names) ts)
+  pub numbered : NumberedFrom (length old) (identifiers ts) (length new)
+  pub spanless : respell_forest same_number ts ≡ ts
+  pub closed : (n : ℕ) → length new ≤ n → forest_below n ts ≡ true
+  pub begins : Begins old new
+
+-- a value is read as the tree
+abbrev pub ReadsForm : Form → Data → Tree → List Text → List Text → Type 0
+ReadsForm f d = IsReadAs (λ n. reading first_profile n f d) (suc (depth d))
+
+-- a member that must be there, one that may be there, and a list
+abbrev pub ReadsMember : Text → Form → Data → Tree → List Text → List Text → Type 0
+ReadsMember k f d = IsReadAs (λ n. needed (reading first_profile n f) (get k d)) (depth d)
+
+abbrev pub ReadsOptional : Text → Form → Data → Tree → List Text → List Text → Type 0
+ReadsOptional k f d = IsReadAs (λ n. optional (reading first_profile n f) (get k d)) (depth d)
+
+abbrev pub ReadsList : Text → Form → Data → Tree → List Text → List Text → Type 0
+ReadsList k f d = IsReadAs (λ n. or_empty (empty_of f) (reading first_profile n f) (get k d)) (depth d)
+
+-- the members of an object are read as the children
+abbrev pub ReadsRow : Row → Data → Forest → List Text → List Text → Type 0
+ReadsRow row d = AreReadAs (λ n. children_in (reading first_profile n) row d) (depth d)
+
+-- an object is read as the node
+abbrev pub ReadsNode : Node → Data → Tree → List Text → List Text → Type 0
+ReadsNode nd d = IsReadAs (λ n. node_in (reading first_profile n) d nd) (depth d)
+
+-- a value that is no object is read as a type by its name alone
+abbrev pub IsReadPlain : Data → Tree → List Text → List Text → Type 0
+IsReadPlain d = IsReadAs (λ n. short_type d) 0
+
+-- the members of a type are read as its children
+pub record IsReadType (d : Data) (t : Tree) (old new : List Text) : Type 0 where
+  pub is_type : t.label ≡ kind type_expression
+  pub known : has_only (known_keys type_row d) d ≡ true
+  pub members : ReadsRow type_row d t.children old new

@@ -1,0 +1,180 @@
+//! The members of an object, and the places of faults.
+//!
+//! A fault's place is a JSON Pointer (RFC 6901). It begins empty, at the value that is wrong, and grows on the way
+//! out, by the key or the index of each value round it.
+ghost use Rattle.std.specs.Prelude.{◌≡◌, ◌∷◌, ◌++◌, map, true, false, Some, None, IfOk, IfErr, OnOk, OnErr, option_and_then, string_bytes};
+ghost use Rattle.std.specs.List.{list_any};
+ghost use Rattle.std.specs.Str.{bytes_eq};
+ghost use Rattle.serde_json.specs.Find.{get};
+ghost use Rattle.serde_json.specs.View.{view, members_view};
+ghost use Rattle.wesl_names.specs.Path.{path_view};
+ghost use Rattle.wesl_form.specs.Reading.{all_known, has_only, name_in, literal_in, path_in};
+ghost use Rattle.wesl_form.specs.Place.{escaped};
+ghost use Rattle.wesl_profile.specs.Faults.{IsAtRoot, IsUnder, IsUnderIndex, LocatesHere, LocatesText};
+
+use serde_json::{Map, Value};
+use std::alloc::{AllocError, Global};
+use wesl_tree::{Error, ModulePath};
+
+/// The value itself is wrong.
+pub(crate) fn wrong(alloc: Global) -> Error
+    ensures { IsAtRoot result }
+{
+    Error::BadTree(String::new(alloc))
+}
+
+/// The same fault, told of the object that has the faulty value as its member `key`.
+pub(crate) fn under(alloc: Global, error: Error, key: &str) -> Error
+    ensures { IsUnder key.now error result }
+{
+    match error {
+        Error::BadTree(place) => match extended(alloc, key, place.as_str()) {
+            Ok(place) => Error::BadTree(place),
+            Err(_) => Error::Memory,
+        },
+        other => other,
+    }
+}
+
+/// The same fault, told of the list that has the faulty value at `index`.
+pub(crate) fn under_index(alloc: Global, error: Error, index: usize) -> Error
+    ensures { IsUnderIndex index error result }
+{
+    match error {
+        Error::BadTree(place) => match format!(in alloc; "/{index}{place}") {
+            Ok(place) => Error::BadTree(place),
+            Err(_) => Error::Memory,
+        },
+        other => other,
+    }
+}
+
+// The key, with `~` as `~0` and `/` as `~1`, before the place.
+fn extended(alloc: Global, key: &str, place: &str) -> Result<String, AllocError>
+    ensures { IfOk result (λ s. string_bytes s ≡ (47 ∷ escaped key.now) ++ place.now) }
+{
+    let mut text = String::from_str(alloc, "/")?;
+    for c in key.chars() {
+        match c {
+            '~' => text.push_str("~0")?,
+            '/' => text.push_str("~1")?,
+            c => text.push(c)?,
+        }
+    }
+    text.push_str(place)?;
+    Ok(text)
+}
+
+/// The object has no keys but these.
+pub(crate) fn check_keys(alloc: Global, value: &Value, known: &[&str]) -> Result<(), Error>
+    ensures ok { OnOk result (has_only (map (λ k. k.now) known.now) (view value.now) ≡ true) }
+    ensures err { OnErr result (has_only (map (λ k. k.now) known.now) (view value.now) ≡ false) }
+    ensures place { IfErr result IsAtRoot }
+{
+    match value.as_object() {
+        Some(members) if all_known(members, known) => Ok(()),
+        _ => Err(wrong(alloc)),
+    }
+}
+
+fn all_known(members: &Map<String, Value>, known: &[&str]) -> bool
+    ensures { result ≡ all_known (map (λ k. k.now) known.now) (members_view members.now.entries) }
+{
+    for (key, _) in members.iter() {
+        if !is_among(key.as_str(), known) {
+            return false;
+        }
+    }
+    true
+}
+
+fn is_among(key: &str, known: &[&str]) -> bool
+    ensures { result ≡ list_any (λ k. bytes_eq k.now key.now) known.now }
+{
+    known.iter().any(|k| *k == key)
+}
+
+/// The member `key`, which must be there.
+pub(crate) fn required<'a>(alloc: Global, value: &'a Value, key: &str) -> Result<&'a Value, Error>
+    ensures ok { IfOk result (λ v. get key.now (view value.now) ≡ Some (view v.now)) }
+    ensures err { OnErr result (get key.now (view value.now) ≡ None) }
+    ensures place { IfErr result IsAtRoot }
+{
+    value.get(key).ok_or(wrong(alloc))
+}
+
+/// The text of a name, which is not empty.
+pub(crate) fn name_of<'a>(alloc: Global, value: &'a Value) -> Result<&'a str, Error>
+    ensures ok { IfOk result (λ s. name_in (view value.now) ≡ Some s.now) }
+    ensures place { IfErr result (LocatesHere (name_in (view value.now))) }
+{
+    match value.as_str() {
+        Some(text) if !text.is_empty() => Ok(text),
+        _ => Err(wrong(alloc)),
+    }
+}
+
+/// The name at `key`.
+pub(crate) fn name_member<'a>(alloc: Global, value: &'a Value, key: &str) -> Result<&'a str, Error>
+    ensures ok { IfOk result (λ s. option_and_then name_in (get key.now (view value.now)) ≡ Some s.now) }
+    ensures place { IfErr result (LocatesText name_in key.now (view value.now)) }
+{
+    let member = required(alloc, value, key)?;
+    match name_of(alloc, member) {
+        Ok(name) => Ok(name),
+        Err(error) => Err(under(alloc, error, key)),
+    }
+}
+
+// The text of a literal, which is not empty and no truth value.
+fn literal_of<'a>(alloc: Global, value: &'a Value) -> Result<&'a str, Error>
+    ensures ok { IfOk result (λ s. literal_in (view value.now) ≡ Some s.now) }
+    ensures place { IfErr result (LocatesHere (literal_in (view value.now))) }
+{
+    match value.as_str() {
+        Some(text) if !text.is_empty() && text != "true" && text != "false" => Ok(text),
+        _ => Err(wrong(alloc)),
+    }
+}
+
+/// The text of the literal at `key`.
+pub(crate) fn literal_member<'a>(
+    alloc: Global,
+    value: &'a Value,
+    key: &str,
+) -> Result<&'a str, Error>
+    ensures ok { IfOk result (λ s. option_and_then literal_in (get key.now (view value.now)) ≡ Some s.now) }
+    ensures place { IfErr result (LocatesText literal_in key.now (view value.now)) }
+{
+    let member = required(alloc, value, key)?;
+    match literal_of(alloc, member) {
+        Ok(text) => Ok(text),
+        Err(error) => Err(under(alloc, error, key)),
+    }
+}
+
+// The path that a text says.
+fn path_of(alloc: Global, value: &Value) -> Result<ModulePath, Error>
+    ensures ok { IfOk result (λ p. path_in (view value.now) ≡ Some (path_view p)) }
+    ensures place { IfErr result (LocatesHere (path_in (view value.now))) }
+{
+    let Some(text) = value.as_str() else {
+        return Err(wrong(alloc));
+    };
+    match ModulePath::parse(alloc, text)? {
+        Some(path) => Ok(path),
+        None => Err(wrong(alloc)),
+    }
+}
+
+/// The path at `key`.
+pub(crate) fn path_member(alloc: Global, value: &Value, key: &str) -> Result<ModulePath, Error>
+    ensures ok { IfOk result (λ p. option_and_then path_in (get key.now (view value.now)) ≡ Some (path_view p)) }
+    ensures place { IfErr result (LocatesText path_in key.now (view value.now)) }
+{
+    let member = required(alloc, value, key)?;
+    match path_of(alloc, member) {
+        Ok(path) => Ok(path),
+        Err(error) => Err(under(alloc, error, key)),
+    }
+}
