@@ -88,7 +88,7 @@ fn names<'b>(alloc: Global, keep: &'b [String]) -> Result<Vec<&'b str>, AllocErr
     Ok(names)
 }
 
-// The value of a unit. It has no number at all.
+// The value of a unit. It has no number that is not whole.
 fn whole_value(alloc: Global, unit: &TranslationUnit) -> Result<Value, Error>
     ensures written { IfOk result (λ v. view v ≡ unit_value (unit_view unit.now)) }
     ensures whole { IfOk result (λ v. has_float (view v) ≡ false) }

@@ -54,6 +54,6 @@ UnitsReadBack = (u : TranslationUnit) → All HasText (paths (forest_of_unit (sp
     → (n : ℕ) → depth (unit_value (unit_view u)) < n
     → reading whole_form n (node a_unit) (unit_value (unit_view u)) ≡ (if are_readable (kind unit) (forest_of_unit (spelled (unit_view u))) then Some (unit_tree (spelled (unit_view u))) else None)
 
--- what a unit is written as has no number that is not whole; it has no number at all
+-- what a unit is written as has no number that is not whole
 abbrev pub HaveNoFloat : Type 0
 HaveNoFloat = (u : UnitView) → has_float (unit_value u) ≡ false
