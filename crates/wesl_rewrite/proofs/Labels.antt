@@ -1,18 +1,15 @@
--- Labels, and forests all of whose labels pass a test.
+-- What is told of a node by its label.
 use Rattle.std.proofs.Common.{◌≡◌, Bool, true, false, ◌||◌, ◌&&◌, refl}
-use Rattle.wesl_syntax.specs.Tree.{Label, Forest, end, tree, kind, at, expression_node, statement_node, attributes, if_attribute, elif_attribute, import_statement, diagnostic_directive, enable_directive, requires_directive, type_expression}
+use Rattle.wesl_syntax.specs.Tree.{Label, kind, at, expression_node, statement_node, attributes, if_attribute, elif_attribute, import_statement, diagnostic_directive, enable_directive, requires_directive, type_expression}
 use Rattle.wesl_syntax.specs.Nodes.{is_formula, is_import_or_directive}
-use Rattle.wesl_rewrite.specs.Picks.{picks}
+use Rattle.wesl_kinds.specs.Held.{flat_label, hollow_label}
+use Rattle.wesl_kinds.specs.Picks.{picks}
 use Rattle.wesl_rewrite.specs.Replaced.{is_word}
-use Rattle.wesl_rewrite.specs.Sought.{Sought, expressions, types, statements, attribute_lists, test}
+use Rattle.wesl_kinds.specs.Sought.{Sought, expressions, types, statements, attribute_lists, test}
 
 pub both : (a b : Bool) → (a && b) ≡ true → (a ≡ true) × (b ≡ true)
 both true b h = (refl, h)
 both false b h = cc
-
-abbrev pub all_of : (Label → Bool) → Forest → Bool
-all_of p end = true
-all_of p (tree l children others) = p l && all_of p children && all_of p others
 
 -- a test of a kind of node, told by the label first
 pub agrees : (k : Sought) (l : Label) → test k l ≡ picks k l
@@ -46,45 +43,6 @@ no_word types l h = h
 no_word statements l h = refl
 no_word attribute_lists l h = refl
 
-pub all_more : (p q : Label → Bool) → ((l : Label) → p l ≡ true → q l ≡ true) → (f : Forest) → all_of p f ≡ true → all_of q f ≡ true
-all_more p q m end h = refl
-all_more p q m (tree l children others) h =
-    let a = both (p l && all_of p children) (all_of p others) h in
-    let b = both (p l) (all_of p children) a.0 in
-    rw (m l b.0, all_more p q m children b.1, all_more p q m others a.1) refl
-
--- no word, no statement and no attributes
-abbrev pub plain_label : Label → Bool
-plain_label (at statement_node s e) = false
-plain_label (kind attributes) = false
-plain_label (kind if_attribute) = false
-plain_label (kind elif_attribute) = false
-plain_label (kind import_statement) = false
-plain_label (kind diagnostic_directive) = false
-plain_label (kind enable_directive) = false
-plain_label (kind requires_directive) = false
-plain_label _ = true
-
--- no statement and no attributes
-abbrev pub flat_label : Label → Bool
-flat_label (at statement_node s e) = false
-flat_label (kind attributes) = false
-flat_label _ = true
-
--- no word, and no node of any kind
-abbrev pub hollow_label : Label → Bool
-hollow_label (at expression_node s e) = false
-hollow_label (kind type_expression) = false
-hollow_label (at statement_node s e) = false
-hollow_label (kind attributes) = false
-hollow_label (kind if_attribute) = false
-hollow_label (kind elif_attribute) = false
-hollow_label (kind import_statement) = false
-hollow_label (kind diagnostic_directive) = false
-hollow_label (kind enable_directive) = false
-hollow_label (kind requires_directive) = false
-hollow_label _ = true
-
 pub hollow_picks : (k : Sought) (l : Label) → hollow_label l ≡ true → picks k l ≡ false
 hollow_picks k (at expression_node s e) h = absurd (let x : ⊥ = cc in x)
 hollow_picks k (kind type_expression) h = absurd (let x : ⊥ = cc in x)
@@ -100,14 +58,6 @@ hollow_words (kind diagnostic_directive) h = absurd (let x : ⊥ = cc in x)
 hollow_words (kind enable_directive) h = absurd (let x : ⊥ = cc in x)
 hollow_words (kind requires_directive) h = absurd (let x : ⊥ = cc in x)
 hollow_words _ h = refl
-
-plain_is_flat : (l : Label) → plain_label l ≡ true → flat_label l ≡ true
-plain_is_flat (at statement_node s e) h = h
-plain_is_flat (kind attributes) h = h
-plain_is_flat _ h = refl
-
-pub flat_of : (f : Forest) → all_of plain_label f ≡ true → all_of flat_label f ≡ true
-flat_of = all_more plain_label flat_label plain_is_flat
 
 pub flat_statements : (l : Label) → flat_label l ≡ true → picks statements l ≡ false
 flat_statements (at statement_node s e) h = absurd (let x : ⊥ = cc in x)

@@ -1,7 +1,6 @@
 pub mod Labels
 pub mod Steps
 pub mod Views
-pub mod Plain
 pub mod Words
 pub mod Expressions
 pub mod Parts

@@ -9,10 +9,12 @@ use Rattle.wesl_syntax.specs.declared.declaration.DeclarationKind.{DeclarationKi
 use Rattle.wesl_syntax.specs.declared.declaration.DeclarationKind.TheVariants as kinds
 use Rattle.wesl_syntax.specs.declared.expression.Expression.{Expression}
 use Rattle.wesl_syntax.specs.declared.span.Spanned.{Spanned}
-use Rattle.wesl_rewrite.specs.Picks.{picks, seeks_attributes}
+use Rattle.wesl_kinds.specs.Picks.{picks, seeks_attributes}
 use Rattle.wesl_rewrite.specs.Replaced.{Rule}
-use Rattle.wesl_rewrite.specs.Went.{Finished, Went}
-use Rattle.wesl_rewrite.proofs.Labels.{all_of, hollow_label, words}
+use Rattle.wesl_kinds.specs.Finished.{Finished}
+use Rattle.wesl_rewrite.specs.Went.{Went}
+use Rattle.wesl_kinds.specs.Held.{all_of, hollow_label}
+use Rattle.wesl_rewrite.proofs.Labels.{words}
 use Rattle.wesl_rewrite.proofs.Steps.{forest_by, inside, moved, taken_else, viewed}
 
 pub operand_went : {k : Rule} {a b : Bool} (l : Kind) (t : Tree) (e e' : Spanned Expression) → words (kind l) ≡ false → picks k.sought (kind l) ≡ false → t ≡ operand_tree l e

@@ -1,114 +1,37 @@
 -- What becomes of formulas, imports and directives.
 use Rattle.std.proofs.Common.{◌≡◌, Bool, true, false, ◌&&◌, List, [], ◌∷◌, map, refl, sym, ◌∙◌, subst, Option, None, Some, Vec, Global}
 use Rattle.wesl_names.specs.declared.path.ModulePath.{ModulePath}
-use Rattle.wesl_names.specs.declared.Ident.{Ident}
 use Rattle.wesl_syntax.specs.Tree.{Label, Forest, Tree, end, tree, before, forest_of, kind, attributes, attribute_node, if_attribute, elif_attribute, import_statement, diagnostic_directive, enable_directive, requires_directive}
 use Rattle.wesl_syntax.specs.Nodes.{is_formula}
-use Rattle.wesl_syntax.specs.View.{attribute_view, attributes_tree, content_view, entry_view, content_step, entry_step, item_view, expression_tree, directive_view, import_view, operand_tree, optional, path_tree, placed, text_tree, names_tree}
+use Rattle.wesl_syntax.specs.View.{attribute_view, attributes_tree, content_view, expression_tree, directive_view, import_view, operand_tree, optional, path_tree, placed, text_tree, names_tree}
 use Rattle.wesl_syntax.specs.declared.attribute.Attribute.{Attribute}
 use Rattle.wesl_syntax.specs.declared.attribute.Attribute.TheVariants as attr
 use Rattle.wesl_syntax.specs.declared.declaration.GlobalDirective.{GlobalDirective}
 use Rattle.wesl_syntax.specs.declared.declaration.GlobalDirective.TheVariants as directives
 use Rattle.wesl_syntax.specs.declared.expression.Expression.{Expression}
-use Rattle.wesl_syntax.specs.declared.import.Import.{Import, map-Import}
-use Rattle.wesl_syntax.specs.declared.import.ImportContent.{ImportContent, map-ImportContent}
-use Rattle.wesl_syntax.specs.declared.import.ImportContent.TheOpen.{ImportContent-F, Import-F}
-use Rattle.wesl_syntax.specs.declared.import.ImportContent.TheFolds.{ind-ImportContent, fold-roll-ImportContent, fold-roll-Import}
-use Rattle.wesl_syntax.specs.declared.import.ImportItem.{ImportItem}
 use Rattle.wesl_syntax.specs.declared.import.ImportStatement.{ImportStatement}
 use Rattle.wesl_syntax.specs.declared.span.Spanned.{Spanned}
-use Rattle.wesl_rewrite.specs.Picks.{picks, seeks_attributes}
+use Rattle.wesl_kinds.specs.Picks.{picks, seeks_attributes}
 use Rattle.wesl_rewrite.specs.Replaced.{Rule, rule, Replaced, nothing, word, other}
-use Rattle.wesl_rewrite.specs.Sought.{Sought, expressions, types, statements, attribute_lists}
-use Rattle.wesl_rewrite.specs.Went.{Finished, FinishedBy, TurnedBy, Went, WentBy}
-use Rattle.wesl_rewrite.proofs.Labels.{agrees, all_of, flat_attributes, flat_label, flat_statements, hollow_label, words}
-use Rattle.wesl_rewrite.proofs.Plain.{expression_flat, inner_flat}
+use Rattle.wesl_kinds.specs.Sought.{Sought, expressions, types, statements, attribute_lists}
+use Rattle.wesl_kinds.specs.Finished.{Finished, FinishedBy, TurnedBy}
+use Rattle.wesl_rewrite.specs.Went.{Went, WentBy}
+use Rattle.wesl_rewrite.proofs.Labels.{agrees, flat_attributes, flat_statements, words}
+use Rattle.wesl_kinds.specs.Held.{all_of, flat_label, hollow_label, AttributesAreFlat, ContentsAreHollow}
 use Rattle.wesl_rewrite.proofs.Steps.{hollow_same, inner_by, joined_by, replaced_none, same, same_by, whole_by, within_by}
 
--- attributes hold no statement and no attributes
 abbrev flat : Forest → Bool
 flat = all_of flat_label
 
-abbrev IsFlat : Tree → Type 0
-IsFlat t = (flat_label t.label && flat t.children) ≡ true
+attributes_flat : AttributesAreFlat → (xs : List (Spanned Attribute)) → flat (forest_of (map (placed attribute_view attribute_node) xs)) ≡ true
+attributes_flat law [] = refl
+attributes_flat law (x ∷ xs) = rw (law x.node, attributes_flat law xs) refl
 
-expressions_flat : (es : List (Spanned Expression)) → flat (forest_of (map expression_tree es)) ≡ true
-expressions_flat [] = refl
-expressions_flat (e ∷ es) = rw (inner_flat e, expressions_flat es) refl
+operand_flat : AttributesAreFlat → (e : Spanned Expression) → flat (before (expression_tree e) end) ≡ true
+operand_flat law e = law (attr.If e)
 
-attribute_flat : (a : Attribute) → IsFlat (attribute_view a)
-attribute_flat (attr.Align e) = rw (inner_flat e) refl
-attribute_flat (attr.Binding e) = rw (inner_flat e) refl
-attribute_flat (attr.BlendSrc e) = rw (inner_flat e) refl
-attribute_flat (attr.Builtin n) = refl
-attribute_flat attr.Const = refl
-attribute_flat (attr.Diagnostic s r) = refl
-attribute_flat (attr.Group e) = rw (inner_flat e) refl
-attribute_flat (attr.Id e) = rw (inner_flat e) refl
-attribute_flat (attr.Interpolate ns) = refl
-attribute_flat attr.Invariant = refl
-attribute_flat (attr.Location e) = rw (inner_flat e) refl
-attribute_flat attr.MustUse = refl
-attribute_flat (attr.Size e) = rw (inner_flat e) refl
-attribute_flat (attr.WorkgroupSize x None None) = rw (inner_flat x) refl
-attribute_flat (attr.WorkgroupSize x None (Some z)) = rw (inner_flat x, inner_flat z) refl
-attribute_flat (attr.WorkgroupSize x (Some y) None) = rw (inner_flat x, inner_flat y) refl
-attribute_flat (attr.WorkgroupSize x (Some y) (Some z)) = rw (inner_flat x, inner_flat y, inner_flat z) refl
-attribute_flat attr.Vertex = refl
-attribute_flat attr.Fragment = refl
-attribute_flat attr.Compute = refl
-attribute_flat attr.Publish = refl
-attribute_flat (attr.If e) = rw (inner_flat e) refl
-attribute_flat (attr.Elif e) = rw (inner_flat e) refl
-attribute_flat attr.Else = refl
-attribute_flat (attr.Custom n None) = refl
-attribute_flat (attr.Custom n (Some v)) = rw (expressions_flat v.items) refl
-
-attributes_flat : (xs : List (Spanned Attribute)) → flat (forest_of (map (placed attribute_view attribute_node) xs)) ≡ true
-attributes_flat [] = refl
-attributes_flat (x ∷ xs) = rw (attribute_flat x.node, attributes_flat xs) refl
-
--- imported names hold no node of any kind
 abbrev hollow : Forest → Bool
 hollow = all_of hollow_label
-
-abbrev IsHollow : Tree → Type 0
-IsHollow t = (hollow_label t.label && hollow t.children) ≡ true
-
-abbrev Hollow_content : Type 0
-Hollow_content = (c : ImportContent) × IsHollow (content_view c)
-
-abbrev Hollow_entry : Type 0
-Hollow_entry = (e : Import) × IsHollow (entry_view e)
-
-renamed_hollow : (i : Ident) (r : Option Ident) → IsHollow (item_view (record { ident = i; rename = r }))
-renamed_hollow i None = refl
-renamed_hollow i (Some r) = refl
-
-item_hollow : (i : ImportItem) → IsHollow (item_view i)
-item_hollow i = renamed_hollow i.ident i.rename
-
-abbrev content_seen : ImportContent-F ImportContent Import → Tree
-content_seen x = content_step (map-ImportContent ImportContent Import Tree Tree content_view entry_view x)
-
-abbrev entry_seen : Import-F ImportContent Import → Tree
-entry_seen x = entry_step (map-Import ImportContent Import Tree Tree content_view entry_view x)
-
-entries_each : (xs : List Hollow_entry) → hollow (forest_of (map (λ t. t) (map entry_view (map (λ (e : Hollow_entry). e.0) xs)))) ≡ true
-entries_each [] = refl
-entries_each (x ∷ xs) = rw (x.1, entries_each xs) refl
-
-content_each : (y : ImportContent-F Hollow_content Hollow_entry) → IsHollow (content_seen (map-ImportContent Hollow_content Hollow_entry ImportContent Import (λ e. e.0) (λ e. e.0) y))
-content_each (ImportContent-F.Item i) = item_hollow i
-content_each (ImportContent-F.Collection v) = rw (entries_each v.items) refl
-
-entry_each : (y : Import-F Hollow_content Hollow_entry) → IsHollow (entry_seen (map-Import Hollow_content Hollow_entry ImportContent Import (λ e. e.0) (λ e. e.0) y))
-entry_each y = rw y.content.1 refl
-
-content_hollow : (c : ImportContent) → IsHollow (content_view c)
-content_hollow = ind-ImportContent (λ c. IsHollow (content_view c)) (λ e. IsHollow (entry_view e))
-    (λ x y is. subst IsHollow (sym (fold-roll-ImportContent Tree Tree content_step entry_step x)) (subst (λ z. IsHollow (content_seen z)) is (content_each y)))
-    (λ x y is. subst IsHollow (sym (fold-roll-Import Tree Tree content_step entry_step x)) (subst (λ z. IsHollow (entry_seen z)) is (entry_each y)))
 
 path_hollow : (p : Option ModulePath) (f : Forest) → hollow f ≡ true → hollow (before (optional path_tree p) f) ≡ true
 path_hollow None f h = h
@@ -132,11 +55,11 @@ formula_same types turns d l f i h = word (rw i refl) nothing
 formula_same statements turns d l f i h = statements_same turns d (tree l f end) h
 formula_same attribute_lists turns d l f i h = attributes_same turns d (tree l f end) h
 
-pub if_went : (k : Rule) (a : Bool) (e : Spanned Expression) → Went k a (before (operand_tree if_attribute e) end) a (before (operand_tree if_attribute e) end)
-if_went k a e = same a (before (operand_tree if_attribute e) end) (formula_same k.sought k.turns k.inner (kind if_attribute) (before (expression_tree e) end) refl (rw (expression_flat e) refl))
+pub if_went : AttributesAreFlat → (k : Rule) (a : Bool) (e : Spanned Expression) → Went k a (before (operand_tree if_attribute e) end) a (before (operand_tree if_attribute e) end)
+if_went law k a e = same a (before (operand_tree if_attribute e) end) (formula_same k.sought k.turns k.inner (kind if_attribute) (before (expression_tree e) end) refl (rw (operand_flat law e) refl))
 
-pub elif_went : (k : Rule) (a : Bool) (e : Spanned Expression) → Went k a (before (operand_tree elif_attribute e) end) a (before (operand_tree elif_attribute e) end)
-elif_went k a e = same a (before (operand_tree elif_attribute e) end) (formula_same k.sought k.turns k.inner (kind elif_attribute) (before (expression_tree e) end) refl (rw (expression_flat e) refl))
+pub elif_went : AttributesAreFlat → (k : Rule) (a : Bool) (e : Spanned Expression) → Went k a (before (operand_tree elif_attribute e) end) a (before (operand_tree elif_attribute e) end)
+elif_went law k a e = same a (before (operand_tree elif_attribute e) end) (formula_same k.sought k.turns k.inner (kind elif_attribute) (before (expression_tree e) end) refl (rw (operand_flat law e) refl))
 
 -- an import or a directive: what stands in its attributes is passed over, but they are a list of attributes
 stays : (k : Rule) (a b : Bool) (l : Label) (inner rest : Forest) (t : Tree) → Replaced k (tree l (tree (kind attributes) inner rest) end) (tree l (tree (kind attributes) inner rest) end)
@@ -165,19 +88,19 @@ words_went : (k : Rule) (a b : Bool) (l : Label) (inner rest : Forest) (t : Tree
     → Finished (seeks_attributes k.sought) k.turns a (record { label = kind attributes; children = inner }) b t → Went k a (tree l (tree (kind attributes) inner rest) end) b (tree l (before t rest) end)
 words_went k a b l inner rest t w n i r p = record { went = words_by k.sought k.turns k.inner a b l inner rest t w n i r p.finished }
 
-pub import_went : (k : Rule) (a b : Bool) (i : ImportStatement) (v : Vec (Spanned Attribute) Global) → Finished (seeks_attributes k.sought) k.turns a (attributes_tree i.attributes) b (attributes_tree v)
+pub import_went : AttributesAreFlat → ContentsAreHollow → (k : Rule) (a b : Bool) (i : ImportStatement) (v : Vec (Spanned Attribute) Global) → Finished (seeks_attributes k.sought) k.turns a (attributes_tree i.attributes) b (attributes_tree v)
     → Went k a (before (import_view i) end) b (before (import_view (record i { attributes = v })) end)
-import_went k a b i v p =
-    words_went k a b (kind import_statement) (attributes_tree i.attributes).children (before (optional path_tree i.path) (before (content_view i.content) end)) (attributes_tree v) refl refl (attributes_flat i.attributes.items)
-    (path_hollow i.path (before (content_view i.content) end) (rw (content_hollow i.content) refl)) p
+import_went flat_law hollow_law k a b i v p =
+    words_went k a b (kind import_statement) (attributes_tree i.attributes).children (before (optional path_tree i.path) (before (content_view i.content) end)) (attributes_tree v) refl refl (attributes_flat flat_law i.attributes.items)
+    (path_hollow i.path (before (content_view i.content) end) (rw (hollow_law i.content) refl)) p
 
 abbrev pub with_attributes : GlobalDirective → Vec (Spanned Attribute) Global → GlobalDirective
 with_attributes (directives.Diagnostic a s r) v = directives.Diagnostic v s r
 with_attributes (directives.Enable a ns) v = directives.Enable v ns
 with_attributes (directives.Requires a ns) v = directives.Requires v ns
 
-pub directive_went : (k : Rule) (a b : Bool) (d : GlobalDirective) (v : Vec (Spanned Attribute) Global) → Finished (seeks_attributes k.sought) k.turns a (attributes_tree (directive_attributes d)) b (attributes_tree v)
+pub directive_went : AttributesAreFlat → (k : Rule) (a b : Bool) (d : GlobalDirective) (v : Vec (Spanned Attribute) Global) → Finished (seeks_attributes k.sought) k.turns a (attributes_tree (directive_attributes d)) b (attributes_tree v)
     → Went k a (before (directive_view d) end) b (before (directive_view (with_attributes d v)) end)
-directive_went k a b (directives.Diagnostic old s r) v p = words_went k a b (kind diagnostic_directive) (attributes_tree old).children (before (text_tree s) (before (text_tree r) end)) (attributes_tree v) refl refl (attributes_flat old.items) refl p
-directive_went k a b (directives.Enable old ns) v p = words_went k a b (kind enable_directive) (attributes_tree old).children (before (names_tree ns) end) (attributes_tree v) refl refl (attributes_flat old.items) refl p
-directive_went k a b (directives.Requires old ns) v p = words_went k a b (kind requires_directive) (attributes_tree old).children (before (names_tree ns) end) (attributes_tree v) refl refl (attributes_flat old.items) refl p
+directive_went law k a b (directives.Diagnostic old s r) v p = words_went k a b (kind diagnostic_directive) (attributes_tree old).children (before (text_tree s) (before (text_tree r) end)) (attributes_tree v) refl refl (attributes_flat law old.items) refl p
+directive_went law k a b (directives.Enable old ns) v p = words_went k a b (kind enable_directive) (attributes_tree old).children (before (names_tree ns) end) (attributes_tree v) refl refl (attributes_flat law old.items) refl p
+directive_went law k a b (directives.Requires old ns) v p = words_went k a b (kind requires_directive) (attributes_tree old).children (before (names_tree ns) end) (attributes_tree v) refl refl (attributes_flat law old.items) refl p

@@ -9,9 +9,9 @@ ghost use Rattle.wesl_syntax.specs.View.{alias_view, assert_view, attribute_view
 ghost use Rattle.wesl_tree.specs.Translation.{unit_view};
 
 use crate::replace::{attribute, declaration, expression, statement};
-use crate::rewriters::{Replace, Rewrite};
 use std::alloc::Global;
 use std::mem;
+use wesl_kinds::{Replace, Rewrite, law_of_variants};
 use wesl_syntax::{
     Attribute, ConstAssert, Declaration, Expression, Function, GlobalDeclaration, Spanned,
     Statement, Struct, StructMember, TypeAlias, TypeExpression,
@@ -50,6 +50,7 @@ impl Holder for Expression {
         deep: bool,
         rewriter: &mut R,
     ) -> bool {
+        law_of_variants();
         expression::in_expression(self, deep, rewriter, true)
     }
 }
@@ -80,6 +81,7 @@ impl Holder for Statement {
         deep: bool,
         rewriter: &mut R,
     ) -> bool {
+        law_of_variants();
         statement::in_statement(self, deep, rewriter, true)
     }
 }
@@ -95,6 +97,7 @@ impl Holder for Attribute {
         deep: bool,
         rewriter: &mut R,
     ) -> bool {
+        law_of_variants();
         attribute::in_attribute(self, deep, rewriter, true)
     }
 }
@@ -110,6 +113,7 @@ impl Holder for GlobalDeclaration {
         deep: bool,
         rewriter: &mut R,
     ) -> bool {
+        law_of_variants();
         declaration::in_global(self, deep, rewriter, true)
     }
 }

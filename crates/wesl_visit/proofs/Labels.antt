@@ -2,16 +2,14 @@
 use Rattle.std.proofs.Common.{◌≡◌, Bool, true, false, ◌&&◌, List, [], ◌∷◌, ◌++◌, refl, ap, ◌∙◌, if◌then◌else◌}
 use Rattle.wesl_syntax.specs.Tree.{Label, Forest, Tree, end, tree, kind, at, expression_node, statement_node, attributes, if_attribute, elif_attribute, import_statement, diagnostic_directive, enable_directive, requires_directive, type_expression}
 use Rattle.wesl_syntax.specs.Nodes.{is_attributes, without_attributes}
-use Rattle.wesl_visit.specs.Sought.{Sought, expressions, types, statements, attribute_lists}
-use Rattle.wesl_visit.specs.Walk.{sight, sight_below, chosen, picks, passes_words, seeks_statements, seeks_attributes}
+use Rattle.wesl_kinds.specs.Sought.{Sought, expressions, types, statements, attribute_lists}
+use Rattle.wesl_visit.specs.Walk.{sight, sight_below, chosen, passes_words}
+use Rattle.wesl_kinds.specs.Held.{all_of, plain_label, flat_label, hollow_label}
+use Rattle.wesl_kinds.specs.Picks.{picks, seeks_statements, seeks_attributes}
 
 pub both : (a b : Bool) → (a && b) ≡ true → (a ≡ true) × (b ≡ true)
 both true b h = (refl, h)
 both false b h = cc
-
-abbrev pub all_of : (Label → Bool) → Forest → Bool
-all_of p end = true
-all_of p (tree l children others) = p l && all_of p children && all_of p others
 
 pub all_more : (p q : Label → Bool) → ((l : Label) → p l ≡ true → q l ≡ true) → (f : Forest) → all_of p f ≡ true → all_of q f ≡ true
 all_more p q m end h = refl
@@ -19,43 +17,6 @@ all_more p q m (tree l children others) h =
     let a = both (p l && all_of p children) (all_of p others) h in
     let b = both (p l) (all_of p children) a.0 in
     rw (m l b.0, all_more p q m children b.1, all_more p q m others a.1) refl
-
--- no word, no statement and no attributes
-abbrev pub plain_label : Label → Bool
-plain_label (at statement_node s e) = false
-plain_label (kind attributes) = false
-plain_label (kind if_attribute) = false
-plain_label (kind elif_attribute) = false
-plain_label (kind import_statement) = false
-plain_label (kind diagnostic_directive) = false
-plain_label (kind enable_directive) = false
-plain_label (kind requires_directive) = false
-plain_label _ = true
-
--- no statement and no attributes
-abbrev pub flat_label : Label → Bool
-flat_label (at statement_node s e) = false
-flat_label (kind attributes) = false
-flat_label _ = true
-
--- no word, and no node of any kind
-abbrev pub hollow_label : Label → Bool
-hollow_label (at expression_node s e) = false
-hollow_label (kind type_expression) = false
-hollow_label (at statement_node s e) = false
-hollow_label (kind attributes) = false
-hollow_label (kind if_attribute) = false
-hollow_label (kind elif_attribute) = false
-hollow_label (kind import_statement) = false
-hollow_label (kind diagnostic_directive) = false
-hollow_label (kind enable_directive) = false
-hollow_label (kind requires_directive) = false
-hollow_label _ = true
-
-plain_is_flat : (l : Label) → plain_label l ≡ true → flat_label l ≡ true
-plain_is_flat (at statement_node s e) h = h
-plain_is_flat (kind attributes) h = h
-plain_is_flat _ h = refl
 
 hollow_is_plain : (l : Label) → hollow_label l ≡ true → plain_label l ≡ true
 hollow_is_plain (at statement_node s e) h = h
@@ -68,14 +29,11 @@ hollow_is_plain (kind enable_directive) h = h
 hollow_is_plain (kind requires_directive) h = h
 hollow_is_plain _ h = refl
 
-pub flat_of : (f : Forest) → all_of plain_label f ≡ true → all_of flat_label f ≡ true
-flat_of = all_more plain_label flat_label plain_is_flat
-
 pub plain_of : (f : Forest) → all_of hollow_label f ≡ true → all_of plain_label f ≡ true
 plain_of = all_more hollow_label plain_label hollow_is_plain
 
 -- what is plain is seen whole
-plain_below : (k : Sought) (l : Label) (f : Forest) → plain_label l ≡ true → sight_below k l f ≡ f
+pub plain_below : (k : Sought) (l : Label) (f : Forest) → plain_label l ≡ true → sight_below k l f ≡ f
 plain_below k (kind if_attribute) f h = absurd (let x : ⊥ = cc in x)
 plain_below k (kind elif_attribute) f h = absurd (let x : ⊥ = cc in x)
 plain_below k (kind import_statement) f h = absurd (let x : ⊥ = cc in x)

@@ -1,6 +1,6 @@
 pub mod Labels
 pub mod Walks
-pub mod Plain
+pub mod Seen
 pub mod Views
 pub mod Words
 pub mod Joined

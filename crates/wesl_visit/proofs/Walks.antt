@@ -2,8 +2,9 @@
 use Rattle.std.proofs.Common.{◌≡◌, ℕ, ◌+◌, ◌<◌, ◌≤◌, suc, Bool, true, false, if◌then◌else◌, Result, Ok, Err, IfOk, List, [], ◌∷◌, ◌++◌, length, get_or, map, drop, refl, sym, ap, ◌∙◌, add-one, drop-cons, append_assoc, append-nil}
 use Rattle.std.proofs.lemmas.List.{drop_all}
 use Rattle.wesl_syntax.specs.Tree.{Tree, Label, Forest, before, forest_of, branch, call, compound, present}
-use Rattle.wesl_visit.specs.Sought.{Sought}
-use Rattle.wesl_visit.specs.Walk.{found, found_in, picks, sight, sight_below, itself, goes_on, strictly}
+use Rattle.wesl_kinds.specs.Sought.{Sought}
+use Rattle.wesl_visit.specs.Walk.{IsSeen, found, found_in, sight, itself, goes_on, strictly}
+use Rattle.wesl_kinds.specs.Picks.{picks}
 
 entered : (p deep goes : Bool) (t : Tree) (b old mid new : List Tree) → mid ≡ old ++ (if p then t ∷ [] else []) → goes ≡ (if p then deep else true) → goes ≡ true → new ≡ mid ++ b
     → new ≡ old ++ ((if p then t ∷ (if deep then b else []) else b) ++ [])
@@ -16,11 +17,6 @@ passed : (p deep goes : Bool) (t : Tree) (b old mid : List Tree) → mid ≡ old
 passed true true goes t b old mid m g y = absurd (let h : ⊥ = cc in h)
 passed true false goes t b old mid m g y = m
 passed false deep goes t b old mid m g y = absurd (let h : ⊥ = cc in h)
-
--- A node of one of the four kinds is no word, and is seen whole where it is of the kind that is looked for.
-pub record IsSeen (k : Sought) (t : Tree) : Type 0 where
-  pub below : (f : Forest) → sight_below k t.label f ≡ f
-  pub whole : picks k t.label ≡ true → sight k t.children ≡ t.children
 
 element : (p deep : Bool) (l : Label) (c d : Forest) (b : List Tree) → (p ≡ true → c ≡ d)
     → (if p then record { label = l; children = c } ∷ (if deep then b else []) else b) ≡ (if p then record { label = l; children = d } ∷ (if deep then b else []) else b)

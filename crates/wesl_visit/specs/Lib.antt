@@ -1,5 +1,4 @@
-pub mod Sought
+pub mod Seen
 pub mod Walk
 pub mod Lent
 pub mod Run
-pub mod Holders

@@ -1,37 +1,16 @@
 -- One walk over a tree, which finds the nodes of a kind. Labels come first, so that it goes on at each label whatever is looked for.
-use Rattle.std.specs.Prelude.{Bool, true, false, List, [], ◌∷◌, ◌++◌, if◌then◌else◌}
-use Rattle.wesl_syntax.specs.Tree.{Label, Forest, Tree, end, tree, before, kind, at, expression_node, statement_node, attributes, type_expression, if_attribute, elif_attribute, import_statement, diagnostic_directive, enable_directive, requires_directive}
+use Rattle.std.specs.Prelude.{◌≡◌, Bool, true, false, List, [], ◌∷◌, ◌++◌, if◌then◌else◌}
+use Rattle.wesl_syntax.specs.Tree.{Label, Forest, Tree, end, tree, before, kind, if_attribute, elif_attribute, import_statement, diagnostic_directive, enable_directive, requires_directive}
 use Rattle.wesl_syntax.specs.Nodes.{without_attributes}
-use Rattle.wesl_visit.specs.Sought.{Sought, inside, expressions, types, statements, attribute_lists}
-
-abbrev pub seeks_expressions : Sought → Bool
-seeks_expressions expressions = true
-seeks_expressions _ = false
-
-abbrev pub seeks_types : Sought → Bool
-seeks_types types = true
-seeks_types _ = false
-
-abbrev pub seeks_statements : Sought → Bool
-seeks_statements statements = true
-seeks_statements _ = false
-
-abbrev pub seeks_attributes : Sought → Bool
-seeks_attributes attribute_lists = true
-seeks_attributes _ = false
+use Rattle.wesl_kinds.specs.Picks.{picks}
+use Rattle.wesl_kinds.specs.Sought.{Sought, expressions, types}
+use Rattle.wesl_visit.specs.Seen.{inside}
 
 -- whether words are left out
 abbrev pub passes_words : Sought → Bool
 passes_words expressions = true
 passes_words types = true
 passes_words _ = false
-
-abbrev pub picks : Sought → Label → Bool
-picks k (at expression_node s e) = seeks_expressions k
-picks k (at statement_node s e) = seeks_statements k
-picks k (kind type_expression) = seeks_types k
-picks k (kind attributes) = seeks_attributes k
-picks k _ = false
 
 -- what is seen below a label
 abbrev pub sight_below : Sought → Label → Forest → Forest
@@ -72,3 +51,8 @@ goes_on k deep l = if picks k l then deep else true
 -- those that are found strictly below a node
 abbrev pub strictly : Sought → Bool → Tree → List Tree
 strictly k deep t = chosen k deep (inside (sight k (before t end)))
+
+-- A node of one of the four kinds is no word, and is seen whole where it is of the kind that is looked for.
+pub record IsSeen (k : Sought) (t : Tree) : Type 0 where
+  pub below : (f : Forest) → sight_below k t.label f ≡ f
+  pub whole : picks k t.label ≡ true → sight k t.children ≡ t.children

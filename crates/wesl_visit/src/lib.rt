@@ -1,14 +1,10 @@
-//! Visits of the nodes of a syntax tree.
+//! Visits and rewriting of the nodes of a syntax tree.
 #![tactic(auto)]
 
 mod collect;
-mod holders;
-mod kinds;
+mod collectors;
 mod visits;
 
-pub use holders::Holder;
-pub use kinds::{Kind, Node};
+pub use collectors::Collect;
 pub use visits::{Visit, Visitor};
-
-#[cfg(test)]
-mod tests;
+pub use wesl_rewrite::{Holder, Kind, Node, Replace, Rewrite};

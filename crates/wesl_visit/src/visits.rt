@@ -1,15 +1,18 @@
-//! Visits: lists of nodes, and runs of a visitor over them.
-ghost use Rattle.std.specs.Prelude.{◌≡◌, IfErr, IfOk};
+//! Visits: lists of nodes, and runs of a visitor over them; and rewriting.
+ghost use Rattle.std.specs.Prelude.{◌≡◌, IfErr, IfOk, false, true};
+ghost use Rattle.wesl_kinds.specs.Sought.{test};
 ghost use Rattle.wesl_names.specs.declared.errors.Error as error;
+ghost use Rattle.wesl_rewrite.specs.Holders.{KeepsNumbers};
+ghost use Rattle.wesl_rewrite.specs.Replaced.{ReplacedBelow, StoppedBelow, rule};
 ghost use Rattle.wesl_syntax.specs.Nodes.{all_nodes, outermost};
 ghost use Rattle.wesl_syntax.specs.Tree.{Tree};
 ghost use Rattle.wesl_visit.specs.Lent.{views};
 ghost use Rattle.wesl_visit.specs.Run.{Begun, Run};
-ghost use Rattle.wesl_visit.specs.Sought.{below, test};
+ghost use Rattle.wesl_visit.specs.Seen.{below};
 
-use crate::holders::Holder;
-use crate::kinds::Kind;
+use crate::collectors::Collect;
 use std::alloc::Global;
+use wesl_kinds::{Kind, Replace, Rewrite};
 use wesl_names::Error;
 use wesl_syntax::{
     Attribute, Attributes, ConstAssert, Declaration, Expression, ExpressionNode, Function,
@@ -35,11 +38,11 @@ pub trait Visitor<T: Kind> {
     ghost stays: { (visitor : Self) → unchanged visitor visitor };
 }
 
-/// Visits of the nodes of kind `T` that lie strictly below, in document order: a node before those inside it.
+/// Visits and rewriting of the nodes of kind `T` that lie strictly below, in document order.
 ///
-/// Visits of expressions and types see no words: no formulas of conditional attributes, and nothing in the attributes
-/// of imports and directives.
-pub trait Visit<T: Kind>: Holder {
+/// Visits and rewriting of expressions and types pass over words: formulas of conditional attributes (WESL,
+/// "Conditional Translation"), and what stands in the attributes of imports and directives.
+pub trait Visit<T: Replace>: Collect {
     /// The outermost nodes. Refused for want of memory alone.
     final fn visit(&self, alloc: Global) -> Result<Vec<&T>, Error>
         ensures listed { IfOk result (λ nodes. views T.view nodes.items ≡ outermost (test T.sought) (below T.sought (Self.tree self.now))) }
@@ -50,7 +53,8 @@ pub trait Visit<T: Kind>: Holder {
         Ok(nodes)
     }
 
-    /// Meets every node once. Refused for want of memory, or where the visitor refuses; then a beginning of the nodes was met.
+    /// Meets every node once, a node before those inside it. Refused for want of memory, or where the visitor refuses;
+    /// then a beginning of the nodes was met.
     final fn visit_rec<V: Visitor<T>>(&self, alloc: Global, visitor: &mut V) -> Result<(), Error>
     where
         T: Visit<T>,
@@ -65,10 +69,51 @@ pub trait Visit<T: Kind>: Holder {
         }
         Ok(())
     }
+
+    /// Replaces the outermost nodes, each by what `rewriter` makes of it. Refused for want of memory, where the rewriter
+    /// refuses: the places met before hold their replacement then, and the others are as they were.
+    ///
+    /// Of a whole unit, the rewriter is to make nodes whose numbers are in the table of such nodes. An empty unit, made
+    /// with `alloc`, stands in its place meanwhile, which takes no memory.
+    final fn rewrite<R: Rewrite<T>>(&mut self, alloc: Global, rewriter: &mut R) -> Result<(), Error>
+        requires numbers { KeepsNumbers (Self.table self.old) R.rewrites }
+        ensures replaced { IfOk result (λ _. ReplacedBelow (rule T.sought R.rewrites false) (Self.tree self.old) (Self.tree self.new)) }
+        ensures stopped { IfErr result (λ _. StoppedBelow (rule T.sought R.rewrites false) (Self.tree self.old) (Self.tree self.new)) }
+        ensures named { Self.table self.new ≡ Self.table self.old }
+        ensures refused { IfErr result (λ e. e ≡ error.Memory) }
+    {
+        if self.replace(alloc, false, rewriter) {
+            Ok(())
+        } else {
+            Err(Error::Memory)
+        }
+    }
+
+    /// Replaces all nodes, those inside a node before it, and never enters a replacement. The arguments, what is asked of
+    /// the rewriter and what a refusal leaves are those of `rewrite`.
+    final fn rewrite_rec<R: Rewrite<T>>(
+        &mut self,
+        alloc: Global,
+        rewriter: &mut R,
+    ) -> Result<(), Error>
+    where
+        T: Visit<T>,
+        requires numbers { KeepsNumbers (Self.table self.old) R.rewrites }
+        ensures replaced { IfOk result (λ _. ReplacedBelow (rule T.sought R.rewrites true) (Self.tree self.old) (Self.tree self.new)) }
+        ensures stopped { IfErr result (λ _. StoppedBelow (rule T.sought R.rewrites true) (Self.tree self.old) (Self.tree self.new)) }
+        ensures named { Self.table self.new ≡ Self.table self.old }
+        ensures refused { IfErr result (λ e. e ≡ error.Memory) }
+    {
+        if self.replace(alloc, true, rewriter) {
+            Ok(())
+        } else {
+            Err(Error::Memory)
+        }
+    }
 }
 
 /// A node with its span has the visits of its plain node.
-impl<T: Kind, N: Visit<T>> Visit<T> for Spanned<N> {}
+impl<T: Replace, N: Visit<T>> Visit<T> for Spanned<N> {}
 
 impl Visit<ExpressionNode> for Expression {}
 

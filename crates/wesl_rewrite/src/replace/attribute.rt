@@ -6,7 +6,7 @@ ghost use Rattle.wesl_syntax.specs.Tree.{attribute_node, before, end, forest_of}
 ghost use Rattle.wesl_syntax.specs.View.{attribute_view, attributes_tree, expression_tree, optional, placed, type_view};
 
 use crate::replace::expression::{at_expression, at_expressions, at_type};
-use crate::rewriters::{Replace, Rewrite};
+use wesl_kinds::{Replace, Rewrite, law_of_words};
 use wesl_syntax::{Attribute, AttributeNode, Attributes, ExpressionNode, TypeExpression};
 
 pub(crate) fn at_optional_expression<T: Replace, R: Rewrite<T>>(
@@ -46,6 +46,7 @@ pub(crate) fn in_attribute<T: Replace, R: Rewrite<T>>(
 ) -> bool
     ensures { Went (rule T.Kind.sought R.rewrites deep) goes (before (attribute_view attribute.old) end) result (before (attribute_view attribute.new) end) }
 {
+    law_of_words();
     match attribute {
         Attribute::Align(operand) => at_expression(operand, deep, rewriter, goes),
         Attribute::Binding(operand) => at_expression(operand, deep, rewriter, goes),

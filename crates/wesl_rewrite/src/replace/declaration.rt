@@ -8,7 +8,7 @@ ghost use Rattle.wesl_syntax.specs.View.{alias_view, directive_view, function_vi
 use crate::replace::attribute::{at_attributes, at_optional_type};
 use crate::replace::expression::at_type;
 use crate::replace::statement::{in_assert, in_compound, in_declaration};
-use crate::rewriters::{Replace, Rewrite};
+use wesl_kinds::{Replace, Rewrite, law_of_words};
 use wesl_syntax::{
     FormalParameter, Function, GlobalDeclaration, GlobalDeclarationNode, GlobalDirective,
     GlobalDirectiveNode, ImportStatement, ImportStatementNode, Struct, StructMember,
@@ -155,6 +155,7 @@ fn in_import<T: Replace, R: Rewrite<T>>(
 ) -> bool
     ensures { Went (rule T.Kind.sought R.rewrites deep) goes (before (import_view import.old) end) result (before (import_view import.new) end) }
 {
+    law_of_words();
     T::finish_attributes(&mut import.attributes, rewriter, goes)
 }
 
@@ -181,6 +182,7 @@ fn in_directive<T: Replace, R: Rewrite<T>>(
 ) -> bool
     ensures { Went (rule T.Kind.sought R.rewrites deep) goes (before (directive_view directive.old) end) result (before (directive_view directive.new) end) }
 {
+    law_of_words();
     match directive {
         GlobalDirective::Diagnostic {
             attributes,

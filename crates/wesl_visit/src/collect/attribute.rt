@@ -7,7 +7,7 @@ ghost use Rattle.wesl_visit.specs.Walk.{found, found_in};
 
 use crate::collect::enter::enter;
 use crate::collect::expression::{at_expression, at_expressions, at_type};
-use crate::kinds::{Kind, Node};
+use wesl_kinds::{Kind, Node, law_of_words};
 use wesl_names::Error;
 use wesl_syntax::{Attribute, Attributes, ExpressionNode, TypeExpression};
 
@@ -48,6 +48,7 @@ pub(crate) fn in_attribute<'a, T: Kind>(
     ensures added { IfOk result (λ _. views T.view nodes.new.items ≡ views T.view nodes.old.items ++ found T.sought deep (attribute_view attribute.now)) }
     ensures refused { IfErr result (λ e. e ≡ error.Memory) }
 {
+    law_of_words();
     match attribute {
         Attribute::Align(operand) => at_expression(operand, deep, nodes),
         Attribute::Binding(operand) => at_expression(operand, deep, nodes),

@@ -10,7 +10,7 @@ use crate::collect::attribute::{at_attributes, at_optional_type};
 use crate::collect::enter::enter;
 use crate::collect::expression::at_type;
 use crate::collect::statement::{in_assert, in_compound, in_declaration};
-use crate::kinds::{Kind, Node};
+use wesl_kinds::{Kind, Node, law_of_words};
 use wesl_names::Error;
 use wesl_syntax::{
     Attributes, FormalParameter, Function, GlobalDeclaration, GlobalDeclarationNode,
@@ -162,6 +162,7 @@ fn in_import<'a, T: Kind>(
     ensures added { IfOk result (λ _. views T.view nodes.new.items ≡ views T.view nodes.old.items ++ found T.sought deep (import_view import.now)) }
     ensures refused { IfErr result (λ e. e ≡ error.Memory) }
 {
+    law_of_words();
     at_words(&import.attributes, deep, nodes)
 }
 
@@ -187,6 +188,7 @@ fn in_directive<'a, T: Kind>(
     ensures added { IfOk result (λ _. views T.view nodes.new.items ≡ views T.view nodes.old.items ++ found T.sought deep (directive_view directive.now)) }
     ensures refused { IfErr result (λ e. e ≡ error.Memory) }
 {
+    law_of_words();
     match directive {
         GlobalDirective::Diagnostic {
             attributes,

@@ -1,10 +1,11 @@
 //! What is done where a node of one of the four kinds stands.
 ghost use Rattle.std.specs.Prelude.{◌≡◌, ◌++◌, IfErr, IfOk};
 ghost use Rattle.wesl_names.specs.declared.errors.Error as error;
-ghost use Rattle.wesl_visit.specs.Lent.{node_tree, views};
+ghost use Rattle.wesl_kinds.specs.Lent.{node_tree};
+ghost use Rattle.wesl_visit.specs.Lent.{views};
 ghost use Rattle.wesl_visit.specs.Walk.{goes_on, itself};
 
-use crate::kinds::{Kind, Node};
+use wesl_kinds::{Kind, Node};
 use wesl_names::Error;
 
 /// Takes the node down where it is of the kind that is looked for, and answers whether the walk goes on below it.

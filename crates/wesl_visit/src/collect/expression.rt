@@ -7,7 +7,7 @@ ghost use Rattle.wesl_visit.specs.Lent.{views};
 ghost use Rattle.wesl_visit.specs.Walk.{found, found_in};
 
 use crate::collect::enter::enter;
-use crate::kinds::{Kind, Node};
+use wesl_kinds::{Kind, Node, law_of_expressions};
 use wesl_names::Error;
 use wesl_syntax::{Expression, ExpressionNode, FunctionCall, TemplateArg, TypeExpression};
 
@@ -54,6 +54,7 @@ pub(crate) fn at_expression<'a, T: Kind>(
     ensures added { IfOk result (λ _. views T.view nodes.new.items ≡ views T.view nodes.old.items ++ found T.sought deep (expression_tree node.now)) }
     ensures refused { IfErr result (λ e. e ≡ error.Memory) }
 {
+    law_of_expressions();
     if enter(Node::Expression(node), deep, nodes)? {
         in_expression(&node.node, deep, nodes)
     } else {
@@ -70,6 +71,7 @@ pub(crate) fn at_expressions<'a, T: Kind>(
     ensures added { IfOk result (λ _. views T.view nodes.new.items ≡ views T.view nodes.old.items ++ found T.sought deep (listed expression_tree list expressions.now)) }
     ensures refused { IfErr result (λ e. e ≡ error.Memory) }
 {
+    law_of_expressions();
     for node in expressions {
         if !enter(Node::Expression(node), deep, nodes)? {
             continue;
@@ -101,6 +103,7 @@ pub(crate) fn at_type<'a, T: Kind>(
     ensures added { IfOk result (λ _. views T.view nodes.new.items ≡ views T.view nodes.old.items ++ found T.sought deep (type_view ty.now)) }
     ensures refused { IfErr result (λ e. e ≡ error.Memory) }
 {
+    law_of_expressions();
     if enter(Node::TypeExpression(ty), deep, nodes)? {
         in_type(ty, deep, nodes)
     } else {

@@ -10,7 +10,7 @@ ghost use Rattle.wesl_visit.specs.Walk.{found};
 use crate::collect::attribute::{at_attributes, at_optional_expression, at_optional_type};
 use crate::collect::enter::enter;
 use crate::collect::expression::{at_expression, in_call};
-use crate::kinds::{Kind, Node};
+use wesl_kinds::{Kind, Node};
 use wesl_names::Error;
 use wesl_syntax::{
     BreakIfStatement, CaseSelector, CompoundStatement, ConstAssert, ContinuingStatement,

@@ -69,12 +69,12 @@ returns-in-Some g c =
 pub returns-in-If : goal.returns-in-If
 returns-in-If g c =
     let p = ap attribute_view c.in-If.is in
-    viewed _ _ p p (if_went _ _ _)
+    viewed _ _ p p (if_went c.law_of_words.ensures.attributes _ _ _)
 
 pub returns-in-Elif : goal.returns-in-Elif
 returns-in-Elif g c =
     let p = ap attribute_view c.in-Elif.is in
-    viewed _ _ p p (elif_went _ _ _)
+    viewed _ _ p p (elif_went c.law_of_words.ensures.attributes _ _ _)
 
 pub returns-in-Builtin : goal.returns-in-Builtin
 returns-in-Builtin g c =

@@ -8,8 +8,8 @@ use Rattle.wesl_syntax.specs.declared.expression.FunctionCall.{out-FunctionCall}
 use Rattle.wesl_syntax.specs.declared.expression.TemplateArg.{roll-TemplateArg}
 use Rattle.wesl_syntax.specs.declared.expression.Expression.{Expression}
 use Rattle.wesl_syntax.specs.declared.span.Spanned.{Spanned}
-use Rattle.wesl_rewrite.specs.Picks.{seeks_expressions}
-use Rattle.wesl_rewrite.specs.Went.{Finished}
+use Rattle.wesl_kinds.specs.Picks.{seeks_expressions}
+use Rattle.wesl_kinds.specs.Finished.{Finished}
 use Rattle.wesl_rewrite.proofs.Expressions.{literal_hollow, type_after, type_none, type_some, view_argument, view_argument_of, view_binary, view_call, view_call_expression, view_call_of, view_indexing, view_literal, view_name, view_named, view_parenthesized, view_unary}
 use Rattle.wesl_rewrite.proofs.Steps.{beside, boxed, first_all, first_none, inside, passed_step, passed_twice, taken_else, taken_if, unmoved, viewed, went_list}
 use Rattle.wesl_rewrite.proofs.Views.{type_label}

@@ -1,7 +1,7 @@
 use Rattle.wesl_syntax.specs.View.{attributes_tree}
 use Rattle.wesl_visit.specs.Lent.{views}
-use Rattle.wesl_visit.proofs.Plain.{seen_attributes}
 use Rattle.wesl_visit.proofs.Walks.{goes_in, goes_not}
+use Rattle.wesl_visit.proofs.Seen.{seen_attributes}
 use Rattle.wesl_visit.proofs.collect.attribute.at_attributes.Goals as goal
 
 pub returns-then-branch-clause-added : goal.returns-then-branch-clause-added

@@ -5,9 +5,9 @@ use Rattle.wesl_syntax.specs.Tree.{branch, present, statements}
 use Rattle.wesl_syntax.specs.View.{attributes_tree, call_view, clause_view, compound_view, else_if_view, expression_tree, listed, optional, statement_tree, statement_view}
 use Rattle.wesl_syntax.specs.declared.statement.CompoundStatement.{out-CompoundStatement}
 use Rattle.wesl_visit.specs.Walk.{found}
-use Rattle.wesl_visit.proofs.Plain.{seen_statement}
 use Rattle.wesl_visit.proofs.Views.{view_call_statement, view_compound, view_for, view_return, view_while}
 use Rattle.wesl_visit.proofs.Walks.{all_pieces, compound_found, first_piece, last_piece, present_found, other_words, goes_in, goes_not, list_found, next_found, one_then_other}
+use Rattle.wesl_visit.proofs.Seen.{seen_statement}
 use Rattle.wesl_visit.proofs.collect.statement.+collecting_statements.Goals as goal
 
 pub at_statements-loop-node-preserved-then-not-branch : goal.at_statements-loop-node-preserved-then-not-branch

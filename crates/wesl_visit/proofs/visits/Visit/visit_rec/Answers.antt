@@ -3,7 +3,8 @@ use Rattle.std.proofs.lemmas.List.{take_all}
 use Rattle.wesl_syntax.specs.Nodes.{all_nodes}
 use Rattle.wesl_visit.specs.Lent.{views}
 use Rattle.wesl_visit.specs.Run.{Run, still}
-use Rattle.wesl_visit.specs.Sought.{below, test}
+use Rattle.wesl_visit.specs.Seen.{below}
+use Rattle.wesl_kinds.specs.Sought.{test}
 use Rattle.wesl_visit.specs.Walk.{strictly}
 use Rattle.wesl_visit.proofs.Joined.{all_found_below}
 use Rattle.wesl_visit.proofs.Runs.{begun_by, begun_none, on_err, run_more}
