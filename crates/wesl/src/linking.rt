@@ -5,7 +5,6 @@ ghost use Rattle.serde_json.specs.Written.{has_float};
 ghost use Rattle.wesl_names.specs.Path.{path_view, is_relative};
 ghost use Rattle.wesl_names.specs.declared.errors.Error as error;
 ghost use Rattle.wesl_syntax.specs.Unit.{UnitView};
-ghost use Rattle.wesl_tree.specs.Translation.{unit_view};
 ghost use Rattle.wesl_form.specs.Units.{unit_value};
 ghost use Rattle.wesl.specs.Bundle.{Module};
 ghost use Rattle.wesl.specs.Holds.{Holds};
@@ -16,7 +15,6 @@ use crate::bundle_resolver::BundleResolver;
 use crate::options::{Naming, Options};
 use serde_json::Value;
 use std::alloc::{AllocError, Global};
-use wesl_form_laws::law_of_numbers;
 use wesl_json::value_of_unit;
 use wesl_link::{Resolutions, Resolver, resolve_lazy};
 use wesl_mangle::{EscapeMangler, NoMangler, UnicodeMangler};
@@ -31,7 +29,7 @@ pub(crate) fn linked(alloc: Global, bundle: &Bundle) -> Result<Value, Error>
     ensures refused { IfErr result IsModuleFault }
 {
     let unit = linked_unit(alloc, bundle)?;
-    whole_value(alloc, &unit)
+    value_of_unit(alloc, &unit)
 }
 
 /// The root is handed out as each other module is. Of the other modules those are loaded that are reached from the
@@ -86,14 +84,4 @@ fn names<'b>(alloc: Global, keep: &'b [String]) -> Result<Vec<&'b str>, AllocErr
         names.push(name.as_str())?;
     }
     Ok(names)
-}
-
-// The value of a unit. It has no number that is not whole.
-fn whole_value(alloc: Global, unit: &TranslationUnit) -> Result<Value, Error>
-    ensures written { IfOk result (λ v. view v ≡ unit_value (unit_view unit.now)) }
-    ensures whole { IfOk result (λ v. has_float (view v) ≡ false) }
-    ensures refused { IfErr result (λ e. e ≡ error.Memory) }
-{
-    law_of_numbers();
-    value_of_unit(alloc, unit)
 }

@@ -1,15 +1,15 @@
 -- What is written has no number.
-use Rattle.std.proofs.Common.{◌≡◌, ℕ, List, [], ◌∷◌, Bool, true, false, ◌||◌, ◌&&◌, if◌then◌else◌, Option, Some, None, option_map, option_and_then, refl, sym, ap, ◌∙◌, subst, Ordering, Less, Equal, Greater}
+use Rattle.std.proofs.Common.{◌≡◌, List, [], ◌∷◌, Bool, true, false, ◌||◌, ◌&&◌, if◌then◌else◌, Option, Some, None, option_map, option_and_then, refl, Ordering, Less, Equal, Greater}
 use Rattle.std.specs.Ordering.{nat_cmp, match_ordering}
 use Rattle.std.specs.Cmp.Lexicographic.{slice_cmp}
-use Rattle.serde_json.specs.Data.{Data, string, boolean, object, Members, no_members, member, put}
+use Rattle.serde_json.specs.Data.{Data, string, boolean, Members, no_members, member, put}
 use Rattle.serde_json.specs.Written.{has_float, items_have_float, members_have_float}
 use Rattle.wesl_names.specs.Path.{Text}
 use Rattle.wesl_syntax.specs.Tree.{kind, at, ident, text, texts, truth, unary, binary, assignment, space, access, path, end, tree, before, literal, type_or_identifier}
-use Rattle.wesl_syntax.specs.Unit.{UnitView, spelled}
-use Rattle.wesl_form.specs.Schema.{SpelledForest, SpelledLabel, Words, Leaf, an_ident, a_name, a_text, a_literal, some_names, a_path, one_of, a_fixed_path, a_truth, a_limit, some_texts, a_map_to, anything, Name, Form, leaf, list_of, node, Head, fixed, chosen, Row, nothing, marked, needs, may, many, given, inner, inner_where, Node, a_unit, an_import, a_content, an_entry, a_directive, a_declaration, a_member, a_parameter, a_body, a_statement, an_elif, an_else, a_clause, a_case, a_continuing, a_break_if, a_call, a_type, a_template_argument, an_expression, an_attribute, a_bundle, a_module, a_package, a_package_module, some_features, some_builtins}
-use Rattle.wesl_form.specs.Units.{unit_value, unit_tree}
-use Rattle.wesl_form.specs.Writing.{texts_value, label_value, leaf_value, text_or_null, word_of, Writes, written_forest, value_at, row_at, short_value, short_type_value, short_expression_value, object_value, first_fit, candidates, marks, unmarked, put_list, put_head, is_absent, is_empty_array, is_absent_at, ident_in, truth_in, label_at, has_label, children_of_first}
+use Rattle.wesl_syntax.specs.Unit.{spelled}
+use Rattle.wesl_form.specs.Schema.{SpelledForest, SpelledLabel, Leaf, an_ident, a_name, a_text, a_literal, some_names, a_path, one_of, a_fixed_path, a_truth, a_limit, some_texts, a_map_to, anything, Name, Form, leaf, list_of, node, Head, fixed, chosen, Row, nothing, marked, needs, may, many, given, inner, inner_where, Node, a_unit, an_import, a_content, an_entry, a_directive, a_declaration, a_member, a_parameter, a_body, a_statement, an_elif, an_else, a_clause, a_case, a_continuing, a_break_if, a_call, a_type, a_template_argument, an_expression, an_attribute, a_bundle, a_module, a_package, a_package_module, some_features, some_builtins}
+use Rattle.wesl_form.specs.Units.{unit_tree}
+use Rattle.wesl_form.specs.Writing.{texts_value, label_value, leaf_value, text_or_null, word_of, Writes, written_forest, value_at, short_value, short_type_value, short_expression_value, object_value, first_fit, candidates, marks, unmarked, put_head, is_absent, is_empty_array, is_absent_at, ident_in, truth_in, label_at, has_label, children_of_first}
 use Rattle.wesl_form.specs.Words.{attribute_words}
 use Rattle.wesl_form_laws.specs.Readable.{HaveNoFloat}
 

@@ -5,7 +5,7 @@ use Rattle.serde_json.specs.Written.{has_float}
 use Rattle.wesl_names.specs.Path.{Text, Path}
 use Rattle.wesl_names.specs.PathText.{parse, to_text}
 use Rattle.wesl_syntax.specs.Tree.{ForestOf, end, tree, kind, ident, text, texts, path, literal, diagnostic, diagnostic_directive, unit}
-use Rattle.wesl_syntax.specs.Unit.{UnitView, forest_of_unit, spelled}
+use Rattle.wesl_syntax.specs.Unit.{UnitOf, UnitView, forest_of_unit, spelled}
 use Rattle.wesl_tree.specs.Translation.{unit_view}
 use Rattle.wesl_tree.specs.declared.unit.TranslationUnit.{TranslationUnit}
 use Rattle.wesl_form.specs.Schema.{SpelledLabel, SpelledForest, node, a_unit, nonempty}
@@ -36,6 +36,10 @@ is_readable p _ = true
 abbrev pub are_readable : SpelledLabel → SpelledForest → Bool
 are_readable p end = true
 are_readable p (tree l children others) = is_readable p l && (are_readable l children && are_readable p others)
+
+-- a unit whose names are nonempty, whose literal texts are as the format says, and whose path texts say paths
+abbrev pub IsReadable : UnitOf Text → Type 0
+IsReadable u = are_readable (kind unit) (forest_of_unit u) ≡ true
 
 -- the text of a path is that of the same path, or of none
 abbrev pub HasText : Path → Type 0

@@ -8,6 +8,6 @@ pub fn law_of_units()
 {}
 
 /// What a unit is written as has no number that is not whole.
-pub fn law_of_numbers()
+pub fn law_of_whole_values()
     ensures { HaveNoFloat }
 {}

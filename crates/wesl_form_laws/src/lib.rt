@@ -3,4 +3,4 @@
 
 mod laws;
 
-pub use laws::{law_of_numbers, law_of_units};
+pub use laws::{law_of_units, law_of_whole_values};

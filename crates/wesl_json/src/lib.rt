@@ -1,8 +1,8 @@
-//! Trees in their JSON form: reading and writing.
+//! Units in their JSON form: as values and as texts.
 #![tactic(auto)]
 
-#[cfg(test)]
-mod tests;
+mod text;
+mod unit;
 
-pub use wesl_unit::unit_of_value;
-pub use wesl_writing::value_of_unit;
+pub use text::JsonText;
+pub use unit::{unit_of_value, value_of_unit};

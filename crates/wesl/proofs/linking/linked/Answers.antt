@@ -12,4 +12,4 @@ some_unit (Ok v) u h = (u, h)
 some_unit (Err e) u h = tt
 
 pub returns-clause-written : goal.returns-clause-written
-returns-clause-written c = some_unit c.whole_value.result (unit_view c.in_ok-unit.unit) c.whole_value.ensures.written
+returns-clause-written c = some_unit c.value_of_unit.result (unit_view c.in_ok-unit.unit) c.value_of_unit.ensures.written

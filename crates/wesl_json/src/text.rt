@@ -1,0 +1,57 @@
+//! Units as JSON texts.
+ghost use Rattle.std.specs.Prelude.{◌≡◌, ◌⊎◌, IfErr, IfOk, string_bytes};
+ghost use Rattle.wesl_names.specs.declared.errors.Error as error;
+ghost use Rattle.wesl_syntax.specs.Unit.{spelled};
+ghost use Rattle.wesl_tree.specs.Translation.{unit_view};
+ghost use Rattle.wesl_json.specs.UnitTexts.{IsUnreadable, PrintsAs, ReadsAs};
+
+use crate::unit::{unit_of_value, value_of_unit};
+use std::alloc::Global;
+use wesl_form_laws::law_of_units;
+use wesl_json_text::{text_of_value, value_of_text};
+use wesl_resolve::UnitText;
+use wesl_tree::{Diagnostic, Error, TranslationUnit};
+
+/// Units as JSON texts with no space. A text that is no JSON, or that nests deeper than 127, is refused with `NotJson`,
+/// and one whose value stands for no unit with `BadTree`.
+#[derive(Clone, Copy, Debug)]
+pub struct JsonText;
+
+impl UnitText for JsonText {
+    ghost use Rattle.wesl_json.specs.UnitTexts.{IsUnreadable, PrintsAs, ReadsAs};
+
+    ghost reads = { λ _ text u. ReadsAs text u };
+
+    ghost unreadable = { λ _ text e. IsUnreadable text e };
+
+    ghost prints = { λ _ u text. PrintsAs u text };
+
+    fn read(&self, alloc: Global, text: &str) -> Result<TranslationUnit, Diagnostic> {
+        Ok(unit_of_text(alloc, text)?)
+    }
+
+    fn print(&self, alloc: Global, unit: &TranslationUnit) -> Result<String, Diagnostic> {
+        Ok(text_of_unit(alloc, unit)?)
+    }
+
+    ghost reads_back = { λ _ u v text paths printed read. printed.read_back paths v read };
+}
+
+// The unit that the value of a text stands for.
+fn unit_of_text(alloc: Global, text: &str) -> Result<TranslationUnit, Error>
+    ensures read { IfOk result (λ u. ReadsAs text.now (spelled (unit_view u))) }
+    ensures refused { IfErr result (λ e. (e ≡ error.Memory) ⊎ IsUnreadable text.now e) }
+{
+    let value = value_of_text(alloc, text)?;
+    unit_of_value(alloc, &value)
+}
+
+// The text of the value that a unit is written as.
+fn text_of_unit(alloc: Global, unit: &TranslationUnit) -> Result<String, Error>
+    ensures printed { IfOk result (λ text. PrintsAs (spelled (unit_view unit.now)) (string_bytes text)) }
+    ensures refused { IfErr result (λ e. e ≡ error.Memory) }
+{
+    law_of_units();
+    let value = value_of_unit(alloc, unit)?;
+    text_of_value(alloc, &value)
+}

@@ -1,0 +1,55 @@
+//! Units and the values of their JSON form.
+ghost use Rattle.std.specs.Prelude.{◌≡◌, false, IfErr, IfOk};
+ghost use Rattle.serde_json.specs.View.{view};
+ghost use Rattle.serde_json.specs.Written.{has_float};
+ghost use Rattle.wesl_names.specs.declared.errors.Error as error;
+ghost use Rattle.wesl_syntax.specs.Unit.{spelled};
+ghost use Rattle.wesl_tree.specs.Translation.{unit_view};
+ghost use Rattle.wesl_form.specs.Nodes.{whole_form};
+ghost use Rattle.wesl_form.specs.Units.{IsBrokenUnit, IsNoUnit, IsUnitOf, unit_value};
+ghost use Rattle.wesl_form_laws.specs.Readable.{IsReadable};
+ghost use Rattle.wesl_reading.specs.Faults.{IfPlace};
+ghost use Rattle.wesl_json.specs.ReadAgain.{OfWritten};
+
+use serde_json::Value;
+use std::alloc::Global;
+use wesl_form_laws::{law_of_units, law_of_whole_values};
+use wesl_tree::{Error, TranslationUnit};
+
+/// The unit that a value stands for.
+///
+/// Each distinct name gets one number, by first occurrence in document order, and no node has a span. A value that
+/// stands for no unit is refused with `BadTree`, which holds the JSON Pointer of a value that is wrong: of an object
+/// with an unknown key or without a key that it needs, of an unknown word, of an empty name, of a number, or of a value
+/// of another kind than its place asks for. Otherwise it is refused for want of memory alone.
+///
+/// What a unit was written as is read with the unit's spelling, if each path in it has a text that says no other path.
+/// It is read just where the names of the unit are nonempty, its literal texts are as the format says and its path texts
+/// say paths.
+pub fn unit_of_value(alloc: Global, value: &Value) -> Result<TranslationUnit, Error>
+    ensures unit { IfOk result (λ u. IsUnitOf whole_form (view value.now) (unit_view u)) }
+    ensures place { IfErr result (λ e. IfPlace e (IsBrokenUnit whole_form (view value.now))) }
+    ensures unread { IfErr result (λ e. IfPlace e (λ _. IsNoUnit whole_form (view value.now))) }
+
+    // of the value that a unit was written as
+    ensures reads_back { IfOk result (λ r. OfWritten (view value.now) (λ u. spelled (unit_view r) ≡ u)) }
+    ensures only_readable { IfOk result (λ _. OfWritten (view value.now) IsReadable) }
+    ensures is_read { IfErr result (λ e. OfWritten (view value.now) (λ u. IsReadable u → e ≡ error.Memory)) }
+{
+    law_of_units();
+    wesl_unit::unit_of_value(alloc, value)
+}
+
+/// The value that a unit is written as: its form with the names for the identifiers.
+///
+/// Short forms are used wherever they exist, and empty lists and absent options are left out, except the arguments of a
+/// type or of a custom attribute, which are written wherever they are there. It has no number that is not whole. Refused
+/// for want of memory alone.
+pub fn value_of_unit(alloc: Global, unit: &TranslationUnit) -> Result<Value, Error>
+    ensures written { IfOk result (λ v. view v ≡ unit_value (unit_view unit.now)) }
+    ensures whole { IfOk result (λ v. has_float (view v) ≡ false) }
+    ensures refused { IfErr result (λ e. e ≡ error.Memory) }
+{
+    law_of_whole_values();
+    wesl_writing::value_of_unit(alloc, unit)
+}

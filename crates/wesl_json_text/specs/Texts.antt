@@ -1,0 +1,16 @@
+-- Which text a JSON value has, and why a text is refused.
+use Rattle.std.specs.Prelude.{◌≡◌, ◌⊎◌, Some, None, false}
+use Rattle.serde_json.specs.Data.{Data}
+use Rattle.serde_json.specs.Read.{read}
+use Rattle.serde_json.specs.Written.{compact_text, has_float}
+use Rattle.wesl_names.specs.Path.{Text}
+use Rattle.wesl_names.specs.declared.errors.Error as error
+
+-- memory was refused, or the text is no JSON
+abbrev pub IsNoJson : Text → error.Error → Type 0
+IsNoJson text e = (e ≡ error.Memory) ⊎ (e ≡ error.NotJson) × (read text ≡ None)
+
+-- the text with no space, of a value that has no float; where it is read, it is read as the value
+pub record IsTextOf (d : Data) (text : Text) : Type 0 where
+  pub compact : has_float d ≡ false → text ≡ compact_text d
+  pub read_as : (e : Data) → read text ≡ Some e → e ≡ d
