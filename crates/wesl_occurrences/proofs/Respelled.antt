@@ -6,10 +6,8 @@ use Rattle.wesl_names.specs.Path.{Path}
 use Rattle.wesl_syntax.specs.Tree.{Kind, ForestOf, Forest, end, tree, kind, at, ident, text, texts, truth, unary, binary, assignment, space, access, path, respell_label, respell_forest}
 use Rattle.wesl_syntax.specs.Unit.{UnitView, UnitOf, forest_of_unit, trees_of, spelled, name_in}
 use Rattle.wesl_names.specs.Path.{Text}
+use Rattle.wesl_occurrences.specs.Laws.{renamed}
 use Rattle.wesl_occurrences.specs.Occurrences.{Block, OccurrenceIn, Occurrence, Shape, of_function, of_parameter, of_body, of_holder, of_loop, of_continuing, of_for, of_words, of_custom, of_type, of_value, of_globals, of_other, shape_of, fields, opens, Surroundings, Blocks, Node, field_in, entered, declares_in, first_declaration, path_of, plain, node_by, here_in, after_field, occurrence, count, blocks_in, blocks_at, occurrences_from, occurrences}
-
-abbrev pub renamed : {I J B : Type 0} → (I → J) → OccurrenceIn I B → OccurrenceIn J B
-renamed f o = record { role = o.role; name = f o.name; place = o.place; block = o.block; declaration = o.declaration; excused = o.excused }
 
 module _ {J : Type 0} (g : ℕ → J) where
   count_same : (f : Forest) → count (respell_forest g f) ≡ count f

@@ -3,3 +3,4 @@ pub mod Walk
 pub mod Ways
 pub mod Views
 pub mod Identified
+pub mod Laws

@@ -6,13 +6,12 @@ mod declarations;
 mod expressions;
 mod functions;
 mod imports;
+mod laws;
 mod occurrence;
 mod statements;
 mod walk;
 mod whole;
 
+pub use laws::{law_of_occurrences, law_of_ways};
 pub use occurrence::{Occurrence, Standing};
 pub use whole::{Identifiers, occurrences};
-
-#[cfg(test)]
-mod tests;

@@ -1,8 +1,13 @@
+mod Canonical
+pub mod Entries
 pub mod EntryPoints
 pub mod Keeping
-pub mod Marking
-pub mod Reaching
-pub mod Stripping
-mod Canonical
-mod Numbering
 mod LeastSet
+pub mod Marking
+pub mod Meanings
+pub mod Numbered
+mod Numbering
+pub mod Reaching
+pub mod Retargeted
+pub mod Scoping
+pub mod Stripping

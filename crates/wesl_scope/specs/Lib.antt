@@ -9,3 +9,5 @@ pub mod Canonical
 pub mod Builders
 pub mod Rows
 pub mod Retarget
+pub mod Keys
+pub mod Numbering

@@ -3,15 +3,16 @@
 
 mod entry_points;
 mod kept;
+mod keys;
 mod laws;
+mod numbers;
+mod retarget;
 mod rows;
 mod strip;
+mod syntax_util;
 
-pub use entry_points::SyntaxUtil;
 pub use kept::kept_declarations;
 pub use laws::{law_of_numbers, law_of_stripping};
 pub use rows::{numbers_of_rows, retarget_row};
 pub use strip::strip_except;
-
-#[cfg(test)]
-mod tests;
+pub use syntax_util::SyntaxUtil;

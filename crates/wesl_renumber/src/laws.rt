@@ -1,0 +1,13 @@
+//! Laws of the definitions.
+ghost use Rattle.wesl_renumber.specs.Leaves.{HaveLeaves, TakesNumbers, KeepsSpelling};
+
+/// An identifier has nothing below it in the trees of nodes.
+pub fn law_of_leaves()
+    ensures { HaveLeaves }
+{}
+
+/// Trees in which each identifier has its number from a list have these numbers, and are else as they were.
+pub fn law_of_renumbering()
+    ensures numbers { TakesNumbers }
+    ensures spelling { KeepsSpelling }
+{}

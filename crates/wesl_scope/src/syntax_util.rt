@@ -1,0 +1,57 @@
+//! What is asked of a module's tree, and done to it.
+ghost use Rattle.std.specs.Prelude.{◌≡◌, IfOk, IfErr, OnOk, map};
+ghost use Rattle.wesl_names.specs.declared.errors.Error as error;
+ghost use Rattle.wesl_syntax.specs.Unit.{numbers, spelled};
+ghost use Rattle.wesl_occurrences.specs.Occurrences.{occurrences};
+ghost use Rattle.wesl_renumber.specs.Renumbered.{HasSameNodes};
+ghost use Rattle.wesl_scope.specs.EntryPoints.{entry_points_of};
+ghost use Rattle.wesl_scope.specs.Numbers.{AreNumbers};
+ghost use Rattle.wesl_scope.specs.Scopes.{keys};
+
+use crate::entry_points::entry_point;
+use crate::retarget::retargeted;
+use std::alloc::Global;
+use wesl_tree::{Error, Ident, TranslationUnit};
+
+/// What is asked of a module's tree, and done to it.
+pub trait SyntaxUtil {
+    /// The names of the entry points (WGSL, "Entry Points"): of the functions with `@vertex`, `@fragment` or
+    /// `@compute`, in source order, each declaration once. Refused for want of memory alone.
+    fn entry_points(&self, alloc: Global) -> Result<Vec<Ident>, Error>;
+
+    /// Gives the identifiers of a module new numbers, by what they mean: two have one number exactly where plain
+    /// scoping gives them one key (WGSL, "Declaration and Scope"), and numbers run 0, 1, 2, .. by first occurrence in
+    /// document order. The table of names then has one name for each number. The spelling stays, and spans too.
+    ///
+    /// Refused for want of memory alone; the unit is then as before.
+    fn retarget_idents(&mut self, alloc: Global) -> Result<(), Error>;
+}
+
+impl SyntaxUtil for TranslationUnit {
+    ghost use Rattle.wesl_tree.specs.Translation.{unit_view};
+
+    fn entry_points(&self, alloc: Global) -> Result<Vec<Ident>, Error>
+        ensures names { IfOk result (λ names. map (λ i. i.0) names.items ≡ entry_points_of (unit_view self.now).declarations.children) }
+        ensures refused { IfErr result (λ e. e ≡ error.Memory) }
+    {
+        let mut names = Vec::new(alloc);
+        for declaration in self.global_declarations() {
+            if let Some(name) = entry_point(&declaration.node) {
+                names.push(name)?;
+            }
+        }
+        Ok(names)
+    }
+
+    fn retarget_idents(&mut self, alloc: Global) -> Result<(), Error>
+        ensures numbers { OnOk result (AreNumbers (keys (occurrences (spelled (unit_view self.old)))) (numbers (unit_view self.new))) }
+        ensures nodes { OnOk result (HasSameNodes (unit_view self.old) (unit_view self.new)) }
+        ensures spelling { OnOk result (spelled (unit_view self.new) ≡ spelled (unit_view self.old)) }
+        ensures refused { IfErr result (λ e. e ≡ error.Memory) }
+        ensures unchanged { IfErr result (λ _. unit_view self.new ≡ unit_view self.old) }
+    {
+        let copy = retargeted(alloc, self)?;
+        *self = copy;
+        Ok(())
+    }
+}
