@@ -1,19 +1,18 @@
 -- Faults in a node, from the faults in its parts.
-use Rattle.std.proofs.Common.{◌≡◌, ℕ, true, false, List, [], ◌∷◌, map, ◌⊎◌, inl, inr, Option, Some, None, Result, Ok, Err, Vec, Global, Box, rules, refl, sym, ap, ◌∙◌, subst}
+use Rattle.std.proofs.Common.{◌≡◌, ℕ, false, List, [], ◌∷◌, map, inl, inr, Option, Some, None, Result, Ok, Err, Vec, Global, Box, rules, refl, sym, ap, ◌∙◌, subst}
 use Rattle.std.specs.Box.{box_value}
-use Rattle.wesl_cond.specs.Faults.{Stands, beside, list_faults}
-use Rattle.wesl_cond.specs.Judging.{IsClear, RefusesIn, Checks, in_turn}
-use Rattle.wesl_cond.specs.Lists.{elements, alone, is_entered}
+use Rattle.wesl_chains.specs.Faults.{beside, list_faults}
+use Rattle.wesl_chains.specs.Judging.{IsClear, RefusesIn, Checks, in_turn}
+use Rattle.wesl_chains.specs.Lists.{elements, alone, is_entered}
 use Rattle.wesl_cond.proofs.Closed.{body_refused, body_checked}
-use Rattle.wesl_cond.proofs.Settled.{view_clause, view_continuing, view_loop}
-use Rattle.wesl_cond.proofs.Standing.{stay, split, in_first, nothing, clear_leaf, passed_by, checks_same, refuses_more, list_checked, list_refused, first_refused, next_checked, skip}
+use Rattle.wesl_cond.proofs.Settled.{view_clause, view_loop}
+use Rattle.wesl_cond.proofs.Standing.{stay, split, in_first, nothing, clear_leaf, passed_by, checks_same, list_checked, first_refused, next_checked, skip}
 use Rattle.wesl_cond.proofs.Views.{view_compound, view_if, view_switch, view_for}
 use Rattle.wesl_formula.specs.Evaluation.{Refuses}
-use Rattle.wesl_formula.specs.Faults.{Fault}
 use Rattle.wesl_formula.specs.Features.{Replies}
 use Rattle.wesl_names.specs.Path.{Text}
 use Rattle.wesl_names.specs.declared.errors.Error as error
-use Rattle.wesl_syntax.specs.Tree.{Tree, Forest, end, kind, at, before, branch, forest_of, list, present, absent, statement_node, statements, compound, compound_statement, if_statement, if_clause, else_if_clause, else_clause, switch, clauses, switch_clause, loop, continuing, for_loop, while_loop, declaration_node, struct, members, function, parameters}
+use Rattle.wesl_syntax.specs.Tree.{Tree, Forest, end, kind, at, before, branch, forest_of, list, present, absent, statement_node, compound_statement, if_statement, if_clause, else_if_clause, else_clause, switch, clauses, switch_clause, loop, for_loop, while_loop}
 use Rattle.wesl_syntax.specs.View.{attributes_tree, clause_step, clause_view, compound_step, compound_view, continuing_step, continuing_view, else_if_step, else_if_view, else_step, else_view, expression_tree, if_step, if_view, listed, optional, selector_view, statement_step, statement_tree, statement_view}
 use Rattle.wesl_syntax.specs.declared.attribute.Attribute.{Attribute}
 use Rattle.wesl_syntax.specs.declared.expression.Expression.{Expression}
@@ -21,7 +20,7 @@ use Rattle.wesl_syntax.specs.declared.span.Spanned.{Spanned}
 use Rattle.wesl_syntax.specs.declared.statement.CaseSelector.{CaseSelector}
 use Rattle.wesl_syntax.specs.declared.statement.CaseSelector.TheVariants as selectors
 use Rattle.wesl_syntax.specs.declared.statement.CompoundStatement.{CompoundStatement, out-CompoundStatement}
-use Rattle.wesl_syntax.specs.declared.statement.ContinuingStatement.{ContinuingStatement, out-ContinuingStatement}
+use Rattle.wesl_syntax.specs.declared.statement.ContinuingStatement.{ContinuingStatement}
 use Rattle.wesl_syntax.specs.declared.statement.ElseClause.{ElseClause, out-ElseClause}
 use Rattle.wesl_syntax.specs.declared.statement.ElseIfClause.{ElseIfClause, out-ElseIfClause}
 use Rattle.wesl_syntax.specs.declared.statement.IfClause.{IfClause, out-IfClause}

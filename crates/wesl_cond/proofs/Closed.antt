@@ -1,10 +1,10 @@
 -- Bodies, and loops with what closes their lists.
-use Rattle.std.proofs.Common.{◌≡◌, ℕ, Bool, true, false, cond, List, [], ◌∷◌, ◌++◌, map, ◌⊎◌, inl, inr, Option, Some, None, Result, Ok, Err, Vec, Global, refl, sym, ap, ◌∙◌, subst}
-use Rattle.wesl_cond.specs.Faults.{Stands, here, inside, beside, list_faults, list_at, closed_list}
-use Rattle.wesl_cond.specs.Judging.{IsClear, RefusesIn, Checks, closing}
-use Rattle.wesl_cond.specs.Lists.{Element, element, elements, back, option_of, alone, closed, judged, is_entered, is_closed, holds_body}
-use Rattle.wesl_cond.specs.Nodes.{optional_forest}
-use Rattle.wesl_cond.proofs.Standing.{stay, split, nothing, below, held_body, in_held_body, held_option, in_held_option, passed_by, refuses_more, checks_same, list_refused, list_checked, skip}
+use Rattle.std.proofs.Common.{◌≡◌, ℕ, true, false, List, [], ◌∷◌, ◌++◌, ◌⊎◌, inl, inr, Option, Some, None, Result, Err, Vec, Global, refl, sym, ap, ◌∙◌, subst}
+use Rattle.wesl_chains.specs.Faults.{Stands, inside, beside, list_faults, list_at}
+use Rattle.wesl_chains.specs.Judging.{IsClear, RefusesIn, Checks, closing}
+use Rattle.wesl_chains.specs.Lists.{Element, elements, back, option_of, alone, judged, is_entered, is_closed, holds_body}
+use Rattle.wesl_chains.specs.Nodes.{optional_forest}
+use Rattle.wesl_cond.proofs.Standing.{stay, below, held_body, in_held_body, held_option, in_held_option, passed_by, refuses_more, checks_same, list_refused, list_checked, skip}
 use Rattle.wesl_cond.proofs.Walked.{open_front}
 use Rattle.wesl_formula.specs.Evaluation.{Refuses}
 use Rattle.wesl_formula.specs.Faults.{Fault}

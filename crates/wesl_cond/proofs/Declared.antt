@@ -1,19 +1,18 @@
 -- Faults in imports, directives and declarations, from the faults in their parts.
-use Rattle.std.proofs.Common.{◌≡◌, ℕ, false, true, List, [], ◌∷◌, map, Option, Some, None, Result, Ok, Err, Vec, Global, refl, sym, ap, ◌∙◌, subst}
-use Rattle.wesl_cond.specs.Faults.{list_faults, list_at}
-use Rattle.wesl_cond.specs.Judging.{IsClear, RefusesIn, Checks}
-use Rattle.wesl_cond.specs.Lists.{elements, alone, judged, is_entered, holds_body}
+use Rattle.std.proofs.Common.{◌≡◌, ℕ, false, true, List, [], ◌∷◌, map, Option, Result, Ok, Err, refl, sym, ap, ◌∙◌, subst}
+use Rattle.wesl_chains.specs.Faults.{list_faults, list_at}
+use Rattle.wesl_chains.specs.Judging.{IsClear, RefusesIn, Checks}
+use Rattle.wesl_chains.specs.Lists.{elements, alone, judged, is_entered, holds_body}
 use Rattle.wesl_cond.proofs.Checked.{clear_optional}
 use Rattle.wesl_cond.proofs.Levels.{type_label}
-use Rattle.wesl_cond.proofs.Standing.{stay, clear_leaf, list_checked, list_refused, first_refused, next_checked, skip}
+use Rattle.wesl_cond.proofs.Standing.{stay, list_checked, list_refused, first_refused, next_checked, skip}
 use Rattle.wesl_cond.proofs.Walked.{clear_nodes}
-use Rattle.wesl_formula.specs.Answers.{Answers}
 use Rattle.wesl_formula.specs.Evaluation.{Judges, Refuses}
 use Rattle.wesl_formula.specs.Features.{Replies, known}
 use Rattle.wesl_names.specs.Path.{Text}
 use Rattle.wesl_names.specs.declared.errors.Error as error
 use Rattle.wesl_syntax.specs.Tree.{Tree, Label, Forest, end, tree, kind, at, before, branch, binder, forest_of, imports, import_node, directive_list, directive_node, declarations, declaration_node, struct, members, member_node, function, parameters}
-use Rattle.wesl_syntax.specs.View.{attributes_tree, compound_view, declarations_tree, directive_view, directives_tree, function_view, global_view, ident_tree, import_view, imports_tree, listed, member_view, optional, parameter_view, placed, struct_view, type_view}
+use Rattle.wesl_syntax.specs.View.{attributes_tree, compound_view, directive_view, function_view, global_view, ident_tree, import_view, listed, member_view, optional, parameter_view, placed, struct_view, type_view}
 use Rattle.wesl_syntax.specs.declared.declaration.Function.{Function}
 use Rattle.wesl_syntax.specs.declared.declaration.FormalParameter.{FormalParameter}
 use Rattle.wesl_syntax.specs.declared.declaration.GlobalDeclaration.{GlobalDeclaration}

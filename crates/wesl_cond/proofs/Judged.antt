@@ -1,7 +1,7 @@
 -- Faults in a unit, from the faults in its parts.
 use Rattle.std.proofs.Common.{◌≡◌, List, [], ◌∷◌, Result, subst}
-use Rattle.wesl_cond.specs.Judging.{Checks}
-use Rattle.wesl_cond.specs.Nodes.{replies}
+use Rattle.wesl_chains.specs.Judging.{Checks}
+use Rattle.wesl_chains.specs.Nodes.{replies}
 use Rattle.wesl_formula.specs.declared.features.Features.{Features}
 use Rattle.wesl_names.specs.Path.{Text}
 use Rattle.wesl_names.specs.declared.errors.Error as error

@@ -1,9 +1,9 @@
 -- Faults in loops and continuing blocks, from the faults in their parts.
-use Rattle.std.proofs.Common.{◌≡◌, ℕ, Bool, true, false, cond, List, [], ◌∷◌, ◌++◌, map, Option, Some, None, Result, Ok, Err, Vec, Global, refl, sym, ap, ◌∙◌, subst}
-use Rattle.wesl_cond.specs.Faults.{list_faults}
-use Rattle.wesl_cond.specs.Judging.{IsClear, RefusesIn, Checks, closing, in_turn}
-use Rattle.wesl_cond.specs.Lists.{Element, elements, alone}
-use Rattle.wesl_cond.specs.Nodes.{optional_forest}
+use Rattle.std.proofs.Common.{◌≡◌, ℕ, Bool, true, false, cond, List, [], ◌∷◌, ◌++◌, map, Option, Some, None, Result, Ok, Err, Vec, Global, refl, sym, subst}
+use Rattle.wesl_chains.specs.Faults.{list_faults}
+use Rattle.wesl_chains.specs.Judging.{IsClear, RefusesIn, Checks, closing, in_turn}
+use Rattle.wesl_chains.specs.Lists.{Element, elements, alone}
+use Rattle.wesl_chains.specs.Nodes.{optional_forest}
 use Rattle.wesl_cond.proofs.Closed.{closed_refused, front_refused, closed_checked, closed_front}
 use Rattle.wesl_cond.proofs.Settled.{view_continuing}
 use Rattle.wesl_cond.proofs.Standing.{stay, nothing}

@@ -1,14 +1,14 @@
 -- What is left of statements, as the code leaves it.
 use Rattle.std.proofs.Common.{◌≡◌, ℕ, true, false, List, [], ◌∷◌, ◌++◌, map, Option, Some, None, Vec, Global, rules, refl, sym, ap, ◌∙◌}
 use mathlib.Core.List.{map-map}
-use Rattle.wesl_cond.specs.Chains.{residual_list}
-use Rattle.wesl_cond.specs.Lists.{element, elements, alone}
-use Rattle.wesl_cond.specs.Nodes.{as_element, optional_elements, optional_forest}
-use Rattle.wesl_cond.specs.Residual.{residual_tree}
+use Rattle.wesl_chains.specs.Chains.{residual_list}
+use Rattle.wesl_chains.specs.Lists.{element, elements, alone}
+use Rattle.wesl_chains.specs.Nodes.{as_element, optional_elements, optional_forest}
+use Rattle.wesl_chains.specs.Residual.{residual_tree}
 use Rattle.wesl_cond.proofs.Levels.{inner, inner_left, listed_left, nodes_left, clauses_left, body_left, loop_left, continuing_left}
-use Rattle.wesl_cond.proofs.Views.{view_compound, view_if, view_switch, view_for}
+use Rattle.wesl_cond.proofs.Views.{view_compound, view_if, view_switch}
 use Rattle.wesl_formula.specs.Answers.{Answers}
-use Rattle.wesl_syntax.specs.Tree.{Tree, at, before, branch, end, forest_of, compound, statement_node, statements, list, clauses, if_statement, switch, switch_clause, loop, continuing}
+use Rattle.wesl_syntax.specs.Tree.{Tree, at, before, branch, end, forest_of, compound, statement_node, statements, list, if_statement, switch, switch_clause, loop, continuing}
 use Rattle.wesl_syntax.specs.View.{attributes_tree, break_if_view, clause_step, clause_view, compound_step, compound_view, continuing_step, continuing_view, else_if_step, else_if_view, else_step, else_view, expression_tree, if_step, if_view, listed, optional, selector_view, statement_step, statement_tree, statement_view}
 use Rattle.wesl_syntax.specs.declared.attribute.Attribute.{Attribute}
 use Rattle.wesl_syntax.specs.declared.span.Spanned.{Spanned}

@@ -1,17 +1,16 @@
 -- Where faults stand in a tree, by its parts.
-use Rattle.std.proofs.Common.{◌≡◌, ℕ, Bool, true, false, not, ◌&&◌, cond, List, [], ◌∷◌, ◌++◌, map, ◌⊎◌, inl, inr, Option, Some, None, Result, Ok, Err, Vec, Global, refl, sym, ap, ◌∙◌, subst}
-use Rattle.wesl_cond.specs.Chains.{staying}
-use Rattle.wesl_cond.specs.Faults.{Stands, here, inside, beside, list_faults, list_at}
-use Rattle.wesl_cond.specs.Judging.{IsClear, RefusesIn, Checks}
-use Rattle.wesl_cond.specs.Lists.{Element, element, elements, back, option_of, alone, judged, is_entered, holds_body}
-use Rattle.wesl_cond.specs.Nodes.{optional_forest}
+use Rattle.std.proofs.Common.{◌≡◌, ℕ, Bool, true, false, List, [], ◌∷◌, ◌⊎◌, inl, inr, Result, Ok, Err, Vec, Global, refl, sym, subst}
+use Rattle.wesl_chains.specs.Chains.{staying}
+use Rattle.wesl_chains.specs.Faults.{Stands, here, inside, beside, list_faults, list_at}
+use Rattle.wesl_chains.specs.Judging.{IsClear, RefusesIn, Checks}
+use Rattle.wesl_chains.specs.Lists.{Element, element, back, option_of, judged, is_entered, holds_body}
 use Rattle.wesl_formula.specs.Evaluation.{Refuses}
-use Rattle.wesl_formula.specs.Faults.{Fault, IsAmong, Tells}
+use Rattle.wesl_formula.specs.Faults.{Fault, IsAmong}
 use Rattle.wesl_formula.specs.Features.{Replies, known}
 use Rattle.wesl_names.specs.Path.{Text}
 use Rattle.wesl_names.specs.declared.errors.Error as error
-use Rattle.wesl_syntax.specs.Tree.{Label, Forest, Tree, end, tree, kind, before, forest_of, branch, compound, statements, loop, continuing, present, absent}
-use Rattle.wesl_syntax.specs.View.{attributes_tree, optional}
+use Rattle.wesl_syntax.specs.Tree.{Label, Forest, Tree, end, tree, kind, before, compound, statements, present, absent}
+use Rattle.wesl_syntax.specs.View.{attributes_tree}
 use Rattle.wesl_syntax.specs.declared.attribute.Attribute.{Attribute}
 use Rattle.wesl_syntax.specs.declared.span.Spanned.{Spanned}
 

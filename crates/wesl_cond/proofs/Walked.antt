@@ -1,32 +1,27 @@
 -- What stays of a list, walked node by node.
-use Rattle.std.proofs.Common.{◌≡◌, ℕ, Bool, true, false, cond, ◌&&◌, List, [], ◌∷◌, ◌++◌, map, drop, length, ◌≤◌, ◌<◌, ◌+◌, get_or, zero, suc, filter, ◌⊎◌, inl, inr, Option, Some, None, Result, Ok, Err, Vec, Global, refl, sym, ap, ◌∙◌, subst, append-nil, arith}
+use Rattle.std.proofs.Common.{◌≡◌, ℕ, Bool, true, false, cond, ◌&&◌, List, [], ◌∷◌, ◌++◌, map, drop, length, ◌≤◌, ◌<◌, ◌+◌, get_or, zero, suc, filter, inl, inr, Option, Some, None, Result, Ok, Err, refl, sym, ap, ◌∙◌, subst, append-nil, arith}
 use Rattle.std.specs.List.{flat_map}
 use Rattle.std.proofs.lemmas.List.{drop_more}
-use Rattle.wesl_cond.specs.declared.chain.Role.{Role}
-use Rattle.wesl_cond.specs.Chains.{staying, residual_chain, residual_list, headed, later, live, chains, is_node, is_branch, branch}
-use Rattle.wesl_cond.specs.Conditions.{is_void}
-use Rattle.wesl_cond.specs.Faults.{Stands, here, inside, beside, list_faults, list_at, closed_list}
-use Rattle.wesl_cond.specs.Judging.{IsClear, RefusesIn, Checks, closing}
-use Rattle.wesl_cond.specs.Lists.{Element, element, still, elements, back, option_of, alone, closed, judged, is_entered, is_closed, holds_body}
-use Rattle.wesl_cond.specs.Nodes.{as_element, optional_forest}
-use Rattle.wesl_cond.specs.Turns.{fate, kept_after, decided_after, enact, scan, IsTurn, Ends}
-use Rattle.wesl_cond.proofs.ChainTurns.{scan_is}
-use Rattle.wesl_cond.proofs.Standing.{stay, split, in_first, nothing, below, clear_leaf, held_body, in_held_body, held_option, in_held_option, passed_by, refuses_more, checks_same, list_refused, list_checked, first_refused, next_checked, skip}
-use Rattle.wesl_cond.proofs.Taken.{elements_of, elements_as}
+use Rattle.wesl_chains.specs.declared.chain.Role.{Role}
+use Rattle.wesl_chains.specs.Chains.{staying, residual_chain, residual_after, headed, later, live, chains, is_node, is_branch, branch}
+use Rattle.wesl_chains.specs.Conditions.{is_void}
+use Rattle.wesl_chains.specs.Faults.{Stands, beside}
+use Rattle.wesl_chains.specs.Judging.{IsClear, RefusesIn, Checks, closing}
+use Rattle.wesl_chains.specs.Lists.{Element, element, still, elements, back, alone, is_entered}
+use Rattle.wesl_chains.specs.Nodes.{as_element}
+use Rattle.wesl_chains.specs.Following.{fate, kept_after, decided_after, IsTurn}
+use Rattle.wesl_cond.proofs.Walk.{enact, scan, scan_is, scan_after}
+use Rattle.wesl_cond.proofs.Standing.{stay, split, nothing, clear_leaf, passed_by, refuses_more, first_refused}
 use Rattle.wesl_formula.specs.Answers.{Answers}
-use Rattle.wesl_formula.specs.Evaluation.{Refuses}
 use Rattle.wesl_formula.specs.Faults.{Fault}
 use Rattle.wesl_formula.specs.Features.{Replies, known}
 use Rattle.wesl_names.specs.Path.{Text}
 use Rattle.wesl_names.specs.declared.errors.Error as error
-use Rattle.wesl_syntax.specs.Tree.{Label, Forest, Tree, end, tree, kind, before, forest_of}
-use Rattle.wesl_syntax.specs.View.{attributes_tree, optional}
-use Rattle.wesl_syntax.specs.declared.attribute.Attribute.{Attribute}
-use Rattle.wesl_syntax.specs.declared.span.Spanned.{Spanned}
+use Rattle.wesl_syntax.specs.Tree.{Label, Forest, Tree, end, tree, before, forest_of}
 
 -- the nodes of the rest of a list that stay, where a branch of the chain before is kept, one was true
 abbrev pub on_from : Replies ℕ → Bool → Bool → List (Element ℕ) → Forest
-on_from reply kept decided xs = back false (scan still (known reply) kept decided xs)
+on_from reply kept decided xs = back false (residual_after still (known reply) kept decided xs)
 
 -- the next node of a list judged inside if it stays: the faults in what stays are those in what stays of the rest, or one is told
 abbrev pub Walks : {A : Type 0} → List Text → Replies ℕ → Bool → Bool → Element ℕ → Bool → Bool → Result A error.Error → Type 0
@@ -34,6 +29,18 @@ Walks names reply kept decided x kept' decided' (Ok done) = (rest : List (Elemen
     → (Stands reply false (on_from reply kept decided (x ∷ rest)) f → Stands reply false (on_from reply kept' decided' rest) f)
     × (Stands reply false (on_from reply kept' decided' rest) f → Stands reply false (on_from reply kept decided (x ∷ rest)) f)
 Walks names reply kept decided x kept' decided' (Err e) = (rest : List (Element ℕ)) → RefusesIn names reply (on_from reply kept decided (x ∷ rest)) e
+
+-- A list as elements.
+elements_of : (closes : Bool) (ts : List Tree) → elements closes (forest_of ts) ≡ map (as_element closes) ts
+elements_of closes [] = refl
+elements_of closes (t ∷ ts) = ap (λ xs. as_element closes t ∷ xs) (elements_of closes ts)
+
+map_of : {A B C : Type 0} (f : A → B) (g : B → C) (xs : List A) → map (λ x. g (f x)) xs ≡ map g (map f xs)
+map_of f g [] = refl
+map_of f g (x ∷ xs) = ap (λ r. g (f x) ∷ r) (map_of f g xs)
+
+elements_as : {A : Type 0} (closes : Bool) (view : A → Tree) (xs : List A) → map (λ x. as_element closes (view x)) xs ≡ elements closes (forest_of (map view xs))
+elements_as closes view xs = map_of view (as_element closes) xs ∙ sym (elements_of closes (map view xs))
 
 -- One branch.
 abbrev open_one : Label → Forest → Element ℕ
@@ -115,25 +122,6 @@ module _ (answers : Answers ℕ) where
       let d' = next_decided answers d x in
       same_last (is_void l c) (fate_of answers k d x) l c (scan still answers k d (elements false o)) (scan still answers k' d' (elements false o)) vs (front_passed o k d vs) (front_passed o k' d' vs)
 
-  last_at : (b : Bool) (t : Tree) (k d k' d' : Bool) → IsTurn still answers k d (as_element true t) k' d' (as_element true t) b → back true (scan still answers k d (as_element true t ∷ [])) ≡ cond b (before t end) end
-  last_at true t k d k' d' turn = ap (back true) (turn [])
-  last_at false t k d k' d' turn = ap (back true) (turn [])
-
-  -- whether what closes a list stays
-  pub closing_is : {A : Type 0} (view : A → Tree) (xs : List A) (t : Tree) (k d k' d' k'' d'' b : Bool) → k ≡ false → d ≡ false → Ends still answers k d (map (λ x. as_element false (view x)) xs) k' d' → IsTurn still answers k' d' (as_element true t) k'' d'' (as_element true t) b
-      → closing answers (forest_of (map view xs)) (before t end) ≡ cond b (before t end) end
-  closing_is view xs t k d k' d' k'' d'' b e g ends turn =
-      let last : List (Element ℕ) = as_element true t ∷ [] in
-      let f = forest_of (map view xs) in
-      ap (back true) (staying_is (elements false f ++ last))
-      ∙ ap (λ a. back true (scan still answers a false (elements false f ++ last))) (sym e)
-      ∙ ap (λ a. back true (scan still answers k a (elements false f ++ last))) (sym g)
-      ∙ ap (λ ys. back true (scan still answers k d (ys ++ last))) (sym (elements_as false view xs))
-      ∙ ap (back true) (ends last)
-      ∙ ap (λ ys. back true (scan still answers k d ys ++ scan still answers k' d' last)) (elements_as false view xs)
-      ∙ front_passed f k d (scan still answers k' d' last)
-      ∙ last_at b t k' d' k'' d'' turn
-
   -- nothing closes a list
   pub closing_none : (f : Forest) → closing answers f end ≡ end
   closing_none f = ap (back true) (staying_is (elements false f ++ [])) ∙ ap (λ xs. back true (scan still answers false false xs)) (append-nil (elements false f)) ∙ ap (back true) (sym (append-nil (scan still answers false false (elements false f)))) ∙ front_passed f false false []
@@ -150,10 +138,10 @@ module _ (reply : Replies ℕ) where
   alike_then a b c p q f = (λ s. (q f).0 ((p f).0 s), λ s. (p f).1 ((q f).1 s))
 
   goes : (k d k' d' b : Bool) (t : Tree) → b ≡ false → IsTurn still (known reply) k d (as_element false t) k' d' (as_element false t) b → (rest : List (Element ℕ)) → on_from reply k d (as_element false t ∷ rest) ≡ on_from reply k' d' rest
-  goes k d k' d' b t e turn rest = ap (back false) (turn rest) ∙ ap (λ b. back false (cond b (as_element false t ∷ scan still (known reply) k' d' rest) (scan still (known reply) k' d' rest))) e
+  goes k d k' d' b t e turn rest = ap (back false) (turn rest) ∙ ap (λ b. back false (cond b (as_element false t ∷ residual_after still (known reply) k' d' rest) (residual_after still (known reply) k' d' rest))) e
 
   goes_in : (k d k' d' b : Bool) (t : Tree) → b ≡ true → IsTurn still (known reply) k d (as_element false t) k' d' (as_element false t) b → (rest : List (Element ℕ)) → on_from reply k d (as_element false t ∷ rest) ≡ before t (on_from reply k' d' rest)
-  goes_in k d k' d' b t e turn rest = ap (back false) (turn rest) ∙ ap (λ b. back false (cond b (as_element false t ∷ scan still (known reply) k' d' rest) (scan still (known reply) k' d' rest))) e
+  goes_in k d k' d' b t e turn rest = ap (back false) (turn rest) ∙ ap (λ b. back false (cond b (as_element false t ∷ residual_after still (known reply) k' d' rest) (residual_after still (known reply) k' d' rest))) e
 
   pub walks_past : {A : Type 0} (names : List Text) (k d k' d' b : Bool) (t : Tree) (x : A) → b ≡ false → IsTurn still (known reply) k d (as_element false t) k' d' (as_element false t) b → Walks names reply k d (as_element false t) k' d' (Ok x)
   walks_past names k d k' d' b t x e turn = λ rest. alike_equal (on_from reply k d (as_element false t ∷ rest)) (on_from reply k' d' rest) (goes k d k' d' b t e turn rest)
@@ -184,7 +172,7 @@ module _ (reply : Replies ℕ) where
 
     pub left_at_start : (xs : List A) (k d : Bool) → k ≡ false → d ≡ false → IsLeft xs 0 k d
     left_at_start xs k d e g = alike_equal (alone (stay reply) (forest_of (map view xs))) (on_from reply k d (nodes xs))
-        (ap (back false) (staying_is (known reply) (elements false (forest_of (map view xs))) ∙ ap (scan still (known reply) false false) (sym (elements_as false view xs)))
+        (ap (back false) (staying_is (known reply) (elements false (forest_of (map view xs))) ∙ scan_after still (known reply) false false (elements false (forest_of (map view xs))) ∙ ap (residual_after still (known reply) false false) (sym (elements_as false view xs)))
         ∙ ap (λ a. on_from reply a false (nodes xs)) (sym e) ∙ ap (λ a. on_from reply k a (nodes xs)) (sym g))
 
     pub left_next : {B : Type 0} (names : List Text) (xs : List A) (i : ℕ) (k d k' d' : Bool) (x : A) (y : B) → i < length xs → x ≡ get_or xs i x → IsLeft xs i k d → Walks names reply k d (as_element false (view x)) k' d' (Ok y) → IsLeft xs (i + 1) k' d'
@@ -248,7 +236,7 @@ module _ (reply : Replies ℕ) where
     leaf_piece false None x rs ss e p q = q
     leaf_piece false (Some role) x rs ss e p q = λ f s. q f (passed_by reply false (view x).label (view x).children (back false ss) e f s)
 
-    clear_from : (leaf : (x : A) → is_entered (view x).label ≡ false) (k d : Bool) (xs : List A) → IsClear reply (on_from reply k d (nodes xs))
+    clear_from : (leaf : (x : A) → is_entered (view x).label ≡ false) (k d : Bool) (xs : List A) → IsClear reply (back false (scan still (known reply) k d (nodes xs)))
     clear_from leaf k d [] = nothing reply
     clear_from leaf k d (x ∷ xs) =
         let y = as_element false (view x) in
@@ -257,7 +245,7 @@ module _ (reply : Replies ℕ) where
         leaf_piece (is_void (view x).label (view x).children) (fate_of (known reply) k d y) x (scan still (known reply) k d (nodes xs)) (scan still (known reply) k' d' (nodes xs)) (leaf x) (clear_from leaf k d xs) (clear_from leaf k' d' xs)
 
     pub clear_nodes : (leaf : (x : A) → is_entered (view x).label ≡ false) (xs : List A) → IsClear reply (alone (stay reply) (forest_of (map view xs)))
-    clear_nodes leaf xs f s = clear_from leaf false false xs f ((left_at_start xs false false refl refl f).0 s)
+    clear_nodes leaf xs f s = clear_from leaf false false xs f (subst (λ ys. Stands reply false (back false ys) f) (sym (scan_after still (known reply) false false (nodes xs))) ((left_at_start xs false false refl refl f).0 s))
 
   -- what closes a list and holds no list
   module _ (t : Tree) (leaf : is_entered t.label ≡ false) where

@@ -1,12 +1,1 @@
-pub mod Chains
-pub mod Turns
-pub mod Conditions
-pub mod Lists
-pub mod Residual
-pub mod Picked
-pub mod Flags
-pub mod Faults
-pub mod Laws
-pub mod Nodes
-pub mod Judging
 pub mod Units

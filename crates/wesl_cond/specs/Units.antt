@@ -1,10 +1,10 @@
 -- What features leave of a unit.
 use Rattle.std.specs.Prelude.{◌≡◌, ℕ}
-use Rattle.wesl_cond.specs.Flags.{flags_of, AgreesOn}
-use Rattle.wesl_cond.specs.Judging.{RefusesIn}
-use Rattle.wesl_cond.specs.Laws.{IsFaultless}
-use Rattle.wesl_cond.specs.Picked.{Choice, picked_unit}
-use Rattle.wesl_cond.specs.Residual.{residual_tree}
+use Rattle.wesl_chains.specs.Flags.{flags_of, AgreesOn}
+use Rattle.wesl_chains.specs.Judging.{RefusesIn}
+use Rattle.wesl_chains.specs.Laws.{IsFaultless}
+use Rattle.wesl_chains.specs.Picked.{Choice, picked_unit}
+use Rattle.wesl_chains.specs.Residual.{residual_tree}
 use Rattle.wesl_formula.specs.Features.{Replies, known, by_number, HoldsNoError, then_replies}
 use Rattle.wesl_names.specs.Path.{Text}
 use Rattle.wesl_names.specs.declared.errors.Error as error
@@ -27,6 +27,15 @@ RefusesUnit reply u e = RefusesIn u.names (by_number u.names reply) (forest_of_u
 -- Whatever an earlier stage without refusals left a unit of, this one goes on with it: what is left now is what both in one leave.
 abbrev pub GoesOn : Replies Text → UnitView → UnitView → Type 0
 GoesOn second before after = (first : Replies Text) (u : UnitView) → HoldsNoError first → before ≡ left_of first u → after ≡ left_of (then_replies first second) u
+
+-- some earlier stage left it of a unit without a fault in that stage
+abbrev pub IsLeftOver : UnitView → Type 0
+IsLeftOver before = (first : Replies Text) × (u : UnitView) × IsFaultlessUnit first u × (before ≡ left_of first u)
+
+-- the answers are those of two stages that refuse no flag, and the unit has no fault in the first
+abbrev pub AreTwoStages : Replies Text → UnitView → Type 0
+AreTwoStages reply u =
+    (first : Replies Text) × (second : Replies Text) × HoldsNoError first × HoldsNoError second × IsFaultlessUnit first u × ((flag : Text) → reply flag ≡ then_replies first second flag)
 
 -- every choice that agrees with the answers on the flags of a unit picks the same before and after
 abbrev pub Picks : Replies Text → UnitView → UnitView → Type 0

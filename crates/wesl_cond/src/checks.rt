@@ -1,17 +1,15 @@
 //! The faults of conditions inside statements. Nodes that do not stay are not entered.
 ghost use Rattle.std.specs.Prelude.{◌≡◌, cond, false, map};
 ghost use Rattle.std.specs.Box.{box_value};
-ghost use Rattle.wesl_cond.specs.Chains.{staying};
-ghost use Rattle.wesl_cond.specs.Judging.{Checks, in_turn};
-ghost use Rattle.wesl_cond.specs.Lists.{alone, element, is_entered};
-ghost use Rattle.wesl_cond.specs.Nodes.{answers, optional_forest, replies};
+ghost use Rattle.wesl_chains.specs.Chains.{staying};
+ghost use Rattle.wesl_chains.specs.Judging.{Checks, in_turn};
+ghost use Rattle.wesl_chains.specs.Lists.{alone, element, is_entered};
+ghost use Rattle.wesl_chains.specs.Nodes.{answers, optional_forest, replies};
 ghost use Rattle.wesl_syntax.specs.Tree.{before, branch, clauses as clauses_kind, end, forest_of};
 ghost use Rattle.wesl_syntax.specs.View.{clause_view, compound_view, continuing_view, else_if_view, else_view, if_view, optional, statement_tree, statement_view};
 
-use crate::chain::Chain;
-use crate::faults::{check_both, check_list};
-use crate::lists::{closes, stays};
 use std::alloc::Global;
+use wesl_chains::{Chain, check_both, check_list, closes, stays};
 use wesl_formula::Features;
 use wesl_names::{Error, Names};
 use wesl_syntax::{

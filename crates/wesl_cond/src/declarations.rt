@@ -1,12 +1,12 @@
 //! What is left of imports, directives and declarations.
 ghost use Rattle.std.specs.Prelude.{◌≡◌, map};
-ghost use Rattle.wesl_cond.specs.Nodes.{answers};
-ghost use Rattle.wesl_cond.specs.Residual.{residual_tree};
+ghost use Rattle.wesl_chains.specs.Nodes.{answers};
+ghost use Rattle.wesl_chains.specs.Residual.{residual_tree};
 ghost use Rattle.wesl_syntax.specs.Tree.{declaration_node};
 ghost use Rattle.wesl_syntax.specs.View.{declarations_tree, directives_tree, function_view, global_view, imports_tree, placed, struct_view};
 
-use crate::lists::settle_list;
 use crate::statements::settle_body;
+use wesl_chains::settle_list;
 use wesl_formula::Features;
 use wesl_names::Names;
 use wesl_syntax::{

@@ -1,17 +1,15 @@
 //! The faults of conditions in imports, directives and declarations. Nodes that do not stay are not entered.
 ghost use Rattle.std.specs.Prelude.{◌≡◌, false, map};
-ghost use Rattle.wesl_cond.specs.Chains.{staying};
-ghost use Rattle.wesl_cond.specs.Judging.{Checks};
-ghost use Rattle.wesl_cond.specs.Lists.{alone, element, is_entered};
-ghost use Rattle.wesl_cond.specs.Nodes.{answers, replies};
+ghost use Rattle.wesl_chains.specs.Chains.{staying};
+ghost use Rattle.wesl_chains.specs.Judging.{Checks};
+ghost use Rattle.wesl_chains.specs.Lists.{alone, element, is_entered};
+ghost use Rattle.wesl_chains.specs.Nodes.{answers, replies};
 ghost use Rattle.wesl_syntax.specs.Tree.{before, declaration_node, end, forest_of};
 ghost use Rattle.wesl_syntax.specs.View.{declarations_tree, directives_tree, function_view, global_view, imports_tree, placed, struct_view};
 
-use crate::chain::Chain;
 use crate::checks::check_body;
-use crate::faults::check_list;
-use crate::lists::stays;
 use std::alloc::Global;
+use wesl_chains::{Chain, check_list, stays};
 use wesl_formula::Features;
 use wesl_names::{Error, Names};
 use wesl_syntax::{

@@ -1,12 +1,12 @@
 //! What is left of statements.
 ghost use Rattle.std.specs.Prelude.{◌≡◌, map};
 ghost use Rattle.std.specs.Box.{box_value};
-ghost use Rattle.wesl_cond.specs.Nodes.{answers};
-ghost use Rattle.wesl_cond.specs.Residual.{residual_tree};
+ghost use Rattle.wesl_chains.specs.Nodes.{answers};
+ghost use Rattle.wesl_chains.specs.Residual.{residual_tree};
 ghost use Rattle.wesl_syntax.specs.View.{clause_view, compound_view, continuing_view, else_if_view, else_view, if_view, optional, statement_tree, statement_view};
 
-use crate::lists::{settle_both, settle_list};
 use std::mem;
+use wesl_chains::{settle_both, settle_list};
 use wesl_formula::Features;
 use wesl_names::Names;
 use wesl_syntax::{

@@ -1,9 +1,9 @@
 //! What is left of a unit.
-ghost use Rattle.std.specs.Prelude.{◌≡◌, IfOk, IfErr};
-ghost use Rattle.wesl_cond.specs.Judging.{Checks};
-ghost use Rattle.wesl_cond.specs.Nodes.{replies};
-ghost use Rattle.wesl_cond.specs.Units.{left_of, GoesOn, IsFaultlessUnit, Picks, RefusesUnit};
-ghost use Rattle.wesl_formula.specs.Features.{answer_to};
+ghost use Rattle.std.specs.Prelude.{◌≡◌, IfOk, IfErr, IsOk};
+ghost use Rattle.wesl_chains.specs.Judging.{Checks};
+ghost use Rattle.wesl_chains.specs.Nodes.{replies};
+ghost use Rattle.wesl_cond.specs.Units.{left_of, AreTwoStages, GoesOn, IsFaultlessUnit, IsLeftOver, Picks, RefusesUnit};
+ghost use Rattle.wesl_formula.specs.Features.{answer_to, HoldsNoError};
 ghost use Rattle.wesl_names.specs.declared.errors.Diagnostic.{out-Diagnostic};
 ghost use Rattle.wesl_syntax.specs.Unit.{forest_of_unit, trees_of};
 ghost use Rattle.wesl_tree.specs.Translation.{unit_view};
@@ -12,6 +12,10 @@ use crate::declarations::{settle_declarations, settle_directives, settle_imports
 use crate::judge::{check_declarations, check_directives, check_imports};
 use std::alloc::Global;
 use std::mem;
+use wesl_chains::{
+    law_of_both_stages, law_of_bounds, law_of_choices, law_of_later_stages, law_of_stages,
+    law_of_then, law_of_twice,
+};
 use wesl_formula::Features;
 use wesl_names::{Diagnostic, Error};
 use wesl_tree::TranslationUnit;
@@ -25,6 +29,10 @@ use wesl_tree::TranslationUnit;
 /// It is refused, and the unit stays as it was, where a flag has template arguments or is answered by a refusal, where a
 /// formula is none, where an `@elif` or an `@else` goes on with no chain, and where a node has two conditions. Memory is
 /// taken to tell such a fault alone, so a unit without one is never refused.
+///
+/// Runs may come in stages: what one run left is taken by the next, and the two leave what one run with
+/// [`Features::then`] of their features leaves. Where neither refuses a flag and the first met no fault, the next meets
+/// none, and no more does the one run.
 pub fn run(alloc: Global, unit: &mut TranslationUnit, features: &Features) -> Result<(), Diagnostic>
     ensures faultless { IfOk result (λ _. IsFaultlessUnit (answer_to features.now) (unit_view unit.old)) }
     ensures left { IfOk result (λ _. unit_view unit.new ≡ left_of (answer_to features.now) (unit_view unit.old)) }
@@ -33,7 +41,16 @@ pub fn run(alloc: Global, unit: &mut TranslationUnit, features: &Features) -> Re
     ensures picks { IfOk result (λ _. Picks (answer_to features.now) (unit_view unit.old) (unit_view unit.new)) }
     ensures refused { IfErr result (λ told. RefusesUnit (answer_to features.now) (unit_view unit.old) (out-Diagnostic told).error) }
     ensures unchanged { IfErr result (λ _. unit.new ≡ unit.old) }
+    ensures succeeds { IsFaultlessUnit (answer_to features.now) (unit_view unit.old) → IsOk result }
+    ensures staged_succeeds { HoldsNoError (answer_to features.now) → IsLeftOver (unit_view unit.old) → IsOk result }
+    ensures composed_succeeds { AreTwoStages (answer_to features.now) (unit_view unit.old) → IsOk result }
 {
+    law_of_stages();
+    law_of_then();
+    law_of_twice();
+    law_of_choices();
+    law_of_later_stages();
+    law_of_both_stages();
     check(alloc, unit, features)?;
     resolve(alloc, unit, features);
     Ok(())
@@ -58,6 +75,7 @@ fn check(alloc: Global, unit: &TranslationUnit, features: &Features) -> Result<(
 fn resolve(alloc: Global, unit: &mut TranslationUnit, features: &Features)
     ensures { unit_view unit.new ≡ left_of (answer_to features.now) (unit_view unit.old) }
 {
+    law_of_bounds();
     let whole = mem::replace(unit, TranslationUnit::new(alloc));
     let (names, mut imports, mut directives, mut declarations) = whole.into_parts();
     settle_imports(&mut imports, &names, features);

@@ -1,8 +1,8 @@
-use Rattle.std.proofs.Common.{◌≡◌, ◌∙◌, [], ◌∷◌, map, cond, Bool, Ok, Err, Option, Box, Global, false, arith, ap, sym, subst, refl}
+use Rattle.std.proofs.Common.{[], ◌∷◌, map, cond, Ok, Err, Option, Box, Global, false, arith, sym, subst, refl}
 use Rattle.std.specs.Box.{box_value}
-use Rattle.wesl_cond.specs.Judging.{Checks, IsClear, RefusesIn}
-use Rattle.wesl_cond.specs.Lists.{alone}
-use Rattle.wesl_cond.specs.Nodes.{optional_forest, replies}
+use Rattle.wesl_chains.specs.Judging.{Checks, IsClear, RefusesIn}
+use Rattle.wesl_chains.specs.Lists.{alone}
+use Rattle.wesl_chains.specs.Nodes.{optional_forest, replies}
 use Rattle.wesl_syntax.specs.Tree.{Tree, kind, clauses, before, end, forest_of, list}
 use Rattle.wesl_syntax.specs.View.{clause_view, compound_view, continuing_view, else_if_view, else_view, if_view, listed, optional, statement_tree, statement_view}
 use Rattle.wesl_syntax.specs.declared.span.Spanned.{Spanned}

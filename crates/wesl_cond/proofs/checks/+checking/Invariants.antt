@@ -1,4 +1,4 @@
-use Rattle.wesl_cond.specs.Nodes.{replies}
+use Rattle.wesl_chains.specs.Nodes.{replies}
 use Rattle.wesl_syntax.specs.View.{clause_view, else_if_view, statement_tree}
 use Rattle.wesl_cond.proofs.Walked.{IsLeft, IsListed}
 use Rattle.wesl_cond.proofs.checks.+checking.Given as goal

@@ -1,4 +1,4 @@
-use Rattle.wesl_cond.specs.Nodes.{replies}
+use Rattle.wesl_chains.specs.Nodes.{replies}
 use Rattle.wesl_syntax.specs.View.{statement_view}
 use Rattle.wesl_cond.proofs.Standing.{clear_leaf}
 use Rattle.wesl_cond.proofs.checks.check_leaf.Goals as goal

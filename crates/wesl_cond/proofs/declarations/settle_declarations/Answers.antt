@@ -1,8 +1,8 @@
-use Rattle.std.proofs.Common.{◌≡◌, ap, map, ◌∙◌}
-use Rattle.wesl_cond.specs.Chains.{residual_list}
-use Rattle.wesl_cond.specs.Lists.{alone, element}
-use Rattle.wesl_cond.specs.Nodes.{answers}
-use Rattle.wesl_cond.specs.Residual.{residual_tree}
+use Rattle.std.proofs.Common.{ap, map, ◌∙◌}
+use Rattle.wesl_chains.specs.Chains.{residual_list}
+use Rattle.wesl_chains.specs.Lists.{alone, element}
+use Rattle.wesl_chains.specs.Nodes.{answers}
+use Rattle.wesl_chains.specs.Residual.{residual_tree}
 use Rattle.wesl_syntax.specs.Tree.{declaration_node, forest_of}
 use Rattle.wesl_syntax.specs.View.{global_view, placed}
 use Rattle.wesl_cond.proofs.Fronts.{lent_back}

@@ -1,4 +1,4 @@
-use Rattle.wesl_cond.specs.Nodes.{answers}
+use Rattle.wesl_chains.specs.Nodes.{answers}
 use Rattle.wesl_cond.proofs.Levels.{directives_left}
 use Rattle.wesl_cond.proofs.declarations.settle_directives.Goals as goal
 

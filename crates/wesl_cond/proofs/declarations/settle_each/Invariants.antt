@@ -1,6 +1,6 @@
 use Rattle.std.proofs.Common.{◌≡◌, ◌++◌, map, take, drop}
-use Rattle.wesl_cond.specs.Nodes.{answers}
-use Rattle.wesl_cond.specs.Residual.{residual_tree}
+use Rattle.wesl_chains.specs.Nodes.{answers}
+use Rattle.wesl_chains.specs.Residual.{residual_tree}
 use Rattle.wesl_syntax.specs.Tree.{declaration_node}
 use Rattle.wesl_syntax.specs.View.{global_view, placed}
 use Rattle.wesl_cond.proofs.declarations.settle_each.Given as goal

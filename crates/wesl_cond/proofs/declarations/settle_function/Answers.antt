@@ -1,6 +1,6 @@
 use Rattle.std.proofs.Common.{[], ◌∷◌, ap, ◌∙◌}
-use Rattle.wesl_cond.specs.Nodes.{answers}
-use Rattle.wesl_cond.specs.Residual.{residual_tree}
+use Rattle.wesl_chains.specs.Nodes.{answers}
+use Rattle.wesl_chains.specs.Residual.{residual_tree}
 use Rattle.wesl_cond.proofs.Levels.{parameters_left, type_left}
 use Rattle.wesl_syntax.specs.Tree.{binder, branch, function, parameters}
 use Rattle.wesl_syntax.specs.View.{attributes_tree, compound_view, ident_tree, listed, optional, parameter_view, type_view}

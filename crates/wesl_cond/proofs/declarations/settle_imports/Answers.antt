@@ -1,4 +1,4 @@
-use Rattle.wesl_cond.specs.Nodes.{answers}
+use Rattle.wesl_chains.specs.Nodes.{answers}
 use Rattle.wesl_cond.proofs.Levels.{imports_left}
 use Rattle.wesl_cond.proofs.declarations.settle_imports.Goals as goal
 

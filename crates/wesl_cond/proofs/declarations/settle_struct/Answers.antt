@@ -1,5 +1,5 @@
 use Rattle.std.proofs.Common.{[], ◌∷◌, ap}
-use Rattle.wesl_cond.specs.Nodes.{answers}
+use Rattle.wesl_chains.specs.Nodes.{answers}
 use Rattle.wesl_cond.proofs.Levels.{members_left}
 use Rattle.wesl_syntax.specs.Tree.{binder, branch, struct}
 use Rattle.wesl_syntax.specs.View.{attributes_tree, ident_tree}

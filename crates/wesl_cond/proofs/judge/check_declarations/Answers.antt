@@ -1,5 +1,5 @@
 use Rattle.std.proofs.Common.{map, refl}
-use Rattle.wesl_cond.specs.Nodes.{replies}
+use Rattle.wesl_chains.specs.Nodes.{replies}
 use Rattle.wesl_syntax.specs.Tree.{kind, declarations, declaration_node, forest_of}
 use Rattle.wesl_syntax.specs.View.{global_view, placed}
 use Rattle.wesl_cond.proofs.Declared.{declarations_checked}

@@ -1,4 +1,4 @@
-use Rattle.wesl_cond.specs.Nodes.{replies}
+use Rattle.wesl_chains.specs.Nodes.{replies}
 use Rattle.wesl_cond.proofs.Declared.{directives_judged}
 use Rattle.wesl_cond.proofs.judge.check_directives.Goals as goal
 

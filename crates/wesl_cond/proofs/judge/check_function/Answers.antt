@@ -1,4 +1,4 @@
-use Rattle.wesl_cond.specs.Nodes.{replies}
+use Rattle.wesl_chains.specs.Nodes.{replies}
 use Rattle.wesl_cond.proofs.Declared.{function_checked, function_refused}
 use Rattle.wesl_cond.proofs.judge.check_function.Goals as goal
 

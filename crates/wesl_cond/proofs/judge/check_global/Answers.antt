@@ -1,6 +1,6 @@
 use Rattle.std.proofs.Common.{sym, subst}
-use Rattle.wesl_cond.specs.Judging.{Checks}
-use Rattle.wesl_cond.specs.Nodes.{replies}
+use Rattle.wesl_chains.specs.Judging.{Checks}
+use Rattle.wesl_chains.specs.Nodes.{replies}
 use Rattle.wesl_syntax.specs.Tree.{before, end}
 use Rattle.wesl_syntax.specs.View.{global_view}
 use Rattle.wesl_cond.proofs.judge.check_global.Goals as goal

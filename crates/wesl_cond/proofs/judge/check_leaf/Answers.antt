@@ -1,4 +1,4 @@
-use Rattle.wesl_cond.specs.Nodes.{replies}
+use Rattle.wesl_chains.specs.Nodes.{replies}
 use Rattle.wesl_syntax.specs.View.{global_view}
 use Rattle.wesl_cond.proofs.Standing.{clear_leaf}
 use Rattle.wesl_cond.proofs.judge.check_leaf.Goals as goal

@@ -1,7 +1,7 @@
-use Rattle.std.proofs.Common.{◌≡◌, map, Ok, Err, arith, subst, false}
-use Rattle.wesl_cond.specs.Judging.{IsClear, RefusesIn}
-use Rattle.wesl_cond.specs.Lists.{alone}
-use Rattle.wesl_cond.specs.Nodes.{replies}
+use Rattle.std.proofs.Common.{map, Ok, Err, arith, subst, false}
+use Rattle.wesl_chains.specs.Judging.{IsClear, RefusesIn}
+use Rattle.wesl_chains.specs.Lists.{alone}
+use Rattle.wesl_chains.specs.Nodes.{replies}
 use Rattle.wesl_syntax.specs.Tree.{Tree, declaration_node, forest_of}
 use Rattle.wesl_syntax.specs.View.{global_view, placed}
 use Rattle.wesl_syntax.specs.declared.declaration.GlobalDeclaration.{GlobalDeclaration}

@@ -1,4 +1,4 @@
-use Rattle.wesl_cond.specs.Nodes.{replies}
+use Rattle.wesl_chains.specs.Nodes.{replies}
 use Rattle.wesl_syntax.specs.Tree.{declaration_node}
 use Rattle.wesl_syntax.specs.View.{global_view, placed}
 use Rattle.wesl_cond.proofs.Walked.{IsLeft}

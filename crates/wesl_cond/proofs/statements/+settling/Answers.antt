@@ -1,9 +1,9 @@
-use Rattle.std.proofs.Common.{◌≡◌, ◌≢◌, ◌++◌, ℕ, map, sym, ap, ◌∙◌, arith, false, true, get_or-set_other}
+use Rattle.std.proofs.Common.{◌≢◌, ◌++◌, map, sym, ap, ◌∙◌, arith, false, true, get_or-set_other}
 use Rattle.std.proofs.lemmas.List.{length-set}
-use Rattle.wesl_cond.specs.Chains.{residual_list}
-use Rattle.wesl_cond.specs.Lists.{alone, element, elements}
-use Rattle.wesl_cond.specs.Nodes.{answers, optional_forest}
-use Rattle.wesl_cond.specs.Residual.{residual_tree}
+use Rattle.wesl_chains.specs.Chains.{residual_list}
+use Rattle.wesl_chains.specs.Lists.{alone, element, elements}
+use Rattle.wesl_chains.specs.Nodes.{answers, optional_forest}
+use Rattle.wesl_chains.specs.Residual.{residual_tree}
 use Rattle.wesl_syntax.specs.Tree.{forest_of}
 use Rattle.wesl_syntax.specs.View.{break_if_view, clause_view, continuing_view, else_if_view, statement_tree, statement_view}
 use Rattle.wesl_syntax.specs.declared.statement.CompoundStatement.{out-CompoundStatement}

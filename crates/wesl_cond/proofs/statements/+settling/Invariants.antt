@@ -1,6 +1,6 @@
 use Rattle.std.proofs.Common.{◌≡◌, ◌++◌, map, take, drop}
-use Rattle.wesl_cond.specs.Nodes.{answers}
-use Rattle.wesl_cond.specs.Residual.{residual_tree}
+use Rattle.wesl_chains.specs.Nodes.{answers}
+use Rattle.wesl_chains.specs.Residual.{residual_tree}
 use Rattle.wesl_syntax.specs.View.{clause_view, else_if_view, statement_tree}
 use Rattle.wesl_cond.proofs.statements.+settling.Given as goal
 

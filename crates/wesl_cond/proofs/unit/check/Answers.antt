@@ -1,5 +1,5 @@
 use Rattle.std.proofs.Common.{Err, refl}
-use Rattle.wesl_cond.specs.Nodes.{replies}
+use Rattle.wesl_chains.specs.Nodes.{replies}
 use Rattle.wesl_syntax.specs.View.{declarations_tree, directives_tree, imports_tree}
 use Rattle.wesl_tree.specs.Translation.{unit_view}
 use Rattle.wesl_cond.proofs.Checked.{three_last, three_second, three_first}

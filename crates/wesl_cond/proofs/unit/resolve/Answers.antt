@@ -22,4 +22,4 @@ returns-in-None c =
     let parts = parts_view r.0 r.1 r.2 r.3 in
     let inside : unit_below parts ≡ true = subst (λ v. unit_below v ≡ true) (sym c.into_parts-names.ensures.parts) c.into_parts-names.ensures.below in
     let left = parts_left r.0 c.args.features.now r.1 c.settle_imports.new.imports r.2 c.settle_directives.new.directives r.3 c.settle_declarations.new.declarations c.settle_imports.ensures c.settle_directives.ensures c.settle_declarations.ensures in
-    absurd (not_outside _ (subst (λ v. unit_below v ≡ true) (sym left) (left_below reply parts inside)) c.in-None.ensures)
+    absurd (not_outside _ (subst (λ v. unit_below v ≡ true) (sym left) (left_below c.law_of_bounds.ensures reply parts inside)) c.in-None.ensures)

@@ -1,14 +1,25 @@
-use Rattle.std.proofs.Common.{◌≡◌}
+use Rattle.wesl_chains.specs.Nodes.{replies}
+use Rattle.wesl_syntax.specs.Unit.{forest_of_unit, trees_of}
 use Rattle.wesl_formula.specs.Features.{answer_to}
 use Rattle.wesl_tree.specs.Translation.{unit_view}
-use Rattle.wesl_cond.proofs.Whole.{settled_is, goes_on, picks_same}
+use Rattle.wesl_cond.proofs.Whole.{settled_is, goes_on, picks_same, err_not_clear, left_over_faultless, two_stages_faultless}
 use Rattle.wesl_cond.proofs.unit.run.Goals as goal
 
 pub returns-clause-settled : goal.returns-clause-settled
-returns-clause-settled c = settled_is (answer_to c.args.features.now) (unit_view c.args.unit.now) (unit_view c.resolve.new.unit) c.resolve.ensures
+returns-clause-settled c = settled_is c.law_of_twice.ensures (answer_to c.args.features.now) (unit_view c.args.unit.now) (unit_view c.resolve.new.unit) c.resolve.ensures
 
 pub returns-clause-staged : goal.returns-clause-staged
-returns-clause-staged c = goes_on (answer_to c.args.features.now) (unit_view c.args.unit.now) (unit_view c.resolve.new.unit) c.resolve.ensures
+returns-clause-staged c = goes_on c.law_of_stages.ensures c.law_of_then.ensures (answer_to c.args.features.now) (unit_view c.args.unit.now) (unit_view c.resolve.new.unit) c.resolve.ensures
 
 pub returns-clause-picks : goal.returns-clause-picks
-returns-clause-picks c = picks_same (answer_to c.args.features.now) (unit_view c.args.unit.now) (unit_view c.resolve.new.unit) c.resolve.ensures
+returns-clause-picks c = picks_same c.law_of_choices.ensures (answer_to c.args.features.now) (unit_view c.args.unit.now) (unit_view c.resolve.new.unit) c.resolve.ensures
+
+pub returns-in_err-check-clause-staged_succeeds : goal.returns-in_err-check-clause-staged_succeeds
+returns-in_err-check-clause-staged_succeeds c = λ no_error left.
+    let u = unit_view c.args.unit.now in
+    absurd (err_not_clear u.names (replies u.names c.args.features.now) (forest_of_unit (trees_of u)) c.check.result _ c.in_err-check.was c.check.ensures (left_over_faultless c.law_of_later_stages.ensures (answer_to c.args.features.now) u no_error left))
+
+pub returns-in_err-check-clause-composed_succeeds : goal.returns-in_err-check-clause-composed_succeeds
+returns-in_err-check-clause-composed_succeeds c = λ stages.
+    let u = unit_view c.args.unit.now in
+    absurd (err_not_clear u.names (replies u.names c.args.features.now) (forest_of_unit (trees_of u)) c.check.result _ c.in_err-check.was c.check.ensures (two_stages_faultless c.law_of_both_stages.ensures (answer_to c.args.features.now) u stages))

@@ -1,0 +1,42 @@
+-- How a list goes on after a chain: what has become of the branches before decides with the next one.
+use Rattle.std.specs.Prelude.{◌≡◌, List, ◌∷◌, ◌++◌, Bool, true, false, cond, Option, Some, None}
+use Rattle.wesl_chains.specs.declared.chain.Role.{Role}
+use Rattle.wesl_chains.specs.declared.chain.Role.TheVariants.{Plain, If, Elif, Else}
+use Rattle.wesl_chains.specs.Chains.{Judged, residual_after}
+use Rattle.wesl_formula.specs.Answers.{Answers}
+use Rattle.wesl_formula.specs.declared.features.Truth.{Truth}
+use Rattle.wesl_formula.specs.declared.features.Truth.TheVariants.{Yes, No, Undecided}
+
+-- how a branch stays, if it does: one of its chain is kept, one was true
+abbrev pub fate : Bool → Bool → Truth → Option Role
+fate kept true t = None
+fate kept false No = None
+fate false false Yes = Some Plain
+fate true false Yes = Some Else
+fate false false Undecided = Some If
+fate true false Undecided = Some Elif
+
+abbrev pub kept_after : Bool → Bool → Truth → Bool
+kept_after kept true t = kept
+kept_after kept false No = kept
+kept_after kept false Yes = true
+kept_after kept false Undecided = true
+
+abbrev pub decided_after : Bool → Truth → Bool
+decided_after true t = true
+decided_after false No = false
+decided_after false Yes = true
+decided_after false Undecided = false
+
+module _ {I N : Type 0} (J : Judged I N) where
+  -- how a beginning of a list is taken, whatever follows
+  abbrev pub AreTurns : Answers I → Bool → Bool → List N → Bool → Bool → List N → Type 0
+  AreTurns known kept decided ns kept' decided' us = (rest : List N) → residual_after J known kept decided (ns ++ rest) ≡ us ++ residual_after J known kept' decided' rest
+
+  -- how the next node is taken: as u where it stays, whatever follows
+  abbrev pub IsTurn : Answers I → Bool → Bool → N → Bool → Bool → N → Bool → Type 0
+  IsTurn known kept decided n kept' decided' u stays = (rest : List N) → residual_after J known kept decided (n ∷ rest) ≡ cond stays (u ∷ residual_after J known kept' decided' rest) (residual_after J known kept' decided' rest)
+
+  -- how a beginning of a list is passed, whatever follows and whatever stays of it
+  abbrev pub Ends : Answers I → Bool → Bool → List N → Bool → Bool → Type 0
+  Ends known kept decided ns kept' decided' = AreTurns known kept decided ns kept' decided' (residual_after J known kept decided ns)

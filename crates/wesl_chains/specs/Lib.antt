@@ -1,0 +1,11 @@
+pub mod Chains
+pub mod Following
+pub mod Conditions
+pub mod Lists
+pub mod Residual
+pub mod Picked
+pub mod Flags
+pub mod Faults
+pub mod Judging
+pub mod Nodes
+pub mod Laws

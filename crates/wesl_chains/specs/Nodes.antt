@@ -1,0 +1,102 @@
+-- The nodes of the code as nodes of a judged list.
+use Rattle.std.specs.Prelude.{ℕ, Bool, true, false, cond, List, [], ◌∷◌, map, Option, Some, None}
+use Rattle.wesl_chains.specs.declared.chain.Role.{Role}
+use Rattle.wesl_chains.specs.Chains.{Condition, none, on, else_on, otherwise, recast_condition}
+use Rattle.wesl_chains.specs.Conditions.{condition_at, attribute_of}
+use Rattle.wesl_chains.specs.Lists.{Element}
+use Rattle.wesl_formula.specs.Answers.{Answers}
+use Rattle.wesl_formula.specs.Features.{Replies, answer_to, known, by_number}
+use Rattle.wesl_formula.specs.declared.features.Features.{Features}
+use Rattle.wesl_formula.specs.Residual.{decided}
+use Rattle.wesl_formula.specs.declared.features.Truth.{Truth}
+use Rattle.wesl_formula.specs.declared.features.Truth.TheVariants.{Yes}
+use Rattle.wesl_names.specs.Path.{Text}
+use Rattle.wesl_syntax.specs.Tree.{Tree, Forest, end, tree, before, forest_of, attribute_node}
+use Rattle.wesl_syntax.specs.View.{attribute_view, placed}
+use Rattle.wesl_syntax.specs.declared.attribute.Attribute.{Attribute}
+use Rattle.wesl_syntax.specs.declared.span.Spanned.{Spanned}
+
+-- what a set of features answers for the flags of a table, and what that says of them
+abbrev pub replies : List Text → Features → Replies ℕ
+replies names features = by_number names (answer_to features)
+
+abbrev pub answers : List Text → Features → Answers ℕ
+answers names features = known (replies names features)
+
+abbrev pub attribute_tree : Spanned Attribute → Tree
+attribute_tree = placed attribute_view attribute_node
+
+abbrev pub attributes_forest : List (Spanned Attribute) → Forest
+attributes_forest xs = forest_of (map attribute_tree xs)
+
+-- the condition that an attribute is
+abbrev pub condition_of_attribute : Attribute → Condition ℕ
+condition_of_attribute a = condition_at (before (attribute_view a) end)
+
+-- an attribute as a new condition, where it was one and one is left
+abbrev pub remade : Forest → Condition ℕ → Condition ℕ → Forest
+remade a none d = a
+remade a (on x) none = a
+remade a (on x) (on y) = attribute_of (on y)
+remade a (on x) (else_on y) = attribute_of (else_on y)
+remade a (on x) otherwise = attribute_of otherwise
+remade a (else_on x) none = a
+remade a (else_on x) (on y) = attribute_of (on y)
+remade a (else_on x) (else_on y) = attribute_of (else_on y)
+remade a (else_on x) otherwise = attribute_of otherwise
+remade a otherwise none = a
+remade a otherwise (on y) = attribute_of (on y)
+remade a otherwise (else_on y) = attribute_of (else_on y)
+remade a otherwise otherwise = attribute_of otherwise
+
+abbrev pub marked : Answers ℕ → Role → Forest → Forest
+marked known role a = remade a (condition_at a) (recast_condition known role (condition_at a))
+
+-- the node of an attribute, with the attribute marked
+abbrev pub marked_tree : Answers ℕ → Role → Tree → Tree
+marked_tree known role t = record { label = t.label; children = marked known role t.children }
+
+abbrev pub is_any : Condition ℕ → Bool
+is_any none = false
+is_any (on x) = true
+is_any (else_on x) = true
+is_any otherwise = true
+
+-- an attributes list without its conditions
+abbrev pub unconditional : Forest → Forest
+unconditional end = end
+unconditional (tree l attribute others) = cond (is_any (condition_at attribute)) (unconditional others) (tree l attribute (unconditional others))
+
+-- whether there are two conditions, one of which may be seen already
+abbrev pub several_after : Bool → List (Condition ℕ) → Bool
+several_after seen [] = false
+several_after false (c ∷ cs) = several_after true cs
+several_after true (c ∷ cs) = true
+
+abbrev pub is_several : List (Condition ℕ) → Bool
+is_several cs = several_after false cs
+
+abbrev pub follows_if_any : Condition ℕ → Option Bool
+follows_if_any none = None
+follows_if_any (on x) = Some false
+follows_if_any (else_on x) = Some true
+follows_if_any otherwise = Some true
+
+abbrev pub holds_if_any : Answers ℕ → Condition ℕ → Option Truth
+holds_if_any known none = None
+holds_if_any known (on x) = Some (decided known x.form)
+holds_if_any known (else_on x) = Some (decided known x.form)
+holds_if_any known otherwise = Some Yes
+
+-- a node of a judged list, or what closes one
+abbrev pub as_element : Bool → Tree → Element ℕ
+as_element closes t = record { closes = closes; label = t.label; children = t.children }
+
+-- what closes a list, if there is anything
+abbrev pub optional_elements : {A : Type 0} → Bool → (A → Tree) → Option A → List (Element ℕ)
+optional_elements closes view None = []
+optional_elements closes view (Some x) = as_element closes (view x) ∷ []
+
+abbrev pub optional_forest : {A : Type 0} → (A → Tree) → Option A → Forest
+optional_forest view None = end
+optional_forest view (Some x) = before (view x) end

@@ -1,0 +1,212 @@
+//! The condition among the attributes of a node.
+ghost use Rattle.std.specs.Prelude.{◌≡◌, map};
+ghost use Rattle.wesl_chains.specs.Chains.{follows_on, holds};
+ghost use Rattle.wesl_chains.specs.Conditions.{first_condition, recast};
+ghost use Rattle.wesl_chains.specs.Nodes.{answers, attributes_forest, condition_of_attribute, attribute_tree, follows_if_any, holds_if_any, is_any, marked, marked_tree, unconditional};
+ghost use Rattle.wesl_syntax.specs.Tree.{before, end};
+ghost use Rattle.wesl_syntax.specs.View.{attribute_view};
+
+use crate::chain::Role;
+use std::mem;
+use wesl_formula::{Features, Truth, decided, simplify};
+use wesl_names::Names;
+use wesl_syntax::{Attribute, AttributeNode, Attributes};
+
+/// Whether an attribute is a condition.
+pub fn is_condition(attribute: &Attribute) -> bool
+    ensures { result ≡ is_any (condition_of_attribute attribute.now) }
+{
+    match attribute {
+        Attribute::If(_) | Attribute::Elif(_) | Attribute::Else => true,
+        Attribute::Align(_)
+        | Attribute::Binding(_)
+        | Attribute::BlendSrc(_)
+        | Attribute::Builtin(_)
+        | Attribute::Const
+        | Attribute::Diagnostic { .. }
+        | Attribute::Group(_)
+        | Attribute::Id(_)
+        | Attribute::Interpolate(_)
+        | Attribute::Invariant
+        | Attribute::Location(_)
+        | Attribute::MustUse
+        | Attribute::Size(_)
+        | Attribute::WorkgroupSize { .. }
+        | Attribute::Vertex
+        | Attribute::Fragment
+        | Attribute::Compute
+        | Attribute::Publish
+        | Attribute::Custom { .. } => false,
+    }
+}
+
+/// Whether an attribute is an `@elif` or an `@else`, if it is a condition.
+fn follows_one(attribute: &Attribute) -> Option<bool>
+    ensures { result ≡ follows_if_any (condition_of_attribute attribute.now) }
+{
+    match attribute {
+        Attribute::If(_) => Some(false),
+        Attribute::Elif(_) | Attribute::Else => Some(true),
+        Attribute::Align(_)
+        | Attribute::Binding(_)
+        | Attribute::BlendSrc(_)
+        | Attribute::Builtin(_)
+        | Attribute::Const
+        | Attribute::Diagnostic { .. }
+        | Attribute::Group(_)
+        | Attribute::Id(_)
+        | Attribute::Interpolate(_)
+        | Attribute::Invariant
+        | Attribute::Location(_)
+        | Attribute::MustUse
+        | Attribute::Size(_)
+        | Attribute::WorkgroupSize { .. }
+        | Attribute::Vertex
+        | Attribute::Fragment
+        | Attribute::Compute
+        | Attribute::Publish
+        | Attribute::Custom { .. } => None,
+    }
+}
+
+/// Whether an attribute holds, if it is a condition.
+fn holds_one(attribute: &Attribute, names: &Names, features: &Features) -> Option<Truth>
+    ensures { result ≡ holds_if_any (answers names.now features.now) (condition_of_attribute attribute.now) }
+{
+    match attribute {
+        Attribute::If(formula) => Some(decided(&formula.node, names, features)),
+        Attribute::Elif(formula) => Some(decided(&formula.node, names, features)),
+        Attribute::Else => Some(Truth::Yes),
+        Attribute::Align(_)
+        | Attribute::Binding(_)
+        | Attribute::BlendSrc(_)
+        | Attribute::Builtin(_)
+        | Attribute::Const
+        | Attribute::Diagnostic { .. }
+        | Attribute::Group(_)
+        | Attribute::Id(_)
+        | Attribute::Interpolate(_)
+        | Attribute::Invariant
+        | Attribute::Location(_)
+        | Attribute::MustUse
+        | Attribute::Size(_)
+        | Attribute::WorkgroupSize { .. }
+        | Attribute::Vertex
+        | Attribute::Fragment
+        | Attribute::Compute
+        | Attribute::Publish
+        | Attribute::Custom { .. } => None,
+    }
+}
+
+/// Whether the first condition, if there is one, is an `@elif` or an `@else`.
+pub fn follows_on(attributes: &[AttributeNode]) -> bool
+    ensures { result ≡ follows_on (first_condition (attributes_forest attributes.now)) }
+{
+    for attribute in attributes {
+        if let Some(follows) = follows_one(&attribute.node) {
+            return follows;
+        }
+    }
+    false
+}
+
+/// Whether the first condition holds; no condition and an `@else` count as true.
+pub fn holds(attributes: &[AttributeNode], names: &Names, features: &Features) -> Truth
+    ensures { result ≡ holds (answers names.now features.now) (first_condition (attributes_forest attributes.now)) }
+{
+    for attribute in attributes {
+        if let Some(holds) = holds_one(&attribute.node, names, features) {
+            return holds;
+        }
+    }
+    Truth::Yes
+}
+
+/// An attribute that is a condition by a new role, with what is left of its formula; any other as it was.
+fn marked(attribute: Attribute, role: Role, names: &Names, features: &Features) -> Attribute
+    ensures { before (attribute_view result) end ≡ marked (answers names.now features.now) role (before (attribute_view attribute) end) }
+{
+    match attribute {
+        Attribute::If(mut formula) => match role {
+            Role::Plain => Attribute::If(formula),
+            Role::Else => Attribute::Else,
+            Role::If => {
+                simplify(&mut formula.node, names, features);
+                Attribute::If(formula)
+            }
+            Role::Elif => {
+                simplify(&mut formula.node, names, features);
+                Attribute::Elif(formula)
+            }
+        },
+        Attribute::Elif(mut formula) => match role {
+            Role::Plain => Attribute::Elif(formula),
+            Role::Else => Attribute::Else,
+            Role::If => {
+                simplify(&mut formula.node, names, features);
+                Attribute::If(formula)
+            }
+            Role::Elif => {
+                simplify(&mut formula.node, names, features);
+                Attribute::Elif(formula)
+            }
+        },
+        Attribute::Else => Attribute::Else,
+        Attribute::Align(operand) => Attribute::Align(operand),
+        Attribute::Binding(operand) => Attribute::Binding(operand),
+        Attribute::BlendSrc(operand) => Attribute::BlendSrc(operand),
+        Attribute::Builtin(name) => Attribute::Builtin(name),
+        Attribute::Const => Attribute::Const,
+        Attribute::Diagnostic { severity, rule } => Attribute::Diagnostic { severity, rule },
+        Attribute::Group(operand) => Attribute::Group(operand),
+        Attribute::Id(operand) => Attribute::Id(operand),
+        Attribute::Interpolate(names) => Attribute::Interpolate(names),
+        Attribute::Invariant => Attribute::Invariant,
+        Attribute::Location(operand) => Attribute::Location(operand),
+        Attribute::MustUse => Attribute::MustUse,
+        Attribute::Size(operand) => Attribute::Size(operand),
+        Attribute::WorkgroupSize { x, y, z } => Attribute::WorkgroupSize { x, y, z },
+        Attribute::Vertex => Attribute::Vertex,
+        Attribute::Fragment => Attribute::Fragment,
+        Attribute::Compute => Attribute::Compute,
+        Attribute::Publish => Attribute::Publish,
+        Attribute::Custom { name, arguments } => Attribute::Custom { name, arguments },
+    }
+}
+
+/// Marks an attribute by a role in its place.
+fn mark(attribute: &mut AttributeNode, role: Role, names: &Names, features: &Features)
+    ensures { attribute_tree attribute.new ≡ marked_tree (answers names.now features.now) role (attribute_tree attribute.old) }
+{
+    let whole = mem::replace(&mut attribute.node, Attribute::Else);
+    attribute.node = marked(whole, role, names, features);
+}
+
+/// Marks the conditions among the attributes by a role, or drops them where the node is to be plain. No memory is taken.
+pub fn recast(attributes: &mut Attributes, role: Role, names: &Names, features: &Features)
+    ensures { attributes_forest attributes.new.items ≡ recast (answers names.now features.now) role (attributes_forest attributes.old.items) }
+{
+    match role {
+        Role::Plain => drop_conditions(attributes),
+        Role::If => mark_all(attributes, role, names, features),
+        Role::Elif => mark_all(attributes, role, names, features),
+        Role::Else => mark_all(attributes, role, names, features),
+    }
+}
+
+/// Drops the conditions among the attributes.
+fn drop_conditions(attributes: &mut Attributes)
+    ensures { attributes_forest attributes.new.items ≡ unconditional (attributes_forest attributes.old.items) }
+{
+    attributes.retain(|attribute| !is_condition(&attribute.node));
+}
+
+/// Marks each condition among the attributes by a role.
+fn mark_all(attributes: &mut [AttributeNode], role: Role, names: &Names, features: &Features)
+    ensures { map attribute_tree attributes.new ≡ map (marked_tree (answers names.now features.now) role) (map attribute_tree attributes.old) }
+{
+    for attribute in attributes.iter_mut() {
+        mark(attribute, role, names, features);
+    }
+}

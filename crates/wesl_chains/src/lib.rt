@@ -1,0 +1,18 @@
+//! Chains of conditional nodes: which branches stay, what is left of a list, and the faults of its conditions (WESL,
+//! "ConditionalTranslation").
+#![tactic(auto)]
+
+mod chain;
+mod conditions;
+mod faults;
+mod laws;
+mod lists;
+mod nodes;
+
+pub use chain::{Chain, Role};
+pub use faults::{check_both, check_list};
+pub use laws::{
+    law_of_both_stages, law_of_bounds, law_of_choices, law_of_later_stages, law_of_stages,
+    law_of_then, law_of_twice,
+};
+pub use lists::{Conditional, closes, settle_both, settle_list, stays};

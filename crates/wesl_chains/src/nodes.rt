@@ -1,0 +1,290 @@
+//! The nodes that stand in judged lists, and what closes them.
+ghost use Rattle.std.specs.Prelude.{◌≡◌};
+ghost use Rattle.wesl_chains.specs.Conditions.{attributes_in, recast, with_attributes};
+ghost use Rattle.wesl_chains.specs.Nodes.{answers, attributes_forest};
+ghost use Rattle.wesl_syntax.specs.Tree.{before, declaration_node, directive_node, end, import_node, member_node};
+ghost use Rattle.wesl_syntax.specs.Unit.{begins_void};
+ghost use Rattle.wesl_syntax.specs.View.{break_if_view, clause_view, compound_view, continuing_view, directive_view, global_view, import_view, member_view, parameter_view, placed, statement_tree, statement_view};
+
+use crate::chain::Role;
+use crate::conditions::recast;
+use crate::lists::Conditional;
+use wesl_formula::Features;
+use wesl_names::Names;
+use wesl_syntax::{
+    AttributeNode, BreakIfStatement, CompoundStatement, ContinuingStatement, FormalParameter,
+    GlobalDeclaration, GlobalDirective, ImportStatement, Spanned, Statement, StructMember,
+    SwitchClause,
+};
+
+impl Conditional for Spanned<ImportStatement> {
+    ghost tree = { placed import_view import_node };
+
+    fn is_void(&self) -> bool {
+        false
+    }
+
+    fn attributes(&self) -> &[AttributeNode] {
+        &self.node.attributes
+    }
+
+    fn recast(&mut self, role: Role, names: &Names, features: &Features) {
+        recast(&mut self.node.attributes, role, names, features);
+    }
+}
+
+impl Conditional for Spanned<StructMember> {
+    ghost tree = { placed member_view member_node };
+
+    fn is_void(&self) -> bool {
+        false
+    }
+
+    fn attributes(&self) -> &[AttributeNode] {
+        &self.node.attributes
+    }
+
+    fn recast(&mut self, role: Role, names: &Names, features: &Features) {
+        recast(&mut self.node.attributes, role, names, features);
+    }
+}
+
+impl Conditional for FormalParameter {
+    ghost tree = { parameter_view };
+
+    fn is_void(&self) -> bool {
+        false
+    }
+
+    fn attributes(&self) -> &[AttributeNode] {
+        &self.attributes
+    }
+
+    fn recast(&mut self, role: Role, names: &Names, features: &Features) {
+        recast(&mut self.attributes, role, names, features);
+    }
+}
+
+impl Conditional for SwitchClause {
+    ghost tree = { clause_view };
+
+    fn is_void(&self) -> bool {
+        false
+    }
+
+    fn attributes(&self) -> &[AttributeNode] {
+        &self.attributes
+    }
+
+    fn recast(&mut self, role: Role, names: &Names, features: &Features) {
+        recast(&mut self.attributes, role, names, features);
+    }
+}
+
+impl Conditional for ContinuingStatement {
+    ghost tree = { continuing_view };
+
+    fn is_void(&self) -> bool {
+        false
+    }
+
+    fn attributes(&self) -> &[AttributeNode] {
+        &self.attributes
+    }
+
+    fn recast(&mut self, role: Role, names: &Names, features: &Features) {
+        recast(&mut self.attributes, role, names, features);
+    }
+}
+
+impl Conditional for BreakIfStatement {
+    ghost tree = { break_if_view };
+
+    fn is_void(&self) -> bool {
+        false
+    }
+
+    fn attributes(&self) -> &[AttributeNode] {
+        &self.attributes
+    }
+
+    fn recast(&mut self, role: Role, names: &Names, features: &Features) {
+        recast(&mut self.attributes, role, names, features);
+    }
+}
+
+impl Conditional for Spanned<GlobalDirective> {
+    ghost tree = { placed directive_view directive_node };
+
+    fn is_void(&self) -> bool {
+        false
+    }
+
+    fn attributes(&self) -> &[AttributeNode] {
+        match &self.node {
+            GlobalDirective::Diagnostic { attributes, .. } => attributes,
+            GlobalDirective::Enable { attributes, .. } => attributes,
+            GlobalDirective::Requires { attributes, .. } => attributes,
+        }
+    }
+
+    fn recast(&mut self, role: Role, names: &Names, features: &Features) {
+        match &mut self.node {
+            GlobalDirective::Diagnostic { attributes, .. } => {
+                recast(attributes, role, names, features)
+            }
+            GlobalDirective::Enable { attributes, .. } => recast(attributes, role, names, features),
+            GlobalDirective::Requires { attributes, .. } => {
+                recast(attributes, role, names, features)
+            }
+        }
+    }
+}
+
+impl Conditional for Spanned<GlobalDeclaration> {
+    ghost tree = { placed global_view declaration_node };
+
+    fn is_void(&self) -> bool {
+        match &self.node {
+            GlobalDeclaration::Void => true,
+            GlobalDeclaration::Declaration(_)
+            | GlobalDeclaration::TypeAlias(_)
+            | GlobalDeclaration::Struct(_)
+            | GlobalDeclaration::Function(_)
+            | GlobalDeclaration::ConstAssert(_) => false,
+        }
+    }
+
+    fn attributes(&self) -> &[AttributeNode] {
+        match &self.node {
+            GlobalDeclaration::Void => &[],
+            GlobalDeclaration::Declaration(declaration) => &declaration.attributes,
+            GlobalDeclaration::TypeAlias(alias) => &alias.attributes,
+            GlobalDeclaration::Struct(structure) => &structure.attributes,
+            GlobalDeclaration::Function(function) => &function.attributes,
+            GlobalDeclaration::ConstAssert(assertion) => &assertion.attributes,
+        }
+    }
+
+    fn recast(&mut self, role: Role, names: &Names, features: &Features) {
+        match &mut self.node {
+            GlobalDeclaration::Void => {}
+            GlobalDeclaration::Declaration(declaration) => {
+                recast(&mut declaration.attributes, role, names, features)
+            }
+            GlobalDeclaration::TypeAlias(alias) => {
+                recast(&mut alias.attributes, role, names, features)
+            }
+            GlobalDeclaration::Struct(structure) => {
+                recast(&mut structure.attributes, role, names, features)
+            }
+            GlobalDeclaration::Function(function) => {
+                recast(&mut function.attributes, role, names, features)
+            }
+            GlobalDeclaration::ConstAssert(assertion) => {
+                recast(&mut assertion.attributes, role, names, features)
+            }
+        }
+    }
+}
+
+impl Conditional for Spanned<Statement> {
+    ghost tree = { statement_tree };
+
+    fn is_void(&self) -> bool {
+        is_void_statement(&self.node)
+    }
+
+    fn attributes(&self) -> &[AttributeNode] {
+        statement_attributes(&self.node)
+    }
+
+    fn recast(&mut self, role: Role, names: &Names, features: &Features) {
+        recast_statement(&mut self.node, role, names, features);
+    }
+}
+
+fn is_void_statement(statement: &Statement) -> bool
+    ensures { result ≡ begins_void (before (statement_view statement.now) end) }
+{
+    match statement {
+        Statement::Void => true,
+        Statement::Compound(_) => false,
+        Statement::Assignment { .. } => false,
+        Statement::Increment { .. } => false,
+        Statement::Decrement { .. } => false,
+        Statement::If { .. } => false,
+        Statement::Switch { .. } => false,
+        Statement::Loop { .. } => false,
+        Statement::For { .. } => false,
+        Statement::While { .. } => false,
+        Statement::Break { .. } => false,
+        Statement::Continue { .. } => false,
+        Statement::Return { .. } => false,
+        Statement::Discard { .. } => false,
+        Statement::FunctionCall { .. } => false,
+        Statement::ConstAssert(_) => false,
+        Statement::Declaration(_) => false,
+    }
+}
+
+#[tactic(auto, using(crate::proofs::Views::view_compound))]
+fn statement_attributes(statement: &Statement) -> &[AttributeNode]
+    ensures { attributes_forest result.now ≡ attributes_in (before (statement_view statement.now) end) }
+{
+    match statement {
+        Statement::Void => &[],
+        Statement::Compound(body) => &body.attributes,
+        Statement::Assignment { attributes, .. } => attributes,
+        Statement::Increment { attributes, .. } => attributes,
+        Statement::Decrement { attributes, .. } => attributes,
+        Statement::If { attributes, .. } => attributes,
+        Statement::Switch { attributes, .. } => attributes,
+        Statement::Loop { attributes, .. } => attributes,
+        Statement::For { attributes, .. } => attributes,
+        Statement::While { attributes, .. } => attributes,
+        Statement::Break { attributes } => attributes,
+        Statement::Continue { attributes } => attributes,
+        Statement::Return { attributes, .. } => attributes,
+        Statement::Discard { attributes } => attributes,
+        Statement::FunctionCall { attributes, .. } => attributes,
+        Statement::ConstAssert(assertion) => &assertion.attributes,
+        Statement::Declaration(declaration) => &declaration.attributes,
+    }
+}
+
+#[tactic(auto, using(crate::proofs::Views::view_compound))]
+fn recast_statement(statement: &mut Statement, role: Role, names: &Names, features: &Features)
+    ensures { before (statement_view statement.new) end ≡ with_attributes (recast (answers names.now features.now) role) (before (statement_view statement.old) end) }
+{
+    match statement {
+        Statement::Void => {}
+        Statement::Compound(body) => recast_body(body, role, names, features),
+        Statement::Assignment { attributes, .. } => recast(attributes, role, names, features),
+        Statement::Increment { attributes, .. } => recast(attributes, role, names, features),
+        Statement::Decrement { attributes, .. } => recast(attributes, role, names, features),
+        Statement::If { attributes, .. } => recast(attributes, role, names, features),
+        Statement::Switch { attributes, .. } => recast(attributes, role, names, features),
+        Statement::Loop { attributes, .. } => recast(attributes, role, names, features),
+        Statement::For { attributes, .. } => recast(attributes, role, names, features),
+        Statement::While { attributes, .. } => recast(attributes, role, names, features),
+        Statement::Break { attributes } => recast(attributes, role, names, features),
+        Statement::Continue { attributes } => recast(attributes, role, names, features),
+        Statement::Return { attributes, .. } => recast(attributes, role, names, features),
+        Statement::Discard { attributes } => recast(attributes, role, names, features),
+        Statement::FunctionCall { attributes, .. } => recast(attributes, role, names, features),
+        Statement::ConstAssert(assertion) => {
+            recast(&mut assertion.attributes, role, names, features)
+        }
+        Statement::Declaration(declaration) => {
+            recast(&mut declaration.attributes, role, names, features)
+        }
+    }
+}
+
+#[tactic(auto, using(crate::proofs::Views::view_compound))]
+fn recast_body(body: &mut CompoundStatement, role: Role, names: &Names, features: &Features)
+    ensures { before (compound_view body.new) end ≡ with_attributes (recast (answers names.now features.now) role) (before (compound_view body.old) end) }
+{
+    recast(&mut body.attributes, role, names, features);
+}
