@@ -1,0 +1,6 @@
+pub mod Places
+pub mod Readings
+pub mod Flags
+pub mod Depths
+pub mod Listed
+pub mod Exact

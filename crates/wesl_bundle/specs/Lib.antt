@@ -1,0 +1,9 @@
+pub mod Place
+pub mod Reading
+pub mod Features
+pub mod Packages
+pub mod Bundle
+pub mod Forms
+pub mod Broken
+pub mod PackageViews
+pub mod Views

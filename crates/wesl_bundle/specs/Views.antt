@@ -1,0 +1,33 @@
+-- The bundle that is kept, beside the value that it was read from.
+use Rattle.std.specs.Prelude.{List, map, option_map, String, string_bytes}
+use Rattle.std.specs.declared.alloc.Global.{Global}
+use Rattle.std.specs.BTreeMap.{BTreeMap}
+use Rattle.serde_json.specs.View.{view}
+use Rattle.wesl_formula.specs.declared.features.Feature.{Feature}
+use Rattle.wesl_formula.specs.declared.features.Features.{Features}
+use Rattle.wesl_names.specs.Path.{path_view}
+use Rattle.wesl_bundle.specs.Bundle as spec
+use Rattle.wesl_bundle.specs.Features as said
+use Rattle.wesl_bundle.specs.PackageViews.{packages_view}
+use Rattle.wesl_bundle.specs.declared.bundle.Bundle.{Bundle}
+use Rattle.wesl_bundle.specs.declared.bundle.BundleModule.{BundleModule}
+use Rattle.wesl_bundle.specs.declared.options.Options.{Options}
+
+abbrev pub module_view : BundleModule → spec.Module
+module_view m = record { path = path_view m.path; unit = view m.unit.now }
+
+abbrev pub flag_view : String Global × Feature → said.Flag
+flag_view f = record { named = string_bytes f.0; answer = f.1 }
+
+-- the flags in the order of their names
+abbrev pub flags_view : BTreeMap (String Global) Feature → List said.Flag
+flags_view flags = map flag_view flags.entries
+
+abbrev pub features_view : Features → said.Features
+features_view f = record { default = f.default; flags = flags_view f.flags }
+
+abbrev pub options_view : Options → spec.Options
+options_view o = record { mangler = o.mangler; mangle_root = o.mangle_root; max_modules = o.max_modules }
+
+abbrev pub bundle_view : Bundle → spec.Bundle
+bundle_view b = record { root = path_view b.root; keep = map string_bytes b.keep.items; modules = map module_view b.modules.items; packages = packages_view b.packages.items; features = option_map features_view b.features; options = options_view b.options }

@@ -1,0 +1,168 @@
+//! The bundle: the root's path, the names that are kept, and the modules.
+ghost use Rattle.std.specs.Prelude.{◌≡◌, None, Some, IfOk, IfErr, map, string_bytes, false};
+ghost use Rattle.serde_json.specs.Find.{get};
+ghost use Rattle.serde_json.specs.View.{view};
+ghost use Rattle.wesl_names.specs.Path.{path_view, is_relative};
+ghost use Rattle.wesl_bundle.specs.Broken.{IfPlace, Locates, LocatesMember};
+ghost use Rattle.wesl_bundle.specs.Bundle.{module_in, bundle_in, bundle_of};
+ghost use Rattle.wesl_bundle.specs.Forms.{optional, a_list_of, a_name, a_module, a_bundle, IsBrokenBundle};
+ghost use Rattle.wesl_bundle.specs.Reading.{or_empty, list_in, name_in};
+ghost use Rattle.wesl_bundle.specs.Views.{bundle_view, module_view};
+
+use crate::features::features_member;
+use crate::floats::check_whole;
+use crate::members::{
+    BundleError, check_keys, member, name_of, path_member, under, under_index, wrong,
+};
+use crate::options::{Options, read_options};
+use crate::packages::{Package, packages_member};
+use serde_json::Value;
+use std::alloc::Global;
+use wesl_formula::Features;
+use wesl_names::ModulePath;
+
+/// A bundle whose units are not read yet: each is a value within the bundle's.
+#[derive(Drop)]
+pub struct Bundle<'v> {
+    /// The path of the root. It is not relative.
+    pub root: ModulePath,
+    /// The names of the root that are kept.
+    pub keep: Vec<String>,
+    /// The modules in order. Of those at one path the last counts.
+    pub modules: Vec<BundleModule<'v>>,
+    /// The packages in order. Of those with one name the first counts.
+    pub packages: Vec<Package<'v>>,
+    /// The answers for feature flags. Without them no condition is judged.
+    pub features: Option<Features>,
+    /// How the modules are linked.
+    pub options: Options,
+}
+
+/// A module of a bundle.
+#[derive(Drop)]
+pub struct BundleModule<'v> {
+    /// Where the module is. The path is not relative.
+    pub path: ModulePath,
+    /// The value that its unit is read from.
+    pub unit: &'v Value,
+}
+
+/// The bundle that a value is. Refused at a place of the value that breaks the form, and then the value is no bundle,
+/// or for want of memory.
+pub fn read_bundle<'v>(alloc: Global, value: &'v Value) -> Result<Bundle<'v>, BundleError>
+    ensures ok { IfOk result (λ b. bundle_of (view value.now) ≡ Some (bundle_view b)) }
+    ensures fixed { IfOk result (λ b. is_relative (path_view b.root) ≡ false) }
+    ensures place { IfErr result (λ e. IfPlace e (IsBrokenBundle (view value.now))) }
+    ensures unread { IfErr result (λ e. IfPlace e (λ _. bundle_of (view value.now) ≡ None)) }
+{
+    check_whole(alloc, value)?;
+    read_members(alloc, value)
+}
+
+fn read_members<'v>(alloc: Global, value: &'v Value) -> Result<Bundle<'v>, BundleError>
+    ensures ok { IfOk result (λ b. bundle_in (view value.now) ≡ Some (bundle_view b)) }
+    ensures fixed { IfOk result (λ b. is_relative (path_view b.root) ≡ false) }
+    ensures place { IfErr result (Locates a_bundle (view value.now)) }
+{
+    let known = [
+        "root",
+        "keep",
+        "modules",
+        "packages",
+        "features",
+        "mangler",
+        "mangle_root",
+        "max_modules",
+    ];
+    check_keys(alloc, value, &known)?;
+    let root = path_member(alloc, value, "root")?;
+    let keep = names_member(alloc, value, "keep")?;
+    let modules = modules_member(alloc, value, "modules")?;
+    let packages = packages_member(alloc, value, "packages")?;
+    let features = features_member(alloc, value, "features")?;
+    let options = read_options(alloc, value)?;
+    Ok(Bundle {
+        root,
+        keep,
+        modules,
+        packages,
+        features,
+        options,
+    })
+}
+
+// The names at the key, none where it is not there.
+fn names_member(alloc: Global, value: &Value, key: &str) -> Result<Vec<String>, BundleError>
+    ensures ok { IfOk result (λ v. or_empty name_in (get key.now (view value.now)) ≡ Some (map string_bytes v.items)) }
+    ensures place { IfErr result (LocatesMember (optional key.now (a_list_of a_name)) (view value.now)) }
+{
+    let Some(list) = value.get(key) else {
+        return Ok(Vec::new(alloc));
+    };
+    match names_of(alloc, list) {
+        Ok(names) => Ok(names),
+        Err(error) => Err(under(alloc, error, key)),
+    }
+}
+
+fn names_of(alloc: Global, value: &Value) -> Result<Vec<String>, BundleError>
+    ensures ok { IfOk result (λ v. list_in name_in (view value.now) ≡ Some (map string_bytes v.items)) }
+    ensures place { IfErr result (Locates (a_list_of a_name) (view value.now)) }
+{
+    let Some(items) = value.as_array() else {
+        return Err(wrong(alloc));
+    };
+    let mut names = Vec::new(alloc);
+    for (index, item) in items.iter().enumerate() {
+        match name_of(alloc, item) {
+            Ok(name) => names.push(name)?,
+            Err(error) => return Err(under_index(alloc, error, index)),
+        }
+    }
+    Ok(names)
+}
+
+// The modules at the key, none where it is not there.
+fn modules_member<'v>(
+    alloc: Global,
+    value: &'v Value,
+    key: &str,
+) -> Result<Vec<BundleModule<'v>>, BundleError>
+    ensures ok { IfOk result (λ ms. or_empty module_in (get key.now (view value.now)) ≡ Some (map module_view ms.items)) }
+    ensures place { IfErr result (LocatesMember (optional key.now (a_list_of a_module)) (view value.now)) }
+{
+    let Some(list) = value.get(key) else {
+        return Ok(Vec::new(alloc));
+    };
+    match modules_of(alloc, list) {
+        Ok(modules) => Ok(modules),
+        Err(error) => Err(under(alloc, error, key)),
+    }
+}
+
+fn modules_of<'v>(alloc: Global, value: &'v Value) -> Result<Vec<BundleModule<'v>>, BundleError>
+    ensures ok { IfOk result (λ ms. list_in module_in (view value.now) ≡ Some (map module_view ms.items)) }
+    ensures place { IfErr result (Locates (a_list_of a_module) (view value.now)) }
+{
+    let Some(items) = value.as_array() else {
+        return Err(wrong(alloc));
+    };
+    let mut modules = Vec::new(alloc);
+    for (index, item) in items.iter().enumerate() {
+        match module_of(alloc, item) {
+            Ok(module) => modules.push(module)?,
+            Err(error) => return Err(under_index(alloc, error, index)),
+        }
+    }
+    Ok(modules)
+}
+
+fn module_of<'v>(alloc: Global, value: &'v Value) -> Result<BundleModule<'v>, BundleError>
+    ensures ok { IfOk result (λ m. module_in (view value.now) ≡ Some (module_view m)) }
+    ensures place { IfErr result (Locates a_module (view value.now)) }
+{
+    check_keys(alloc, value, &["path", "unit"])?;
+    let path = path_member(alloc, value, "path")?;
+    let unit = member(alloc, value, "unit")?;
+    Ok(BundleModule { path, unit })
+}
