@@ -1,0 +1,146 @@
+-- A whole unit whose identifiers stand for something.
+use Rattle.std.proofs.Common.{◌≡◌, ℕ, zero, suc, ◌<◌, Bool, true, false, ◌&&◌, Option, Some, None, List, [], ◌∷◌, ◌++◌, length, map, get_or, refl, sym, ◌∙◌, ap, subst, arith}
+use Rattle.std.specs.Prelude.{MatchOption}
+use Rattle.std.specs.Option.{IsSome}
+use Rattle.std.specs.List.{All}
+use Rattle.std.proofs.lemmas.Grind.{get_or_default_zero}
+use Rattle.wesl_names.specs.Path.{Text}
+use Rattle.wesl_syntax.specs.Tree.{Tree, LabelOf, Forest, ForestOf, end, tree, branch, identifiers, respell, respell_forest, forest_below, tree_below, imports as imports_kind}
+use Rattle.wesl_syntax.specs.Unit.{UnitOf, UnitView, forest_of_unit, trees_of, name_in, spelled, unit_below}
+use Rattle.wesl_assembly.specs.Numbers.{AreNumbers, number_at}
+use Rattle.wesl_renumber.specs.Renumbered.{renumbered, renumbered_tree, after, after_tree}
+use Rattle.wesl_assembly.specs.Pathless.{without_paths}
+use Rattle.wesl_assembly.specs.Linked.{printed_unit, IsLinkedAs}
+use Rattle.wesl_assembly.proofs.Pathless.{same_identifiers, respelled_without}
+use Rattle.wesl_assembly.proofs.Replaced.{replaced_twice, identifiers_replaced}
+use Rattle.wesl_assembly.proofs.Renumbered.{same_shape, taken, EachBelow, now_below, none_below}
+use Rattle.wesl_assembly.proofs.Numbering.{Numbered, at_number}
+
+-- units with one forest are one
+unit_with : {X : Type 0} (a : LabelOf X) (b : ForestOf X) (c : LabelOf X) (d : ForestOf X) (e : LabelOf X) (f : ForestOf X) → UnitOf X
+unit_with a b c d e f = record { imports = record { label = a; children = b }; directives = record { label = c; children = d }; declarations = record { label = e; children = f } }
+
+one_of : {X : Type 0} (a a' : LabelOf X) (b b' : ForestOf X) (c c' : LabelOf X) (d d' : ForestOf X) (e e' : LabelOf X) (f f' : ForestOf X) → a ≡ a' → b ≡ b' → c ≡ c' → d ≡ d' → e ≡ e' → f ≡ f' → unit_with a b c d e f ≡ unit_with a' b' c' d' e' f'
+one_of a a' b b' c c' d d' e e' f f' p q r s t u = cc
+
+one_unit : {X : Type 0} (u w : UnitOf X) → forest_of_unit u ≡ forest_of_unit w → u ≡ w
+unfolding unit_with
+one_unit u w e =
+    one_of u.imports.label w.imports.label u.imports.children w.imports.children u.directives.label w.directives.label u.directives.children w.directives.children u.declarations.label w.declarations.label u.declarations.children w.declarations.children
+    (let x : u.imports.label ≡ w.imports.label = cc in x) (let x : u.imports.children ≡ w.imports.children = cc in x)
+    (let x : u.directives.label ≡ w.directives.label = cc in x) (let x : u.directives.children ≡ w.directives.children = cc in x)
+    (let x : u.declarations.label ≡ w.declarations.label = cc in x) (let x : u.declarations.children ≡ w.declarations.children = cc in x)
+
+abbrev forget : {I : Type 0} → I → Unit {0}
+forget i = tt
+
+no_numbers : (ns : List ℕ) → length ns ≡ 0 → ns ≡ []
+no_numbers [] h = refl
+no_numbers (n ∷ ns) h = absurd (omega (arith, h))
+
+no_more : {X : Type 0} (xs : List X) → xs ++ [] ≡ xs
+no_more [] = refl
+no_more (x ∷ xs) = ap (λ ys. x ∷ ys) (no_more xs)
+
+-- where there are as many numbers as identifiers, they are the identifiers
+numbers_are : (f : Forest) (ns : List ℕ) → length ns ≡ length (identifiers f) → identifiers (renumbered f ns) ≡ ns
+numbers_are f ns h =
+    let t = taken f ns (omega (arith, h)) in
+    let none : after f ns ≡ [] = no_numbers (after f ns) (omega (arith, h, t.many)) in
+    sym (no_more (identifiers (renumbered f ns))) ∙ (ap (λ xs. identifiers (renumbered f ns) ++ xs) (sym none) ∙ t.splits)
+
+module _ {K : Type 0} (print : K → Text) (nothing : K) (silent : print nothing ≡ []) where
+  name_of_number : (seen : List K) (n : ℕ) → name_in (map print seen) n ≡ print (at_number nothing seen n)
+  name_of_number [] n = sym silent
+  name_of_number (x ∷ xs) zero = refl
+  name_of_number (x ∷ xs) (suc n) = name_of_number xs n
+
+  pub linked_as : (nodes : UnitOf ℕ) (seen ks : List K) (ns : List ℕ) (unit : UnitView) → AreNumbers ks ns → map (at_number nothing seen) ns ≡ ks → length ks ≡ length (identifiers (forest_of_unit nodes))
+      → unit.names ≡ map print seen → forest_of_unit (trees_of unit) ≡ without_paths (renumbered (forest_of_unit nodes) ns) → IsLinkedAs print nodes ks unit
+  linked_as nodes seen ks ns unit are leads all names trees =
+      let f = forest_of_unit nodes in
+      let x = forest_of_unit (trees_of unit) in
+      let h : ℕ → K = at_number nothing seen in
+      let linked : UnitOf K = record { imports = respell h unit.imports; directives = respell h unit.directives; declarations = respell h unit.declarations } in
+      let numbers_is : identifiers x ≡ ns = ap identifiers trees ∙ (same_identifiers (renumbered f ns) ∙ numbers_are f ns (are.one_each ∙ all)) in
+      record {
+        linked = linked;
+        same_shape =
+            sym (replaced_twice h forget forget (λ y. refl) x)
+            ∙ (ap (respell_forest forget) trees ∙ (respelled_without forget (renumbered f ns) ∙ (ap without_paths (same_shape f ns) ∙ sym (respelled_without forget f))));
+        meanings = identifiers_replaced h x ∙ (ap (map h) numbers_is ∙ leads);
+        named = one_unit (spelled unit) (printed_unit print linked) (replaced_twice h print (name_in unit.names) (λ n. ap (λ ns. name_in ns n) names ∙ name_of_number seen n) x);
+        numbered = subst (AreNumbers ks) (sym numbers_is) are;
+      }
+
+pub same_length : {X Y : Type 0} (f : X → Y) (xs : List X) → length (map f xs) ≡ length xs
+same_length f [] = refl
+same_length f (x ∷ xs) = ap suc (same_length f xs)
+
+-- what the code's numbers lead to
+module _ {K : Type 0} (nothing : K) where
+  pointwise_same : (xs ys : List K) → length xs ≡ length ys → ((i : ℕ) → i < length ys → get_or xs i nothing ≡ get_or ys i nothing) → xs ≡ ys
+  pointwise_same [] [] h e = refl
+  pointwise_same [] (y ∷ ys) h e = absurd (omega (arith, h))
+  pointwise_same (x ∷ xs) [] h e = absurd (omega (arith, h))
+  pointwise_same (x ∷ xs) (y ∷ ys) h e = ap (λ z. z ∷ xs) (e 0 (omega arith)) ∙ ap (λ zs. y ∷ zs) (pointwise_same xs ys (omega (arith, h)) (λ i l. e (suc i) (omega (arith, l))))
+
+  mapped : (h : ℕ → K) (ns : List ℕ) (i : ℕ) → i < length ns → get_or (map h ns) i nothing ≡ h (number_at ns i)
+  mapped h [] i l = absurd (omega (arith, l))
+  mapped h (n ∷ ns) zero l = refl
+  mapped h (n ∷ ns) (suc i) l = mapped h ns i (omega (arith, l))
+
+  as_long : (h : ℕ → K) (ns : List ℕ) → length (map h ns) ≡ length ns
+  as_long h [] = refl
+  as_long h (n ∷ ns) = ap suc (as_long h ns)
+
+  pub leads_to : (seen ks : List K) (ns : List ℕ) → Numbered nothing ks ns seen → map (at_number nothing seen) ns ≡ ks
+  leads_to seen ks ns s =
+      pointwise_same (map (at_number nothing seen) ns) ks (as_long (at_number nothing seen) ns ∙ s.one_each)
+      (λ i l. mapped (at_number nothing seen) ns i (omega (arith, l, s.one_each)) ∙ s.means i l)
+
+  pub all_below : (seen ks : List K) (ns : List ℕ) → Numbered nothing ks ns seen → All (λ n. n < length seen) ns
+  all_below seen ks ns s = λ i d l.
+      let b = s.in_seen i (omega (arith, l, s.one_each)) in
+      subst (λ n. n < length seen) (sym (get_or_default_zero ns i d l)) b
+
+-- ---- a unit with other numbers
+
+each_below : (n : ℕ) (ns : List ℕ) → All (λ m. m < n) ns → EachBelow n ns
+each_below n [] h = tt
+each_below n (m ∷ ms) h = (h 0 m (omega arith), each_below n ms (λ k d l. h (suc k) d (omega (arith, l))))
+
+no_list : {X : Type 0} (xs : List X) → length xs ≡ 0 → xs ≡ []
+no_list [] h = refl
+no_list (x ∷ xs) h = absurd (omega (arith, h))
+
+still_below : (n : ℕ) (f : Forest) (ns : List ℕ) → length ns ≡ length (identifiers f) → All (λ m. m < n) ns → forest_below n (renumbered f ns) ≡ true
+still_below zero f [] h b = none_below zero f [] (no_list (identifiers f) (sym h))
+still_below zero f (m ∷ ms) h b = absurd (omega (arith, (each_below zero (m ∷ ms) b).0))
+still_below (suc n) f ns h b = (now_below (suc n) (omega arith) f ns (each_below (suc n) ns b)).0
+
+three : (a b c : Bool) → (a && (b && (c && true))) ≡ true → (a && b && c) ≡ true
+three true true true h = refl
+three true true false h = h
+three true false c h = cc
+three false b c h = h
+
+parts_below : (n : ℕ) (i d e : Tree) → forest_below n (tree i.label i.children (tree d.label d.children (tree e.label e.children end))) ≡ true → (tree_below n i && tree_below n d && tree_below n e) ≡ true
+parts_below n i d e h = three (tree_below n i) (tree_below n d) (tree_below n e) h
+
+-- from what the copies are
+pub made : (names : List Text) (ns r : List ℕ) (td te i d e : Tree) → i ≡ branch imports_kind [] → d ≡ renumbered_tree td ns → r ≡ after_tree td ns → e ≡ renumbered_tree te r
+    → forest_of_unit (trees_of (record { names = names; imports = i; directives = d; declarations = e })) ≡ renumbered (forest_of_unit (record { imports = branch imports_kind []; directives = td; declarations = te })) ns
+made names ns r td te i d e p q s t = rw (p, q, t, s) refl
+
+pub all_named : (names : List Text) (ns : List ℕ) (nodes : UnitOf ℕ) (w : UnitView) → w.names ≡ names → forest_of_unit (trees_of w) ≡ renumbered (forest_of_unit nodes) ns → length ns ≡ length (identifiers (forest_of_unit nodes)) → All (λ m. m < length names) ns → unit_below w ≡ true
+all_named names ns nodes w n f h b =
+    parts_below (length w.names) w.imports w.directives w.declarations
+    (subst (λ k. forest_below k (forest_of_unit (trees_of w)) ≡ true) (sym (ap length n)) (subst (λ g. forest_below (length names) g ≡ true) (sym f) (still_below (length names) (forest_of_unit nodes) ns h b)))
+
+pub some_if : {X : Type 0} (r : Option X) (b : Bool) (Q : X → Type 0) → MatchOption r (b ≡ false) Q → b ≡ true → IsSome r
+some_if None b Q h e = let f : true ≡ false = sym e ∙ h in cc
+some_if (Some x) b Q h e = refl
+
+pub some_of : {X : Type 0} (r : Option X) (x : X) (P : Type 0) (Q : X → Type 0) → r ≡ Some x → MatchOption r P Q → Q x
+some_of r x P Q e h = subst (λ o. MatchOption o P Q) e h
