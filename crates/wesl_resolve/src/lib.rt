@@ -22,6 +22,3 @@ pub use router::Router;
 pub use standard::StandardResolver;
 pub use unit_text::UnitText;
 pub use virtual_resolver::VirtualResolver;
-
-#[cfg(test)]
-mod tests;

@@ -4,8 +4,6 @@
 mod declaration;
 mod directive;
 mod import;
-#[cfg(test)]
-mod tests;
 mod unit;
 mod words;
 

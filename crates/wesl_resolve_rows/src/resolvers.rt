@@ -3,13 +3,13 @@ ghost use Rattle.std.specs.Prelude.{◌≡◌, false, IfOk};
 ghost use Rattle.wesl_names.specs.Path.{path_view, is_relative};
 ghost use Rattle.wesl_syntax.specs.Unit.{spelled, empty_unit};
 
-use crate::{
-    CodegenModule, CodegenPkg, NoResolver, PkgResolver, Preprocessor, Resolver, Router,
-    StandardResolver, UnitText, VirtualResolver,
-};
 use std::alloc::Global;
 use std::test::Fail;
 use wesl_names::{Diagnostic, Error, ModulePath, ResolveError};
+use wesl_resolve::{
+    CodegenModule, CodegenPkg, NoResolver, PkgResolver, Preprocessor, Resolver, Router,
+    StandardResolver, UnitText, VirtualResolver,
+};
 use wesl_tree::TranslationUnit;
 
 /// Every text but `bad` says the empty unit.

@@ -1,6 +1,6 @@
 use Rattle.std.proofs.Common.{inl, inr}
-use Rattle.wesl_resolve.proofs.tests.routes_to_boxes.OwnLists.{own-1}
-use Rattle.wesl_resolve.proofs.tests.routes_to_boxes.Goals as goal
+use Rattle.wesl_resolve_rows.proofs.resolvers.routes_to_boxes.OwnLists.{own-1}
+use Rattle.wesl_resolve_rows.proofs.resolvers.routes_to_boxes.Goals as goal
 
 -- whatever was boxed is always ready
 always : (i : (own-1).I) (y : ((own-1).entry i).0.Denot) → ((own-1).entry i).1.ready y

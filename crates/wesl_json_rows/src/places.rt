@@ -1,8 +1,8 @@
-//! Worked values, through the public call.
-use crate::unit_of_value;
+//! Values of units and of none, and the places that are told of these.
 use serde_json::Value;
 use std::alloc::Global;
 use std::test::Fail;
+use wesl_json::unit_of_value;
 use wesl_tree::{Error, Ident};
 
 // The place where a text stands for no unit.
@@ -37,24 +37,6 @@ fn names_are_numbered_by_first_occurrence(rt: HostRuntime) -> Result<(), Fail> {
     let text =
         r#"{"declarations":[{"k":"fn","name":"f","params":[{"name":"x","ty":"T"}],"ret":"T","body":{"stmts":[{"k":"return","expr":{"k":"call","ty":"f","args":["x",{"k":"field","base":"y","name":"z"}]}}]}}],"imports":[{"content":{"item":"T","as":"U"}}]}"#;
     assert!(rt; names(alloc, text)?.as_str() == "T U f x y ");
-    Ok(())
-}
-
-#[test]
-fn each_form_is_read(rt: HostRuntime) -> Result<(), Fail> {
-    let alloc = rt.alloc();
-    for text in [
-        r#"{}"#,
-        r#"{"imports":[{"attrs":["publish",{"k":"if","expr":"a"}],"path":"package::m","content":{"list":[{"content":{"item":"a"}},{"path":["b","c"],"content":{"list":[{"content":{"item":"d","as":"e"}}]}}]}},{"content":{"item":"g"}}]}"#,
-        r#"{"directives":[{"k":"enable","names":["f16"]},{"k":"requires","attrs":["else"]},{"k":"diagnostic","severity":"off","rule":""}]}"#,
-        r#"{"declarations":[{"k":"void"},{"k":"assert","attrs":["const"],"expr":true},{"k":"alias","name":"a","ty":{"name":"vec3","args":["f32",{"k":"lit","text":"1"}]}},{"k":"struct","name":"s","members":[{"name":"m","ty":"f32","attrs":[{"k":"align","expr":"n"},{"k":"size","expr":"n"},{"k":"location","expr":"n"}]}]}]}"#,
-        r#"{"declarations":[{"k":"const","name":"c","init":"d"},{"k":"override","attrs":[{"k":"id","expr":"n"}],"name":"o","ty":"f32"},{"k":"let","name":"l"},{"k":"var","name":"v"},{"k":"var","space":"storage","access":"read_write","name":"v","attrs":[{"k":"group","expr":"n"},{"k":"binding","expr":"n"}]},{"k":"var","space":"private","name":"v","ty":"f32","init":"x"}]}"#,
-        r#"{"declarations":[{"k":"fn","attrs":["compute",{"k":"workgroup_size","x":"a","z":"b"}],"name":"f","params":[{"attrs":[{"k":"builtin","name":"p"},{"k":"interpolate","names":["flat"]}],"name":"x","ty":"T"}],"ret_attrs":[{"k":"custom","name":"c","args":[]},{"k":"blend_src","expr":"n"}],"ret":{"path":"package::m","name":"T"},"body":{}}]}"#,
-        r#"{"declarations":[{"k":"fn","name":"f","body":{"attrs":[{"k":"diagnostic","severity":"off","rule":"r"}],"stmts":[{"k":"void"},{"k":"block","stmts":[]},{"k":"assign","op":"+=","lhs":"a","rhs":{"k":"index","base":"a","index":"i"}},{"k":"inc","expr":"a"},{"k":"dec","expr":"a"},{"k":"break"},{"k":"continue"},{"k":"discard"},{"k":"return"},{"k":"call","call":{"ty":"g","args":["a"]}},{"k":"let","name":"l","init":{"k":"unary","op":"-","expr":{"k":"paren","expr":"a"}}},{"k":"assert","expr":false}]}}]}"#,
-        r#"{"declarations":[{"k":"fn","name":"f","body":{"stmts":[{"k":"if","cond":"a","body":{},"elifs":[{"attrs":[{"k":"elif","expr":"b"}],"cond":"a","body":{}}],"else":{"body":{}}},{"k":"switch","expr":"a","body_attrs":["else"],"clauses":[{"cases":["a",{"k":"default"},{"k":"lit","text":"1"}],"body":{}}]},{"k":"loop","body":{},"continuing":{"body":{},"break_if":{"expr":"a"}}},{"k":"for","init":{"k":"var","name":"i"},"cond":"i","update":{"k":"inc","expr":"i"},"body":{}},{"k":"while","cond":"a","body":{}}]}}]}"#,
-    ] {
-        assert!(rt; is_placed(alloc, text, "read")?);
-    }
     Ok(())
 }
 

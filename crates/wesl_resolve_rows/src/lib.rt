@@ -1,0 +1,5 @@
+//! Tests of the resolvers.
+#![tactic(auto)]
+
+#[cfg(test)]
+mod resolvers;
