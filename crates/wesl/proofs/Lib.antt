@@ -1,5 +1,4 @@
 pub mod Bytes
-pub mod Places
-pub mod Readings
+pub mod Texts
 pub mod Units
 pub mod Faults

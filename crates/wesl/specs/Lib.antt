@@ -1,12 +1,9 @@
 pub mod Streams
-pub mod Place
 pub mod Bundle
 pub mod Fault
 pub mod Line
 pub mod Run
 pub mod Made
-pub mod Broken
-pub mod Taken
 pub mod Holds
 pub mod Hands
 pub mod Refused

@@ -6,7 +6,8 @@ use Rattle.serde_json.specs.Written.{compact_text}
 use Rattle.wesl_names.specs.Path.{Text}
 use Rattle.wesl_syntax.specs.Unit.{UnitView}
 use Rattle.wesl_form.specs.Units.{unit_value}
-use Rattle.wesl.specs.Bundle.{Bundle, bundle_of, IsBrokenBundle}
+use Rattle.wesl_bundle.specs.Bundle.{Bundle, bundle_of}
+use Rattle.wesl_bundle.specs.Forms.{IsBrokenBundle}
 use Rattle.wesl_names.specs.declared.errors.Error as error
 use Rattle.wesl.specs.Fault.{Fault, fault, fault_of}
 

@@ -2,19 +2,18 @@
 #![tactic(auto)]
 
 mod answer_line;
-mod bundle;
 mod bundle_resolver;
 mod fault_line;
-mod floats;
 mod linking;
-mod members;
 mod modules;
-mod options;
+mod packages;
 mod program;
 mod streams;
 mod text_line;
 
 pub use program::{Outcome, RunError, run};
+pub use wesl_cond::{Feature, Features, eval_attr};
+pub use wesl_conditional::link_under;
 pub use wesl_json::{unit_of_value, value_of_unit};
 pub use wesl_link::{Resolutions, Resolver, resolve_lazy};
 pub use wesl_mangle::{

@@ -1,29 +1,35 @@
 //! From a bundle to the value of its linked unit.
-ghost use Rattle.std.specs.Prelude.{◌≡◌, ◌⊎◌, ◌∷◌, [], List, false, IfOk, IfErr};
+ghost use Rattle.std.specs.Prelude.{◌≡◌, map, false, IfOk, IfErr};
 ghost use Rattle.serde_json.specs.View.{view};
 ghost use Rattle.serde_json.specs.Written.{has_float};
 ghost use Rattle.wesl_names.specs.Path.{path_view, is_relative};
 ghost use Rattle.wesl_names.specs.declared.errors.Error as error;
 ghost use Rattle.wesl_syntax.specs.Unit.{UnitView};
 ghost use Rattle.wesl_form.specs.Units.{unit_value};
-ghost use Rattle.wesl.specs.Bundle.{Module};
+ghost use Rattle.wesl_bundle.specs.Views.{module_view};
 ghost use Rattle.wesl.specs.Holds.{Holds};
 ghost use Rattle.wesl.specs.Refused.{IsModuleFault};
 
-use crate::bundle::Bundle;
 use crate::bundle_resolver::BundleResolver;
-use crate::options::{Naming, Options};
+use crate::modules::Modules;
+use crate::packages::package_of;
 use serde_json::Value;
 use std::alloc::{AllocError, Global};
+use wesl_bundle::{Bundle, BundleModule, Naming, Options, Package};
+use wesl_conditional::link_under;
 use wesl_json::value_of_unit;
-use wesl_link::{Resolutions, Resolver, resolve_lazy};
+use wesl_link::Resolutions;
 use wesl_mangle::{EscapeMangler, NoMangler, UnicodeMangler};
+use wesl_resolve::StandardResolver;
+use wesl_sources::ProfileText;
 use wesl_tree::{Error, TranslationUnit};
 
+// The modules of a bundle, and its packages.
+type Sources<'b, 'v> = StandardResolver<BundleResolver<'b, 'v>, ProfileText>;
+
 /// The value of the unit that is linked of a bundle's modules.
-pub(crate) fn linked(alloc: Global, bundle: &Bundle) -> Result<Value, Error>
-    requires fixed { is_relative (path_view bundle.now.root) ≡ false }
-    requires held { (ms : List Module) × Holds ms bundle.now.modules }
+pub(crate) fn linked(alloc: Global, bundle: Bundle) -> Result<Value, Error>
+    requires fixed { is_relative (path_view bundle.root) ≡ false }
     ensures written { IfOk result (λ v. (u : UnitView) × (view v ≡ unit_value u)) }
     ensures whole { IfOk result (λ v. has_float (view v) ≡ false) }
     ensures refused { IfErr result IsModuleFault }
@@ -32,38 +38,70 @@ pub(crate) fn linked(alloc: Global, bundle: &Bundle) -> Result<Value, Error>
     value_of_unit(alloc, &unit)
 }
 
-/// The root is handed out as each other module is. Of the other modules those are loaded that are reached from the
-/// names that are kept, and no more than the bundle allows; the names of their items are as its mangler gives them, and
-/// those of the root's stay where it says nothing else.
-fn linked_unit(alloc: Global, bundle: &Bundle) -> Result<TranslationUnit, Error>
-    requires fixed { is_relative (path_view bundle.now.root) ≡ false }
-    requires held { (ms : List Module) × Holds ms bundle.now.modules }
+/// The root is handed out as each other module is, and each is linked as the bundle's features leave it. Of the other
+/// modules those are loaded that are reached from the names that are kept, and no more than the bundle allows; the names of
+/// their items are as its mangler gives them, and those of the root's stay where it says nothing else.
+fn linked_unit(alloc: Global, bundle: Bundle) -> Result<TranslationUnit, Error>
+    requires fixed { is_relative (path_view bundle.root) ≡ false }
     ensures refused { IfErr result IsModuleFault }
 {
-    let mut resolver = BundleResolver {
-        modules: &bundle.modules,
-    };
-    let unit = match resolver.resolve_module(alloc, &bundle.root) {
-        Ok(unit) => unit,
-        Err(fault) => return Err(Error::of_resolve(fault)),
-    };
-    let keep = names(alloc, &bundle.keep)?;
-    let options = bundle.options;
-    match resolve_lazy(
-        alloc,
-        &keep,
-        unit,
-        &bundle.root,
-        &mut resolver,
-        options.max_modules,
-    ) {
-        Ok(mut resolutions) => {
-            mangle(alloc, &mut resolutions, options)?;
-            let unit = resolutions.assemble(alloc, true)?;
-            Ok(unit)
-        }
+    let Bundle {
+        root,
+        keep,
+        modules,
+        packages,
+        features,
+        options,
+    } = bundle;
+    let units = modules_of(alloc, modules)?;
+    let sources = sources_of(alloc, &units, packages)?;
+    let keep = names(alloc, &keep)?;
+    match link_under(alloc, &keep, &root, sources, &features, options.max_modules) {
+        Ok(resolutions) => named_unit(alloc, resolutions, options),
         Err(diagnostic) => Err(diagnostic.error),
     }
+}
+
+// The units of the modules, by their paths.
+fn modules_of<'v>(alloc: Global, listed: Vec<BundleModule<'v>>) -> Result<Modules<'v>, Error>
+    ensures held { IfOk result (λ m. Holds (map module_view listed.entry.items) m) }
+    ensures refused { IfErr result (λ e. e ≡ error.Memory) }
+{
+    let mut modules = Modules::new(alloc);
+    for module in listed {
+        modules.add(module.path, module.unit)?;
+    }
+    Ok(modules)
+}
+
+// Looks up a path among the modules, or, where it begins in a named package, in the packages. Of packages of one name the
+// first counts.
+fn sources_of<'b, 'v>(
+    alloc: Global,
+    modules: &'b Modules<'v>,
+    packages: Vec<Package<'v>>,
+) -> Result<Sources<'b, 'v>, Error>
+    ensures local { IfOk result (λ s. s.local.modules.now ≡ modules.now) }
+    ensures refused { IfErr result (λ e. e ≡ error.Memory) }
+{
+    let mut sources = StandardResolver::new(alloc, BundleResolver { modules }, ProfileText);
+    for package in packages {
+        sources.add_package(package_of(alloc, package)?)?;
+    }
+    Ok(sources)
+}
+
+// The unit of a link, its names as the options say.
+fn named_unit(
+    alloc: Global,
+    resolutions: Resolutions,
+    options: Options,
+) -> Result<TranslationUnit, Error>
+    ensures refused { IfErr result (λ e. e ≡ error.Memory) }
+{
+    let mut resolutions = resolutions;
+    mangle(alloc, &mut resolutions, options)?;
+    Ok(resolutions.assemble(alloc, true)?)
 }
 
 // The names of the modules' items become those of the mangler, the root's where the options say so.

@@ -3,12 +3,12 @@ ghost use Rattle.std.specs.Prelude.{◌≡◌, ◌++◌, ◌∷◌, [], List, If
 ghost use Rattle.serde_json.specs.View.{view};
 ghost use Rattle.wesl_names.specs.Path.{path_view};
 ghost use Rattle.wesl.specs.Bundle.{Module, unit_at};
-ghost use Rattle.wesl.specs.declared.members.BundleError.TheVariants.{Memory};
+ghost use Rattle.wesl_bundle.specs.declared.members.BundleError.TheVariants.{Memory};
 
-use crate::members::BundleError;
 use indexmap::IndexMap;
 use serde_json::Value;
 use std::alloc::Global;
+use wesl_bundle::BundleError;
 use wesl_tree::ModulePath;
 
 /// The value of the unit at each path, of a path that stands twice the later. No unit is read yet.

@@ -8,13 +8,13 @@ ghost use Rattle.wesl.specs.Run.{IsLine, IsLineFor, Wrote, WroteBeginning};
 ghost use Rattle.wesl.specs.Made.{bytes_of};
 
 use crate::answer_line::answer_line;
-use crate::bundle::read_bundle;
 use crate::fault_line::fault_line;
 use crate::linking::linked;
 use crate::streams::{Failures, ReadFault, read_whole, write_whole};
 use serde_json::Value;
 use std::alloc::Global;
 use std::io::{Read, Write};
+use wesl_bundle::read_bundle;
 use wesl_tree::Error;
 
 /// What a line says: the linked unit, or why there is none.
@@ -138,7 +138,7 @@ fn answer(alloc: Global, bytes: &[u8]) -> Result<String, Error>
 {
     let value = value_of_bytes(alloc, bytes)?;
     let bundle = read_bundle(alloc, &value)?;
-    let unit = linked(alloc, &bundle)?;
+    let unit = linked(alloc, bundle)?;
     Ok(answer_line(alloc, unit)?)
 }
 

@@ -10,8 +10,7 @@ mod relink;
 mod relink_global;
 mod resolutions;
 mod resolve;
-mod resolver;
 
 pub use resolutions::Resolutions;
 pub use resolve::resolve_lazy;
-pub use resolver::Resolver;
+pub use wesl_resolve::Resolver;

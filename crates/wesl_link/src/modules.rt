@@ -14,11 +14,11 @@ ghost use Rattle.wesl_table.specs.Numbering.{Numbering, Grows, IsNumbered, PathA
 ghost use Rattle.wesl_table.specs.NumbersView.{numbering};
 ghost use Rattle.wesl_link.specs.Handing.{Keeps, IsReadyPath, IsHandedTable, IsRefusedPath, PutsUnit};
 
-use crate::resolver::Resolver;
 use indexmap::IndexMap;
 use std::alloc::Global;
 use std::marker::{Brand, PhantomData};
 use wesl_names::{ModulePath, ResolveError};
+use wesl_resolve::Resolver;
 use wesl_table::numbers::Numbers;
 use wesl_table::table::table_of;
 use wesl_tree::TranslationUnit;
@@ -111,6 +111,7 @@ impl<R: Resolver, S: Source> Modules<R, S> {
         id: PathId,
         path: &ModulePath,
     ) -> Result<Table, LoadError<ResolveError>>
+        requires ready { R.ready self.old.resolver }
         requires asked { is_relative (path_view path.now) ≡ false }
         requires held { PathAt (numbering self.old.numbers) id (path_view path.now) }
         requires absent { (u : unit.TranslationUnit) → Contains self.old.units.entries (id, u) → ⊥ }
@@ -122,6 +123,7 @@ impl<R: Resolver, S: Source> Modules<R, S> {
         ensures grows { Grows (numbering self.old.numbers) (numbering self.new.numbers) }
         ensures units { (p : path_id.PathId) (u : unit.TranslationUnit) → Contains self.old.units.entries (p, u) → Contains self.new.units.entries (p, u) }
         ensures keeps { Keeps (R.hands self.new.resolver) (R.refuses self.new.resolver) S.hands S.refuses S.first (numbering self.new.numbers) self.new.units.entries }
+        ensures stays_ready { R.ready self.new.resolver }
     {
         let unit = match self.resolver.resolve_module(alloc, path) {
             Ok(unit) => unit,
@@ -139,7 +141,7 @@ impl<R: Resolver, S: Source> Loader<ResolveError> for Modules<R, S> {
 
     ghost refuses = { λ s p e. IsRefusedPath S.refuses (numbering s.numbers) p e };
 
-    ghost ready = { λ s p. IsReadyPath (numbering s.numbers) p × Keeps (R.hands s.resolver) (R.refuses s.resolver) S.hands S.refuses S.first (numbering s.numbers) s.units.entries };
+    ghost ready = { λ s p. IsReadyPath (numbering s.numbers) p × (R.ready s.resolver × Keeps (R.hands s.resolver) (R.refuses s.resolver) S.hands S.refuses S.first (numbering s.numbers) s.units.entries) };
 
     fn load(&mut self, alloc: Global, path: PathId) -> Result<Table, LoadError<ResolveError>> {
         let Some(module) = self.numbers.paths.path(path) else {

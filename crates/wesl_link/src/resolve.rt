@@ -23,11 +23,11 @@ use crate::loaded::{Loaded, put_in_order, take_modules};
 use crate::modules::{Modules, Source};
 use crate::refusals::told;
 use crate::resolutions::{Link, Resolutions};
-use crate::resolver::Resolver;
 use indexmap::IndexMap;
 use std::alloc::Global;
 use std::marker::{Brand, PhantomData};
 use wesl_names::{Diagnostic, Error, ModulePath};
+use wesl_resolve::Resolver;
 use wesl_table::numbers::Numbers;
 use wesl_table::table::table_of;
 use wesl_tree::TranslationUnit;
@@ -92,6 +92,7 @@ fn reach<R: Resolver + Drop, S: Source>(
     resolver: R,
     max_modules: usize,
 ) -> Result<Resolutions, Error>
+    requires ready { R.ready resolver }
     requires follows { Follows (R.hands resolver) (R.refuses resolver) S.hands S.refuses }
     requires first { S.first ≡ numbering numbers }
     requires root { IsNumbered (numbering numbers) table (table_at (path_view path) (spelled (unit_view unit))) }
@@ -137,7 +138,8 @@ pub fn resolve_lazy<R: Resolver>(
     resolver: &mut R,
     max_modules: usize,
 ) -> Result<Resolutions, Diagnostic>
-    requires { is_relative (path_view path.now) ≡ false }
+    requires ready { R.ready resolver.old }
+    requires asked { is_relative (path_view path.now) ≡ false }
     ensures linked { let root = module_at path.now unit in IfOk result (λ r. worlds.IsLinked (R.hands resolver.old) (R.refuses resolver.old) root (worlds.task_of root (texts keep.now) false) max_modules (turns_of r) (modules_of r)) }
     ensures order { IfOk result (λ r. worlds.IsModuleOrder (module_at path.now unit) (modules_of r)) }
     ensures refused { let root = module_at path.now unit in IfErr result (λ d. TellsOf (worlds.IsRefused (R.hands resolver.old) (R.refuses resolver.old) root (worlds.task_of root (texts keep.now) false) max_modules) (out-Diagnostic d).error) }

@@ -1,13 +1,2 @@
-pub mod Depths
-pub mod Places
-pub mod Rows
-pub mod Spellings
-pub mod Lists
-pub mod Members
-pub mod Arguments
-pub mod Trees
-pub mod Expressions
-pub mod Dispatch
-pub mod Declarations
-pub mod Imports
-pub mod Units
+mod Faults
+mod Foreign

@@ -1,12 +1,9 @@
-//! The part of the JSON form that is linked today: units of constants, const_asserts and imports of single items.
+//! The part of the JSON form that is linked today: which values lie within it, and the units that they stand for.
 #![tactic(auto)]
 
-mod declaration;
-mod expression;
-mod fields;
-mod import;
-mod numbering;
+mod places;
+mod roles;
+mod shapes;
 mod unit;
-mod words;
 
 pub use unit::unit_of_value;

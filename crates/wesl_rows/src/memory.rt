@@ -6,15 +6,27 @@ use wesl::{Outcome, run};
 
 /// A root that keeps one of two declarations, which refers to one of two of another module.
 pub(crate) const TWO_MODULES: &str =
-    "{\"root\":\"package::main\",\"keep\":[\"total\"],\"modules\":[{\"path\":\"package::main\",\"unit\":{\"imports\":[{\"path\":\"package::util\",\"content\":{\"item\":\"two\"}}],\"declarations\":[{\"k\":\"const\",\"name\":\"total\",\"init\":{\"k\":\"binary\",\"op\":\"+\",\"left\":\"two\",\"right\":\"two\"}},{\"k\":\"const\",\"name\":\"spare\",\"init\":\"two\"}]}},{\"path\":\"package::util\",\"unit\":{\"declarations\":[{\"k\":\"const\",\"name\":\"two\",\"init\":{\"k\":\"lit\",\"text\":\"2\"}},{\"k\":\"const\",\"name\":\"three\",\"init\":{\"k\":\"lit\",\"text\":\"3\"}}]}}]}";
+    r#"{"root":"package::main","keep":["total"],"modules":[{"path":"package::main","unit":{"imports":[{"path":"package::util","content":{"item":"two"}}],"declarations":[{"k":"const","name":"total","init":{"k":"binary","op":"+","left":"two","right":"two"}},{"k":"const","name":"spare","init":"two"}]}},{"path":"package::util","unit":{"declarations":[{"k":"const","name":"two","init":{"k":"lit","text":"2"}},{"k":"const","name":"three","init":{"k":"lit","text":"3"}}]}}]}"#;
 
 /// Its line.
 pub(crate) const TWO_MODULES_LINE: &str =
-    "{\"unit\":{\"declarations\":[{\"init\":{\"k\":\"binary\",\"left\":\"package_util_two\",\"op\":\"+\",\"right\":\"package_util_two\"},\"k\":\"const\",\"name\":\"total\"},{\"init\":{\"k\":\"lit\",\"text\":\"2\"},\"k\":\"const\",\"name\":\"package_util_two\"}]}}\n";
+    r#"{"unit":{"declarations":[{"init":{"k":"binary","left":"package_util_two","op":"+","right":"package_util_two"},"k":"const","name":"total"},{"init":{"k":"lit","text":"2"},"k":"const","name":"package_util_two"}]}}"#;
 
-pub(crate) const NOT_JSON_LINE: &str = "{\"args\":[],\"fault\":\"NotJson\"}\n";
+// The same without its first brace.
+const TWO_MODULES_REST: &str =
+    r#""root":"package::main","keep":["total"],"modules":[{"path":"package::main","unit":{"imports":[{"path":"package::util","content":{"item":"two"}}],"declarations":[{"k":"const","name":"total","init":{"k":"binary","op":"+","left":"two","right":"two"}},{"k":"const","name":"spare","init":"two"}]}},{"path":"package::util","unit":{"declarations":[{"k":"const","name":"two","init":{"k":"lit","text":"2"}},{"k":"const","name":"three","init":{"k":"lit","text":"3"}}]}}]}"#;
 
-/// The bundle has this outcome and this line.
+pub(crate) const NOT_JSON_LINE: &str = r#"{"args":[],"fault":"NotJson"}"#;
+
+/// The same with further members, each with a comma after it.
+pub(crate) fn two_modules_with(alloc: Global, members: &str) -> Result<String, Fail> {
+    let mut bundle = String::from_str(alloc, "{")?;
+    bundle.push_str(members)?;
+    bundle.push_str(TWO_MODULES_REST)?;
+    Ok(bundle)
+}
+
+/// The bundle has this outcome and this line, with a line feed.
 pub(crate) fn expect_line(
     rt: &impl Abort,
     alloc: Global,
@@ -24,27 +36,22 @@ pub(crate) fn expect_line(
 ) -> Result<(), Fail> {
     let mut reader = bundle;
     let mut writer = Vec::new(alloc);
+    let mut expected = String::from_str(alloc, line)?;
+    expected.push('\n')?;
     assert_eq!(rt; run(alloc, &mut reader, &mut writer)?, outcome);
-    assert_eq!(rt; writer.as_slice(), line.as_bytes());
+    assert_eq!(rt; writer.as_slice(), expected.as_bytes());
     Ok(())
 }
 
-/// The bundle is refused with this line.
-pub(crate) fn expect_refusal(
+/// Each bundle has the outcome, and its line.
+pub(crate) fn expect_rows(
     rt: &impl Abort,
     alloc: Global,
-    bundle: &str,
-    line: &str,
+    outcome: Outcome,
+    rows: &[(&str, &str)],
 ) -> Result<(), Fail> {
-    expect_line(rt, alloc, bundle.as_bytes(), Outcome::Refused, line)
-}
-
-/// The bundle is linked, and this is its answer.
-pub(crate) fn expect_answer(
-    rt: &impl Abort,
-    alloc: Global,
-    bundle: &str,
-    line: &str,
-) -> Result<(), Fail> {
-    expect_line(rt, alloc, bundle.as_bytes(), Outcome::Linked, line)
+    for (bundle, line) in rows {
+        expect_line(rt, alloc, bundle.as_bytes(), outcome, line)?;
+    }
+    Ok(())
 }

@@ -1,6 +1,5 @@
 use Rattle.serde_json.specs.View.{view}
-use Rattle.wesl_form.specs.Profile.{first_profile}
-use Rattle.wesl_form.specs.Units.{IsBrokenUnit, IsNoUnit}
+use Rattle.wesl_profile.specs.Units.{IsBrokenThere, IsUnread}
 use Rattle.std.proofs.Common.{◌≡◌, string_bytes, refl, ap, ◌∙◌, inr, rules}
 use Rattle.wesl_names.specs.declared.errors.Error as error
 use Rattle.wesl.proofs.bundle_resolver.read_unit.Goals as goal
@@ -10,6 +9,6 @@ returns-in-Err-BadTree-clause-refused c =
     let place = c.in-Err-BadTree.place in
     let boxed : c.in_ok-new-in-Err-BadTree.field-0.value ≡ c.of.result = search rules in
     let bare : c.of.result.error ≡ error.BadTree place = search rules in
-    let broken : IsBrokenUnit first_profile (view c.args.value.now) (string_bytes place) = search rules in
-    let none : IsNoUnit first_profile (view c.args.value.now) = search rules in
+    let broken : IsBrokenThere (view c.args.value.now) (string_bytes place) = search rules in
+    let none : IsUnread (view c.args.value.now) = search rules in
     inr (place, ap (λ d. d.error) boxed ∙ bare, broken, none)

@@ -1,7 +1,7 @@
 use Rattle.std.proofs.Common.{ap, ◌∙◌}
 use Rattle.serde_json.specs.Written.{has_float}
 use Rattle.wesl.specs.Fault.{fault_of}
-use Rattle.wesl.proofs.Readings.{fault-whole}
+use Rattle.wesl.proofs.Texts.{fault-whole}
 use Rattle.wesl.proofs.fault_line.fault_line.Goals as goal
 
 pub text_line-requires : goal.text_line-requires

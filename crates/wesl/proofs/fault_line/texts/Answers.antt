@@ -1,5 +1,5 @@
 use Rattle.std.proofs.Common.{◌≡◌, ◌<◌, List, [], ℕ, Bor, length, get_or, refl, rules}
-use Rattle.wesl.proofs.Readings.{texts-turn}
+use Rattle.wesl.proofs.Texts.{texts-turn}
 use Rattle.wesl.proofs.fault_line.texts.Goals as goal
 
 pub loop-argument-preserved : goal.loop-argument-preserved

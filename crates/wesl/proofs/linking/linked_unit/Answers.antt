@@ -1,21 +1,24 @@
-use Rattle.std.proofs.Common.{sym, subst}
+use Rattle.std.proofs.Common.{List, map, sym, subst}
+use Rattle.wesl_names.specs.Borrowed.{texts}
 use Rattle.wesl_names.specs.Path.{path_view}
+use Rattle.wesl_bundle.specs.Bundle.{Module}
+use Rattle.wesl_bundle.specs.Views.{module_view}
+use Rattle.wesl_resolve.specs.ByOrigin.{ByOrigin}
+use Rattle.wesl_resolve.specs.Packages.{IsReadIn, IsRefusedIn}
+use Rattle.wesl_sources.specs.Reading.{ReadsText, IsUnreadable}
 use Rattle.wesl.specs.Hands.{Hands, Refuses}
-use Rattle.wesl.specs.Refused.{IsModuleFault}
-use Rattle.wesl.proofs.Faults.{refusal-is-of-modules, link-is-of-modules}
+use Rattle.wesl.specs.Holds.{Holds}
+use Rattle.wesl.proofs.Faults.{link-is-of-modules, sources-are-of-modules}
 use Rattle.wesl.proofs.linking.linked_unit.Goals as goal
-
-pub returns-in-Err : goal.returns-in-Err
-returns-in-Err c =
-    let at = path_view c.args.bundle.now.root in
-    let told : IsModuleFault c.of_resolve.result =
-    subst (λ e. IsModuleFault e) (sym c.of_resolve.ensures) (refusal-is-of-modules c.args.bundle.now.modules at c.in-Err.fault c.requires.held c.in-Err.ensures.refused) in
-    record { refused = told }
 
 pub returns : goal.returns
 returns c =
-    let modules = c.resolve_module.new.self.modules.now in
+    let sources = c.in_ok-sources.sources in
+    let held : (ms : List Module) × Holds ms c.in_ok-units.units = (map module_view c.args.bundle.modules.items, c.in_ok-units.ensures.held) in
+    let there : (ms : List Module) × Holds ms sources.local.modules.now = (held.0, subst (Holds held.0) (sym c.in_ok-sources.ensures.local) held.1) in
+    let packages = sources.packages.packages.items in
     record {
-      refused = link-is-of-modules c.args.bundle.now.modules c.requires.held (Hands modules) (Refuses modules) (λ p e h. (c.resolve_module.ensures.refuses_as_before p e).0 h) _ _ _ c.in-Err-resolve_lazy.diagnostic.error
-          c.in-Err-resolve_lazy.ensures.refused;
+      refused = link-is-of-modules (λ p u. ByOrigin p (IsReadIn ReadsText packages p u) (Hands sources.local.modules.now p u))
+          (λ p e. ByOrigin p (IsRefusedIn IsUnreadable packages p e) (Refuses sources.local.modules.now p e)) c.args.bundle.features
+          (sources-are-of-modules sources.local.modules.now there packages) (path_view c.args.bundle.root) (texts c.deref-2.result.now) c.args.bundle.options.max_modules c.in-Err.diagnostic.error c.in-Err.ensures.refused;
     }

@@ -17,7 +17,7 @@ resolve_lazy-requires g c =
     let first = numbering c.args.numbers in
     let start : Keeps (g.R.Resolver.hands c.args.resolver) (g.R.Resolver.refuses c.args.resolver) g.S.Source.hands g.S.Source.refuses g.S.Source.first first c.new.result.entries =
     keeps_nothing (g.R.Resolver.hands c.args.resolver) g.S.Source.hands (g.R.Resolver.refuses c.args.resolver) g.S.Source.refuses g.S.Source.first first c.new.result.entries c.requires.follows c.requires.first c.new.ensures.empty in
-    ready_table (Keeps (g.R.Resolver.hands c.args.resolver) (g.R.Resolver.refuses c.args.resolver) g.S.Source.hands g.S.Source.refuses g.S.Source.first first c.new.result.entries) start first c.args.table
+    ready_table (g.R.Resolver.ready c.args.resolver × Keeps (g.R.Resolver.hands c.args.resolver) (g.R.Resolver.refuses c.args.resolver) g.S.Source.hands g.S.Source.refuses g.S.Source.first first c.new.result.entries) (c.requires.ready, start) first c.args.table
     (table_at (path_view c.args.path) (spelled (unit_view c.args.unit))) c.requires.root
 
 pub resolved-requires-clause-kept : goal.resolved-requires-clause-kept
@@ -28,7 +28,7 @@ resolved-requires-clause-kept g c =
     let start : Keeps (g.R.Resolver.hands c.args.resolver) (g.R.Resolver.refuses c.args.resolver) g.S.Source.hands g.S.Source.refuses g.S.Source.first first c.new.result.entries =
     keeps_nothing (g.R.Resolver.hands c.args.resolver) g.S.Source.hands (g.R.Resolver.refuses c.args.resolver) g.S.Source.refuses g.S.Source.first first c.new.result.entries c.requires.follows c.requires.first c.new.ensures.empty in
     let kept : Keeps (g.R.Resolver.hands end.resolver) (g.R.Resolver.refuses end.resolver) g.S.Source.hands g.S.Source.refuses g.S.Source.first nb end.units.entries =
-    (c.resolve_lazy.ensures.adds.ready c.args.table.path ((path_view c.args.path, c.requires.root.path), start)).1 in
+    (c.resolve_lazy.ensures.adds.ready c.args.table.path ((path_view c.args.path, c.requires.root.path), (c.requires.ready, start))).1.1 in
     let grown : Grows first nb = subst (λ (x : Numbering). Grows x nb) c.requires.first kept.grows in
     let rm = module_at c.args.path c.args.unit in
     kept_left first nb grown g.S.Source.hands g.S.Source.refuses end.units.entries kept.one_unit c.args.table rm c.requires.root end.numbers.paths.different end.numbers.names.different end.numbers.paths.asked c.args.kept.items c.requires.kept.0 c.requires.kept.1 c.args.max_modules c.in-Ok.linked c.in-Ok.ensures.linked c.in-Ok.ensures.linked.root_first.0 c.in-Ok.ensures.linked.root_first.1
@@ -41,7 +41,7 @@ resolved-requires-clause-once g c =
     let start : Keeps (g.R.Resolver.hands c.args.resolver) (g.R.Resolver.refuses c.args.resolver) g.S.Source.hands g.S.Source.refuses g.S.Source.first first c.new.result.entries =
     keeps_nothing (g.R.Resolver.hands c.args.resolver) g.S.Source.hands (g.R.Resolver.refuses c.args.resolver) g.S.Source.refuses g.S.Source.first first c.new.result.entries c.requires.follows c.requires.first c.new.ensures.empty in
     let kept : Keeps (g.R.Resolver.hands end.resolver) (g.R.Resolver.refuses end.resolver) g.S.Source.hands g.S.Source.refuses g.S.Source.first nb end.units.entries =
-    (c.resolve_lazy.ensures.adds.ready c.args.table.path ((path_view c.args.path, c.requires.root.path), start)).1 in
+    (c.resolve_lazy.ensures.adds.ready c.args.table.path ((path_view c.args.path, c.requires.root.path), (c.requires.ready, start))).1.1 in
     let grown : Grows first nb = subst (λ (x : Numbering). Grows x nb) c.requires.first kept.grows in
     let rm = module_at c.args.path c.args.unit in
     once_left first nb grown g.S.Source.hands g.S.Source.refuses end.units.entries kept.one_unit c.args.table rm c.requires.root end.numbers.paths.different end.numbers.names.different end.numbers.paths.asked c.args.kept.items c.requires.kept.0 c.requires.kept.1 c.args.max_modules c.in-Ok.linked c.in-Ok.ensures.linked c.in-Ok.ensures.linked.root_first.0 c.in-Ok.ensures.linked.root_first.1
@@ -54,7 +54,7 @@ told-requires g c =
     let start : Keeps (g.R.Resolver.hands c.args.resolver) (g.R.Resolver.refuses c.args.resolver) g.S.Source.hands g.S.Source.refuses g.S.Source.first first c.new.result.entries =
     keeps_nothing (g.R.Resolver.hands c.args.resolver) g.S.Source.hands (g.R.Resolver.refuses c.args.resolver) g.S.Source.refuses g.S.Source.first first c.new.result.entries c.requires.follows c.requires.first c.new.ensures.empty in
     let kept : Keeps (g.R.Resolver.hands end.resolver) (g.R.Resolver.refuses end.resolver) g.S.Source.hands g.S.Source.refuses g.S.Source.first nb end.units.entries =
-    (c.resolve_lazy.ensures.adds.ready c.args.table.path ((path_view c.args.path, c.requires.root.path), start)).1 in
+    (c.resolve_lazy.ensures.adds.ready c.args.table.path ((path_view c.args.path, c.requires.root.path), (c.requires.ready, start))).1.1 in
     let grown : Grows first nb = subst (λ (x : Numbering). Grows x nb) c.requires.first kept.grows in
     let rm = module_at c.args.path c.args.unit in
     reach_numbers first nb grown g.S.Source.hands g.S.Source.refuses end.units.entries kept.one_unit c.args.table rm c.requires.root end.numbers.paths.different end.numbers.names.different end.numbers.paths.asked c.args.kept.items c.requires.kept.0 c.requires.kept.1 c.args.max_modules c.in-Err.fault c.in-Err.ensures.refused
@@ -67,7 +67,7 @@ returns-in-Ok-clause-linked g c =
     let start : Keeps (g.R.Resolver.hands c.args.resolver) (g.R.Resolver.refuses c.args.resolver) g.S.Source.hands g.S.Source.refuses g.S.Source.first first c.new.result.entries =
     keeps_nothing (g.R.Resolver.hands c.args.resolver) g.S.Source.hands (g.R.Resolver.refuses c.args.resolver) g.S.Source.refuses g.S.Source.first first c.new.result.entries c.requires.follows c.requires.first c.new.ensures.empty in
     let kept : Keeps (g.R.Resolver.hands end.resolver) (g.R.Resolver.refuses end.resolver) g.S.Source.hands g.S.Source.refuses g.S.Source.first nb end.units.entries =
-    (c.resolve_lazy.ensures.adds.ready c.args.table.path ((path_view c.args.path, c.requires.root.path), start)).1 in
+    (c.resolve_lazy.ensures.adds.ready c.args.table.path ((path_view c.args.path, c.requires.root.path), (c.requires.ready, start))).1.1 in
     let grown : Grows first nb = subst (λ (x : Numbering). Grows x nb) c.requires.first kept.grows in
     let rm = module_at c.args.path c.args.unit in
     λ keep same. linked_told first nb grown g.S.Source.hands g.S.Source.refuses end.units.entries kept.one_unit c.args.table rm c.requires.root end.numbers.paths.different end.numbers.names.different end.numbers.paths.asked c.args.kept.items keep same c.args.max_modules c.in-Ok.linked c.in-Ok.ensures.linked c.in-Ok.ensures.linked.root_first.0 c.in-Ok.ensures.linked.root_first.1 c.resolved.result c.resolved.ensures.modules c.resolved.ensures.turns
@@ -80,7 +80,7 @@ returns-in-Ok-clause-order g c =
     let start : Keeps (g.R.Resolver.hands c.args.resolver) (g.R.Resolver.refuses c.args.resolver) g.S.Source.hands g.S.Source.refuses g.S.Source.first first c.new.result.entries =
     keeps_nothing (g.R.Resolver.hands c.args.resolver) g.S.Source.hands (g.R.Resolver.refuses c.args.resolver) g.S.Source.refuses g.S.Source.first first c.new.result.entries c.requires.follows c.requires.first c.new.ensures.empty in
     let kept : Keeps (g.R.Resolver.hands end.resolver) (g.R.Resolver.refuses end.resolver) g.S.Source.hands g.S.Source.refuses g.S.Source.first nb end.units.entries =
-    (c.resolve_lazy.ensures.adds.ready c.args.table.path ((path_view c.args.path, c.requires.root.path), start)).1 in
+    (c.resolve_lazy.ensures.adds.ready c.args.table.path ((path_view c.args.path, c.requires.root.path), (c.requires.ready, start))).1.1 in
     let grown : Grows first nb = subst (λ (x : Numbering). Grows x nb) c.requires.first kept.grows in
     let rm = module_at c.args.path c.args.unit in
     order_told first nb grown g.S.Source.hands g.S.Source.refuses end.units.entries kept.one_unit c.args.table rm c.requires.root end.numbers.paths.different end.numbers.names.different end.numbers.paths.asked c.args.kept.items c.requires.kept.0 c.requires.kept.1 c.args.max_modules c.in-Ok.linked c.in-Ok.ensures.linked c.in-Ok.ensures.linked.root_first.0 c.in-Ok.ensures.linked.root_first.1 c.resolved.result c.resolved.ensures.modules
@@ -93,7 +93,7 @@ returns-in_ok-error-in-Err-clause-refused g c =
     let start : Keeps (g.R.Resolver.hands c.args.resolver) (g.R.Resolver.refuses c.args.resolver) g.S.Source.hands g.S.Source.refuses g.S.Source.first first c.new.result.entries =
     keeps_nothing (g.R.Resolver.hands c.args.resolver) g.S.Source.hands (g.R.Resolver.refuses c.args.resolver) g.S.Source.refuses g.S.Source.first first c.new.result.entries c.requires.follows c.requires.first c.new.ensures.empty in
     let kept : Keeps (g.R.Resolver.hands end.resolver) (g.R.Resolver.refuses end.resolver) g.S.Source.hands g.S.Source.refuses g.S.Source.first nb end.units.entries =
-    (c.resolve_lazy.ensures.adds.ready c.args.table.path ((path_view c.args.path, c.requires.root.path), start)).1 in
+    (c.resolve_lazy.ensures.adds.ready c.args.table.path ((path_view c.args.path, c.requires.root.path), (c.requires.ready, start))).1.1 in
     let grown : Grows first nb = subst (λ (x : Numbering). Grows x nb) c.requires.first kept.grows in
     let rm = module_at c.args.path c.args.unit in
     λ keep same. reach_refused first nb grown g.S.Source.hands g.S.Source.refuses end.units.entries kept.one_unit c.args.table rm c.requires.root end.numbers.paths.different end.numbers.names.different end.numbers.paths.asked c.args.kept.items keep same c.args.max_modules c.in-Err.fault c.in_ok-error-in-Err.error c.in-Err.ensures.refused c.in_ok-error-in-Err.ensures.told

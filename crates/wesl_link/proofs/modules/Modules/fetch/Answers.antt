@@ -10,12 +10,12 @@ use Rattle.wesl_link.proofs.modules.Modules.fetch.Goals as goal
 pub returns-in_err-table-clause-keeps : goal.returns-in_err-table-clause-keeps
 returns-in_err-table-clause-keeps g c =
     keeps_on (g.R.Resolver.hands c.args.self.now.resolver) (g.R.Resolver.hands c.resolve_module.new.self) g.S.Source.hands (g.R.Resolver.refuses c.args.self.now.resolver) (g.R.Resolver.refuses c.resolve_module.new.self) g.S.Source.refuses g.S.Source.first
-    (numbering c.args.self.now.numbers) (numbering c.read.new.numbers) c.args.self.now.units.entries c.args.self.now.units.entries c.requires.keeps c.resolve_module.ensures.hands_as_before c.resolve_module.ensures.refuses_as_before c.read.ensures.grows refl
+    (numbering c.args.self.now.numbers) (numbering c.read.new.numbers) c.args.self.now.units.entries c.args.self.now.units.entries c.requires.keeps c.resolve_module.ensures.same.units c.resolve_module.ensures.same.faults c.read.ensures.grows refl
 
 pub returns-in_err-put-clause-keeps : goal.returns-in_err-put-clause-keeps
 returns-in_err-put-clause-keeps g c =
     keeps_on (g.R.Resolver.hands c.args.self.now.resolver) (g.R.Resolver.hands c.resolve_module.new.self) g.S.Source.hands (g.R.Resolver.refuses c.args.self.now.resolver) (g.R.Resolver.refuses c.resolve_module.new.self) g.S.Source.refuses g.S.Source.first
-    (numbering c.args.self.now.numbers) (numbering c.read.new.numbers) c.args.self.now.units.entries c.put.new.units.entries c.requires.keeps c.resolve_module.ensures.hands_as_before c.resolve_module.ensures.refuses_as_before c.read.ensures.grows
+    (numbering c.args.self.now.numbers) (numbering c.read.new.numbers) c.args.self.now.units.entries c.put.new.units.entries c.requires.keeps c.resolve_module.ensures.same.units c.resolve_module.ensures.same.faults c.read.ensures.grows
     c.in_err-put.ensures.unchanged
 
 pub returns-clause-handed : goal.returns-clause-handed
@@ -34,5 +34,5 @@ returns-clause-units g c = put_keeps c.args.self.now.units.entries c.put.new.uni
 pub returns-clause-keeps : goal.returns-clause-keeps
 returns-clause-keeps g c =
     keeps_put (g.R.Resolver.hands c.args.self.now.resolver) (g.R.Resolver.hands c.resolve_module.new.self) g.S.Source.hands (g.R.Resolver.refuses c.args.self.now.resolver) (g.R.Resolver.refuses c.resolve_module.new.self) g.S.Source.refuses g.S.Source.first
-    (numbering c.args.self.now.numbers) (numbering c.read.new.numbers) c.args.self.now.units.entries c.put.new.units.entries c.args.id c.in-Ok.unit (path_view c.args.path.now) c.requires.keeps c.resolve_module.ensures.hands_as_before
-    c.resolve_module.ensures.refuses_as_before c.read.ensures.grows c.requires.held c.in-Ok.ensures.handed c.in_ok-put.ensures.put
+    (numbering c.args.self.now.numbers) (numbering c.read.new.numbers) c.args.self.now.units.entries c.put.new.units.entries c.args.id c.in-Ok.unit (path_view c.args.path.now) c.requires.keeps c.resolve_module.ensures.same.units
+    c.resolve_module.ensures.same.faults c.read.ensures.grows c.requires.held c.in-Ok.ensures.handed c.in_ok-put.ensures.put

@@ -1,7 +1,0 @@
-use Rattle.std.proofs.Common.{◌≡◌, Some, map, take, string_bytes}
-use Rattle.serde_json.specs.View.{items_view}
-use Rattle.wesl.specs.Bundle.{items_in, name_in}
-use Rattle.wesl.proofs.bundle.names_of.Given as goal
-
-abbrev pub invariant-loop-index : goal.invariant-loop-index
-invariant-loop-index l = items_in name_in (items_view (take l.index l.item-items)) ≡ Some (map string_bytes l.names.items)

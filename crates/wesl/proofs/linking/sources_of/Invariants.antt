@@ -1,0 +1,5 @@
+use Rattle.std.proofs.Common.{◌≡◌}
+use Rattle.wesl.proofs.linking.sources_of.Given as goal
+
+abbrev pub invariant-loop-package : goal.invariant-loop-package
+invariant-loop-package l = l.sources.local.modules.now ≡ l.modules

@@ -1,0 +1,35 @@
+-- What a link promises whose root is handed out as every other module is.
+use Rattle.std.specs.Prelude.{◌≡◌, ◌⊎◌, ℕ, List, Option, false}
+use Rattle.wesl_names.specs.Path.{Text, Path}
+use Rattle.wesl_names.specs.Errors.{OrMemory, error_of_resolve}
+use Rattle.wesl_names.specs.declared.errors.Error as error
+use Rattle.wesl_names.specs.declared.errors.ResolveError.{ResolveError}
+use Rattle.wesl_syntax.specs.Unit.{UnitOf}
+use Rattle.wesl_formula.specs.declared.features.Features.{Features}
+use Rattle.wesl_link.specs.Worlds.{Module, task_of, IsLinked, IsRefused, IsModuleOrder}
+use Rattle.wesl_link.specs.Refusal.{TellsOf}
+use Rattle.wesl_conditional.specs.Conditions.{HandsLeft, RefusesLeft}
+
+module _ (hands : Path → UnitOf Text → Type 0) (refuses : Path → ResolveError → Type 0) where
+  -- the root's unit is handed out at its path
+  abbrev pub IsRoot : Path → Module → Type 0
+  IsRoot p root = (root.path ≡ p) × hands p root.unit
+
+  -- a link from such a root, in module order
+  abbrev pub Links : Path → List Text → ℕ → ℕ → List Module → Type 0
+  Links p keep limit turns w = (root : Module) × IsRoot p root × IsLinked hands refuses root (task_of root keep false) limit turns w × IsModuleOrder root w
+
+  -- the root is refused, or a link from it is
+  abbrev pub RefusesLink : Path → List Text → ℕ → error.Error → Type 0
+  RefusesLink p keep limit e =
+      ((fault : ResolveError) × OrMemory (refuses p) fault × (e ≡ error_of_resolve fault))
+      ⊎ ((root : Module) × IsRoot p root × TellsOf (IsRefused hands refuses root (task_of root keep false) limit) e)
+
+module _ (hands : Path → UnitOf Text → Type 0) (refuses : Path → ResolveError → Type 0) (features : Option Features) where
+  -- what is left of the units that are handed out
+  abbrev pub hands_left : Path → UnitOf Text → Type 0
+  hands_left p u = HandsLeft features (hands p) u
+
+  -- what is refused, or has a fault of a condition
+  abbrev pub refuses_left : Path → ResolveError → Type 0
+  refuses_left p e = refuses p e ⊎ RefusesLeft features (hands p) e

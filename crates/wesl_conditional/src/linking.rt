@@ -1,0 +1,83 @@
+//! Linking under features.
+ghost use Rattle.std.specs.Prelude.{◌≡◌, ◌↔◌, Result, false, IfOk, IfErr};
+ghost use Rattle.wesl_names.specs.declared.errors.Error as error;
+ghost use Rattle.wesl_tree.specs.declared.unit.TranslationUnit.{TranslationUnit};
+ghost use Rattle.wesl_names.specs.Borrowed.{texts};
+ghost use Rattle.wesl_names.specs.Path.{path_view, is_relative};
+ghost use Rattle.wesl_names.specs.declared.errors.Diagnostic.{out-Diagnostic};
+ghost use Rattle.wesl_conditional.specs.Conditions.{IsConditioned};
+ghost use Rattle.wesl_conditional.specs.Linking.{Links, RefusesLink, hands_left, refuses_left};
+ghost use Rattle.wesl_link.specs.Resolved.{modules_of, turns_of};
+
+use crate::units::condition;
+use std::alloc::Global;
+use wesl_cond::Features;
+use wesl_link::{Resolutions, resolve_lazy};
+use wesl_resolve::{Preprocessor, Resolver};
+use wesl_tree::{Diagnostic, Error, ModulePath, TranslationUnit};
+
+/// Links the module at `path` with the modules that the names in `keep` and the const_asserts reach, and no others, each as
+/// the features leave it, the root too (WESL, "ConditionalTranslation" and "Imports"). Without features no condition is
+/// judged.
+///
+/// Refused where the resolver refuses a path, where a fault of a condition stands in a unit, where a link is refused, and
+/// for want of memory.
+pub fn link_under<R: Resolver + Drop>(
+    alloc: Global,
+    keep: &[&str],
+    path: &ModulePath,
+    resolver: R,
+    features: &Option<Features>,
+    max_modules: usize,
+) -> Result<Resolutions, Diagnostic>
+    requires ready { R.ready resolver }
+    requires asked { is_relative (path_view path.now) ≡ false }
+    ensures linked { IfOk result (λ r. Links (hands_left (λ p u. R.hands resolver p u) (λ p e. R.refuses resolver p e) features.now) (refuses_left (λ p u. R.hands resolver p u) (λ p e. R.refuses resolver p e) features.now) (path_view path.now) (texts keep.now) max_modules (turns_of r) (modules_of r)) }
+    ensures refused { IfErr result (λ d. RefusesLink (hands_left (λ p u. R.hands resolver p u) (λ p e. R.refuses resolver p e) features.now) (refuses_left (λ p u. R.hands resolver p u) (λ p e. R.refuses resolver p e) features.now) (path_view path.now) (texts keep.now) max_modules (out-Diagnostic d).error) }
+{
+    let judge = |unit: TranslationUnit|
+        ensures { IsConditioned features.entry.now unit result }
+    { condition(alloc, unit, features) };
+    link_judged(alloc, keep, path, resolver, judge, features, max_modules)
+}
+
+// Links what a function leaves of the units that are handed out.
+fn link_judged<R: Resolver + Drop, F: Fn(TranslationUnit) -> Result<TranslationUnit, Error> + Drop>(
+    alloc: Global,
+    keep: &[&str],
+    path: &ModulePath,
+    resolver: R,
+    judge: F,
+    features: &Option<Features>,
+    max_modules: usize,
+) -> Result<Resolutions, Diagnostic>
+    requires ready { R.ready resolver }
+    requires asked { is_relative (path_view path.now) ≡ false }
+    requires callable { F.IsAlwaysCallable judge }
+    requires judges { (given : TranslationUnit) (answer : Result TranslationUnit error.Error) → F.post judge given answer ↔ IsConditioned features.now given answer }
+    ensures linked { IfOk result (λ r. Links (hands_left (λ p u. R.hands resolver p u) (λ p e. R.refuses resolver p e) features.now) (refuses_left (λ p u. R.hands resolver p u) (λ p e. R.refuses resolver p e) features.now) (path_view path.now) (texts keep.now) max_modules (turns_of r) (modules_of r)) }
+    ensures refused { IfErr result (λ d. RefusesLink (hands_left (λ p u. R.hands resolver p u) (λ p e. R.refuses resolver p e) features.now) (refuses_left (λ p u. R.hands resolver p u) (λ p e. R.refuses resolver p e) features.now) (path_view path.now) (texts keep.now) max_modules (out-Diagnostic d).error) }
+{
+    let judged = Preprocessor::new(resolver, judge);
+    link_from(alloc, keep, path, judged, max_modules)
+}
+
+// Links the module at a path, which the resolver hands out as every other.
+fn link_from<R: Resolver + Drop>(
+    alloc: Global,
+    keep: &[&str],
+    path: &ModulePath,
+    resolver: R,
+    max_modules: usize,
+) -> Result<Resolutions, Diagnostic>
+    requires ready { R.ready resolver }
+    requires asked { is_relative (path_view path.now) ≡ false }
+    ensures linked { IfOk result (λ r. Links (λ p u. R.hands resolver p u) (λ p e. R.refuses resolver p e) (path_view path.now) (texts keep.now) max_modules (turns_of r) (modules_of r)) }
+    ensures refused { IfErr result (λ d. RefusesLink (λ p u. R.hands resolver p u) (λ p e. R.refuses resolver p e) (path_view path.now) (texts keep.now) max_modules (out-Diagnostic d).error) }
+{
+    let mut resolver = resolver;
+    match resolver.resolve_module(alloc, path) {
+        Ok(unit) => resolve_lazy(alloc, keep, unit, path, &mut resolver, max_modules),
+        Err(fault) => Err(Diagnostic::of(Error::of_resolve(fault))),
+    }
+}
