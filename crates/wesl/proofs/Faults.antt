@@ -23,16 +23,19 @@ use Rattle.wesl_conditional.specs.Conditions.{IsRefusedBy, RefusesLeft}
 use Rattle.wesl_conditional.specs.Linking.{RefusesLink, hands_left, refuses_left}
 use Rattle.wesl.specs.Fault as told
 use Rattle.wesl.specs.Fault.{fault_of, fault_of_condition, fault_of_resolver}
-use Rattle.wesl.specs.Hands.{IsRefusedAt, Refuses, virtual_module}
-use Rattle.wesl.specs.Holds.{Holds}
-use Rattle.wesl.specs.Bundle.{Module, unit_at}
-use Rattle.wesl.specs.declared.modules.Modules.{Modules}
+use Rattle.wesl.specs.Hands.{IsRefusedAt, virtual_module}
+use Rattle.wesl.specs.Linking.{Kept, RefusesBundle, handed, refused, handed_left, refused_left}
+use Rattle.wesl_bundle.specs.Bundle.{Bundle}
 use Rattle.wesl.specs.Line.{memory, IsOfModules}
-use Rattle.wesl.specs.Refused.{IsModuleFault}
+use Rattle.wesl.specs.Refused.{IsLinkFault}
 use Rattle.wesl_world.specs.World.{Task}
 use Rattle.wesl_world.specs.Faults as standing
 use Rattle.wesl_link.specs.Refusal.{TellsOfImport, TellsOf}
 use Rattle.wesl_link.specs.Worlds as worlds
+
+-- memory was refused, or a module is at fault and not the bundle
+abbrev IsModuleFault : error.Error → Type 0
+IsModuleFault e = (fault_of e ≡ memory) ⊎ IsOfModules (fault_of e)
 
 -- texts that a test tells apart
 apart : (s t : Text) → bytes_eq s t ≡ false → bytes_eq t t ≡ true → s ≡ t → ⊥
@@ -102,8 +105,8 @@ at-origin absolute P Q R f g h = g h
 at-origin (relative n) P Q R f g h = g h
 
 -- what the modules and packages of a bundle refuse
-pub sources-are-of-modules : (m : Modules) → (ms : List Module) × Holds ms m → (packages : List CodegenPkg) (p : Path) (e : resolve_error.ResolveError) → ByOrigin p (IsRefusedIn IsUnreadable packages p e) (Refuses m p e) → IsOfModules (fault_of_resolver e)
-sources-are-of-modules m held packages p e = at-origin p.origin (IsRefusedIn IsUnreadable packages p e) (Refuses m p e) (IsOfModules (fault_of_resolver e)) (refused_in packages p e) (λ h. refused_at p (unit_at p held.0) e (h held.0 held.1))
+sources-are-of-modules : (units : Path → Option Data) (packages : List CodegenPkg) (p : Path) (e : resolve_error.ResolveError) → ByOrigin p (IsRefusedIn IsUnreadable packages p e) (IsRefusedAt p (units p) e) → IsOfModules (fault_of_resolver e)
+sources-are-of-modules units packages p e = at-origin p.origin (IsRefusedIn IsUnreadable packages p e) (IsRefusedAt p (units p) e) (IsOfModules (fault_of_resolver e)) (refused_in packages p e) (refused_at p (units p) e)
 
 wrapped : (e : resolve_error.ResolveError) → IsOfModules (fault_of_resolver e) → IsModuleFault (error_of_resolve e)
 wrapped (resolve_error.Error' at inner declaration place display span source) h = inr h
@@ -144,6 +147,14 @@ module _ (hands : Path → UnitOf Text → Type 0) (refuses : Path → resolve_e
   either p e (inl h) = of p e h
   either p e (inr h) = left features (hands p) e h
 
-  pub link-is-of-modules : (p : Path) (keep : List Text) (limit : ℕ) (e : error.Error) → RefusesLink (hands_left hands refuses features) (refuses_left hands refuses features) p keep limit e → IsModuleFault e
+  link-is-of-modules : (p : Path) (keep : List Text) (limit : ℕ) (e : error.Error) → RefusesLink (hands_left hands refuses features) (refuses_left hands refuses features) p keep limit e → IsModuleFault e
   link-is-of-modules p keep limit e (inl h) = subst IsModuleFault (sym h.2) (or-memory _ (either p) h.0 h.1)
   link-is-of-modules p keep limit e (inr h) = standing-is-of-modules _ _ either h.0 _ limit e h.2
+
+-- a fault of a link of a bundle
+pub bundle-fault : (b : Bundle) (k : Kept b) (e : error.Error) → RefusesLink (handed_left b k) (refused_left b k) b.root b.keep b.options.max_modules e → IsLinkFault b e
+bundle-fault b k e h = by (link-is-of-modules (handed b k) (refused b k) k.features (sources-are-of-modules k.units k.packages) b.root b.keep b.options.max_modules e h)
+  where
+    by : IsModuleFault e → IsLinkFault b e
+    by (inl is) = inl is
+    by (inr of) = inr (of, (e, (k, h), refl))

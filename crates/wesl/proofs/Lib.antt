@@ -2,3 +2,4 @@ pub mod Bytes
 pub mod Texts
 pub mod Units
 pub mod Faults
+pub mod PackageTexts

@@ -10,6 +10,7 @@ use Rattle.wesl_bundle.specs.Bundle.{Bundle, bundle_of}
 use Rattle.wesl_bundle.specs.Forms.{IsBrokenBundle}
 use Rattle.wesl_names.specs.declared.errors.Error as error
 use Rattle.wesl.specs.Fault.{Fault, fault, fault_of}
+use Rattle.wesl.specs.Linking.{LinksBundle, RefusesBundle}
 
 -- a value as compact JSON, and a line feed
 abbrev pub line_of : Data → Text
@@ -44,12 +45,16 @@ IsNotJson bytes = IsUtf8 bytes → read bytes ≡ None
 abbrev pub IsOfModules : Fault → Type 0
 IsOfModules f = (f.named ≢ codes "NotJson") × (f.named ≢ codes "BadBundle")
 
+-- a fault that stands in a link of the bundle
+abbrev pub TellsOfLink : Bundle → Fault → Type 0
+TellsOfLink b f = (e : error.Error) × RefusesBundle b e × (f ≡ fault_of e)
+
 -- which fault the bytes may be refused with, want of memory aside
 abbrev pub StandsFor : List ℕ → Fault → Type 0
 StandsFor bytes f =
     ((f ≡ not_json) × IsNotJson bytes)
     ⊎ ((d : Data) × (place : Text) × (read bytes ≡ Some d) × (f ≡ bad_bundle place) × IsBrokenBundle d place)
-    ⊎ ((d : Data) × (b : Bundle) × (read bytes ≡ Some d) × (bundle_of d ≡ Some b) × IsOfModules f)
+    ⊎ ((d : Data) × (b : Bundle) × (read bytes ≡ Some d) × (bundle_of d ≡ Some b) × IsOfModules f × TellsOfLink b f)
 
 -- the error is want of memory, or one that the bytes may be refused with
 abbrev pub IsRefusal : List ℕ → error.Error → Type 0
@@ -67,6 +72,6 @@ IsFaultLine bytes line = (line ≡ fault_line memory) ⊎ ((f : Fault) × Stands
 abbrev pub answer_value : Data → Data
 answer_value unit = object (member (codes "unit") unit no_members)
 
--- the bytes are a bundle's, and the line has the written form of a unit
+-- the bytes are a bundle's that is linked, and the line has the written form of a unit
 abbrev pub IsAnswerLine : List ℕ → Text → Type 0
-IsAnswerLine bytes line = (d : Data) × (b : Bundle) × (u : UnitView) × (read bytes ≡ Some d) × (bundle_of d ≡ Some b) × (line ≡ line_of (answer_value (unit_value u)))
+IsAnswerLine bytes line = (d : Data) × (b : Bundle) × (u : UnitView) × (read bytes ≡ Some d) × (bundle_of d ≡ Some b) × LinksBundle b × (line ≡ line_of (answer_value (unit_value u)))

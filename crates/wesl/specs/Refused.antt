@@ -1,9 +1,10 @@
 -- Faults of modules.
 use Rattle.std.specs.Prelude.{◌≡◌, ◌⊎◌}
+use Rattle.wesl_bundle.specs.Bundle.{Bundle}
 use Rattle.wesl_names.specs.declared.errors.Error as error
 use Rattle.wesl.specs.Fault.{fault_of}
-use Rattle.wesl.specs.Line.{memory, IsOfModules}
+use Rattle.wesl.specs.Line.{memory, IsOfModules, TellsOfLink}
 
--- memory was refused, or a module is at fault and not the bundle
-abbrev pub IsModuleFault : error.Error → Type 0
-IsModuleFault e = (fault_of e ≡ memory) ⊎ IsOfModules (fault_of e)
+-- memory was refused, or a fault stands in a link of the bundle's modules, and it is none of the bundle itself
+abbrev pub IsLinkFault : Bundle → error.Error → Type 0
+IsLinkFault b e = (fault_of e ≡ memory) ⊎ (IsOfModules (fault_of e) × TellsOfLink b (fault_of e))

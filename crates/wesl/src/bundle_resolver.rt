@@ -6,7 +6,7 @@ ghost use Rattle.serde_json.specs.View.{view};
 ghost use Rattle.wesl_syntax.specs.Unit.{spelled};
 ghost use Rattle.wesl_tree.specs.Translation.{unit_view};
 ghost use Rattle.wesl_sources.specs.Reading.{IsRead, IsTreeFault};
-ghost use Rattle.wesl.specs.Hands.{Hands, Refuses, Gives, virtual_module};
+ghost use Rattle.wesl.specs.Hands.{IsHandedAt, IsRefusedAt, IsSourceAt, unit_in, virtual_module};
 
 use crate::modules::Modules;
 use serde_json::Value;
@@ -22,15 +22,15 @@ pub(crate) struct BundleResolver<'b, 'v> {
 }
 
 impl Resolver for BundleResolver<'_, '_> {
-    ghost use Rattle.wesl.specs.Hands.{Hands, Refuses, Gives};
+    ghost use Rattle.wesl.specs.Hands.{IsHandedAt, IsRefusedAt, IsSourceAt, unit_in};
 
     ghost ready = { λ _. Unit {0} };
 
-    ghost hands = { λ r p u. Hands r.modules.now p u };
+    ghost hands = { λ r p u. IsHandedAt (unit_in r.modules.now p) u };
 
-    ghost refuses = { λ r p e. Refuses r.modules.now p e };
+    ghost refuses = { λ r p e. IsRefusedAt p (unit_in r.modules.now p) e };
 
-    ghost source = { λ r p text. Gives r.modules.now p text };
+    ghost source = { λ r p text. IsSourceAt (unit_in r.modules.now p) text };
 
     ghost shown = { λ _ p name. name ≡ None };
 
@@ -61,8 +61,8 @@ fn source_of_module(
     modules: &Modules,
     path: &ModulePath,
 ) -> Result<String, ResolveError>
-    ensures given { IfOk result (λ s. Gives modules.now (path_view path.now) (string_bytes s)) }
-    ensures refused { IfErr result (OrMemory (Refuses modules.now (path_view path.now))) }
+    ensures given { IfOk result (λ s. IsSourceAt (unit_in modules.now (path_view path.now)) (string_bytes s)) }
+    ensures refused { IfErr result (OrMemory (IsRefusedAt (path_view path.now) (unit_in modules.now (path_view path.now)))) }
 {
     match modules.unit_at(path) {
         Some(value) => Ok(value.to_string(alloc)?),
@@ -76,8 +76,8 @@ fn unit_of_module(
     modules: &Modules,
     path: &ModulePath,
 ) -> Result<TranslationUnit, ResolveError>
-    ensures handed { IfOk result (λ u. Hands modules.now (path_view path.now) (spelled (unit_view u))) }
-    ensures refused { IfErr result (OrMemory (Refuses modules.now (path_view path.now))) }
+    ensures handed { IfOk result (λ u. IsHandedAt (unit_in modules.now (path_view path.now)) (spelled (unit_view u))) }
+    ensures refused { IfErr result (OrMemory (IsRefusedAt (path_view path.now) (unit_in modules.now (path_view path.now)))) }
 {
     match modules.unit_at(path) {
         Some(value) => read_unit(alloc, value),

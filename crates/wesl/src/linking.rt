@@ -1,14 +1,18 @@
 //! From a bundle to the value of its linked unit.
-ghost use Rattle.std.specs.Prelude.{◌≡◌, map, false, IfOk, IfErr};
+ghost use Rattle.std.specs.Prelude.{◌≡◌, map, false, string_bytes, IfOk, IfErr, OnOk};
+ghost use Rattle.wesl_names.specs.Borrowed.{texts};
 ghost use Rattle.serde_json.specs.View.{view};
 ghost use Rattle.serde_json.specs.Written.{has_float};
 ghost use Rattle.wesl_names.specs.Path.{path_view, is_relative};
 ghost use Rattle.wesl_names.specs.declared.errors.Error as error;
 ghost use Rattle.wesl_syntax.specs.Unit.{UnitView};
 ghost use Rattle.wesl_form.specs.Units.{unit_value};
-ghost use Rattle.wesl_bundle.specs.Views.{module_view};
+ghost use Rattle.wesl_bundle.specs.PackageViews.{packages_view};
+ghost use Rattle.wesl_bundle.specs.Views.{bundle_view, module_view};
+ghost use Rattle.wesl.specs.Linking.{LinksBundle};
+ghost use Rattle.wesl.specs.PackageTexts.{ArePackagesOf};
 ghost use Rattle.wesl.specs.Holds.{Holds};
-ghost use Rattle.wesl.specs.Refused.{IsModuleFault};
+ghost use Rattle.wesl.specs.Refused.{IsLinkFault};
 
 use crate::bundle_resolver::BundleResolver;
 use crate::modules::Modules;
@@ -30,9 +34,10 @@ type Sources<'b, 'v> = StandardResolver<BundleResolver<'b, 'v>, ProfileText>;
 /// The value of the unit that is linked of a bundle's modules.
 pub(crate) fn linked(alloc: Global, bundle: Bundle) -> Result<Value, Error>
     requires fixed { is_relative (path_view bundle.root) ≡ false }
+    ensures linked { OnOk result (LinksBundle (bundle_view bundle.entry)) }
     ensures written { IfOk result (λ v. (u : UnitView) × (view v ≡ unit_value u)) }
     ensures whole { IfOk result (λ v. has_float (view v) ≡ false) }
-    ensures refused { IfErr result IsModuleFault }
+    ensures refused { IfErr result (IsLinkFault (bundle_view bundle.entry)) }
 {
     let unit = linked_unit(alloc, bundle)?;
     value_of_unit(alloc, &unit)
@@ -43,7 +48,8 @@ pub(crate) fn linked(alloc: Global, bundle: Bundle) -> Result<Value, Error>
 /// their items are as its mangler gives them, and those of the root's stay where it says nothing else.
 fn linked_unit(alloc: Global, bundle: Bundle) -> Result<TranslationUnit, Error>
     requires fixed { is_relative (path_view bundle.root) ≡ false }
-    ensures refused { IfErr result IsModuleFault }
+    ensures linked { OnOk result (LinksBundle (bundle_view bundle.entry)) }
+    ensures refused { IfErr result (IsLinkFault (bundle_view bundle.entry)) }
 {
     let Bundle {
         root,
@@ -82,6 +88,7 @@ fn sources_of<'b, 'v>(
     packages: Vec<Package<'v>>,
 ) -> Result<Sources<'b, 'v>, Error>
     ensures local { IfOk result (λ s. s.local.modules.now ≡ modules.now) }
+    ensures packages { IfOk result (λ s. ArePackagesOf (packages_view packages.entry.items) s.packages.packages.items) }
     ensures refused { IfErr result (λ e. e ≡ error.Memory) }
 {
     let mut sources = StandardResolver::new(alloc, BundleResolver { modules }, ProfileText);
@@ -116,7 +123,9 @@ fn mangle(alloc: Global, resolutions: &mut Resolutions, options: Options) -> Res
     }
 }
 
-fn names<'b>(alloc: Global, keep: &'b [String]) -> Result<Vec<&'b str>, AllocError> {
+fn names<'b>(alloc: Global, keep: &'b [String]) -> Result<Vec<&'b str>, AllocError>
+    ensures { IfOk result (λ v. texts v.items ≡ map string_bytes keep.now) }
+{
     let mut names = Vec::with_capacity(alloc, keep.len())?;
     for name in keep {
         names.push(name.as_str())?;

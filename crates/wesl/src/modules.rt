@@ -2,7 +2,8 @@
 ghost use Rattle.std.specs.Prelude.{◌≡◌, ◌++◌, ◌∷◌, [], List, IfOk, IfErr, OnOk, option_map};
 ghost use Rattle.serde_json.specs.View.{view};
 ghost use Rattle.wesl_names.specs.Path.{path_view};
-ghost use Rattle.wesl.specs.Bundle.{Module, unit_at};
+ghost use Rattle.wesl.specs.Bundle.{Module};
+ghost use Rattle.wesl.specs.Hands.{unit_in};
 ghost use Rattle.wesl_bundle.specs.declared.members.BundleError.TheVariants.{Memory};
 
 use indexmap::IndexMap;
@@ -40,7 +41,7 @@ impl<'v> Modules<'v> {
 
     /// The value of the unit at a path.
     pub(crate) fn unit_at(&self, path: &ModulePath) -> Option<&'v Value>
-        ensures { (ms : List Module) → Holds ms self.now → option_map (λ v. view v.now) result ≡ unit_at (path_view path.now) ms }
+        ensures { option_map (λ v. view v.now) result ≡ unit_in self.now (path_view path.now) }
     {
         self.units.get(path).copied()
     }

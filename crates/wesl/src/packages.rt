@@ -1,6 +1,8 @@
 //! The packages of a bundle, their modules as texts.
-ghost use Rattle.std.specs.Prelude.{◌≡◌, IfErr};
+ghost use Rattle.std.specs.Prelude.{◌≡◌, IfOk, IfErr};
 ghost use Rattle.wesl_names.specs.declared.errors.Error as error;
+ghost use Rattle.wesl_bundle.specs.PackageViews.{package_module_view, package_modules_view, package_view, packages_view};
+ghost use Rattle.wesl.specs.PackageTexts.{AreModulesOf, ArePackagesOf, IsModuleOf, IsPackageOf};
 
 use std::alloc::Global;
 use wesl_bundle::{Package, PackageModule};
@@ -10,10 +12,11 @@ use wesl_tree::Error;
 
 /// A package whose modules are kept as compact JSON, and read only when they are loaded. Refused for want of memory alone.
 #[cycle(packages)]
-pub(crate) fn package_of(alloc: Global, package: Package) -> Result<CodegenPkg, Error>
+pub(crate) fn package_of(alloc: Global, said: Package) -> Result<CodegenPkg, Error>
+    ensures held { IfOk result (IsPackageOf (package_view said.entry)) }
     ensures refused { IfErr result (λ e. e ≡ error.Memory) }
 {
-    let Package { root, dependencies } = package;
+    let Package { root, dependencies } = said;
     Ok(CodegenPkg {
         crate_name: String::new(alloc),
         root: module_of(alloc, root)?,
@@ -22,25 +25,27 @@ pub(crate) fn package_of(alloc: Global, package: Package) -> Result<CodegenPkg, 
 }
 
 #[cycle(packages)]
-fn packages_of(alloc: Global, packages: Vec<Package>) -> Result<Vec<CodegenPkg>, Error>
+fn packages_of(alloc: Global, said: Vec<Package>) -> Result<Vec<CodegenPkg>, Error>
+    ensures held { IfOk result (λ ks. ArePackagesOf (packages_view said.entry.items) ks.items) }
     ensures refused { IfErr result (λ e. e ≡ error.Memory) }
 {
     let mut made = Vec::new(alloc);
-    for package in packages {
-        made.push(package_of(alloc, package)?)?;
+    for one in said {
+        made.push(package_of(alloc, one)?)?;
     }
     Ok(made)
 }
 
 #[cycle(modules)]
-fn module_of(alloc: Global, module: PackageModule) -> Result<CodegenModule, Error>
+fn module_of(alloc: Global, said: PackageModule) -> Result<CodegenModule, Error>
+    ensures held { IfOk result (IsModuleOf (package_module_view said.entry)) }
     ensures refused { IfErr result (λ e. e ≡ error.Memory) }
 {
     let PackageModule {
         name,
         unit,
         modules,
-    } = module;
+    } = said;
     Ok(CodegenModule {
         name,
         source: text_of_value(alloc, unit)?,
@@ -49,12 +54,13 @@ fn module_of(alloc: Global, module: PackageModule) -> Result<CodegenModule, Erro
 }
 
 #[cycle(modules)]
-fn modules_of(alloc: Global, modules: Vec<PackageModule>) -> Result<Vec<CodegenModule>, Error>
+fn modules_of(alloc: Global, said: Vec<PackageModule>) -> Result<Vec<CodegenModule>, Error>
+    ensures held { IfOk result (λ ms. AreModulesOf (package_modules_view said.entry.items) ms.items) }
     ensures refused { IfErr result (λ e. e ≡ error.Memory) }
 {
     let mut made = Vec::new(alloc);
-    for module in modules {
-        made.push(module_of(alloc, module)?)?;
+    for one in said {
+        made.push(module_of(alloc, one)?)?;
     }
     Ok(made)
 }

@@ -138,8 +138,10 @@ fn answer(alloc: Global, bytes: &[u8]) -> Result<String, Error>
 {
     let value = value_of_bytes(alloc, bytes)?;
     let bundle = read_bundle(alloc, &value)?;
-    let unit = linked(alloc, bundle)?;
-    Ok(answer_line(alloc, unit)?)
+    match linked(alloc, bundle) {
+        Ok(unit) => Ok(answer_line(alloc, unit)?),
+        Err(error) => Err(error),
+    }
 }
 
 fn value_of_bytes(alloc: Global, bytes: &[u8]) -> Result<Value, Error>

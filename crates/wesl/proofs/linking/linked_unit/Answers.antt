@@ -1,24 +1,49 @@
-use Rattle.std.proofs.Common.{List, map, sym, subst}
+use Rattle.std.proofs.Common.{Result, Ok, Err, OnOk, map, refl, sym, ap, ◌∙◌, subst, string_bytes, ◌≡◌, inl}
+use Rattle.std.proofs.lemmas.Result.{IfErr-weaker}
 use Rattle.wesl_names.specs.Borrowed.{texts}
-use Rattle.wesl_names.specs.Path.{path_view}
-use Rattle.wesl_bundle.specs.Bundle.{Module}
-use Rattle.wesl_bundle.specs.Views.{module_view}
-use Rattle.wesl_resolve.specs.ByOrigin.{ByOrigin}
-use Rattle.wesl_resolve.specs.Packages.{IsReadIn, IsRefusedIn}
-use Rattle.wesl_sources.specs.Reading.{ReadsText, IsUnreadable}
-use Rattle.wesl.specs.Hands.{Hands, Refuses}
-use Rattle.wesl.specs.Holds.{Holds}
-use Rattle.wesl.proofs.Faults.{link-is-of-modules, sources-are-of-modules}
+use Rattle.wesl_bundle.specs.Views.{bundle_view}
+use Rattle.wesl.specs.Hands.{unit_in}
+use Rattle.wesl_conditional.specs.Linking.{Links, RefusesLink}
+use Rattle.wesl_link.specs.Resolved.{modules_of, turns_of}
+use Rattle.wesl.specs.Linking.{Kept, handed_left, refused_left}
+use Rattle.wesl.proofs.Faults.{bundle-fault}
 use Rattle.wesl.proofs.linking.linked_unit.Goals as goal
+
+on-ok : {T E P : Type 0} (r : Result T E) → P → OnOk r P
+on-ok (Ok a) h = h
+on-ok (Err e) h = tt
+
+pub returns-in-Ok-clause-linked : goal.returns-in-Ok-clause-linked
+returns-in-Ok-clause-linked c =
+    let sources = c.in_ok-sources.sources in
+    let b = bundle_view c.args.bundle in
+    let kept : Kept b = record {
+      units = unit_in sources.local.modules.now;
+      packages = sources.packages.packages.items;
+      features = c.args.bundle.features;
+      are_units = λ p. ap (λ m. unit_in m p) c.in_ok-sources.ensures.local ∙ c.in_ok-units.ensures.held p;
+      are_packages = c.in_ok-sources.ensures.packages;
+      are_features = refl;
+    } in
+    let keep : texts c.deref-2.result.now ≡ map string_bytes c.args.bundle.keep.items = ap texts c.deref-2.ensures.value ∙ c.in_ok-keep.ensures ∙ ap (map string_bytes) c.deref.ensures.value in
+    let r = c.in-Ok.resolutions in
+    on-ok c.named_unit.result (kept, turns_of r, modules_of r, subst (λ ks. Links (handed_left b kept) (refused_left b kept) b.root ks b.options.max_modules (turns_of r) (modules_of r)) keep c.in-Ok.ensures.linked)
 
 pub returns : goal.returns
 returns c =
     let sources = c.in_ok-sources.sources in
-    let held : (ms : List Module) × Holds ms c.in_ok-units.units = (map module_view c.args.bundle.modules.items, c.in_ok-units.ensures.held) in
-    let there : (ms : List Module) × Holds ms sources.local.modules.now = (held.0, subst (Holds held.0) (sym c.in_ok-sources.ensures.local) held.1) in
-    let packages = sources.packages.packages.items in
+    let b = bundle_view c.args.bundle in
+    let kept : Kept b = record {
+      units = unit_in sources.local.modules.now;
+      packages = sources.packages.packages.items;
+      features = c.args.bundle.features;
+      are_units = λ p. ap (λ m. unit_in m p) c.in_ok-sources.ensures.local ∙ c.in_ok-units.ensures.held p;
+      are_packages = c.in_ok-sources.ensures.packages;
+      are_features = refl;
+    } in
+    let keep : texts c.deref-2.result.now ≡ map string_bytes c.args.bundle.keep.items = ap texts c.deref-2.ensures.value ∙ c.in_ok-keep.ensures ∙ ap (map string_bytes) c.deref.ensures.value in
     record {
-      refused = link-is-of-modules (λ p u. ByOrigin p (IsReadIn ReadsText packages p u) (Hands sources.local.modules.now p u))
-          (λ p e. ByOrigin p (IsRefusedIn IsUnreadable packages p e) (Refuses sources.local.modules.now p e)) c.args.bundle.features
-          (sources-are-of-modules sources.local.modules.now there packages) (path_view c.args.bundle.root) (texts c.deref-2.result.now) c.args.bundle.options.max_modules c.in-Err.diagnostic.error c.in-Err.ensures.refused;
+      linked = tt;
+      refused = bundle-fault b kept c.in-Err.diagnostic.error
+          (subst (λ ks. RefusesLink (handed_left b kept) (refused_left b kept) b.root ks b.options.max_modules c.in-Err.diagnostic.error) keep c.in-Err.ensures.refused);
     }

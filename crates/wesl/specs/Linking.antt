@@ -1,0 +1,54 @@
+-- What is linked of a bundle.
+use Rattle.std.specs.Prelude.{◌≡◌, ℕ, List, Option, option_map}
+use Rattle.serde_json.specs.Data.{Data}
+use Rattle.wesl_names.specs.Path.{Text, Path}
+use Rattle.wesl_names.specs.declared.errors.Error as error
+use Rattle.wesl_names.specs.declared.errors.ResolveError.{ResolveError}
+use Rattle.wesl_syntax.specs.Unit.{UnitOf}
+use Rattle.wesl_formula.specs.declared.features.Features.{Features}
+use Rattle.wesl_bundle.specs.Bundle.{Bundle}
+use Rattle.wesl_bundle.specs.Views.{features_view}
+use Rattle.wesl_resolve.specs.ByOrigin.{ByOrigin}
+use Rattle.wesl_resolve.specs.Packages.{IsReadIn, IsRefusedIn}
+use Rattle.wesl_resolve.specs.declared.packages.CodegenPkg.{CodegenPkg}
+use Rattle.wesl_sources.specs.Reading.{ReadsText, IsUnreadable}
+use Rattle.wesl_conditional.specs.Linking.{Links, RefusesLink, hands_left, refuses_left}
+use Rattle.wesl_link.specs.Worlds as worlds
+use Rattle.wesl.specs.Bundle.{unit_at}
+use Rattle.wesl.specs.Hands.{IsHandedAt, IsRefusedAt}
+use Rattle.wesl.specs.PackageTexts.{ArePackagesOf}
+
+-- What is kept of a bundle: the values of its modules by their paths, of a path that stands twice the last; its packages; and
+-- its features.
+pub record Kept (b : Bundle) : Type 0 where
+  pub units : Path → Option Data
+  pub packages : List CodegenPkg
+  pub features : Option Features
+  pub are_units : (p : Path) → units p ≡ unit_at p b.modules
+  pub are_packages : ArePackagesOf b.packages packages
+  pub are_features : option_map features_view features ≡ b.features
+
+module _ (b : Bundle) (k : Kept b) where
+  -- the unit at a path: in a named package that of its module, else that of the bundle's module there
+  abbrev pub handed : Path → UnitOf Text → Type 0
+  handed p u = ByOrigin p (IsReadIn ReadsText k.packages p u) (IsHandedAt (k.units p) u)
+
+  -- no module is at the path, or it is no unit
+  abbrev pub refused : Path → ResolveError → Type 0
+  refused p e = ByOrigin p (IsRefusedIn IsUnreadable k.packages p e) (IsRefusedAt p (k.units p) e)
+
+  -- the same, as the features leave it
+  abbrev pub handed_left : Path → UnitOf Text → Type 0
+  handed_left = hands_left handed refused k.features
+
+  abbrev pub refused_left : Path → ResolveError → Type 0
+  refused_left = refuses_left handed refused k.features
+
+-- A link of the bundle's modules and packages, each as the features leave it: from the root and the names that are kept, with
+-- no more modules than are allowed.
+abbrev pub LinksBundle : Bundle → Type 0
+LinksBundle b = (k : Kept b) × (turns : ℕ) × (w : List worlds.Module) × Links (handed_left b k) (refused_left b k) b.root b.keep b.options.max_modules turns w
+
+-- such a link is refused with the error, which stands
+abbrev pub RefusesBundle : Bundle → error.Error → Type 0
+RefusesBundle b e = (k : Kept b) × RefusesLink (handed_left b k) (refused_left b k) b.root b.keep b.options.max_modules e
