@@ -41,7 +41,7 @@ fn broken_chains_of_bodies_are_refused(rt: HostRuntime) -> Result<(), Fail> {
             "DuplicateIf",
         ),
         (
-            r#"{"stmts":[{"body":{},"continuing":{"body":{"stmts":[{"attrs":[{"expr":"X","k":"if"}],"k":"void"},{"k":"break"}]},"break_if":{"attrs":["else"],"expr":"a"}},"k":"loop"}]}"#,
+            r#"{"stmts":[{"body":{},"continuing":{"body":{"stmts":[{"attrs":[{"expr":"X","k":"if"}],"k":"break"},{"k":"break"}]},"break_if":{"attrs":["else"],"expr":"a"}},"k":"loop"}]}"#,
             "NoPrecedingIf",
         ),
         (

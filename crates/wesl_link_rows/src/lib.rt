@@ -1,0 +1,5 @@
+//! Tests of links over resolvers.
+#![tactic(auto)]
+
+#[cfg(test)]
+mod asks;
