@@ -2,4 +2,5 @@ pub mod Bytes
 pub mod Texts
 pub mod Units
 pub mod Faults
+pub mod Answered
 pub mod PackageTexts

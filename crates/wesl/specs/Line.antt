@@ -10,7 +10,7 @@ use Rattle.wesl_bundle.specs.Bundle.{Bundle, bundle_of}
 use Rattle.wesl_bundle.specs.Forms.{IsBrokenBundle}
 use Rattle.wesl_names.specs.declared.errors.Error as error
 use Rattle.wesl.specs.Fault.{Fault, fault, fault_of}
-use Rattle.wesl.specs.Linking.{LinksBundle, RefusesBundle}
+use Rattle.wesl.specs.Linking.{LinksTo, RefusesBundle}
 
 -- a value as compact JSON, and a line feed
 abbrev pub line_of : Data → Text
@@ -72,6 +72,6 @@ IsFaultLine bytes line = (line ≡ fault_line memory) ⊎ ((f : Fault) × Stands
 abbrev pub answer_value : Data → Data
 answer_value unit = object (member (codes "unit") unit no_members)
 
--- the bytes are a bundle's that is linked, and the line has the written form of a unit
+-- the bytes are a bundle's that is linked, and the line has the written form of its linked unit
 abbrev pub IsAnswerLine : List ℕ → Text → Type 0
-IsAnswerLine bytes line = (d : Data) × (b : Bundle) × (u : UnitView) × (read bytes ≡ Some d) × (bundle_of d ≡ Some b) × LinksBundle b × (line ≡ line_of (answer_value (unit_value u)))
+IsAnswerLine bytes line = (d : Data) × (b : Bundle) × (u : UnitView) × (read bytes ≡ Some d) × (bundle_of d ≡ Some b) × LinksTo b u × (line ≡ line_of (answer_value (unit_value u)))

@@ -6,10 +6,13 @@ ghost use Rattle.serde_json.specs.Written.{has_float};
 ghost use Rattle.wesl_names.specs.Path.{path_view, is_relative};
 ghost use Rattle.wesl_names.specs.declared.errors.Error as error;
 ghost use Rattle.wesl_syntax.specs.Unit.{UnitView};
+ghost use Rattle.wesl_tree.specs.Translation.{unit_view};
 ghost use Rattle.wesl_form.specs.Units.{unit_value};
 ghost use Rattle.wesl_bundle.specs.PackageViews.{packages_view};
 ghost use Rattle.wesl_bundle.specs.Views.{bundle_view, module_view};
-ghost use Rattle.wesl.specs.Linking.{LinksBundle};
+ghost use Rattle.wesl_link.specs.Keeping.{IsSound, resolved};
+ghost use Rattle.wesl_link.specs.Resolved.{IsMangled, AssemblesTo, Resolved};
+ghost use Rattle.wesl.specs.Linking.{LinksTo, named_by};
 ghost use Rattle.wesl.specs.PackageTexts.{ArePackagesOf};
 ghost use Rattle.wesl.specs.Holds.{Holds};
 ghost use Rattle.wesl.specs.Refused.{IsLinkFault};
@@ -34,8 +37,7 @@ type Sources<'b, 'v> = StandardResolver<BundleResolver<'b, 'v>, ProfileText>;
 /// The value of the unit that is linked of a bundle's modules.
 pub(crate) fn linked(alloc: Global, bundle: Bundle) -> Result<Value, Error>
     requires fixed { is_relative (path_view bundle.root) ≡ false }
-    ensures linked { OnOk result (LinksBundle (bundle_view bundle.entry)) }
-    ensures written { IfOk result (λ v. (u : UnitView) × (view v ≡ unit_value u)) }
+    ensures linked { IfOk result (λ v. (u : UnitView) × LinksTo (bundle_view bundle.entry) u × (view v ≡ unit_value u)) }
     ensures whole { IfOk result (λ v. has_float (view v) ≡ false) }
     ensures refused { IfErr result (IsLinkFault (bundle_view bundle.entry)) }
 {
@@ -48,7 +50,7 @@ pub(crate) fn linked(alloc: Global, bundle: Bundle) -> Result<Value, Error>
 /// their items are as its mangler gives them, and those of the root's stay where it says nothing else.
 fn linked_unit(alloc: Global, bundle: Bundle) -> Result<TranslationUnit, Error>
     requires fixed { is_relative (path_view bundle.root) ≡ false }
-    ensures linked { OnOk result (LinksBundle (bundle_view bundle.entry)) }
+    ensures linked { IfOk result (λ unit. LinksTo (bundle_view bundle.entry) (unit_view unit)) }
     ensures refused { IfErr result (IsLinkFault (bundle_view bundle.entry)) }
 {
     let Bundle {
@@ -104,6 +106,8 @@ fn named_unit(
     resolutions: Resolutions,
     options: Options,
 ) -> Result<TranslationUnit, Error>
+    requires sound { IsSound resolutions }
+    ensures named { IfOk result (λ unit. (r : Resolved) × IsMangled (named_by options.mangler) options.mangle_root (resolved resolutions) r × AssemblesTo r (unit_view unit)) }
     ensures refused { IfErr result (λ e. e ≡ error.Memory) }
 {
     let mut resolutions = resolutions;
@@ -113,6 +117,9 @@ fn named_unit(
 
 // The names of the modules' items become those of the mangler, the root's where the options say so.
 fn mangle(alloc: Global, resolutions: &mut Resolutions, options: Options) -> Result<(), Error>
+    requires sound { IsSound resolutions.old }
+    ensures mangled { OnOk result (IsMangled (named_by options.mangler) options.mangle_root (resolved resolutions.old) (resolved resolutions.new)) }
+    ensures sound { IsSound resolutions.new }
     ensures refused { IfErr result (λ e. e ≡ error.Memory) }
 {
     let root = options.mangle_root;

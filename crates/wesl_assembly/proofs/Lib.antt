@@ -2,7 +2,14 @@ mod Pathless
 mod Renumbered
 mod Numbering
 mod Given
-mod Replaced
+pub mod Replaced
 mod Shortened
 mod Whole
 mod Denoted
+mod Units
+mod Retold
+pub mod SideBySide
+mod Thinned
+mod Words
+mod OneMore
+mod Copied

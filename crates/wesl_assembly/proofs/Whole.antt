@@ -5,7 +5,7 @@ use Rattle.std.specs.Option.{IsSome}
 use Rattle.std.specs.List.{All}
 use Rattle.std.proofs.lemmas.Grind.{get_or_default_zero}
 use Rattle.wesl_names.specs.Path.{Text}
-use Rattle.wesl_syntax.specs.Tree.{Tree, LabelOf, Forest, ForestOf, end, tree, branch, identifiers, respell, respell_forest, forest_below, tree_below, imports as imports_kind}
+use Rattle.wesl_syntax.specs.Tree.{Tree, Forest, end, tree, branch, identifiers, respell, respell_forest, forest_below, tree_below, imports as imports_kind}
 use Rattle.wesl_syntax.specs.Unit.{UnitOf, UnitView, forest_of_unit, trees_of, name_in, spelled, unit_below}
 use Rattle.wesl_assembly.specs.Numbers.{AreNumbers, number_at}
 use Rattle.wesl_renumber.specs.Renumbered.{renumbered, renumbered_tree, after, after_tree}
@@ -13,23 +13,9 @@ use Rattle.wesl_assembly.specs.Pathless.{without_paths}
 use Rattle.wesl_assembly.specs.Linked.{printed_unit, IsLinkedAs}
 use Rattle.wesl_assembly.proofs.Pathless.{same_identifiers, respelled_without}
 use Rattle.wesl_assembly.proofs.Replaced.{replaced_twice, identifiers_replaced}
+use Rattle.wesl_assembly.proofs.Units.{one_unit}
 use Rattle.wesl_assembly.proofs.Renumbered.{same_shape, taken, EachBelow, now_below, none_below}
 use Rattle.wesl_assembly.proofs.Numbering.{Numbered, at_number}
-
--- units with one forest are one
-unit_with : {X : Type 0} (a : LabelOf X) (b : ForestOf X) (c : LabelOf X) (d : ForestOf X) (e : LabelOf X) (f : ForestOf X) → UnitOf X
-unit_with a b c d e f = record { imports = record { label = a; children = b }; directives = record { label = c; children = d }; declarations = record { label = e; children = f } }
-
-one_of : {X : Type 0} (a a' : LabelOf X) (b b' : ForestOf X) (c c' : LabelOf X) (d d' : ForestOf X) (e e' : LabelOf X) (f f' : ForestOf X) → a ≡ a' → b ≡ b' → c ≡ c' → d ≡ d' → e ≡ e' → f ≡ f' → unit_with a b c d e f ≡ unit_with a' b' c' d' e' f'
-one_of a a' b b' c c' d d' e e' f f' p q r s t u = cc
-
-one_unit : {X : Type 0} (u w : UnitOf X) → forest_of_unit u ≡ forest_of_unit w → u ≡ w
-unfolding unit_with
-one_unit u w e =
-    one_of u.imports.label w.imports.label u.imports.children w.imports.children u.directives.label w.directives.label u.directives.children w.directives.children u.declarations.label w.declarations.label u.declarations.children w.declarations.children
-    (let x : u.imports.label ≡ w.imports.label = cc in x) (let x : u.imports.children ≡ w.imports.children = cc in x)
-    (let x : u.directives.label ≡ w.directives.label = cc in x) (let x : u.directives.children ≡ w.directives.children = cc in x)
-    (let x : u.declarations.label ≡ w.declarations.label = cc in x) (let x : u.declarations.children ≡ w.declarations.children = cc in x)
 
 abbrev forget : {I : Type 0} → I → Unit {0}
 forget i = tt

@@ -3,3 +3,6 @@ pub mod Denotations
 pub mod Numbers
 pub mod Linked
 pub mod Views
+pub mod Directives
+pub mod Thinning
+pub mod Laws

@@ -1,19 +1,30 @@
 -- Units whose identifiers stand for something, and how they are named and numbered.
-use Rattle.std.specs.Prelude.{◌≡◌, ℕ, List, [], Vec}
-use Rattle.std.specs.declared.alloc.Global.{Global}
+use Rattle.std.specs.Prelude.{◌≡◌, ℕ, List, [], map}
+use denote.Ref.{Bor}
 use Rattle.wesl_names.specs.Path.{Text}
-use Rattle.wesl_syntax.specs.Tree.{ForestOf, branch, identifiers, respell, respell_forest, imports as imports_kind}
+use Rattle.wesl_syntax.specs.Tree.{Tree, ForestOf, branch, identifiers, respell, respell_forest, directive_node, declaration_node, directive_list, imports as imports_kind, declarations as declarations_kind}
 use Rattle.wesl_syntax.specs.Unit.{UnitOf, UnitView, forest_of_unit, spelled, numbers}
-use Rattle.wesl_syntax.specs.View.{directives_tree, declarations_tree}
+use Rattle.wesl_syntax.specs.View.{placed, directive_view, global_view}
 use Rattle.wesl_syntax.specs.declared.span.Spanned.{Spanned}
 use Rattle.wesl_syntax.specs.declared.declaration.GlobalDirective.{GlobalDirective}
 use Rattle.wesl_syntax.specs.declared.declaration.GlobalDeclaration.{GlobalDeclaration}
 use Rattle.wesl_assembly.specs.Numbers.{AreNumbers}
 use Rattle.wesl_assembly.specs.Pathless.{without_paths}
 
+-- a directive and a declaration that a reference leads to
+abbrev pub directive_ref_tree : Bor (Spanned GlobalDirective) → Tree
+directive_ref_tree d = placed directive_view directive_node d.now
+
+abbrev pub declaration_ref_tree : Bor (Spanned GlobalDeclaration) → Tree
+declaration_ref_tree g = placed global_view declaration_node g.now
+
 -- directives and declarations, and no imports
-abbrev pub nodes_of : Vec (Spanned GlobalDirective) Global → Vec (Spanned GlobalDeclaration) Global → UnitOf ℕ
-nodes_of directives declarations = record { imports = branch imports_kind []; directives = directives_tree directives; declarations = declarations_tree declarations }
+abbrev pub nodes_of : List (Bor (Spanned GlobalDirective)) → List (Bor (Spanned GlobalDeclaration)) → UnitOf ℕ
+nodes_of ds gs = record {
+  imports = branch imports_kind [];
+  directives = branch directive_list (map directive_ref_tree ds);
+  declarations = branch declarations_kind (map declaration_ref_tree gs);
+}
 
 -- all but which identifiers trees have, and spans
 abbrev pub shape : {I : Type 0} → ForestOf I → ForestOf (Unit {0})

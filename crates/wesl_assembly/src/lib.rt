@@ -2,9 +2,15 @@
 #![tactic(auto)]
 
 mod denotation;
+mod directives;
+mod laws;
 mod numbers;
 mod paths;
+mod thinning;
 mod unit;
 
 pub use denotation::{Denotation, Printing};
+pub use directives::Directives;
+pub use laws::law_of_meanings;
+pub use thinning::thinned_directives;
 pub use unit::linked_unit;

@@ -1,13 +1,14 @@
 //! The unit of nodes whose identifiers stand for something.
-ghost use Rattle.std.specs.Prelude.{◌≡◌, ◌<◌, length, map, IfOk, IfErr};
+ghost use Rattle.std.specs.Prelude.{◌≡◌, ◌<◌, length, map, IfOk, IfErr, OnOk};
 ghost use Rattle.std.specs.List.{All};
 ghost use Rattle.wesl_names.specs.declared.errors.Error as error;
-ghost use Rattle.wesl_syntax.specs.Tree.{identifiers};
+ghost use Rattle.wesl_syntax.specs.Tree.{branch, directive_list, declarations as declarations_kind, identifiers};
 ghost use Rattle.wesl_syntax.specs.Unit.{forest_of_unit, trees_of};
+ghost use Rattle.wesl_syntax.specs.View.{directives_tree, declarations_tree};
 ghost use Rattle.wesl_tree.specs.Translation.{unit_view};
-ghost use Rattle.wesl_renumber.specs.Renumbered as renumbering;
+ghost use Rattle.wesl_renumber.specs.Renumbered as numbered;
 ghost use Rattle.wesl_assembly.specs.Denotations.{printed_as};
-ghost use Rattle.wesl_assembly.specs.Linked.{nodes_of, IsLinkedAs};
+ghost use Rattle.wesl_assembly.specs.Linked.{directive_ref_tree, declaration_ref_tree, nodes_of, IsLinkedAs};
 ghost use Rattle.wesl_assembly.specs.Views.{denotation_view};
 
 use crate::denotation::{Denotation, Printing};
@@ -18,23 +19,55 @@ use wesl_renumber::Renumbering;
 use wesl_syntax::{GlobalDeclarationNode, GlobalDirectiveNode};
 use wesl_tree::{Error, Names, TranslationUnit};
 
+/// Copies of directives, whose identifiers take the next numbers.
+fn copied_directives(
+    renumbering: &mut Renumbering<'_>,
+    directives: &[&GlobalDirectiveNode],
+) -> Result<Vec<GlobalDirectiveNode>, Error>
+    ensures tree { IfOk result (λ copies. directives_tree copies ≡ numbered.renumbered_tree (branch directive_list (map directive_ref_tree directives.now)) renumbering.old.rest.now) }
+    ensures rest { OnOk result (renumbering.new.rest.now ≡ numbered.after_tree (branch directive_list (map directive_ref_tree directives.now)) renumbering.old.rest.now) }
+    ensures refused { IfErr result (λ e. e ≡ error.Memory) }
+{
+    let mut copies = Vec::with_capacity(renumbering.alloc, directives.len())?;
+    for directive in directives {
+        copies.push(renumbering.directive_node(directive)?)?;
+    }
+    Ok(copies)
+}
+
+/// Copies of declarations, whose identifiers take the next numbers.
+fn copied_declarations(
+    renumbering: &mut Renumbering<'_>,
+    declarations: &[&GlobalDeclarationNode],
+) -> Result<Vec<GlobalDeclarationNode>, Error>
+    ensures tree { IfOk result (λ copies. declarations_tree copies ≡ numbered.renumbered_tree (branch declarations_kind (map declaration_ref_tree declarations.now)) renumbering.old.rest.now) }
+    ensures rest { OnOk result (renumbering.new.rest.now ≡ numbered.after_tree (branch declarations_kind (map declaration_ref_tree declarations.now)) renumbering.old.rest.now) }
+    ensures refused { IfErr result (λ e. e ≡ error.Memory) }
+{
+    let mut copies = Vec::with_capacity(renumbering.alloc, declarations.len())?;
+    for declaration in declarations {
+        copies.push(renumbering.global_node(declaration)?)?;
+    }
+    Ok(copies)
+}
+
 /// The unit of copies of these nodes, without imports, whose identifiers have these numbers.
 fn renumbered(
     alloc: Global,
     names: Names,
-    directives: &Vec<GlobalDirectiveNode>,
-    declarations: &Vec<GlobalDeclarationNode>,
+    directives: &[&GlobalDirectiveNode],
+    declarations: &[&GlobalDeclarationNode],
     given: &[usize],
 ) -> Result<TranslationUnit, Error>
     requires one_each { length given.now ≡ length (identifiers (forest_of_unit (nodes_of directives.now declarations.now))) }
     requires below { All (λ n. n < length names) given.now }
     ensures names { IfOk result (λ unit. (unit_view unit).names ≡ names) }
-    ensures trees { IfOk result (λ unit. forest_of_unit (trees_of (unit_view unit)) ≡ renumbering.renumbered (forest_of_unit (nodes_of directives.now declarations.now)) given.now) }
+    ensures trees { IfOk result (λ unit. forest_of_unit (trees_of (unit_view unit)) ≡ numbered.renumbered (forest_of_unit (nodes_of directives.now declarations.now)) given.now) }
     ensures refused { IfErr result (λ e. e ≡ error.Memory) }
 {
     let mut renumbering = Renumbering { alloc, rest: given };
-    let directives = renumbering.directives(directives)?;
-    let declarations = renumbering.globals(declarations)?;
+    let directives = copied_directives(&mut renumbering, directives)?;
+    let declarations = copied_declarations(&mut renumbering, declarations)?;
     let imports = Vec::new(alloc);
     Ok(TranslationUnit::from_parts(names, imports, directives, declarations).unwrap())
 }
@@ -47,8 +80,8 @@ fn renumbered(
 /// occurrence. Refused for want of memory alone.
 pub fn linked_unit<'a, P: Printing>(
     alloc: Global,
-    directives: &Vec<GlobalDirectiveNode>,
-    declarations: &Vec<GlobalDeclarationNode>,
+    directives: &[&GlobalDirectiveNode],
+    declarations: &[&GlobalDeclarationNode],
     denotations: &[Denotation<'a>],
     printing: &'a P,
 ) -> Result<TranslationUnit, Error>

@@ -3,11 +3,11 @@ ghost use Rattle.std.specs.Prelude.{◌≡◌, ◌↔◌, Result, false, IfOk, I
 ghost use Rattle.wesl_names.specs.declared.errors.Error as error;
 ghost use Rattle.wesl_tree.specs.declared.unit.TranslationUnit.{TranslationUnit};
 ghost use Rattle.wesl_names.specs.Borrowed.{texts};
-ghost use Rattle.wesl_names.specs.Path.{path_view, is_relative};
+ghost use Rattle.wesl_names.specs.Path.{Text, Path, path_view, is_relative};
 ghost use Rattle.wesl_names.specs.declared.errors.Diagnostic.{out-Diagnostic};
 ghost use Rattle.wesl_conditional.specs.Conditions.{IsConditioned};
 ghost use Rattle.wesl_conditional.specs.Linking.{Links, RefusesLink, hands_left, refuses_left};
-ghost use Rattle.wesl_link.specs.Resolved.{modules_of, turns_of};
+ghost use Rattle.wesl_link.specs.Keeping.{IsSound, resolved, modules_of, turns_of};
 
 use crate::units::condition;
 use std::alloc::Global;
@@ -33,6 +33,9 @@ pub fn link_under<R: Resolver + Drop>(
     requires ready { R.ready resolver }
     requires asked { is_relative (path_view path.now) ≡ false }
     ensures linked { IfOk result (λ r. Links (hands_left (λ p u. R.hands resolver p u) (λ p e. R.refuses resolver p e) features.now) (refuses_left (λ p u. R.hands resolver p u) (λ p e. R.refuses resolver p e) features.now) (path_view path.now) (texts keep.now) max_modules (turns_of r) (modules_of r)) }
+    ensures kept { IfOk result (λ r. (resolved r).kept ≡ texts keep.now) }
+    ensures names { IfOk result (λ r. (p : Path) (n : Text) → (resolved r).names p n ≡ n) }
+    ensures sound { IfOk result IsSound }
     ensures refused { IfErr result (λ d. RefusesLink (hands_left (λ p u. R.hands resolver p u) (λ p e. R.refuses resolver p e) features.now) (refuses_left (λ p u. R.hands resolver p u) (λ p e. R.refuses resolver p e) features.now) (path_view path.now) (texts keep.now) max_modules (out-Diagnostic d).error) }
 {
     let judge = |unit: TranslationUnit|
@@ -56,6 +59,9 @@ fn link_judged<R: Resolver + Drop, F: Fn(TranslationUnit) -> Result<TranslationU
     requires callable { F.IsAlwaysCallable judge }
     requires judges { (given : TranslationUnit) (answer : Result TranslationUnit error.Error) → F.post judge given answer ↔ IsConditioned features.now given answer }
     ensures linked { IfOk result (λ r. Links (hands_left (λ p u. R.hands resolver p u) (λ p e. R.refuses resolver p e) features.now) (refuses_left (λ p u. R.hands resolver p u) (λ p e. R.refuses resolver p e) features.now) (path_view path.now) (texts keep.now) max_modules (turns_of r) (modules_of r)) }
+    ensures kept { IfOk result (λ r. (resolved r).kept ≡ texts keep.now) }
+    ensures names { IfOk result (λ r. (p : Path) (n : Text) → (resolved r).names p n ≡ n) }
+    ensures sound { IfOk result IsSound }
     ensures refused { IfErr result (λ d. RefusesLink (hands_left (λ p u. R.hands resolver p u) (λ p e. R.refuses resolver p e) features.now) (refuses_left (λ p u. R.hands resolver p u) (λ p e. R.refuses resolver p e) features.now) (path_view path.now) (texts keep.now) max_modules (out-Diagnostic d).error) }
 {
     let judged = Preprocessor::new(resolver, judge);
@@ -73,6 +79,9 @@ fn link_from<R: Resolver + Drop>(
     requires ready { R.ready resolver }
     requires asked { is_relative (path_view path.now) ≡ false }
     ensures linked { IfOk result (λ r. Links (λ p u. R.hands resolver p u) (λ p e. R.refuses resolver p e) (path_view path.now) (texts keep.now) max_modules (turns_of r) (modules_of r)) }
+    ensures kept { IfOk result (λ r. (resolved r).kept ≡ texts keep.now) }
+    ensures names { IfOk result (λ r. (p : Path) (n : Text) → (resolved r).names p n ≡ n) }
+    ensures sound { IfOk result IsSound }
     ensures refused { IfErr result (λ d. RefusesLink (λ p u. R.hands resolver p u) (λ p e. R.refuses resolver p e) (path_view path.now) (texts keep.now) max_modules (out-Diagnostic d).error) }
 {
     let mut resolver = resolver;

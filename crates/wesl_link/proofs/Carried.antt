@@ -128,7 +128,7 @@ module _ {P N Q M : Type 0} (R : P → Q → Type 0) (S : N → M → Type 0) wh
 -- ---- one table
 
 module _ {P N Q M : Type 0} (R : P → Q → Type 0) (S : N → M → Type 0) (rs : IsOneToOne R) (ss : IsOneToOne S) where
-  declares_to : (t : Table P N) (u : Table Q M) (n : N) (m : M) → SameTable R S t u → S n m → Declares t n → Declares u m
+  pub declares_to : (t : Table P N) (u : Table Q M) (n : N) (m : M) → SameTable R S t u → S n m → Declares t n → Declares u m
   declares_to t u n m same h (d, c, e) =
       let (f, g, k) = related_in (SameDeclaration R S) t.declarations u.declarations d same.declarations c in
       let (x, is, also) = option_of S d.name f.name n k.name e in
@@ -140,7 +140,7 @@ module _ {P N Q M : Type 0} (R : P → Q → Type 0) (S : N → M → Type 0) (r
       (j, (d, ss.one n j.bound m (subst (λ (x : N). S x j.bound) e k.bound) h), k)
 
 module _ {P N Q M : Type 0} (R : P → Q → Type 0) (S : N → M → Type 0) (rs : IsOneToOne R) (ss : IsOneToOne S) where
-  declares_from : (t : Table P N) (u : Table Q M) (n : N) (m : M) → SameTable R S t u → S n m → Declares u m → Declares t n
+  pub declares_from : (t : Table P N) (u : Table Q M) (n : N) (m : M) → SameTable R S t u → S n m → Declares u m → Declares t n
   declares_from t u n m same h d = declares_to (Back R) (Back S) (one_back R rs) (one_back S ss) u t m n (table_back R S t u same) h d
 
   imports_from : (t : Table P N) (u : Table Q M) (n : N) (m : M) (j : Import Q M) → SameTable R S t u → S n m → Imports u m j → (i : Import P N) × Imports t n i × SameImport R S i j
@@ -171,6 +171,9 @@ module _ {P N Q M : Type 0} (R : P → Q → Type 0) (S : N → M → Type 0) (r
       )
   asks_under t u None (Some r) n m l same h s a = absurd h
   asks_under t u (Some q) None n m l same h s a = absurd h
+
+  pub asks_to : (t : Table P N) (u : Table Q M) (r : Reference P N) (s : Reference Q M) (l : LookUp P N) → SameTable R S t u → SameReference R S r s → Asks t r l → (k : LookUp Q M) × Asks u s k × SameLookUp R S l k
+  asks_to t u r s l same h a = asks_under t u r.path s.path r.name s.name l same h.path h.name a
 
   pub asks_from : (t : Table P N) (u : Table Q M) (n : Option N) (m : Option M) (l : LookUp P N) → SameTable R S t u → IsRelatedOption S n m → AsksFrom t n l
       → (k : LookUp Q M) × AsksFrom u m k × SameLookUp R S l k

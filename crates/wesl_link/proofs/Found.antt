@@ -1,5 +1,5 @@
 -- The modules that were taken are the world that the link found, in path order.
-use Rattle.std.proofs.Common.{◌≡◌, ◌⊎◌, inl, inr, ℕ, zero, suc, ◌<◌, ◌+◌, Bool, true, false, true≢false, Option, Some, None, Result, Ok, Err, IfOk, List, [], ◌∷◌, length, map, drop, get_or, Contains, All, refl, sym, subst, ap, ◌∙◌, arith}
+use Rattle.std.proofs.Common.{◌≡◌, ◌⊎◌, inl, inr, ℕ, zero, suc, ◌<◌, ◌+◌, Bool, true, false, true≢false, Option, Some, None, List, [], ◌∷◌, length, map, drop, get_or, Contains, All, refl, sym, subst, ap, ◌∙◌, arith}
 use Rattle.std.specs.List.{AllAdjacentBelow}
 use Rattle.std.specs.List.Sorted.{IsPermutation}
 use Rattle.std.proofs.lemmas.List.Sorted.{IsPermutation-cons, IsPermutation-map}
@@ -25,8 +25,8 @@ use Rattle.wesl_table.proofs.Lists.{related_more}
 use Rattle.wesl_table.proofs.Related.{name_later, table_later}
 use Rattle.wesl_link.specs.Handing.{HaveOne, IsHandedTable, IsRefusedPath}
 use Rattle.wesl_link.specs.Taking.{path_eq, unit_at, AreKept, IsTaken, AreInOrder}
-use Rattle.wesl_link.specs.Resolved.{module_at, loaded_modules, modules_of, turns_of}
-use Rattle.wesl_link.specs.declared.resolutions.Resolutions.{Resolutions}
+use Rattle.wesl_link.specs.Resolved.{module_at}
+use Rattle.wesl_link.specs.Keeping.{loaded_modules}
 use Rattle.wesl_link.specs.Worlds.{Module, table, task_of, IsLinked, IsModuleOrder}
 use Rattle.wesl_link.specs.declared.loaded.Loaded.{Loaded}
 use Rattle.wesl_link.proofs.Kept.{path_same, path_own}
@@ -65,19 +65,19 @@ unit_has units one p u held = by (unit_at units p) refl
 module _ (first nb : Numbering) (g : Grows first nb) (hands : Path → UnitOf Text → Type 0) (refuses : Path → resolve_error.ResolveError → Type 0) (units : List (PathId × TranslationUnit)) (one : HaveOne units)
     (rt : Table PathId NameId) (rm : Module) (root : IsNumbered first rt (table rm)) (different_paths : AreDifferent nb.paths) (different_names : AreDifferent nb.names) (asked : All (λ p. is_relative p ≡ false) nb.paths)
     (kept : List NameId) (keep : List Text) (kept_same : AreRelated (NameAt first) kept keep) (limit : ℕ) where
-  root_now : IsNumbered nb rt (table rm)
+  pub root_now : IsNumbered nb rt (table rm)
   root_now = table_later first nb g rt (table rm) root
 
-  kept_now : AreRelated (NameAt nb) kept keep
+  pub kept_now : AreRelated (NameAt nb) kept keep
   kept_now = related_more (NameAt first) (NameAt nb) (name_later first nb g) kept keep kept_same
 
   abbrev For : Table PathId NameId → Module → Type 0
   For = ModuleFor nb hands units one rt rm root_now different_paths different_names asked
 
   module _ (k : linking.Linking PathId NameId) (linked : linking.IsLinked (IsHandedTable hands nb units) (IsRefusedPath refuses nb) rt (linking.task_of rt kept false) limit k) where
-    other_for : (t : Table PathId NameId) (m : Loaded) → (t.path ≡ rt.path → ⊥) → (t ≡ rt) ⊎ IsHandedTable hands nb units t.path t → IsTaken nb units t m → For t (module_at m.path m.unit)
-    other_for t m differ (inl e) h = absurd (differ (ap (λ (x : Table PathId NameId). x.path) e))
-    other_for t m differ (inr (q, unit, at, there, given, numbered)) (named, has) =
+    pub other_for : (us : List (Table PathId NameId)) (t : Table PathId NameId) (m : Loaded) → (t.path ≡ rt.path → ⊥) → (t ≡ rt) ⊎ IsHandedTable hands nb units t.path t → IsTaken nb units us t m → For t (module_at m.path m.unit)
+    other_for us t m differ (inl e) h = absurd (differ (ap (λ (x : Table PathId NameId). x.path) e))
+    other_for us t m differ (inr (q, unit, at, there, given, numbered)) (named, has, placed) =
         let held : Contains units (t.path, m.unit) = found_at path_eq path_same units t.path m.unit has in
         let same_unit : unit ≡ m.unit = one t.path unit m.unit there held in
         let same_path : q ≡ path_view m.path = (paths_one nb different_paths).one t.path q (path_view m.path) at named in
@@ -87,23 +87,23 @@ module _ (first nb : Numbering) (g : Grows first nb) (hands : Path → UnitOf Te
           whence = inr (differ, subst (λ (x : Path). hands x (spelled (unit_view m.unit))) same_path (subst (λ (x : TranslationUnit). hands q (spelled (unit_view x))) same_unit given), (m.unit, held, refl));
         }
 
-    others_for : (ts : List (Table PathId NameId)) (ms : List Loaded) → ((t : Table PathId NameId) → Contains ts t → Contains k.tables t × (t.path ≡ rt.path → ⊥)) → AreRelated (IsTaken nb units) ts ms → AreRelated For ts (loaded_modules ms)
-    others_for [] [] h rel = tt
-    others_for (t ∷ ts) (m ∷ ms) h rel =
+    others_for : (us ts : List (Table PathId NameId)) (ms : List Loaded) → ((t : Table PathId NameId) → Contains ts t → Contains k.tables t × (t.path ≡ rt.path → ⊥)) → AreRelated (IsTaken nb units us) ts ms → AreRelated For ts (loaded_modules ms)
+    others_for us [] [] h rel = tt
+    others_for us (t ∷ ts) (m ∷ ms) h rel =
         let (held, differ) = h t (contains_first t ts) in
-        (other_for t m differ (linked.world.handed t held) rel.0, others_for ts ms (λ u c. h u (contains_later t u ts c)) rel.1)
-    others_for [] (m ∷ ms) h rel = absurd rel
-    others_for (t ∷ ts) [] h rel = absurd rel
+        (other_for us t m differ (linked.world.handed t held) rel.0, others_for us ts ms (λ u c. h u (contains_later t u ts c)) rel.1)
+    others_for us [] (m ∷ ms) h rel = absurd rel
+    others_for us (t ∷ ts) [] h rel = absurd rel
 
-    fresh_root : (ts : List (Table PathId NameId)) → AreDistinct (linking.paths (rt ∷ ts)) → (t : Table PathId NameId) → Contains ts t → t.path ≡ rt.path → ⊥
+    pub fresh_root : (ts : List (Table PathId NameId)) → AreDistinct (linking.paths (rt ∷ ts)) → (t : Table PathId NameId) → Contains ts t → t.path ≡ rt.path → ⊥
     fresh_root ts (one_distinct _ _ fresh d) t c e = fresh (subst (λ (p : PathId). Contains (linking.paths ts) p) e (map_contains (λ (x : Table PathId NameId). x.path) ts t c))
 
     -- each module but the root has its unit among those that are kept
     module _ (ts : List (Table PathId NameId)) (is : k.tables ≡ rt ∷ ts) where
-      ts_distinct : AreDistinct (linking.paths (rt ∷ ts))
+      pub ts_distinct : AreDistinct (linking.paths (rt ∷ ts))
       ts_distinct = subst (λ (xs : List (Table PathId NameId)). AreDistinct (linking.paths xs)) is linked.tables_once
 
-      ts_held : (t : Table PathId NameId) → Contains ts t → Contains k.tables t
+      pub ts_held : (t : Table PathId NameId) → Contains ts t → Contains k.tables t
       ts_held t c = subst (λ (xs : List (Table PathId NameId)). Contains xs t) (sym is) (contains_later rt t ts c)
 
       pub kept_left : AreKept nb units (drop 1 k.tables)
@@ -122,10 +122,10 @@ module _ (first nb : Numbering) (g : Grows first nb) (hands : Path → UnitOf Te
       pub some_left : 0 < length k.tables
       some_left = subst (λ (xs : List (Table PathId NameId)). 0 < length xs) (sym is) (omega arith)
 
-    module _ (ts : List (Table PathId NameId)) (is : k.tables ≡ rt ∷ ts) (ms others : List Loaded) (rel : AreRelated (IsTaken nb units) ts ms) (same : IsPermutation ms others) where
+    module _ (ts : List (Table PathId NameId)) (is : k.tables ≡ rt ∷ ts) (ms others : List Loaded) (rel : AreRelated (IsTaken nb units ts) ts ms) (same : IsPermutation ms others) where
       all_for : AreRelated For k.tables (rm ∷ loaded_modules ms)
       all_for =
-          let rest : AreRelated For ts (loaded_modules ms) = others_for ts ms (λ t c. (ts_held ts is t c, fresh_root ts (ts_distinct ts is) t c)) rel in
+          let rest : AreRelated For ts (loaded_modules ms) = others_for ts ts ms (λ t c. (ts_held ts is t c, fresh_root ts (ts_distinct ts is) t c)) rel in
           subst (λ (xs : List (Table PathId NameId)). AreRelated For xs (rm ∷ loaded_modules ms)) (sym is) (record { same = root_now; whence = inl (refl, refl) }, rest)
 
       pub found_linked : IsLinked hands refuses rm (task_of rm keep false) limit k.turns (rm ∷ loaded_modules others)
@@ -140,21 +140,3 @@ module _ (first nb : Numbering) (g : Grows first nb) (hands : Path → UnitOf Te
         where
           later : AreDistinct (map (λ (x : Module). x.path) (rm ∷ loaded_modules others)) → AreDistinct (map (λ (x : Module). x.path) (loaded_modules others))
           later (one_distinct _ _ fresh d) = d
-
-    -- what is said of the modules that were taken
-    abbrev IsOfTaken : Resolutions → Type 0
-    IsOfTaken r = (ms : List Loaded) × (others : List Loaded) × AreRelated (IsTaken nb units) (drop 1 k.tables) ms × IsPermutation ms others × AreInOrder others × (modules_of r ≡ rm ∷ loaded_modules others)
-
-    module _ (ts : List (Table PathId NameId)) (is : k.tables ≡ rt ∷ ts) where
-      taken_of : (ms : List Loaded) → AreRelated (IsTaken nb units) (drop 1 k.tables) ms → AreRelated (IsTaken nb units) ts ms
-      taken_of ms rel = subst (λ (xs : List (Table PathId NameId)). AreRelated (IsTaken nb units) (drop 1 xs) ms) is rel
-
-      pub linked_told : (r : Result Resolutions error.Error) → IfOk r IsOfTaken → IfOk r (λ x. turns_of x ≡ k.turns) → IfOk r (λ x. IsLinked hands refuses rm (task_of rm keep false) limit (turns_of x) (modules_of x))
-      linked_told (Ok x) (ms, others, rel, same, sorted, seen) turns =
-          subst (λ (w : List Module). IsLinked hands refuses rm (task_of rm keep false) limit (turns_of x) w) (sym seen)
-          (subst (λ (n : ℕ). IsLinked hands refuses rm (task_of rm keep false) limit n (rm ∷ loaded_modules others)) (sym turns) (found_linked ts is ms others (taken_of ms rel) same))
-      linked_told (Err e) h turns = tt
-
-      pub order_told : (r : Result Resolutions error.Error) → IfOk r IsOfTaken → IfOk r (λ x. IsModuleOrder rm (modules_of x))
-      order_told (Ok x) (ms, others, rel, same, sorted, seen) = subst (λ (w : List Module). IsModuleOrder rm w) (sym seen) (found_order ts is ms others (taken_of ms rel) same sorted)
-      order_told (Err e) h = tt

@@ -1,6 +1,3 @@
-pub mod Below
-pub mod NodeViews
-pub mod Within
 pub mod Carried
 pub mod Built
 pub mod Refusing
@@ -11,3 +8,13 @@ pub mod Keeping
 pub mod Taking
 pub mod Reordered
 pub mod Found
+pub mod Sound
+pub mod Texts
+pub mod Meant
+pub mod Each
+pub mod Binders
+pub mod Usable
+pub mod Parted
+pub mod Adding
+pub mod Whole
+pub mod Naming

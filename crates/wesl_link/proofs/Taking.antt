@@ -43,9 +43,9 @@ left_more before units after ts i t d at left others u held =
     others u.path (apart ts i t u d at later) ∙ left u (drop_less ts i u later)
 
 pub taken_more : (numbering : Numbering) (units : List (PathId × TranslationUnit)) (ts : List (Table PathId NameId)) (i : ℕ) (t : Table PathId NameId) (ms new : List Loaded) (m : Loaded) → i < length ts → t ≡ get_or ts i t
-    → AreRelated (IsTaken numbering units) (take i ts) ms → IsTaken numbering units t m → new ≡ ms ++ m ∷ [] → AreRelated (IsTaken numbering units) (take (i + 1) ts) new
+    → AreRelated (IsTaken numbering units ts) (take i ts) ms → IsTaken numbering units ts t m → new ≡ ms ++ m ∷ [] → AreRelated (IsTaken numbering units ts) (take (i + 1) ts) new
 taken_more numbering units ts i t ms new m below at all here e =
-    rw (e, take_next ts i t below at) (related_append (IsTaken numbering units) (IsTaken numbering units) (λ x y h. h) (take i ts) (t ∷ []) ms (m ∷ []) all (here, tt))
+    rw (e, take_next ts i t below at) (related_append (IsTaken numbering units ts) (IsTaken numbering units ts) (λ x y h. h) (take i ts) (t ∷ []) ms (m ∷ []) all (here, tt))
 
 pub at_has : {X : Type 0} (xs : List X) (i : ℕ) (x : X) → slice_get xs i ≡ Some x → Contains xs x
 at_has [] i x e = absurd (cc)

@@ -1,5 +1,5 @@
 -- The modules of a link, each taken with the unit that is kept for its path.
-use Rattle.std.specs.Prelude.{◌≡◌, Bool, Option, Some, List, Contains, length, false}
+use Rattle.std.specs.Prelude.{◌≡◌, ℕ, suc, Bool, Option, Some, List, Contains, length, false, slice_get}
 use Rattle.std.specs.List.{AllAdjacentBelow}
 use Rattle.std.specs.Map.{lookup}
 use Rattle.wesl_names.specs.Path.{Path, path_view}
@@ -24,9 +24,13 @@ abbrev pub AreKept : Numbering → List (PathId × TranslationUnit) → List (Ta
 AreKept numbering units ts =
     (t : Table PathId NameId) → Contains ts t → ((q : Path) × PathAt numbering t.path q) × ((u : TranslationUnit) × (unit_at units t.path ≡ Some u))
 
--- the module has the table's path, and the unit that is kept for it
-abbrev pub IsTaken : Numbering → List (PathId × TranslationUnit) → Table PathId NameId → Loaded → Type 0
-IsTaken numbering units t m = PathAt numbering t.path (path_view m.path) × (unit_at units t.path ≡ Some m.unit)
+-- the module's place is that of the table, where one more table stands before these
+abbrev pub IsPlaced : List (Table PathId NameId) → Table PathId NameId → Loaded → Type 0
+IsPlaced ts t m = (i : ℕ) × (m.place ≡ suc i) × (slice_get ts i ≡ Some t)
+
+-- the module has the table's path and place, and the unit that is kept for the path
+abbrev pub IsTaken : Numbering → List (PathId × TranslationUnit) → List (Table PathId NameId) → Table PathId NameId → Loaded → Type 0
+IsTaken numbering units ts t m = PathAt numbering t.path (path_view m.path) × (unit_at units t.path ≡ Some m.unit) × IsPlaced ts t m
 
 -- none stands before the one in front of it
 abbrev pub AreInOrder : List Loaded → Type 0

@@ -2,12 +2,10 @@
 #![tactic(auto)]
 
 mod assemble;
+mod link;
 mod loaded;
-mod meanings;
 mod modules;
 mod refusals;
-mod relink;
-mod relink_global;
 mod resolutions;
 mod resolve;
 

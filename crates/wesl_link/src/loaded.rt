@@ -49,7 +49,7 @@ pub fn take_modules(
 ) -> Result<Vec<Loaded>, Error>
     requires kept { AreKept (numbering numbers.now) units.old.entries tables.now }
     requires once { AreDistinct (paths tables.now) }
-    ensures taken { IfOk result (λ ms. AreRelated (IsTaken (numbering numbers.now) units.old.entries) tables.now ms.items) }
+    ensures taken { IfOk result (λ ms. AreRelated (IsTaken (numbering numbers.now) units.old.entries tables.now) tables.now ms.items) }
     ensures refused { IfErr result (λ e. e ≡ error.Memory) }
 {
     let mut modules = Vec::new(alloc);

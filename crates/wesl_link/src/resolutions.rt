@@ -1,37 +1,29 @@
 //! What a link found: its modules, what they declare that is reached, and the names that these print as.
-ghost use Rattle.std.specs.Prelude.{◌≡◌, ◌∷◌, [], IsTrue, OnOk, IfOk, IfErr, option_map};
+ghost use Rattle.std.specs.Prelude.{◌≡◌, ◌∷◌, ◌++◌, [], List, Contains, IsTrue, OnOk, OnErr, IfOk, IfErr, option_map, map};
 ghost use Rattle.wesl_names.specs.declared.errors.Error as error;
-ghost use Rattle.wesl_names.specs.Path.{path_view};
-ghost use Rattle.indexmap.specs.IndexSet.{index_set_len};
-ghost use Rattle.wesl_link.specs.Assembly.{IsWithin};
-ghost use Rattle.wesl_link.specs.Resolved.{loaded_modules, modules_of, paths_of, paths_told, first_path, turns_of};
+ghost use Rattle.wesl_names.specs.Path.{Text, Path, path_view};
+ghost use Rattle.wesl_tree.specs.Translation.{unit_view};
+ghost use Rattle.wesl_table.specs.NumbersView.{numbering};
+ghost use Rattle.wesl_naming.specs.GivenView.{given as given_names};
+ghost use Rattle.wesl_link.specs.Resolved.{paths_of, paths_told, first_path, IsNothing, IsMangled, AssemblesTo};
+ghost use Rattle.wesl_link.specs.Keeping.{all_loaded, loaded_modules, IsLinkOf, task_in, IsSound, resolved, modules_of, turns_of};
+ghost use Rattle.wesl_link.specs.Holding.{IsFoundBy, IsGivenAll, GivesTo, IsFreshAfter, AreOnlyRoot};
+ghost use Rattle.wesl_link.specs.declared.loaded.Loaded as loaded;
 
-use crate::assemble::{Assembly, Printing};
+use crate::assemble::assembled;
+use crate::link::{Link, table_of};
 use crate::loaded::Loaded;
-use indexmap::IndexMap;
 use std::alloc::Global;
 use wesl_mangle::Mangler;
 use wesl_names::{Error, ModulePath};
-use wesl_table::numbers::Numbers;
+use wesl_naming::GivenNames;
 use wesl_tree::TranslationUnit;
-use wesl_world::ids::{NameId, PathId};
-use wesl_world::link::Linked;
-use wesl_world::symbols::Symbol;
-
-/// A link that succeeded: its root, its other modules in path order, and what they reach.
-#[derive(Drop)]
-pub(crate) struct Link {
-    pub(crate) root: Loaded,
-    pub(crate) others: Vec<Loaded>,
-    pub(crate) numbers: Numbers,
-    pub(crate) linked: Linked,
-}
 
 /// What a link found, and the names that its symbols print as: their own before any mangling.
 #[derive(Drop)]
 pub struct Resolutions {
-    pub(crate) link: Option<Link>,
-    pub(crate) mangled: IndexMap<Symbol<PathId, NameId>, String>,
+    link: Option<Link>,
+    given: GivenNames,
 }
 
 /// The paths of modules: the root first.
@@ -40,7 +32,7 @@ fn paths<'a>(
     root: &'a Loaded,
     others: &'a [Loaded],
 ) -> Result<Vec<&'a ModulePath>, Error>
-    ensures told { IfOk result (λ ps. paths_told ps.items ≡ path_view root.now.path ∷ paths_of (loaded_modules others.now)) }
+    ensures told { IfOk result (λ ps. paths_told ps.items ≡ paths_of (loaded_modules (root.now ∷ others.now))) }
     ensures refused { IfErr result (λ e. e ≡ error.Memory) }
 {
     let mut paths = Vec::new(alloc);
@@ -51,104 +43,83 @@ fn paths<'a>(
     Ok(paths)
 }
 
-impl Link {
-    /// Mangles the names that a module declares, each once.
-    fn mangle_module<M: Mangler>(
-        &self,
-        alloc: Global,
-        mangler: &mut M,
-        module: &Loaded,
-        mangled: &mut IndexMap<Symbol<PathId, NameId>, String>,
-    ) -> Result<(), Error>
-        ensures { IfErr result (λ e. e ≡ error.Memory) }
-    {
-        let Some(table) = self.linked.tables().get(module.place) else {
-            return Ok(());
-        };
-        for declaration in table.declarations() {
-            if let Some(name) = declaration.name() {
-                let symbol = Symbol {
-                    path: table.path(),
-                    name,
-                };
-                self.mangle_name(alloc, mangler, &module.path, symbol, mangled)?;
-            }
-        }
-        Ok(())
-    }
+/// The names that a mangler has for what a module of a link declares, after those before them.
+fn add_names<M: Mangler>(
+    alloc: Global,
+    link: &Link,
+    mangler: &mut M,
+    module: &Loaded,
+    given: &mut GivenNames,
+) -> Result<(), Error>
+    requires sound { IsLinkOf (task_in link.now) link.now }
+    requires inside { Contains (all_loaded link.now) module.now }
+    ensures given { OnOk result ((ms : List loaded.Loaded) (name_of : Path → Text → Text) → ((p : Path) (x : Text) → M.name_of mangler.old p x ≡ name_of p x) → IsFreshAfter ms module.now → GivesTo (numbering link.now.numbers) ms name_of (given_names given.old) → GivesTo (numbering link.now.numbers) (ms ++ module.now ∷ []) name_of (given_names given.new)) }
+    ensures same { (p : Path) (x : Text) → M.name_of mangler.new p x ≡ M.name_of mangler.old p x }
+    ensures refused { IfErr result (λ e. e ≡ error.Memory) }
+{
+    let table = table_of(link, module);
+    given.add_table(alloc, mangler, &link.numbers, &module.path, table)
+}
 
-    fn mangle_name<M: Mangler>(
-        &self,
-        alloc: Global,
-        mangler: &mut M,
-        path: &ModulePath,
-        symbol: Symbol<PathId, NameId>,
-        mangled: &mut IndexMap<Symbol<PathId, NameId>, String>,
-    ) -> Result<(), Error>
-        ensures { IfErr result (λ e. e ≡ error.Memory) }
-    {
-        if mangled.get(&symbol).is_none()
-            && let Some(item) = self.numbers.names.name(symbol.name)
-        {
-            mangled.insert(symbol, mangler.mangle(alloc, path, item)?)?;
-        }
-        Ok(())
+/// The names that a mangler has for what the modules but the root declare, after those before them.
+fn add_others<M: Mangler>(
+    alloc: Global,
+    link: &Link,
+    mangler: &mut M,
+    given: &mut GivenNames,
+) -> Result<(), Error>
+    requires sound { IsLinkOf (task_in link.now) link.now }
+    ensures given { OnOk result ((ms : List loaded.Loaded) → AreOnlyRoot link.now ms → GivesTo (numbering link.now.numbers) ms (M.name_of mangler.old) (given_names given.old) → GivesTo (numbering link.now.numbers) (ms ++ link.now.others.items) (M.name_of mangler.old) (given_names given.new)) }
+    ensures refused { IfErr result (λ e. e ≡ error.Memory) }
+{
+    for module in &link.others {
+        add_names(alloc, link, mangler, module, given)?;
     }
+    Ok(())
+}
 
-    /// The directives of all modules.
-    fn add_directives<'a>(&'a self, alloc: Global, assembly: &mut Assembly<'a>) -> Result<(), Error>
-        requires { IsWithin (index_set_len assembly.old.meanings.meanings) assembly.old.directives assembly.old.declarations }
-        ensures { OnOk result (IsWithin (index_set_len assembly.new.meanings.meanings) assembly.new.directives assembly.new.declarations) }
-    {
-        assembly.add_directives(alloc, &self.root.unit)?;
-        for module in &self.others {
-            assembly.add_directives(alloc, &module.unit)?;
-        }
-        Ok(())
+/// The names that a mangler has for what the modules of a link declare, the root's only with `mangle_root`.
+fn names_of<M: Mangler>(
+    alloc: Global,
+    link: &Link,
+    mangler: &mut M,
+    mangle_root: bool,
+) -> Result<GivenNames, Error>
+    requires sound { IsLinkOf (task_in link.now) link.now }
+    ensures given { IfOk result (λ names. IsGivenAll link.now mangle_root (M.name_of mangler.old) (given_names names)) }
+    ensures refused { IfErr result (λ e. e ≡ error.Memory) }
+{
+    let mut given = GivenNames::new(alloc);
+    if !mangle_root {
+        add_others(alloc, link, mangler, &mut given)?;
+        return Ok(given);
     }
-
-    /// The held declarations of a module.
-    fn add_module<'a>(
-        &'a self,
-        alloc: Global,
-        assembly: &mut Assembly<'a>,
-        module: &'a Loaded,
-    ) -> Result<(), Error>
-        requires { IsWithin (index_set_len assembly.old.meanings.meanings) assembly.old.directives assembly.old.declarations }
-        ensures { OnOk result (IsWithin (index_set_len assembly.new.meanings.meanings) assembly.new.directives assembly.new.declarations) }
-    {
-        match self.linked.tables().get(module.place) {
-            Some(table) => assembly.add_declarations(alloc, &self.linked, table, &module.unit),
-            None => Ok(()),
-        }
-    }
-
-    /// The held declarations of all modules.
-    fn add_declarations<'a>(
-        &'a self,
-        alloc: Global,
-        assembly: &mut Assembly<'a>,
-    ) -> Result<(), Error>
-        requires { IsWithin (index_set_len assembly.old.meanings.meanings) assembly.old.directives assembly.old.declarations }
-        ensures { OnOk result (IsWithin (index_set_len assembly.new.meanings.meanings) assembly.new.directives assembly.new.declarations) }
-    {
-        self.add_module(alloc, assembly, &self.root)?;
-        for module in &self.others {
-            self.add_module(alloc, assembly, module)?;
-        }
-        Ok(())
-    }
+    add_names(alloc, link, mangler, &link.root, &mut given)?;
+    add_others(alloc, link, mangler, &mut given)?;
+    Ok(given)
 }
 
 impl Resolutions {
     /// Nothing linked: no module. It takes no memory.
     pub fn new_uninit(alloc: Global) -> Resolutions
-        ensures modules { modules_of result ≡ [] }
-        ensures turns { turns_of result ≡ 0 }
+        ensures nothing { IsNothing (resolved result) }
+        ensures sound { IsSound result }
     {
         Resolutions {
             link: None,
-            mangled: IndexMap::new(alloc),
+            given: GivenNames::new(alloc),
+        }
+    }
+
+    /// What a link found, each symbol under its own name.
+    pub(crate) fn of_link(alloc: Global, link: Link) -> Resolutions
+        requires sound { IsLinkOf (task_in link) link }
+        ensures found { IsFoundBy link (resolved result) }
+        ensures sound { IsSound result }
+    {
+        Resolutions {
+            link: Some(link),
+            given: GivenNames::new(alloc),
         }
     }
 
@@ -191,20 +162,15 @@ impl Resolutions {
         mangler: &mut M,
         mangle_root: bool,
     ) -> Result<(), Error>
-        ensures modules { modules_of self.new ≡ modules_of self.old }
-        ensures turns { turns_of self.new ≡ turns_of self.old }
+        requires sound { IsSound self.old }
+        ensures sound { IsSound self.new }
+        ensures mangled { OnOk result (IsMangled (M.name_of mangler.old) mangle_root (resolved self.old) (resolved self.new)) }
+        ensures unchanged { OnErr result (self.new ≡ self.old) }
         ensures refused { IfErr result (λ e. e ≡ error.Memory) }
     {
-        let mut mangled = IndexMap::new(alloc);
         if let Some(link) = &self.link {
-            if mangle_root {
-                link.mangle_module(alloc, mangler, &link.root, &mut mangled)?;
-            }
-            for module in &link.others {
-                link.mangle_module(alloc, mangler, module, &mut mangled)?;
-            }
+            self.given = names_of(alloc, link, mangler, mangle_root)?;
         }
-        self.mangled = mangled;
         Ok(())
     }
 
@@ -212,26 +178,14 @@ impl Resolutions {
     /// order; of equal adjacent directives one stays. Held are the const_asserts of the modules and the declarations
     /// of reached symbols. Refused for want of memory alone.
     pub fn assemble(&self, alloc: Global, strip: bool) -> Result<TranslationUnit, Error>
-        requires { IsTrue strip }
+        requires sound { IsSound self.now }
+        requires stripped { IsTrue strip }
+        ensures assembled { IfOk result (λ unit. AssemblesTo (resolved self.now) (unit_view unit)) }
         ensures refused { IfErr result (λ e. e ≡ error.Memory) }
     {
-        let Some(link) = &self.link else {
-            return Ok(TranslationUnit::new(alloc));
-        };
-        let mut assembly = Assembly::new(alloc);
-        let Ok(()) = link.add_directives(alloc, &mut assembly) else {
-            return Err(Error::Memory);
-        };
-        let Ok(()) = link.add_declarations(alloc, &mut assembly) else {
-            return Err(Error::Memory);
-        };
-        let printing = Printing {
-            numbers: &link.numbers,
-            mangled: &self.mangled,
-        };
-        match assembly.finish(alloc, printing) {
-            Ok(unit) => Ok(unit),
-            Err(_) => Err(Error::Memory),
+        match &self.link {
+            Some(link) => assembled(alloc, link, &self.given),
+            None => Ok(TranslationUnit::new(alloc)),
         }
     }
 }

@@ -4,7 +4,7 @@ ghost use Rattle.std.specs.List.Sorted.{IsPermutation};
 ghost use Rattle.wesl_names.specs.declared.errors.Error as error;
 ghost use Rattle.wesl_names.specs.declared.errors.Diagnostic.{out-Diagnostic};
 ghost use Rattle.wesl_names.specs.Borrowed.{texts};
-ghost use Rattle.wesl_names.specs.Path.{Text, path_view, is_relative};
+ghost use Rattle.wesl_names.specs.Path.{Text, Path, path_view, is_relative};
 ghost use Rattle.wesl_syntax.specs.Unit.{spelled};
 ghost use Rattle.wesl_tree.specs.Translation.{unit_view};
 ghost use Rattle.wesl_world.specs.Faults.{AreDistinct};
@@ -14,15 +14,17 @@ ghost use Rattle.wesl_table.specs.Numbering.{AreRelated, Grows, NameAt, IsNumber
 ghost use Rattle.wesl_table.specs.NumbersView.{numbering};
 ghost use Rattle.wesl_link.specs.Handing.{Follows};
 ghost use Rattle.wesl_link.specs.Refusal.{TellsOf};
-ghost use Rattle.wesl_link.specs.Resolved.{module_at, loaded_modules, modules_of, turns_of};
+ghost use Rattle.wesl_link.specs.Resolved.{module_at};
+ghost use Rattle.wesl_link.specs.Keeping.{IsSound, resolved, modules_of, turns_of};
 ghost use Rattle.wesl_link.specs.Taking.{AreKept, AreInOrder, IsTaken};
 ghost use Rattle.wesl_link.specs.Worlds as worlds;
 ghost use Rattle.wesl_link.specs.declared.loaded.Loaded as loaded;
 
+use crate::link::Link;
 use crate::loaded::{Loaded, put_in_order, take_modules};
 use crate::modules::{Modules, Source};
 use crate::refusals::told;
-use crate::resolutions::{Link, Resolutions};
+use crate::resolutions::Resolutions;
 use indexmap::IndexMap;
 use std::alloc::Global;
 use std::marker::{Brand, PhantomData};
@@ -47,37 +49,48 @@ fn numbers_of(alloc: Global, numbers: &mut Numbers, keep: &[&str]) -> Result<Vec
     Ok(kept)
 }
 
+/// The same numbers once more.
+fn copied(alloc: Global, ids: &Vec<NameId>) -> Result<Vec<NameId>, Error>
+    ensures same { IfOk result (λ v. v.items ≡ ids.now.items) }
+    ensures refused { IfErr result (λ e. e ≡ error.Memory) }
+{
+    let mut copies = Vec::with_capacity(alloc, ids.len())?;
+    for id in ids {
+        copies.push(*id)?;
+    }
+    Ok(copies)
+}
+
 /// What a link found: the root, and the modules of its other tables.
-fn resolved(
+fn link_of(
     alloc: Global,
     numbers: Numbers,
     units: IndexMap<PathId, TranslationUnit>,
     path: ModulePath,
     unit: TranslationUnit,
+    kept: Vec<NameId>,
     linked: Linked,
-) -> Result<Resolutions, Error>
+) -> Result<Link, Error>
     requires some { 0 < length linked.tables }
-    requires kept { AreKept (numbering numbers) units.entries (drop 1 linked.tables) }
+    requires left { AreKept (numbering numbers) units.entries (drop 1 linked.tables) }
     requires once { AreDistinct (paths (drop 1 linked.tables)) }
-    ensures modules { IfOk result (λ r. (ms : List loaded.Loaded) × (others : List loaded.Loaded) × AreRelated (IsTaken (numbering numbers) units.entries) (drop 1 linked.tables) ms × IsPermutation ms others × AreInOrder others × (modules_of r ≡ module_at path unit ∷ loaded_modules others)) }
-    ensures turns { IfOk result (λ r. turns_of r ≡ linked.turns) }
+    ensures found { IfOk result (λ l. (ms : List loaded.Loaded) × AreRelated (IsTaken (numbering numbers) units.entries (drop 1 linked.tables)) (drop 1 linked.tables) ms × IsPermutation ms l.others.items × AreInOrder l.others.items) }
+    ensures rest { IfOk result (λ l. l ≡ record { root = record { path = path; place = 0; unit = unit }; others = l.others; kept = kept; numbers = numbers; linked = linked }) }
     ensures refused { IfErr result (λ e. e ≡ error.Memory) }
 {
     let mut units = units;
     let mut others = take_modules(alloc, &numbers, &linked.tables()[1..], &mut units)?;
     put_in_order(&mut others);
-    Ok(Resolutions {
-        link: Some(Link {
-            root: Loaded {
-                path,
-                place: 0,
-                unit,
-            },
-            others,
-            numbers,
-            linked,
-        }),
-        mangled: IndexMap::new(alloc),
+    Ok(Link {
+        root: Loaded {
+            path,
+            place: 0,
+            unit,
+        },
+        others,
+        kept,
+        numbers,
+        linked,
     })
 }
 
@@ -96,9 +109,13 @@ fn reach<R: Resolver + Drop, S: Source>(
     requires follows { Follows (R.hands resolver) (R.refuses resolver) S.hands S.refuses }
     requires first { S.first ≡ numbering numbers }
     requires root { IsNumbered (numbering numbers) table (table_at (path_view path) (spelled (unit_view unit))) }
+    requires asked { is_relative (path_view path) ≡ false }
     requires kept { (keep : List Text) × AreRelated (NameAt (numbering numbers)) kept.items keep }
     ensures linked { (keep : List Text) → AreRelated (NameAt (numbering numbers)) kept.items keep → IfOk result (λ r. worlds.IsLinked S.hands S.refuses (module_at path unit) (worlds.task_of (module_at path unit) keep false) max_modules (turns_of r) (modules_of r)) }
     ensures order { IfOk result (λ r. worlds.IsModuleOrder (module_at path unit) (modules_of r)) }
+    ensures kept { (keep : List Text) → AreRelated (NameAt (numbering numbers)) kept.items keep → IfOk result (λ r. (resolved r).kept ≡ keep) }
+    ensures sound { IfOk result IsSound }
+    ensures names { IfOk result (λ r. (p : Path) (n : Text) → (resolved r).names p n ≡ n) }
     ensures refused { (keep : List Text) → AreRelated (NameAt (numbering numbers)) kept.items keep → IfErr result (TellsOf (worlds.IsRefused S.hands S.refuses (module_at path unit) (worlds.task_of (module_at path unit) keep false) max_modules)) }
 {
     let mut modules = Modules::<R, S> {
@@ -107,7 +124,8 @@ fn reach<R: Resolver + Drop, S: Source>(
         units: IndexMap::new(alloc),
         source: PhantomData,
     };
-    match wesl_world::link::resolve_lazy(alloc, table, kept, &mut modules, max_modules) {
+    let names = copied(alloc, &kept)?;
+    match wesl_world::link::resolve_lazy(alloc, table, names, &mut modules, max_modules) {
         Ok(linked) => {
             let Modules {
                 resolver: _,
@@ -115,7 +133,8 @@ fn reach<R: Resolver + Drop, S: Source>(
                 units,
                 source: _,
             } = modules;
-            resolved(alloc, numbers, units, path, unit, linked)
+            let link = link_of(alloc, numbers, units, path, unit, kept, linked)?;
+            Ok(Resolutions::of_link(alloc, link))
         }
         Err(fault) => {
             let error = told(alloc, &modules.numbers, fault)?;
@@ -142,6 +161,9 @@ pub fn resolve_lazy<R: Resolver>(
     requires asked { is_relative (path_view path.now) ≡ false }
     ensures linked { let root = module_at path.now unit in IfOk result (λ r. worlds.IsLinked (R.hands resolver.old) (R.refuses resolver.old) root (worlds.task_of root (texts keep.now) false) max_modules (turns_of r) (modules_of r)) }
     ensures order { IfOk result (λ r. worlds.IsModuleOrder (module_at path.now unit) (modules_of r)) }
+    ensures kept { IfOk result (λ r. (resolved r).kept ≡ texts keep.now) }
+    ensures sound { IfOk result IsSound }
+    ensures names { IfOk result (λ r. (p : Path) (n : Text) → (resolved r).names p n ≡ n) }
     ensures refused { let root = module_at path.now unit in IfErr result (λ d. TellsOf (worlds.IsRefused (R.hands resolver.old) (R.refuses resolver.old) root (worlds.task_of root (texts keep.now) false) max_modules) (out-Diagnostic d).error) }
 {
     let mut numbers = Numbers::new(alloc);

@@ -3,3 +3,5 @@
 
 #[cfg(test)]
 mod asks;
+#[cfg(test)]
+mod units;

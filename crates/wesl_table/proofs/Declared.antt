@@ -1,6 +1,6 @@
 -- What a module of the code imports and declares is what its spelled unit does.
-use Rattle.std.proofs.Common.{◌≡◌, ℕ, Bool, true, false, Option, Some, None, List, [], ◌∷◌, ◌++◌, map, refl, sym, ap, ◌∙◌, append_assoc, append-nil, ◌||◌}
-use Rattle.std.specs.Prelude.{flat_map, if◌then◌else◌}
+use Rattle.std.proofs.Common.{◌≡◌, ℕ, Bool, true, false, Option, Some, None, List, [], ◌∷◌, ◌++◌, map, refl, sym, ap, ◌∙◌, ◌||◌}
+use Rattle.std.specs.Prelude.{flat_map, option_map, if◌then◌else◌}
 use mathlib.Core.List.{map-map}
 use Rattle.std.proofs.lemmas.List.{map-append}
 use Rattle.wesl_names.specs.Path.{Text, Path}
@@ -9,23 +9,18 @@ use Rattle.wesl_syntax.specs.Unit.{name_in, UnitView, spelled}
 use Rattle.wesl_names.specs.declared.names.Ident.{Ident}
 use Rattle.wesl_names.specs.declared.path.ModulePath.{ModulePath}
 use Rattle.wesl_syntax.specs.Nodes.{is_type, is_formula}
-use Rattle.wesl_syntax.specs.View.{kind_tree, declaration_view, alias_view, assert_view, global_view, placed, attributes_tree, ident_tree, optional, type_view, expression_tree}
-use Rattle.wesl_syntax.specs.declared.declaration.DeclarationKind.{DeclarationKind}
-use Rattle.wesl_syntax.specs.declared.declaration.DeclarationKind.TheVariants as kinds
-use Rattle.wesl_syntax.specs.declared.declaration.Declaration as source
-use Rattle.wesl_syntax.specs.declared.declaration.TypeAlias.{TypeAlias}
-use Rattle.wesl_syntax.specs.declared.declaration.ConstAssert.{ConstAssert}
+use Rattle.wesl_syntax.specs.View.{global_view, placed}
 use Rattle.wesl_syntax.specs.declared.declaration.GlobalDeclaration.{GlobalDeclaration}
 use Rattle.wesl_syntax.specs.declared.span.Spanned.{Spanned}
 use Rattle.wesl_world.specs.declared.symbols.Import.{Import}
-use Rattle.wesl_world.specs.declared.symbols.Reference.{Reference}
 use Rattle.wesl_world.specs.Tables.{Declaration, Table}
 use Rattle.wesl_table.specs.Imports as imports
-use Rattle.wesl_table.specs.Mentions.{label_name, mention, type_mention, mentions, referred}
-use Rattle.wesl_table.specs.Tables.{bound_name, or_later, declared_name, is_linked, declared, declarations_of, table_at}
-use Rattle.wesl_table.specs.Spelling.{respell_import, respell_reference, spelled_imports, spelled_mention, spelled_mentions}
-use Rattle.wesl_table.specs.Walks.{mention_view, import_view}
-use Rattle.wesl_table.specs.declared.mentions.Mention.{Mention}
+use Rattle.wesl_table.specs.Uses.{use_of, path_of, uses_in, uses}
+use Rattle.wesl_table.specs.Mentions.{referring, mentions, referred}
+use Rattle.wesl_table.specs.Tables.{bound_name, or_later, declared_name, is_linked, declaration_of, declared, declarations_of, table_at}
+use Rattle.wesl_table.specs.Spelling.{respell_import, respell_use, spelled_imports, spelled_uses}
+use Rattle.wesl_table.specs.Walks.{use_view, import_view}
+use Rattle.wesl_table.specs.declared.uses.Use as code
 use Rattle.wesl_table.proofs.Nodes.{trees-forest_of, flat_map-map}
 
 -- a question about labels whose answer does not depend on identifiers
@@ -135,48 +130,99 @@ module _ {I J : Type 0} (f : I → J) where
   first_blind none p q blind end = refl
   first_blind none p q blind (tree l children others) = blind l
 
-  mention_respelled : (p : Option Path) (l : LabelOf I) → mention p (label_name (respell_label f l)) ≡ map (respell_reference f) (mention p (label_name l))
-  mention_respelled p (kind k) = refl
-  mention_respelled p (at k s e) = refl
-  mention_respelled p (ident r i) = refl
-  mention_respelled p (text x) = refl
-  mention_respelled p (texts x) = refl
-  mention_respelled p (truth x) = refl
-  mention_respelled p (unary x) = refl
-  mention_respelled p (binary x) = refl
-  mention_respelled p (assignment x) = refl
-  mention_respelled p (space x) = refl
-  mention_respelled p (access x) = refl
-  mention_respelled p (path x) = refl
-
-  type_mention_respelled : (g : ForestOf I) → type_mention (respell_forest f g) ≡ map (respell_reference f) (type_mention g)
-  type_mention_respelled end = refl
-  type_mention_respelled (tree l children end) = refl
-  type_mention_respelled (tree l children (tree m more others)) =
-      ap (λ p. mention p (label_name (respell_label f m))) (first_blind None imports.label_path imports.label_path label_path-blind children)
-      ∙ mention_respelled (imports.first_label None imports.label_path children) m
-
   if_mapped : {X Y : Type 0} (h : X → Y) (a b : Bool) (xs ys : List X) (us vs : List Y) → a ≡ b → us ≡ map h xs → vs ≡ map h ys → (if a then us else vs) ≡ map h (if b then xs else ys)
   if_mapped h true true xs ys us vs e g k = g
   if_mapped h false false xs ys us vs e g k = k
   if_mapped h true false xs ys us vs e g k = absurd (cc)
   if_mapped h false true xs ys us vs e g k = absurd (cc)
 
-  pub mentions_respelled : (g : ForestOf I) → mentions (respell_forest f g) ≡ map (respell_reference f) (mentions g)
-  mentions_respelled end = refl
-  mentions_respelled (tree l children others) =
-      let h : Reference Path I → Reference Path J = respell_reference f in
-      let here : List (Reference Path I) = if is_type l then type_mention children else [] in
-      let below : List (Reference Path I) = if is_formula l then [] else mentions children in
-      let e : (if is_type (respell_label f l) then type_mention (respell_forest f children) else []) ≡ map h here =
-      if_mapped h (is_type (respell_label f l)) (is_type l) (type_mention children) [] (type_mention (respell_forest f children)) [] (is_type-blind l) (type_mention_respelled children) refl in
-      let k : (if is_formula (respell_label f l) then [] else mentions (respell_forest f children)) ≡ map h below =
-      if_mapped h (is_formula (respell_label f l)) (is_formula l) [] (mentions children) [] (mentions (respell_forest f children)) (is_formula-blind l) refl (mentions_respelled children) in
-      ap (λ xs. xs ++ ((if is_formula (respell_label f l) then [] else mentions (respell_forest f children)) ++ mentions (respell_forest f others))) e
-      ∙ (ap (λ xs. map h here ++ (xs ++ mentions (respell_forest f others))) k
-      ∙ (ap (λ xs. map h here ++ (map h below ++ xs)) (mentions_respelled others)
-      ∙ (ap (λ xs. map h here ++ xs) (sym (map-append h below (mentions others)))
-      ∙ sym (map-append h here (below ++ mentions others)))))
+  -- ---- identifiers
+
+  below_respelled : (g : ForestOf I) → imports.below (respell_forest f g) ≡ respell_forest f (imports.below g)
+  below_respelled end = refl
+  below_respelled (tree l children others) = refl
+
+  use_respelled : (words : Bool) (by : Option Path) (r : Role) (x : I) → use_of words by r (f x) ≡ respell_use f (use_of words by r x)
+  use_respelled words by binder x = refl
+  use_respelled true by reference x = refl
+  use_respelled false by reference x = refl
+  use_respelled words by word x = refl
+
+  path_respelled : (l : LabelOf I) (g : ForestOf I) → path_of (respell_label f l) (respell_forest f g) ≡ path_of l g
+  path_respelled l g =
+      ap (λ b. if b then imports.first_label None imports.label_path (imports.below (respell_forest f g)) else None) (is_type-blind l)
+      ∙ (ap (λ h. if is_type l then imports.first_label None imports.label_path h else None) (below_respelled g)
+      ∙ ap (λ p. if is_type l then p else None) (first_blind None imports.label_path imports.label_path label_path-blind (imports.below g)))
+
+  tree_respelled : (l : LabelOf I) (words : Bool) (by : Option Path) (children others : ForestOf I)
+      → ((w : Bool) (p : Option Path) → uses_in w p (respell_forest f children) ≡ map (respell_use f) (uses_in w p children))
+      → uses_in words by (respell_forest f others) ≡ map (respell_use f) (uses_in words by others)
+      → uses_in (words || is_formula (respell_label f l)) (path_of (respell_label f l) (respell_forest f children)) (respell_forest f children) ++ uses_in words by (respell_forest f others)
+      ≡ map (respell_use f) (uses_in (words || is_formula l) (path_of l children) children ++ uses_in words by others)
+  tree_respelled l words by children others inner outer =
+      ap (λ b. uses_in (words || b) (path_of (respell_label f l) (respell_forest f children)) (respell_forest f children) ++ uses_in words by (respell_forest f others)) (is_formula-blind l)
+      ∙ (ap (λ p. uses_in (words || is_formula l) p (respell_forest f children) ++ uses_in words by (respell_forest f others)) (path_respelled l children)
+      ∙ (ap (λ us. us ++ uses_in words by (respell_forest f others)) (inner (words || is_formula l) (path_of l children))
+      ∙ (ap (λ us. map (respell_use f) (uses_in (words || is_formula l) (path_of l children) children) ++ us) outer
+      ∙ sym (map-append (respell_use f) (uses_in (words || is_formula l) (path_of l children) children) (uses_in words by others)))))
+
+  pub uses_respelled : (words : Bool) (by : Option Path) (g : ForestOf I) → uses_in words by (respell_forest f g) ≡ map (respell_use f) (uses_in words by g)
+  uses_respelled words by end = refl
+  uses_respelled words by (tree (ident r x) children others) =
+      ap (λ u. u ∷ uses_in words by (respell_forest f others)) (use_respelled words by r x) ∙ ap (λ us. respell_use f (use_of words by r x) ∷ us) (uses_respelled words by others)
+  uses_respelled words by (tree (kind k) children others) = tree_respelled (kind k) words by children others (λ w p. uses_respelled w p children) (uses_respelled words by others)
+  uses_respelled words by (tree (at k s e) children others) = tree_respelled (at k s e) words by children others (λ w p. uses_respelled w p children) (uses_respelled words by others)
+  uses_respelled words by (tree (text x) children others) = tree_respelled (text x) words by children others (λ w p. uses_respelled w p children) (uses_respelled words by others)
+  uses_respelled words by (tree (texts x) children others) = tree_respelled (texts x) words by children others (λ w p. uses_respelled w p children) (uses_respelled words by others)
+  uses_respelled words by (tree (truth x) children others) = tree_respelled (truth x) words by children others (λ w p. uses_respelled w p children) (uses_respelled words by others)
+  uses_respelled words by (tree (unary x) children others) = tree_respelled (unary x) words by children others (λ w p. uses_respelled w p children) (uses_respelled words by others)
+  uses_respelled words by (tree (binary x) children others) = tree_respelled (binary x) words by children others (λ w p. uses_respelled w p children) (uses_respelled words by others)
+  uses_respelled words by (tree (assignment x) children others) = tree_respelled (assignment x) words by children others (λ w p. uses_respelled w p children) (uses_respelled words by others)
+  uses_respelled words by (tree (space x) children others) = tree_respelled (space x) words by children others (λ w p. uses_respelled w p children) (uses_respelled words by others)
+  uses_respelled words by (tree (access x) children others) = tree_respelled (access x) words by children others (λ w p. uses_respelled w p children) (uses_respelled words by others)
+  uses_respelled words by (tree (path p) children others) = tree_respelled (path p) words by children others (λ w p. uses_respelled w p children) (uses_respelled words by others)
+
+  -- ---- the name that a declaration binds
+
+  bound_respelled : (l : LabelOf I) → bound_name (respell_label f l) ≡ option_map f (bound_name l)
+  bound_respelled (ident binder x) = refl
+  bound_respelled (ident reference x) = refl
+  bound_respelled (ident word x) = refl
+  bound_respelled (kind k) = refl
+  bound_respelled (at k s e) = refl
+  bound_respelled (text x) = refl
+  bound_respelled (texts x) = refl
+  bound_respelled (truth x) = refl
+  bound_respelled (unary x) = refl
+  bound_respelled (binary x) = refl
+  bound_respelled (assignment x) = refl
+  bound_respelled (space x) = refl
+  bound_respelled (access x) = refl
+  bound_respelled (path p) = refl
+
+  later_respelled : (a b : Option I) → or_later (option_map f a) (option_map f b) ≡ option_map f (or_later a b)
+  later_respelled (Some x) b = refl
+  later_respelled None b = refl
+
+  name_respelled : (g : ForestOf I) → declared_name (respell_forest f g) ≡ option_map f (declared_name g)
+  name_respelled end = refl
+  name_respelled (tree l children others) =
+      ap (λ o. or_later o (declared_name (respell_forest f others))) (bound_respelled l)
+      ∙ (ap (λ o. or_later (option_map f (bound_name l)) o) (name_respelled others) ∙ later_respelled (bound_name l) (declared_name others))
+
+  is_linked-blind : IsBlind f is_linked is_linked
+  is_linked-blind (kind k) = refl
+  is_linked-blind (at k s e) = refl
+  is_linked-blind (ident r i) = refl
+  is_linked-blind (text x) = refl
+  is_linked-blind (texts x) = refl
+  is_linked-blind (truth x) = refl
+  is_linked-blind (unary x) = refl
+  is_linked-blind (binary x) = refl
+  is_linked-blind (assignment x) = refl
+  is_linked-blind (space x) = refl
+  is_linked-blind (access x) = refl
+  is_linked-blind (path p) = refl
 
   trees_respelled : (g : ForestOf I) → trees (respell_forest f g) ≡ map (respell f) (trees g)
   trees_respelled end = refl
@@ -247,10 +293,6 @@ module _ {I J : Type 0} (f : I → J) where
       ap (λ b. b || imports.is_published (respell_forest f others)) (first_blind false imports.is_publish imports.is_publish is_publish-blind children)
       ∙ ap (λ b. imports.first_label false imports.is_publish children || b) (published_respelled others)
 
-  below_respelled : (g : ForestOf I) → imports.below (respell_forest f g) ≡ respell_forest f (imports.below g)
-  below_respelled end = refl
-  below_respelled (tree l children others) = refl
-
   after_respelled : (g : ForestOf I) → imports.after (respell_forest f g) ≡ respell_forest f (imports.after g)
   after_respelled end = refl
   after_respelled (tree l children others) = refl
@@ -282,37 +324,31 @@ module _ {I J : Type 0} (f : I → J) where
 -- ---- declarations
 
 module _ (own : Path) (is : List (Import Path Text)) (names : List Text) where
-  -- the kind of a declaration binds no name
-  kind_binds : (k : DeclarationKind) (g : ForestOf ℕ) → declared_name (respell_forest (name_in names) (before (kind_tree k) g)) ≡ declared_name (respell_forest (name_in names) g)
-  kind_binds kinds.Const g = refl
-  kind_binds kinds.Override g = refl
-  kind_binds kinds.Let g = refl
-  kind_binds (kinds.Var o) g = refl
+  mentions_named : (g : Forest) (us : List code.Use) → map use_view us ≡ uses g → mentions (respell_forest (name_in names) g) ≡ flat_map referring (spelled_uses names us)
+  mentions_named g us e =
+      let apart : map (respell_use (name_in names)) (map use_view us) ≡ spelled_uses names us = simp map-map in
+      ap (flat_map referring) (uses_respelled (name_in names) false None g ∙ (ap (map (respell_use (name_in names))) (sym e) ∙ apart))
 
-  mentions_named : (g : Forest) (ms : List Mention) → map mention_view ms ≡ mentions g → mentions (respell_forest (name_in names) g) ≡ spelled_mentions names ms
-  mentions_named g ms e = mentions_respelled (name_in names) g ∙ (ap (map (respell_reference (name_in names))) (sym e) ∙ simp map-map)
+  abbrev pub named : Option Text → List code.Use → Declaration Path Text
+  named name us = record { name = name; references = flat_map (referred own is) (flat_map referring (spelled_uses names us)) }
 
-  abbrev pub named : Option Text → List Mention → Declaration Path Text
-  named name ms = record { name = name; references = flat_map (referred own is) (spelled_mentions names ms) }
+  name_named : (g : Forest) (o : Option Ident) → option_map (λ i. i.0) o ≡ declared_name g → declared_name (respell_forest (name_in names) g) ≡ option_map (λ i. name_in names i.0) o
+  name_named g o e = name_respelled (name_in names) g ∙ (ap (option_map (name_in names)) (sym e) ∙ twice o)
+    where
+      twice : (o : Option Ident) → option_map (name_in names) (option_map (λ i. i.0) o) ≡ option_map (λ i. name_in names i.0) o
+      twice None = refl
+      twice (Some i) = refl
 
-  fields_named : (g : Forest) (ms : List Mention) (name : Option Text) → map mention_view ms ≡ mentions g → declared_name (respell_forest (name_in names) g) ≡ name
-      → record { name = declared_name (respell_forest (name_in names) g); references = flat_map (referred own is) (mentions (respell_forest (name_in names) g)) } ≡ named name ms
-  fields_named g ms name e n = ap (λ x. record { name = x; references = flat_map (referred own is) (mentions (respell_forest (name_in names) g)) }) n
-      ∙ ap (λ xs. record { name = name; references = flat_map (referred own is) xs }) (mentions_named g ms e)
+  pub linked_is : (t : Tree) (o : Option Ident) (us : List code.Use) → is_linked t.label ≡ true → option_map (λ i. i.0) o ≡ declared_name t.children → map use_view us ≡ uses t.children
+      → declared own is (before (respell (name_in names) t) end) ≡ named (option_map (λ i. name_in names i.0) o) us ∷ []
+  linked_is t o us l n e =
+      let d : Declaration Path Text = declaration_of own is (respell_forest (name_in names) t.children) in
+      ap (λ b. if b then d ∷ [] else []) (is_linked-blind (name_in names) t.label ∙ l)
+      ∙ (ap (λ x. record { name = x; references = flat_map (referred own is) (mentions (respell_forest (name_in names) t.children)) } ∷ []) (name_named t.children o n)
+      ∙ ap (λ rs. record { name = option_map (λ i. name_in names i.0) o; references = flat_map (referred own is) rs } ∷ []) (mentions_named t.children us e))
 
-  pub declaration_is : (d : source.Declaration) (ms : List Mention) → map mention_view ms ≡ mentions (declaration_view d).children
-      → declared own is (before (respell (name_in names) (declaration_view d)) end) ≡ named (Some (name_in names d.ident.0)) ms ∷ []
-  declaration_is d ms e =
-      ap (λ r. r ∷ []) (fields_named (declaration_view d).children ms (Some (name_in names d.ident.0)) e
-      (kind_binds d.kind (before (ident_tree binder d.ident) (before (optional type_view d.ty) (before (optional expression_tree d.initializer) end)))))
-
-  pub alias_is : (a : TypeAlias) (ms : List Mention) → map mention_view ms ≡ mentions (alias_view a).children
-      → declared own is (before (respell (name_in names) (alias_view a)) end) ≡ named (Some (name_in names a.ident.0)) ms ∷ []
-  alias_is a ms e = ap (λ r. r ∷ []) (fields_named (alias_view a).children ms (Some (name_in names a.ident.0)) e refl)
-
-  pub assert_is : (a : ConstAssert) (ms : List Mention) → map mention_view ms ≡ mentions (assert_view a).children
-      → declared own is (before (respell (name_in names) (assert_view a)) end) ≡ named None ms ∷ []
-  assert_is a ms e = ap (λ r. r ∷ []) (fields_named (assert_view a).children ms None e refl)
+  pub not_linked : (t : Tree) → is_linked t.label ≡ false → declared own is (before (respell (name_in names) t) end) ≡ []
+  not_linked t l = ap (λ b. if b then declaration_of own is (respell_forest (name_in names) t.children) ∷ [] else []) (is_linked-blind (name_in names) t.label ∙ l)
 
   abbrev pub declared_in : Spanned GlobalDeclaration → List (Declaration Path Text)
   declared_in d = declared own is (before (respell (name_in names) (global_view d.node)) end)

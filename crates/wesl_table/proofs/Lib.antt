@@ -1,7 +1,8 @@
 pub mod Lists
 mod Nodes
-mod Walked
+pub mod Walked
 mod Numbered
 pub mod Related
 pub mod Asked
-mod Declared
+pub mod Declared
+mod Aimed

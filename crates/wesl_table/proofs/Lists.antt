@@ -1,9 +1,7 @@
 -- Lists that grow by one element at a time.
-use Rattle.std.proofs.Common.{◌≡◌, ◌⊎◌, inl, inr, ℕ, zero, suc, ◌≤◌, ◌<◌, ◌+◌, Bool, true, false, cond, not, Option, Some, None, List, [], ◌∷◌, ◌++◌, length, map, take, drop, get_or, length-append, All, arith, refl, sym, subst, ap, ◌∙◌, append_assoc, append-nil, add-one}
+use Rattle.std.proofs.Common.{◌≡◌, ℕ, zero, suc, ◌≤◌, ◌<◌, ◌+◌, Some, List, [], ◌∷◌, ◌++◌, length, take, get_or, arith, refl, sym, ap, ◌∙◌, append_assoc, append-nil}
 use Rattle.std.specs.Prelude.{slice_get}
-use Rattle.std.proofs.lemmas.List.{map-append}
-use Rattle.std.proofs.lemmas.Grind.{flat_map-append}
-use Rattle.wesl_table.specs.Numbering.{IsLonger, AreDifferent, AreRelated}
+use Rattle.wesl_table.specs.Numbering.{IsLonger, AreRelated}
 
 pub longer_itself : {X : Type 0} (xs : List X) → IsLonger xs xs
 longer_itself xs = ([], sym (append-nil xs))

@@ -1,5 +1,5 @@
 -- Keys that are read by what they say, each numbered by its place.
-use Rattle.std.proofs.Common.{◌≡◌, ◌⊎◌, inl, inr, ℕ, zero, suc, ◌≤◌, ◌<◌, ◌+◌, Bool, true, false, cond, ◌||◌, Option, Some, None, List, [], ◌∷◌, ◌++◌, length, map, get_or, All, arith, refl, sym, subst, ap, ◌∙◌, true≢false}
+use Rattle.std.proofs.Common.{◌≡◌, ◌⊎◌, inl, inr, ℕ, zero, suc, ◌<◌, Bool, true, false, ◌||◌, Some, List, [], ◌∷◌, ◌++◌, length, map, get_or, All, arith, refl, sym, subst, ap, ◌∙◌, true≢false}
 use Rattle.std.specs.Prelude.{slice_get}
 use Rattle.std.specs.List.{list_any, position}
 use Rattle.std.proofs.lemmas.List.{map-append}
@@ -44,6 +44,10 @@ none_passes p (y ∷ xs) (suc i) k n h e = none_passes p xs i k (second (p y) (l
     second : (a b : Bool) → (a || b) ≡ false → b ≡ false
     second true b h = absurd (true≢false h)
     second false b h = h
+
+-- what no key says has no place
+pub none_held : {K X : Type 0} (f : K → X) (p : K → Bool) (x : X) → ((k : K) → f k ≡ x → p k ≡ true) → (xs : List K) → list_any p xs ≡ false → (i : ℕ) → slice_get (map f xs) i ≡ Some x → ⊥
+none_held f p x passes xs n i h = let (k, g, e) = get_unmap f xs i x h in none_passes p xs i k n g (passes k e)
 
 -- the last element, or one before it
 get_cases : {X : Type 0} (xs : List X) (y : X) (i : ℕ) (x : X) → slice_get (xs ++ y ∷ []) i ≡ Some x → (slice_get xs i ≡ Some x) ⊎ ((i ≡ length xs) × (y ≡ x))

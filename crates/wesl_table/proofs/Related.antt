@@ -1,10 +1,10 @@
 -- What has numbers keeps them as names and paths are added.
-use Rattle.std.proofs.Common.{◌≡◌, ℕ, Option, Some, None, List, [], ◌∷◌, ◌++◌, map, take, length, get_or, refl, sym, subst, ap, ◌∙◌, append_assoc, append-nil, ◌<◌, ◌+◌}
-use Rattle.std.specs.Prelude.{slice_get, flat_map, option_map}
+use Rattle.std.proofs.Common.{◌≡◌, ℕ, Option, Some, None, List, [], ◌∷◌, ◌++◌, map, take, length, get_or, sym, subst, ap, ◌∙◌, append_assoc, append-nil, ◌<◌, ◌+◌}
+use Rattle.std.specs.Prelude.{flat_map, option_map}
 use denote.Ref.{Bor}
 use Rattle.wesl_syntax.specs.Unit.{name_in}
 use Rattle.wesl_table.specs.Spelling.{spelled_mention}
-use Rattle.wesl_table.specs.declared.mentions.Mention.{Mention}
+use Rattle.wesl_table.specs.declared.uses.Mention.{Mention}
 use Rattle.std.proofs.lemmas.List.{map-append}
 use Rattle.std.proofs.lemmas.Grind.{flat_map-append}
 use Rattle.wesl_names.specs.Path.{Text, Path, path_view}

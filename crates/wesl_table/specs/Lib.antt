@@ -1,4 +1,5 @@
 pub mod Imports
+pub mod Uses
 pub mod Mentions
 pub mod Tables
 pub mod Numbering
@@ -6,3 +7,4 @@ pub mod Walks
 pub mod Spelling
 pub mod NumbersView
 pub mod Base
+pub mod Laws

@@ -1,31 +1,21 @@
 -- The names that a declaration uses (WGSL, "Types" and "Expressions"; WESL, "Imports").
-use Rattle.std.specs.Prelude.{Bool, true, false, Option, Some, None, List, [], ◌∷◌, ◌++◌, map, flat_map, bytes_eq, if◌then◌else◌}
+use Rattle.std.specs.Prelude.{Bool, false, Option, Some, None, List, [], ◌∷◌, map, flat_map, bytes_eq, if◌then◌else◌}
 use Rattle.wesl_names.specs.Path.{Text, Origin, from_package, Path, push, extend, join}
-use Rattle.wesl_syntax.specs.Tree.{LabelOf, ForestOf, end, tree, ident}
-use Rattle.wesl_syntax.specs.Nodes.{is_type, is_formula}
+use Rattle.wesl_syntax.specs.Tree.{ForestOf}
 use Rattle.wesl_world.specs.declared.symbols.Import.{Import}
 use Rattle.wesl_world.specs.declared.symbols.Reference.{Reference}
-use Rattle.wesl_table.specs.Imports.{after, label_path, first_label, below}
+use Rattle.wesl_table.specs.Uses.{Use, refers, uses}
 
 module _ {I : Type 0} where
-  abbrev pub label_name : LabelOf I → Option I
-  label_name (ident r x) = Some x
-  label_name _ = None
-
-  abbrev pub mention : Option Path → Option I → List (Reference Path I)
-  mention p None = []
-  mention p (Some x) = record { path = p; name = x } ∷ []
-
-  -- the fields of a type expression are its path, its name and its template arguments
-  abbrev pub type_mention : ForestOf I → List (Reference Path I)
-  type_mention fields = mention (first_label None label_path (below fields)) (first_label None label_name (after fields))
+  -- the name that is used, under its path
+  abbrev pub referring : Use I → List (Reference Path I)
+  referring (refers r) = r ∷ []
+  referring _ = []
 
   -- Each name that is used, under the path that is written before it, in document order. What stands in the formula of
   -- a condition is a word and uses no name.
   abbrev pub mentions : ForestOf I → List (Reference Path I)
-  mentions end = []
-  mentions (tree l children others) =
-      (if is_type l then type_mention children else []) ++ ((if is_formula l then [] else mentions children) ++ mentions others)
+  mentions f = flat_map referring (uses f)
 
 -- ---- what they refer to
 

@@ -1,5 +1,6 @@
 //! Where the paths before names lead (WESL, "Imports").
-ghost use Rattle.std.specs.Prelude.{◌≡◌, ◌++◌, false, All, map, IfOk, OnOk};
+ghost use Rattle.std.specs.Prelude.{◌≡◌, ◌++◌, false, All, map, IfOk, IfErr, OnOk};
+ghost use Rattle.wesl_names.specs.declared.errors.Error as error;
 ghost use Rattle.wesl_names.specs.Path.{path_view, origin_view, push, extend, join, is_relative};
 ghost use Rattle.wesl_table.specs.Mentions as mentions;
 ghost use Rattle.wesl_table.specs.Spelling.{spelled_import, spelled_imports};
@@ -34,7 +35,8 @@ fn module_in_place(
     path: &ModulePath,
     import: &Import<ModulePath, Ident>,
 ) -> Result<ModulePath, Error>
-    ensures { let named = spelled_import names.now import.now in IfOk result (λ module_path. path_view module_path ≡ extend (push named.path named.item) (path_view path.now).components) }
+    ensures value { let named = spelled_import names.now import.now in IfOk result (λ module_path. path_view module_path ≡ extend (push named.path named.item) (path_view path.now).components) }
+    ensures refused { IfErr result (λ e. e ≡ error.Memory) }
 {
     let mut item = import.path.try_clone(alloc)?;
     item.push(spelling(names, import.item))?;
@@ -49,7 +51,8 @@ fn add_in_place(
     path: &ModulePath,
     import: &Import<ModulePath, Ident>,
 ) -> Result<(), Error>
-    ensures { OnOk result (map path_view found.new.items ≡ map path_view found.old.items ++ mentions.in_place (path_view path.now) (spelled_import names.now import.now)) }
+    ensures found { OnOk result (map path_view found.new.items ≡ map path_view found.old.items ++ mentions.in_place (path_view path.now) (spelled_import names.now import.now)) }
+    ensures refused { IfErr result (λ e. e ≡ error.Memory) }
 {
     if !is_package(&path.origin, spelling(names, import.bound)) {
         return Ok(());
@@ -65,7 +68,8 @@ fn or_else(
     path: &ModulePath,
     found: Vec<ModulePath>,
 ) -> Result<Vec<ModulePath>, Error>
-    ensures { IfOk result (λ aims. map path_view aims.items ≡ mentions.or_else (map path_view found.items) (join (path_view own.now) (path_view path.now))) }
+    ensures aims { IfOk result (λ aims. map path_view aims.items ≡ mentions.or_else (map path_view found.items) (join (path_view own.now) (path_view path.now))) }
+    ensures refused { IfErr result (λ e. e ≡ error.Memory) }
 {
     if !found.is_empty() {
         return Ok(found);
@@ -82,6 +86,7 @@ pub fn aims(alloc: Global, scope: Scope<'_>, path: &ModulePath) -> Result<Vec<Mo
     requires imports { All (λ i. is_relative (path_view i.path) ≡ false) scope.imports.now }
     ensures asked { IfOk result (λ found. All (λ p. is_relative (path_view p) ≡ false) found.items) }
     ensures aims { IfOk result (λ found. map path_view found.items ≡ mentions.aims (path_view scope.entry.own.now) (spelled_imports scope.entry.names.now scope.entry.imports.now) (path_view path.now)) }
+    ensures refused { IfErr result (λ e. e ≡ error.Memory) }
 {
     let mut found = Vec::new(alloc);
     for import in scope.imports {

@@ -1,5 +1,6 @@
 //! What the imports of a module bind (WESL, "Imports").
-ghost use Rattle.std.specs.Prelude.{◌≡◌, ◌++◌, false, All, map, option_map, string_bytes, IfOk, OnOk};
+ghost use Rattle.std.specs.Prelude.{◌≡◌, ◌++◌, false, All, map, option_map, string_bytes, IfOk, IfErr, OnOk};
+ghost use Rattle.wesl_names.specs.declared.errors.Error as error;
 ghost use Rattle.wesl_names.specs.Path.{path_view, is_relative};
 ghost use Rattle.wesl_syntax.specs.Tree.{before, end};
 ghost use Rattle.wesl_syntax.specs.View.{attribute_view, attributes_tree, content_view, item_view, import_view as statement_view, imports_tree};
@@ -28,7 +29,8 @@ enum Base {
 impl Base {
     /// Where the entry with these components leads.
     fn entered(&self, alloc: Global, components: &[String]) -> Result<Base, Error>
-        ensures { IfOk result (λ b. base_view b ≡ imports.entered (base_view self.now) (map string_bytes components.now)) }
+        ensures base { IfOk result (λ b. base_view b ≡ imports.entered (base_view self.now) (map string_bytes components.now)) }
+        ensures refused { IfErr result (λ e. e ≡ error.Memory) }
     {
         match self {
             Base::At(path) => Ok(Base::At(path.join(alloc, components)?)),
@@ -40,7 +42,8 @@ impl Base {
 
 /// The module that these components name, of which the first is a package.
 fn in_package(alloc: Global, components: &[String]) -> Result<Base, Error>
-    ensures { IfOk result (λ b. base_view b ≡ imports.entered imports.unset (map string_bytes components.now)) }
+    ensures base { IfOk result (λ b. base_view b ≡ imports.entered imports.unset (map string_bytes components.now)) }
+    ensures refused { IfErr result (λ e. e ≡ error.Memory) }
 {
     let Some((package, names)) = components.split_first() else {
         return Ok(Base::Nowhere);
@@ -52,7 +55,8 @@ fn in_package(alloc: Global, components: &[String]) -> Result<Base, Error>
 
 /// Where a statement with this path leads in the module at `own`.
 fn base_of(alloc: Global, own: &ModulePath, path: &Option<ModulePath>) -> Result<Base, Error>
-    ensures { IfOk result (λ b. base_view b ≡ imports.base_of (path_view own.now) (option_map path_view path.now)) }
+    ensures base { IfOk result (λ b. base_view b ≡ imports.base_of (path_view own.now) (option_map path_view path.now)) }
+    ensures refused { IfErr result (λ e. e ≡ error.Memory) }
 {
     match path {
         Some(path) => Ok(Base::At(own.join_path(alloc, path)?)),
@@ -69,6 +73,7 @@ pub fn imports(
     requires { is_relative (path_view own.now) ≡ false }
     ensures imports { IfOk result (λ found. map import_view found.items ≡ imports.all_imports (path_view own.now) (imports_tree statements.now).children) }
     ensures asked { IfOk result (λ found. All (λ i. is_relative (path_view i.path) ≡ false) found.items) }
+    ensures refused { IfErr result (λ e. e ≡ error.Memory) }
 {
     let mut found = Vec::new(alloc);
     for statement in statements {
@@ -83,7 +88,8 @@ fn add_statement(
     found: &mut Vec<Import<ModulePath, Ident>>,
     statement: &ImportStatement,
 ) -> Result<(), Error>
-    ensures { OnOk result (map import_view found.new.items ≡ map import_view found.old.items ++ imports.statement_imports (path_view own.now) (statement_view statement.now).children) }
+    ensures found { OnOk result (map import_view found.new.items ≡ map import_view found.old.items ++ imports.statement_imports (path_view own.now) (statement_view statement.now).children) }
+    ensures refused { IfErr result (λ e. e ≡ error.Memory) }
 {
     let base = base_of(alloc, own, &statement.path)?;
     let published = is_published(&statement.attributes);
@@ -99,7 +105,8 @@ fn add_content(
     base: &Base,
     content: &ImportContent,
 ) -> Result<(), Error>
-    ensures { OnOk result (map import_view found.new.items ≡ imported published (base_view base.now) (map import_view found.old.items) (before (content_view content.now) end)) }
+    ensures found { OnOk result (map import_view found.new.items ≡ imported published (base_view base.now) (map import_view found.old.items) (before (content_view content.now) end)) }
+    ensures refused { IfErr result (λ e. e ≡ error.Memory) }
 {
     match content {
         ImportContent::Item(item) => add_item(alloc, found, published, base, item),
@@ -120,7 +127,8 @@ fn add_item(
     base: &Base,
     item: &ImportItem,
 ) -> Result<(), Error>
-    ensures { OnOk result (map import_view found.new.items ≡ imported published (base_view base.now) (map import_view found.old.items) (before (item_view item.now) end)) }
+    ensures found { OnOk result (map import_view found.new.items ≡ imported published (base_view base.now) (map import_view found.old.items) (before (item_view item.now) end)) }
+    ensures refused { IfErr result (λ e. e ≡ error.Memory) }
 {
     let Base::At(path) = base else {
         return Ok(());

@@ -1,9 +1,10 @@
 //! The symbol table of a module: what its imports bind, what it declares, and what its declarations refer to.
 #![tactic(auto)]
 
-mod aims;
-mod imports;
-mod mentions;
+pub mod aims;
+pub mod imports;
+pub mod laws;
 pub mod numbers;
-mod references;
+pub mod references;
 pub mod table;
+pub mod uses;

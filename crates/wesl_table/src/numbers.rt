@@ -1,5 +1,5 @@
 //! The numbers of paths and of names: one numbering for all modules of a link.
-ghost use Rattle.std.specs.Prelude.{◌≡◌, [], true, false, All, IfOk, IfErr, IfSome, IfNone, Some, None, map, slice_get, string_bytes};
+ghost use Rattle.std.specs.Prelude.{◌≡◌, ℕ, [], true, false, All, IfOk, IfErr, IfSome, IfNone, Some, None, map, slice_get, string_bytes};
 ghost use Rattle.wesl_names.specs.Path.{path_view, is_relative};
 ghost use Rattle.wesl_names.specs.declared.errors.Error as error;
 ghost use Rattle.wesl_syntax.specs.Unit.{name_in};
@@ -54,6 +54,17 @@ impl NameNumbers {
         Ok(NameId(put(&mut self.names, name)?))
     }
 
+    /// The number that a name has, if it has one. It takes no memory.
+    pub fn find(&self, name: &str) -> Option<NameId>
+        ensures found { IfSome result (λ i. slice_get (names_of self.now) i.0 ≡ Some name.now) }
+        ensures none { IfNone result ((i : ℕ) → slice_get (names_of self.now) i ≡ Some name.now → ⊥) }
+    {
+        match self.names.get_index_of(name) {
+            Some(index) => Some(NameId(index)),
+            None => None,
+        }
+    }
+
     /// The name of a number.
     pub fn name(&self, id: NameId) -> Option<&str>
         ensures found { IfSome result (λ x. slice_get (names_of self.now) id.0 ≡ Some x.now) }
@@ -99,6 +110,18 @@ impl PathNumbers {
         }
         let path = path.try_clone(alloc)?;
         Ok(PathId(put(&mut self.paths, path)?))
+    }
+
+    /// The number that a path has, if it has one. It takes no memory.
+    pub fn find(&self, path: &ModulePath) -> Option<PathId>
+        ensures found { IfSome result (λ i. slice_get (paths_of self.now) i.0 ≡ Some (path_view path.now)) }
+        ensures none { IfNone result ((i : ℕ) → slice_get (paths_of self.now) i ≡ Some (path_view path.now) → ⊥) }
+    {
+        law_of_equality();
+        match self.paths.get_index_of(path) {
+            Some(index) => Some(PathId(index)),
+            None => None,
+        }
     }
 
     /// The path of a number.

@@ -5,17 +5,17 @@ ghost use Rattle.wesl_syntax.specs.Tree.{before, end, respell};
 ghost use Rattle.wesl_syntax.specs.Unit.{name_in, spelled};
 ghost use Rattle.wesl_syntax.specs.View.{global_view, declarations_tree};
 ghost use Rattle.wesl_tree.specs.Translation.{unit_view};
-ghost use Rattle.wesl_table.specs.Mentions.{referred};
+ghost use Rattle.wesl_table.specs.Mentions.{referred, referring};
 ghost use Rattle.wesl_table.specs.Tables.{declared, declarations_of, table_at};
-ghost use Rattle.wesl_table.specs.Spelling.{spelled_import, spelled_imports, spelled_mentions};
+ghost use Rattle.wesl_table.specs.Spelling.{spelled_import, spelled_imports, spelled_uses};
 ghost use Rattle.wesl_table.specs.Numbering.{IsRelatedOption, IsNumberedImport, AreNumberedImports, AreNumberedDeclarations, DeclarationsGain, IsNumbered, Grows, NameAt, PathAt};
 ghost use Rattle.wesl_table.specs.NumbersView.{numbering};
 
 use crate::aims::Scope;
 use crate::imports::imports;
-use crate::mentions::{Mention, alias_mentions, assert_mentions, declaration_mentions};
 use crate::numbers::{Numbers, spelling};
 use crate::references::references;
+use crate::uses::{Use, declared_ident, is_linked, uses};
 use std::alloc::Global;
 use wesl_names::{Error, Ident, ModulePath, Names};
 use wesl_syntax::{GlobalDeclaration, GlobalDeclarationNode};
@@ -78,22 +78,22 @@ fn number_ident(
     }
 }
 
-/// The declaration that binds `ident` and mentions these names.
+/// The declaration that binds `ident` and has these identifiers.
 fn add_symbol(
     alloc: Global,
     numbers: &mut Numbers,
     scope: Scope<'_>,
     found: &mut Vec<Declaration>,
     ident: Option<Ident>,
-    mentions: &[Mention<'_>],
+    uses: &[Use<'_>],
 ) -> Result<(), Error>
     requires own { is_relative (path_view scope.own.now) ≡ false }
     requires imports { All (λ i. is_relative (path_view i.path) ≡ false) scope.imports.now }
-    ensures numbered { OnOk result (DeclarationsGain (numbering numbers.old) (numbering numbers.new) found.old.items found.new.items (record { name = option_map (λ i. name_in scope.entry.names.now i.0) ident; references = flat_map (referred (path_view scope.entry.own.now) (spelled_imports scope.entry.names.now scope.entry.imports.now)) (spelled_mentions scope.entry.names.now mentions.now) } ∷ [])) }
+    ensures numbered { OnOk result (DeclarationsGain (numbering numbers.old) (numbering numbers.new) found.old.items found.new.items (record { name = option_map (λ i. name_in scope.entry.names.now i.0) ident; references = flat_map (referred (path_view scope.entry.own.now) (spelled_imports scope.entry.names.now scope.entry.imports.now)) (flat_map referring (spelled_uses scope.entry.names.now uses.now)) } ∷ [])) }
     ensures grows { Grows (numbering numbers.old) (numbering numbers.new) }
 {
     let name = number_ident(numbers, scope.names, ident)?;
-    let references = references(alloc, numbers, scope, mentions)?;
+    let references = references(alloc, numbers, scope, uses)?;
     found.push(Declaration::new(name, references))?;
     Ok(())
 }
@@ -111,30 +111,18 @@ fn add_declaration(
     ensures numbered { OnOk result (DeclarationsGain (numbering numbers.old) (numbering numbers.new) found.old.items found.new.items (declared (path_view scope.entry.own.now) (spelled_imports scope.entry.names.now scope.entry.imports.now) (before (respell (name_in scope.entry.names.now) (global_view declaration.now)) end))) }
     ensures grows { Grows (numbering numbers.old) (numbering numbers.new) }
 {
-    match declaration {
-        GlobalDeclaration::Declaration(declaration) => {
-            let mentions = declaration_mentions(alloc, declaration)?;
-            add_symbol(
-                alloc,
-                numbers,
-                scope,
-                found,
-                Some(declaration.ident),
-                &mentions,
-            )
-        }
-        GlobalDeclaration::TypeAlias(alias) => {
-            let mentions = alias_mentions(alloc, alias)?;
-            add_symbol(alloc, numbers, scope, found, Some(alias.ident), &mentions)
-        }
-        GlobalDeclaration::ConstAssert(assertion) => {
-            let mentions = assert_mentions(alloc, assertion)?;
-            add_symbol(alloc, numbers, scope, found, None, &mentions)
-        }
-        GlobalDeclaration::Struct(_) => Ok(()),
-        GlobalDeclaration::Function(_) => Ok(()),
-        GlobalDeclaration::Void => Ok(()),
+    if !is_linked(declaration) {
+        return Ok(());
     }
+    let uses = uses(alloc, declaration)?;
+    add_symbol(
+        alloc,
+        numbers,
+        scope,
+        found,
+        declared_ident(declaration),
+        &uses,
+    )
 }
 
 /// The declarations of a module, in the order of the source.

@@ -1,17 +1,19 @@
-use Rattle.std.proofs.Common.{Result, Ok, Err, OnOk, map, refl, sym, ap, ◌∙◌, subst, string_bytes, ◌≡◌, inl}
+use Rattle.std.proofs.Common.{Result, Ok, Err, IfOk, map, refl, sym, ap, ◌∙◌, subst, string_bytes, ◌≡◌, inl}
 use Rattle.std.proofs.lemmas.Result.{IfErr-weaker}
 use Rattle.wesl_names.specs.Borrowed.{texts}
+use Rattle.wesl_tree.specs.Translation.{unit_view}
 use Rattle.wesl_bundle.specs.Views.{bundle_view}
 use Rattle.wesl.specs.Hands.{unit_in}
 use Rattle.wesl_conditional.specs.Linking.{Links, RefusesLink}
-use Rattle.wesl_link.specs.Resolved.{modules_of, turns_of}
+use Rattle.wesl_link.specs.Keeping.{resolved, modules_of, turns_of}
 use Rattle.wesl.specs.Linking.{Kept, handed_left, refused_left}
 use Rattle.wesl.proofs.Faults.{bundle-fault}
+use Rattle.wesl.proofs.Answered.{links_to}
 use Rattle.wesl.proofs.linking.linked_unit.Goals as goal
 
-on-ok : {T E P : Type 0} (r : Result T E) → P → OnOk r P
-on-ok (Ok a) h = h
-on-ok (Err e) h = tt
+if-ok : {T E : Type 0} {P Q : T → Type 0} (r : Result T E) → ((t : T) → P t → Q t) → IfOk r P → IfOk r Q
+if-ok (Ok t) f h = f t h
+if-ok (Err e) f h = tt
 
 pub returns-in-Ok-clause-linked : goal.returns-in-Ok-clause-linked
 returns-in-Ok-clause-linked c =
@@ -27,7 +29,10 @@ returns-in-Ok-clause-linked c =
     } in
     let keep : texts c.deref-2.result.now ≡ map string_bytes c.args.bundle.keep.items = ap texts c.deref-2.ensures.value ∙ c.in_ok-keep.ensures ∙ ap (map string_bytes) c.deref.ensures.value in
     let r = c.in-Ok.resolutions in
-    on-ok c.named_unit.result (kept, turns_of r, modules_of r, subst (λ ks. Links (handed_left b kept) (refused_left b kept) b.root ks b.options.max_modules (turns_of r) (modules_of r)) keep c.in-Ok.ensures.linked)
+    if-ok c.named_unit.result
+    (λ unit (q, mangled, assembled). links_to b kept (resolved r) (subst (λ ks. Links (handed_left b kept) (refused_left b kept) b.root ks b.options.max_modules (turns_of r) (modules_of r)) keep c.in-Ok.ensures.linked)
+    (c.in-Ok.ensures.kept ∙ keep) q mangled (unit_view unit) assembled)
+    c.named_unit.ensures.named
 
 pub returns : goal.returns
 returns c =

@@ -11,7 +11,7 @@ pub unwrap-requires : goal.unwrap-requires
 unwrap-requires c =
     let w = parts_view c.args.names c.new-imports.result c.in_ok-directives.directives c.in_ok-declarations.declarations in
     let none : imports_tree c.new-imports.result ≡ branch imports_kind [] = ap (λ xs. branch imports_kind (map (placed import_view import_node) xs)) c.new-imports.ensures.items in
-    let f = made c.args.names c.args.given.now c.directives.new.self.rest.now (directives_tree c.args.directives.now) (declarations_tree c.args.declarations.now) (imports_tree c.new-imports.result) (directives_tree c.in_ok-directives.directives) (declarations_tree c.in_ok-declarations.declarations)
+    let f = made c.args.names c.args.given.now c.copied_directives.new.renumbering.rest.now (nodes_of c.args.directives.now c.args.declarations.now).directives (nodes_of c.args.directives.now c.args.declarations.now).declarations (imports_tree c.new-imports.result) (directives_tree c.in_ok-directives.directives) (declarations_tree c.in_ok-declarations.declarations)
     none c.in_ok-directives.ensures.tree c.in_ok-directives.ensures.rest c.in_ok-declarations.ensures.tree in
     some_if c.from_parts.result _ _ c.from_parts.ensures (all_named c.args.names c.args.given.now (nodes_of c.args.directives.now c.args.declarations.now) w refl f c.requires.one_each c.requires.below)
 
@@ -21,6 +21,6 @@ returns-clause-names c = ap (λ v. v.names) (some_of c.from_parts.result c.unwra
 pub returns-clause-trees : goal.returns-clause-trees
 returns-clause-trees c =
     let none : imports_tree c.new-imports.result ≡ branch imports_kind [] = ap (λ xs. branch imports_kind (map (placed import_view import_node) xs)) c.new-imports.ensures.items in
-    let f = made c.args.names c.args.given.now c.directives.new.self.rest.now (directives_tree c.args.directives.now) (declarations_tree c.args.declarations.now) (imports_tree c.new-imports.result) (directives_tree c.in_ok-directives.directives) (declarations_tree c.in_ok-declarations.declarations)
+    let f = made c.args.names c.args.given.now c.copied_directives.new.renumbering.rest.now (nodes_of c.args.directives.now c.args.declarations.now).directives (nodes_of c.args.directives.now c.args.declarations.now).declarations (imports_tree c.new-imports.result) (directives_tree c.in_ok-directives.directives) (declarations_tree c.in_ok-declarations.declarations)
     none c.in_ok-directives.ensures.tree c.in_ok-directives.ensures.rest c.in_ok-declarations.ensures.tree in
     ap (λ v. forest_of_unit (trees_of v)) (some_of c.from_parts.result c.unwrap.result _ _ c.unwrap.ensures c.from_parts.ensures).0 ∙ f

@@ -1,4 +1,4 @@
-use Rattle.std.proofs.Common.{◌≡◌, ◌+◌, Some, sym, refl, subst, ap, ◌∙◌}
+use Rattle.std.proofs.Common.{◌≡◌, ◌+◌, Some, sym, refl, subst, ap, ◌∙◌, arith}
 use Rattle.std.specs.Prelude.{slice_get}
 use Rattle.std.proofs.lemmas.Option.{slice_get_read}
 use Rattle.wesl_names.specs.Path.{path_view}
@@ -33,7 +33,7 @@ loop-index-preserved c =
     let first : unit_at before t.path ≡ Some c.take_unit-unit.result = sym (c.loop-index.invariant.left t (drop_has c.args.tables.now c.loop-index.index t at)) ∙ here in
     record {
       taken = taken_more nb before c.args.tables.now c.loop-index.index t c.loop-index.modules.items _ (record { path = c.in_ok-path.path; place = c.loop-index.index + 1; unit = c.take_unit-unit.result }) c.loop-index-test.true c.index-tables-index.is
-          c.loop-index.invariant.taken (named, first) c.in_ok-push.ensures.items;
+          c.loop-index.invariant.taken (named, first, (c.loop-index.index, omega arith, at)) c.in_ok-push.ensures.items;
       left = left_more before c.loop-index.units.entries c.take_unit-unit.new.units.entries c.args.tables.now c.loop-index.index t c.requires.once at c.loop-index.invariant.left
           (λ p differs. c.take_unit-unit.ensures.others p (λ e. differs (e ∙ c.path-id.ensures)));
     }

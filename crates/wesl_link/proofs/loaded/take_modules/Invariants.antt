@@ -9,6 +9,6 @@ use Rattle.wesl_link.proofs.loaded.take_modules.Given as goal
 
 abbrev pub invariant-loop-index : goal.invariant-loop-index
 invariant-loop-index l = record {
-  taken : AreRelated (IsTaken (numbering l.numbers) l.initial.units.entries) (take l.index l.tables) l.modules.items;
+  taken : AreRelated (IsTaken (numbering l.numbers) l.initial.units.entries l.tables) (take l.index l.tables) l.modules.items;
   left : (t : Table PathId NameId) → Contains (drop l.index l.tables) t → unit_at l.units.entries t.path ≡ unit_at l.initial.units.entries t.path;
 }

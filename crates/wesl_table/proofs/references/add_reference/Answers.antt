@@ -1,4 +1,4 @@
-use Rattle.std.proofs.Common.{◌∙◌, sym, ap, subst, map}
+use Rattle.std.proofs.Common.{◌∙◌, ap, subst, map}
 use Rattle.wesl_names.specs.Path.{Text, path_view}
 use Rattle.wesl_syntax.specs.Unit.{name_in}
 use Rattle.wesl_table.specs.Numbering.{NameAt}

@@ -1,5 +1,4 @@
 use Rattle.std.proofs.Common.{◌≡◌, ◌∙◌, sym, ap, Some, false}
-use Rattle.std.specs.Prelude.{slice_get}
 use Rattle.wesl_names.specs.Path.{path_view, is_relative, Path}
 use Rattle.wesl_names.specs.PathLaws.{path_eq}
 use Rattle.wesl_table.proofs.Numbered.{position_held, different_put, all_put, get_map}

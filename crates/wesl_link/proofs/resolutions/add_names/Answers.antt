@@ -1,0 +1,29 @@
+use Rattle.std.proofs.Common.{◌≡◌, ◌<◌, length, List, Some, ap, sym, subst, refl, ◌∙◌}
+use Rattle.std.specs.Prelude.{slice_get, OnOk, Result, Ok, Err}
+use Rattle.std.proofs.lemmas.Option.{slice_get_within}
+use Rattle.wesl_names.specs.Path.{path_view}
+use Rattle.wesl_world.specs.declared.ids.PathId.{PathId}
+use Rattle.wesl_world.specs.declared.ids.NameId.{NameId}
+use Rattle.wesl_world.specs.Tables.{Table}
+use Rattle.wesl_table.specs.Numbering.{IsNumbered}
+use Rattle.wesl_table.specs.NumbersView.{numbering}
+use Rattle.wesl_naming.specs.Given.{GivesNames}
+use Rattle.wesl_naming.specs.GivenView.{given}
+use Rattle.wesl_link.specs.Worlds.{table}
+use Rattle.wesl_link.specs.Keeping.{module_of}
+use Rattle.wesl_link.proofs.Adding.{is_there}
+use Rattle.wesl_link.proofs.Naming.{all_named, gives_more}
+use Rattle.wesl_link.proofs.resolutions.add_names.Goals as goal
+
+if_ok : {T E P Q : Type 0} (r : Result T E) → (P → Q) → OnOk r P → OnOk r Q
+if_ok (Ok t) f h = f h
+if_ok (Err e) f h = tt
+
+pub add_table-requires : goal.add_table-requires
+add_table-requires g c = record { numbered = all_named (numbering c.args.link.now.numbers) c.table_of-table.result.now (module_of c.args.module.now) c.table_of-table.ensures.numbered }
+
+pub returns-clause-given : goal.returns-clause-given
+returns-clause-given g c = if_ok c.add_table.result
+    (λ gives ms name_of same fresh s. gives_more (numbering c.args.link.now.numbers) c.args.link.now.numbers.paths.different c.args.link.now.numbers.names.different name_of (g.M.Mangler.name_of c.args.mangler.now) same ms c.args.module.now fresh
+    c.table_of-table.result.now c.table_of-table.ensures.numbered (given c.args.given.now) (given c.add_table.new.self) s gives c.add_table.ensures.others c.add_table.ensures.keeps)
+    c.add_table.ensures.given

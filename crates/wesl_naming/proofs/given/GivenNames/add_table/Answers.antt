@@ -1,0 +1,29 @@
+use Rattle.std.proofs.Common.{◌≡◌, Some, None, sym, ◌∙◌}
+use Rattle.wesl_naming.proofs.Naming.{more_named, more_unnamed, gives_all, declared}
+use Rattle.wesl_naming.proofs.given.GivenNames.add_table.Goals as goal
+use Rattle.wesl_naming.proofs.given.GivenNames.add_table.Goals.{in-Some+in-Some-name+in_ok-add_name, in_default}
+
+pub unreachable-requires : goal.unreachable-requires
+unreachable-requires g c =
+    let (x, at) = c.requires.numbered c.in-Some.name (declared c.args.table.now _ _ _ _ c.declarations-declaration-items.ensures c.loop-declaration-test.true c.declaration-item.is c.in-Some.ensures) in
+    let e : None ≡ Some x = sym c.in_default-name.ensures.none ∙ at in
+    cc
+
+pub loop-declaration-preserved : goal.loop-declaration-preserved
+loop-declaration-preserved g c =
+    elim c.match-name.branch [
+      | in-Some+in-Some-name+in_ok-add_name w ↦
+          rw (w.self-is, w.mangler-is) (record {
+            names = more_named _ _ _ _ _ _ c.loop-declaration-test.true c.declaration-item.is _ _ _ _ _ _ _ w.path.ensures w.in-Some.ensures w.in-Some-name.ensures.found
+                (c.loop-declaration.invariant.same _ _) w.in_ok-add_name.ensures.gives w.in_ok-add_name.ensures.others w.in_ok-add_name.ensures.keeps c.loop-declaration.invariant.names;
+            same = λ p i. w.in_ok-add_name.ensures.same p i ∙ c.loop-declaration.invariant.same p i;
+          })
+      | in_default w ↦
+          rw (w.self-is, w.mangler-is) (record {
+            names = more_unnamed _ _ _ _ _ _ c.loop-declaration-test.true c.declaration-item.is _ _ w.in_default.ensures c.loop-declaration.invariant.names;
+            same = c.loop-declaration.invariant.same;
+          })
+    ]
+
+pub returns-clause-given : goal.returns-clause-given
+returns-clause-given g c = gives_all _ _ c.args.table.now _ _ _ _ c.declarations-declaration-items.ensures c.loop-declaration-test.false c.loop-declaration.invariant.names
