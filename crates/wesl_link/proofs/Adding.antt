@@ -1,15 +1,15 @@
 -- One declaration of a module is added, or none.
-use Rattle.std.proofs.Common.{◌≡◌, ◌⊎◌, inl, inr, ◌↔◌, ℕ, zero, suc, ◌<◌, ◌+◌, Bool, true, false, Option, Some, None, List, [], ◌∷◌, ◌++◌, length, map, take, get_or, Contains, refl, sym, subst, ap, ◌∙◌, arith}
-use Rattle.std.specs.Prelude.{slice_get, option_map, Vec}
+use Rattle.std.proofs.Common.{◌≡◌, ℕ, suc, ◌<◌, ◌+◌, true, false, Option, Some, None, List, [], ◌∷◌, ◌++◌, length, map, take, get_or, Contains, refl, sym, subst, ap, ◌∙◌}
+use Rattle.std.specs.Prelude.{slice_get, Vec}
 use Rattle.std.specs.declared.alloc.Global.{Global}
 use Rattle.std.proofs.lemmas.List.{map-append}
 use Rattle.std.proofs.lemmas.Option.{get_or_from_slice_get}
 use mathlib.Core.List.{map-map}
 use denote.Ref.{Bor}
-use Rattle.wesl_names.specs.Path.{Text, Path, path_view, is_relative}
+use Rattle.wesl_names.specs.Path.{Text, Path, path_view}
 use Rattle.wesl_names.specs.declared.names.Ident.{Ident}
 use Rattle.wesl_names.specs.declared.path.ModulePath.{ModulePath}
-use Rattle.wesl_syntax.specs.Tree.{TreeOf, ForestOf, Forest, end, tree, before, forest_of, trees, identifiers, respell, respell_forest, declaration_node}
+use Rattle.wesl_syntax.specs.Tree.{TreeOf, end, before, forest_of, trees, identifiers, respell, declaration_node}
 use Rattle.wesl_syntax.specs.Unit.{UnitView, name_in, spelled}
 use Rattle.wesl_syntax.specs.View.{global_view, placed, declarations_tree}
 use Rattle.wesl_syntax.specs.declared.span.Spanned.{Spanned}
@@ -19,7 +19,7 @@ use Rattle.wesl_tree.specs.Translation.{unit_view}
 use Rattle.wesl_world.specs.declared.ids.PathId.{PathId}
 use Rattle.wesl_world.specs.declared.ids.NameId.{NameId}
 use Rattle.wesl_world.specs.Tables.{Table}
-use Rattle.wesl_world.proofs.Lists.{contains_first, contains_later, contains_cases, contains_nil, contains_map, map_contains}
+use Rattle.wesl_world.proofs.Lists.{map_contains}
 use Rattle.wesl_world.specs.declared.symbols.Import.{Import}
 use Rattle.wesl_table.specs.Imports.{first_label, below, all_imports, imports}
 use Rattle.wesl_table.specs.Walks.{import_view}
@@ -31,12 +31,11 @@ use Rattle.wesl_table.specs.Numbering.{Numbering, NameAt, PathAt, AreRelated, Is
 use Rattle.wesl_table.specs.NumbersView.{numbering}
 use Rattle.wesl_table.proofs.Lists.{take_next}
 use Rattle.wesl_table.proofs.Declared.{uses_respelled, all_imports_respelled}
-use Rattle.wesl_assembly.specs.Linked.{declaration_ref_tree}
 use Rattle.wesl_assembly.specs.Views.{Meaning, denotation_view}
-use Rattle.wesl_link.specs.Linked.{IsHeld, IsHeldAs, StandsFor}
-use Rattle.wesl_link.specs.Worlds.{Module, table, tables}
-use Rattle.wesl_link.specs.Keeping.{denotation_text, module_of, all_loaded, modules_in, task_in, IsTabled, IsLinkOf}
-use Rattle.wesl_link.specs.Holding.{IsUsable, IsMeantBy, IsNamed, IsHeldHere, IsLinkedKind, name_of, uses_of, IsNumberedDeclaration, AddsOne, is_added, is_not_linked, is_not_held, spelled_in, Adds}
+use Rattle.wesl_link.specs.Linked.{IsHeld, IsHeldAs}
+use Rattle.wesl_link.specs.Worlds.{table, tables}
+use Rattle.wesl_link.specs.Keeping.{module_of, all_loaded, modules_in, task_in, IsLinkOf}
+use Rattle.wesl_link.specs.Holding.{IsUsable, IsMeantBy, IsHeldHere, name_of, IsNumberedDeclaration, AddsOne, is_added, is_not_linked, is_not_held, Adds}
 use Rattle.wesl_link.specs.declared.loaded.Loaded.{Loaded}
 use Rattle.wesl_link.specs.declared.link.Link.{Link}
 use Rattle.wesl_link.specs.declared.assemble.Parts.{Parts}

@@ -1,7 +1,6 @@
 -- The name of a declaration is the only one that it binds.
-use Rattle.std.proofs.Common.{◌≡◌, ◌⊎◌, inl, inr, ℕ, Bool, true, false, true≢false, ◌&&◌, ◌||◌, List, [], ◌∷◌, ◌++◌, map, Contains, refl, sym, subst, ap, ◌∙◌, arith}
-use Rattle.std.specs.Prelude.{Option, Some, None, Vec, if◌then◌else◌}
-use Rattle.std.specs.Box.{box_value}
+use Rattle.std.proofs.Common.{◌≡◌, inl, inr, ℕ, Bool, true, false, ◌&&◌, List, [], ◌∷◌, ◌++◌, map, Contains, refl, sym, subst, ap, ◌∙◌, arith}
+use Rattle.std.specs.Prelude.{Option, Some, None, Vec}
 use Rattle.std.specs.declared.alloc.Global.{Global}
 use Rattle.std.proofs.lemmas.List.Elements.{Contains-append_cases}
 use Rattle.wesl_world.proofs.Lists.{contains_cases}
@@ -9,7 +8,7 @@ use Rattle.wesl_names.specs.Path.{Path}
 use Rattle.wesl_names.specs.declared.path.ModulePath.{ModulePath}
 use Rattle.wesl_names.specs.declared.names.Ident.{Ident}
 use Rattle.wesl_syntax.specs.Tree.{Kind, Role, binder, reference, word as word_role, Tree, LabelOf, Forest, ForestOf, end, tree, before, kind, at, ident, text, texts, truth, unary, binary, assignment, space, access, path, forest_of, expression_node, attribute_node}
-use Rattle.wesl_syntax.specs.View.{ident_tree, expression_view, expression_tree, attributes_tree, call_view, argument_view, type_view, expression_step, call_step, argument_step, type_step, placed, optional, listed, literal_tree, attribute_view, kind_tree, space_tree, declaration_view, alias_view, assert_view, global_view}
+use Rattle.wesl_syntax.specs.View.{ident_tree, expression_view, expression_tree, attributes_tree, call_view, argument_view, type_view, expression_step, call_step, argument_step, type_step, placed, optional, literal_tree, attribute_view, kind_tree, declaration_view, alias_view, assert_view, global_view}
 use Rattle.wesl_syntax.specs.declared.span.Spanned.{Spanned}
 use Rattle.wesl_syntax.specs.declared.expression.Literal.{Literal}
 use Rattle.wesl_syntax.specs.declared.expression.Literal.TheVariants as literals
@@ -21,8 +20,6 @@ use Rattle.wesl_syntax.specs.declared.expression.Expression.TheOpen.{Expression-
 use Rattle.wesl_syntax.specs.declared.expression.Expression.TheFolds.{ind-Expression, ind-TypeExpression, fold-roll-Expression, fold-roll-FunctionCall, fold-roll-TemplateArg, fold-roll-TypeExpression}
 use Rattle.wesl_syntax.specs.declared.attribute.Attribute.{Attribute}
 use Rattle.wesl_syntax.specs.declared.attribute.Attribute.TheVariants as attr
-use Rattle.wesl_syntax.specs.declared.declaration.AddressSpace.{AddressSpace}
-use Rattle.wesl_syntax.specs.declared.declaration.AccessMode.{AccessMode}
 use Rattle.wesl_syntax.specs.declared.declaration.DeclarationKind.{DeclarationKind}
 use Rattle.wesl_syntax.specs.declared.declaration.DeclarationKind.TheVariants as kinds
 use Rattle.wesl_syntax.specs.declared.declaration.Declaration.{Declaration}
@@ -32,7 +29,7 @@ use Rattle.wesl_syntax.specs.declared.declaration.GlobalDeclaration.{GlobalDecla
 use Rattle.wesl_syntax.specs.declared.declaration.GlobalDeclaration.TheVariants as globals
 use Rattle.wesl_table.specs.Imports.{first_label}
 use Rattle.wesl_table.specs.Tables.{is_linked, declared_name}
-use Rattle.wesl_table.specs.Uses.{Use, declares, refers, word, use_of, uses_in, uses}
+use Rattle.wesl_table.specs.Uses.{Use, declares, use_of, uses_in, uses}
 
 -- ---- trees that bind no name
 

@@ -1,5 +1,5 @@
 -- A world of numbered tables is one of units: what it says of tables, it says of the units that they are tables of.
-use Rattle.std.proofs.Common.{◌≡◌, ◌⊎◌, ◌↔◌, inl, inr, ℕ, zero, suc, ◌<◌, ◌+◌, ◌==◌, Bool, true, false, true≢false, Option, Some, None, List, [], ◌∷◌, length, map, Contains, All, get_or, refl, sym, subst, ap, ◌∙◌, arith, eqb-true, eq-eqb}
+use Rattle.std.proofs.Common.{◌≡◌, ◌⊎◌, inl, inr, ℕ, suc, ◌+◌, ◌==◌, Bool, true, false, true≢false, Some, List, [], ◌∷◌, length, map, Contains, All, refl, sym, subst, ap, ◌∙◌, eqb-true, eq-eqb}
 use Rattle.std.specs.Prelude.{slice_get}
 use Rattle.std.proofs.lemmas.Option.{slice_get_within, get_or_from_slice_get}
 use Rattle.wesl_names.specs.Path.{Text, Path, is_relative}
@@ -16,10 +16,9 @@ use Rattle.wesl_world.specs.Faults.{Fault, Stands, AreDistinct}
 use Rattle.wesl_world.specs.Faults.AreDistinct.{none as none_distinct, one_more as one_distinct}
 use Rattle.wesl_world.specs.Linking as linking
 use Rattle.wesl_world.proofs.Lists.{contains_later, contains_first, contains_map, map_contains}
-use Rattle.wesl_table.specs.Tables.{table_at}
-use Rattle.wesl_table.specs.Numbering.{AreRelated, SameTable, Numbering, NameAt, PathAt, AreDifferent, IsNumbered}
-use Rattle.wesl_link.specs.Handing.{HaveOne, IsHandedTable, IsRefusedPath}
-use Rattle.wesl_link.specs.Worlds.{Module, table, tables, IsWorld, task_of, IsLinked, IsRefused}
+use Rattle.wesl_table.specs.Numbering.{AreRelated, SameTable, Numbering, NameAt, PathAt, AreDifferent}
+use Rattle.wesl_link.specs.Handing.{HaveOne, IsHandedTable}
+use Rattle.wesl_link.specs.Worlds.{Module, table, tables, IsWorld, task_of, IsLinked}
 use Rattle.wesl_link.proofs.Carried.{Back, IsOneToOne, one_back, related_in, related_back, table_back, SameSymbol, SameTask, Covers, SameFault, stands_to, entered_to, reached_to}
 
 module _ (nb : Numbering) where

@@ -1,12 +1,12 @@
 -- What leads, enters, reaches and stands in a world of tables does so in one that says the same in other paths and names,
 -- where these correspond one to one.
-use Rattle.std.proofs.Common.{◌≡◌, ◌⊎◌, inl, inr, ℕ, zero, suc, ◌<◌, ◌+◌, Bool, true, Option, Some, None, List, [], ◌∷◌, length, Contains, All, refl, sym, subst, ap, ◌∙◌, arith}
+use Rattle.std.proofs.Common.{◌≡◌, ◌⊎◌, inl, inr, ℕ, zero, suc, ◌<◌, Option, Some, None, List, [], ◌∷◌, length, Contains, All, refl, sym, subst, ap, ◌∙◌, arith}
 use Rattle.wesl_world.specs.declared.symbols.Import.{Import}
 use Rattle.wesl_world.specs.declared.symbols.Reference.{Reference}
 use Rattle.wesl_world.specs.declared.symbols.Symbol.{Symbol}
 use Rattle.wesl_world.specs.declared.symbols.LookUp.{LookUp}
 use Rattle.wesl_world.specs.Tables.{Declaration, Table}
-use Rattle.wesl_world.specs.World.{Declares, Imports, Asks, AsksUnder, RefersFrom, AsksFrom, IsAt, Shows, Finds, Hops, LeadsTo, ComesTo, SameQuestion, HasMet, Walk, IsMissingAt, IsPrivateAt, Task, IsKept, Entered, Reached, Followed}
+use Rattle.wesl_world.specs.World.{Declares, Imports, Asks, AsksUnder, AsksFrom, IsAt, Shows, Finds, Hops, LeadsTo, ComesTo, HasMet, Walk, IsMissingAt, IsPrivateAt, Task, IsKept, Entered, Reached, Followed}
 use Rattle.wesl_world.specs.World.LeadsTo.{here, through}
 use Rattle.wesl_world.specs.World.ComesTo.{stays, hops}
 use Rattle.wesl_world.specs.World.Walk.{begin, step}

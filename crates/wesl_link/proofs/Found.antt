@@ -1,12 +1,11 @@
 -- The modules that were taken are the world that the link found, in path order.
-use Rattle.std.proofs.Common.{◌≡◌, ◌⊎◌, inl, inr, ℕ, zero, suc, ◌<◌, ◌+◌, Bool, true, false, true≢false, Option, Some, None, List, [], ◌∷◌, length, map, drop, get_or, Contains, All, refl, sym, subst, ap, ◌∙◌, arith}
+use Rattle.std.proofs.Common.{◌≡◌, ◌⊎◌, inl, inr, ℕ, zero, suc, ◌<◌, ◌+◌, true, false, true≢false, Option, Some, None, List, [], ◌∷◌, length, map, drop, get_or, Contains, All, refl, sym, subst, ap, ◌∙◌, arith}
 use Rattle.std.specs.List.{AllAdjacentBelow}
 use Rattle.std.specs.List.Sorted.{IsPermutation}
 use Rattle.std.proofs.lemmas.List.Sorted.{IsPermutation-cons, IsPermutation-map}
 use Rattle.wesl_names.specs.Path.{Text, Path, path_view, is_relative}
 use Rattle.wesl_names.specs.PathOrder.{path_before}
 use Rattle.wesl_names.specs.declared.errors.ResolveError as resolve_error
-use Rattle.wesl_names.specs.declared.errors.Error as error
 use Rattle.wesl_names.proofs.Order.{before-total}
 use Rattle.wesl_syntax.specs.Unit.{UnitOf, spelled}
 use Rattle.wesl_tree.specs.Translation.{unit_view}

@@ -1,5 +1,5 @@
 -- What a map from paths to units keeps.
-use Rattle.std.proofs.Common.{◌≡◌, Bool, true, refl, rules}
+use Rattle.std.proofs.Common.{◌≡◌, true, rules}
 use Rattle.wesl_world.specs.declared.ids.PathId.{PathId}
 use Rattle.wesl_link.specs.Taking.{path_eq}
 

@@ -1,30 +1,27 @@
 -- What identifiers stand for in numbered tables, they stand for in the units that these are tables of.
-use Rattle.std.proofs.Common.{◌≡◌, ◌⊎◌, inl, inr, ◌↔◌, ℕ, suc, length, Option, Some, None, List, [], ◌∷◌, map, Contains, refl, sym, subst, ap, ◌∙◌}
-use Rattle.std.specs.Prelude.{flat_map, slice_get}
-use Rattle.wesl_names.specs.Path.{Text, Path, path_view}
-use Rattle.wesl_syntax.specs.Unit.{spelled}
-use Rattle.wesl_tree.specs.Translation.{unit_view}
+use Rattle.std.proofs.Common.{◌≡◌, inl, inr, suc, length, Option, Some, None, List, [], ◌∷◌, map, Contains, refl, sym, subst, ap, ◌∙◌}
+use Rattle.wesl_names.specs.Path.{Text, Path}
 use Rattle.wesl_world.specs.declared.ids.PathId.{PathId}
 use Rattle.wesl_world.specs.declared.ids.NameId.{NameId}
 use Rattle.wesl_world.specs.declared.symbols.Import.{Import}
 use Rattle.wesl_world.specs.declared.symbols.Reference.{Reference}
 use Rattle.wesl_world.specs.declared.symbols.LookUp.{LookUp}
 use Rattle.wesl_world.specs.declared.symbols.Symbol.{Symbol}
-use Rattle.wesl_world.specs.Tables.{Declaration, Table}
-use Rattle.wesl_world.specs.World.{Declares, Asks, AsksUnder, LeadsTo}
+use Rattle.wesl_world.specs.Tables.{Table}
+use Rattle.wesl_world.specs.World.{Asks, AsksUnder, LeadsTo}
 use Rattle.wesl_world.specs.Linking.{Linking}
 use Rattle.wesl_world.specs.Keeping.{StandsHeld}
 use Rattle.wesl_world.proofs.Lists.{contains_map, contains_one, contains_nil, contains_cases}
 use Rattle.wesl_table.specs.Uses.{Use, declares, refers, word, use_name}
 use Rattle.wesl_table.specs.Mentions.{referred, aimed, aims, under}
-use Rattle.wesl_table.specs.Numbering.{Numbering, NameAt, PathAt, AreRelated, AreDifferent, SameReference, SameTable, IsNumbered, IsRelatedOption}
-use Rattle.wesl_assembly.specs.Denotations.{symbol, local, free_name}
+use Rattle.wesl_table.specs.Numbering.{Numbering, NameAt, PathAt, AreRelated, AreDifferent, SameReference, IsNumbered, IsRelatedOption}
+use Rattle.wesl_assembly.specs.Denotations.{symbol, free_name}
 use Rattle.wesl_assembly.specs.Views.{Meaning}
-use Rattle.wesl_link.specs.Linked.{AsksFor, RefersTo, StandsFor}
+use Rattle.wesl_link.specs.Linked.{RefersTo, StandsFor}
 use Rattle.wesl_link.specs.Worlds.{Module, table, tables}
 use Rattle.wesl_link.specs.Keeping.{denotation_text, path_text, name_text}
 use Rattle.wesl_link.specs.Holding.{IsUsable, IsMeant, IsMeantBy, meaning_of, IsNamed}
-use Rattle.wesl_link.proofs.Carried.{Back, IsOneToOne, one_back, Covers, SameLookUp, SameSymbol, leads_to, asks_to, reference_back, table_back}
+use Rattle.wesl_link.proofs.Carried.{Back, one_back, Covers, SameSymbol, leads_to, asks_to, reference_back, table_back}
 use Rattle.wesl_link.proofs.Built.{paths_one, names_one}
 use Rattle.wesl_link.proofs.Texts.{path_is, name_is}
 

@@ -1,5 +1,5 @@
 -- The names that a mangler gave to the symbols of a link.
-use Rattle.std.proofs.Common.{◌≡◌, ◌⊎◌, inl, inr, ℕ, zero, suc, ◌<◌, ◌+◌, length, take, get_or, arith, Bool, true, false, Option, Some, None, List, [], ◌∷◌, ◌++◌, map, Contains, refl, sym, subst, ap, ◌∙◌}
+use Rattle.std.proofs.Common.{◌≡◌, ◌⊎◌, inl, inr, ℕ, zero, suc, ◌<◌, length, take, get_or, arith, Bool, true, false, Option, Some, None, List, [], ◌∷◌, ◌++◌, Contains, refl, sym, subst, ap, ◌∙◌}
 use Rattle.std.specs.Prelude.{not, ◌&&◌, if◌then◌else◌}
 use Rattle.std.proofs.lemmas.List.Elements.{Contains-append_cases, Contains-append_left}
 use Rattle.wesl_names.specs.Path.{Text, Path, path_view}
@@ -12,13 +12,13 @@ use Rattle.wesl_world.specs.World.{Declares}
 use Rattle.wesl_world.specs.Faults.{AreDistinct}
 use Rattle.wesl_world.specs.Faults.AreDistinct.{one_more as one_distinct}
 use Rattle.wesl_world.proofs.Lists.{contains_nil, contains_one, contains_first, contains_later, contains_cases, contains_map, map_contains}
-use Rattle.wesl_table.specs.Numbering.{Numbering, NameAt, PathAt, AreDifferent, IsNumbered, IsRelatedOption, SameDeclaration}
+use Rattle.wesl_table.specs.Numbering.{Numbering, NameAt, PathAt, AreDifferent, IsNumbered, SameDeclaration}
 use Rattle.wesl_table.specs.NumbersView.{numbering}
 use Rattle.wesl_naming.specs.Given.{Given, AreNamed, GivesNames, KeepsOthers, Keeps}
 use Rattle.wesl_link.specs.Worlds.{Module, table}
 use Rattle.wesl_link.specs.Resolved.{mangled, paths_of, IsMangled}
-use Rattle.wesl_link.specs.Keeping.{IsSoundLink, IsSound, resolved, resolved_of, or_own, name_text, name_under, module_of, loaded_modules, all_loaded, modules_in, IsTabled, IsLinkOf, task_in}
-use Rattle.wesl_link.specs.Holding.{printed_by, GivesTo, IsGivenName, IsGivenAll, IsFreshAfter, AreOnlyRoot}
+use Rattle.wesl_link.specs.Keeping.{IsSoundLink, IsSound, resolved, resolved_of, or_own, name_text, name_under, module_of, loaded_modules, all_loaded, modules_in, IsLinkOf, task_in}
+use Rattle.wesl_link.specs.Holding.{printed_by, GivesTo, IsGivenAll, IsFreshAfter, AreOnlyRoot}
 use Rattle.wesl_link.specs.declared.loaded.Loaded.{Loaded}
 use Rattle.wesl_link.specs.declared.link.Link.{Link}
 use Rattle.wesl_link.specs.declared.resolutions.Resolutions.{Resolutions}

@@ -1,11 +1,11 @@
 -- The parts of a linked unit, one declaration and one module after the other.
-use Rattle.std.proofs.Common.{◌≡◌, ◌⊎◌, inl, inr, ℕ, zero, suc, ◌+◌, Bool, true, false, Option, Some, None, List, [], ◌∷◌, ◌++◌, length, length-append, map, Contains, refl, sym, subst, ap, ◌∙◌, arith, append_assoc, append-nil}
+use Rattle.std.proofs.Common.{◌≡◌, inl, inr, ℕ, ◌+◌, List, [], ◌∷◌, ◌++◌, length, length-append, map, Contains, refl, sym, subst, ap, ◌∙◌, append_assoc, append-nil}
 use denote.Ref.{Bor}
 use Rattle.std.proofs.lemmas.List.{map-append}
 use Rattle.std.proofs.lemmas.List.Elements.{Contains-append_cases}
-use Rattle.wesl_names.specs.Path.{Text, Path, path_view}
-use Rattle.wesl_syntax.specs.Tree.{TreeOf, ForestOf, end, before, forest_of, trees, identifiers, respell, respell_forest}
-use Rattle.wesl_syntax.specs.Unit.{name_in, spelled}
+use Rattle.wesl_names.specs.Path.{Text, path_view}
+use Rattle.wesl_syntax.specs.Tree.{TreeOf, ForestOf, end, before, forest_of, identifiers, respell_forest}
+use Rattle.wesl_syntax.specs.Unit.{name_in}
 use Rattle.wesl_syntax.specs.declared.span.Spanned.{Spanned}
 use Rattle.wesl_syntax.specs.declared.declaration.GlobalDeclaration.{GlobalDeclaration}
 use Rattle.wesl_tree.specs.Translation.{unit_view}

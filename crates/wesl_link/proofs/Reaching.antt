@@ -1,5 +1,5 @@
 -- What the engine found among numbered tables, it found among units.
-use Rattle.std.proofs.Common.{◌≡◌, ℕ, List, [], Contains, All, false, refl, sym, subst, ap, ◌∙◌}
+use Rattle.std.proofs.Common.{◌≡◌, ℕ, List, All, false, subst}
 use Rattle.wesl_names.specs.Path.{Text, Path, is_relative}
 use Rattle.wesl_names.specs.declared.errors.ResolveError as resolve_error
 use Rattle.wesl_names.specs.declared.errors.Error as error

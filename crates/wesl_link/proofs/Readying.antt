@@ -1,6 +1,6 @@
 -- A loader may be asked for what a numbered table names, and keeps what it handed out as it learns more.
-use Rattle.std.proofs.Common.{◌≡◌, ◌↔◌, ◌⊎◌, inl, inr, Option, Some, Result, Ok, Err, IfOk, List, [], Contains, All, false, refl, subst, sym, ap, ◌∙◌}
-use Rattle.wesl_names.specs.Path.{Text, Path, is_relative}
+use Rattle.std.proofs.Common.{◌≡◌, ◌↔◌, ◌⊎◌, inl, inr, Some, Result, Ok, Err, IfOk, List, [], Contains, subst, sym, ◌∙◌}
+use Rattle.wesl_names.specs.Path.{Text, Path}
 use Rattle.wesl_names.specs.declared.errors.ResolveError.{ResolveError}
 use Rattle.wesl_syntax.specs.Unit.{UnitOf, spelled}
 use Rattle.wesl_tree.specs.Translation.{unit_view}
@@ -9,7 +9,6 @@ use Rattle.wesl_world.specs.declared.ids.PathId.{PathId}
 use Rattle.wesl_world.specs.declared.ids.NameId.{NameId}
 use Rattle.wesl_world.specs.Tables.{Table}
 use Rattle.wesl_world.specs.Loader.{IsReady, OnlyAdds}
-use Rattle.wesl_world.specs.Keyed.{Puts}
 use Rattle.wesl_world.proofs.Lists.{contains_nil}
 use Rattle.wesl_table.specs.Tables.{table_at}
 use Rattle.wesl_table.specs.Numbering.{Numbering, Grows, NameAt, PathAt, IsNumbered, SameImport, SameReference, SameDeclaration}

@@ -1,9 +1,8 @@
 -- What a refused link tells.
-use Rattle.std.proofs.Common.{◌≡◌, ℕ, List, Contains, All, false, sym, subst, ap, ◌∙◌, refl}
+use Rattle.std.proofs.Common.{◌≡◌, ℕ, List, All, false, sym, subst}
 use Rattle.std.specs.Prelude.{string_bytes}
 use Rattle.wesl_names.specs.Path.{Text, Path, path_view, is_relative}
 use Rattle.wesl_names.specs.Errors.{error_of_resolve}
-use Rattle.wesl_names.specs.declared.errors.ImportError as import_error
 use Rattle.wesl_names.specs.declared.errors.ResolveError as resolve_error
 use Rattle.wesl_names.specs.declared.errors.Error as error
 use Rattle.wesl_syntax.specs.Unit.{UnitOf}
@@ -13,12 +12,11 @@ use Rattle.wesl_world.specs.declared.ids.NameId.{NameId}
 use Rattle.wesl_world.specs.declared.error.LinkError.{LinkError}
 use Rattle.wesl_world.specs.declared.error.LinkError.TheVariants as faults
 use Rattle.wesl_world.specs.Tables.{Table}
-use Rattle.wesl_world.specs.World.{Task}
-use Rattle.wesl_world.specs.Faults.{Fault, duplicate, refused, missing, private, too_many, Explained, Stands}
+use Rattle.wesl_world.specs.Faults.{Fault, duplicate, refused, missing, private, too_many, Explained}
 use Rattle.wesl_world.specs.Linking as linking
 use Rattle.wesl_world.specs.Refusal.{IsExplained}
 use Rattle.wesl_table.specs.Numbering.{AreRelated, SameTable, Numbering, NameAt, PathAt, AreDifferent}
-use Rattle.wesl_link.specs.Handing.{HaveOne, IsHandedTable, IsRefusedPath}
+use Rattle.wesl_link.specs.Handing.{HaveOne, IsHandedTable}
 use Rattle.wesl_link.specs.Worlds.{Module, table, task_of, IsRefused}
 use Rattle.wesl_link.specs.Refusal.{TellsOf, HasNumbers, Tells}
 use Rattle.wesl_link.proofs.Carried.{SameFault}

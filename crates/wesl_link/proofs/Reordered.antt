@@ -1,21 +1,19 @@
 -- A world says the same in any order.
-use Rattle.std.proofs.Common.{◌≡◌, ◌⊎◌, ◌↔◌, inl, inr, ℕ, zero, suc, ◌<◌, ◌≤◌, ◌+◌, Bool, true, false, Option, Some, None, List, [], ◌∷◌, ◌++◌, length, length-append, map, Contains, refl, sym, subst, ap, ◌∙◌, arith}
+use Rattle.std.proofs.Common.{◌≡◌, ◌⊎◌, inl, inr, ℕ, ◌≤◌, ◌+◌, Option, Some, None, List, [], ◌∷◌, ◌++◌, length, length-append, map, Contains, refl, sym, subst, ap, ◌∙◌, arith}
 use Rattle.std.specs.List.Sorted.{IsPermutation}
 use Rattle.std.proofs.lemmas.List.Elements.{Contains-append_cases, Contains-append_left, Contains-append_right}
 use Rattle.std.proofs.lemmas.List.Sorted.{Contains-permutation, IsPermutation-sym, IsPermutation-map, length_permutation}
 use Rattle.wesl_names.specs.Path.{Text, Path}
 use Rattle.wesl_syntax.specs.Unit.{UnitOf}
-use Rattle.wesl_world.specs.declared.symbols.Import.{Import}
-use Rattle.wesl_world.specs.declared.symbols.Reference.{Reference}
 use Rattle.wesl_world.specs.declared.symbols.Symbol.{Symbol}
-use Rattle.wesl_world.specs.Tables.{Declaration, Table}
+use Rattle.wesl_world.specs.Tables.{Table}
 use Rattle.wesl_world.specs.World.{Task, Entered, Reached}
-use Rattle.wesl_world.specs.Faults.{Fault, duplicate, refused, missing, private, too_many, Stands, AreDistinct}
+use Rattle.wesl_world.specs.Faults.{Fault, Stands, AreDistinct}
 use Rattle.wesl_world.specs.Faults.AreDistinct.{none as none_distinct, one_more as one_distinct}
 use Rattle.wesl_world.proofs.Lists.{contains_nil, contains_later, contains_first, contains_cases, contains_map, map_contains, distinct_length}
 use Rattle.wesl_table.specs.Numbering.{AreRelated, IsRelatedOption, SameImport, SameReference, SameDeclaration, SameTable}
-use Rattle.wesl_link.specs.Worlds.{Module, table, tables, IsWorld, IsLinked}
-use Rattle.wesl_link.proofs.Carried.{IsOneToOne, Back, SameTask, SameSymbol, SameFault, Covers, entered_to, reached_to, stands_to}
+use Rattle.wesl_link.specs.Worlds.{Module, table, tables, IsLinked}
+use Rattle.wesl_link.proofs.Carried.{IsOneToOne, Back, SameTask, SameFault, Covers, entered_to, reached_to, stands_to}
 
 -- ---- lists with the same elements
 

@@ -1,5 +1,5 @@
 -- What a link keeps is what the engine found: its tables are those of the modules, and its symbols those that are reached.
-use Rattle.std.proofs.Common.{◌≡◌, ◌⊎◌, inl, inr, ◌↔◌, ℕ, zero, suc, Bool, true, false, Some, List, [], ◌∷◌, map, Contains, All, refl, sym, subst, ap, ◌∙◌}
+use Rattle.std.proofs.Common.{◌≡◌, ◌⊎◌, inl, inr, ◌↔◌, ℕ, zero, suc, Bool, true, false, Some, List, [], ◌∷◌, map, Contains, refl, sym, subst, ap, ◌∙◌}
 use Rattle.std.specs.Prelude.{slice_get, Vec}
 use Rattle.std.specs.declared.alloc.Global.{Global}
 use Rattle.std.specs.List.Sorted.{IsPermutation}
@@ -26,10 +26,10 @@ use Rattle.wesl_link.specs.Taking.{IsTaken, AreInOrder}
 use Rattle.wesl_link.specs.Worlds.{Module, table, tables, task_of, IsLinked, IsModuleOrder}
 use Rattle.wesl_link.specs.Resolved.{Resolved, module_at}
 use Rattle.wesl_link.specs.Holding.{IsFoundBy}
-use Rattle.wesl_link.specs.Keeping.{name_text, module_of, loaded_modules, IsTabled, IsCovered, IsLinkOf, task_in, kept_texts}
+use Rattle.wesl_link.specs.Keeping.{name_text, module_of, loaded_modules, IsTabled, IsCovered, IsLinkOf, task_in}
 use Rattle.wesl_link.specs.declared.loaded.Loaded.{Loaded}
 use Rattle.wesl_link.specs.declared.link.Link.{Link}
-use Rattle.wesl_link.proofs.Carried.{Back, IsOneToOne, one_back, related_in, related_back, table_back, SameSymbol, SameTask, Covers, reached_to}
+use Rattle.wesl_link.proofs.Carried.{Back, one_back, related_in, related_back, table_back, SameSymbol, SameTask, Covers, reached_to}
 use Rattle.wesl_link.proofs.Built.{paths_one, names_one}
 use Rattle.wesl_link.proofs.Found as found
 use Rattle.wesl_link.proofs.Texts.{name_is}

@@ -1,7 +1,6 @@
 -- Units are taken one at a time: what is taken, and what is left.
-use Rattle.std.proofs.Common.{◌≡◌, ◌⊎◌, inl, inr, ℕ, zero, suc, ◌<◌, ◌+◌, Bool, true, false, true≢false, Option, Some, None, List, [], ◌∷◌, ◌++◌, length, map, take, drop, get_or, Contains, refl, sym, subst, ap, ◌∙◌, arith}
+use Rattle.std.proofs.Common.{◌≡◌, ℕ, zero, suc, ◌<◌, ◌+◌, Some, List, [], ◌∷◌, ◌++◌, length, take, drop, get_or, Contains, sym, subst, ap, ◌∙◌, arith}
 use Rattle.std.specs.Prelude.{slice_get}
-use Rattle.wesl_names.specs.Path.{path_view}
 use Rattle.wesl_tree.specs.declared.unit.TranslationUnit.{TranslationUnit}
 use Rattle.wesl_world.specs.declared.ids.PathId.{PathId}
 use Rattle.wesl_world.specs.declared.ids.NameId.{NameId}

@@ -1,5 +1,5 @@
 -- Numbers, and the texts that they stand for.
-use Rattle.std.proofs.Common.{◌≡◌, ◌⊎◌, inl, inr, ◌↔◌, ℕ, zero, suc, ◌+◌, Bool, true, false, true≢false, Option, Some, None, List, [], ◌∷◌, map, get_or, Contains, refl, sym, subst, ap, ◌∙◌, arith}
+use Rattle.std.proofs.Common.{◌≡◌, ℕ, zero, suc, Bool, true, false, Some, List, [], ◌∷◌, refl, sym, ap, ◌∙◌}
 use Rattle.std.specs.Prelude.{slice_get, bytes_eq, option_map, if◌then◌else◌}
 use Rattle.std.proofs.lemmas.Option.{get_or_from_slice_get}
 use Rattle.std.proofs.lemmas.Slice.Eq.{bytes_eq-Decides}
@@ -10,7 +10,7 @@ use Rattle.wesl_world.specs.declared.ids.PathId.{PathId}
 use Rattle.wesl_world.specs.declared.ids.NameId.{NameId}
 use Rattle.wesl_table.specs.Numbering.{Numbering, NameAt, PathAt, AreDifferent}
 use Rattle.wesl_naming.specs.Given.{Given}
-use Rattle.wesl_assembly.specs.Denotations.{DenotationOf, symbol, local, free_name}
+use Rattle.wesl_assembly.specs.Denotations.{symbol, local, free_name}
 use Rattle.wesl_assembly.specs.Views.{Meaning}
 use Rattle.wesl_link.specs.Keeping.{path_text, name_text, place_of, or_own, given_at, name_under, denotation_text}
 use Rattle.wesl_link.specs.Holding.{printed_by, IsNamed}

@@ -3,30 +3,25 @@ use Rattle.std.proofs.Common.{◌≡◌, ◌⊎◌, inl, inr, ℕ, Bool, true, f
 use Rattle.std.specs.Prelude.{flat_map, option_map, if◌then◌else◌}
 use Rattle.std.proofs.lemmas.List.Elements.{Contains-append_left, Contains-append_right}
 use Rattle.wesl_names.specs.Path.{Text, Path}
-use Rattle.wesl_syntax.specs.Tree.{LabelOf, kind, at, ident, text, texts, truth, unary, binary, assignment, space, access, path, Role, binder, reference, word as word_role, ForestOf, Forest, TreeOf, end, tree, before, trees, forest_of, respell, respell_forest, respell_label, declaration_node}
-use Rattle.wesl_syntax.specs.View.{global_view, placed}
-use Rattle.wesl_syntax.specs.declared.span.Spanned.{Spanned}
-use Rattle.wesl_syntax.specs.declared.declaration.GlobalDeclaration.{GlobalDeclaration}
+use Rattle.wesl_syntax.specs.Tree.{LabelOf, kind, at, ident, text, texts, truth, unary, binary, assignment, space, access, path, binder, reference, word as word_role, ForestOf, Forest, TreeOf, end, tree, trees, forest_of, respell, respell_forest, respell_label}
 use Rattle.wesl_world.specs.declared.ids.PathId.{PathId}
 use Rattle.wesl_world.specs.declared.ids.NameId.{NameId}
 use Rattle.wesl_world.specs.declared.symbols.Import.{Import}
-use Rattle.wesl_world.specs.declared.symbols.Reference.{Reference}
 use Rattle.wesl_world.specs.Tables.{Declaration, Table}
 use Rattle.wesl_world.specs.World.{Declares}
 use Rattle.wesl_world.specs.Linking.{Linking}
-use Rattle.wesl_world.specs.Keeping.{IsHeld, StandsHeld}
-use Rattle.wesl_world.proofs.Lists.{contains_nil, contains_first, contains_later, contains_cases, contains_map, map_contains}
+use Rattle.wesl_world.specs.Keeping.{IsHeld}
+use Rattle.wesl_world.proofs.Lists.{contains_nil, contains_first, contains_cases, contains_map, map_contains}
 use Rattle.wesl_table.specs.Imports.{first_label, below}
 use Rattle.wesl_table.specs.Tables.{bound_name, or_later, declared_name, is_linked, declared, declaration_of, declarations_of}
-use Rattle.wesl_table.specs.Uses.{Use, declares, refers, word, use_name, uses}
+use Rattle.wesl_table.specs.Uses.{Use, declares, refers, word, uses}
 use Rattle.wesl_table.specs.Mentions.{referring, mentions, referred}
 use Rattle.wesl_table.specs.Spelling.{respell_use, respell_reference}
-use Rattle.wesl_table.specs.Numbering.{Numbering, NameAt, PathAt, AreRelated, AreDifferent, IsRelatedOption, SameReference, SameDeclaration, SameTable}
+use Rattle.wesl_table.specs.Numbering.{Numbering, NameAt, PathAt, AreRelated, AreDifferent, IsRelatedOption, SameReference, SameDeclaration}
 use Rattle.wesl_table.proofs.Declared.{uses_respelled}
 use Rattle.wesl_link.specs.Holding.{IsUsable, IsHeldHere}
 use Rattle.wesl_link.proofs.Carried.{Back, related_in, related_back, option_of}
 use Rattle.wesl_link.proofs.Built.{names_one}
-use Rattle.wesl_link.proofs.Binders.{binds_own}
 
 -- ---- lists
 

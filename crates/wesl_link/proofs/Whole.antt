@@ -1,12 +1,11 @@
 -- The linked unit of what a link found.
-use Rattle.std.proofs.Common.{◌≡◌, ◌⊎◌, inl, inr, ℕ, suc, ◌+◌, List, [], ◌∷◌, ◌++◌, length, length-append, map, Contains, refl, sym, subst, ap, ◌∙◌, append-nil}
-use Rattle.std.specs.Prelude.{flat_map}
+use Rattle.std.proofs.Common.{◌≡◌, inl, inr, suc, ◌+◌, List, [], ◌∷◌, ◌++◌, length, length-append, map, Contains, refl, sym, subst, ap, ◌∙◌, append-nil}
 use Rattle.std.proofs.lemmas.List.{map-append}
 use Rattle.std.proofs.lemmas.List.Elements.{Contains-append_cases}
 use denote.Ref.{Bor}
 use Rattle.wesl_names.specs.Path.{Text, Path}
-use Rattle.wesl_syntax.specs.Tree.{TreeOf, ForestOf, forest_of, trees, identifiers, branch, kind, tree, end, imports as imports_kind, directive_list, declarations as declarations_kind}
-use Rattle.wesl_syntax.specs.Unit.{UnitOf, UnitView, forest_of_unit, spelled}
+use Rattle.wesl_syntax.specs.Tree.{TreeOf, ForestOf, forest_of, trees, identifiers, kind, tree, end, imports as imports_kind, directive_list, declarations as declarations_kind}
+use Rattle.wesl_syntax.specs.Unit.{UnitView, forest_of_unit, spelled}
 use Rattle.wesl_syntax.specs.declared.span.Spanned.{Spanned}
 use Rattle.wesl_syntax.specs.declared.declaration.GlobalDirective.{GlobalDirective}
 use Rattle.wesl_syntax.specs.declared.declaration.GlobalDeclaration.{GlobalDeclaration}
@@ -16,7 +15,7 @@ use Rattle.wesl_table.specs.Numbering.{PathAt, NameAt}
 use Rattle.wesl_table.specs.NumbersView.{numbering}
 use Rattle.wesl_link.proofs.Usable.{flat_map-map}
 use Rattle.wesl_naming.specs.Given.{Given}
-use Rattle.wesl_assembly.specs.Denotations.{DenotationOf, symbol, local, free_name, printed_as}
+use Rattle.wesl_assembly.specs.Denotations.{symbol, local, free_name, printed_as}
 use Rattle.wesl_assembly.specs.Directives.{AreThinned, Thins, all_directives}
 use Rattle.wesl_assembly.specs.Laws.{MeaningsCanBeRetold}
 use Rattle.wesl_assembly.specs.Linked.{shape, nodes_of, directive_ref_tree, declaration_ref_tree, IsLinkedAs}

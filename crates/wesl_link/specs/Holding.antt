@@ -1,5 +1,5 @@
 -- How the parts of a linked unit are held in numbers.
-use Rattle.std.specs.Prelude.{◌≡◌, ◌++◌, ◌↔◌, Bool, true, false, Option, Some, None, option_map, List, [], ◌∷◌, Contains, length, map}
+use Rattle.std.specs.Prelude.{◌≡◌, ◌++◌, Bool, true, false, Option, Some, None, option_map, List, [], ◌∷◌, Contains, length, map}
 use denote.Ref.{Bor}
 use Rattle.wesl_names.specs.Path.{Text, Path, path_view}
 use Rattle.wesl_syntax.specs.Tree.{TreeOf, forest_of, trees, identifiers, respell, before, end}
@@ -31,7 +31,7 @@ use Rattle.wesl_assembly.specs.Views.{Meaning, denotation_view}
 use Rattle.wesl_naming.specs.Given.{Given}
 use Rattle.wesl_link.specs.Linked.{Selects, Joins, Placed, IsHeld, AreHeldOf, AreMeanings, placed_in}
 use Rattle.wesl_link.specs.Resolved.{Resolved, mangled}
-use Rattle.wesl_link.specs.Worlds.{Module, table, tables}
+use Rattle.wesl_link.specs.Worlds.{table, tables}
 use Rattle.wesl_link.specs.Keeping.{name_text, denotation_text, module_of, all_loaded, loaded_modules, modules_in, task_in, kept_texts, or_own}
 use Rattle.wesl_link.specs.declared.loaded.Loaded.{Loaded}
 use Rattle.wesl_link.specs.declared.link.Link.{Link}

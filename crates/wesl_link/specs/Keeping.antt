@@ -1,5 +1,5 @@
 -- What a link keeps of the modules that it found: tables and symbols in numbers, and the texts that the numbers stand for.
-use Rattle.std.specs.Prelude.{◌≡◌, ◌↔◌, ℕ, zero, suc, Bool, false, if◌then◌else◌, Option, Some, None, option_map, List, [], ◌∷◌, Contains, map, slice_get, get_or, bytes_eq}
+use Rattle.std.specs.Prelude.{◌≡◌, ◌↔◌, ℕ, suc, Bool, false, if◌then◌else◌, Option, Some, None, option_map, List, [], ◌∷◌, Contains, map, get_or, bytes_eq}
 use Rattle.wesl_names.specs.Path.{Text, Path, root_path, path_view, is_relative}
 use Rattle.wesl_names.specs.PathOrder.{same_path}
 use Rattle.wesl_world.specs.declared.ids.PathId.{PathId}
@@ -8,7 +8,7 @@ use Rattle.wesl_world.specs.declared.symbols.Symbol.{Symbol}
 use Rattle.wesl_world.specs.Tables.{Table}
 use Rattle.wesl_world.specs.World.{Task, Reached}
 use Rattle.wesl_world.specs.Faults.{AreDistinct}
-use Rattle.wesl_table.specs.Numbering.{Numbering, NameAt, PathAt, AreRelated, IsNumbered}
+use Rattle.wesl_table.specs.Numbering.{Numbering, NameAt, PathAt, IsNumbered}
 use Rattle.wesl_table.specs.NumbersView.{numbering}
 use Rattle.wesl_assembly.specs.Denotations.{symbol, local, free_name}
 use Rattle.wesl_assembly.specs.Views.{Meaning}

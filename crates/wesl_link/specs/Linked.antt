@@ -1,5 +1,5 @@
 -- The linked form: what a link leaves of a world of modules (WESL, "Imports").
-use Rattle.std.specs.Prelude.{◌≡◌, ◌++◌, ℕ, Bool, true, false, Option, Some, None, List, [], ◌∷◌, Contains, flat_map, map}
+use Rattle.std.specs.Prelude.{◌≡◌, ◌++◌, ℕ, true, false, Option, Some, None, List, [], ◌∷◌, Contains, flat_map, map}
 use Rattle.wesl_names.specs.Path.{Text, Path}
 use Rattle.wesl_syntax.specs.Tree.{TreeOf, trees, branch, forest_of, identifiers, imports as imports_kind, directive_list, declarations as declarations_kind}
 use Rattle.wesl_syntax.specs.Unit.{UnitOf, UnitView}

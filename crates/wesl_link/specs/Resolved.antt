@@ -1,6 +1,6 @@
 -- What a `Resolutions` is: the modules of a link, the names that were kept, how many turns it took, and the names that symbols
 -- are printed as.
-use Rattle.std.specs.Prelude.{◌≡◌, ℕ, Bool, true, false, not, ◌&&◌, if◌then◌else◌, Option, Some, None, List, [], ◌∷◌, Contains, map}
+use Rattle.std.specs.Prelude.{◌≡◌, ℕ, Bool, false, not, ◌&&◌, if◌then◌else◌, Option, Some, None, List, [], ◌∷◌, Contains, map}
 use denote.Ref.{Bor}
 use Rattle.wesl_names.specs.Path.{Text, Path, path_view}
 use Rattle.wesl_names.specs.PathOrder.{same_path}

@@ -2,7 +2,7 @@
 ghost use Rattle.std.specs.Prelude.{◌≡◌, ◌↔◌, ◌++◌, [], List, Some, All, Contains, IsTrue, IfOk, IfErr, OnOk, map, option_map, false, true};
 ghost use Rattle.wesl_names.specs.Path.{Text, path_view, is_relative};
 ghost use Rattle.wesl_names.specs.declared.errors.Error as error;
-ghost use Rattle.wesl_syntax.specs.Tree.{before, end, respell};
+ghost use Rattle.wesl_syntax.specs.Tree.{before, end};
 ghost use Rattle.wesl_syntax.specs.Unit.{name_in};
 ghost use Rattle.wesl_syntax.specs.View.{global_view};
 ghost use Rattle.wesl_tree.specs.Translation.{unit_view};
@@ -12,7 +12,6 @@ ghost use Rattle.wesl_table.specs.Numbering.{AreRelated, NameAt};
 ghost use Rattle.wesl_table.specs.NumbersView.{numbering};
 ghost use Rattle.wesl_table.specs.Spelling.{respell_use, spelled_use, spelled_imports};
 ghost use Rattle.wesl_table.specs.Tables as kinds;
-ghost use Rattle.wesl_table.specs.Tables.{declared_name};
 ghost use Rattle.wesl_table.specs.Uses as names_used;
 ghost use Rattle.wesl_table.specs.Uses.{use_name};
 ghost use Rattle.wesl_table.specs.Walks.{use_view};
@@ -39,7 +38,6 @@ use wesl_table::references::reference_of;
 use wesl_table::uses::{Use, declared_ident, is_linked, uses};
 use wesl_tree::TranslationUnit;
 use wesl_world::ids::{NameId, PathId};
-use wesl_world::link::Linked;
 use wesl_world::symbols::Symbol;
 use wesl_world::table::Table;
 

@@ -53,8 +53,8 @@ impl<R: Resolver> Resolver for Counting<R> {
     }
 }
 
-/// A path that is not relative.
-pub fn path(alloc: Global, text: &str) -> Result<ModulePath, Fail>
+// A path that is not relative.
+fn path(alloc: Global, text: &str) -> Result<ModulePath, Fail>
     ensures { IfOk result (λ p. is_relative (path_view p) ≡ false) }
 {
     let path = ModulePath::parse(alloc, text)?.ok_or("no path")?;

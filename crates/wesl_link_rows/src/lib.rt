@@ -3,5 +3,3 @@
 
 #[cfg(test)]
 mod asks;
-#[cfg(test)]
-mod units;

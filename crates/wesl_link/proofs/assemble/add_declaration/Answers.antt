@@ -1,10 +1,10 @@
-use Rattle.std.proofs.Common.{◌≡◌, Option, Some, None, List, true, IsTrue, ap, sym, subst, refl, ◌∙◌, rules}
+use Rattle.std.proofs.Common.{◌≡◌, Option, Some, None, List, IsTrue, ap, subst, refl, ◌∙◌, rules}
 use Rattle.std.specs.Prelude.{option_map}
 use Rattle.wesl_names.specs.Path.{Text}
 use Rattle.wesl_names.specs.declared.names.Ident.{Ident}
 use Rattle.wesl_syntax.specs.Unit.{name_in}
 use Rattle.wesl_table.specs.NumbersView.{numbering}
-use Rattle.wesl_link.specs.Holding.{AddsOne, IsLinkedKind, IsHeldHere, is_added, name_of}
+use Rattle.wesl_link.specs.Holding.{IsLinkedKind, IsHeldHere, is_added, name_of}
 use Rattle.wesl_link.proofs.assemble.add_declaration.Goals as goal
 
 twice : (f : Ident → Text) (o : Option Ident) (names : List Text) → ((i : Ident) → f i ≡ name_in names i.0) → option_map f o ≡ option_map (name_in names) (option_map (λ i. i.0) o)

@@ -1,28 +1,19 @@
-use Rattle.std.proofs.Common.{◌≡◌, ℕ, ◌<◌, length, List, Some, Contains, All, false, ap, sym, subst, refl, ◌∙◌, take, map}
-use Rattle.std.specs.Prelude.{slice_get}
+use Rattle.std.proofs.Common.{◌≡◌, List, All, false, ap, sym, subst, refl, ◌∙◌, map}
 use Rattle.std.proofs.lemmas.List.{take_all}
-use Rattle.std.proofs.lemmas.Option.{slice_get_within}
 use Rattle.wesl_names.specs.Path.{Text, Path, path_view, is_relative}
 use Rattle.wesl_names.specs.declared.names.Ident.{Ident}
 use Rattle.wesl_names.specs.declared.path.ModulePath.{ModulePath}
 use Rattle.wesl_syntax.specs.Tree.{TreeOf, respell, declaration_node}
-use Rattle.wesl_syntax.specs.Unit.{name_in, spelled}
+use Rattle.wesl_syntax.specs.Unit.{name_in}
 use Rattle.wesl_syntax.specs.View.{global_view, imports_tree, placed}
 use Rattle.wesl_tree.specs.Translation.{unit_view}
-use Rattle.wesl_world.specs.declared.ids.PathId.{PathId}
-use Rattle.wesl_world.specs.declared.ids.NameId.{NameId}
-use Rattle.wesl_world.specs.Tables.{Table}
 use Rattle.wesl_world.specs.declared.symbols.Import.{Import}
-use Rattle.wesl_table.specs.Numbering.{IsNumbered}
 use Rattle.wesl_table.specs.NumbersView.{numbering}
 use Rattle.wesl_table.specs.Spelling.{spelled_imports}
-use Rattle.wesl_link.specs.Worlds.{table}
-use Rattle.wesl_link.specs.Keeping.{module_of}
-use Rattle.wesl_link.specs.Holding.{Adds, AddsOne, IsNumberedDeclaration}
+use Rattle.wesl_link.specs.Holding.{Adds, IsNumberedDeclaration}
 use Rattle.wesl_link.proofs.Each.{item_held}
 use Rattle.wesl_link.proofs.Parted.{adds_none}
-use Rattle.wesl_link.proofs.Taking.{at_has}
-use Rattle.wesl_link.proofs.Adding.{is_there, imports_told, declarations_are, all_trees, next_trees, numbered_declaration, adds_next_told}
+use Rattle.wesl_link.proofs.Adding.{imports_told, declarations_are, all_trees, numbered_declaration, adds_next_told}
 use Rattle.wesl_link.proofs.assemble.add_module.Goals as goal
 
 pub loop-declaration-init : goal.loop-declaration-init

@@ -1,8 +1,8 @@
-use Rattle.std.proofs.Common.{◌≡◌, List, [], ◌∷◌, ◌++◌, ap, sym, subst, refl, ◌∙◌, take, Contains}
+use Rattle.std.proofs.Common.{List, [], ◌∷◌, sym, subst, ◌∙◌, take, Contains}
 use Rattle.std.proofs.lemmas.List.{take_all}
 use Rattle.wesl_world.proofs.Lists.{contains_first, contains_later}
 use Rattle.wesl_table.proofs.Lists.{take_next}
-use Rattle.wesl_link.specs.Holding.{AreParts, AddsModule}
+use Rattle.wesl_link.specs.Holding.{AreParts}
 use Rattle.wesl_link.specs.declared.loaded.Loaded.{Loaded}
 use Rattle.wesl_link.proofs.Each.{item_held}
 use Rattle.wesl_link.proofs.Parted.{parts_more}

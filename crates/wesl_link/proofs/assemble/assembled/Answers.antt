@@ -1,18 +1,13 @@
-use Rattle.std.proofs.Common.{◌≡◌, ℕ, suc, List, [], ◌∷◌, ◌++◌, length, ap, sym, subst, refl, ◌∙◌, map}
+use Rattle.std.proofs.Common.{◌≡◌, ℕ, suc, List, [], ◌∷◌, length, ap, sym, subst, refl, ◌∙◌, map}
 use Rattle.std.specs.Prelude.{IfOk, Result, Ok, Err}
-use denote.Ref.{Bor}
 use Rattle.wesl_syntax.specs.Tree.{identifiers}
 use Rattle.wesl_names.specs.Path.{Text}
 use Rattle.wesl_syntax.specs.Unit.{UnitOf, forest_of_unit}
-use Rattle.wesl_syntax.specs.declared.span.Spanned.{Spanned}
-use Rattle.wesl_syntax.specs.declared.declaration.GlobalDirective.{GlobalDirective}
-use Rattle.wesl_syntax.specs.declared.declaration.GlobalDeclaration.{GlobalDeclaration}
 use Rattle.wesl_tree.specs.Translation.{unit_view}
 use Rattle.wesl_table.specs.NumbersView.{numbering}
 use Rattle.wesl_assembly.specs.Denotations.{printed_as}
 use Rattle.wesl_assembly.specs.Linked.{nodes_of, IsLinkedAs}
 use Rattle.wesl_assembly.specs.Views.{Meaning, denotation_view}
-use Rattle.wesl_assembly.specs.declared.denotation.Denotation.{Denotation}
 use Rattle.wesl_naming.specs.GivenView.{given}
 use Rattle.wesl_link.specs.Keeping.{all_loaded}
 use Rattle.wesl_link.specs.Holding.{printed_by, AreParts}

@@ -1,11 +1,11 @@
-use Rattle.std.proofs.Common.{◌≡◌, ◌+◌, Some, sym, refl, subst, ap, ◌∙◌, arith}
+use Rattle.std.proofs.Common.{◌≡◌, ◌+◌, Some, sym, refl, subst, ◌∙◌, arith}
 use Rattle.std.specs.Prelude.{slice_get}
 use Rattle.std.proofs.lemmas.Option.{slice_get_read}
 use Rattle.wesl_names.specs.Path.{path_view}
 use Rattle.wesl_world.specs.declared.ids.PathId.{PathId}
 use Rattle.wesl_table.specs.Numbering.{PathAt}
 use Rattle.wesl_table.specs.NumbersView.{numbering}
-use Rattle.wesl_link.specs.Taking.{IsTaken, unit_at}
+use Rattle.wesl_link.specs.Taking.{unit_at}
 use Rattle.wesl_link.proofs.Taking.{at_has, unit_left, left_more, taken_more, drop_has}
 use Rattle.wesl_link.proofs.loaded.take_modules.Goals as goal
 

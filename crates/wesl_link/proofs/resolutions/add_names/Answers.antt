@@ -1,17 +1,7 @@
-use Rattle.std.proofs.Common.{◌≡◌, ◌<◌, length, List, Some, ap, sym, subst, refl, ◌∙◌}
-use Rattle.std.specs.Prelude.{slice_get, OnOk, Result, Ok, Err}
-use Rattle.std.proofs.lemmas.Option.{slice_get_within}
-use Rattle.wesl_names.specs.Path.{path_view}
-use Rattle.wesl_world.specs.declared.ids.PathId.{PathId}
-use Rattle.wesl_world.specs.declared.ids.NameId.{NameId}
-use Rattle.wesl_world.specs.Tables.{Table}
-use Rattle.wesl_table.specs.Numbering.{IsNumbered}
+use Rattle.std.specs.Prelude.{OnOk, Result, Ok, Err}
 use Rattle.wesl_table.specs.NumbersView.{numbering}
-use Rattle.wesl_naming.specs.Given.{GivesNames}
 use Rattle.wesl_naming.specs.GivenView.{given}
-use Rattle.wesl_link.specs.Worlds.{table}
 use Rattle.wesl_link.specs.Keeping.{module_of}
-use Rattle.wesl_link.proofs.Adding.{is_there}
 use Rattle.wesl_link.proofs.Naming.{all_named, gives_more}
 use Rattle.wesl_link.proofs.resolutions.add_names.Goals as goal
 

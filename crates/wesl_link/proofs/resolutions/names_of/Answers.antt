@@ -1,10 +1,8 @@
-use Rattle.std.proofs.Common.{◌≡◌, List, [], ◌∷◌, ◌++◌, Bool, true, false, Contains, refl, subst, sym, rules}
-use Rattle.wesl_names.specs.Path.{Text, Path}
-use Rattle.wesl_world.proofs.Lists.{contains_nil, contains_first, contains_one}
+use Rattle.std.proofs.Common.{◌≡◌, [], ◌∷◌, Bool, true, false, refl, subst, sym, rules}
+use Rattle.wesl_world.proofs.Lists.{contains_nil, contains_one}
 use Rattle.wesl_table.specs.NumbersView.{numbering}
 use Rattle.wesl_naming.specs.GivenView.{given}
 use Rattle.wesl_link.specs.Holding.{GivesTo, IsGivenAll}
-use Rattle.wesl_link.specs.declared.loaded.Loaded.{Loaded}
 use Rattle.wesl_link.proofs.Naming.{gives_none, gives_same, given_all, given_others}
 use Rattle.wesl_link.proofs.resolutions.names_of.Goals as goal
 

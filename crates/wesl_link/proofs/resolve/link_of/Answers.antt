@@ -1,4 +1,4 @@
-use Rattle.std.proofs.Common.{◌≡◌, ◌-◌, List, take, drop, length, length-drop, refl, sym, subst, ap, ◌∙◌, arith}
+use Rattle.std.proofs.Common.{◌≡◌, ◌-◌, List, take, drop, length, length-drop, sym, subst, ap, ◌∙◌, arith}
 use Rattle.wesl_world.specs.declared.ids.PathId.{PathId}
 use Rattle.wesl_world.specs.declared.ids.NameId.{NameId}
 use Rattle.wesl_world.specs.Tables.{Table}

@@ -1,5 +1,5 @@
-use Rattle.std.proofs.Common.{◌≡◌, List, [], drop, false, subst, sym, ap}
-use Rattle.wesl_names.specs.Path.{Text, path_view}
+use Rattle.std.proofs.Common.{List, drop, false, subst, sym}
+use Rattle.wesl_names.specs.Path.{path_view}
 use Rattle.wesl_syntax.specs.Unit.{spelled}
 use Rattle.wesl_tree.specs.Translation.{unit_view}
 use Rattle.wesl_world.specs.declared.ids.NameId.{NameId}

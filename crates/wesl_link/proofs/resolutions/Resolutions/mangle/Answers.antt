@@ -1,4 +1,4 @@
-use Rattle.std.proofs.Common.{◌≡◌, Some, ap, sym, subst, refl, ◌∙◌}
+use Rattle.std.proofs.Common.{ap}
 use Rattle.wesl_link.specs.declared.resolutions.Resolutions.{Resolutions}
 use Rattle.wesl_link.proofs.Naming.{mangled_found, mangled_nothing}
 use Rattle.wesl_link.proofs.resolutions.Resolutions.mangle.Goals as goal
