@@ -4,6 +4,8 @@
 #[cfg(test)]
 mod chains;
 #[cfg(test)]
+mod features;
+#[cfg(test)]
 mod rows;
 #[cfg(test)]
 mod runs;

@@ -10,6 +10,3 @@ pub use evaluate::eval_attr;
 pub use features::{Feature, Features, Truth};
 pub use formula::{decided, name_of, simplify};
 pub use judge::check_formula;
-
-#[cfg(test)]
-mod tests;

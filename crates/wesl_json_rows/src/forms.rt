@@ -1,4 +1,5 @@
 //! Each form of a node, read and written again.
+use crate::every_form::EVERY_FORM;
 use serde_json::Value;
 use std::alloc::Global;
 use std::test::Fail;
@@ -22,10 +23,7 @@ fn is_answered(alloc: Global, text: &str, expected: &str) -> Result<bool, Fail> 
 /// One unit with every node form, and the empty one.
 #[test]
 fn each_form_is_written_as_it_was_read(rt: HostRuntime) -> Result<(), Fail> {
-    for text in [
-        r#"{}"#,
-        r#"{"declarations":[{"k":"void"},{"attrs":["const"],"expr":true,"k":"assert"},{"k":"alias","name":"a","ty":{"args":["f32",{"k":"lit","text":"1"}],"name":"vec3"}},{"k":"struct","members":[{"attrs":[{"expr":"n","k":"align"},{"expr":"n","k":"size"},{"expr":"n","k":"location"}],"name":"m","ty":"f32"}],"name":"s"},{"init":"d","k":"const","name":"c"},{"attrs":[{"expr":"n","k":"id"}],"k":"override","name":"o","ty":"f32"},{"k":"let","name":"l"},{"k":"var","name":"v"},{"access":"read_write","attrs":[{"expr":"n","k":"group"},{"expr":"n","k":"binding"}],"k":"var","name":"v","space":"storage"},{"init":"x","k":"var","name":"v","space":"private","ty":"f32"},{"attrs":["compute","vertex","fragment","must_use",{"k":"workgroup_size","x":"a","z":"b"}],"body":{},"k":"fn","name":"f","params":[{"attrs":["invariant",{"k":"builtin","name":"p"},{"k":"interpolate","names":["flat"]}],"name":"x","ty":"T"}],"ret":{"name":"T","path":"package::m"},"ret_attrs":[{"args":[],"k":"custom","name":"c"},{"k":"custom","name":"d"},{"expr":"n","k":"blend_src"}]},{"body":{"attrs":[{"k":"diagnostic","rule":"r","severity":"off"}],"stmts":[{"k":"void"},{"k":"block"},{"k":"assign","lhs":"a","op":"+=","rhs":{"base":"a","index":"i","k":"index"}},{"expr":"a","k":"inc"},{"expr":"a","k":"dec"},{"k":"break"},{"k":"continue"},{"k":"discard"},{"k":"return"},{"expr":{"args":[],"name":"x"},"k":"return"},{"call":{"args":["a",{"k":"call","ty":"h"}],"ty":"g"},"k":"call"},{"init":{"expr":{"expr":{"base":"a","k":"field","name":"x"},"k":"paren"},"k":"unary","op":"-"},"k":"let","name":"l"},{"init":{"k":"binary","left":"a","op":"<<","right":"b"},"k":"const","name":"m"},{"expr":false,"k":"assert"}]},"k":"fn","name":"f"},{"body":{"stmts":[{"body":{},"cond":"a","elifs":[{"attrs":[{"expr":"b","k":"elif"}],"body":{},"cond":"a"}],"else":{"attrs":["else"],"body":{}},"k":"if"},{"body_attrs":["else"],"clauses":[{"body":{},"cases":["a",{"k":"default"},{"k":"lit","text":"1"},true]}],"expr":"a","k":"switch"},{"body":{},"continuing":{"body":{},"break_if":{"expr":"a"}},"k":"loop"},{"body":{},"cond":"i","init":{"k":"var","name":"i"},"k":"for","update":{"expr":"i","k":"inc"}},{"body":{},"k":"for"},{"body":{},"cond":"a","k":"while"}]},"k":"fn","name":"f"},{"body":{},"k":"fn","name":"f"},{"expr":{"args":[],"name":"x"},"k":"assert"}],"directives":[{"k":"enable","names":["f16"]},{"attrs":["else"],"k":"requires"},{"k":"diagnostic","rule":"","severity":"off"}],"imports":[{"attrs":["publish",{"expr":"a","k":"if"}],"content":{"list":[{"content":{"item":"a"}},{"content":{"list":[{"content":{"as":"e","item":"d"}}]},"path":["b","c"]}]},"path":"package::m"},{"content":{"item":"g"},"path":"self::h"},{"content":{"item":"k"},"path":"super::super::a"},{"content":{"item":"k"},"path":"a/b::c"}]}"#,
-    ] {
+    for text in [r#"{}"#, EVERY_FORM] {
         assert!(rt; is_answered(rt.alloc(), text, text)?);
     }
     Ok(())

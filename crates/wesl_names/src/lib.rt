@@ -13,6 +13,3 @@ pub use laws::{law_of_equality, law_of_order, law_of_rows, law_of_texts};
 pub use names::{Ident, Names};
 pub use path::{ModulePath, PathOrigin};
 pub use span::Span;
-
-#[cfg(test)]
-mod tests;

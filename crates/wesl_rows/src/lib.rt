@@ -1,20 +1,11 @@
-//! Tests that cross crates: worked bundles, faults, readers and writers that fail, and the calls of the layers with ample
-//! memory.
+//! Tests of the program: worked bundles, faults, and readers and writers that fail.
 #![tactic(auto)]
 
 #[cfg(test)]
-mod copies;
-#[cfg(test)]
-mod engine;
-#[cfg(test)]
 mod faults;
-#[cfg(test)]
-mod manglers;
 #[cfg(test)]
 mod memory;
 #[cfg(test)]
 mod rows;
 #[cfg(test)]
 mod streams;
-#[cfg(test)]
-mod units;

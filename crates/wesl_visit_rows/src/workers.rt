@@ -6,7 +6,7 @@ use std::alloc::Global;
 use std::mem;
 use wesl_names::Error;
 use wesl_syntax::{
-    Expression, ExpressionNode, Statement, StatementNode, TemplateArg, TypeExpression,
+    Attributes, Expression, ExpressionNode, Statement, StatementNode, TemplateArg, TypeExpression,
 };
 use wesl_visit::{Kind, Rewrite, Visit, Visitor};
 
@@ -147,6 +147,14 @@ pub(crate) fn outermost_statements<N: Visit<StatementNode>>(
     Ok(digits)
 }
 
+/// How many lists of attributes there are.
+pub(crate) fn attribute_lists<N: Visit<Attributes>>(
+    alloc: Global,
+    node: &N,
+) -> Result<usize, Error> {
+    Ok(node.visit(alloc)?.len())
+}
+
 /// Puts `9<t>` in place of a type `t`, as often as it is told.
 #[derive(Drop)]
 pub(crate) struct Wrap {
@@ -189,4 +197,54 @@ impl<T: Kind> Rewrite<T> for Count {
         self.met = self.met.wrapping_add(1);
         Ok(())
     }
+}
+
+/// How many lists of attributes a rewriting meets.
+pub(crate) fn attribute_lists_rewritten<N: Visit<Attributes>>(
+    alloc: Global,
+    node: &mut N,
+) -> Result<usize, Error> {
+    let mut lists = Count { met: 0 };
+    node.rewrite(alloc, &mut lists)?;
+    Ok(lists.met)
+}
+
+/// How many types a rewriting of the outermost meets.
+pub(crate) fn types_rewritten<N: Visit<TypeExpression>>(
+    alloc: Global,
+    node: &mut N,
+) -> Result<usize, Error> {
+    let mut types = Count { met: 0 };
+    node.rewrite(alloc, &mut types)?;
+    Ok(types.met)
+}
+
+/// How many types a rewriting of all meets.
+pub(crate) fn all_types_rewritten<N: Visit<TypeExpression>>(
+    alloc: Global,
+    node: &mut N,
+) -> Result<usize, Error> {
+    let mut types = Count { met: 0 };
+    node.rewrite_rec(alloc, &mut types)?;
+    Ok(types.met)
+}
+
+/// How many expressions a rewriting of the outermost meets.
+pub(crate) fn expressions_rewritten<N: Visit<ExpressionNode>>(
+    alloc: Global,
+    node: &mut N,
+) -> Result<usize, Error> {
+    let mut expressions = Count { met: 0 };
+    node.rewrite(alloc, &mut expressions)?;
+    Ok(expressions.met)
+}
+
+/// How many statements a rewriting of the outermost meets.
+pub(crate) fn statements_rewritten<N: Visit<StatementNode>>(
+    alloc: Global,
+    node: &mut N,
+) -> Result<usize, Error> {
+    let mut statements = Count { met: 0 };
+    node.rewrite(alloc, &mut statements)?;
+    Ok(statements.met)
 }

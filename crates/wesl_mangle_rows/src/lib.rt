@@ -1,0 +1,5 @@
+//! Tests of manglers.
+#![tactic(auto)]
+
+#[cfg(test)]
+mod manglers;

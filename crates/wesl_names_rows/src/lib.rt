@@ -1,0 +1,5 @@
+//! Tests of names, paths and errors.
+#![tactic(auto)]
+
+#[cfg(test)]
+mod names;
