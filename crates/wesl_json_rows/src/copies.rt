@@ -46,11 +46,11 @@ fn lists_are_copied(alloc: Global, function: &Function) -> Result<bool, Fail> {
 #[test]
 fn lists_of_nodes_are_copied(rt: HostRuntime) -> Result<(), Fail> {
     let unit = whole(rt.alloc())?;
-    let mut functions = 0;
+    let mut functions: usize = 0;
     for declaration in unit.global_declarations() {
         if let GlobalDeclaration::Function(function) = &declaration.node {
             assert!(rt; lists_are_copied(rt.alloc(), function)?);
-            functions += 1;
+            functions = functions.wrapping_add(1);
         }
     }
     assert_eq!(rt; functions, 4);
