@@ -1,6 +1,1 @@
-pub mod Bytes
-pub mod Texts
-pub mod Units
-pub mod Faults
-pub mod Answered
-pub mod PackageTexts
+mod Bytes

@@ -1,11 +1,1 @@
-pub mod Streams
-pub mod Bundle
-pub mod Fault
-pub mod Holds
-pub mod Hands
-pub mod PackageTexts
-pub mod Linking
-pub mod Line
 pub mod Run
-pub mod Made
-pub mod Refused

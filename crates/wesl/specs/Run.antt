@@ -3,7 +3,7 @@ use Rattle.std.specs.Prelude.{◌≡◌, ℕ, List, take, Option, Some, None, st
 use Rattle.std.specs.Io.KnownBytes.{Appends}
 use Rattle.wesl.specs.declared.program.Outcome.{Outcome}
 use Rattle.wesl.specs.declared.program.Outcome.TheVariants.{Linked, Refused}
-use Rattle.wesl.specs.Line.{IsAnswerLine, IsFaultLine}
+use Rattle.wesl_program.specs.Line.{IsAnswerLine, IsFaultLine}
 
 -- the line that an outcome has for these bytes
 abbrev pub IsLine : Outcome → List ℕ → List ℕ → Type 0

@@ -1,17 +1,11 @@
-//! The linker as one call: a bundle of modules in, one line out.
+//! The linker as one call: a bundle of modules in, one line out. It puts together the steps of `wesl_program`, and
+//! re-exports what users call.
 #![tactic(auto)]
 
-mod answer_line;
-mod bundle_resolver;
-mod fault_line;
-mod linking;
-mod modules;
-mod packages;
 mod program;
-mod streams;
-mod text_line;
 
-pub use program::{Outcome, RunError, run};
+pub use program::{Outcome, RunError, run, run_noting};
+pub use wesl_clone::TryClone;
 pub use wesl_cond::{Feature, Features, eval_attr};
 pub use wesl_conditional::link_under;
 pub use wesl_json::{unit_of_value, value_of_unit};
@@ -19,6 +13,7 @@ pub use wesl_link::{Resolutions, Resolver, resolve_lazy};
 pub use wesl_mangle::{
     CacheMangler, EscapeMangler, HashMangler, Mangler, NoMangler, PathHash, UnicodeMangler,
 };
+pub use wesl_program::Failures;
 pub use wesl_tree::{
     AccessMode, AddressSpace, AssignmentOperator, Attribute, AttributeNode, Attributes,
     BinaryOperator, BreakIfStatement, CaseSelector, CompoundStatement, CondCompError, ConstAssert,

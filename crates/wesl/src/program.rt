@@ -1,20 +1,16 @@
 //! The program: the bytes of a bundle in, one line out.
-ghost use Rattle.std.specs.Prelude.{◌≡◌, Ok, Err, Some, IfOk, IfErr, OnErr, string_bytes, true};
-ghost use Rattle.serde_json.specs.Read.{read};
-ghost use Rattle.serde_json.specs.View.{view};
-ghost use Rattle.wesl.specs.Fault.{fault_of};
-ghost use Rattle.wesl.specs.Line.{IsAnswerLine, IsRefusal, Tells};
+ghost use Rattle.std.specs.Prelude.{◌≡◌, Ok, Err, IfOk, IfErr, OnErr, string_bytes, true};
+ghost use Rattle.wesl_program.specs.Line.{IsAnswerLine, IsRefusal};
+ghost use Rattle.wesl_program.specs.Made.{bytes_of};
 ghost use Rattle.wesl.specs.Run.{IsLine, IsLineFor, Wrote, WroteBeginning};
-ghost use Rattle.wesl.specs.Made.{bytes_of};
 
-use crate::answer_line::answer_line;
-use crate::fault_line::fault_line;
-use crate::linking::linked;
-use crate::streams::{Failures, ReadFault, read_whole, write_whole};
-use serde_json::Value;
 use std::alloc::Global;
 use std::io::{Read, Write};
 use wesl_bundle::read_bundle;
+use wesl_program::{
+    Failures, Line, ReadFault, answer_line, linked, memory_line, read_whole, refusal,
+    value_of_bytes, write_whole,
+};
 use wesl_tree::Error;
 
 /// What a line says: the linked unit, or why there is none.
@@ -29,29 +25,6 @@ pub enum Outcome {
 pub enum RunError {
     Input,
     Output,
-}
-
-// The line for want of memory, which takes none.
-const MEMORY: &str = "{\"args\":[],\"fault\":\"Memory\"}\n";
-
-// A line that was made, or one that takes no memory.
-#[derive(Drop)]
-enum Line {
-    Made(String),
-    Constant(&'static str),
-}
-
-impl Line {
-    ghost use Rattle.wesl.specs.Made.{bytes_of};
-
-    fn as_bytes(&self) -> &[u8]
-        ensures { result.now ≡ bytes_of self.now }
-    {
-        match self {
-            Line::Made(text) => text.as_bytes(),
-            Line::Constant(text) => text.as_bytes(),
-        }
-    }
 }
 
 /// Reads a bundle whole, links it, and writes its line.
@@ -75,7 +48,8 @@ pub fn run<R: Read, W: Write>(
     run_noting(alloc, reader, writer, &mut failures)
 }
 
-fn run_noting<R: Read, W: Write>(
+/// The same as `run`, and notes which calls of the reader and the writer failed: with an error one of that side did.
+pub fn run_noting<R: Read, W: Write>(
     alloc: Global,
     reader: &mut R,
     writer: &mut W,
@@ -108,7 +82,7 @@ fn line_for<R: Read>(
     match read_whole(alloc, reader, failures) {
         Ok(bytes) => Ok(line_of_bytes(alloc, &bytes)),
         Err(ReadFault::Input) => Err(RunError::Input),
-        Err(ReadFault::Memory) => Ok((Outcome::Refused, Line::Constant(MEMORY))),
+        Err(ReadFault::Memory) => Ok((Outcome::Refused, memory_line())),
     }
 }
 
@@ -117,17 +91,7 @@ fn line_of_bytes(alloc: Global, bytes: &[u8]) -> (Outcome, Line)
 {
     match answer(alloc, bytes) {
         Ok(line) => (Outcome::Linked, Line::Made(line)),
-        Err(error) => (Outcome::Refused, refusal(alloc, &error)),
-    }
-}
-
-// The line of an error, or the one for want of memory.
-fn refusal(alloc: Global, error: &Error) -> Line
-    ensures { Tells (fault_of error.now) (bytes_of result) }
-{
-    match fault_line(alloc, error) {
-        Ok(line) => Line::Made(line),
-        Err(_) => Line::Constant(MEMORY),
+        Err(error) => (Outcome::Refused, refusal(alloc, error)),
     }
 }
 
@@ -141,16 +105,5 @@ fn answer(alloc: Global, bytes: &[u8]) -> Result<String, Error>
     match linked(alloc, bundle) {
         Ok(unit) => Ok(answer_line(alloc, unit)?),
         Err(error) => Err(error),
-    }
-}
-
-fn value_of_bytes(alloc: Global, bytes: &[u8]) -> Result<Value, Error>
-    ensures value { IfOk result (λ v. read bytes.now ≡ Some (view v)) }
-    ensures refused { IfErr result (IsRefusal bytes.now) }
-{
-    match Value::from_slice(alloc, bytes) {
-        Ok(value) => Ok(value),
-        Err(error) if error.is_memory() => Err(Error::Memory),
-        Err(_) => Err(Error::NotJson),
     }
 }

@@ -3,7 +3,7 @@ use Rattle.std.proofs.Common.{◌≡◌, ◌≢◌, ℕ, ◌+◌, ◌<◌, ◌�
 use Rattle.std.proofs.lemmas.Grind.{common_steps}
 use Rattle.std.proofs.lemmas.Bool.{cases_lt}
 use Rattle.std.specs.Prelude.{slice_index_or}
-use Rattle.wesl_assembly.specs.Numbers.{AreNumbers, number_at}
+use Rattle.wesl_syntax.specs.Numbers.{AreNumbers, number_at}
 
 module _ {K : Type 0} (nothing : K) where
   abbrev pub at_number : List K → ℕ → K

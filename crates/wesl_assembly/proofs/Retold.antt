@@ -6,7 +6,7 @@ use Rattle.std.specs.List.{Contains}
 use Rattle.wesl_names.specs.Path.{Text}
 use Rattle.wesl_syntax.specs.Tree.{LabelOf, ForestOf, TreeOf, end, tree, kind, at, ident, text, texts, truth, unary, binary, assignment, space, access, path, identifiers, respell_label, respell_forest}
 use Rattle.wesl_syntax.specs.Unit.{UnitOf, UnitView, forest_of_unit, numbers}
-use Rattle.wesl_assembly.specs.Numbers.{AreNumbers}
+use Rattle.wesl_syntax.specs.Numbers.{AreNumbers}
 use Rattle.wesl_assembly.specs.Pathless.{without_paths}
 use Rattle.wesl_assembly.specs.Linked.{shape, printed_unit, IsLinkedAs}
 use Rattle.wesl_assembly.proofs.Pathless.{respelled_without}

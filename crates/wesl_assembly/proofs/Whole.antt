@@ -7,7 +7,7 @@ use Rattle.std.proofs.lemmas.Grind.{get_or_default_zero}
 use Rattle.wesl_names.specs.Path.{Text}
 use Rattle.wesl_syntax.specs.Tree.{Tree, Forest, end, tree, branch, identifiers, respell, respell_forest, forest_below, tree_below, imports as imports_kind}
 use Rattle.wesl_syntax.specs.Unit.{UnitOf, UnitView, forest_of_unit, trees_of, name_in, spelled, unit_below}
-use Rattle.wesl_assembly.specs.Numbers.{AreNumbers, number_at}
+use Rattle.wesl_syntax.specs.Numbers.{AreNumbers, number_at}
 use Rattle.wesl_renumber.specs.Renumbered.{renumbered, renumbered_tree, after, after_tree}
 use Rattle.wesl_assembly.specs.Pathless.{without_paths}
 use Rattle.wesl_assembly.specs.Linked.{printed_unit, IsLinkedAs}

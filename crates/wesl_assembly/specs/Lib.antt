@@ -1,6 +1,5 @@
 pub mod Pathless
 pub mod Denotations
-pub mod Numbers
 pub mod Linked
 pub mod Views
 pub mod Directives

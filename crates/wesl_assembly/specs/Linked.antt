@@ -8,7 +8,7 @@ use Rattle.wesl_syntax.specs.View.{placed, directive_view, global_view}
 use Rattle.wesl_syntax.specs.declared.span.Spanned.{Spanned}
 use Rattle.wesl_syntax.specs.declared.declaration.GlobalDirective.{GlobalDirective}
 use Rattle.wesl_syntax.specs.declared.declaration.GlobalDeclaration.{GlobalDeclaration}
-use Rattle.wesl_assembly.specs.Numbers.{AreNumbers}
+use Rattle.wesl_syntax.specs.Numbers.{AreNumbers}
 use Rattle.wesl_assembly.specs.Pathless.{without_paths}
 
 -- a directive and a declaration that a reference leads to

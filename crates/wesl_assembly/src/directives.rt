@@ -11,6 +11,7 @@ ghost use Rattle.wesl_assembly.specs.Views.{denotation_view};
 
 use crate::denotation::Denotation;
 use std::alloc::Global;
+use wesl_copies::copy_global_directive_node;
 use wesl_names::{Error, Names};
 use wesl_spelling::same_directives;
 use wesl_syntax::GlobalDirectiveNode;
@@ -52,8 +53,8 @@ pub(crate) fn are_equal(
     ensures equal { IfOk result (λ same. IsTrue same ↔ (respell (name_in left_names.now) (placed directive_view directive_node left.now) ≡ respell (name_in right_names.now) (placed directive_view directive_node right.now))) }
     ensures refused { IfErr result (λ e. e ≡ error.Memory) }
 {
-    let left = vec![in alloc; left.try_clone(alloc)?]?;
-    let right = vec![in alloc; right.try_clone(alloc)?]?;
+    let left = vec![in alloc; copy_global_directive_node(alloc, left)?]?;
+    let right = vec![in alloc; copy_global_directive_node(alloc, right)?]?;
     Ok(same_directives(left_names, &left, right_names, &right))
 }
 

@@ -2,7 +2,7 @@
 ghost use Rattle.std.specs.Prelude.{◌≡◌, ◌<◌, [], length, map, slice_index_or, IfOk, IfErr};
 ghost use Rattle.std.specs.List.{All};
 ghost use Rattle.wesl_names.specs.declared.errors.Error as error;
-ghost use Rattle.wesl_assembly.specs.Numbers.{AreNumbers};
+ghost use Rattle.wesl_syntax.specs.Numbers.{AreNumbers};
 ghost use Rattle.wesl_assembly.specs.Denotations.{free_name, printed_as};
 ghost use Rattle.wesl_assembly.specs.Views.{denotation_view};
 

@@ -11,7 +11,8 @@ use Rattle.serde_json.specs.declared.value.Value.{Value}
 use Rattle.wesl_names.specs.Path.{Text}
 use Rattle.wesl_bundle.specs.Packages as said
 use Rattle.wesl_bundle.specs.PackageViews.{modules_of, module_step, package_module_view, package_step, package_view, packages_of}
-use Rattle.wesl_bundle.specs.Reading.{has_only, items_in, list_in, name_in, or_default, required_in}
+use Rattle.wesl_bundle.specs.Reading.{items_in, list_in, name_in, or_default, required_in}
+use Rattle.wesl_pointer.specs.Keys.{has_only}
 use Rattle.wesl_bundle.specs.declared.packages.PackageModule.{PackageModule}
 use Rattle.wesl_bundle.specs.declared.packages.PackageModule.TheOpen.{PackageModule-F}
 use Rattle.wesl_bundle.specs.declared.packages.PackageModule.TheViews.{roll-PackageModule}

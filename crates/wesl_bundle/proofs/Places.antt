@@ -5,7 +5,8 @@ use Rattle.serde_json.specs.Find.{get, at, get_item}
 use Rattle.wesl_names.specs.Path.{Text}
 use Rattle.wesl_bundle.specs.declared.members.BundleError.{BundleError}
 use Rattle.wesl_bundle.specs.declared.members.BundleError.TheVariants.{At, Memory}
-use Rattle.wesl_bundle.specs.Place.{Part, key, index, part_text, HasMember}
+use Rattle.wesl_pointer.specs.Keys.{HasMember}
+use Rattle.wesl_pointer.specs.Pointer.{Part, key, index, part_text}
 use Rattle.wesl_bundle.specs.Forms.{Form, a_list_of, an_object_of, Field, fields, find_field, IsWrong, IsWrongObject, IsBroken, HasFloatAt}
 use Rattle.wesl_bundle.specs.Broken.{IfPlace, place_of, Locates, IsMemberBroken, LocatesMember, IsUnder}
 

@@ -8,11 +8,12 @@ use Rattle.serde_json.specs.View.{view, items_view, members_view}
 use Rattle.serde_json.specs.declared.value.Value.{Value}
 use Rattle.serde_json.proofs.Views.{Entry, get_item_within}
 use Rattle.wesl_names.specs.Path.{Text, Path}
-use Rattle.wesl_bundle.specs.Place.{HasMember}
+use Rattle.wesl_pointer.specs.Keys.{HasMember}
 use Rattle.wesl_bundle.specs.Bundle.{bundle_keys, module_in, bundle_in, Module, Options, options_in, naming_in, limit_in}
 use Rattle.wesl_bundle.specs.Features.{Features, Flag, feature_in, features_in, features_keys, flags_in}
 use Rattle.wesl_bundle.specs.Packages.{Packages, no_packages, packages_in}
-use Rattle.wesl_bundle.specs.Reading.{optional_in, items_in, has_only, required_in, path_in, or_empty, name_in, or_default}
+use Rattle.wesl_bundle.specs.Reading.{optional_in, items_in, required_in, path_in, or_empty, name_in, or_default}
+use Rattle.wesl_pointer.specs.Keys.{has_only}
 use Rattle.wesl_formula.specs.declared.features.Feature.{Feature}
 use Rattle.wesl_formula.specs.declared.features.Feature.TheVariants as feature
 use Rattle.wesl_bundle.specs.declared.options.Naming.{Naming}

@@ -55,11 +55,3 @@ or_default a reading (Some d) = reading d
 abbrev pub optional_in : {A : Type 0} → (Data → Option A) → Option Data → Option (Option A)
 optional_in reading None = Some None
 optional_in reading (Some d) = option_map Some (reading d)
-
-abbrev pub all_known : List Text → Members → Bool
-all_known known no_members = true
-all_known known (member k d ms) = list_any (λ x. bytes_eq x k) known && all_known known ms
-
--- an object with no other keys
-abbrev pub has_only : List Text → Data → Bool
-has_only known d = elim (as_object d) as (λ _. Bool) [ None ↦ false | Some ms ↦ all_known known ms ]

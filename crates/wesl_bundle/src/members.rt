@@ -7,12 +7,13 @@ ghost use Rattle.serde_json.specs.View.{view, members_view};
 ghost use Rattle.wesl_names.specs.Path.{path_view, is_relative};
 ghost use Rattle.wesl_names.specs.PathText.{parse};
 ghost use Rattle.wesl_bundle.specs.declared.members.BundleError.TheVariants.{Memory};
-ghost use Rattle.wesl_bundle.specs.Place.{escaped, key as key_part, index as index_part};
+ghost use Rattle.wesl_pointer.specs.Pointer.{escaped, key as key_part, index as index_part};
 ghost use Rattle.wesl_bundle.specs.Forms.{required, a_name, a_path};
-ghost use Rattle.wesl_bundle.specs.Reading.{all_known, has_only, name_in, path_in, required_in};
+ghost use Rattle.wesl_bundle.specs.Reading.{name_in, path_in, required_in};
+ghost use Rattle.wesl_pointer.specs.Keys.{all_known, has_only};
 ghost use Rattle.wesl_bundle.specs.Broken.{place_of, IsUnder, Locates, LocatesMember};
 
-use serde_json::{Map, Value};
+use serde_json::Value;
 use std::alloc::{AllocError, AllocFailed, Global};
 use wesl_names::{Error, ModulePath};
 
@@ -73,7 +74,7 @@ pub(crate) fn under(alloc: Global, error: BundleError, key: &str) -> BundleError
     ensures { IsUnder (key_part key.now) error result }
 {
     match error {
-        BundleError::At(place) => match extended(alloc, key, place.as_str()) {
+        BundleError::At(place) => match wesl_pointer::under_key(alloc, key, place.as_str()) {
             Ok(place) => BundleError::At(place),
             Err(_) => BundleError::Memory,
         },
@@ -86,27 +87,12 @@ pub(crate) fn under_index(alloc: Global, error: BundleError, index: usize) -> Bu
     ensures { IsUnder (index_part index) error result }
 {
     match error {
-        BundleError::At(place) => match format!(in alloc; "/{index}{place}") {
+        BundleError::At(place) => match wesl_pointer::under_index(alloc, index, place.as_str()) {
             Ok(place) => BundleError::At(place),
             Err(_) => BundleError::Memory,
         },
         BundleError::Memory => BundleError::Memory,
     }
-}
-
-fn extended(alloc: Global, key: &str, place: &str) -> Result<String, AllocError>
-    ensures { IfOk result (λ s. string_bytes s ≡ (47 ∷ escaped key.now) ++ place.now) }
-{
-    let mut text = String::from_str(alloc, "/")?;
-    for c in key.chars() {
-        match c {
-            '~' => text.push_str("~0")?,
-            '/' => text.push_str("~1")?,
-            c => text.push(c)?,
-        }
-    }
-    text.push_str(place)?;
-    Ok(text)
 }
 
 // An object with no keys but these.
@@ -115,27 +101,11 @@ pub(crate) fn check_keys(alloc: Global, value: &Value, known: &[&str]) -> Result
     ensures refused { OnErr result (has_only (map (λ k. k.now) known.now) (view value.now) ≡ false) }
     ensures place { IfErr result (λ e. place_of e ≡ Some []) }
 {
-    match value.as_object() {
-        Some(members) if all_known(members, known) => Ok(()),
-        _ => Err(wrong(alloc)),
+    if wesl_pointer::has_only(value, known) {
+        Ok(())
+    } else {
+        Err(wrong(alloc))
     }
-}
-
-fn all_known(members: &Map<String, Value>, known: &[&str]) -> bool
-    ensures { result ≡ all_known (map (λ k. k.now) known.now) (members_view members.now.entries) }
-{
-    for (key, _) in members.iter() {
-        if !is_among(key.as_str(), known) {
-            return false;
-        }
-    }
-    true
-}
-
-fn is_among(key: &str, known: &[&str]) -> bool
-    ensures { result ≡ list_any (λ k. bytes_eq k.now key.now) known.now }
-{
-    known.iter().any(|k| *k == key)
 }
 
 // The member at the key, which has to be there.

@@ -52,6 +52,11 @@ remade a otherwise otherwise = attribute_of otherwise
 abbrev pub marked : Answers ℕ → Role → Forest → Forest
 marked known role a = remade a (condition_at a) (recast_condition known role (condition_at a))
 
+-- what takes the place of an attribute, or else the attribute
+abbrev pub instead : Option Attribute → Forest → Forest
+instead None a = a
+instead (Some b) a = before (attribute_view b) end
+
 -- the node of an attribute, with the attribute marked
 abbrev pub marked_tree : Answers ℕ → Role → Tree → Tree
 marked_tree known role t = record { label = t.label; children = marked known role t.children }

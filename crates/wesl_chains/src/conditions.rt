@@ -2,15 +2,19 @@
 ghost use Rattle.std.specs.Prelude.{◌≡◌, map};
 ghost use Rattle.wesl_chains.specs.Chains.{follows_on, holds};
 ghost use Rattle.wesl_chains.specs.Conditions.{first_condition, recast};
-ghost use Rattle.wesl_chains.specs.Nodes.{answers, attributes_forest, condition_of_attribute, attribute_tree, follows_if_any, holds_if_any, is_any, marked, marked_tree, unconditional};
+ghost use Rattle.wesl_chains.specs.Nodes.{answers, attributes_forest, condition_of_attribute, attribute_tree, follows_if_any, holds_if_any, instead, is_any, marked, marked_tree, unconditional};
+ghost use Rattle.wesl_formula.specs.Formulas.{form, written};
+ghost use Rattle.wesl_formula.specs.Residual.{residual};
 ghost use Rattle.wesl_syntax.specs.Tree.{before, end};
-ghost use Rattle.wesl_syntax.specs.View.{attribute_view};
+ghost use Rattle.wesl_syntax.specs.View.{attribute_view, expression_view};
 
 use crate::chain::Role;
 use std::mem;
 use wesl_formula::{Features, Truth, decided, simplify};
 use wesl_names::Names;
-use wesl_syntax::{Attribute, AttributeNode, Attributes};
+use wesl_syntax::{
+    Attribute, AttributeNode, Attributes, Expression, ExpressionNode, Literal, Spanned,
+};
 
 /// Whether an attribute is a condition.
 pub fn is_condition(attribute: &Attribute) -> bool
@@ -123,55 +127,60 @@ pub fn holds(attributes: &[AttributeNode], names: &Names, features: &Features) -
     Truth::Yes
 }
 
-/// An attribute that is a condition by a new role, with what is left of its formula; any other as it was.
-fn marked(attribute: Attribute, role: Role, names: &Names, features: &Features) -> Attribute
-    ensures { before (attribute_view result) end ≡ marked (answers names.now features.now) role (before (attribute_view attribute) end) }
+/// Takes a formula out of its place, with what is left of it.
+fn left_over(formula: &mut ExpressionNode, names: &Names, features: &Features) -> ExpressionNode
+    ensures left { expression_view result.node ≡ written (residual (answers names.now features.now) (form (expression_view formula.old.node))) }
+    ensures span { result.span ≡ formula.old.span }
+{
+    simplify(&mut formula.node, names, features);
+    Spanned {
+        node: mem::replace(&mut formula.node, Expression::Literal(Literal::Bool(true))),
+        span: formula.span,
+    }
+}
+
+/// What takes the place of an attribute by a new role, if anything does: a condition, with what is left of its formula.
+fn marked(
+    attribute: &mut Attribute,
+    role: Role,
+    names: &Names,
+    features: &Features,
+) -> Option<Attribute>
+    ensures { instead result (before (attribute_view attribute.new) end) ≡ marked (answers names.now features.now) role (before (attribute_view attribute.old) end) }
 {
     match attribute {
-        Attribute::If(mut formula) => match role {
-            Role::Plain => Attribute::If(formula),
-            Role::Else => Attribute::Else,
-            Role::If => {
-                simplify(&mut formula.node, names, features);
-                Attribute::If(formula)
-            }
-            Role::Elif => {
-                simplify(&mut formula.node, names, features);
-                Attribute::Elif(formula)
-            }
+        Attribute::If(formula) => match role {
+            Role::Plain => None,
+            Role::Else => Some(Attribute::Else),
+            Role::If => Some(Attribute::If(left_over(formula, names, features))),
+            Role::Elif => Some(Attribute::Elif(left_over(formula, names, features))),
         },
-        Attribute::Elif(mut formula) => match role {
-            Role::Plain => Attribute::Elif(formula),
-            Role::Else => Attribute::Else,
-            Role::If => {
-                simplify(&mut formula.node, names, features);
-                Attribute::If(formula)
-            }
-            Role::Elif => {
-                simplify(&mut formula.node, names, features);
-                Attribute::Elif(formula)
-            }
+        Attribute::Elif(formula) => match role {
+            Role::Plain => None,
+            Role::Else => Some(Attribute::Else),
+            Role::If => Some(Attribute::If(left_over(formula, names, features))),
+            Role::Elif => Some(Attribute::Elif(left_over(formula, names, features))),
         },
-        Attribute::Else => Attribute::Else,
-        Attribute::Align(operand) => Attribute::Align(operand),
-        Attribute::Binding(operand) => Attribute::Binding(operand),
-        Attribute::BlendSrc(operand) => Attribute::BlendSrc(operand),
-        Attribute::Builtin(name) => Attribute::Builtin(name),
-        Attribute::Const => Attribute::Const,
-        Attribute::Diagnostic { severity, rule } => Attribute::Diagnostic { severity, rule },
-        Attribute::Group(operand) => Attribute::Group(operand),
-        Attribute::Id(operand) => Attribute::Id(operand),
-        Attribute::Interpolate(names) => Attribute::Interpolate(names),
-        Attribute::Invariant => Attribute::Invariant,
-        Attribute::Location(operand) => Attribute::Location(operand),
-        Attribute::MustUse => Attribute::MustUse,
-        Attribute::Size(operand) => Attribute::Size(operand),
-        Attribute::WorkgroupSize { x, y, z } => Attribute::WorkgroupSize { x, y, z },
-        Attribute::Vertex => Attribute::Vertex,
-        Attribute::Fragment => Attribute::Fragment,
-        Attribute::Compute => Attribute::Compute,
-        Attribute::Publish => Attribute::Publish,
-        Attribute::Custom { name, arguments } => Attribute::Custom { name, arguments },
+        Attribute::Else
+        | Attribute::Align(_)
+        | Attribute::Binding(_)
+        | Attribute::BlendSrc(_)
+        | Attribute::Builtin(_)
+        | Attribute::Const
+        | Attribute::Diagnostic { .. }
+        | Attribute::Group(_)
+        | Attribute::Id(_)
+        | Attribute::Interpolate(_)
+        | Attribute::Invariant
+        | Attribute::Location(_)
+        | Attribute::MustUse
+        | Attribute::Size(_)
+        | Attribute::WorkgroupSize { .. }
+        | Attribute::Vertex
+        | Attribute::Fragment
+        | Attribute::Compute
+        | Attribute::Publish
+        | Attribute::Custom { .. } => None,
     }
 }
 
@@ -179,8 +188,9 @@ fn marked(attribute: Attribute, role: Role, names: &Names, features: &Features) 
 fn mark(attribute: &mut AttributeNode, role: Role, names: &Names, features: &Features)
     ensures { attribute_tree attribute.new ≡ marked_tree (answers names.now features.now) role (attribute_tree attribute.old) }
 {
-    let whole = mem::replace(&mut attribute.node, Attribute::Else);
-    attribute.node = marked(whole, role, names, features);
+    if let Some(marked) = marked(&mut attribute.node, role, names, features) {
+        attribute.node = marked;
+    }
 }
 
 /// Marks the conditions among the attributes by a role, or drops them where the node is to be plain. No memory is taken.

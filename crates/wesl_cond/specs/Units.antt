@@ -1,20 +1,14 @@
--- What features leave of a unit.
+-- Units without a fault, in stages and under choices.
 use Rattle.std.specs.Prelude.{◌≡◌, ℕ}
+pub use Rattle.wesl_branches.specs.Left.{left_of}
 use Rattle.wesl_chains.specs.Flags.{flags_of, AgreesOn}
 use Rattle.wesl_chains.specs.Judging.{RefusesIn}
 use Rattle.wesl_chains.specs.Laws.{IsFaultless}
 use Rattle.wesl_chains.specs.Picked.{Choice, picked_unit}
-use Rattle.wesl_chains.specs.Residual.{residual_tree}
 use Rattle.wesl_formula.specs.Features.{Replies, known, by_number, HoldsNoError, then_replies}
 use Rattle.wesl_names.specs.Path.{Text}
 use Rattle.wesl_names.specs.declared.errors.Error as error
 use Rattle.wesl_syntax.specs.Unit.{UnitView, trees_of, forest_of_unit}
-
--- what is left under the answers to the names of flags; the table of names stays
-abbrev pub left_of : Replies Text → UnitView → UnitView
-left_of reply u =
-    let answers = known (by_number u.names reply) in
-    record { names = u.names; imports = residual_tree answers u.imports; directives = residual_tree answers u.directives; declarations = residual_tree answers u.declarations }
 
 -- no fault of a condition stands in a unit
 abbrev pub IsFaultlessUnit : Replies Text → UnitView → Type 0

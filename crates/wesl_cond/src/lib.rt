@@ -1,10 +1,6 @@
-//! Conditional translation of whole modules (WESL, "ConditionalTranslation").
+//! Conditional translation of whole modules (WESL, "ConditionalTranslation"). The engine is `wesl_branches`.
 #![tactic(auto)]
 
-mod checks;
-mod declarations;
-mod judge;
-mod statements;
 mod unit;
 
 pub use unit::run;

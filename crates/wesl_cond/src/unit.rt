@@ -1,23 +1,18 @@
 //! What is left of a unit.
 ghost use Rattle.std.specs.Prelude.{◌≡◌, IfOk, IfErr, IsOk};
-ghost use Rattle.wesl_chains.specs.Judging.{Checks};
-ghost use Rattle.wesl_chains.specs.Nodes.{replies};
 ghost use Rattle.wesl_cond.specs.Units.{left_of, AreTwoStages, GoesOn, IsFaultlessUnit, IsLeftOver, Picks, RefusesUnit};
 ghost use Rattle.wesl_formula.specs.Features.{answer_to, HoldsNoError};
 ghost use Rattle.wesl_names.specs.declared.errors.Diagnostic.{out-Diagnostic};
-ghost use Rattle.wesl_syntax.specs.Unit.{forest_of_unit, trees_of};
 ghost use Rattle.wesl_tree.specs.Translation.{unit_view};
 
-use crate::declarations::{settle_declarations, settle_directives, settle_imports};
-use crate::judge::{check_declarations, check_directives, check_imports};
 use std::alloc::Global;
-use std::mem;
+use wesl_branches::{check, resolve};
 use wesl_chains::{
-    law_of_both_stages, law_of_bounds, law_of_choices, law_of_later_stages, law_of_stages,
-    law_of_then, law_of_twice,
+    law_of_both_stages, law_of_choices, law_of_later_stages, law_of_stages, law_of_then,
+    law_of_twice,
 };
 use wesl_formula::Features;
-use wesl_names::{Diagnostic, Error};
+use wesl_names::Diagnostic;
 use wesl_tree::TranslationUnit;
 
 /// Conditional translation of a module (WESL, "ConditionalTranslation"): leaves of the unit what the features leave.
@@ -54,35 +49,4 @@ pub fn run(alloc: Global, unit: &mut TranslationUnit, features: &Features) -> Re
     check(alloc, unit, features)?;
     resolve(alloc, unit, features);
     Ok(())
-}
-
-/// Judges the conditions of a unit.
-fn check(alloc: Global, unit: &TranslationUnit, features: &Features) -> Result<(), Error>
-    ensures { Checks (unit_view unit.now).names (replies (unit_view unit.now).names features.now) (forest_of_unit (trees_of (unit_view unit.now))) result }
-{
-    let names = unit.names();
-    match check_imports(alloc, unit.imports(), names, features) {
-        Ok(()) => match check_directives(alloc, unit.global_directives(), names, features) {
-            Ok(()) => check_declarations(alloc, unit.global_declarations(), names, features),
-            Err(fault) => Err(fault),
-        },
-        Err(fault) => Err(fault),
-    }
-}
-
-/// Leaves what the features leave of a unit. Nodes move within their lists and operands within their formulas, so no
-/// memory is taken. Nothing is refused: a flag that the features refuse stays.
-fn resolve(alloc: Global, unit: &mut TranslationUnit, features: &Features)
-    ensures { unit_view unit.new ≡ left_of (answer_to features.now) (unit_view unit.old) }
-{
-    law_of_bounds();
-    let whole = mem::replace(unit, TranslationUnit::new(alloc));
-    let (names, mut imports, mut directives, mut declarations) = whole.into_parts();
-    settle_imports(&mut imports, &names, features);
-    settle_directives(&mut directives, &names, features);
-    settle_declarations(&mut declarations, &names, features);
-    match TranslationUnit::from_parts(names, imports, directives, declarations) {
-        Some(left) => *unit = left,
-        None => {}
-    }
 }

@@ -15,9 +15,9 @@ use Rattle.wesl_world.specs.Tables.{Table}
 use Rattle.wesl_world.specs.World.{Task}
 use Rattle.wesl_world.specs.Faults.{Fault, duplicate, refused, missing, private, too_many, Stands}
 use Rattle.wesl_names.specs.Errors.{OrMemory}
-use Rattle.wesl_link.specs.Worlds.{Module, tables, task_of, IsWorld, IsLinked, IsRefused}
+use Rattle.wesl_linker.specs.Worlds.{Module, tables, task_of, IsWorld, IsLinked, IsRefused}
 use Rattle.wesl_conditional.specs.Linking.{Links, RefusesLink, hands_left, refuses_left}
-use Rattle.wesl_link.specs.Refusal.{TellsOfImport, TellsOf}
+use Rattle.wesl_linker.specs.Refusal.{TellsOfImport, TellsOf}
 
 stands-over : (refuses others : Path → ResolveError → Type 0) → ((p : Path) (e : ResolveError) → refuses p e → others p e) → (task : Task Path Text) (limit : ℕ) (ts : List (Table Path Text)) (fault : Fault Path Text ResolveError) → Stands refuses task limit ts fault → Stands others task limit ts fault
 stands-over refuses others to task limit ts (duplicate n) h = h

@@ -6,8 +6,8 @@ use Rattle.wesl_names.specs.declared.errors.Error as error
 use Rattle.wesl_names.specs.declared.errors.ResolveError.{ResolveError}
 use Rattle.wesl_syntax.specs.Unit.{UnitOf}
 use Rattle.wesl_formula.specs.declared.features.Features.{Features}
-use Rattle.wesl_link.specs.Worlds.{Module, task_of, IsLinked, IsRefused, IsModuleOrder}
-use Rattle.wesl_link.specs.Refusal.{TellsOf}
+use Rattle.wesl_linker.specs.Worlds.{Module, task_of, IsLinked, IsRefused, IsModuleOrder}
+use Rattle.wesl_linker.specs.Refusal.{TellsOf}
 use Rattle.wesl_conditional.specs.Conditions.{HandsLeft, RefusesLeft}
 
 module _ (hands : Path → UnitOf Text → Type 0) (refuses : Path → ResolveError → Type 0) where

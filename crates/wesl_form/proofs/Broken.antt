@@ -16,9 +16,10 @@ use Rattle.wesl_syntax.specs.Tree.{kind, list, texts, text, present, end, tree, 
 use Rattle.wesl_form.specs.Schema.{Spelled, SpelledForest, SpelledLabel, Words, leaf_of, Form, leaf, list_of, node, Leaf, an_ident, a_name, a_text, a_literal, some_names, a_path, one_of, a_fixed_path, a_truth, a_limit, some_texts, a_map_to, anything, Name, Node, Row, nothing, marked, needs, may, many, given, inner, inner_where, Head, fixed, chosen, Table}
 use Rattle.wesl_form.specs.Schema.{a_type, an_expression, a_template_argument, a_case, an_attribute}
 use Rattle.wesl_form.specs.Nodes.{shorts_of, whole_form}
-use Rattle.wesl_form.specs.Profile.{first_profile}
-use Rattle.wesl_form.specs.Reading.{Reader, reading, leaf_label, any_leaf, name_in, texts_in, all_members, all_known, children_in, items_in, node_in, object_in, has_only, head_keys, known_keys, label_in, needed, optional, or_empty, empty_of, where_there, present_tree, word_in}
-use Rattle.wesl_form.specs.Place.{Part, key, index, Field, field, fields, head_fields, find_field, fields_of, member_form, item_form, IsWrongLeaf, IsWrongNode, IsWrongValue, IsWrongObject, IsWrong, HasUnknownWord, BreaksAt}
+use Rattle.wesl_form.specs.Reading.{Reader, reading, leaf_label, any_leaf, name_in, texts_in, all_members, children_in, items_in, node_in, object_in, head_keys, known_keys, label_in, needed, optional, or_empty, empty_of, where_there, present_tree, word_in}
+use Rattle.wesl_pointer.specs.Keys.{all_known, has_only}
+use Rattle.wesl_form.specs.Place.{Field, field, fields, head_fields, find_field, fields_of, member_form, item_form, IsWrongLeaf, IsWrongNode, IsWrongValue, IsWrongObject, IsWrong, HasUnknownWord, BreaksAt}
+use Rattle.wesl_pointer.specs.Pointer.{Part, key, index}
 use Rattle.wesl_form.specs.Laws.{ListsAreNoNodes, BrokenIsRefused}
 
 abbrev Holds : Field → List Field → Type 0
@@ -478,9 +479,6 @@ whole-lists-case _ ds = refl
 
 pub whole-lists : ListsAreNoNodes whole_form
 whole-lists m ds = whole-lists-case m ds
-
-pub first-lists : ListsAreNoNodes first_profile
-first-lists m ds = whole-lists-case m ds
 
 pub whole_form_refuses : BrokenIsRefused whole_form
 whole_form_refuses = broken-is-refused whole_form whole-lists

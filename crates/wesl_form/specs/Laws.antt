@@ -3,7 +3,8 @@ use Rattle.std.specs.Prelude.{◌≡◌, ℕ, List, Some, None}
 use Rattle.serde_json.specs.Data.{Data, array, Items}
 use Rattle.wesl_form.specs.Schema.{Form, Name, Table}
 use Rattle.wesl_form.specs.Reading.{reading}
-use Rattle.wesl_form.specs.Place.{Part, BreaksAt}
+use Rattle.wesl_form.specs.Place.{BreaksAt}
+use Rattle.wesl_pointer.specs.Pointer.{Part}
 
 -- a list is no short form of a node
 abbrev pub ListsAreNoNodes : Table → Type 0

@@ -3,9 +3,7 @@ pub mod Words
 pub mod Nodes
 pub mod Reading
 pub mod Place
-pub mod Kinds
 pub mod Writing
-pub mod Profile
 pub mod Units
 pub mod Laws
 pub mod Writable

@@ -6,28 +6,9 @@ use Rattle.serde_json.specs.Find.{get, at, as_str, as_number, as_array, as_objec
 use Rattle.wesl_names.specs.Path.{Text}
 use Rattle.wesl_syntax.specs.Tree.{Kind, kind, present}
 use Rattle.wesl_form.specs.Schema.{Words, Leaf, an_ident, a_name, a_text, a_literal, some_names, a_path, one_of, a_fixed_path, a_truth, a_limit, some_texts, a_map_to, anything, Name, Form, leaf, list_of, node, Head, fixed, chosen, Row, nothing, marked, needs, may, many, given, inner, inner_where, Node, Table}
-use Rattle.wesl_form.specs.Reading.{leaf_label, known_keys, has_only}
-
--- ---- JSON Pointer (RFC 6901)
-
-pub data Part : Type 0 where
-  key : Text → Part
-  index : ℕ → Part
-
--- `~` is written `~0`, and `/` is written `~1`
-abbrev pub escaped_char : ℕ → Text
-escaped_char c = if c == 126 then codes "~0" else (if c == 47 then codes "~1" else encode_utf8 c)
-
-unfoldable pub escaped : Text → Text
-escaped s = flat_map escaped_char (chars s)
-
-abbrev pub part_text : Part → Text
-part_text (key k) = escaped k
-part_text (index i) = decimal i
-
-abbrev pub pointer_text : List Part → Text
-pointer_text [] = []
-pointer_text (p ∷ path) = (47 ∷ part_text p) ++ pointer_text path
+use Rattle.wesl_form.specs.Reading.{leaf_label, known_keys}
+use Rattle.wesl_pointer.specs.Keys.{has_only}
+use Rattle.wesl_pointer.specs.Pointer.{Part, key, index, pointer_text}
 
 -- ---- the members of an object
 

@@ -8,6 +8,7 @@ use Rattle.serde_json.specs.Written.{has_float}
 use Rattle.wesl_syntax.specs.Tree.{before, Kind, LabelOf, kind, at, ident, text, texts, truth, path, ForestOf, end, tree, TreeOf, absent, present, list}
 use Rattle.wesl_names.specs.Path.{Text, Path, is_relative}
 use Rattle.wesl_names.specs.PathText.{parse}
+use Rattle.wesl_pointer.specs.Keys.{has_only}
 use Rattle.wesl_form.specs.Schema.{Spelled, SpelledForest, SpelledLabel, leaf_of, look, nonempty, Words, Leaf, an_ident, a_name, a_text, a_literal, some_names, a_path, one_of, a_fixed_path, a_truth, a_limit, some_texts, a_map_to, anything, Name, Form, leaf, list_of, node, Head, fixed, chosen, Row, nothing, marked, needs, may, many, given, inner, inner_where, Node, Table}
 
 infixl 10 ◌>>=◌
@@ -112,14 +113,6 @@ known_keys (many k f row) d = k ∷ known_keys row d
 known_keys (given l row) d = known_keys row d
 known_keys (inner h ins row) d = head_keys h ++ known_keys ins d ++ known_keys row d
 known_keys (inner_where k h ins row) d = (if is_some (get k d) then head_keys h ++ known_keys ins d else []) ++ known_keys row d
-
-abbrev pub all_known : List Text → Members → Bool
-all_known known no_members = true
-all_known known (member k d ms) = list_any (λ x. bytes_eq x k) known && all_known known ms
-
--- an object with no other keys
-abbrev pub has_only : List Text → Data → Bool
-has_only known d = elim (as_object d) as (λ _. Bool) [ None ↦ false | Some ms ↦ all_known known ms ]
 
 abbrev pub Reader : Type 0
 Reader = Form → Data → Option Spelled

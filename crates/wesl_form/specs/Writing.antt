@@ -4,7 +4,7 @@ use denote.Enum.Bare.{sameb}
 use Rattle.serde_json.specs.Data.{Data, null, boolean, number, string, array, object, Items, no_items, item, Members, no_members, member, put}
 use Rattle.wesl_names.specs.Path.{Text}
 use Rattle.wesl_syntax.specs.Tree.{before, Kind, LabelOf, kind, at, ident, text, texts, truth, unary, binary, assignment, space, access, path, ForestOf, end, tree, TreeOf, absent, present, literal, type_or_identifier, expression_case, template_argument}
-use Rattle.wesl_form.specs.Kinds.{kind_number, same_kind}
+use Rattle.wesl_syntax.specs.Kinds.{kind_number, same_kind}
 use Rattle.wesl_syntax.specs.contracts.expression.UnaryOperator as unary_operator
 use Rattle.wesl_syntax.specs.contracts.expression.BinaryOperator as binary_operator
 use Rattle.wesl_syntax.specs.contracts.statement.AssignmentOperator as assignment_operator

@@ -5,6 +5,8 @@ use Rattle.wesl_formula.specs.declared.features.Truth.TheVariants.{Yes, No, Unde
 use Rattle.wesl_formula.specs.Answers.{Answers, opposite, both_hold, one_holds}
 use Rattle.wesl_formula.specs.Formulas.{Form, always, never, flag, templated, within, negation, conjunction, disjunction, other, form, written}
 use Rattle.wesl_formula.specs.Residual.{literal, parenthesized, negated, both_as, both_of, either_as, either_of, is_joined, residual, decided}
+use Rattle.std.specs.Box.{with_value}
+use Rattle.wesl_formula.specs.Step.{operands_left, step, instead}
 use Rattle.wesl_formula.specs.Features.{Replies}
 use Rattle.wesl_formula.specs.Faults.{Fault, IsAmong, Tells, formula_faults}
 use Rattle.wesl_formula.specs.Evaluation.{Refuses}
@@ -16,6 +18,8 @@ use Rattle.wesl_syntax.specs.View.{expression_view}
 use Rattle.std.specs.Global.{Box}
 use Rattle.wesl_syntax.specs.declared.expression.Expression.{Expression, the_lemmas}
 use Rattle.wesl_syntax.specs.declared.expression.Expression.TheViews as made
+use Rattle.wesl_syntax.specs.declared.expression.BinaryOperator.{BinaryOperator}
+use Rattle.wesl_syntax.specs.declared.expression.UnaryOperator.{UnaryOperator}
 use Rattle.wesl_syntax.specs.declared.expression.BinaryOperator.TheVariants.{ShortCircuitAnd, ShortCircuitOr}
 use Rattle.wesl_syntax.specs.declared.expression.UnaryOperator.TheVariants.{LogicalNegation}
 use Rattle.wesl_syntax.specs.declared.span.Spanned.{Spanned}
@@ -78,6 +82,18 @@ module _ {I : Type 0} where
   parenthesized-joined p (disjunction q f r g) = refl
   parenthesized-joined p (other l c) = refl
 
+-- what is left, operands first
+pub step_by_step : {I : Type 0} (known : Answers I) (f : Form I) → step known (operands_left known f) ≡ residual known f
+step_by_step known always = refl
+step_by_step known never = refl
+step_by_step known (flag name c) = refl
+step_by_step known (templated name c) = refl
+step_by_step known (within p f) = refl
+step_by_step known (negation p f) = refl
+step_by_step known (conjunction p f q g) = refl
+step_by_step known (disjunction p f q g) = refl
+step_by_step known (other l c) = refl
+
 pub ruleset parenthesized_rule = (parenthesized-joined, parenthesized-joined)
 
 pub ruleset decides = (literal-parenthesized, literal-negated, literal-both, literal-either)
@@ -115,56 +131,91 @@ none_in_both xs ys e d = ap (λ zs. zs ++ ys) e ∙ d
 pub written_as : (e : Expression) (f : Form ℕ) → form (expression_view e) ≡ f → expression_view e ≡ written f
 written_as e f is = sym (written_back e) ∙ ap written is
 
+-- how the parts of an expression read in it
+form_within : (e : Box (Spanned Expression)) → form (expression_view (made.Parenthesized e)) ≡ within e.value.span (form (expression_view e.value.node))
+form_within e = search (rules, the_lemmas)
+
+form_negation : (e : Box (Spanned Expression)) → form (expression_view (made.Unary LogicalNegation e)) ≡ negation e.value.span (form (expression_view e.value.node))
+form_negation e = search (rules, the_lemmas)
+
+form_conjunction : (e d : Box (Spanned Expression)) → form (expression_view (made.Binary ShortCircuitAnd e d)) ≡ conjunction e.value.span (form (expression_view e.value.node)) d.value.span (form (expression_view d.value.node))
+form_conjunction e d = search (rules, the_lemmas)
+
+form_disjunction : (e d : Box (Spanned Expression)) → form (expression_view (made.Binary ShortCircuitOr e d)) ≡ disjunction e.value.span (form (expression_view e.value.node)) d.value.span (form (expression_view d.value.node))
+form_disjunction e d = search (rules, the_lemmas)
+
 -- parentheses decide what is in them
 pub decided_within : (known : Answers ℕ) (e : Box (Spanned Expression)) → decided known (form (expression_view (made.Parenthesized e))) ≡ decided known (form (expression_view e.value.node))
 decided_within known e =
-    let is : form (expression_view (made.Parenthesized e)) ≡ within e.value.span (form (expression_view e.value.node)) = search (rules, the_lemmas) in
-    ap (decided known) is ∙ literal-parenthesized e.value.span (residual known (form (expression_view e.value.node)))
+    ap (decided known) (form_within e) ∙ literal-parenthesized e.value.span (residual known (form (expression_view e.value.node)))
 
--- What is left of an expression, from what is left of its operands.
-module _ (known : Answers ℕ) (left : Expression) where
-  abbrev Left : Expression → Type 0
-  Left e = form (expression_view left) ≡ residual known (form (expression_view e))
+-- The steps of an expression f, of which e and d are the operands, lent as x and y and given back as v and w.
+module _ (known : Answers ℕ) (f : Expression) (e : Box (Spanned Expression)) (x v : Spanned Expression) where
+  abbrev Left : Spanned Expression → Spanned Expression → Type 0
+  Left a b = (form (expression_view b.node) ≡ residual known (form (expression_view a.node))) × (b.span ≡ a.span)
 
-  -- the operand r is what is left of e
-  abbrev pub LeftIn : Box (Spanned Expression) → Box (Spanned Expression) → Type 0
-  LeftIn r e = (form (expression_view r.value.node) ≡ residual known (form (expression_view e.value.node))) × (r.value.span ≡ e.value.span)
+  pub within_operands : f ≡ made.Parenthesized e → x ≡ e.value → Left x v → form (expression_view (made.Parenthesized (with_value e v))) ≡ operands_left known (form (expression_view f))
+  within_operands is lent h =
+      form_within (with_value e v) ∙ ap (within v.span) h.0 ∙ ap (λ p. within p (residual known (form (expression_view x.node)))) h.1
+      ∙ ap (λ a. within a.span (residual known (form (expression_view a.node)))) lent ∙ ap (operands_left known) (sym (form_within e)) ∙ ap (λ g. operands_left known (form (expression_view g))) (sym is)
 
-  pub within_left : (e r : Box (Spanned Expression)) → LeftIn r e → form (expression_view left) ≡ parenthesized r.value.span (form (expression_view r.value.node)) → Left (made.Parenthesized e)
-  within_left e r h is =
-      let whole : form (expression_view (made.Parenthesized e)) ≡ within e.value.span (form (expression_view e.value.node)) = search (rules, the_lemmas) in
-      is ∙ ap (λ p. parenthesized p (form (expression_view r.value.node))) h.1 ∙ ap (parenthesized e.value.span) h.0 ∙ ap (residual known) (sym whole)
+  pub negation_operands : (o : UnaryOperator) → o ≡ LogicalNegation → f ≡ made.Unary o e → x ≡ e.value → Left x v → form (expression_view (made.Unary o (with_value e v))) ≡ operands_left known (form (expression_view f))
+  negation_operands o same is lent h =
+      ap (λ q. form (expression_view (made.Unary q (with_value e v)))) same ∙ form_negation (with_value e v) ∙ ap (negation v.span) h.0 ∙ ap (λ p. negation p (residual known (form (expression_view x.node)))) h.1
+      ∙ ap (λ a. negation a.span (residual known (form (expression_view a.node)))) lent ∙ ap (operands_left known) (sym (form_negation e)) ∙ ap (λ g. operands_left known (form (expression_view g))) (sym (is ∙ ap (λ q. made.Unary q e) same))
 
-  pub negation_left : (e r : Box (Spanned Expression)) → LeftIn r e → form (expression_view left) ≡ negated r.value.span (form (expression_view r.value.node)) → Left (made.Unary LogicalNegation e)
-  negation_left e r h is =
-      let whole : form (expression_view (made.Unary LogicalNegation e)) ≡ negation e.value.span (form (expression_view e.value.node)) = search (rules, the_lemmas) in
-      is ∙ ap (λ p. negated p (form (expression_view r.value.node))) h.1 ∙ ap (negated e.value.span) h.0 ∙ ap (residual known) (sym whole)
+  pub within_step : (r : Option Expression) → f ≡ made.Parenthesized e → x ≡ e.value → instead r (within v.span (form (expression_view v.node))) ≡ parenthesized x.span (form (expression_view x.node))
+      → instead r (form (expression_view (made.Parenthesized (with_value e v)))) ≡ step known (form (expression_view f))
+  within_step r is lent h =
+      ap (instead r) (form_within (with_value e v)) ∙ h ∙ ap (λ a. parenthesized a.span (form (expression_view a.node))) lent ∙ ap (step known) (sym (form_within e)) ∙ ap (λ g. step known (form (expression_view g))) (sym is)
 
-  both_equal : (p p' q q' : Span) (f f' g g' : Form ℕ) → p ≡ p' → q ≡ q' → f ≡ f' → g ≡ g' → both_of p f q g ≡ both_of p' f' q' g'
-  both_equal p p' q q' f f' g g' a b d e = rw (a, b, d, e) refl
+  pub negation_step : (r : Option Expression) → f ≡ made.Unary LogicalNegation e → x ≡ e.value → instead r (negation x.span (form (expression_view x.node))) ≡ negated x.span (form (expression_view x.node))
+      → instead r (form (expression_view f)) ≡ step known (form (expression_view f))
+  negation_step r is lent h =
+      ap (λ g. instead r (form (expression_view g))) is ∙ ap (instead r) (form_negation e) ∙ ap (λ a. instead r (negation a.span (form (expression_view a.node)))) (sym lent)
+      ∙ h ∙ ap (λ a. negated a.span (form (expression_view a.node))) lent ∙ ap (step known) (sym (form_negation e)) ∙ ap (λ g. step known (form (expression_view g))) (sym is)
 
-  either_equal : (p p' q q' : Span) (f f' g g' : Form ℕ) → p ≡ p' → q ≡ q' → f ≡ f' → g ≡ g' → either_of p f q g ≡ either_of p' f' q' g'
-  either_equal p p' q q' f f' g g' a b d e = rw (a, b, d, e) refl
+  module _ (d : Box (Spanned Expression)) (y w : Spanned Expression) where
+    conjunction_equal : {p p' q q' : Span} {h h' k k' : Form ℕ} → p ≡ p' → h ≡ h' → q ≡ q' → k ≡ k' → conjunction p h q k ≡ conjunction p' h' q' k'
+    conjunction_equal a b c s = rw (a, b, c, s) refl
 
-  pub conjunction_left : (e r d s : Box (Spanned Expression)) → LeftIn r e → LeftIn s d
-      → form (expression_view left) ≡ both_of r.value.span (form (expression_view r.value.node)) s.value.span (form (expression_view s.value.node)) → Left (made.Binary ShortCircuitAnd e d)
-  conjunction_left e r d s h k is =
-      let whole : form (expression_view (made.Binary ShortCircuitAnd e d)) ≡ conjunction e.value.span (form (expression_view e.value.node)) d.value.span (form (expression_view d.value.node)) = search (rules, the_lemmas) in
-      is ∙ both_equal _ _ _ _ _ _ _ _ h.1 k.1 h.0 k.0 ∙ ap (residual known) (sym whole)
+    disjunction_equal : {p p' q q' : Span} {h h' k k' : Form ℕ} → p ≡ p' → h ≡ h' → q ≡ q' → k ≡ k' → disjunction p h q k ≡ disjunction p' h' q' k'
+    disjunction_equal a b c s = rw (a, b, c, s) refl
 
-  pub disjunction_left : (e r d s : Box (Spanned Expression)) → LeftIn r e → LeftIn s d
-      → form (expression_view left) ≡ either_of r.value.span (form (expression_view r.value.node)) s.value.span (form (expression_view s.value.node)) → Left (made.Binary ShortCircuitOr e d)
-  disjunction_left e r d s h k is =
-      let whole : form (expression_view (made.Binary ShortCircuitOr e d)) ≡ disjunction e.value.span (form (expression_view e.value.node)) d.value.span (form (expression_view d.value.node)) = search (rules, the_lemmas) in
-      is ∙ either_equal _ _ _ _ _ _ _ _ h.1 k.1 h.0 k.0 ∙ ap (residual known) (sym whole)
+    abbrev left_of : Spanned Expression → Form ℕ
+    left_of a = residual known (form (expression_view a.node))
+
+    pub conjunction_operands : (o : BinaryOperator) → o ≡ ShortCircuitAnd → f ≡ made.Binary o e d → x ≡ e.value → y ≡ d.value → Left x v → Left y w → form (expression_view (made.Binary o (with_value e v) (with_value d w))) ≡ operands_left known (form (expression_view f))
+    conjunction_operands o same is lent also h k =
+        ap (λ q. form (expression_view (made.Binary q (with_value e v) (with_value d w)))) same ∙ form_conjunction (with_value e v) (with_value d w)
+        ∙ conjunction_equal (h.1 ∙ ap (λ a. a.span) lent) (h.0 ∙ ap left_of lent) (k.1 ∙ ap (λ a. a.span) also) (k.0 ∙ ap left_of also)
+        ∙ ap (operands_left known) (sym (form_conjunction e d)) ∙ ap (λ g. operands_left known (form (expression_view g))) (sym (is ∙ ap (λ q. made.Binary q e d) same))
+
+    pub disjunction_operands : (o : BinaryOperator) → o ≡ ShortCircuitOr → f ≡ made.Binary o e d → x ≡ e.value → y ≡ d.value → Left x v → Left y w → form (expression_view (made.Binary o (with_value e v) (with_value d w))) ≡ operands_left known (form (expression_view f))
+    disjunction_operands o same is lent also h k =
+        ap (λ q. form (expression_view (made.Binary q (with_value e v) (with_value d w)))) same ∙ form_disjunction (with_value e v) (with_value d w)
+        ∙ disjunction_equal (h.1 ∙ ap (λ a. a.span) lent) (h.0 ∙ ap left_of lent) (k.1 ∙ ap (λ a. a.span) also) (k.0 ∙ ap left_of also)
+        ∙ ap (operands_left known) (sym (form_disjunction e d)) ∙ ap (λ g. operands_left known (form (expression_view g))) (sym (is ∙ ap (λ q. made.Binary q e d) same))
+
+    pub conjunction_step : (r : Option Expression) (o : BinaryOperator) → o ≡ ShortCircuitAnd → f ≡ made.Binary o e d → x ≡ e.value → y ≡ d.value
+        → instead r (conjunction v.span (form (expression_view v.node)) w.span (form (expression_view w.node))) ≡ both_of x.span (form (expression_view x.node)) y.span (form (expression_view y.node))
+        → instead r (form (expression_view (made.Binary o (with_value e v) (with_value d w)))) ≡ step known (form (expression_view f))
+    conjunction_step r o same is lent also h =
+        ap (λ q. instead r (form (expression_view (made.Binary q (with_value e v) (with_value d w))))) same ∙ ap (instead r) (form_conjunction (with_value e v) (with_value d w)) ∙ h ∙ ap (λ a. both_of a.span (form (expression_view a.node)) y.span (form (expression_view y.node))) lent
+        ∙ ap (λ a. both_of e.value.span (form (expression_view e.value.node)) a.span (form (expression_view a.node))) also ∙ ap (step known) (sym (form_conjunction e d)) ∙ ap (λ g. step known (form (expression_view g))) (sym (is ∙ ap (λ q. made.Binary q e d) same))
+
+    pub disjunction_step : (r : Option Expression) (o : BinaryOperator) → o ≡ ShortCircuitOr → f ≡ made.Binary o e d → x ≡ e.value → y ≡ d.value
+        → instead r (disjunction v.span (form (expression_view v.node)) w.span (form (expression_view w.node))) ≡ either_of x.span (form (expression_view x.node)) y.span (form (expression_view y.node))
+        → instead r (form (expression_view (made.Binary o (with_value e v) (with_value d w)))) ≡ step known (form (expression_view f))
+    disjunction_step r o same is lent also h =
+        ap (λ q. instead r (form (expression_view (made.Binary q (with_value e v) (with_value d w))))) same ∙ ap (instead r) (form_disjunction (with_value e v) (with_value d w)) ∙ h ∙ ap (λ a. either_of a.span (form (expression_view a.node)) y.span (form (expression_view y.node))) lent
+        ∙ ap (λ a. either_of e.value.span (form (expression_view e.value.node)) a.span (form (expression_view a.node))) also ∙ ap (step known) (sym (form_disjunction e d)) ∙ ap (λ g. step known (form (expression_view g))) (sym (is ∙ ap (λ q. made.Binary q e d) same))
 
 -- the faults of two operands
 pub both_faults : (reply : Replies ℕ) (e d : Box (Spanned Expression)) → formula_faults reply (form (expression_view (made.Binary ShortCircuitAnd e d))) ≡ formula_faults reply (form (expression_view e.value.node)) ++ formula_faults reply (form (expression_view d.value.node))
 both_faults reply e d =
-    let whole : form (expression_view (made.Binary ShortCircuitAnd e d)) ≡ conjunction e.value.span (form (expression_view e.value.node)) d.value.span (form (expression_view d.value.node)) = search (rules, the_lemmas) in
-    ap (formula_faults reply) whole
+    ap (formula_faults reply) (form_conjunction e d)
 
 pub either_faults : (reply : Replies ℕ) (e d : Box (Spanned Expression)) → formula_faults reply (form (expression_view (made.Binary ShortCircuitOr e d))) ≡ formula_faults reply (form (expression_view e.value.node)) ++ formula_faults reply (form (expression_view d.value.node))
 either_faults reply e d =
-    let whole : form (expression_view (made.Binary ShortCircuitOr e d)) ≡ disjunction e.value.span (form (expression_view e.value.node)) d.value.span (form (expression_view d.value.node)) = search (rules, the_lemmas) in
-    ap (formula_faults reply) whole
+    ap (formula_faults reply) (form_disjunction e d)

@@ -1,8 +1,9 @@
 //! What is left of a formula, in its own place.
 ghost use Rattle.std.specs.Prelude.{◌≡◌, [], ◌∷◌};
 ghost use Rattle.wesl_formula.specs.Features.{answer_to, known, by_number};
-ghost use Rattle.wesl_formula.specs.Formulas.{form, written};
-ghost use Rattle.wesl_formula.specs.Residual.{decided, either_of, both_of, flag_as, literal, negated, parenthesized, residual, is_joined};
+ghost use Rattle.wesl_formula.specs.Formulas.{conjunction, disjunction, form, negation, within, written};
+ghost use Rattle.wesl_formula.specs.Residual.{decided, either_of, both_of, literal, negated, parenthesized, residual, is_joined};
+ghost use Rattle.wesl_formula.specs.Step.{instead, operands_left, step};
 ghost use Rattle.wesl_syntax.specs.Tree.{branch, type_or_identifier};
 ghost use Rattle.wesl_syntax.specs.Unit.{name_in};
 ghost use Rattle.wesl_syntax.specs.View.{expression_view, type_view};
@@ -65,77 +66,73 @@ fn is_joined(expression: &Expression) -> bool
     }
 }
 
-/// Parentheses stay only round a formula that joins two.
+/// Takes an expression out of its place.
+fn taken(node: &mut ExpressionNode) -> Expression
+    ensures taken { result ≡ node.old.node }
+{
+    mem::replace(&mut node.node, Expression::Literal(Literal::Bool(true)))
+}
+
+/// What takes the place of a formula in parentheses, if anything does: they stay only round a formula that joins two.
 #[tactic(auto, using(crate::proofs::Steps::parenthesized_rule))]
-fn parenthesize(inner: Box<ExpressionNode>) -> Expression
-    ensures { form (expression_view result) ≡ parenthesized inner.value.span (form (expression_view inner.value.node)) }
+fn unwrapped(inner: &mut ExpressionNode) -> Option<Expression>
+    ensures { instead result (within inner.new.span (form (expression_view inner.new.node))) ≡ parenthesized inner.old.span (form (expression_view inner.old.node)) }
 {
     if is_joined(&inner.node) {
-        Expression::Parenthesized { expression: inner }
+        None
     } else {
-        Box::into_inner(inner).node
+        Some(taken(inner))
     }
 }
 
-/// The other literal, or else the negation.
-fn negate(operand: Box<ExpressionNode>) -> Expression
-    ensures { form (expression_view result) ≡ negated operand.value.span (form (expression_view operand.value.node)) }
+/// What takes the place of a negation, if anything does: the other literal.
+fn negated(operand: &ExpressionNode) -> Option<Expression>
+    ensures { instead result (negation operand.now.span (form (expression_view operand.now.node))) ≡ negated operand.now.span (form (expression_view operand.now.node)) }
 {
     match literal_value(&operand.node) {
-        Truth::Yes => Expression::Literal(Literal::Bool(false)),
-        Truth::No => Expression::Literal(Literal::Bool(true)),
-        Truth::Undecided => Expression::Unary {
-            operator: UnaryOperator::LogicalNegation,
-            operand,
-        },
+        Truth::Yes => Some(Expression::Literal(Literal::Bool(false))),
+        Truth::No => Some(Expression::Literal(Literal::Bool(true))),
+        Truth::Undecided => None,
     }
 }
 
-/// What is left of `left && right`.
-fn both(left: Box<ExpressionNode>, right: Box<ExpressionNode>) -> Expression
-    ensures { form (expression_view result) ≡ both_of left.value.span (form (expression_view left.value.node)) right.value.span (form (expression_view right.value.node)) }
+/// What takes the place of `left && right`, if anything does.
+fn both(left: &mut ExpressionNode, right: &mut ExpressionNode) -> Option<Expression>
+    ensures { instead result (conjunction left.new.span (form (expression_view left.new.node)) right.new.span (form (expression_view right.new.node))) ≡ both_of left.old.span (form (expression_view left.old.node)) right.old.span (form (expression_view right.old.node)) }
 {
     match (literal_value(&left.node), literal_value(&right.node)) {
-        (Truth::No, _) | (_, Truth::No) => Expression::Literal(Literal::Bool(false)),
-        (Truth::Yes, Truth::Yes) => Expression::Literal(Literal::Bool(true)),
-        (Truth::Yes, Truth::Undecided) => Box::into_inner(right).node,
-        (Truth::Undecided, Truth::Yes) => Box::into_inner(left).node,
-        (Truth::Undecided, Truth::Undecided) => Expression::Binary {
-            operator: BinaryOperator::ShortCircuitAnd,
-            left,
-            right,
-        },
+        (Truth::No, _) | (_, Truth::No) => Some(Expression::Literal(Literal::Bool(false))),
+        (Truth::Yes, Truth::Yes) => Some(Expression::Literal(Literal::Bool(true))),
+        (Truth::Yes, Truth::Undecided) => Some(taken(right)),
+        (Truth::Undecided, Truth::Yes) => Some(taken(left)),
+        (Truth::Undecided, Truth::Undecided) => None,
     }
 }
 
-/// What is left of `left || right`.
-fn either(left: Box<ExpressionNode>, right: Box<ExpressionNode>) -> Expression
-    ensures { form (expression_view result) ≡ either_of left.value.span (form (expression_view left.value.node)) right.value.span (form (expression_view right.value.node)) }
+/// What takes the place of `left || right`, if anything does.
+fn either(left: &mut ExpressionNode, right: &mut ExpressionNode) -> Option<Expression>
+    ensures { instead result (disjunction left.new.span (form (expression_view left.new.node)) right.new.span (form (expression_view right.new.node))) ≡ either_of left.old.span (form (expression_view left.old.node)) right.old.span (form (expression_view right.old.node)) }
 {
     match (literal_value(&left.node), literal_value(&right.node)) {
-        (Truth::Yes, _) | (_, Truth::Yes) => Expression::Literal(Literal::Bool(true)),
-        (Truth::No, Truth::No) => Expression::Literal(Literal::Bool(false)),
-        (Truth::No, Truth::Undecided) => Box::into_inner(right).node,
-        (Truth::Undecided, Truth::No) => Box::into_inner(left).node,
-        (Truth::Undecided, Truth::Undecided) => Expression::Binary {
-            operator: BinaryOperator::ShortCircuitOr,
-            left,
-            right,
-        },
+        (Truth::Yes, _) | (_, Truth::Yes) => Some(Expression::Literal(Literal::Bool(true))),
+        (Truth::No, Truth::No) => Some(Expression::Literal(Literal::Bool(false))),
+        (Truth::No, Truth::Undecided) => Some(taken(right)),
+        (Truth::Undecided, Truth::No) => Some(taken(left)),
+        (Truth::Undecided, Truth::Undecided) => None,
     }
 }
 
-/// What is left of a name: the literal that is known of its flag, or else the name.
-fn answered(ty: TypeExpression, names: &Names, features: &Features) -> Expression
-    ensures { form (expression_view result) ≡ residual (known (by_number names.now (answer_to features.now))) (form (branch type_or_identifier (type_view ty ∷ []))) }
+/// What takes the place of a name, if anything does: the literal that is known of its flag.
+fn answered(ty: &TypeExpression, names: &Names, features: &Features) -> Option<Expression>
+    ensures { instead result (form (branch type_or_identifier (type_view ty.now ∷ []))) ≡ residual (known (by_number names.now (answer_to features.now))) (form (branch type_or_identifier (type_view ty.now ∷ []))) }
 {
     if ty.template_args.is_some() {
-        return Expression::TypeOrIdentifier(ty);
+        return None;
     }
     match features.answer(name_of(names, ty.ident)) {
-        Feature::Enable => Expression::Literal(Literal::Bool(true)),
-        Feature::Disable => Expression::Literal(Literal::Bool(false)),
-        Feature::Keep | Feature::Error => Expression::TypeOrIdentifier(ty),
+        Feature::Enable => Some(Expression::Literal(Literal::Bool(true))),
+        Feature::Disable => Some(Expression::Literal(Literal::Bool(false))),
+        Feature::Keep | Feature::Error => None,
     }
 }
 
@@ -144,72 +141,84 @@ fn answered(ty: TypeExpression, names: &Names, features: &Features) -> Expressio
 pub fn simplify(formula: &mut Expression, names: &Names, features: &Features)
     ensures { expression_view formula.new ≡ written (residual (known (by_number names.now (answer_to features.now))) (form (expression_view formula.old))) }
 {
-    let whole = mem::replace(formula, Expression::Literal(Literal::Bool(true)));
-    *formula = simplified(whole, names, features);
+    leave(formula, names, features);
 }
 
 #[cycle(simplifying)]
-fn simplified(whole: Expression, names: &Names, features: &Features) -> Expression
-    ensures { form (expression_view result) ≡ residual (known (by_number names.now (answer_to features.now))) (form (expression_view whole)) }
+fn leave(formula: &mut Expression, names: &Names, features: &Features)
+    ensures { form (expression_view formula.new) ≡ residual (known (by_number names.now (answer_to features.now))) (form (expression_view formula.old)) }
 {
-    match whole {
-        Expression::Literal(Literal::Bool(true)) => Expression::Literal(Literal::Bool(true)),
-        Expression::Literal(Literal::Bool(false)) => Expression::Literal(Literal::Bool(false)),
-        Expression::Literal(Literal::Text(text)) => Expression::Literal(Literal::Text(text)),
-        Expression::Parenthesized { expression } => {
-            parenthesize(simplified_operand(expression, names, features))
-        }
-        Expression::NamedComponent { base, component } => {
-            Expression::NamedComponent { base, component }
-        }
-        Expression::Indexing { base, index } => Expression::Indexing { base, index },
+    leave_operands(formula, names, features);
+    if let Some(instead) = instead_of(formula, names, features) {
+        *formula = instead;
+    }
+}
+
+/// Leaves what is left of the operands of a formula.
+#[cycle(simplifying)]
+fn leave_operands(formula: &mut Expression, names: &Names, features: &Features)
+    ensures { form (expression_view formula.new) ≡ operands_left (known (by_number names.now (answer_to features.now))) (form (expression_view formula.old)) }
+{
+    match formula {
+        Expression::Parenthesized { expression } => leave(&mut expression.node, names, features),
         Expression::Unary {
             operator: UnaryOperator::LogicalNegation,
             operand,
-        } => negate(simplified_operand(operand, names, features)),
-        Expression::Unary { operator, operand } => Expression::Unary { operator, operand },
+        } => leave(&mut operand.node, names, features),
         Expression::Binary {
             operator: BinaryOperator::ShortCircuitAnd,
             left,
             right,
         } => {
-            let left = simplified_operand(left, names, features);
-            both(left, simplified_operand(right, names, features))
+            leave(&mut left.node, names, features);
+            leave(&mut right.node, names, features);
         }
         Expression::Binary {
             operator: BinaryOperator::ShortCircuitOr,
             left,
             right,
         } => {
-            let left = simplified_operand(left, names, features);
-            either(left, simplified_operand(right, names, features))
+            leave(&mut left.node, names, features);
+            leave(&mut right.node, names, features);
         }
-        Expression::Binary {
-            operator,
-            left,
-            right,
-        } => Expression::Binary {
-            operator,
-            left,
-            right,
-        },
-        Expression::FunctionCall(call) => Expression::FunctionCall(call),
-        Expression::TypeOrIdentifier(ty) => answered(ty, names, features),
+        Expression::Literal(_)
+        | Expression::NamedComponent { .. }
+        | Expression::Indexing { .. }
+        | Expression::Unary { .. }
+        | Expression::Binary { .. }
+        | Expression::FunctionCall(_)
+        | Expression::TypeOrIdentifier(_) => {}
     }
 }
 
-#[cycle(simplifying)]
-fn simplified_operand(
-    mut operand: Box<ExpressionNode>,
-    names: &Names,
-    features: &Features,
-) -> Box<ExpressionNode>
-    ensures left { form (expression_view result.value.node) ≡ residual (known (by_number names.now (answer_to features.now))) (form (expression_view operand.value.node)) }
-    ensures span { result.value.span ≡ operand.value.span }
+/// What takes the place of a formula of whose operands nothing more goes, if anything does.
+fn instead_of(formula: &mut Expression, names: &Names, features: &Features) -> Option<Expression>
+    ensures { instead result (form (expression_view formula.new)) ≡ step (known (by_number names.now (answer_to features.now))) (form (expression_view formula.old)) }
 {
-    let whole = mem::replace(&mut operand.node, Expression::Literal(Literal::Bool(true)));
-    operand.node = simplified(whole, names, features);
-    operand
+    match formula {
+        Expression::Parenthesized { expression } => unwrapped(expression),
+        Expression::Unary {
+            operator: UnaryOperator::LogicalNegation,
+            operand,
+        } => negated(operand),
+        Expression::Binary {
+            operator: BinaryOperator::ShortCircuitAnd,
+            left,
+            right,
+        } => both(left, right),
+        Expression::Binary {
+            operator: BinaryOperator::ShortCircuitOr,
+            left,
+            right,
+        } => either(left, right),
+        Expression::TypeOrIdentifier(ty) => answered(ty, names, features),
+        Expression::Literal(_)
+        | Expression::NamedComponent { .. }
+        | Expression::Indexing { .. }
+        | Expression::Unary { .. }
+        | Expression::Binary { .. }
+        | Expression::FunctionCall(_) => None,
+    }
 }
 
 /// Whether the features decide a formula, and how.

@@ -1,9 +1,1 @@
-pub mod Handing
-pub mod Worlds
-pub mod Taking
-pub mod Linked
-pub mod Resolved
-pub mod Tabled
 pub mod Keeping
-pub mod Holding
-pub mod Refusal

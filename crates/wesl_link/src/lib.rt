@@ -1,11 +1,6 @@
-//! Linking: many modules into one unit (WESL, "Imports").
+//! Linking: many modules into one unit (WESL, "Imports"). The calls that users make; `wesl_linker` does the work.
 #![tactic(auto)]
 
-mod assemble;
-mod link;
-mod loaded;
-mod modules;
-mod refusals;
 mod resolutions;
 mod resolve;
 

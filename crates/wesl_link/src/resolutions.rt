@@ -1,102 +1,26 @@
 //! What a link found: its modules, what they declare that is reached, and the names that these print as.
-ghost use Rattle.std.specs.Prelude.{◌≡◌, ◌∷◌, ◌++◌, [], List, Contains, IsTrue, OnOk, OnErr, IfOk, IfErr, option_map, map};
+ghost use Rattle.std.specs.Prelude.{◌≡◌, IsTrue, OnOk, OnErr, IfOk, IfErr, option_map};
 ghost use Rattle.wesl_names.specs.declared.errors.Error as error;
-ghost use Rattle.wesl_names.specs.Path.{Text, Path, path_view};
+ghost use Rattle.wesl_names.specs.Path.{path_view};
 ghost use Rattle.wesl_tree.specs.Translation.{unit_view};
-ghost use Rattle.wesl_table.specs.NumbersView.{numbering};
-ghost use Rattle.wesl_naming.specs.GivenView.{given as given_names};
-ghost use Rattle.wesl_link.specs.Resolved.{paths_of, paths_told, first_path, IsNothing, IsMangled, AssemblesTo};
-ghost use Rattle.wesl_link.specs.Keeping.{all_loaded, loaded_modules, IsLinkOf, task_in, IsSound, resolved, modules_of, turns_of};
-ghost use Rattle.wesl_link.specs.Holding.{IsFoundBy, IsGivenAll, GivesTo, IsFreshAfter, AreOnlyRoot};
-ghost use Rattle.wesl_link.specs.declared.loaded.Loaded as loaded;
+ghost use Rattle.wesl_linker.specs.Resolved.{paths_of, paths_told, first_path, IsNothing, IsMangled, AssemblesTo};
+ghost use Rattle.wesl_link.specs.Keeping.{IsSound, resolved, modules_of, turns_of};
 
-use crate::assemble::assembled;
-use crate::link::{Link, table_of};
-use crate::loaded::Loaded;
 use std::alloc::Global;
 use wesl_mangle::Mangler;
 use wesl_names::{Error, ModulePath};
-use wesl_naming::GivenNames;
 use wesl_tree::TranslationUnit;
 
 /// What a link found, and the names that its symbols print as: their own before any mangling.
-#[derive(Drop)]
 pub struct Resolutions {
-    link: Option<Link>,
-    given: GivenNames,
+    pub(crate) found: wesl_linker::Resolutions,
 }
 
-/// The paths of modules: the root first.
-fn paths<'a>(
-    alloc: Global,
-    root: &'a Loaded,
-    others: &'a [Loaded],
-) -> Result<Vec<&'a ModulePath>, Error>
-    ensures told { IfOk result (λ ps. paths_told ps.items ≡ paths_of (loaded_modules (root.now ∷ others.now))) }
-    ensures refused { IfErr result (λ e. e ≡ error.Memory) }
-{
-    let mut paths = Vec::new(alloc);
-    paths.push(&root.path)?;
-    for module in others {
-        paths.push(&module.path)?;
+// By hand, so that it is proved once: a derived one is proved in each crate that lets go of a value.
+impl Drop for Resolutions {
+    fn drop(self) {
+        let Resolutions { found: _ } = self;
     }
-    Ok(paths)
-}
-
-/// The names that a mangler has for what a module of a link declares, after those before them.
-fn add_names<M: Mangler>(
-    alloc: Global,
-    link: &Link,
-    mangler: &mut M,
-    module: &Loaded,
-    given: &mut GivenNames,
-) -> Result<(), Error>
-    requires sound { IsLinkOf (task_in link.now) link.now }
-    requires inside { Contains (all_loaded link.now) module.now }
-    ensures given { OnOk result ((ms : List loaded.Loaded) (name_of : Path → Text → Text) → ((p : Path) (x : Text) → M.name_of mangler.old p x ≡ name_of p x) → IsFreshAfter ms module.now → GivesTo (numbering link.now.numbers) ms name_of (given_names given.old) → GivesTo (numbering link.now.numbers) (ms ++ module.now ∷ []) name_of (given_names given.new)) }
-    ensures same { (p : Path) (x : Text) → M.name_of mangler.new p x ≡ M.name_of mangler.old p x }
-    ensures refused { IfErr result (λ e. e ≡ error.Memory) }
-{
-    let table = table_of(link, module);
-    given.add_table(alloc, mangler, &link.numbers, &module.path, table)
-}
-
-/// The names that a mangler has for what the modules but the root declare, after those before them.
-fn add_others<M: Mangler>(
-    alloc: Global,
-    link: &Link,
-    mangler: &mut M,
-    given: &mut GivenNames,
-) -> Result<(), Error>
-    requires sound { IsLinkOf (task_in link.now) link.now }
-    ensures given { OnOk result ((ms : List loaded.Loaded) → AreOnlyRoot link.now ms → GivesTo (numbering link.now.numbers) ms (M.name_of mangler.old) (given_names given.old) → GivesTo (numbering link.now.numbers) (ms ++ link.now.others.items) (M.name_of mangler.old) (given_names given.new)) }
-    ensures refused { IfErr result (λ e. e ≡ error.Memory) }
-{
-    for module in &link.others {
-        add_names(alloc, link, mangler, module, given)?;
-    }
-    Ok(())
-}
-
-/// The names that a mangler has for what the modules of a link declare, the root's only with `mangle_root`.
-fn names_of<M: Mangler>(
-    alloc: Global,
-    link: &Link,
-    mangler: &mut M,
-    mangle_root: bool,
-) -> Result<GivenNames, Error>
-    requires sound { IsLinkOf (task_in link.now) link.now }
-    ensures given { IfOk result (λ names. IsGivenAll link.now mangle_root (M.name_of mangler.old) (given_names names)) }
-    ensures refused { IfErr result (λ e. e ≡ error.Memory) }
-{
-    let mut given = GivenNames::new(alloc);
-    if !mangle_root {
-        add_others(alloc, link, mangler, &mut given)?;
-        return Ok(given);
-    }
-    add_names(alloc, link, mangler, &link.root, &mut given)?;
-    add_others(alloc, link, mangler, &mut given)?;
-    Ok(given)
 }
 
 impl Resolutions {
@@ -106,20 +30,7 @@ impl Resolutions {
         ensures sound { IsSound result }
     {
         Resolutions {
-            link: None,
-            given: GivenNames::new(alloc),
-        }
-    }
-
-    /// What a link found, each symbol under its own name.
-    pub(crate) fn of_link(alloc: Global, link: Link) -> Resolutions
-        requires sound { IsLinkOf (task_in link) link }
-        ensures found { IsFoundBy link (resolved result) }
-        ensures sound { IsSound result }
-    {
-        Resolutions {
-            link: Some(link),
-            given: GivenNames::new(alloc),
+            found: wesl_linker::Resolutions::new_uninit(alloc),
         }
     }
 
@@ -127,10 +38,7 @@ impl Resolutions {
     pub fn root_path(&self) -> Option<&ModulePath>
         ensures { option_map (λ p. path_view p.now) result ≡ first_path (modules_of self.now) }
     {
-        match &self.link {
-            Some(link) => Some(&link.root.path),
-            None => None,
-        }
+        self.found.root_path()
     }
 
     /// The paths of the modules: the root first, the others in path order. Refused for want of memory alone.
@@ -138,20 +46,14 @@ impl Resolutions {
         ensures order { IfOk result (λ ps. paths_told ps.items ≡ paths_of (modules_of self.now)) }
         ensures refused { IfErr result (λ e. e ≡ error.Memory) }
     {
-        match &self.link {
-            Some(link) => paths(alloc, &link.root, &link.others),
-            None => Ok(Vec::new(alloc)),
-        }
+        self.found.module_order(alloc)
     }
 
     /// How many modules were loaded and symbols reached.
     pub fn turns(&self) -> usize
         ensures { result ≡ turns_of self.now }
     {
-        match &self.link {
-            Some(link) => link.linked.turns(),
-            None => 0,
-        }
+        self.found.turns()
     }
 
     /// Gives each declared name of each module the name that the mangler has for it, the root's only with
@@ -168,10 +70,7 @@ impl Resolutions {
         ensures unchanged { OnErr result (self.new ≡ self.old) }
         ensures refused { IfErr result (λ e. e ≡ error.Memory) }
     {
-        if let Some(link) = &self.link {
-            self.given = names_of(alloc, link, mangler, mangle_root)?;
-        }
-        Ok(())
+        self.found.mangle(alloc, mangler, mangle_root)
     }
 
     /// The linked unit: the root's directives and held declarations first, then those of the other modules in path
@@ -183,9 +82,6 @@ impl Resolutions {
         ensures assembled { IfOk result (λ unit. AssemblesTo (resolved self.now) (unit_view unit)) }
         ensures refused { IfErr result (λ e. e ≡ error.Memory) }
     {
-        match &self.link {
-            Some(link) => assembled(alloc, link, &self.given),
-            None => Ok(TranslationUnit::new(alloc)),
-        }
+        self.found.assemble(alloc, strip)
     }
 }

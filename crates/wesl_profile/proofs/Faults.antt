@@ -2,7 +2,7 @@
 use Rattle.std.proofs.Common.{◌≡◌, ◌⊎◌, List, [], ◌∷◌, ◌++◌, Some, None, string_bytes, sym, subst, inl, inr}
 use Rattle.wesl_names.specs.Path.{Text}
 use Rattle.wesl_names.specs.declared.errors.Error as error
-use Rattle.wesl_form.specs.Place.{Part, part_text}
+use Rattle.wesl_pointer.specs.Pointer.{Part, part_text}
 use Rattle.wesl_reading.specs.Faults.{place_of, IfPlace, IsAtRoot, IsUnderPart}
 
 -- an error that tells this place

@@ -8,11 +8,12 @@ use Rattle.serde_json.specs.declared.value.Value.{Value}
 use Rattle.serde_json.proofs.Views.{Entry, get_item_within}
 use Rattle.wesl_names.specs.Path.{Text}
 use Rattle.wesl_names.specs.declared.errors.Error as error
-use Rattle.wesl_form.specs.Place.{Part, key, index, part_text}
+use Rattle.wesl_pointer.specs.Pointer.{Part, key, index, part_text}
 use Rattle.wesl_reading.specs.Faults.{IfPlace, IsUnderPart, IsAtRoot}
 use Rattle.wesl_profile.specs.Roles.{item_role, member_role}
 use Rattle.wesl_profile.specs.Vocabulary.{attribute_shape, declaration_shape, expression_shape, shape_of, has_keys}
-use Rattle.wesl_profile.specs.Places.{is_open, is_foreign_word, is_foreign, HasMember, IsForeignAt, IsForeignWithin, object_has_foreign, has_foreign, items_have_foreign, members_have_foreign}
+use Rattle.wesl_profile.specs.Places.{is_open, is_foreign_word, is_foreign, IsForeignAt, IsForeignWithin, object_has_foreign, has_foreign, items_have_foreign, members_have_foreign}
+use Rattle.wesl_pointer.specs.Keys.{HasMember}
 use Rattle.wesl_profile.specs.Units.{IsOutside, IsWithin}
 use Rattle.wesl_profile.specs.declared.roles.Role.{Role}
 use Rattle.wesl_profile.specs.declared.roles.Role.TheVariants.{Module}

@@ -3,7 +3,8 @@ use Rattle.std.specs.Prelude.{◌≡◌, ◌⊎◌, List, [], ◌∷◌, Bool, t
 use Rattle.serde_json.specs.Data.{Data, null, boolean, number, string, array, object, Items, no_items, item, Members, no_members, member}
 use Rattle.serde_json.specs.Find.{at, as_object}
 use Rattle.wesl_names.specs.Path.{Text}
-use Rattle.wesl_form.specs.Place.{Part, key, index, pointer_text}
+use Rattle.wesl_pointer.specs.Pointer.{Part, key, index, pointer_text}
+use Rattle.wesl_pointer.specs.Keys.{HasMember}
 use Rattle.wesl_profile.specs.Roles.{item_role, member_role}
 use Rattle.wesl_profile.specs.Vocabulary.{shape_of, has_keys, is_known_text}
 use Rattle.wesl_profile.specs.declared.roles.Role.{Role}
@@ -25,11 +26,6 @@ abbrev pub is_foreign : Role → Data → Bool
 is_foreign r (string s) = not (is_known_text r s)
 is_foreign r (object ms) = not (has_keys (shape_of r (object ms)) (object ms))
 is_foreign r _ = false
-
--- the object has this value at this key
-abbrev pub HasMember : Text → Data → Members → Type 0
-HasMember k d no_members = ⊥
-HasMember k d (member l e ms) = ((k ≡ l) × (d ≡ e)) ⊎ HasMember k d ms
 
 -- The parts lead to a value that is none of the profile where it stands. An object whose word is none of the profile is so at
 -- that word alone, and nothing else in it is looked at.

@@ -5,7 +5,7 @@ use Rattle.std.specs.Str.{bytes_eq}
 use Rattle.serde_json.specs.Data.{Data, string}
 use Rattle.serde_json.specs.Find.{get}
 use Rattle.wesl_names.specs.Path.{Text}
-use Rattle.wesl_form.specs.Reading.{has_only}
+use Rattle.wesl_pointer.specs.Keys.{has_only}
 use Rattle.wesl_profile.specs.declared.roles.Role.{Role}
 use Rattle.wesl_profile.specs.declared.roles.Role.TheVariants as role
 use Rattle.wesl_profile.specs.declared.shapes.Shape.{Shape}

@@ -8,12 +8,13 @@ ghost use Rattle.std.specs.Str.{bytes_eq};
 ghost use Rattle.serde_json.specs.Find.{as_str, get};
 ghost use Rattle.serde_json.specs.View.{view, members_view};
 ghost use Rattle.wesl_names.specs.Path.{path_view};
-ghost use Rattle.wesl_form.specs.Reading.{all_known, has_only, name_in, literal_in, path_in};
-ghost use Rattle.wesl_form.specs.Place.{escaped};
+ghost use Rattle.wesl_form.specs.Reading.{name_in, literal_in, path_in};
+ghost use Rattle.wesl_pointer.specs.Keys.{all_known, has_only};
+ghost use Rattle.wesl_pointer.specs.Pointer.{escaped};
 ghost use Rattle.wesl_reading.specs.Faults.{IsAtRoot, IsUnder, IsUnderIndex, LocatesHere, LocatesText};
 
-use serde_json::{Map, Value};
-use std::alloc::{AllocError, Global};
+use serde_json::Value;
+use std::alloc::Global;
 use wesl_names::{Error, ModulePath};
 
 /// The value itself is wrong.
@@ -28,7 +29,7 @@ pub fn under(alloc: Global, error: Error, key: &str) -> Error
     ensures { IsUnder key.now error result }
 {
     match error {
-        Error::BadTree(place) => match extended(alloc, key, place.as_str()) {
+        Error::BadTree(place) => match wesl_pointer::under_key(alloc, key, place.as_str()) {
             Ok(place) => Error::BadTree(place),
             Err(_) => Error::Memory,
         },
@@ -41,28 +42,12 @@ pub fn under_index(alloc: Global, error: Error, index: usize) -> Error
     ensures { IsUnderIndex index error result }
 {
     match error {
-        Error::BadTree(place) => match format!(in alloc; "/{index}{place}") {
+        Error::BadTree(place) => match wesl_pointer::under_index(alloc, index, place.as_str()) {
             Ok(place) => Error::BadTree(place),
             Err(_) => Error::Memory,
         },
         other => other,
     }
-}
-
-// The key, with `~` as `~0` and `/` as `~1`, before the place.
-fn extended(alloc: Global, key: &str, place: &str) -> Result<String, AllocError>
-    ensures { IfOk result (λ s. string_bytes s ≡ (47 ∷ escaped key.now) ++ place.now) }
-{
-    let mut text = String::from_str(alloc, "/")?;
-    for c in key.chars() {
-        match c {
-            '~' => text.push_str("~0")?,
-            '/' => text.push_str("~1")?,
-            c => text.push(c)?,
-        }
-    }
-    text.push_str(place)?;
-    Ok(text)
 }
 
 /// The object has no keys but these.
@@ -71,27 +56,11 @@ pub fn check_keys(alloc: Global, value: &Value, known: &[&str]) -> Result<(), Er
     ensures err { OnErr result (has_only (map (λ k. k.now) known.now) (view value.now) ≡ false) }
     ensures place { IfErr result IsAtRoot }
 {
-    match value.as_object() {
-        Some(members) if all_known(members, known) => Ok(()),
-        _ => Err(wrong(alloc)),
+    if wesl_pointer::has_only(value, known) {
+        Ok(())
+    } else {
+        Err(wrong(alloc))
     }
-}
-
-fn all_known(members: &Map<String, Value>, known: &[&str]) -> bool
-    ensures { result ≡ all_known (map (λ k. k.now) known.now) (members_view members.now.entries) }
-{
-    for (key, _) in members.iter() {
-        if !is_among(key.as_str(), known) {
-            return false;
-        }
-    }
-    true
-}
-
-fn is_among(key: &str, known: &[&str]) -> bool
-    ensures { result ≡ list_any (λ k. bytes_eq k.now key.now) known.now }
-{
-    known.iter().any(|k| *k == key)
 }
 
 /// The member `key`, which must be there.

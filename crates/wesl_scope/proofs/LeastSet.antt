@@ -4,9 +4,9 @@ use Rattle.std.specs.List.{Contains}
 use Rattle.std.proofs.lemmas.List.{ext_get_or}
 use Rattle.wesl_names.specs.Path.{Text}
 use Rattle.wesl_syntax.specs.Unit.{UnitView, name_in}
-use Rattle.wesl_scope.specs.Declarations.{count, declared_in, referred_in, IsKept, named, nameless, reached}
+use Rattle.wesl_kept.specs.Declarations.{count, declared_in, referred_in, IsKept, named, nameless, reached}
 use Rattle.wesl_scope.specs.Strip.{IsStripped, marked}
-use Rattle.wesl_scope.specs.Marks.{mark_at}
+use Rattle.wesl_kept.specs.Marks.{mark_at}
 
 same_answer : (x y : Bool) → (x ≡ true → y ≡ true) → (y ≡ true → x ≡ true) → x ≡ y
 same_answer true y f g = sym (f refl)

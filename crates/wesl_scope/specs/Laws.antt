@@ -3,18 +3,8 @@ use Rattle.std.specs.Prelude.{◌≡◌, ℕ, ◌<◌, Bool, true, List, [], len
 use Rattle.std.specs.List.{Contains}
 use Rattle.wesl_names.specs.Path.{Text}
 use Rattle.wesl_syntax.specs.Unit.{UnitView, name_in}
-use Rattle.wesl_scope.specs.Declarations.{count, declared_in, referred_in, IsKept}
-use Rattle.wesl_scope.specs.Scopes.{Key}
-use Rattle.wesl_scope.specs.Numbers.{AreNumbers}
+use Rattle.wesl_kept.specs.Declarations.{count, declared_in, referred_in, IsKept}
 use Rattle.wesl_scope.specs.Strip.{IsStripped}
-use Rattle.wesl_scope.specs.Canonical.{canonical}
-
--- the canonical numbers are there, and are one list
-abbrev pub HasNumbers : Type 0
-HasNumbers = (ks : List Key) → AreNumbers ks (canonical ks)
-
-abbrev pub HasOneList : Type 0
-HasOneList = (ks : List Key) (ms ns : List ℕ) → AreNumbers ks ms → AreNumbers ks ns → ms ≡ ns
 
 -- the stripped module is one
 abbrev pub StripsOneWay : Type 0

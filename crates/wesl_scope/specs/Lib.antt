@@ -1,13 +1,3 @@
-pub mod Scopes
-pub mod Numbers
-pub mod Declarations
-pub mod Marks
 pub mod Strip
 pub mod EntryPoints
 pub mod Laws
-pub mod Canonical
-pub mod Builders
-pub mod Rows
-pub mod Retarget
-pub mod Keys
-pub mod Numbering

@@ -3,8 +3,8 @@ use Rattle.std.specs.Prelude.{◌≡◌, ℕ, ◌<◌, ◌↔◌, Bool, true, fa
 use Rattle.wesl_names.specs.Path.{Text}
 use Rattle.wesl_syntax.specs.Tree.{ForestOf, end, tree, trees}
 use Rattle.wesl_syntax.specs.Unit.{UnitView}
-use Rattle.wesl_scope.specs.Declarations.{IsKept}
-use Rattle.wesl_scope.specs.Marks.{mark_at}
+use Rattle.wesl_kept.specs.Declarations.{IsKept}
+use Rattle.wesl_kept.specs.Marks.{mark_at}
 
 module _ {I : Type 0} where
   -- those of the trees that are marked

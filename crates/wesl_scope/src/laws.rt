@@ -1,11 +1,5 @@
 //! Laws of the definitions.
-ghost use Rattle.wesl_scope.specs.Laws.{HasNumbers, HasOneList, StripsOneWay, KeepsNoMore};
-
-/// Canonical numbers are there for all keys, and are one list.
-pub fn law_of_numbers()
-    ensures there { HasNumbers }
-    ensures one { HasOneList }
-{}
+ghost use Rattle.wesl_scope.specs.Laws.{StripsOneWay, KeepsNoMore};
 
 /// A module is stripped in one way, and no less is kept than what is named, what has no name, and what these reach.
 pub fn law_of_stripping()

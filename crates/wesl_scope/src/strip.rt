@@ -5,9 +5,9 @@ ghost use Rattle.wesl_syntax.specs.View.{declarations_tree};
 ghost use Rattle.wesl_scope.specs.Strip.{IsStripped, marked};
 ghost use Rattle.wesl_tree.specs.Translation.{unit_view};
 
-use crate::kept::kept_declarations;
 use std::alloc::Global;
 use std::mem;
+use wesl_kept::kept_declarations;
 use wesl_tree::{Error, GlobalDeclarationNode, TranslationUnit};
 
 /// Keeps the marked declarations, in their order. It takes no memory.

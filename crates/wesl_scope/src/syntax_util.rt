@@ -1,16 +1,18 @@
 //! What is asked of a module's tree, and done to it.
-ghost use Rattle.std.specs.Prelude.{◌≡◌, IfOk, IfErr, OnOk, map};
+ghost use Rattle.std.specs.Prelude.{◌≡◌, ◌<◌, ◌↔◌, ℕ, IfOk, IfErr, OnOk, length, map};
+ghost use Rattle.std.specs.List.{Contains};
 ghost use Rattle.wesl_names.specs.declared.errors.Error as error;
 ghost use Rattle.wesl_syntax.specs.Unit.{numbers, spelled};
 ghost use Rattle.wesl_occurrences.specs.Occurrences.{occurrences};
 ghost use Rattle.wesl_renumber.specs.Renumbered.{HasSameNodes};
 ghost use Rattle.wesl_scope.specs.EntryPoints.{entry_points_of};
-ghost use Rattle.wesl_scope.specs.Numbers.{AreNumbers};
-ghost use Rattle.wesl_scope.specs.Scopes.{keys};
+ghost use Rattle.wesl_syntax.specs.Numbers.{AreNumbers};
+ghost use Rattle.wesl_meanings.specs.Scopes.{keys};
 
 use crate::entry_points::entry_point;
-use crate::retarget::retargeted;
 use std::alloc::Global;
+use wesl_meanings::numbers_by_meaning;
+use wesl_renumber::renumbered;
 use wesl_tree::{Error, Ident, TranslationUnit};
 
 /// What is asked of a module's tree, and done to it.
@@ -47,10 +49,12 @@ impl SyntaxUtil for TranslationUnit {
         ensures numbers { OnOk result (AreNumbers (keys (occurrences (spelled (unit_view self.old)))) (numbers (unit_view self.new))) }
         ensures nodes { OnOk result (HasSameNodes (unit_view self.old) (unit_view self.new)) }
         ensures spelling { OnOk result (spelled (unit_view self.new) ≡ spelled (unit_view self.old)) }
+        ensures table { OnOk result ((m : ℕ) → (m < length (unit_view self.new).names) ↔ Contains (numbers (unit_view self.new)) m) }
         ensures refused { IfErr result (λ e. e ≡ error.Memory) }
         ensures unchanged { IfErr result (λ _. unit_view self.new ≡ unit_view self.old) }
     {
-        let copy = retargeted(alloc, self)?;
+        let (given, names) = numbers_by_meaning(alloc, self)?;
+        let copy = renumbered(alloc, self, names, &given)?;
         *self = copy;
         Ok(())
     }

@@ -7,7 +7,7 @@ use Rattle.std.specs.Cmp.{booleans_Decides}
 use denote.Enum.Bare.{same_true, true_same}
 use Rattle.wesl_syntax.specs.Tree.{Kind, Role, Label, LabelOf, Forest, TreeOf, end, tree, binder, reference, word, Tree, respell_label, respell_forest, respell, kind, at, ident, text, texts, truth, unary, binary, assignment, space, access, path, expression_node, statement_node, attribute_node, member_node, import_node, directive_node, declaration_node, literal, parenthesized, named_component, indexing, call_expression, call, type_or_identifier, type_expression, template_argument, list, present, absent, attributes, statements, clauses, members, parameters, align, binding, blend_src, builtin, const_attribute, diagnostic, group, id, interpolate, invariant_attribute, location, must_use, size, workgroup_size, vertex, fragment, compute, publish, if_attribute, elif_attribute, else_attribute, custom, void, compound_statement, compound, increment, decrement, if_statement, if_clause, else_if_clause, else_clause, switch, switch_clause, default_case, expression_case, loop, continuing, break_if, for_loop, while_loop, break, continue, return, discard, call_statement, const_assert, import_statement, import_item, import_collection, import_entry, diagnostic_directive, enable_directive, requires_directive, type_alias, struct, member, function, parameter, declaration, const_kind, override_kind, let_kind, var_kind, imports, directive_list, declarations, unit}
 use Rattle.wesl_names.specs.Path.{Text, Origin, Path, absolute, relative, from_package, same_origin}
-use Rattle.wesl_spelling.specs.Kinds.{same_kind, kind_number, same_role, role_number}
+use Rattle.wesl_syntax.specs.Kinds.{same_kind, kind_number, same_role, role_number}
 use Rattle.wesl_spelling.specs.Same.{same_texts, same_path, same_label, same_forest, same_tree}
 use Rattle.wesl_syntax.specs.contracts.expression.UnaryOperator as unary_operator
 use Rattle.wesl_syntax.specs.contracts.expression.BinaryOperator as binary_operator

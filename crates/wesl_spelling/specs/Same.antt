@@ -9,7 +9,7 @@ use Rattle.wesl_syntax.specs.contracts.expression.BinaryOperator as binary_opera
 use Rattle.wesl_syntax.specs.contracts.statement.AssignmentOperator as assignment_operator
 use Rattle.wesl_syntax.specs.contracts.declaration.AddressSpace as address_space
 use Rattle.wesl_syntax.specs.contracts.declaration.AccessMode as access_mode
-use Rattle.wesl_spelling.specs.Kinds.{same_kind, same_role}
+use Rattle.wesl_syntax.specs.Kinds.{same_kind, same_role}
 
 -- the same texts in the same order
 abbrev pub same_texts : List Text → List Text → Bool

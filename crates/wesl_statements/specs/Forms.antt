@@ -8,7 +8,8 @@ use Rattle.wesl_syntax.specs.Tree.{Kind, kind, Tree, before, end, list, attribut
 use Rattle.wesl_form.specs.Schema.{Head, fixed, chosen, Row, nothing, marked, needs, may, many, inner, Node, node, list_of, a_body, a_call, a_clause, a_continuing, an_elif, an_else, a_statement, an_attribute}
 use Rattle.wesl_form.specs.Words.{assignment_words}
 use Rattle.wesl_form.specs.Nodes.{expression, one_expression, operand, attrs, body_row, condition_row, declared, space_row}
-use Rattle.wesl_form.specs.Reading.{has_only, known_keys}
+use Rattle.wesl_form.specs.Reading.{known_keys}
+use Rattle.wesl_pointer.specs.Keys.{has_only}
 use Rattle.wesl_reading.specs.Forms.{worded_node}
 use Rattle.wesl_reading.specs.Numbers.{ReadsRows}
 use Rattle.wesl_statements.specs.declared.words.ValueWord.{ValueWord}

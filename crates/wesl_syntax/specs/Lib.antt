@@ -2,3 +2,5 @@ pub mod Tree
 pub mod View
 pub mod Nodes
 pub mod Unit
+pub mod Kinds
+pub mod Numbers

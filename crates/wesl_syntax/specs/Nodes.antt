@@ -1,5 +1,5 @@
 -- Nodes and identifiers of a tree, in document order: a node before its children, children in the order of their fields.
-use Rattle.std.specs.Prelude.{ℕ, zero, suc, Bool, true, false, ◌||◌, List, [], ◌∷◌, ◌++◌, Option, Some, None, if◌then◌else◌}
+use Rattle.std.specs.Prelude.{Bool, true, false, ◌||◌, List, [], ◌∷◌, ◌++◌, if◌then◌else◌}
 use Rattle.wesl_syntax.specs.Tree.{LabelOf, ForestOf, TreeOf, end, tree, kind, at, attributes, type_expression, expression_node, statement_node, if_attribute, elif_attribute, import_statement, diagnostic_directive, enable_directive, requires_directive}
 
 module _ {I : Type 0} where
@@ -52,13 +52,3 @@ module _ {I : Type 0} where
   without_words end = end
   without_words (tree l children others) =
       tree l (if is_formula l then end else if is_import_or_directive l then without_attributes (without_words children) else without_words children) (without_words others)
-
-  -- the n-th tree, and the tree at a position
-  abbrev pub nth : ℕ → ForestOf I → Option (TreeOf I)
-  nth n end = None
-  nth zero (tree l children others) = Some (record { label = l; children = children })
-  nth (suc n) (tree l children others) = nth n others
-
-  abbrev pub at_position : List ℕ → TreeOf I → Option (TreeOf I)
-  at_position [] t = Some t
-  at_position (n ∷ ns) t = elim (nth n t.children) as (λ _. Option (TreeOf I)) [ None ↦ None | Some u ↦ at_position ns u ]

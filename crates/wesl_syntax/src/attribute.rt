@@ -9,7 +9,7 @@ pub type AttributeNode = Spanned<Attribute>;
 pub type Attributes = Vec<AttributeNode>;
 
 /// An attribute, with its operands.
-#[derive(Drop, PartialEq)]
+#[derive(PartialEq)]
 pub enum Attribute {
     /// `@align(operand)`
     Align(ExpressionNode),
@@ -72,4 +72,39 @@ pub enum Attribute {
         /// what stands in the parentheses, if there are any
         arguments: Option<Vec<ExpressionNode>>,
     },
+}
+
+impl Drop for Attribute {
+    fn drop(self) {
+        match self {
+            Attribute::Align(_) => {}
+            Attribute::Binding(_) => {}
+            Attribute::BlendSrc(_) => {}
+            Attribute::Builtin(_) => {}
+            Attribute::Const => {}
+            Attribute::Diagnostic {
+                severity: _,
+                rule: _,
+            } => {}
+            Attribute::Group(_) => {}
+            Attribute::Id(_) => {}
+            Attribute::Interpolate(_) => {}
+            Attribute::Invariant => {}
+            Attribute::Location(_) => {}
+            Attribute::MustUse => {}
+            Attribute::Size(_) => {}
+            Attribute::WorkgroupSize { x: _, y: _, z: _ } => {}
+            Attribute::Vertex => {}
+            Attribute::Fragment => {}
+            Attribute::Compute => {}
+            Attribute::Publish => {}
+            Attribute::If(_) => {}
+            Attribute::Elif(_) => {}
+            Attribute::Else => {}
+            Attribute::Custom {
+                name: _,
+                arguments: _,
+            } => {}
+        }
+    }
 }

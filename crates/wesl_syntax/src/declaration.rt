@@ -6,7 +6,7 @@ use crate::statement::CompoundStatement;
 use wesl_names::Ident;
 
 /// A directive (WGSL, "Directives").
-#[derive(Drop, PartialEq)]
+#[derive(PartialEq)]
 pub enum GlobalDirective {
     /// `diagnostic(severity, rule);`
     Diagnostic {
@@ -78,7 +78,7 @@ pub enum DeclarationKind {
 }
 
 /// `kind ident: ty = initializer;` in a module or a function.
-#[derive(Drop, PartialEq)]
+#[derive(PartialEq)]
 pub struct Declaration {
     /// its attributes
     pub attributes: Attributes,
@@ -93,7 +93,7 @@ pub struct Declaration {
 }
 
 /// `alias ident = ty;` (WGSL, "Type Aliases")
-#[derive(Drop, PartialEq)]
+#[derive(PartialEq)]
 pub struct TypeAlias {
     /// its attributes
     pub attributes: Attributes,
@@ -104,7 +104,7 @@ pub struct TypeAlias {
 }
 
 /// `name: ty` in a structure (WGSL, "Structure Types")
-#[derive(Drop, PartialEq)]
+#[derive(PartialEq)]
 pub struct StructMember {
     /// its attributes
     pub attributes: Attributes,
@@ -118,7 +118,7 @@ pub struct StructMember {
 pub type StructMemberNode = Spanned<StructMember>;
 
 /// `struct ident { members }` (WGSL, "Structure Types")
-#[derive(Drop, PartialEq)]
+#[derive(PartialEq)]
 pub struct Struct {
     /// its attributes
     pub attributes: Attributes,
@@ -129,7 +129,7 @@ pub struct Struct {
 }
 
 /// `ident: ty` among the parameters of a function (WGSL, "Functions")
-#[derive(Drop, PartialEq)]
+#[derive(PartialEq)]
 pub struct FormalParameter {
     /// its attributes
     pub attributes: Attributes,
@@ -140,7 +140,7 @@ pub struct FormalParameter {
 }
 
 /// `fn ident(parameters) -> return_type body` (WGSL, "Functions")
-#[derive(Drop, PartialEq)]
+#[derive(PartialEq)]
 pub struct Function {
     /// its attributes
     pub attributes: Attributes,
@@ -157,7 +157,7 @@ pub struct Function {
 }
 
 /// `const_assert expression;` in a module or a function (WGSL, "Const Assertion Statement")
-#[derive(Drop, PartialEq)]
+#[derive(PartialEq)]
 pub struct ConstAssert {
     /// its attributes
     pub attributes: Attributes,
@@ -166,7 +166,7 @@ pub struct ConstAssert {
 }
 
 /// What stands in a module after its imports and directives (WGSL, "Declaration and Scope").
-#[derive(Drop, PartialEq)]
+#[derive(PartialEq)]
 pub enum GlobalDeclaration {
     /// `;` alone
     Void,
@@ -184,3 +184,110 @@ pub enum GlobalDeclaration {
 
 /// A global declaration with its span.
 pub type GlobalDeclarationNode = Spanned<GlobalDeclaration>;
+
+impl Drop for GlobalDirective {
+    fn drop(self) {
+        match self {
+            GlobalDirective::Diagnostic {
+                attributes: _,
+                severity: _,
+                rule: _,
+            } => {}
+            GlobalDirective::Enable {
+                attributes: _,
+                names: _,
+            } => {}
+            GlobalDirective::Requires {
+                attributes: _,
+                names: _,
+            } => {}
+        }
+    }
+}
+
+impl Drop for Declaration {
+    fn drop(self) {
+        let Declaration {
+            attributes: _,
+            kind: _,
+            ident: _,
+            ty: _,
+            initializer: _,
+        } = self;
+    }
+}
+
+impl Drop for TypeAlias {
+    fn drop(self) {
+        let TypeAlias {
+            attributes: _,
+            ident: _,
+            ty: _,
+        } = self;
+    }
+}
+
+impl Drop for StructMember {
+    fn drop(self) {
+        let StructMember {
+            attributes: _,
+            name: _,
+            ty: _,
+        } = self;
+    }
+}
+
+impl Drop for Struct {
+    fn drop(self) {
+        let Struct {
+            attributes: _,
+            ident: _,
+            members: _,
+        } = self;
+    }
+}
+
+impl Drop for FormalParameter {
+    fn drop(self) {
+        let FormalParameter {
+            attributes: _,
+            ident: _,
+            ty: _,
+        } = self;
+    }
+}
+
+impl Drop for Function {
+    fn drop(self) {
+        let Function {
+            attributes: _,
+            ident: _,
+            parameters: _,
+            return_attributes: _,
+            return_type: _,
+            body: _,
+        } = self;
+    }
+}
+
+impl Drop for ConstAssert {
+    fn drop(self) {
+        let ConstAssert {
+            attributes: _,
+            expression: _,
+        } = self;
+    }
+}
+
+impl Drop for GlobalDeclaration {
+    fn drop(self) {
+        match self {
+            GlobalDeclaration::Void => {}
+            GlobalDeclaration::Declaration(_) => {}
+            GlobalDeclaration::TypeAlias(_) => {}
+            GlobalDeclaration::Struct(_) => {}
+            GlobalDeclaration::Function(_) => {}
+            GlobalDeclaration::ConstAssert(_) => {}
+        }
+    }
+}

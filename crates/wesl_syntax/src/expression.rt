@@ -59,7 +59,7 @@ pub enum BinaryOperator {
 }
 
 /// A literal (WGSL, "Literals").
-#[derive(Debug, Drop, PartialEq)]
+#[derive(Debug, PartialEq)]
 pub enum Literal {
     /// `true` or `false`
     Bool(bool),
@@ -72,7 +72,7 @@ pub type ExpressionNode = Spanned<Expression>;
 
 /// An expression (WGSL, "Expressions").
 #[cycle(expression)]
-#[derive(Drop, PartialEq)]
+#[derive(PartialEq)]
 pub enum Expression {
     /// a literal value expression
     Literal(Literal),
@@ -119,7 +119,7 @@ pub enum Expression {
 
 /// A call of a function or of a type's constructor, `ty(arguments)`.
 #[cycle(expression)]
-#[derive(Drop, PartialEq)]
+#[derive(PartialEq)]
 pub struct FunctionCall {
     /// the function or the type
     pub ty: TypeExpression,
@@ -130,7 +130,7 @@ pub struct FunctionCall {
 /// A name with its template arguments, `path::ident<template_args>`: a type, a value or a function.
 /// The path is WESL's ("Imports").
 #[cycle(expression)]
-#[derive(Drop, PartialEq)]
+#[derive(PartialEq)]
 pub struct TypeExpression {
     /// the path of the module that declares it, where the name is qualified
     pub path: Option<ModulePath>,
@@ -142,8 +142,71 @@ pub struct TypeExpression {
 
 /// An argument of a template list.
 #[cycle(expression)]
-#[derive(Drop, PartialEq)]
+#[derive(PartialEq)]
 pub struct TemplateArg {
     /// a type or a value
     pub expression: ExpressionNode,
+}
+
+impl Drop for Literal {
+    fn drop(self) {
+        match self {
+            Literal::Bool(_) => {}
+            Literal::Text(_) => {}
+        }
+    }
+}
+
+impl Drop for Expression {
+    #[cycle(letting_expression_go)]
+    fn drop(self) {
+        match self {
+            Expression::Literal(_) => {}
+            Expression::Parenthesized { expression: _ } => {}
+            Expression::NamedComponent {
+                base: _,
+                component: _,
+            } => {}
+            Expression::Indexing { base: _, index: _ } => {}
+            Expression::Unary {
+                operator: _,
+                operand: _,
+            } => {}
+            Expression::Binary {
+                operator: _,
+                left: _,
+                right: _,
+            } => {}
+            Expression::FunctionCall(_) => {}
+            Expression::TypeOrIdentifier(_) => {}
+        }
+    }
+}
+
+impl Drop for FunctionCall {
+    #[cycle(letting_expression_go)]
+    fn drop(self) {
+        let FunctionCall {
+            ty: _,
+            arguments: _,
+        } = self;
+    }
+}
+
+impl Drop for TypeExpression {
+    #[cycle(letting_expression_go)]
+    fn drop(self) {
+        let TypeExpression {
+            path: _,
+            ident: _,
+            template_args: _,
+        } = self;
+    }
+}
+
+impl Drop for TemplateArg {
+    #[cycle(letting_expression_go)]
+    fn drop(self) {
+        let TemplateArg { expression: _ } = self;
+    }
 }

@@ -2,7 +2,6 @@
 #![tactic(auto)]
 
 mod attribute;
-mod copy;
 mod declaration;
 mod expression;
 mod import;
@@ -10,10 +9,6 @@ mod span;
 mod statement;
 
 pub use attribute::{Attribute, AttributeNode, Attributes};
-pub use copy::{
-    copy_attributes, copy_declarations, copy_directives, copy_expressions, copy_import_statements,
-    copy_statements,
-};
 pub use declaration::{
     AccessMode, AddressSpace, ConstAssert, Declaration, DeclarationKind, FormalParameter, Function,
     GlobalDeclaration, GlobalDeclarationNode, GlobalDirective, GlobalDirectiveNode, Struct,

@@ -36,7 +36,7 @@ pub type StatementNode = Spanned<Statement>;
 
 /// A statement (WGSL, "Statements").
 #[cycle(statement)]
-#[derive(Drop, PartialEq)]
+#[derive(PartialEq)]
 pub enum Statement {
     /// `;` alone
     Void,
@@ -157,7 +157,7 @@ pub enum Statement {
 
 /// `{ statements }` (WGSL, "Compound Statement")
 #[cycle(statement)]
-#[derive(Drop, PartialEq)]
+#[derive(PartialEq)]
 pub struct CompoundStatement {
     /// the attributes before the braces
     pub attributes: Attributes,
@@ -167,7 +167,7 @@ pub struct CompoundStatement {
 
 /// `if expression body` (WGSL, "If Statement")
 #[cycle(statement)]
-#[derive(Drop, PartialEq)]
+#[derive(PartialEq)]
 pub struct IfClause {
     /// the condition
     pub expression: ExpressionNode,
@@ -177,7 +177,7 @@ pub struct IfClause {
 
 /// `else if expression body` (WGSL, "If Statement")
 #[cycle(statement)]
-#[derive(Drop, PartialEq)]
+#[derive(PartialEq)]
 pub struct ElseIfClause {
     /// its attributes, which only WESL has
     pub attributes: Attributes,
@@ -189,7 +189,7 @@ pub struct ElseIfClause {
 
 /// `else body` (WGSL, "If Statement")
 #[cycle(statement)]
-#[derive(Drop, PartialEq)]
+#[derive(PartialEq)]
 pub struct ElseClause {
     /// its attributes, which only WESL has
     pub attributes: Attributes,
@@ -198,7 +198,7 @@ pub struct ElseClause {
 }
 
 /// One of the values after `case` (WGSL, "Switch Statement").
-#[derive(Drop, PartialEq)]
+#[derive(PartialEq)]
 pub enum CaseSelector {
     /// `default`, for every value that no other clause has
     Default,
@@ -208,7 +208,7 @@ pub enum CaseSelector {
 
 /// `case case_selectors: body` or `default: body` (WGSL, "Switch Statement")
 #[cycle(statement)]
-#[derive(Drop, PartialEq)]
+#[derive(PartialEq)]
 pub struct SwitchClause {
     /// its attributes, which only WESL has
     pub attributes: Attributes,
@@ -220,7 +220,7 @@ pub struct SwitchClause {
 
 /// `continuing { body break if }` (WGSL, "Continuing Statement")
 #[cycle(statement)]
-#[derive(Drop, PartialEq)]
+#[derive(PartialEq)]
 pub struct ContinuingStatement {
     /// its attributes
     pub attributes: Attributes,
@@ -231,10 +231,157 @@ pub struct ContinuingStatement {
 }
 
 /// `break if expression;` (WGSL, "Break-If Statement")
-#[derive(Drop, PartialEq)]
+#[derive(PartialEq)]
 pub struct BreakIfStatement {
     /// its attributes
     pub attributes: Attributes,
     /// the condition that ends the loop
     pub expression: ExpressionNode,
+}
+
+impl Drop for Statement {
+    #[cycle(letting_statement_go)]
+    fn drop(self) {
+        match self {
+            Statement::Void => {}
+            Statement::Compound(_) => {}
+            Statement::Assignment {
+                attributes: _,
+                operator: _,
+                lhs: _,
+                rhs: _,
+            } => {}
+            Statement::Increment {
+                attributes: _,
+                expression: _,
+            } => {}
+            Statement::Decrement {
+                attributes: _,
+                expression: _,
+            } => {}
+            Statement::If {
+                attributes: _,
+                if_clause: _,
+                else_if_clauses: _,
+                else_clause: _,
+            } => {}
+            Statement::Switch {
+                attributes: _,
+                expression: _,
+                body_attributes: _,
+                clauses: _,
+            } => {}
+            Statement::Loop {
+                attributes: _,
+                body: _,
+                continuing: _,
+            } => {}
+            Statement::For {
+                attributes: _,
+                initializer: _,
+                condition: _,
+                update: _,
+                body: _,
+            } => {}
+            Statement::While {
+                attributes: _,
+                condition: _,
+                body: _,
+            } => {}
+            Statement::Break { attributes: _ } => {}
+            Statement::Continue { attributes: _ } => {}
+            Statement::Return {
+                attributes: _,
+                expression: _,
+            } => {}
+            Statement::Discard { attributes: _ } => {}
+            Statement::FunctionCall {
+                attributes: _,
+                call: _,
+            } => {}
+            Statement::ConstAssert(_) => {}
+            Statement::Declaration(_) => {}
+        }
+    }
+}
+
+impl Drop for CompoundStatement {
+    #[cycle(letting_statement_go)]
+    fn drop(self) {
+        let CompoundStatement {
+            attributes: _,
+            statements: _,
+        } = self;
+    }
+}
+
+impl Drop for IfClause {
+    #[cycle(letting_statement_go)]
+    fn drop(self) {
+        let IfClause {
+            expression: _,
+            body: _,
+        } = self;
+    }
+}
+
+impl Drop for ElseIfClause {
+    #[cycle(letting_statement_go)]
+    fn drop(self) {
+        let ElseIfClause {
+            attributes: _,
+            expression: _,
+            body: _,
+        } = self;
+    }
+}
+
+impl Drop for ElseClause {
+    #[cycle(letting_statement_go)]
+    fn drop(self) {
+        let ElseClause {
+            attributes: _,
+            body: _,
+        } = self;
+    }
+}
+
+impl Drop for CaseSelector {
+    fn drop(self) {
+        match self {
+            CaseSelector::Default => {}
+            CaseSelector::Expression(_) => {}
+        }
+    }
+}
+
+impl Drop for SwitchClause {
+    #[cycle(letting_statement_go)]
+    fn drop(self) {
+        let SwitchClause {
+            attributes: _,
+            case_selectors: _,
+            body: _,
+        } = self;
+    }
+}
+
+impl Drop for ContinuingStatement {
+    #[cycle(letting_statement_go)]
+    fn drop(self) {
+        let ContinuingStatement {
+            attributes: _,
+            body: _,
+            break_if: _,
+        } = self;
+    }
+}
+
+impl Drop for BreakIfStatement {
+    fn drop(self) {
+        let BreakIfStatement {
+            attributes: _,
+            expression: _,
+        } = self;
+    }
 }

@@ -1,3 +1,1 @@
-pub mod Below
 mod Kept
-mod Views

@@ -10,5 +10,7 @@ pub use Rattle.wesl_syntax.specs.Tree
 pub use Rattle.wesl_syntax.specs.View
 pub use Rattle.wesl_syntax.specs.Nodes
 pub use Rattle.wesl_syntax.specs.Unit
+pub use Rattle.wesl_syntax.specs.Kinds
+pub use Rattle.wesl_syntax.specs.Numbers
 pub mod Parts
 pub mod Translation

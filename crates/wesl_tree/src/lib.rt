@@ -1,9 +1,6 @@
 //! Units: whole modules, each of whose identifiers has a name. With all that they are made of, under one name.
 #![tactic(auto)]
 
-mod bounds;
-mod parts_bounds;
-mod statement_bounds;
 mod unit;
 mod voids;
 
@@ -21,6 +18,5 @@ pub use wesl_syntax::{
     GlobalDeclarationNode, GlobalDirective, GlobalDirectiveNode, IfClause, Import, ImportContent,
     ImportItem, ImportStatement, ImportStatementNode, Literal, Spanned, Statement, StatementNode,
     Struct, StructMember, StructMemberNode, SwitchClause, TemplateArg, TypeAlias, TypeExpression,
-    UnaryOperator, copy_attributes, copy_declarations, copy_directives, copy_expressions,
-    copy_import_statements, copy_statements, law_of_equality as law_of_node_equality,
+    UnaryOperator, law_of_equality as law_of_node_equality,
 };

@@ -1,32 +1,37 @@
 //! Whole modules.
-ghost use Rattle.std.specs.Prelude.{◌≡◌, ◌↔◌, IfErr, IfOk, IsTrue, true, false, length, MatchOption};
-ghost use Rattle.wesl_names.specs.declared.errors.Error as error;
+ghost use Rattle.std.specs.Prelude.{◌≡◌, ◌↔◌, IsTrue, true, false, length, MatchOption};
 ghost use Rattle.wesl_syntax.specs.Tree.{tree_below};
 ghost use Rattle.wesl_syntax.specs.Unit.{unit_below, empty_unit, spelled, without_voids};
 ghost use Rattle.wesl_syntax.specs.View.{imports_tree, directives_tree, declarations_tree};
 ghost use Rattle.wesl_tree.specs.Parts.{parts_view};
 
-use crate::parts_bounds::{directives_are_below, imports_are_below};
-use crate::statement_bounds::declarations_are_below;
 use crate::voids::drop_voids;
 use std::alloc::Global;
-use wesl_names::{Error, Names};
+use wesl_bounds::{declarations_are_below, directives_are_below, imports_are_below};
+use wesl_names::Names;
 use wesl_spelling::{same_declarations, same_directives, same_imports};
-use wesl_syntax::{
-    GlobalDeclarationNode, GlobalDirectiveNode, ImportStatementNode, copy_declarations,
-    copy_directives, copy_import_statements,
-};
+use wesl_syntax::{GlobalDeclarationNode, GlobalDirectiveNode, ImportStatementNode};
 
 /// A module: a table of names, and the imports, directives and declarations whose identifiers are numbers of it.
 ///
 /// Every identifier has a name in the table.
-#[derive(Drop)]
 pub struct TranslationUnit {
     names: Names,
     imports: Vec<ImportStatementNode>,
     directives: Vec<GlobalDirectiveNode>,
     declarations: Vec<GlobalDeclarationNode>,
     pub ghost is_within: { IsTrue (unit_below (parts_view names imports directives declarations)) },
+}
+
+impl Drop for TranslationUnit {
+    fn drop(self) {
+        let TranslationUnit {
+            names: _,
+            imports: _,
+            directives: _,
+            declarations: _,
+        } = self;
+    }
 }
 
 impl TranslationUnit {
@@ -81,7 +86,13 @@ impl TranslationUnit {
         ensures parts { parts_view result.0 result.1 result.2 result.3 ≡ unit_view self }
         ensures below { IsTrue (unit_below (unit_view self)) }
     {
-        (self.names, self.imports, self.directives, self.declarations)
+        let TranslationUnit {
+            names,
+            imports,
+            directives,
+            declarations,
+        } = self;
+        (names, imports, directives, declarations)
     }
 
     /// The table of names.
@@ -141,18 +152,5 @@ impl TranslationUnit {
                 &other.names,
                 &other.declarations,
             )
-    }
-
-    /// An equal copy, spans too. Refused for want of memory alone.
-    pub fn try_clone(&self, alloc: Global) -> Result<TranslationUnit, Error>
-        ensures equal { IfOk result (λ unit. unit_view unit ≡ unit_view self.now) }
-        ensures refused { IfErr result (λ e. e ≡ error.Memory) }
-    {
-        Ok(TranslationUnit {
-            names: self.names.try_clone(alloc)?,
-            imports: copy_import_statements(alloc, &self.imports)?,
-            directives: copy_directives(alloc, &self.directives)?,
-            declarations: copy_declarations(alloc, &self.declarations)?,
-        })
     }
 }

@@ -1,7 +1,1 @@
-pub mod Labels
-pub mod Walks
-pub mod Seen
-pub mod Views
-pub mod Words
-pub mod Joined
-pub mod Runs
+mod Runs

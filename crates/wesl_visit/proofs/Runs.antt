@@ -2,7 +2,7 @@
 use Rattle.std.proofs.Common.{◌≡◌, ℕ, ◌+◌, ◌<◌, List, [], ◌∷◌, ◌++◌, length, get_or, take, drop, Result, Ok, Err, IfErr, Bor, refl, sym, ap, ◌∙◌, subst}
 use Rattle.std.proofs.lemmas.List.{take_more, map-append, take-append-drop}
 use Rattle.wesl_syntax.specs.Tree.{Tree}
-use Rattle.wesl_visit.specs.Lent.{views}
+use Rattle.wesl_collect.specs.Lent.{views}
 use Rattle.wesl_visit.specs.Run.{Run, still, next, Begun}
 
 run_push : {S X : Type 0} {Steps : S → X → S → Type 0} {xs : List X} {x : X} {a b c : S} → Run Steps xs a b → Steps b x c → Run Steps (xs ++ x ∷ []) a c

@@ -1,4 +1,1 @@
-pub mod Seen
-pub mod Walk
-pub mod Lent
 pub mod Run

@@ -6,12 +6,12 @@ ghost use Rattle.wesl_rewrite.specs.Holders.{KeepsNumbers};
 ghost use Rattle.wesl_rewrite.specs.Replaced.{ReplacedBelow, StoppedBelow, rule};
 ghost use Rattle.wesl_syntax.specs.Nodes.{all_nodes, outermost};
 ghost use Rattle.wesl_syntax.specs.Tree.{Tree};
-ghost use Rattle.wesl_visit.specs.Lent.{views};
+ghost use Rattle.wesl_collect.specs.Lent.{views};
 ghost use Rattle.wesl_visit.specs.Run.{Begun, Run};
-ghost use Rattle.wesl_visit.specs.Seen.{below};
+ghost use Rattle.wesl_collect.specs.Seen.{below};
 
-use crate::collectors::Collect;
 use std::alloc::Global;
+use wesl_collect::Collect;
 use wesl_kinds::{Kind, Replace, Rewrite};
 use wesl_names::Error;
 use wesl_syntax::{
@@ -48,8 +48,7 @@ pub trait Visit<T: Replace>: Collect {
         ensures listed { IfOk result (λ nodes. views T.view nodes.items ≡ outermost (test T.sought) (below T.sought (Self.tree self.now))) }
         ensures refused { IfErr result (λ e. e ≡ error.Memory) }
     {
-        let mut nodes = Vec::new(alloc);
-        self.collect(false, &mut nodes)?;
+        let nodes = self.collect(alloc, false)?;
         Ok(nodes)
     }
 
@@ -62,8 +61,7 @@ pub trait Visit<T: Replace>: Collect {
         ensures begun { IfErr result (λ _. Begun V.meets V.unchanged (all_nodes (test T.sought) (below T.sought (Self.tree self.now))) visitor.old visitor.new) }
         ensures refused { IfErr result (λ e. e ≡ error.Memory) }
     {
-        let mut nodes = Vec::new(alloc);
-        self.collect(true, &mut nodes)?;
+        let nodes = self.collect(alloc, true)?;
         for node in &nodes {
             visitor.meet(*node)?;
         }

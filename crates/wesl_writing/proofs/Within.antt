@@ -7,7 +7,7 @@ use Rattle.wesl_syntax.specs.Unit.{name_in}
 use Rattle.wesl_syntax.specs.View.{expression_tree, expression_view}
 use Rattle.wesl_syntax.specs.declared.span.Spanned.{Spanned}
 use Rattle.wesl_syntax.specs.declared.expression.Expression.{Expression}
-use Rattle.wesl_form.specs.Kinds.{same_kind}
+use Rattle.wesl_syntax.specs.Kinds.{same_kind}
 use Rattle.wesl_form.specs.Schema.{SpelledForest, SpelledLabel, Head, fixed, Row, nothing, marked, needs, may, many, given, inner, inner_where, Node, node, under, within, an_expression, a_template_argument, a_case}
 use Rattle.wesl_form.specs.Nodes.{a_default_case}
 use Rattle.wesl_form.specs.Writing.{Writes, fits_head, fits_row, first_fit, expression_nodes, object_value, marks, unmarked, written_forest, short_expression_value}

@@ -6,6 +6,7 @@ ghost use Rattle.wesl_syntax.specs.View.{argument_view, call_view, expression_tr
 ghost use Rattle.wesl_renumber.specs.Renumbered.{renumbered_tree, after_tree};
 
 use crate::renumber::Renumbering;
+use wesl_copies::copy_literal;
 use wesl_names::Error;
 use wesl_syntax::{Expression, ExpressionNode, FunctionCall, Spanned, TemplateArg, TypeExpression};
 
@@ -17,7 +18,9 @@ impl<'a> Renumbering<'a> {
         ensures refused { IfErr result (λ e. e ≡ error.Memory) }
     {
         match expression {
-            Expression::Literal(literal) => Ok(Expression::Literal(literal.try_clone(self.alloc)?)),
+            Expression::Literal(literal) => Ok(Expression::Literal(copy_literal(
+                self.alloc, literal,
+            )?)),
             Expression::Parenthesized { expression } => Ok(Expression::Parenthesized {
                 expression: Box::new(self.alloc, self.node(expression)?)?,
             }),

@@ -5,8 +5,8 @@ use Rattle.serde_json.specs.View.{view}
 use Rattle.wesl_names.specs.declared.errors.Error as error
 use Rattle.wesl_bundle.specs.Bundle.{Bundle, bundle_of}
 use Rattle.wesl_bundle.specs.Views.{bundle_view}
-use Rattle.wesl.specs.Line.{IsRefusal}
-use Rattle.wesl.specs.Refused.{IsLinkFault}
+use Rattle.wesl_program.specs.Line.{IsRefusal}
+use Rattle.wesl_program.specs.Refused.{IsLinkFault}
 use Rattle.wesl.proofs.program.answer.Goals as goal
 
 refusal : (bytes : List ℕ) (d : Data) (b : Bundle) (e : error.Error) → read bytes ≡ Some d → bundle_of d ≡ Some b → IsLinkFault b e → IsRefusal bytes e

@@ -3,7 +3,7 @@ use Rattle.wesl_bundle.proofs.Readings.{bundle-read}
 use Rattle.serde_json.specs.View.{view}
 use Rattle.wesl_bundle.specs.Bundle.{bundle_keys}
 use Rattle.wesl_bundle.specs.Forms.{a_bundle, a_package, some_features, a_path, a_name, a_module, a_list_of, required, optional}
-use Rattle.wesl_bundle.specs.Reading.{has_only}
+use Rattle.wesl_pointer.specs.Keys.{has_only}
 use Rattle.wesl_bundle.specs.Broken.{Locates}
 use Rattle.wesl_bundle.proofs.Places.{Locates-field}
 use Rattle.wesl_bundle.proofs.bundle.read_members.Goals as goal

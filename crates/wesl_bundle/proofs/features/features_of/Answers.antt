@@ -3,7 +3,7 @@ use Rattle.serde_json.specs.View.{view}
 use Rattle.wesl_bundle.specs.Broken.{Locates}
 use Rattle.wesl_bundle.specs.Features.{features_keys}
 use Rattle.wesl_bundle.specs.Forms.{a_feature, an_object_of, optional, some_features}
-use Rattle.wesl_bundle.specs.Reading.{has_only}
+use Rattle.wesl_pointer.specs.Keys.{has_only}
 use Rattle.wesl_bundle.proofs.Places.{Locates-field}
 use Rattle.wesl_bundle.proofs.Readings.{features-read}
 use Rattle.wesl_bundle.proofs.features.features_of.Goals as goal

@@ -8,7 +8,7 @@ use Rattle.serde_json.specs.View.{members_view, view}
 use Rattle.serde_json.proofs.Views.{Entry}
 use Rattle.wesl_bundle.specs.Broken.{IsUnder}
 use Rattle.wesl_bundle.specs.Forms.{a_feature}
-use Rattle.wesl_bundle.specs.Place.{key}
+use Rattle.wesl_pointer.specs.Pointer.{key}
 use Rattle.wesl_bundle.proofs.Flags.{flags-turn, found-middle, object-get}
 use Rattle.wesl_bundle.proofs.Places.{Locates-member}
 use Rattle.wesl_bundle.proofs.features.flags_of.Goals as goal

@@ -8,7 +8,7 @@ use Rattle.wesl_bundle.specs.Broken.{Locates}
 use Rattle.wesl_bundle.specs.Forms.{a_list_of, a_name, a_package_module, optional, required}
 use Rattle.wesl_bundle.specs.PackageViews.{package_module_view}
 use Rattle.wesl_bundle.specs.Packages.{package_module_in, package_module_keys}
-use Rattle.wesl_bundle.specs.Reading.{has_only}
+use Rattle.wesl_pointer.specs.Keys.{has_only}
 use Rattle.wesl_bundle.specs.declared.packages.PackageModule.{PackageModule}
 use Rattle.wesl_bundle.specs.declared.packages.PackageModule.TheOpen.{PackageModule-F}
 use Rattle.wesl_bundle.proofs.Depths.{array-depth, get-depth, item-depth}

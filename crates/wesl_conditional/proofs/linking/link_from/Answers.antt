@@ -3,9 +3,9 @@ use Rattle.std.proofs.lemmas.Result.{IfErr-weaker}
 use Rattle.wesl_names.specs.Borrowed.{texts}
 use Rattle.wesl_names.specs.Path.{path_view}
 use Rattle.wesl_names.specs.Errors.{error_of_resolve}
-use Rattle.wesl_link.specs.Resolved.{module_at}
+use Rattle.wesl_linker.specs.Resolved.{module_at}
 use Rattle.wesl_link.specs.Keeping.{modules_of, turns_of}
-use Rattle.wesl_link.specs.Worlds.{task_of}
+use Rattle.wesl_linker.specs.Worlds.{task_of}
 use Rattle.wesl_conditional.proofs.Along.{AreAlike, linked-over, refused-over, both-ok}
 use Rattle.wesl_conditional.proofs.linking.link_from.Goals as goal
 

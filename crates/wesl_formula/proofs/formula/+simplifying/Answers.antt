@@ -1,44 +1,57 @@
-use Rattle.std.proofs.Common.{◌≡◌, ap, sym, ◌∙◌}
+use Rattle.std.proofs.Common.{◌≡◌, Some, None, refl, ap, sym, ◌∙◌}
 use Rattle.wesl_formula.specs.Features.{answer_to, known, by_number}
 use Rattle.wesl_formula.specs.Formulas.{form}
-use Rattle.wesl_formula.specs.Residual.{residual}
+use Rattle.wesl_formula.specs.Step.{instead, step}
 use Rattle.wesl_syntax.specs.View.{expression_view}
 use Rattle.wesl_syntax.specs.declared.expression.BinaryOperator.TheVariants.{ShortCircuitAnd, ShortCircuitOr}
 use Rattle.wesl_syntax.specs.declared.expression.UnaryOperator.TheVariants.{LogicalNegation}
-use Rattle.wesl_syntax.specs.declared.expression.Expression.TheViews as made
-use Rattle.wesl_formula.proofs.Steps.{within_left, negation_left, conjunction_left, disjunction_left}
+use Rattle.wesl_formula.proofs.Steps.{step_by_step, within_operands, negation_operands, conjunction_operands, disjunction_operands}
 use Rattle.wesl_formula.proofs.formula.+simplifying.Goals as goal
 
-pub simplified-returns-in-Parenthesized : goal.simplified-returns-in-Parenthesized
-simplified-returns-in-Parenthesized t c =
+pub leave-returns-in-Some : goal.leave-returns-in-Some
+leave-returns-in-Some t c =
     let answers = known (by_number c.args.names.now (answer_to c.args.features.now)) in
-    let h = c.in-Parenthesized in
-    let r = c.simplified_operand in
-    let w : c.args.whole ≡ made.Parenthesized h.expression = cc in
-    within_left answers c.parenthesize.result h.expression r.result (r.ensures.left, r.ensures.span) c.parenthesize.ensures ∙ ap (λ e. residual answers (form (expression_view e))) (sym w)
+    let e : c.instead_of.result ≡ Some c.in-Some.instead = cc in
+    ap (λ r. instead r (form (expression_view c.instead_of.new.formula))) (sym e)
+    ∙ c.instead_of.ensures ∙ ap (step answers) c.leave_operands.ensures ∙ step_by_step answers (form (expression_view c.args.formula.now))
 
-pub simplified-returns-in-Unary-LogicalNegation-default : goal.simplified-returns-in-Unary-LogicalNegation-default
-simplified-returns-in-Unary-LogicalNegation-default t c =
+pub leave-returns-in_default : goal.leave-returns-in_default
+leave-returns-in_default t c =
     let answers = known (by_number c.args.names.now (answer_to c.args.features.now)) in
-    let h = c.in-Unary-LogicalNegation-default in
-    let r = c.simplified_operand-in-Unary-LogicalNegation-default in
-    let w : c.args.whole ≡ made.Unary LogicalNegation h.operand = cc in
-    negation_left answers c.negate.result h.operand r.result (r.ensures.left, r.ensures.span) c.negate.ensures ∙ ap (λ e. residual answers (form (expression_view e))) (sym w)
+    let e : c.instead_of.result ≡ None = cc in
+    ap (λ r. instead r (form (expression_view c.instead_of.new.formula))) (sym e)
+    ∙ c.instead_of.ensures ∙ ap (step answers) c.leave_operands.ensures ∙ step_by_step answers (form (expression_view c.args.formula.now))
 
-pub simplified-returns-in-Binary-ShortCircuitAnd-default-default : goal.simplified-returns-in-Binary-ShortCircuitAnd-default-default
-simplified-returns-in-Binary-ShortCircuitAnd-default-default t c =
+pub leave_operands-returns-in-Parenthesized : goal.leave_operands-returns-in-Parenthesized
+leave_operands-returns-in-Parenthesized t c =
     let answers = known (by_number c.args.names.now (answer_to c.args.features.now)) in
-    let h = c.in-Binary-ShortCircuitAnd-default-default in
-    let r = c.simplified_operand-left in
-    let s = c.simplified_operand-in-Binary-ShortCircuitAnd-default-default in
-    let w : c.args.whole ≡ made.Binary ShortCircuitAnd h.left h.right = cc in
-    conjunction_left answers c.both.result h.left r.result h.right s.result (r.ensures.left, r.ensures.span) (s.ensures.left, s.ensures.span) c.both.ensures ∙ ap (λ e. residual answers (form (expression_view e))) (sym w)
+    let b = c.in-Parenthesized in
+    within_operands answers c.args.formula.now b.expression c.deref_mut.result.now _ b.is c.deref_mut.ensures.value (c.leave.ensures, refl)
 
-pub simplified-returns-in-Binary-ShortCircuitOr-default-default : goal.simplified-returns-in-Binary-ShortCircuitOr-default-default
-simplified-returns-in-Binary-ShortCircuitOr-default-default t c =
+pub leave_operands-returns-in-Unary-LogicalNegation-default : goal.leave_operands-returns-in-Unary-LogicalNegation-default
+leave_operands-returns-in-Unary-LogicalNegation-default t c =
     let answers = known (by_number c.args.names.now (answer_to c.args.features.now)) in
-    let h = c.in-Binary-ShortCircuitOr-default-default in
-    let r = c.simplified_operand-left-in-Binary-ShortCircuitOr-default-default in
-    let s = c.simplified_operand-in-Binary-ShortCircuitOr-default-default in
-    let w : c.args.whole ≡ made.Binary ShortCircuitOr h.left h.right = cc in
-    disjunction_left answers c.either.result h.left r.result h.right s.result (r.ensures.left, r.ensures.span) (s.ensures.left, s.ensures.span) c.either.ensures ∙ ap (λ e. residual answers (form (expression_view e))) (sym w)
+    let b = c.in-Unary-LogicalNegation-default in
+    let l = c.deref_mut-in-Unary-LogicalNegation-default in
+    let o : b.operator ≡ LogicalNegation = cc in
+    negation_operands answers c.args.formula.now b.operand l.result.now _ b.operator o b.is l.ensures.value (c.leave-in-Unary-LogicalNegation-default.ensures, refl)
+
+pub leave_operands-returns-in-Binary-ShortCircuitAnd-default-default : goal.leave_operands-returns-in-Binary-ShortCircuitAnd-default-default
+leave_operands-returns-in-Binary-ShortCircuitAnd-default-default t c =
+    let answers = known (by_number c.args.names.now (answer_to c.args.features.now)) in
+    let b = c.in-Binary-ShortCircuitAnd-default-default in
+    let l = c.deref_mut-in-Binary-ShortCircuitAnd-default-default in
+    let r = c.deref_mut-in-Binary-ShortCircuitAnd-default-default-2 in
+    let o : b.operator ≡ ShortCircuitAnd = cc in
+    conjunction_operands answers c.args.formula.now b.left l.result.now _ b.right r.result.now _ b.operator o b.is l.ensures.value r.ensures.value
+    (c.leave-in-Binary-ShortCircuitAnd-default-default.ensures, refl) (c.leave-in-Binary-ShortCircuitAnd-default-default-2.ensures, refl)
+
+pub leave_operands-returns-in-Binary-ShortCircuitOr-default-default : goal.leave_operands-returns-in-Binary-ShortCircuitOr-default-default
+leave_operands-returns-in-Binary-ShortCircuitOr-default-default t c =
+    let answers = known (by_number c.args.names.now (answer_to c.args.features.now)) in
+    let b = c.in-Binary-ShortCircuitOr-default-default in
+    let l = c.deref_mut-in-Binary-ShortCircuitOr-default-default in
+    let r = c.deref_mut-in-Binary-ShortCircuitOr-default-default-2 in
+    let o : b.operator ≡ ShortCircuitOr = cc in
+    disjunction_operands answers c.args.formula.now b.left l.result.now _ b.right r.result.now _ b.operator o b.is l.ensures.value r.ensures.value
+    (c.leave-in-Binary-ShortCircuitOr-default-default.ensures, refl) (c.leave-in-Binary-ShortCircuitOr-default-default-2.ensures, refl)

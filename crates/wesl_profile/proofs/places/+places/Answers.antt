@@ -2,11 +2,12 @@ use Rattle.std.proofs.Common.{◌≡◌, ◌∷◌, [], ◌++◌, ◌<◌, lengt
 use Rattle.std.proofs.lemmas.Grind.{common_steps}
 use Rattle.serde_json.specs.View.{view, items_view, members_view}
 use Rattle.serde_json.proofs.Views.{Entry}
-use Rattle.wesl_form.specs.Place.{key}
+use Rattle.wesl_pointer.specs.Pointer.{key}
 use Rattle.wesl_reading.specs.Faults.{IfPlace, IsUnderPart}
 use Rattle.wesl_profile.specs.Roles.{item_role, member_role}
 use Rattle.wesl_profile.specs.Vocabulary.{shape_of}
-use Rattle.wesl_profile.specs.Places.{is_foreign_word, HasMember, has_foreign, IsForeignWithin}
+use Rattle.wesl_profile.specs.Places.{is_foreign_word, has_foreign, IsForeignWithin}
+use Rattle.wesl_pointer.specs.Keys.{HasMember}
 use Rattle.wesl_profile.proofs.Foreign.{foreign-word, foreign-item, foreign-member, item-found, items-turn, HasMember-middle, members-turn}
 use Rattle.wesl_profile.proofs.places.+places.Goals as goal
 

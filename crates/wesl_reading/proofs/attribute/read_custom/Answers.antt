@@ -2,7 +2,8 @@ use Rattle.std.proofs.Common.{◌≡◌, true, false, codes, string_bytes, optio
 use Rattle.serde_json.specs.View.{view}
 use Rattle.wesl_syntax.specs.Tree.{list, text}
 use Rattle.wesl_form.specs.Schema.{node, list_of, an_attribute, an_expression, a_name}
-use Rattle.wesl_form.specs.Reading.{has_only, known_keys, name_in}
+use Rattle.wesl_form.specs.Reading.{known_keys, name_in}
+use Rattle.wesl_pointer.specs.Keys.{has_only}
 use Rattle.wesl_reading.specs.Faults.{Locates}
 use Rattle.wesl_reading.specs.Forms.{attribute_of}
 use Rattle.wesl_reading.specs.declared.words.AttributeWord.TheVariants as attribs

@@ -3,7 +3,8 @@ use Rattle.serde_json.specs.Find.{as_str}
 use Rattle.serde_json.specs.View.{view}
 use Rattle.wesl_syntax.specs.Tree.{text}
 use Rattle.wesl_form.specs.Schema.{node, an_attribute, a_text}
-use Rattle.wesl_form.specs.Reading.{has_only, known_keys}
+use Rattle.wesl_form.specs.Reading.{known_keys}
+use Rattle.wesl_pointer.specs.Keys.{has_only}
 use Rattle.wesl_reading.specs.Faults.{Locates}
 use Rattle.wesl_reading.specs.Forms.{attribute_of}
 use Rattle.wesl_reading.specs.declared.words.AttributeWord.TheVariants as attribs

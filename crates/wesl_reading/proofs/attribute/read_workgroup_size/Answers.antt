@@ -1,7 +1,8 @@
 use Rattle.std.proofs.Common.{◌≡◌, true, false, codes, refl, rules}
 use Rattle.serde_json.specs.View.{view}
 use Rattle.wesl_form.specs.Schema.{node, an_attribute, an_expression}
-use Rattle.wesl_form.specs.Reading.{has_only, known_keys}
+use Rattle.wesl_form.specs.Reading.{known_keys}
+use Rattle.wesl_pointer.specs.Keys.{has_only}
 use Rattle.wesl_reading.specs.Faults.{Locates}
 use Rattle.wesl_reading.specs.Forms.{attribute_of}
 use Rattle.wesl_reading.specs.declared.words.AttributeWord.TheVariants as attribs

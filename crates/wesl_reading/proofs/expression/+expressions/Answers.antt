@@ -11,7 +11,8 @@ use Rattle.wesl_syntax.specs.declared.expression.TemplateArg.{roll-TemplateArg}
 use Rattle.wesl_form.specs.Schema.{node, leaf, an_expression, an_ident, a_path, a_type, a_name, a_template_argument, list_of, one_of}
 use Rattle.wesl_form.specs.Nodes.{type_or_identifier_node, type_row}
 use Rattle.wesl_form.specs.Words.{unary_words, binary_words}
-use Rattle.wesl_form.specs.Reading.{has_only, known_keys, word_in, name_in}
+use Rattle.wesl_form.specs.Reading.{known_keys, word_in, name_in}
+use Rattle.wesl_pointer.specs.Keys.{has_only}
 use Rattle.wesl_reading.specs.Faults.{Locates}
 use Rattle.wesl_reading.specs.Forms.{expression_of}
 use Rattle.wesl_reading.specs.declared.words.ExpressionWord.TheVariants as words

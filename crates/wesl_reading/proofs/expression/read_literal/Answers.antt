@@ -3,7 +3,8 @@ use Rattle.serde_json.specs.Find.{get}
 use Rattle.serde_json.specs.View.{view}
 use Rattle.wesl_syntax.specs.Tree.{text}
 use Rattle.wesl_form.specs.Schema.{node, an_expression, a_literal}
-use Rattle.wesl_form.specs.Reading.{has_only, known_keys, literal_in}
+use Rattle.wesl_form.specs.Reading.{known_keys, literal_in}
+use Rattle.wesl_pointer.specs.Keys.{has_only}
 use Rattle.wesl_reading.specs.Faults.{Locates}
 use Rattle.wesl_reading.specs.Forms.{expression_of}
 use Rattle.wesl_reading.specs.declared.words.ExpressionWord.TheVariants as words

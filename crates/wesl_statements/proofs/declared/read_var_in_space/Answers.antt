@@ -1,7 +1,8 @@
 use Rattle.serde_json.specs.Find.{get}
 use Rattle.serde_json.specs.View.{view}
 use Rattle.std.proofs.Common.{Some, ap, codes, false, refl, rules, true, ◌∙◌, ◌≡◌}
-use Rattle.wesl_form.specs.Reading.{has_only, known_keys, word_in}
+use Rattle.wesl_form.specs.Reading.{known_keys, word_in}
+use Rattle.wesl_pointer.specs.Keys.{has_only}
 use Rattle.wesl_form.specs.Schema.{a_type, an_attribute, an_expression, an_ident, leaf, list_of, node, nothing, one_of}
 use Rattle.wesl_form.specs.Words.{access_words, space_words}
 use Rattle.wesl_reading.proofs.Places.{row-inside, row-keys, row-member, row-text}

@@ -1,7 +1,8 @@
 use Rattle.serde_json.specs.View.{view}
 use Rattle.std.proofs.Common.{codes, false, refl, rules, true, ◌≡◌}
 use Rattle.wesl_form.specs.Nodes.{attrs, operand}
-use Rattle.wesl_form.specs.Reading.{has_only, known_keys}
+use Rattle.wesl_form.specs.Reading.{known_keys}
+use Rattle.wesl_pointer.specs.Keys.{has_only}
 use Rattle.wesl_form.specs.Schema.{a_break_if, an_attribute, an_expression, list_of, node}
 use Rattle.wesl_reading.proofs.Expressions.{bare-keys, bare-place, bare-reads}
 use Rattle.wesl_reading.proofs.Places.{row-inside, row-member}

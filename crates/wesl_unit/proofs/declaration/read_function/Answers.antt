@@ -1,6 +1,7 @@
 use Rattle.serde_json.specs.View.{view}
 use Rattle.std.proofs.Common.{codes, false, refl, rules, true, ◌≡◌}
-use Rattle.wesl_form.specs.Reading.{has_only, known_keys}
+use Rattle.wesl_form.specs.Reading.{known_keys}
+use Rattle.wesl_pointer.specs.Keys.{has_only}
 use Rattle.wesl_form.specs.Schema.{a_body, a_parameter, a_type, an_attribute, an_ident, leaf, list_of, node}
 use Rattle.wesl_reading.proofs.Places.{row-inside, row-keys, row-member}
 use Rattle.wesl_reading.proofs.Rows.{plain-kind}

@@ -1,7 +1,8 @@
 use Rattle.serde_json.specs.View.{view}
 use Rattle.std.proofs.Common.{ap, codes, false, refl, rules, sym, true, ◌≡◌}
 use Rattle.wesl_form.specs.Nodes.{typed_row}
-use Rattle.wesl_form.specs.Reading.{has_only, known_keys}
+use Rattle.wesl_form.specs.Reading.{known_keys}
+use Rattle.wesl_pointer.specs.Keys.{has_only}
 use Rattle.wesl_form.specs.Schema.{a_member, a_name, a_type, an_attribute, fixed, inner, leaf, list_of, node, nothing}
 use Rattle.wesl_reading.proofs.Places.{row-inside, row-member}
 use Rattle.wesl_reading.proofs.Rows.{plain-kind}

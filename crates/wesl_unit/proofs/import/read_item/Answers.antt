@@ -2,7 +2,8 @@ use Rattle.serde_json.specs.Find.{get}
 use Rattle.serde_json.specs.View.{view}
 use Rattle.std.proofs.Common.{ap, codes, false, option_map, refl, rules, sym, true, ◌≡◌}
 use Rattle.std.specs.Option.{is_some}
-use Rattle.wesl_form.specs.Reading.{has_only, known_keys, name_in}
+use Rattle.wesl_form.specs.Reading.{known_keys, name_in}
+use Rattle.wesl_pointer.specs.Keys.{has_only}
 use Rattle.wesl_form.specs.Schema.{a_content, an_ident, leaf, node}
 use Rattle.wesl_reading.proofs.Expressions.{bare-keys, bare-place, bare-reads}
 use Rattle.wesl_reading.proofs.Places.{row-inside, row-text}

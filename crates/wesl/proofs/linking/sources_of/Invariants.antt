@@ -1,7 +1,0 @@
-use Rattle.std.proofs.Common.{◌≡◌}
-use Rattle.wesl_bundle.specs.PackageViews.{packages_view}
-use Rattle.wesl.specs.PackageTexts.{ArePackagesOf}
-use Rattle.wesl.proofs.linking.sources_of.Given as goal
-
-abbrev pub invariant-loop-package : goal.invariant-loop-package
-invariant-loop-package l = (l.sources.local.modules.now ≡ l.modules) × ArePackagesOf (packages_view l.yielded) l.sources.packages.packages.items

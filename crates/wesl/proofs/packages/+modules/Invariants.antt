@@ -1,6 +1,0 @@
-use Rattle.wesl_bundle.specs.PackageViews.{package_modules_view}
-use Rattle.wesl.specs.PackageTexts.{AreModulesOf}
-use Rattle.wesl.proofs.packages.+modules.Given as goal
-
-abbrev pub invariant-modules_of-loop-one : goal.invariant-modules_of-loop-one
-invariant-modules_of-loop-one l = AreModulesOf (package_modules_view l.yielded) l.made.items

@@ -1,0 +1,13 @@
+pub mod Walk
+pub mod Fronts
+pub mod Views
+pub mod Standing
+pub mod Walked
+pub mod Closed
+pub mod Levels
+pub mod Settled
+pub mod Checked
+pub mod Looped
+pub mod Declared
+pub mod Judged
+pub mod Whole

@@ -1,0 +1,17 @@
+use Rattle.std.proofs.Common.{[], ◌∷◌, ap, ◌∙◌}
+use Rattle.wesl_chains.specs.Nodes.{answers}
+use Rattle.wesl_chains.specs.Residual.{residual_tree}
+use Rattle.wesl_branches.proofs.Levels.{parameters_left, type_left}
+use Rattle.wesl_syntax.specs.Tree.{binder, branch, function, parameters}
+use Rattle.wesl_syntax.specs.View.{attributes_tree, compound_view, ident_tree, listed, optional, parameter_view, type_view}
+use Rattle.wesl_branches.proofs.declarations.settle_function.Goals as goal
+
+pub returns : goal.returns
+returns c =
+    let known = answers c.args.names.now c.args.features.now in
+    let f = c.args.function.now in
+    let body = c.settle_body.new.body in
+    ap (λ t. branch function (attributes_tree f.attributes ∷ ident_tree binder f.ident ∷ t ∷ attributes_tree f.return_attributes ∷ optional type_view f.return_type ∷ compound_view body ∷ []))
+    (parameters_left known f.parameters.items c.settle_list.new.nodes.items c.settle_list.ensures)
+    ∙ ap (λ t. branch function (attributes_tree f.attributes ∷ ident_tree binder f.ident ∷ residual_tree known (listed parameter_view parameters f.parameters) ∷ attributes_tree f.return_attributes ∷ t ∷ compound_view body ∷ [])) (type_left known f.return_type)
+    ∙ ap (λ t. branch function (attributes_tree f.attributes ∷ ident_tree binder f.ident ∷ residual_tree known (listed parameter_view parameters f.parameters) ∷ attributes_tree f.return_attributes ∷ residual_tree known (optional type_view f.return_type) ∷ t ∷ [])) c.settle_body.ensures

@@ -1,0 +1,107 @@
+//! Copies of statements.
+ghost use Rattle.std.specs.Prelude.{◌≡◌, IfOk, IfErr};
+ghost use Rattle.wesl_names.specs.declared.errors.Error as error;
+ghost use Rattle.wesl_syntax.specs.View.{break_if_view, clause_view, compound_view, continuing_view, else_if_view, else_view, if_view, selector_view, statement_tree, statement_view};
+
+use crate::TryClone;
+use std::alloc::Global;
+use wesl_copies::{
+    copy_break_if_statement, copy_case_selector, copy_compound_statement,
+    copy_continuing_statement, copy_else_clause, copy_else_if_clause, copy_if_clause,
+    copy_statement, copy_statement_node, copy_switch_clause,
+};
+use wesl_names::Error;
+use wesl_syntax::{
+    BreakIfStatement, CaseSelector, CompoundStatement, ContinuingStatement, ElseClause,
+    ElseIfClause, IfClause, Spanned, Statement, SwitchClause,
+};
+
+impl TryClone for Statement {
+    fn try_clone(&self, alloc: Global) -> Result<Statement, Error>
+        ensures equal { IfOk result (λ copy. statement_view copy ≡ statement_view self.now) }
+        ensures refused { IfErr result (λ e. e ≡ error.Memory) }
+    {
+        copy_statement(alloc, self)
+    }
+}
+
+impl TryClone for Spanned<Statement> {
+    fn try_clone(&self, alloc: Global) -> Result<Spanned<Statement>, Error>
+        ensures equal { IfOk result (λ copy. statement_tree copy ≡ statement_tree self.now) }
+        ensures refused { IfErr result (λ e. e ≡ error.Memory) }
+    {
+        copy_statement_node(alloc, self)
+    }
+}
+
+impl TryClone for CompoundStatement {
+    fn try_clone(&self, alloc: Global) -> Result<CompoundStatement, Error>
+        ensures equal { IfOk result (λ copy. compound_view copy ≡ compound_view self.now) }
+        ensures refused { IfErr result (λ e. e ≡ error.Memory) }
+    {
+        copy_compound_statement(alloc, self)
+    }
+}
+
+impl TryClone for IfClause {
+    fn try_clone(&self, alloc: Global) -> Result<IfClause, Error>
+        ensures equal { IfOk result (λ copy. if_view copy ≡ if_view self.now) }
+        ensures refused { IfErr result (λ e. e ≡ error.Memory) }
+    {
+        copy_if_clause(alloc, self)
+    }
+}
+
+impl TryClone for ElseIfClause {
+    fn try_clone(&self, alloc: Global) -> Result<ElseIfClause, Error>
+        ensures equal { IfOk result (λ copy. else_if_view copy ≡ else_if_view self.now) }
+        ensures refused { IfErr result (λ e. e ≡ error.Memory) }
+    {
+        copy_else_if_clause(alloc, self)
+    }
+}
+
+impl TryClone for ElseClause {
+    fn try_clone(&self, alloc: Global) -> Result<ElseClause, Error>
+        ensures equal { IfOk result (λ copy. else_view copy ≡ else_view self.now) }
+        ensures refused { IfErr result (λ e. e ≡ error.Memory) }
+    {
+        copy_else_clause(alloc, self)
+    }
+}
+
+impl TryClone for CaseSelector {
+    fn try_clone(&self, alloc: Global) -> Result<CaseSelector, Error>
+        ensures equal { IfOk result (λ copy. selector_view copy ≡ selector_view self.now) }
+        ensures refused { IfErr result (λ e. e ≡ error.Memory) }
+    {
+        copy_case_selector(alloc, self)
+    }
+}
+
+impl TryClone for SwitchClause {
+    fn try_clone(&self, alloc: Global) -> Result<SwitchClause, Error>
+        ensures equal { IfOk result (λ copy. clause_view copy ≡ clause_view self.now) }
+        ensures refused { IfErr result (λ e. e ≡ error.Memory) }
+    {
+        copy_switch_clause(alloc, self)
+    }
+}
+
+impl TryClone for ContinuingStatement {
+    fn try_clone(&self, alloc: Global) -> Result<ContinuingStatement, Error>
+        ensures equal { IfOk result (λ copy. continuing_view copy ≡ continuing_view self.now) }
+        ensures refused { IfErr result (λ e. e ≡ error.Memory) }
+    {
+        copy_continuing_statement(alloc, self)
+    }
+}
+
+impl TryClone for BreakIfStatement {
+    fn try_clone(&self, alloc: Global) -> Result<BreakIfStatement, Error>
+        ensures equal { IfOk result (λ copy. break_if_view copy ≡ break_if_view self.now) }
+        ensures refused { IfErr result (λ e. e ≡ error.Memory) }
+    {
+        copy_break_if_statement(alloc, self)
+    }
+}

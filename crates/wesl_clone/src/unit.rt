@@ -1,0 +1,26 @@
+//! Copies of units.
+ghost use Rattle.std.specs.Prelude.{◌≡◌, IfOk, IfErr};
+ghost use Rattle.wesl_names.specs.declared.errors.Error as error;
+ghost use Rattle.wesl_tree.specs.Translation.{unit_view};
+
+use crate::TryClone;
+use std::alloc::Global;
+use wesl_copies::{copy_declarations, copy_directives, copy_import_statements};
+use wesl_names::Error;
+use wesl_tree::TranslationUnit;
+
+impl TryClone for TranslationUnit {
+    fn try_clone(&self, alloc: Global) -> Result<TranslationUnit, Error>
+        ensures equal { IfOk result (λ unit. unit_view unit ≡ unit_view self.now) }
+        ensures refused { IfErr result (λ e. e ≡ error.Memory) }
+    {
+        let names = self.names().try_clone(alloc)?;
+        let imports = copy_import_statements(alloc, self.imports())?;
+        let directives = copy_directives(alloc, self.global_directives())?;
+        let declarations = copy_declarations(alloc, self.global_declarations())?;
+        match TranslationUnit::from_parts(names, imports, directives, declarations) {
+            Some(unit) => Ok(unit),
+            None => unreachable!(),
+        }
+    }
+}

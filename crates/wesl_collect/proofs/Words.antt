@@ -1,0 +1,83 @@
+-- What is found in formulas, imports and directives.
+use Rattle.std.proofs.Common.{◌≡◌, Bool, true, false, ◌&&◌, List, [], ◌∷◌, ◌++◌, map, refl, sym, ap, ◌∙◌, subst, Option, None, Some, Vec, Global, if◌then◌else◌}
+use Rattle.wesl_names.specs.declared.path.ModulePath.{ModulePath}
+use Rattle.wesl_syntax.specs.Tree.{Forest, Tree, end, tree, before, forest_of, kind, attributes, attribute_node, if_attribute, elif_attribute}
+use Rattle.wesl_syntax.specs.Nodes.{without_attributes}
+use Rattle.wesl_syntax.specs.View.{attribute_view, attributes_tree, content_view, expression_tree, directive_view, import_view, operand_tree, optional, path_tree, placed, text_tree, names_tree}
+use Rattle.wesl_syntax.specs.declared.attribute.Attribute.{Attribute}
+use Rattle.wesl_syntax.specs.declared.attribute.Attribute.TheVariants as attr
+use Rattle.wesl_syntax.specs.declared.declaration.GlobalDirective.{GlobalDirective}
+use Rattle.wesl_syntax.specs.declared.declaration.GlobalDirective.TheVariants as directives
+use Rattle.wesl_syntax.specs.declared.expression.Expression.{Expression}
+use Rattle.wesl_syntax.specs.declared.import.ImportStatement.{ImportStatement}
+use Rattle.wesl_syntax.specs.declared.span.Spanned.{Spanned}
+use Rattle.wesl_kinds.specs.Sought.{Sought, expressions, types, statements, attribute_lists}
+use Rattle.wesl_collect.specs.Walk.{chosen, found, itself, passes_words, sight}
+use Rattle.wesl_kinds.specs.Held.{all_of, flat_label, hollow_label, AttributesAreFlat, ContentsAreHollow}
+use Rattle.wesl_collect.proofs.Labels.{no_attributes, no_statements, nothing_in, plain_of, sight_plain, sight_whole, without_none}
+
+abbrev flat : Forest → Bool
+flat = all_of flat_label
+
+attributes_flat : AttributesAreFlat → (xs : List (Spanned Attribute)) → flat (forest_of (map (placed attribute_view attribute_node) xs)) ≡ true
+attributes_flat law [] = refl
+attributes_flat law (x ∷ xs) = rw (law x.node, attributes_flat law xs) refl
+
+abbrev hollow : Forest → Bool
+hollow = all_of hollow_label
+
+operand_flat : AttributesAreFlat → (e : Spanned Expression) → flat (before (expression_tree e) end) ≡ true
+operand_flat law e = law (attr.If e)
+
+-- formulas hold expressions and types alone, which are passed over there
+if_found : AttributesAreFlat → (k : Sought) (deep : Bool) (e : Spanned Expression) → found k deep (operand_tree if_attribute e) ≡ []
+if_found law expressions deep e = refl
+if_found law types deep e = refl
+if_found law statements deep e = ap (λ l. l ++ []) (no_statements deep (before (expression_tree e) end) (operand_flat law e))
+if_found law attribute_lists deep e = ap (λ l. l ++ []) (no_attributes deep (before (expression_tree e) end) (operand_flat law e))
+
+elif_found : AttributesAreFlat → (k : Sought) (deep : Bool) (e : Spanned Expression) → found k deep (operand_tree elif_attribute e) ≡ []
+elif_found law expressions deep e = refl
+elif_found law types deep e = refl
+elif_found law statements deep e = ap (λ l. l ++ []) (no_statements deep (before (expression_tree e) end) (operand_flat law e))
+elif_found law attribute_lists deep e = ap (λ l. l ++ []) (no_attributes deep (before (expression_tree e) end) (operand_flat law e))
+
+pub if_formula : AttributesAreFlat → (k : Sought) (deep : Bool) (a : Attribute) (e : Spanned Expression) → a ≡ attr.If e → found k deep (attribute_view a) ≡ []
+if_formula law k deep a e is = ap (λ x. found k deep (attribute_view x)) is ∙ if_found law k deep e
+
+pub elif_formula : AttributesAreFlat → (k : Sought) (deep : Bool) (a : Attribute) (e : Spanned Expression) → a ≡ attr.Elif e → found k deep (attribute_view a) ≡ []
+elif_formula law k deep a e is = ap (λ x. found k deep (attribute_view x)) is ∙ elif_found law k deep e
+
+-- attributes before what has no node: they alone are found, and nothing in them
+list_alone : (deep : Bool) (t : Tree) (below rest : List Tree) → below ≡ [] → rest ≡ [] → ((t ∷ (if deep then below else [])) ++ rest) ++ [] ≡ t ∷ []
+list_alone true t below rest b r = rw (b, r) refl
+list_alone false t below rest b r = rw r refl
+
+words_found : (k : Sought) (deep : Bool) (inner rest : Forest) → flat inner ≡ true → hollow rest ≡ true
+    → chosen k deep (if passes_words k then without_attributes (sight k (tree (kind attributes) inner rest)) else sight k (tree (kind attributes) inner rest)) ++ [] ≡ itself k (record { label = kind attributes; children = inner })
+words_found expressions deep inner rest i r = rw (sight_plain expressions rest (plain_of rest r), without_none rest r, nothing_in expressions deep rest r) refl
+words_found types deep inner rest i r = rw (sight_plain types rest (plain_of rest r), without_none rest r, nothing_in types deep rest r) refl
+words_found statements deep inner rest i r = rw (no_statements deep inner i, sight_plain statements rest (plain_of rest r), nothing_in statements deep rest r) refl
+words_found attribute_lists deep inner rest i r =
+    let same : sight attribute_lists inner ≡ inner = sight_whole attribute_lists inner refl in
+    list_alone deep _ _ _ (no_attributes deep inner i) (ap (chosen attribute_lists deep) (sight_plain attribute_lists rest (plain_of rest r)) ∙ nothing_in attribute_lists deep rest r)
+    ∙ ap (λ f. record { label = kind attributes; children = f } ∷ []) same
+
+path_hollow : (p : Option ModulePath) (f : Forest) → hollow f ≡ true → hollow (before (optional path_tree p) f) ≡ true
+path_hollow None f h = h
+path_hollow (Some p) f h = h
+
+pub import_found : AttributesAreFlat → ContentsAreHollow → (k : Sought) (deep : Bool) (i : ImportStatement) → found k deep (import_view i) ≡ itself k (attributes_tree i.attributes)
+import_found flat_law hollow_law k deep i =
+    words_found k deep (attributes_tree i.attributes).children (before (optional path_tree i.path) (before (content_view i.content) end)) (attributes_flat flat_law i.attributes.items)
+    (path_hollow i.path (before (content_view i.content) end) (rw (hollow_law i.content) refl))
+
+abbrev pub directive_attributes : GlobalDirective → Vec (Spanned Attribute) Global
+directive_attributes (directives.Diagnostic a s r) = a
+directive_attributes (directives.Enable a ns) = a
+directive_attributes (directives.Requires a ns) = a
+
+pub directive_found : AttributesAreFlat → (k : Sought) (deep : Bool) (d : GlobalDirective) → itself k (attributes_tree (directive_attributes d)) ≡ found k deep (directive_view d)
+directive_found law k deep (directives.Diagnostic a s r) = sym (words_found k deep (attributes_tree a).children (before (text_tree s) (before (text_tree r) end)) (attributes_flat law a.items) refl)
+directive_found law k deep (directives.Enable a ns) = sym (words_found k deep (attributes_tree a).children (before (names_tree ns) end) (attributes_flat law a.items) refl)
+directive_found law k deep (directives.Requires a ns) = sym (words_found k deep (attributes_tree a).children (before (names_tree ns) end) (attributes_flat law a.items) refl)

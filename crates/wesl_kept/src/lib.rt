@@ -1,0 +1,7 @@
+//! Which declarations of a module are kept: those named, those without a name, and what these reach: the engine behind
+//! `strip_except`.
+#![tactic(auto)]
+
+mod kept;
+
+pub use kept::kept_declarations;

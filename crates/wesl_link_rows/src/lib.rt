@@ -1,5 +1,0 @@
-//! Tests of links over resolvers.
-#![tactic(auto)]
-
-#[cfg(test)]
-mod asks;

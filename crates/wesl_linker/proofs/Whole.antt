@@ -1,0 +1,114 @@
+-- The linked unit of what a link found.
+use Rattle.std.proofs.Common.{◌≡◌, inl, inr, suc, ◌+◌, List, [], ◌∷◌, ◌++◌, length, length-append, map, Contains, refl, sym, subst, ap, ◌∙◌, append-nil}
+use Rattle.std.proofs.lemmas.List.{map-append}
+use Rattle.std.proofs.lemmas.List.Elements.{Contains-append_cases}
+use denote.Ref.{Bor}
+use Rattle.wesl_names.specs.Path.{Text, Path}
+use Rattle.wesl_syntax.specs.Tree.{TreeOf, ForestOf, forest_of, trees, identifiers, kind, tree, end, imports as imports_kind, directive_list, declarations as declarations_kind}
+use Rattle.wesl_syntax.specs.Unit.{UnitView, forest_of_unit, spelled}
+use Rattle.wesl_syntax.specs.declared.span.Spanned.{Spanned}
+use Rattle.wesl_syntax.specs.declared.declaration.GlobalDirective.{GlobalDirective}
+use Rattle.wesl_syntax.specs.declared.declaration.GlobalDeclaration.{GlobalDeclaration}
+use Rattle.wesl_tree.specs.Translation.{unit_view}
+use Rattle.wesl_world.proofs.Lists.{contains_map}
+use Rattle.wesl_table.specs.Numbering.{PathAt, NameAt}
+use Rattle.wesl_table.specs.NumbersView.{numbering}
+use Rattle.wesl_linker.proofs.Usable.{flat_map-map}
+use Rattle.wesl_naming.specs.Given.{Given}
+use Rattle.wesl_assembly.specs.Denotations.{symbol, local, free_name, printed_as}
+use Rattle.wesl_assembly.specs.Directives.{AreThinned, Thins, all_directives}
+use Rattle.wesl_assembly.specs.Laws.{MeaningsCanBeRetold}
+use Rattle.wesl_assembly.specs.Linked.{shape, nodes_of, directive_ref_tree, declaration_ref_tree, IsLinkedAs}
+use Rattle.wesl_assembly.specs.Views.{Meaning, denotation_view}
+use Rattle.wesl_assembly.proofs.Replaced.{identifiers_replaced}
+use Rattle.wesl_linker.specs.Linked.{Denotation, IsAssembled, Placed, directives_in, unit_of}
+use Rattle.wesl_linker.specs.Worlds.{Module}
+use Rattle.wesl_linker.specs.Keeping.{name_text, denotation_text, name_under, module_of, all_loaded, modules_in, task_in}
+use Rattle.wesl_linker.specs.Holding.{printed_by, IsNamed, AreParts}
+use Rattle.wesl_linker.specs.declared.loaded.Loaded.{Loaded}
+use Rattle.wesl_linker.specs.declared.link.Link.{Link}
+use Rattle.wesl_linker.specs.declared.assemble.Parts.{Parts}
+use Rattle.wesl_linker.proofs.Texts.{path_is, name_is, name_by, told_apart}
+
+same_length : {X Y : Type 0} (f : X → Y) (xs : List X) → length (map f xs) ≡ length xs
+same_length f [] = refl
+same_length f (x ∷ xs) = ap suc (same_length f xs)
+
+-- trees of one shape have as many identifiers
+many_of : {I J : Type 0} (f : ForestOf I) (g : ForestOf J) → shape f ≡ shape g → length (identifiers f) ≡ length (identifiers g)
+many_of f g e =
+    sym (same_length (λ i. tt) (identifiers f)) ∙ (ap length (sym (identifiers_replaced (λ i. tt) f)) ∙ (ap (λ h. length (identifiers h)) e
+    ∙ (ap length (identifiers_replaced (λ i. tt) g) ∙ same_length (λ i. tt) (identifiers g))))
+
+-- three lists under one node
+abbrev three : {I : Type 0} → ForestOf I → ForestOf I → ForestOf I
+three directives declarations = tree (kind imports_kind) end (tree (kind directive_list) directives (tree (kind declarations_kind) declarations end))
+
+all_directives_are : (us : List UnitView) (ms : List Loaded) → us ≡ map (λ m. unit_view m.unit) ms → all_directives us ≡ directives_in (map module_of ms)
+all_directives_are us ms e =
+    ap all_directives e ∙ (flat_map-map (λ u. trees (spelled u).directives.children) (λ (m : Loaded). unit_view m.unit) ms
+    ∙ sym (flat_map-map (λ (m : Module). trees m.unit.directives.children) module_of ms))
+
+module _ (l : Link) (given : Given) (us : List UnitView) (nodes : List (Bor (Spanned GlobalDirective))) (words : List Meaning) (parts : Parts)
+    (units : us ≡ map (λ m. unit_view m.unit) (all_loaded l)) (d : AreThinned (all_directives us) nodes words) (p : AreParts l (all_loaded l) words parts) where
+  abbrev texts_of : Meaning → Denotation
+  texts_of = denotation_text (numbering l.numbers)
+
+  abbrev decls : List (Bor (Spanned GlobalDeclaration))
+  decls = parts.declarations.items
+
+  pub all_named : length (map denotation_view parts.denotations.items) ≡ length (identifiers (forest_of_unit (nodes_of nodes decls)))
+  all_named =
+      let many : length words ≡ length (identifiers (forest_of (map directive_ref_tree nodes))) =
+      ap length d.words_are ∙ (same_length free_name (identifiers (forest_of d.kept)) ∙ sym (many_of (forest_of (map directive_ref_tree nodes)) (forest_of d.kept) d.same_shape)) in
+      ap length p.denotations ∙ (length-append words p.meanings
+      ∙ (ap (λ n. n + length p.meanings) many ∙ (ap (λ n. length (identifiers (forest_of (map directive_ref_tree nodes))) + n) p.one_each
+      ∙ (sym (length-append (identifiers (forest_of (map directive_ref_tree nodes))) (identifiers (forest_of (map declaration_ref_tree decls))))
+      ∙ ap (λ xs. length (identifiers (forest_of (map directive_ref_tree nodes)) ++ xs)) (sym (append-nil (identifiers (forest_of (map declaration_ref_tree decls)))))))))
+
+  free_texts : (xs : List Text) → map texts_of (map free_name xs) ≡ map free_name xs
+  free_texts [] = refl
+  free_texts (x ∷ xs) = ap (λ ys. free_name x ∷ ys) (free_texts xs)
+
+  named : (m : Meaning) → Contains (words ++ p.meanings) m → IsNamed (numbering l.numbers) m
+  named m c = elim (Contains-append_cases words p.meanings m c) [
+    | inl h ↦ (let (x, k, e) = contains_map free_name (identifiers (forest_of d.kept)) m (subst (λ (ws : List Meaning). Contains ws m) d.words_are h) in subst (λ (n : Meaning). IsNamed (numbering l.numbers) n) e tt)
+    | inr h ↦ p.named m h
+  ]
+
+  reprinted : (m : Meaning) → IsNamed (numbering l.numbers) m → printed_as (name_under (numbering l.numbers) given) (texts_of m) ≡ printed_as (printed_by (numbering l.numbers) given) m
+  reprinted (symbol q n) ((path, at), (x, is)) =
+      name_of path at x is
+    where
+      name_of : (path : Path) → PathAt (numbering l.numbers) q path → (x : Text) → NameAt (numbering l.numbers) n x
+          → printed_as (name_under (numbering l.numbers) given) (texts_of (symbol q n)) ≡ printed_by (numbering l.numbers) given q n
+      name_of path at x is = ap (λ o. name_under (numbering l.numbers) given o (name_text (numbering l.numbers) n)) (path_is (numbering l.numbers) q path at)
+          ∙ (ap (name_under (numbering l.numbers) given path) (name_is (numbering l.numbers) n x is)
+          ∙ name_by (numbering l.numbers) l.numbers.paths.different l.numbers.names.different given q n path x at is)
+  reprinted (local q b n) h = refl
+  reprinted (free_name n) h = refl
+
+  shapes : shape (forest_of_unit (unit_of d.kept p.held)) ≡ shape (forest_of_unit (nodes_of nodes decls))
+  shapes =
+      ap (λ x. three x (shape (forest_of (map (λ (h : Placed). h.declaration) p.held)))) (sym d.same_shape)
+      ∙ ap (λ x. three (shape (forest_of (map directive_ref_tree nodes))) x) (sym p.same_shape)
+
+  pub assembled_is : MeaningsCanBeRetold → (unit : UnitView) → IsLinkedAs (printed_as (printed_by (numbering l.numbers) given)) (nodes_of nodes decls) (map denotation_view parts.denotations.items) unit
+      → IsAssembled (modules_in l) (task_in l) (name_under (numbering l.numbers) given) unit
+  assembled_is law unit linked = record {
+    directives = d.kept;
+    held = p.held;
+    meanings = map texts_of p.meanings;
+    thinned = subst (λ (ts : List (TreeOf Text)). Thins ts d.kept) (all_directives_are us (all_loaded l) units) d.thinned;
+    holds = p.holds;
+    means = p.means;
+    linked =
+        subst (λ (ms : List Denotation). IsLinkedAs (printed_as (name_under (numbering l.numbers) given)) (unit_of d.kept p.held) ms unit)
+        (map-append texts_of words p.meanings ∙ ap (λ ws. ws ++ map texts_of p.meanings) (ap (map texts_of) d.words_are ∙ free_texts (identifiers (forest_of d.kept))))
+        (law texts_of (printed_as (printed_by (numbering l.numbers) given)) (printed_as (name_under (numbering l.numbers) given)) (nodes_of nodes decls) (unit_of d.kept p.held) (words ++ p.meanings) unit
+        (λ m c. reprinted m (named m c))
+        (λ n. refl)
+        (λ a b c e same. told_apart (numbering l.numbers) l.numbers.paths.different l.numbers.names.different given a b (named a c) (named b e) same)
+        shapes
+        (subst (λ (ms : List Meaning). IsLinkedAs (printed_as (printed_by (numbering l.numbers) given)) (nodes_of nodes decls) ms unit) p.denotations linked));
+  }

@@ -1,0 +1,14 @@
+use Rattle.std.proofs.Common.{ap}
+use Rattle.wesl_linker.specs.declared.resolutions.Resolutions.{Resolutions}
+use Rattle.wesl_linker.proofs.Naming.{mangled_found, mangled_nothing}
+use Rattle.wesl_linker.proofs.resolutions.Resolutions.mangle.Goals as goal
+use Rattle.wesl_linker.proofs.resolutions.Resolutions.mangle.Goals.{in-Some+in_ok-self, in_default}
+
+pub returns-clause-mangled : goal.returns-clause-mangled
+returns-clause-mangled g c =
+    let f = g.M.Mangler.name_of c.args.mangler.now in
+    elim c.match-self.branch [
+      | in-Some+in_ok-self w ↦
+          mangled_found c.args.self.now c.match-self.self w.in-Some.link w.in_ok-self.field-0 c.args.mangle_root f w.in-Some.is c.requires.sound (ap (λ (r : Resolutions). r.link) w.self-is) (ap (λ (r : Resolutions). r.given) w.self-is) w.in_ok-self.ensures.given
+      | in_default w ↦ mangled_nothing c.args.self.now c.match-self.self c.args.mangle_root f w.in_default.not-Some w.self-is
+    ]

@@ -1,0 +1,19 @@
+use Rattle.std.specs.Prelude.{OnOk, Result, Ok, Err}
+use Rattle.wesl_table.specs.NumbersView.{numbering}
+use Rattle.wesl_naming.specs.GivenView.{given}
+use Rattle.wesl_linker.specs.Keeping.{module_of}
+use Rattle.wesl_linker.proofs.Naming.{all_named, gives_more}
+use Rattle.wesl_linker.proofs.resolutions.add_names.Goals as goal
+
+if_ok : {T E P Q : Type 0} (r : Result T E) → (P → Q) → OnOk r P → OnOk r Q
+if_ok (Ok t) f h = f h
+if_ok (Err e) f h = tt
+
+pub add_table-requires : goal.add_table-requires
+add_table-requires g c = record { numbered = all_named (numbering c.args.link.now.numbers) c.table_of-table.result.now (module_of c.args.module.now) c.table_of-table.ensures.numbered }
+
+pub returns-clause-given : goal.returns-clause-given
+returns-clause-given g c = if_ok c.add_table.result
+    (λ gives ms name_of same fresh s. gives_more (numbering c.args.link.now.numbers) c.args.link.now.numbers.paths.different c.args.link.now.numbers.names.different name_of (g.M.Mangler.name_of c.args.mangler.now) same ms c.args.module.now fresh
+    c.table_of-table.result.now c.table_of-table.ensures.numbered (given c.args.given.now) (given c.add_table.new.self) s gives c.add_table.ensures.others c.add_table.ensures.keeps)
+    c.add_table.ensures.given

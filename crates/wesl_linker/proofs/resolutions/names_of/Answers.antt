@@ -1,0 +1,27 @@
+use Rattle.std.proofs.Common.{◌≡◌, [], ◌∷◌, Bool, true, false, refl, subst, sym, rules}
+use Rattle.wesl_world.proofs.Lists.{contains_nil, contains_one}
+use Rattle.wesl_table.specs.NumbersView.{numbering}
+use Rattle.wesl_naming.specs.GivenView.{given}
+use Rattle.wesl_linker.specs.Holding.{GivesTo, IsGivenAll}
+use Rattle.wesl_linker.proofs.Naming.{gives_none, gives_same, given_all, given_others}
+use Rattle.wesl_linker.proofs.resolutions.names_of.Goals as goal
+
+pub returns-then-not-mangle_root-clause-given : goal.returns-then-not-mangle_root-clause-given
+returns-then-not-mangle_root-clause-given g c =
+    let l = c.args.link.now in
+    let f = g.M.Mangler.name_of c.args.mangler.now in
+    let none = gives_none (numbering l.numbers) f (given c.new-given.result) (λ p n. c.new-given.ensures (record { path = p; name = n })) in
+    let is : c.args.mangle_root ≡ false = search rules in
+    subst (λ (b : Bool). IsGivenAll l b f (given c.add_others.new.given)) (sym is) (given_others l f (given c.add_others.new.given) c.requires.sound.once (c.in_ok-add_others.ensures.given [] (λ k h. absurd (contains_nil k h)) none))
+
+pub returns-clause-given : goal.returns-clause-given
+returns-clause-given g c =
+    let l = c.args.link.now in
+    let f = g.M.Mangler.name_of c.args.mangler.now in
+    let none = gives_none (numbering l.numbers) f (given c.new-given.result) (λ p n. c.new-given.ensures (record { path = p; name = n })) in
+    let first : GivesTo (numbering l.numbers) (l.root ∷ []) f (given c.add_names.new.given) = c.in_ok-add_names.ensures.given [] f (λ p x. refl) (λ k h. absurd (contains_nil k h)) none in
+    let now : GivesTo (numbering l.numbers) (l.root ∷ []) (g.M.Mangler.name_of c.add_names.new.mangler) (given c.add_names.new.given) = gives_same (numbering l.numbers) (l.root ∷ []) f (g.M.Mangler.name_of c.add_names.new.mangler) (λ p x. sym (c.add_names.ensures.same p x)) (given c.add_names.new.given) first in
+    let all = c.in_ok-add_others-2.ensures.given (l.root ∷ []) (λ k h. sym (contains_one l.root k h)) now in
+    let whole = gives_same (numbering l.numbers) (l.root ∷ l.others.items) (g.M.Mangler.name_of c.add_names.new.mangler) f c.add_names.ensures.same (given c.add_others-2.new.given) all in
+    let is : c.args.mangle_root ≡ true = search rules in
+    subst (λ (b : Bool). IsGivenAll l b f (given c.add_others-2.new.given)) (sym is) (given_all l f (given c.add_others-2.new.given) whole)

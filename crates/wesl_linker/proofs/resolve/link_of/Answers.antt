@@ -1,0 +1,27 @@
+use Rattle.std.proofs.Common.{◌≡◌, ◌-◌, List, take, drop, length, length-drop, sym, subst, ap, ◌∙◌, arith}
+use Rattle.wesl_world.specs.declared.ids.PathId.{PathId}
+use Rattle.wesl_world.specs.declared.ids.NameId.{NameId}
+use Rattle.wesl_world.specs.Tables.{Table}
+use Rattle.wesl_table.specs.Numbering.{AreRelated}
+use Rattle.wesl_table.specs.NumbersView.{numbering}
+use Rattle.wesl_table.proofs.Lists.{taken_all}
+use Rattle.wesl_linker.specs.Taking.{AreKept, IsTaken}
+use Rattle.wesl_linker.proofs.resolve.link_of.Goals as goal
+
+-- the slice of all but the first
+rest_is : {X : Type 0} (xs ys : List X) → xs ≡ ys → take (length xs - 1) (drop 1 xs) ≡ drop 1 ys
+rest_is xs ys e =
+    let l : length (drop 1 xs) ≡ length xs - 1 = length-drop 1 xs in
+    taken_all (drop 1 xs) (length xs - 1) (omega arith) ∙ ap (λ zs. drop 1 zs) e
+
+pub take_modules-requires-clause-kept : goal.take_modules-requires-clause-kept
+take_modules-requires-clause-kept c =
+    subst (λ (ts : List (Table PathId NameId)). AreKept (numbering c.args.numbers) c.args.units.entries ts) (sym (rest_is c.tables.result.now c.args.linked.tables c.tables.ensures)) c.requires.left
+
+pub returns-clause-found : goal.returns-clause-found
+returns-clause-found c = (
+  c.in_ok-others.others.items,
+  subst (λ (ts : List (Table PathId NameId)). AreRelated (IsTaken (numbering c.args.numbers) c.args.units.entries ts) ts c.in_ok-others.others.items) (rest_is c.tables.result.now c.args.linked.tables c.tables.ensures) c.in_ok-others.ensures.taken,
+  c.put_in_order.ensures.same,
+  c.put_in_order.ensures.sorted,
+)

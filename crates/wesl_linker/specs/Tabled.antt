@@ -1,0 +1,16 @@
+-- Modules that were loaded, and where their symbol tables stand.
+use Rattle.std.specs.Prelude.{◌≡◌, Some, List, slice_get}
+use Rattle.wesl_world.specs.declared.ids.PathId.{PathId}
+use Rattle.wesl_world.specs.declared.ids.NameId.{NameId}
+use Rattle.wesl_world.specs.Tables.{Table}
+use Rattle.wesl_table.specs.Numbering.{Numbering, IsNumbered}
+use Rattle.wesl_linker.specs.Worlds.{Module, table}
+use Rattle.wesl_linker.specs.Resolved.{module_at}
+use Rattle.wesl_linker.specs.declared.loaded.Loaded.{Loaded}
+
+abbrev pub module_of : Loaded → Module
+module_of m = module_at m.path m.unit
+
+-- the table of the module stands at its place
+abbrev pub IsTabled : Numbering → List (Table PathId NameId) → Loaded → Type 0
+IsTabled nb ts m = (t : Table PathId NameId) × (slice_get ts m.place ≡ Some t) × IsNumbered nb t (table (module_of m))

@@ -1,0 +1,13 @@
+//! The engine of linking: symbol tables of units, what is reached, names and the linked unit. `wesl_link` has its calls.
+#![tactic(auto)]
+
+mod assemble;
+mod link;
+mod loaded;
+mod modules;
+mod refusals;
+mod resolutions;
+mod resolve;
+
+pub use resolutions::Resolutions;
+pub use resolve::resolve_lazy;

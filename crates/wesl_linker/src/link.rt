@@ -1,0 +1,34 @@
+//! What a link found: its modules, their numbers, and what is reached.
+ghost use Rattle.std.specs.Prelude.{Contains};
+ghost use Rattle.wesl_table.specs.Numbering.{IsNumbered};
+ghost use Rattle.wesl_table.specs.NumbersView.{numbering};
+ghost use Rattle.wesl_linker.specs.Worlds as worlds;
+ghost use Rattle.wesl_linker.specs.Tabled.{IsTabled, module_of};
+
+use crate::loaded::Loaded;
+use wesl_table::numbers::Numbers;
+use wesl_world::ids::NameId;
+use wesl_world::link::Linked;
+use wesl_world::table::Table;
+
+/// A link that succeeded: its root, its other modules in path order, the names that were kept, and what they reach.
+#[derive(Drop)]
+pub struct Link {
+    pub root: Loaded,
+    pub others: Vec<Loaded>,
+    pub kept: Vec<NameId>,
+    pub numbers: Numbers,
+    pub linked: Linked,
+}
+
+/// The symbol table of a module.
+pub fn table_of<'a>(link: &'a Link, module: &Loaded) -> &'a Table
+    requires tabled { IsTabled (numbering link.now.numbers) link.now.linked.tables module.now }
+    ensures loaded { Contains link.now.linked.tables result.now }
+    ensures numbered { IsNumbered (numbering link.now.numbers) result.now (worlds.table (module_of module.now)) }
+{
+    let Some(table) = link.linked.tables().get(module.place) else {
+        unreachable!()
+    };
+    table
+}

@@ -1,0 +1,158 @@
+//! The modules of a link, as a resolver hands them out.
+ghost use Rattle.std.specs.Prelude.{◌≡◌, false, [], IfOk, IfErr, IfSome, IfNone, OnOk, OnErr, Contains};
+ghost use Rattle.wesl_names.specs.Path.{Text, Path, path_view, is_relative};
+ghost use Rattle.wesl_names.specs.declared.errors.ResolveError.{ResolveError};
+ghost use Rattle.wesl_syntax.specs.Unit.{UnitOf, spelled};
+ghost use Rattle.wesl_tree.specs.Translation.{unit_view};
+ghost use Rattle.wesl_tree.specs.declared.unit.TranslationUnit as unit;
+ghost use Rattle.wesl_world.specs.declared.ids.PathId as path_id;
+ghost use Rattle.wesl_world.specs.Loader.{Explains};
+ghost use Rattle.wesl_world.specs.Tables as tables;
+ghost use Rattle.wesl_world.specs.declared.loader.LoadError.TheVariants as load_error;
+ghost use Rattle.wesl_table.specs.Tables.{table_at};
+ghost use Rattle.wesl_table.specs.Numbering.{Numbering, Grows, IsNumbered, PathAt};
+ghost use Rattle.wesl_table.specs.NumbersView.{numbering};
+ghost use Rattle.wesl_linker.specs.Handing.{Keeps, IsReadyPath, IsHandedTable, IsRefusedPath, PutsUnit};
+
+use indexmap::IndexMap;
+use std::alloc::Global;
+use std::marker::{Brand, PhantomData};
+use wesl_names::{ModulePath, ResolveError};
+use wesl_resolve::Resolver;
+use wesl_table::numbers::Numbers;
+use wesl_table::table::table_of;
+use wesl_tree::TranslationUnit;
+use wesl_world::ids::PathId;
+use wesl_world::loader::{LoadError, Loader};
+use wesl_world::table::Table;
+
+/// What a resolver hands out and refuses, held fixed for one link.
+pub trait Source {
+    /// The unit, as it is spelled, is one that is handed out at the path.
+    ghost hands: { Path → UnitOf Text → Type 0 };
+
+    /// The path may be refused with the error.
+    ghost refuses: { Path → ResolveError → Type 0 };
+
+    /// The names and paths that have numbers before the first module is loaded.
+    ghost first: { Numbering };
+}
+
+impl Source for Brand {
+    ghost hands = { λ _ _. ⊥ };
+
+    ghost refuses = { λ _ _. ⊥ };
+
+    ghost first = { record { names = []; paths = [] } };
+}
+
+/// What was loaded from a resolver, and the numbers of all paths and names in it.
+#[derive(Drop)]
+pub struct Modules<R: Resolver, S: Source> {
+    pub resolver: R,
+    pub numbers: Numbers,
+    pub units: IndexMap<PathId, TranslationUnit>,
+    pub source: PhantomData<S>,
+}
+
+/// The table of a unit that stands at a path, whose number is `id`.
+fn read(
+    alloc: Global,
+    numbers: &mut Numbers,
+    id: PathId,
+    path: &ModulePath,
+    unit: &TranslationUnit,
+) -> Result<Table, LoadError<ResolveError>>
+    requires asked { is_relative (path_view path.now) ≡ false }
+    requires held { PathAt (numbering numbers.old) id (path_view path.now) }
+    ensures numbered { IfOk result (λ t. IsNumbered (numbering numbers.new) t (table_at (path_view path.now) (spelled (unit_view unit.now)))) }
+    ensures path { IfOk result (λ t. t.path ≡ id) }
+    ensures refused { IfErr result (λ e. e ≡ load_error.Memory) }
+    ensures grows { Grows (numbering numbers.old) (numbering numbers.new) }
+{
+    match table_of(alloc, numbers, id, path, unit) {
+        Ok(table) => Ok(table),
+        Err(_) => Err(LoadError::Memory),
+    }
+}
+
+/// Keeps the unit of a path that has none.
+fn put(
+    units: &mut IndexMap<PathId, TranslationUnit>,
+    id: PathId,
+    unit: TranslationUnit,
+) -> Result<(), LoadError<ResolveError>>
+    ensures put { OnOk result (PutsUnit units.old.entries id unit units.new.entries) }
+    ensures unchanged { OnErr result (units.new.entries ≡ units.old.entries) }
+    ensures refused { IfErr result (λ e. e ≡ load_error.Memory) }
+{
+    match units.insert(id, unit) {
+        Ok(_) => Ok(()),
+        Err(_) => Err(LoadError::Memory),
+    }
+}
+
+/// The unit that is kept for a path.
+fn unit_of(units: &IndexMap<PathId, TranslationUnit>, id: PathId) -> Option<&TranslationUnit>
+    ensures found { IfSome result (λ u. Contains units.now.entries (id, u.now)) }
+    ensures none { IfNone result ((u : unit.TranslationUnit) → Contains units.now.entries (id, u) → ⊥) }
+{
+    match units.get(&id) {
+        Some(unit) => Some(unit),
+        None => None,
+    }
+}
+
+impl<R: Resolver, S: Source> Modules<R, S> {
+    /// Asks the resolver for the module at a path whose unit is not kept, and keeps it.
+    fn fetch(
+        &mut self,
+        alloc: Global,
+        id: PathId,
+        path: &ModulePath,
+    ) -> Result<Table, LoadError<ResolveError>>
+        requires ready { R.ready self.old.resolver }
+        requires asked { is_relative (path_view path.now) ≡ false }
+        requires held { PathAt (numbering self.old.numbers) id (path_view path.now) }
+        requires absent { (u : unit.TranslationUnit) → Contains self.old.units.entries (id, u) → ⊥ }
+        requires keeps { Keeps (R.hands self.old.resolver) (R.refuses self.old.resolver) S.hands S.refuses S.first (numbering self.old.numbers) self.old.units.entries }
+        ensures handed { IfOk result (IsHandedTable S.hands (numbering self.new.numbers) self.new.units.entries id) }
+        ensures path { IfOk result (λ t. t.path ≡ id) }
+        ensures numbered { IfOk result (λ t. (u : tables.Table Path Text) × IsNumbered (numbering self.new.numbers) t u) }
+        ensures refused { IfErr result (Explains (IsRefusedPath S.refuses (numbering self.new.numbers) id)) }
+        ensures grows { Grows (numbering self.old.numbers) (numbering self.new.numbers) }
+        ensures units { (p : path_id.PathId) (u : unit.TranslationUnit) → Contains self.old.units.entries (p, u) → Contains self.new.units.entries (p, u) }
+        ensures keeps { Keeps (R.hands self.new.resolver) (R.refuses self.new.resolver) S.hands S.refuses S.first (numbering self.new.numbers) self.new.units.entries }
+        ensures stays_ready { R.ready self.new.resolver }
+    {
+        let unit = match self.resolver.resolve_module(alloc, path) {
+            Ok(unit) => unit,
+            Err(ResolveError::Memory) => return Err(LoadError::Memory),
+            Err(error) => return Err(LoadError::Refused(error)),
+        };
+        let table = read(alloc, &mut self.numbers, id, path, &unit)?;
+        put(&mut self.units, id, unit)?;
+        Ok(table)
+    }
+}
+
+impl<R: Resolver, S: Source> Loader<ResolveError> for Modules<R, S> {
+    ghost hands = { λ s p t. IsHandedTable S.hands (numbering s.numbers) s.units.entries p t };
+
+    ghost refuses = { λ s p e. IsRefusedPath S.refuses (numbering s.numbers) p e };
+
+    ghost ready = { λ s p. IsReadyPath (numbering s.numbers) p × (R.ready s.resolver × Keeps (R.hands s.resolver) (R.refuses s.resolver) S.hands S.refuses S.first (numbering s.numbers) s.units.entries) };
+
+    fn load(&mut self, alloc: Global, path: PathId) -> Result<Table, LoadError<ResolveError>> {
+        let Some(module) = self.numbers.paths.path(path) else {
+            unreachable!()
+        };
+        let Ok(module) = module.try_clone(alloc) else {
+            return Err(LoadError::Memory);
+        };
+        match unit_of(&self.units, path) {
+            Some(unit) => read(alloc, &mut self.numbers, path, &module, unit),
+            None => self.fetch(alloc, path, &module),
+        }
+    }
+}

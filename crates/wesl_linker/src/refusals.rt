@@ -1,0 +1,68 @@
+//! Why a link was refused, with the paths and names of its numbers.
+ghost use Rattle.std.specs.Prelude.{◌≡◌, IfOk, IfErr, string_bytes};
+ghost use Rattle.wesl_names.specs.declared.errors.Error as error;
+ghost use Rattle.wesl_names.specs.Path.{Text, Path, path_view};
+ghost use Rattle.wesl_table.specs.Numbering.{NameAt, PathAt};
+ghost use Rattle.wesl_table.specs.NumbersView.{numbering};
+ghost use Rattle.wesl_linker.specs.Refusal.{HasNumbers, Tells};
+
+use std::alloc::Global;
+use wesl_names::{Error, ImportError, ModulePath, ResolveError};
+use wesl_table::numbers::Numbers;
+use wesl_world::error::LinkError;
+use wesl_world::ids::{NameId, PathId};
+
+/// The path of a number.
+pub fn path_of(alloc: Global, numbers: &Numbers, id: PathId) -> Result<ModulePath, Error>
+    requires { (q : Path) × PathAt (numbering numbers.now) id q }
+    ensures told { IfOk result (λ p. PathAt (numbering numbers.now) id (path_view p)) }
+    ensures refused { IfErr result (λ e. e ≡ error.Memory) }
+{
+    let Some(path) = numbers.paths.path(id) else {
+        unreachable!()
+    };
+    path.try_clone(alloc)
+}
+
+/// The name of a number.
+fn name_of(alloc: Global, numbers: &Numbers, id: NameId) -> Result<String, Error>
+    requires { (x : Text) × NameAt (numbering numbers.now) id x }
+    ensures told { IfOk result (λ x. NameAt (numbering numbers.now) id (string_bytes x)) }
+    ensures refused { IfErr result (λ e. e ≡ error.Memory) }
+{
+    let Some(name) = numbers.names.name(id) else {
+        unreachable!()
+    };
+    Ok(String::from_str(alloc, name)?)
+}
+
+/// The error that tells why a link was refused.
+pub fn told(
+    alloc: Global,
+    numbers: &Numbers,
+    fault: LinkError<ResolveError>,
+) -> Result<Error, Error>
+    requires { HasNumbers (numbering numbers.now) fault }
+    ensures told { IfOk result (Tells (numbering numbers.now) fault) }
+    ensures refused { IfErr result (λ e. e ≡ error.Memory) }
+{
+    match fault {
+        LinkError::DuplicateSymbol(name) => {
+            let name = name_of(alloc, numbers, name)?;
+            Ok(Error::Import(ImportError::DuplicateSymbol(name)))
+        }
+        LinkError::Refused(error) => Ok(Error::of_resolve(error)),
+        LinkError::MissingDecl(path, name) => {
+            let path = path_of(alloc, numbers, path)?;
+            let name = name_of(alloc, numbers, name)?;
+            Ok(Error::Import(ImportError::MissingDecl(path, name)))
+        }
+        LinkError::Private(name, path) => {
+            let name = name_of(alloc, numbers, name)?;
+            let path = path_of(alloc, numbers, path)?;
+            Ok(Error::Import(ImportError::Private(name, path)))
+        }
+        LinkError::ModuleLimit(limit) => Ok(Error::ModuleLimit(limit)),
+        LinkError::Memory => Ok(Error::Memory),
+    }
+}

@@ -1,0 +1,195 @@
+//! Linking a root with the modules that it reaches.
+ghost use Rattle.std.specs.Prelude.{◌≡◌, ◌∷◌, false, List, IfOk, IfErr, drop, length, ◌<◌};
+ghost use Rattle.std.specs.List.Sorted.{IsPermutation};
+ghost use Rattle.wesl_names.specs.declared.errors.Error as error;
+ghost use Rattle.wesl_names.specs.declared.errors.Diagnostic.{out-Diagnostic};
+ghost use Rattle.wesl_names.specs.Borrowed.{texts};
+ghost use Rattle.wesl_names.specs.Path.{Text, Path, path_view, is_relative};
+ghost use Rattle.wesl_syntax.specs.Unit.{spelled};
+ghost use Rattle.wesl_tree.specs.Translation.{unit_view};
+ghost use Rattle.wesl_world.specs.Faults.{AreDistinct};
+ghost use Rattle.wesl_world.specs.Linking.{paths};
+ghost use Rattle.wesl_table.specs.Tables.{table_at};
+ghost use Rattle.wesl_table.specs.Numbering.{AreRelated, Grows, NameAt, IsNumbered};
+ghost use Rattle.wesl_table.specs.NumbersView.{numbering};
+ghost use Rattle.wesl_linker.specs.Handing.{Follows};
+ghost use Rattle.wesl_linker.specs.Refusal.{TellsOf};
+ghost use Rattle.wesl_linker.specs.Resolved.{module_at};
+ghost use Rattle.wesl_linker.specs.Keeping.{IsSound, resolved, modules_of, turns_of};
+ghost use Rattle.wesl_linker.specs.Taking.{AreKept, AreInOrder, IsTaken};
+ghost use Rattle.wesl_linker.specs.Worlds as worlds;
+ghost use Rattle.wesl_linker.specs.declared.loaded.Loaded as loaded;
+
+use crate::link::Link;
+use crate::loaded::{Loaded, put_in_order, take_modules};
+use crate::modules::{Modules, Source};
+use crate::refusals::told;
+use crate::resolutions::Resolutions;
+use indexmap::IndexMap;
+use std::alloc::Global;
+use std::marker::{Brand, PhantomData};
+use wesl_names::{Diagnostic, Error, ModulePath};
+use wesl_resolve::Resolver;
+use wesl_table::numbers::Numbers;
+use wesl_table::table::table_of;
+use wesl_tree::TranslationUnit;
+use wesl_world::ids::{NameId, PathId};
+use wesl_world::link::Linked;
+use wesl_world::table::Table;
+
+/// The numbers of the kept names.
+fn numbers_of(alloc: Global, numbers: &mut Numbers, keep: &[&str]) -> Result<Vec<NameId>, Error>
+    ensures numbered { IfOk result (λ kept. AreRelated (NameAt (numbering numbers.new)) kept.items (texts keep.now)) }
+    ensures grows { Grows (numbering numbers.old) (numbering numbers.new) }
+{
+    let mut kept = Vec::new(alloc);
+    for name in keep {
+        kept.push(numbers.name(name)?)?;
+    }
+    Ok(kept)
+}
+
+/// The same numbers once more.
+fn copied(alloc: Global, ids: &Vec<NameId>) -> Result<Vec<NameId>, Error>
+    ensures same { IfOk result (λ v. v.items ≡ ids.now.items) }
+    ensures refused { IfErr result (λ e. e ≡ error.Memory) }
+{
+    let mut copies = Vec::with_capacity(alloc, ids.len())?;
+    for id in ids {
+        copies.push(*id)?;
+    }
+    Ok(copies)
+}
+
+/// What a link found: the root, and the modules of its other tables.
+fn link_of(
+    alloc: Global,
+    numbers: Numbers,
+    units: IndexMap<PathId, TranslationUnit>,
+    path: ModulePath,
+    unit: TranslationUnit,
+    kept: Vec<NameId>,
+    linked: Linked,
+) -> Result<Link, Error>
+    requires some { 0 < length linked.tables }
+    requires left { AreKept (numbering numbers) units.entries (drop 1 linked.tables) }
+    requires once { AreDistinct (paths (drop 1 linked.tables)) }
+    ensures found { IfOk result (λ l. (ms : List loaded.Loaded) × AreRelated (IsTaken (numbering numbers) units.entries (drop 1 linked.tables)) (drop 1 linked.tables) ms × IsPermutation ms l.others.items × AreInOrder l.others.items) }
+    ensures rest { IfOk result (λ l. l ≡ record { root = record { path = path; place = 0; unit = unit }; others = l.others; kept = kept; numbers = numbers; linked = linked }) }
+    ensures refused { IfErr result (λ e. e ≡ error.Memory) }
+{
+    let mut units = units;
+    let mut others = take_modules(alloc, &numbers, &linked.tables()[1..], &mut units)?;
+    put_in_order(&mut others);
+    Ok(Link {
+        root: Loaded {
+            path,
+            place: 0,
+            unit,
+        },
+        others,
+        kept,
+        numbers,
+        linked,
+    })
+}
+
+/// Links a root with the modules of a resolver, whose relations are held fixed.
+fn reach<R: Resolver + Drop, S: Source>(
+    alloc: Global,
+    numbers: Numbers,
+    table: Table,
+    kept: Vec<NameId>,
+    path: ModulePath,
+    unit: TranslationUnit,
+    resolver: R,
+    max_modules: usize,
+) -> Result<Resolutions, Error>
+    requires ready { R.ready resolver }
+    requires follows { Follows (R.hands resolver) (R.refuses resolver) S.hands S.refuses }
+    requires first { S.first ≡ numbering numbers }
+    requires root { IsNumbered (numbering numbers) table (table_at (path_view path) (spelled (unit_view unit))) }
+    requires asked { is_relative (path_view path) ≡ false }
+    requires kept { (keep : List Text) × AreRelated (NameAt (numbering numbers)) kept.items keep }
+    ensures linked { (keep : List Text) → AreRelated (NameAt (numbering numbers)) kept.items keep → IfOk result (λ r. worlds.IsLinked S.hands S.refuses (module_at path unit) (worlds.task_of (module_at path unit) keep false) max_modules (turns_of r) (modules_of r)) }
+    ensures order { IfOk result (λ r. worlds.IsModuleOrder (module_at path unit) (modules_of r)) }
+    ensures kept { (keep : List Text) → AreRelated (NameAt (numbering numbers)) kept.items keep → IfOk result (λ r. (resolved r).kept ≡ keep) }
+    ensures sound { IfOk result IsSound }
+    ensures names { IfOk result (λ r. (p : Path) (n : Text) → (resolved r).names p n ≡ n) }
+    ensures refused { (keep : List Text) → AreRelated (NameAt (numbering numbers)) kept.items keep → IfErr result (TellsOf (worlds.IsRefused S.hands S.refuses (module_at path unit) (worlds.task_of (module_at path unit) keep false) max_modules)) }
+{
+    let mut modules = Modules::<R, S> {
+        resolver,
+        numbers,
+        units: IndexMap::new(alloc),
+        source: PhantomData,
+    };
+    let names = copied(alloc, &kept)?;
+    match wesl_world::link::resolve_lazy(alloc, table, names, &mut modules, max_modules) {
+        Ok(linked) => {
+            let Modules {
+                resolver: _,
+                numbers,
+                units,
+                source: _,
+            } = modules;
+            let link = link_of(alloc, numbers, units, path, unit, kept, linked)?;
+            Ok(Resolutions::of_link(alloc, link))
+        }
+        Err(fault) => {
+            let error = told(alloc, &modules.numbers, fault)?;
+            Err(error)
+        }
+    }
+}
+
+/// Links the root `unit`, which stands at `path`, with the modules that the names in `keep` and the const_asserts
+/// reach, and no others (WESL, "Imports").
+///
+/// `resolver` hands out every module but the root; no more than `max_modules` are loaded, the root counted. Refused
+/// where a name has two targets, where the resolver refuses a path, where a look-up finds nothing or nothing that it
+/// may see, where there are more modules than may be, and for want of memory.
+pub fn resolve_lazy<R: Resolver>(
+    alloc: Global,
+    keep: &[&str],
+    unit: TranslationUnit,
+    path: &ModulePath,
+    resolver: &mut R,
+    max_modules: usize,
+) -> Result<Resolutions, Diagnostic>
+    requires ready { R.ready resolver.old }
+    requires asked { is_relative (path_view path.now) ≡ false }
+    ensures linked { let root = module_at path.now unit in IfOk result (λ r. worlds.IsLinked (R.hands resolver.old) (R.refuses resolver.old) root (worlds.task_of root (texts keep.now) false) max_modules (turns_of r) (modules_of r)) }
+    ensures order { IfOk result (λ r. worlds.IsModuleOrder (module_at path.now unit) (modules_of r)) }
+    ensures kept { IfOk result (λ r. (resolved r).kept ≡ texts keep.now) }
+    ensures sound { IfOk result IsSound }
+    ensures names { IfOk result (λ r. (p : Path) (n : Text) → (resolved r).names p n ≡ n) }
+    ensures refused { let root = module_at path.now unit in IfErr result (λ d. TellsOf (worlds.IsRefused (R.hands resolver.old) (R.refuses resolver.old) root (worlds.task_of root (texts keep.now) false) max_modules) (out-Diagnostic d).error) }
+{
+    let mut numbers = Numbers::new(alloc);
+    let Ok(kept) = numbers_of(alloc, &mut numbers, keep) else {
+        return Err(Diagnostic::of(Error::Memory));
+    };
+    let Ok(id) = numbers.path(alloc, path) else {
+        return Err(Diagnostic::of(Error::Memory));
+    };
+    let Ok(table) = table_of(alloc, &mut numbers, id, path, &unit) else {
+        return Err(Diagnostic::of(Error::Memory));
+    };
+    let Ok(root) = path.try_clone(alloc) else {
+        return Err(Diagnostic::of(Error::Memory));
+    };
+    match reach::<_, Brand>(
+        alloc,
+        numbers,
+        table,
+        kept,
+        root,
+        unit,
+        resolver,
+        max_modules,
+    ) {
+        Ok(resolutions) => Ok(resolutions),
+        Err(error) => Err(Diagnostic::of(error)),
+    }
+}

@@ -1,5 +1,0 @@
-//! Tests of manglers.
-#![tactic(auto)]
-
-#[cfg(test)]
-mod manglers;

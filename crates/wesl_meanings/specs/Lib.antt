@@ -1,0 +1,5 @@
+pub mod Scopes
+pub mod Canonical
+pub mod Laws
+pub mod Keys
+pub mod Numbering

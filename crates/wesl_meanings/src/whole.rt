@@ -1,0 +1,66 @@
+//! What the identifiers of a whole module mean.
+ghost use Rattle.std.specs.Prelude.{◌≡◌, ◌<◌, ◌↔◌, ℕ, IfOk, IfErr, length, map};
+ghost use Rattle.std.specs.List.{All, Contains};
+ghost use Rattle.wesl_names.specs.declared.errors.Error as error;
+ghost use Rattle.wesl_syntax.specs.Unit.{numbers, name_in, spelled, trees_of};
+ghost use Rattle.wesl_syntax.specs.Numbers.{AreNumbers};
+ghost use Rattle.wesl_tree.specs.Translation.{unit_view};
+ghost use Rattle.wesl_occurrences.specs.Occurrences.{occurrences};
+ghost use Rattle.wesl_occurrences.specs.Identified.{identified};
+ghost use Rattle.wesl_occurrences.specs.Ways.{AreNested, way};
+ghost use Rattle.wesl_meanings.specs.Scopes.{keys};
+ghost use Rattle.wesl_meanings.specs.Keys.{key_view, IsKeyBelow};
+
+use crate::keys::{Binders, Key};
+use crate::laws::law_of_numbers;
+use crate::numbers::{names, numbers};
+use std::alloc::Global;
+use wesl_occurrences::{Identifiers, law_of_occurrences, law_of_ways, occurrences};
+use wesl_tree::{Error, Names, TranslationUnit};
+
+/// The identifiers of a module, and what they mean.
+#[derive(Drop)]
+pub struct Meanings<'a> {
+    /// the identifiers, in document order
+    pub found: Identifiers<'a>,
+    /// what each means, by the numbers of the blocks
+    pub keys: Vec<Key<'a>>,
+}
+
+/// What each identifier of a module means, in document order. Refused for want of memory alone.
+pub fn meanings_of<'a>(alloc: Global, unit: &'a TranslationUnit) -> Result<Meanings<'a>, Error>
+    ensures found { IfOk result (λ m. identified m.found ≡ occurrences (trees_of (unit_view unit.now))) }
+    ensures keys { IfOk result (λ m. map (key_view (way m.found.outer.items)) m.keys.items ≡ keys (occurrences (spelled (unit_view unit.now)))) }
+    ensures nested { IfOk result (λ m. AreNested m.found.outer.items) }
+    ensures below { IfOk result (λ m. All (IsKeyBelow (length m.found.outer.items)) m.keys.items) }
+    ensures refused { IfErr result (λ e. e ≡ error.Memory) }
+{
+    law_of_ways();
+    law_of_occurrences();
+    let found = occurrences(alloc, unit)?;
+    let binders = Binders::among(alloc, unit.names(), &found.all)?;
+    let keys = binders.keys(alloc, unit.names(), &found.outer, &found.all)?;
+    Ok(Meanings { found, keys })
+}
+
+/// The numbers of a module's identifiers by what they mean, in document order, and a table of names for them, with one
+/// name for each number. Refused for want of memory alone.
+pub fn numbers_by_meaning(
+    alloc: Global,
+    unit: &TranslationUnit,
+) -> Result<(Vec<usize>, Names), Error>
+    ensures one_each { IfOk result (λ r. length r.0.items ≡ length (numbers (unit_view unit.now))) }
+    ensures numbers { IfOk result (λ r. AreNumbers (keys (occurrences (spelled (unit_view unit.now)))) r.0.items) }
+    ensures named { IfOk result (λ r. map (name_in r.1) r.0.items ≡ map (name_in (unit_view unit.now).names) (numbers (unit_view unit.now))) }
+    ensures below { IfOk result (λ r. All (λ m. m < length r.1) r.0.items) }
+    ensures table { IfOk result (λ r. (m : ℕ) → (m < length r.1) ↔ Contains r.0.items m) }
+    ensures refused { IfErr result (λ e. e ≡ error.Memory) }
+{
+    law_of_numbers();
+    law_of_ways();
+    law_of_occurrences();
+    let meant = meanings_of(alloc, unit)?;
+    let (given, different) = numbers(alloc, &meant.keys)?;
+    let table = names(alloc, different.as_slice())?;
+    Ok((given, table))
+}

@@ -1,5 +1,0 @@
-//! Tests of names, paths and errors.
-#![tactic(auto)]
-
-#[cfg(test)]
-mod names;

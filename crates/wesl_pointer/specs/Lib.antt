@@ -1,0 +1,2 @@
+pub mod Pointer
+pub mod Keys

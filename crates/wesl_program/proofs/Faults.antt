@@ -1,0 +1,160 @@
+-- The fault of a module that is refused is none of the bundle that holds it.
+use Rattle.std.specs.declared.alloc.Global.{Global}
+use Rattle.std.proofs.Common.{◌≡◌, ◌⊎◌, ℕ, List, [], ◌∷◌, Bool, true, false, true≢false, Option, Some, None, String, bytes_eq, codes, refl, sym, ap, ◌∙◌, subst, inl, inr}
+use Rattle.serde_json.specs.Data.{Data}
+use Rattle.wesl_syntax.specs.Unit.{UnitOf}
+use Rattle.wesl_names.specs.Path.{Text, Origin, absolute, relative, from_package, Path}
+use Rattle.wesl_names.specs.Errors.{IsModuleNotFound, IsRefusedWith, OrMemory, error_of_resolve}
+use Rattle.wesl_names.specs.declared.errors.Error as error
+use Rattle.wesl_names.specs.declared.errors.CondCompError.{CondCompError}
+use Rattle.wesl_names.specs.declared.errors.CondCompError.TheVariants as cond
+use Rattle.wesl_names.specs.declared.errors.ResolveError as resolve_error
+use Rattle.wesl_names.specs.declared.errors.ImportError as import_error
+use Rattle.wesl_formula.specs.Faults.{Fault, Tells}
+use Rattle.wesl_formula.specs.Features.{answer_to}
+use Rattle.wesl_formula.specs.declared.features.Features.{Features}
+use Rattle.wesl_tree.specs.Translation.{unit_view}
+use Rattle.wesl_tree.specs.declared.unit.TranslationUnit.{TranslationUnit}
+use Rattle.wesl_resolve.specs.ByOrigin.{AtOrigin, ByOrigin}
+use Rattle.wesl_resolve.specs.Packages.{IsRefusedIn}
+use Rattle.wesl_resolve.specs.declared.packages.CodegenPkg.{CodegenPkg}
+use Rattle.wesl_sources.specs.Reading.{IsTreeFault, IsUnreadable}
+use Rattle.wesl_conditional.specs.Conditions.{IsRefusedBy, RefusesLeft}
+use Rattle.wesl_conditional.specs.Linking.{RefusesLink, hands_left, refuses_left}
+use Rattle.wesl_program.specs.Fault as told
+use Rattle.wesl_program.specs.Fault.{fault_of, fault_of_condition, fault_of_resolver}
+use Rattle.wesl_program.specs.Hands.{IsRefusedAt, virtual_module}
+use Rattle.wesl_program.specs.Linking.{Kept, RefusesBundle, handed, refused, handed_left, refused_left}
+use Rattle.wesl_bundle.specs.Bundle.{Bundle}
+use Rattle.wesl_program.specs.Line.{memory, IsOfModules}
+use Rattle.wesl_program.specs.Refused.{IsLinkFault}
+use Rattle.wesl_world.specs.World.{Task}
+use Rattle.wesl_world.specs.Faults as standing
+use Rattle.wesl_linker.specs.Refusal.{TellsOfImport, TellsOf}
+use Rattle.wesl_linker.specs.Worlds as worlds
+
+-- memory was refused, or a module is at fault and not the bundle
+abbrev IsModuleFault : error.Error → Type 0
+IsModuleFault e = (fault_of e ≡ memory) ⊎ IsOfModules (fault_of e)
+
+-- texts that a test tells apart
+apart : (s t : Text) → bytes_eq s t ≡ false → bytes_eq t t ≡ true → s ≡ t → ⊥
+apart s t differ same e = true≢false (sym same ∙ sym (ap (λ x. bytes_eq x t) e) ∙ differ)
+
+of_modules : (f : told.Fault) → bytes_eq f.named (codes "NotJson") ≡ false → bytes_eq f.named (codes "BadBundle") ≡ false → IsOfModules f
+of_modules f a b = (apart f.named (codes "NotJson") a refl, apart f.named (codes "BadBundle") b refl)
+
+not_found : (p : Path) (message : Text) (e : resolve_error.ResolveError) → IsModuleNotFound p message e → IsOfModules (fault_of_resolver e)
+not_found p message (resolve_error.ModuleNotFound q text) h = of_modules (fault_of_resolver (resolve_error.ModuleNotFound q text)) refl refl
+not_found p message (resolve_error.FileNotFound file text) h = absurd h
+not_found p message (resolve_error.Error' at inner declaration place display span source) h = absurd h
+not_found p message resolve_error.Memory h = absurd h
+
+-- a refusal with an error of modules
+refused-with : (P : error.Error → Type 0) → ((fault : error.Error) → P fault → IsOfModules (fault_of fault)) → (e : resolve_error.ResolveError) → IsRefusedWith P e → IsOfModules (fault_of_resolver e)
+refused-with P of (resolve_error.Error' at inner declaration place display span source) h = of inner h
+refused-with P of (resolve_error.ModuleNotFound q text) h = absurd h
+refused-with P of (resolve_error.FileNotFound file text) h = absurd h
+refused-with P of resolve_error.Memory h = absurd h
+
+bad_tree : (e : error.Error) (place : String Global) → e ≡ error.BadTree place → IsOfModules (fault_of e)
+bad_tree e place is = subst (λ x. IsOfModules (fault_of x)) (sym is) (of_modules (fault_of (error.BadTree place)) refl refl)
+
+refused_at : (p : Path) (u : Option Data) (e : resolve_error.ResolveError) → IsRefusedAt p u e → IsOfModules (fault_of_resolver e)
+refused_at p None e h = not_found p virtual_module e h
+refused_at p (Some d) e h = refused-with (IsTreeFault d) (λ fault f. bad_tree fault f.0 f.1) e h
+
+unreadable : (text : Text) (e : error.Error) → IsUnreadable text e → IsOfModules (fault_of e)
+unreadable text e (inl h) = bad_tree e h.0 h.1
+unreadable text e (inr h) = bad_tree e h.2.0 h.2.1
+
+refused_in : (packages : List CodegenPkg) (p : Path) (e : resolve_error.ResolveError) → IsRefusedIn IsUnreadable packages p e → IsOfModules (fault_of_resolver e)
+refused_in packages p e (inl h) = not_found p h.0 e h.2
+refused_in packages p e (inr h) = refused-with _ (λ fault f. unreadable _ fault f.0) e h.2
+
+of-condition : (c : CondCompError) → IsOfModules (fault_of_condition c)
+of-condition (cond.InvalidFeatureFlag name) = of_modules (fault_of_condition (cond.InvalidFeatureFlag name)) refl refl
+of-condition (cond.UnexpectedFeatureFlag name) = of_modules (fault_of_condition (cond.UnexpectedFeatureFlag name)) refl refl
+of-condition cond.InvalidExpression = of_modules (fault_of_condition cond.InvalidExpression) refl refl
+of-condition cond.NoPrecedingIf = of_modules (fault_of_condition cond.NoPrecedingIf) refl refl
+of-condition cond.DuplicateIf = of_modules (fault_of_condition cond.DuplicateIf) refl refl
+
+tells-condition : (names : List Text) (e : error.Error) (f : Fault ℕ) → Tells names e f → IsOfModules (fault_of e)
+tells-condition names (error.CondComp c) f h = of-condition c
+tells-condition names (error.Import e) f h = absurd h
+tells-condition names (error.Resolve e) f h = absurd h
+tells-condition names (error.Validate e) f h = absurd h
+tells-condition names (error.ModuleLimit k) f h = absurd h
+tells-condition names error.NotNormalType f h = absurd h
+tells-condition names error.NotJson f h = absurd h
+tells-condition names (error.BadTree place) f h = absurd h
+tells-condition names (error.BadBundle place) f h = absurd h
+tells-condition names error.Memory f h = absurd h
+
+refused-by : (features : Option Features) (given : TranslationUnit) (e : error.Error) → IsRefusedBy features (unit_view given) e → (e ≡ error.Memory → ⊥) → IsOfModules (fault_of e)
+refused-by None given e h other = absurd h
+refused-by (Some features) given e (inl h) other = absurd (other h.0)
+refused-by (Some features) given e (inr h) other = tells-condition _ e h.0 h.2
+
+left : (features : Option Features) (hands : UnitOf Text → Type 0) (e : resolve_error.ResolveError) → RefusesLeft features hands e → IsOfModules (fault_of_resolver e)
+left features hands e h = refused-with _ (λ fault f. refused-by features h.0 fault f.0 f.1) e h.2
+
+at-origin : (o : Origin) (P Q R : Type 0) → (P → R) → (Q → R) → AtOrigin o P Q → R
+at-origin (from_package name) P Q R f g h = f h
+at-origin absolute P Q R f g h = g h
+at-origin (relative n) P Q R f g h = g h
+
+-- what the modules and packages of a bundle refuse
+sources-are-of-modules : (units : Path → Option Data) (packages : List CodegenPkg) (p : Path) (e : resolve_error.ResolveError) → ByOrigin p (IsRefusedIn IsUnreadable packages p e) (IsRefusedAt p (units p) e) → IsOfModules (fault_of_resolver e)
+sources-are-of-modules units packages p e = at-origin p.origin (IsRefusedIn IsUnreadable packages p e) (IsRefusedAt p (units p) e) (IsOfModules (fault_of_resolver e)) (refused_in packages p e) (refused_at p (units p) e)
+
+wrapped : (e : resolve_error.ResolveError) → IsOfModules (fault_of_resolver e) → IsModuleFault (error_of_resolve e)
+wrapped (resolve_error.Error' at inner declaration place display span source) h = inr h
+wrapped (resolve_error.ModuleNotFound q text) h = inr h
+wrapped (resolve_error.FileNotFound file text) h = inr h
+wrapped resolve_error.Memory h = inl refl
+
+or-memory : (P : resolve_error.ResolveError → Type 0) → ((e : resolve_error.ResolveError) → P e → IsOfModules (fault_of_resolver e)) → (e : resolve_error.ResolveError) → OrMemory P e → IsModuleFault (error_of_resolve e)
+or-memory P of e (inl is) = subst (λ x. IsModuleFault (error_of_resolve x)) (sym is) (inl refl)
+or-memory P of e (inr h) = wrapped e (of e h)
+
+-- what a link of refusals of modules is refused with
+module _ (hands : Path → UnitOf Text → Type 0) (refuses : Path → resolve_error.ResolveError → Type 0) (of : (p : Path) (e : resolve_error.ResolveError) → refuses p e → IsOfModules (fault_of_resolver e))
+    (root : worlds.Module) (task : Task Path Text) (limit : ℕ) where
+  abbrev IsStanding : standing.Fault Path Text resolve_error.ResolveError → Type 0
+  IsStanding = worlds.IsRefused hands refuses root task limit
+
+  import-is-of-modules : (e : import_error.ImportError) → TellsOfImport IsStanding e → IsModuleFault (error.Import e)
+  import-is-of-modules (import_error.DuplicateSymbol n) h = inr (of_modules (fault_of (error.Import (import_error.DuplicateSymbol n))) refl refl)
+  import-is-of-modules (import_error.ResolveError r) (w, is_world, (p, entered, absent, h)) = inr (of p r h)
+  import-is-of-modules (import_error.MissingDecl p n) h = inr (of_modules (fault_of (error.Import (import_error.MissingDecl p n))) refl refl)
+  import-is-of-modules (import_error.Private n p) h = inr (of_modules (fault_of (error.Import (import_error.Private n p))) refl refl)
+
+  standing-is-of-modules : (e : error.Error) → TellsOf IsStanding e → IsModuleFault e
+  standing-is-of-modules (error.Import e) h = import-is-of-modules e h
+  standing-is-of-modules (error.ModuleLimit k) h = inr (of_modules (fault_of (error.ModuleLimit k)) refl refl)
+  standing-is-of-modules error.Memory h = inl refl
+  standing-is-of-modules (error.CondComp e) h = absurd h
+  standing-is-of-modules (error.Resolve e) h = absurd h
+  standing-is-of-modules (error.Validate e) h = absurd h
+  standing-is-of-modules error.NotNormalType h = absurd h
+  standing-is-of-modules error.NotJson h = absurd h
+  standing-is-of-modules (error.BadTree place) h = absurd h
+  standing-is-of-modules (error.BadBundle place) h = absurd h
+
+module _ (hands : Path → UnitOf Text → Type 0) (refuses : Path → resolve_error.ResolveError → Type 0) (features : Option Features) (of : (p : Path) (e : resolve_error.ResolveError) → refuses p e → IsOfModules (fault_of_resolver e)) where
+  either : (p : Path) (e : resolve_error.ResolveError) → refuses p e ⊎ RefusesLeft features (hands p) e → IsOfModules (fault_of_resolver e)
+  either p e (inl h) = of p e h
+  either p e (inr h) = left features (hands p) e h
+
+  link-is-of-modules : (p : Path) (keep : List Text) (limit : ℕ) (e : error.Error) → RefusesLink (hands_left hands refuses features) (refuses_left hands refuses features) p keep limit e → IsModuleFault e
+  link-is-of-modules p keep limit e (inl h) = subst IsModuleFault (sym h.2) (or-memory _ (either p) h.0 h.1)
+  link-is-of-modules p keep limit e (inr h) = standing-is-of-modules _ _ either h.0 _ limit e h.2
+
+-- a fault of a link of a bundle
+pub bundle-fault : (b : Bundle) (k : Kept b) (e : error.Error) → RefusesLink (handed_left b k) (refused_left b k) b.root b.keep b.options.max_modules e → IsLinkFault b e
+bundle-fault b k e h = by (link-is-of-modules (handed b k) (refused b k) k.features (sources-are-of-modules k.units k.packages) b.root b.keep b.options.max_modules e h)
+  where
+    by : IsModuleFault e → IsLinkFault b e
+    by (inl is) = inl is
+    by (inr of) = inr (of, (e, (k, h), refl))

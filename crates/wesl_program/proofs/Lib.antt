@@ -1,0 +1,6 @@
+pub mod Bytes
+pub mod Texts
+pub mod Units
+pub mod Faults
+pub mod Answered
+pub mod PackageTexts

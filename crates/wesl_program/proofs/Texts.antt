@@ -1,0 +1,35 @@
+-- Lists of texts, item by item.
+use Rattle.std.proofs.Common.{◌≡◌, ℕ, ◌+◌, ◌<◌, List, [], ◌∷◌, ◌++◌, map, take, get_or, length, false, refl, sym, ap, ◌∙◌, Bor}
+use Rattle.std.proofs.lemmas.List.{take_more, map-append}
+use Rattle.serde_json.specs.Data.{string, item}
+use Rattle.serde_json.specs.Written.{has_float, items_have_float}
+use Rattle.serde_json.specs.View.{view, items_view}
+use Rattle.serde_json.specs.declared.value.Value.{Value}
+use Rattle.wesl_names.specs.Path.{Text}
+use Rattle.wesl_program.specs.Fault.{Fault}
+use Rattle.wesl_program.specs.Line.{texts_value, fault_value}
+
+longer : {X : Type 0} (vs : List X) (i : ℕ) (v : X) → i < length vs → v ≡ get_or vs i v → take (i + 1) vs ≡ take i vs ++ v ∷ []
+longer vs i v low e = take_more vs i v low ∙ ap (λ x. take i vs ++ x ∷ []) (sym e)
+
+pub texts-append : (vs : List Value) (v : Value) (ss : List Text) (s : Text) → items_view vs ≡ texts_value ss → view v ≡ string s → items_view (vs ++ v ∷ []) ≡ texts_value (ss ++ s ∷ [])
+texts-append [] v [] s before here = rw here
+texts-append [] v (t ∷ ss) s before here = cc
+texts-append (w ∷ vs) v [] s before here = cc
+texts-append (w ∷ vs) v (t ∷ ss) s before here =
+    let first : view w ≡ string t = cc in
+    let rest : items_view vs ≡ texts_value ss = cc in
+    rw first (ap (item (string t)) (texts-append vs v ss s rest here))
+
+pub texts-whole : (ss : List Text) → items_have_float (texts_value ss) ≡ false
+texts-whole [] = refl
+texts-whole (s ∷ ss) = texts-whole ss
+
+pub fault-whole : (f : Fault) → has_float (fault_value f) ≡ false
+fault-whole f = rw (texts-whole f.arguments)
+
+pub texts-turn : (vs ws : List Value) (said : List (Bor Text)) (i : ℕ) (v : Value) (a : Bor Text) → i < length said → a ≡ get_or said i a → ws ≡ vs ++ v ∷ [] → items_view vs ≡ texts_value (map (λ t. t.now) (take i said)) → view v ≡ string a.now → items_view ws ≡ texts_value (map (λ t. t.now) (take (i + 1) said))
+texts-turn vs ws said i v a low e grown before here =
+    ap items_view grown
+    ∙ texts-append vs v (map (λ t. t.now) (take i said)) a.now before here
+    ∙ sym (ap texts_value (ap (map (λ t. t.now)) (longer said i a low e) ∙ map-append (λ t. t.now) (take i said) (a ∷ [])))

@@ -1,0 +1,102 @@
+-- The unit at a path, as modules are added.
+use Rattle.std.proofs.Common.{◌≡◌, List, [], ◌∷◌, ◌++◌, Bool, true, false, true≢false, if◌then◌else◌, cond, Option, Some, None, option_map, Bor, refl, sym, ap, ◌∙◌}
+use Rattle.std.specs.Map.{lookup}
+use Rattle.indexmap.specs.IndexMap.{insert_entry}
+use Rattle.serde_json.specs.Data.{Data}
+use Rattle.serde_json.specs.View.{view}
+use Rattle.serde_json.specs.declared.value.Value.{Value}
+use Rattle.wesl_names.specs.Path.{Path, path_view}
+use Rattle.wesl_names.specs.PathLaws.{path_eq}
+use Rattle.wesl_names.specs.PathOrder.{same_path}
+use Rattle.wesl_names.specs.declared.path.ModulePath.{ModulePath}
+use Rattle.wesl_names.proofs.Order.{path_eq-view, same_path-decides}
+use Rattle.wesl_program.specs.Bundle.{Module, later, unit_at}
+use Rattle.wesl_program.specs.Holds.{Holds, values_of, value_at}
+use Rattle.wesl_program.specs.declared.modules.Modules.{Modules}
+
+abbrev Entry : Type 0
+Entry = ModulePath × Bor Value
+
+-- ---- the value at a path is the one that the map has
+
+chosen : (b : Bool) (v : Bor Value) (others : Option (Bor Value)) (o : Option Data) → o ≡ option_map (λ x. view x.now) others
+    → (if b then Some (view v.now) else o) ≡ option_map (λ x. view x.now) (cond b (Some v) others)
+chosen true v others o h = refl
+chosen false v others o h = h
+
+pub value_at-lookup : (p : ModulePath) (es : List Entry) → value_at (path_view p) (values_of es) ≡ option_map (λ x. view x.now) (lookup (path_eq p) es)
+value_at-lookup p [] = refl
+value_at-lookup p (e ∷ es) =
+    rw (path_eq-view p e.0) (chosen (same_path (path_view p) (path_view e.0)) e.1 (lookup (path_eq p) es) (value_at (path_view p) (values_of es)) (value_at-lookup p es))
+
+-- ---- one more value
+
+same : (p q : Path) → same_path p q ≡ true → p ≡ q
+same p q = (same_path-decides p q).0
+
+itself : (p q : Path) → p ≡ q → same_path p q ≡ true
+itself p q = (same_path-decides p q).1
+
+differ : (b : Bool) → (b ≡ true → ⊥) → b ≡ false
+differ true h = absurd (h refl)
+differ false h = refl
+
+-- the path put is the first one
+over-first : (p q r : Path) (new old : Data) (others : Option Data) (c : Bool) → same_path p r ≡ true → same_path q r ≡ c
+    → (if c then Some new else others) ≡ (if same_path p q then Some new else (if c then Some old else others))
+over-first p q r new old others true is c_is = rw (itself p q (same p r is ∙ sym (same q r c_is))) refl
+over-first p q r new old others false is c_is =
+    let apart : same_path p q ≡ false = differ (same_path p q) (λ e. true≢false (sym (itself q r (sym (same p q e) ∙ same p r is)) ∙ c_is)) in
+    rw apart refl
+
+-- it is another
+past-first : (p q r : Path) (new old : Data) (others after : Option Data) (c : Bool) → same_path p r ≡ false → same_path q r ≡ c → after ≡ (if same_path p q then Some new else others)
+    → (if c then Some old else after) ≡ (if same_path p q then Some new else (if c then Some old else others))
+past-first p q r new old others after true is c_is h =
+    let apart : same_path p q ≡ false = differ (same_path p q) (λ e. true≢false (sym (itself p r (same p q e ∙ same q r c_is)) ∙ is)) in
+    rw apart refl
+past-first p q r new old others after false is c_is h = h
+
+either : (p q : Path) (k : ModulePath) (v : Bor Value) (e : Entry) (es fs : List Entry) (b : Bool) → path_view k ≡ p → same_path p (path_view e.0) ≡ b
+    → value_at q (values_of fs) ≡ (if same_path p q then Some (view v.now) else value_at q (values_of es))
+    → value_at q (values_of (if b then (e.0, v) ∷ es else e ∷ fs)) ≡ (if same_path p q then Some (view v.now) else value_at q (values_of (e ∷ es)))
+either p q k v e es fs true is_k is h = over-first p q (path_view e.0) (view v.now) (view e.1.now) (value_at q (values_of es)) (same_path q (path_view e.0)) is refl
+either p q k v e es fs false is_k is h = past-first p q (path_view e.0) (view v.now) (view e.1.now) (value_at q (values_of es)) (value_at q (values_of fs)) (same_path q (path_view e.0)) is refl h
+
+single : (p q : Path) (d : Data) (c : Bool) → same_path q p ≡ c → (if c then Some d else None) ≡ (if same_path p q then Some d else None)
+single p q d true c_is = rw (itself p q (sym (same q p c_is))) refl
+single p q d false c_is =
+    let apart : same_path p q ≡ false = differ (same_path p q) (λ e. true≢false (sym (itself q p (sym (same p q e))) ∙ c_is)) in
+    rw apart refl
+
+value_at-insert : (q : Path) (es : List Entry) (k : ModulePath) (v : Bor Value) → value_at q (values_of (insert_entry path_eq es k v)) ≡ (if same_path (path_view k) q then Some (view v.now) else value_at q (values_of es))
+value_at-insert q [] k v = single (path_view k) q (view v.now) (same_path q (path_view k)) refl
+value_at-insert q (e ∷ es) k v =
+    rw (path_eq-view k e.0) (either (path_view k) q k v e es (insert_entry path_eq es k v) (same_path (path_view k) (path_view e.0)) refl refl (value_at-insert q es k v))
+
+-- ---- the unit at a path
+
+later-none : (o : Option Data) → o ≡ later None o
+later-none None = refl
+later-none (Some d) = refl
+
+later-later : (a b c : Option Data) → later a (later b c) ≡ later (later a b) c
+later-later a b None = refl
+later-later a b (Some d) = refl
+
+unit_at-append : (p : Path) (ms : List Module) (m : Module) → unit_at p (ms ++ m ∷ []) ≡ later (unit_at p ms) (if same_path m.path p then Some m.unit else None)
+unit_at-append p [] m = later-none _
+unit_at-append p (x ∷ ms) m = ap (later (if same_path x.path p then Some x.unit else None)) (unit_at-append p ms m)
+    ∙ later-later (if same_path x.path p then Some x.unit else None) (unit_at p ms) (if same_path m.path p then Some m.unit else None)
+
+over : (b : Bool) (d : Data) (o : Option Data) → (if b then Some d else o) ≡ later o (if b then Some d else None)
+over true d o = refl
+over false d o = refl
+
+pub Holds-added : (ms : List Module) (old new : Modules) (k : ModulePath) (v : Bor Value) → new.units.entries ≡ insert_entry path_eq old.units.entries k v → Holds ms old → Holds (ms ++ (record { path = path_view k; unit = view v.now }) ∷ []) new
+Holds-added ms old new k v grown holds = λ q.
+    ap (λ es. value_at q (values_of es)) grown
+    ∙ value_at-insert q old.units.entries k v
+    ∙ ap (λ o. if same_path (path_view k) q then Some (view v.now) else o) (holds q)
+    ∙ over (same_path (path_view k) q) (view v.now) (unit_at q ms)
+    ∙ sym (unit_at-append q ms (record { path = path_view k; unit = view v.now }))

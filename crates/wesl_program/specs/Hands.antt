@@ -1,0 +1,33 @@
+-- What the modules of a bundle hand out at a path, and what they refuse.
+use Rattle.std.specs.Prelude.{◌≡◌, Option, Some, None, false, codes}
+use Rattle.serde_json.specs.Data.{Data}
+use Rattle.serde_json.specs.Written.{has_float, compact_text}
+use Rattle.wesl_syntax.specs.Unit.{UnitOf}
+use Rattle.wesl_names.specs.Path.{Text, Path}
+use Rattle.wesl_names.specs.Errors.{IsModuleNotFound, IsRefusedWith}
+use Rattle.wesl_names.specs.declared.errors.ResolveError.{ResolveError}
+use Rattle.wesl_sources.specs.Reading.{IsRead, IsTreeFault}
+use Rattle.wesl_program.specs.Holds.{values_of, value_at}
+use Rattle.wesl_program.specs.declared.modules.Modules.{Modules}
+
+abbrev pub virtual_module : Text
+virtual_module = codes "virtual module"
+
+-- A path that no module has is refused. A module whose value is no unit's is refused with the fault of its reading.
+abbrev pub IsRefusedAt : Path → Option Data → ResolveError → Type 0
+IsRefusedAt p None e = IsModuleNotFound p virtual_module e
+IsRefusedAt p (Some d) e = IsRefusedWith (IsTreeFault d) e
+
+-- the unit that the value of a module is read as is handed out
+abbrev pub IsHandedAt : Option Data → UnitOf Text → Type 0
+IsHandedAt None u = ⊥
+IsHandedAt (Some d) u = IsRead d u
+
+-- the source of a module is its value as compact JSON
+abbrev pub IsSourceAt : Option Data → Text → Type 0
+IsSourceAt None text = ⊥
+IsSourceAt (Some d) text = has_float d ≡ false → text ≡ compact_text d
+
+-- the unit at a path in a map
+abbrev pub unit_in : Modules → Path → Option Data
+unit_in m p = value_at p (values_of m.units.entries)

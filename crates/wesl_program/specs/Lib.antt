@@ -1,0 +1,10 @@
+pub mod Streams
+pub mod Bundle
+pub mod Fault
+pub mod Holds
+pub mod Hands
+pub mod PackageTexts
+pub mod Linking
+pub mod Line
+pub mod Made
+pub mod Refused

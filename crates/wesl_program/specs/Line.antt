@@ -1,0 +1,77 @@
+-- The line for the bytes of a bundle: an answer or a fault.
+use Rattle.std.specs.Prelude.{◌≡◌, ◌≢◌, ◌⊎◌, ℕ, List, [], ◌∷◌, ◌++◌, Option, Some, None, codes, IsUtf8}
+use Rattle.serde_json.specs.Data.{Data, string, array, object, item, no_items, member, no_members, Items}
+use Rattle.serde_json.specs.Read.{read}
+use Rattle.serde_json.specs.Written.{compact_text}
+use Rattle.wesl_names.specs.Path.{Text}
+use Rattle.wesl_syntax.specs.Unit.{UnitView}
+use Rattle.wesl_form.specs.Units.{unit_value}
+use Rattle.wesl_bundle.specs.Bundle.{Bundle, bundle_of}
+use Rattle.wesl_bundle.specs.Forms.{IsBrokenBundle}
+use Rattle.wesl_names.specs.declared.errors.Error as error
+use Rattle.wesl_program.specs.Fault.{Fault, fault, fault_of}
+use Rattle.wesl_program.specs.Linking.{LinksTo, RefusesBundle}
+
+-- a value as compact JSON, and a line feed
+abbrev pub line_of : Data → Text
+line_of d = compact_text d ++ 10 ∷ []
+
+abbrev pub texts_value : List Text → Items
+texts_value [] = no_items
+texts_value (s ∷ ss) = item (string s) (texts_value ss)
+
+-- ---- faults
+
+abbrev pub fault_value : Fault → Data
+fault_value f = object (member (codes "args") (array (texts_value f.arguments)) (member (codes "fault") (string f.named) no_members))
+
+abbrev pub fault_line : Fault → Text
+fault_line f = line_of (fault_value f)
+
+abbrev pub memory : Fault
+memory = fault (codes "Memory") []
+
+abbrev pub not_json : Fault
+not_json = fault (codes "NotJson") []
+
+abbrev pub bad_bundle : Text → Fault
+bad_bundle place = fault (codes "BadBundle") (place ∷ [])
+
+-- no UTF-8, no JSON, or nested past 127
+abbrev pub IsNotJson : List ℕ → Type 0
+IsNotJson bytes = IsUtf8 bytes → read bytes ≡ None
+
+-- a fault of the modules, and none of the bundle that holds them
+abbrev pub IsOfModules : Fault → Type 0
+IsOfModules f = (f.named ≢ codes "NotJson") × (f.named ≢ codes "BadBundle")
+
+-- a fault that stands in a link of the bundle
+abbrev pub TellsOfLink : Bundle → Fault → Type 0
+TellsOfLink b f = (e : error.Error) × RefusesBundle b e × (f ≡ fault_of e)
+
+-- which fault the bytes may be refused with, want of memory aside
+abbrev pub StandsFor : List ℕ → Fault → Type 0
+StandsFor bytes f =
+    ((f ≡ not_json) × IsNotJson bytes)
+    ⊎ ((d : Data) × (place : Text) × (read bytes ≡ Some d) × (f ≡ bad_bundle place) × IsBrokenBundle d place)
+    ⊎ ((d : Data) × (b : Bundle) × (read bytes ≡ Some d) × (bundle_of d ≡ Some b) × IsOfModules f × TellsOfLink b f)
+
+-- the error is want of memory, or one that the bytes may be refused with
+abbrev pub IsRefusal : List ℕ → error.Error → Type 0
+IsRefusal bytes e = (fault_of e ≡ memory) ⊎ StandsFor bytes (fault_of e)
+
+-- the line of the fault, or the one for want of memory
+abbrev pub Tells : Fault → Text → Type 0
+Tells f line = (line ≡ fault_line memory) ⊎ (line ≡ fault_line f)
+
+abbrev pub IsFaultLine : List ℕ → Text → Type 0
+IsFaultLine bytes line = (line ≡ fault_line memory) ⊎ ((f : Fault) × StandsFor bytes f × (line ≡ fault_line f))
+
+-- ---- answers
+
+abbrev pub answer_value : Data → Data
+answer_value unit = object (member (codes "unit") unit no_members)
+
+-- the bytes are a bundle's that is linked, and the line has the written form of its linked unit
+abbrev pub IsAnswerLine : List ℕ → Text → Type 0
+IsAnswerLine bytes line = (d : Data) × (b : Bundle) × (u : UnitView) × (read bytes ≡ Some d) × (bundle_of d ≡ Some b) × LinksTo b u × (line ≡ line_of (answer_value (unit_value u)))

@@ -1,0 +1,8 @@
+-- The bytes of a line that was made, or that stands in the program.
+use Rattle.std.specs.Prelude.{List, ℕ, string_bytes}
+use Rattle.wesl_program.specs.declared.lines.Line.{Line}
+use Rattle.wesl_program.specs.declared.lines.Line.TheVariants.{Made, Constant}
+
+abbrev pub bytes_of : Line → List ℕ
+bytes_of (Made s) = string_bytes s
+bytes_of (Constant s) = s.now

@@ -1,0 +1,113 @@
+//! The modules of a bundle, as a resolver: the unit at a path is read only when it is asked for.
+ghost use Rattle.std.specs.Prelude.{◌≡◌, None, IfOk, IfErr, string_bytes};
+ghost use Rattle.wesl_names.specs.Path.{path_view};
+ghost use Rattle.wesl_names.specs.Errors.{IsModuleNotFound, IsRefusedWith, OrMemory};
+ghost use Rattle.serde_json.specs.View.{view};
+ghost use Rattle.wesl_syntax.specs.Unit.{spelled};
+ghost use Rattle.wesl_tree.specs.Translation.{unit_view};
+ghost use Rattle.wesl_sources.specs.Reading.{IsRead, IsTreeFault};
+ghost use Rattle.wesl_program.specs.Hands.{IsHandedAt, IsRefusedAt, IsSourceAt, unit_in, virtual_module};
+
+use crate::modules::Modules;
+use serde_json::Value;
+use std::alloc::Global;
+use wesl_profile::unit_of_value;
+use wesl_resolve::Resolver;
+use wesl_tree::{Diagnostic, Error, ModulePath, ResolveError, TranslationUnit};
+
+/// The modules of a bundle, each read when it is asked for.
+#[derive(Drop)]
+pub(crate) struct BundleResolver<'b, 'v> {
+    pub(crate) modules: &'b Modules<'v>,
+}
+
+impl Resolver for BundleResolver<'_, '_> {
+    ghost use Rattle.wesl_program.specs.Hands.{IsHandedAt, IsRefusedAt, IsSourceAt, unit_in};
+
+    ghost ready = { λ _. Unit {0} };
+
+    ghost hands = { λ r p u. IsHandedAt (unit_in r.modules.now p) u };
+
+    ghost refuses = { λ r p e. IsRefusedAt p (unit_in r.modules.now p) e };
+
+    ghost source = { λ r p text. IsSourceAt (unit_in r.modules.now p) text };
+
+    ghost shown = { λ _ p name. name ≡ None };
+
+    fn resolve_source(&mut self, alloc: Global, path: &ModulePath) -> Result<String, ResolveError> {
+        source_of_module(alloc, self.modules, path)
+    }
+
+    fn resolve_module(
+        &mut self,
+        alloc: Global,
+        path: &ModulePath,
+    ) -> Result<TranslationUnit, ResolveError> {
+        unit_of_module(alloc, self.modules, path)
+    }
+
+    fn display_name(
+        &self,
+        _alloc: Global,
+        _path: &ModulePath,
+    ) -> Result<Option<String>, ResolveError> {
+        Ok(None)
+    }
+}
+
+/// The text of the module at a path, which is compact JSON.
+fn source_of_module(
+    alloc: Global,
+    modules: &Modules,
+    path: &ModulePath,
+) -> Result<String, ResolveError>
+    ensures given { IfOk result (λ s. IsSourceAt (unit_in modules.now (path_view path.now)) (string_bytes s)) }
+    ensures refused { IfErr result (OrMemory (IsRefusedAt (path_view path.now) (unit_in modules.now (path_view path.now)))) }
+{
+    match modules.unit_at(path) {
+        Some(value) => Ok(value.to_string(alloc)?),
+        None => Err(not_found(alloc, path)),
+    }
+}
+
+/// The unit of the module at a path.
+fn unit_of_module(
+    alloc: Global,
+    modules: &Modules,
+    path: &ModulePath,
+) -> Result<TranslationUnit, ResolveError>
+    ensures handed { IfOk result (λ u. IsHandedAt (unit_in modules.now (path_view path.now)) (spelled (unit_view u))) }
+    ensures refused { IfErr result (OrMemory (IsRefusedAt (path_view path.now) (unit_in modules.now (path_view path.now)))) }
+{
+    match modules.unit_at(path) {
+        Some(value) => read_unit(alloc, value),
+        None => Err(not_found(alloc, path)),
+    }
+}
+
+// The unit that a value stands for.
+fn read_unit(alloc: Global, value: &Value) -> Result<TranslationUnit, ResolveError>
+    ensures read { IfOk result (λ u. IsRead (view value.now) (spelled (unit_view u))) }
+    ensures refused { IfErr result (OrMemory (IsRefusedWith (IsTreeFault (view value.now)))) }
+{
+    match unit_of_value(alloc, value) {
+        Ok(unit) => Ok(unit),
+        Err(Error::BadTree(place)) => Err(ResolveError::Error(Box::new(
+            alloc,
+            Diagnostic::of(Error::BadTree(place)),
+        )?)),
+        Err(_) => Err(ResolveError::Memory),
+    }
+}
+
+fn not_found(alloc: Global, path: &ModulePath) -> ResolveError
+    ensures { OrMemory (IsModuleNotFound (path_view path.now) virtual_module) result }
+{
+    let Ok(message) = String::from_str(alloc, "virtual module") else {
+        return ResolveError::Memory;
+    };
+    match path.try_clone(alloc) {
+        Ok(path) => ResolveError::ModuleNotFound(path, message),
+        Err(_) => ResolveError::Memory,
+    }
+}

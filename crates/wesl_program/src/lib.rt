@@ -1,0 +1,19 @@
+//! The steps from a bundle to its line, which `wesl` puts together: reading, linking, and writing.
+#![tactic(auto)]
+
+mod answer;
+mod bundle_resolver;
+mod bundle_value;
+mod fault_line;
+mod lines;
+mod linking;
+mod modules;
+mod packages;
+mod streams;
+mod text_line;
+
+pub use answer::answer_line;
+pub use bundle_value::value_of_bytes;
+pub use lines::{Line, memory_line, refusal};
+pub use linking::linked;
+pub use streams::{Failures, ReadFault, read_whole, write_whole};

@@ -1,0 +1,48 @@
+//! The modules of a bundle.
+ghost use Rattle.std.specs.Prelude.{◌≡◌, ◌++◌, ◌∷◌, [], List, IfOk, IfErr, OnOk, option_map};
+ghost use Rattle.serde_json.specs.View.{view};
+ghost use Rattle.wesl_names.specs.Path.{path_view};
+ghost use Rattle.wesl_program.specs.Bundle.{Module};
+ghost use Rattle.wesl_program.specs.Hands.{unit_in};
+ghost use Rattle.wesl_bundle.specs.declared.members.BundleError.TheVariants.{Memory};
+
+use indexmap::IndexMap;
+use serde_json::Value;
+use std::alloc::Global;
+use wesl_bundle::BundleError;
+use wesl_tree::ModulePath;
+
+/// The value of the unit at each path, of a path that stands twice the later. No unit is read yet.
+#[derive(Drop)]
+pub(crate) struct Modules<'v> {
+    units: IndexMap<ModulePath, &'v Value>,
+}
+
+impl<'v> Modules<'v> {
+    ghost use Rattle.wesl_program.specs.Holds.{Holds};
+
+    /// No modules. It takes no memory.
+    pub(crate) fn new(alloc: Global) -> Modules<'v>
+        ensures { Holds [] result }
+    {
+        Modules {
+            units: IndexMap::new(alloc),
+        }
+    }
+
+    /// One more module, in the place of the one that was at its path. Refused for want of memory alone.
+    pub(crate) fn add(&mut self, path: ModulePath, unit: &'v Value) -> Result<(), BundleError>
+        ensures added { OnOk result ((ms : List Module) → Holds ms self.old → Holds (ms ++ (record { path = path_view path; unit = view unit.now }) ∷ []) self.new) }
+        ensures refused { IfErr result (λ e. e ≡ Memory) }
+    {
+        self.units.insert(path, unit)?;
+        Ok(())
+    }
+
+    /// The value of the unit at a path.
+    pub(crate) fn unit_at(&self, path: &ModulePath) -> Option<&'v Value>
+        ensures { option_map (λ v. view v.now) result ≡ unit_in self.now (path_view path.now) }
+    {
+        self.units.get(path).copied()
+    }
+}

@@ -1,0 +1,66 @@
+//! The packages of a bundle, their modules as texts.
+ghost use Rattle.std.specs.Prelude.{◌≡◌, IfOk, IfErr};
+ghost use Rattle.wesl_names.specs.declared.errors.Error as error;
+ghost use Rattle.wesl_bundle.specs.PackageViews.{package_module_view, package_modules_view, package_view, packages_view};
+ghost use Rattle.wesl_program.specs.PackageTexts.{AreModulesOf, ArePackagesOf, IsModuleOf, IsPackageOf};
+
+use std::alloc::Global;
+use wesl_bundle::{Package, PackageModule};
+use wesl_json_text::text_of_value;
+use wesl_resolve::{CodegenModule, CodegenPkg};
+use wesl_tree::Error;
+
+/// A package whose modules are kept as compact JSON, and read only when they are loaded. Refused for want of memory alone.
+#[cycle(packages)]
+pub(crate) fn package_of(alloc: Global, said: Package) -> Result<CodegenPkg, Error>
+    ensures held { IfOk result (IsPackageOf (package_view said.entry)) }
+    ensures refused { IfErr result (λ e. e ≡ error.Memory) }
+{
+    let Package { root, dependencies } = said;
+    Ok(CodegenPkg {
+        crate_name: String::new(alloc),
+        root: module_of(alloc, root)?,
+        dependencies: packages_of(alloc, dependencies)?,
+    })
+}
+
+#[cycle(packages)]
+fn packages_of(alloc: Global, said: Vec<Package>) -> Result<Vec<CodegenPkg>, Error>
+    ensures held { IfOk result (λ ks. ArePackagesOf (packages_view said.entry.items) ks.items) }
+    ensures refused { IfErr result (λ e. e ≡ error.Memory) }
+{
+    let mut made = Vec::new(alloc);
+    for one in said {
+        made.push(package_of(alloc, one)?)?;
+    }
+    Ok(made)
+}
+
+#[cycle(modules)]
+fn module_of(alloc: Global, said: PackageModule) -> Result<CodegenModule, Error>
+    ensures held { IfOk result (IsModuleOf (package_module_view said.entry)) }
+    ensures refused { IfErr result (λ e. e ≡ error.Memory) }
+{
+    let PackageModule {
+        name,
+        unit,
+        modules,
+    } = said;
+    Ok(CodegenModule {
+        name,
+        source: text_of_value(alloc, unit)?,
+        submodules: modules_of(alloc, modules)?,
+    })
+}
+
+#[cycle(modules)]
+fn modules_of(alloc: Global, said: Vec<PackageModule>) -> Result<Vec<CodegenModule>, Error>
+    ensures held { IfOk result (λ ms. AreModulesOf (package_modules_view said.entry.items) ms.items) }
+    ensures refused { IfErr result (λ e. e ≡ error.Memory) }
+{
+    let mut made = Vec::new(alloc);
+    for one in said {
+        made.push(module_of(alloc, one)?)?;
+    }
+    Ok(made)
+}

@@ -1,5 +1,0 @@
-//! Tests of the resolvers.
-#![tactic(auto)]
-
-#[cfg(test)]
-mod resolvers;

@@ -1,0 +1,4 @@
+pub mod Canonical
+pub mod Builders
+pub mod Rows
+pub mod Retarget
