@@ -3,6 +3,7 @@
 //! count.
 #![tactic(auto)]
 
+mod clashes;
 mod conditions;
 mod faults;
 mod inputs;
@@ -34,6 +35,9 @@ fn answered(alloc: Global, call: &str, row: &Value) -> Result<Value, anyhow::Err
         return Ok(answer);
     }
     if let Some(answer) = scopes::answered(alloc, call, row)? {
+        return Ok(answer);
+    }
+    if let Some(answer) = clashes::answered(alloc, call, row)? {
         return Ok(answer);
     }
     if let Some(answer) = worlds::answered(alloc, call, row)? {

@@ -24,7 +24,7 @@ pub fn answered(alloc: Global, call: &str, row: &Value) -> Result<Option<Value>,
 }
 
 /// The numbers of a unit's identifiers, in document order.
-fn numbers(alloc: Global, unit: &TranslationUnit) -> Result<Vec<usize>, anyhow::Error> {
+pub fn numbers(alloc: Global, unit: &TranslationUnit) -> Result<Vec<usize>, anyhow::Error> {
     let found = occurrences(alloc, unit)?;
     let mut numbers = Vec::new(alloc);
     for occurrence in &found.all {
@@ -103,15 +103,20 @@ fn statements(alloc: Global, count: usize) -> Result<Vec<Value>, anyhow::Error> 
     Ok(statements)
 }
 
+/// `fn v0() { let v1 = v0; let v2 = v1; .. }`, so many statements.
+pub fn many_statements(alloc: Global, count: usize) -> Result<TranslationUnit, anyhow::Error> {
+    let statements = statements(alloc, count)?;
+    let function = json!(in alloc; {"body": {"stmts": statements}, "k": "fn", "name": "v0"})?;
+    Ok(unit_of_value(alloc, &json!(in alloc; {"declarations": [function]})?)?)
+}
+
 /// How many names and identifiers `fn v0() { let v1 = v0; let v2 = v1; .. }` of so many `statements` has once it is
 /// numbered, and the number of the last identifier.
 fn many_retargeted(alloc: Global, row: &Value) -> Result<Option<Value>, anyhow::Error> {
     let Some(count) = number(row, "statements") else {
         return Ok(None);
     };
-    let statements = statements(alloc, count)?;
-    let function = json!(in alloc; {"body": {"stmts": statements}, "k": "fn", "name": "v0"})?;
-    let mut unit = unit_of_value(alloc, &json!(in alloc; {"declarations": [function]})?)?;
+    let mut unit = many_statements(alloc, count)?;
     unit.retarget_idents(alloc)?;
     let mut numbers = numbers(alloc, &unit)?;
     let identifiers = numbers.len();

@@ -1,0 +1,121 @@
+-- Numbers on which binders agree.
+use Rattle.std.proofs.Common.{◌≡◌, ◌≢◌, ℕ, ◌+◌, ◌<◌, ◌≤◌, Bool, true, false, cond, List, [], ◌∷◌, length, get_or, map, drop, drop-cons, add-one, refl, sym, ap, ap₂, ◌∙◌, arith}
+use Rattle.std.specs.Prelude.{not, ◌&&◌, ◌||◌, ◌==◌, nat_le, bytes_eq, Option, Some, None, if◌then◌else◌}
+use Rattle.std.specs.Map.{lookup}
+use Rattle.std.specs.Bool.{Decides}
+use Rattle.std.proofs.lemmas.Bool.Decides.{Decides-eqb}
+use Rattle.std.proofs.lemmas.List.{drop_all}
+use Rattle.indexmap.specs.IndexMap.{insert_entry}
+use Rattle.wesl_names.specs.PathLaws.{Equality}
+use Rattle.wesl_occurrences.specs.Walk.{Found}
+use Rattle.wesl_meanings.specs.Scopes as scopes
+use Rattle.wesl_meanings.specs.Canonical.{same_key}
+use Rattle.wesl_meanings.specs.Keys.{flat, opened}
+use Rattle.wesl_meanings.specs.declared.keys.Key.{Key}
+use Rattle.wesl_meanings.proofs.Entries.{key_eq, key_decides, key_test, keys_decide, same_lookup, inserted}
+use Rattle.wesl_faith.specs.declared.agreed.Agreed.{Agreed}
+use Rattle.wesl_faith.specs.Agreement.{leaves, agreed_at, agreed_if, agree_in, one_leaves, all_leave}
+
+-- ---- one more binder of a name
+-- with the number that the others have: `a`, `b` whether they and it are visible, `q` whether the number is theirs
+pub joined : (a b q s : Bool) → ((if a || b then q else true) && s) ≡ (((if a then q else true) && s) && (if b then q else true))
+joined true true true true = refl
+joined true true true false = refl
+joined true true false s = refl
+joined true false true true = refl
+joined true false true false = refl
+joined true false false s = refl
+joined false true true true = refl
+joined false true true false = refl
+joined false true false true = refl
+joined false true false false = refl
+joined false false q true = refl
+joined false false q false = refl
+
+-- with another number, visible no later: `f`, `g` whether they and it are visible, `k`, `h` whether the number is theirs and its
+pub earlier_joined : (f g k h s : Bool) → (f ≡ true → g ≡ true) → (k && h) ≡ false → ((if g then h else true) && not (s || f)) ≡ (((if f then k else true) && not s) && (if g then h else true))
+earlier_joined true false k h s v n = absurd (let x : false ≡ true = v refl in let y : ⊥ = cc in y)
+earlier_joined true true true true s v n = absurd (let y : ⊥ = cc in y)
+earlier_joined true true true false true v n = refl
+earlier_joined true true true false false v n = refl
+earlier_joined true true false true true v n = refl
+earlier_joined true true false true false v n = refl
+earlier_joined true true false false s v n = refl
+earlier_joined false true k true true v n = refl
+earlier_joined false true k true false v n = refl
+earlier_joined false true k false true v n = refl
+earlier_joined false true k false false v n = refl
+earlier_joined false false k h true v n = refl
+earlier_joined false false k h false v n = refl
+
+-- with another number, visible no earlier
+pub later_joined : (f g k h s : Bool) → (g ≡ true → f ≡ true) → (k && h) ≡ false → ((if f then k else true) && not (s || g)) ≡ (((if f then k else true) && not s) && (if g then h else true))
+later_joined false true k h s v n = absurd (let x : false ≡ true = v refl in let y : ⊥ = cc in y)
+later_joined true true true true s v n = absurd (let y : ⊥ = cc in y)
+later_joined true true true false true v n = refl
+later_joined true true true false false v n = refl
+later_joined true true false h s v n = refl
+later_joined f false k h true v n = by f k
+  where
+    by : (f k : Bool) → ((if f then k else true) && false) ≡ (((if f then k else true) && false) && true)
+    by true true = refl
+    by true false = refl
+    by false k = refl
+later_joined f false k h false v n = by f k
+  where
+    by : (f k : Bool) → ((if f then k else true) && true) ≡ (((if f then k else true) && true) && true)
+    by true true = refl
+    by true false = refl
+    by false k = refl
+
+pub not_both : (k h m : ℕ) → h ≢ k → ((k == m) && (h == m)) ≡ false
+not_both k h m ne = at (k == m) (h == m) (λ e. (Decides-eqb k m).0 e) (λ e. (Decides-eqb h m).0 e)
+  where
+    at : (a b : Bool) → (a ≡ true → k ≡ m) → (b ≡ true → h ≡ m) → (a && b) ≡ false
+    at true true x y = absurd (ne (y refl ∙ sym (x refl)))
+    at true false x y = refl
+    at false b x y = refl
+
+-- ---- entries
+and_true : (a : Bool) → a ≡ (a && true)
+and_true true = refl
+and_true false = refl
+
+pub added : (law : Equality) (es new : List (Key × Agreed)) (k : Key) (v : Agreed) (from number : ℕ) (old : Option Agreed) → new ≡ insert_entry key_eq es k v → old ≡ lookup (key_eq k) es
+    → ((p m : ℕ) → agreed_at v p m ≡ (agreed_if old p m && leaves from number p m))
+    → (x : scopes.Key) (p m : ℕ) → agree_in new x p m ≡ (agree_in es x p m && (if same_key (flat k) x then leaves from number p m else true))
+added law es new k v from number old new_is old_is v_is x p m =
+    ap (λ e. agree_in e x p m) new_is
+    ∙ (ap (λ o. agreed_if o p m) (inserted key_eq (λ y. same_key (flat y) x) k v (λ y e. ap (λ z. same_key z x) ((key_decides law k y).0 e)) (λ y e f. (key_decides law k y).1 ((keys_decide (flat k) x).0 e ∙ sym ((keys_decide (flat y) x).0 f))) es)
+    ∙ at (same_key (flat k) x) (λ e. (keys_decide (flat k) x).0 e))
+  where
+    at : (d : Bool) → (d ≡ true → flat k ≡ x) → agreed_if (if d then Some v else lookup (λ y. same_key (flat y) x) es) p m ≡ (agree_in es x p m && (if d then leaves from number p m else true))
+    at true e =
+        v_is p m
+        ∙ ap (λ o. agreed_if o p m && leaves from number p m) (old_is ∙ same_lookup (key_eq k) (λ y. same_key (flat y) x) (λ y. key_test law k y ∙ ap (same_key (flat y)) (e refl)) es)
+    at false e = and_true (agree_in es x p m)
+
+pub found_agreed : (law : Equality) (es : List (Key × Agreed)) (k : Key) (o : Option Agreed) (p m : ℕ) → o ≡ lookup (key_eq k) es → agreed_if o p m ≡ agree_in es (flat k) p m
+found_agreed law es k o p m o_is = ap (λ x. agreed_if x p m) (o_is ∙ same_lookup (key_eq k) (λ y. same_key (flat y) (flat k)) (key_test law k) es)
+
+-- ---- one identifier after the other, with its key
+and_assoc : (a b c : Bool) → ((a && b) && c) ≡ (a && (b && c))
+and_assoc true b c = refl
+and_assoc false b c = refl
+
+module _ {A B : Type 0} (key : A → scopes.Key) (view : B → Found) (ks : List A) (os : List B) where
+  pub next_leave : (test : scopes.Key → Found → Bool) (m i : ℕ) (k : A) (o : B) → i < length ks → i < length os → k ≡ get_or ks i k → o ≡ get_or os i o
+      → all_leave test m (map key (drop i ks)) (map view (drop i os)) ≡ (one_leaves test m (key k) (view o) && all_leave test m (map key (drop (i + 1) ks)) (map view (drop (i + 1) os)))
+  next_leave test m i k o hk ho k_is o_is = rw (drop-cons ks i k hk, drop-cons os i o ho, ← k_is, ← o_is, add-one) refl
+
+  pub more_leave : (before after : Bool) (test : scopes.Key → Found → Bool) (m i : ℕ) (k : A) (o : B) (z : Bool) → i < length ks → i < length os → k ≡ get_or ks i k → o ≡ get_or os i o
+      → after ≡ (before && one_leaves test m (key k) (view o)) → (before && all_leave test m (map key (drop i ks)) (map view (drop i os))) ≡ z
+      → (after && all_leave test m (map key (drop (i + 1) ks)) (map view (drop (i + 1) os))) ≡ z
+  more_leave before after test m i k o z hk ho k_is o_is e inv =
+      ap (λ t. t && all_leave test m (map key (drop (i + 1) ks)) (map view (drop (i + 1) os))) e
+      ∙ (and_assoc before (one_leaves test m (key k) (view o)) (all_leave test m (map key (drop (i + 1) ks)) (map view (drop (i + 1) os)))
+      ∙ (ap (λ t. before && t) (sym (next_leave test m i k o hk ho k_is o_is)) ∙ inv))
+
+  pub all_left : (now : Bool) (test : scopes.Key → Found → Bool) (m i : ℕ) (z : Bool) → length ks ≤ i → length os ≤ i → (now && all_leave test m (map key (drop i ks)) (map view (drop i os))) ≡ z → now ≡ z
+  all_left now test m i z hk ho inv =
+      and_true now ∙ (ap₂ (λ xs ys. now && all_leave test m (map key xs) (map view ys)) (sym (drop_all i ks hk)) (sym (drop_all i os ho)) ∙ inv)

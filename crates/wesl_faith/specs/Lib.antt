@@ -1,0 +1,5 @@
+pub mod Faithful
+pub mod Test
+pub mod Agreement
+pub mod Retargeted
+pub mod Laws

@@ -1,0 +1,144 @@
+//! The numbers of the binders of all names.
+ghost use Rattle.std.specs.Prelude.{◌≡◌, ℕ, Bool, true, ◌&&◌, ◌∷◌, [], length, map, if◌then◌else◌, IfOk, IfErr, OnOk};
+ghost use Rattle.wesl_names.specs.Path.{Text};
+ghost use Rattle.wesl_names.specs.declared.errors.Error as error;
+ghost use Rattle.wesl_occurrences.specs.Views.{occurrence_view, standing_view};
+ghost use Rattle.wesl_meanings.specs.Scopes as scopes;
+ghost use Rattle.wesl_meanings.specs.Scopes.{bound, is_visible};
+ghost use Rattle.wesl_meanings.specs.Canonical.{same_key};
+ghost use Rattle.wesl_meanings.specs.Keys.{flat, opened};
+ghost use Rattle.wesl_faith.specs.Faithful.{is_binder};
+ghost use Rattle.wesl_faith.specs.Agreement.{leaves, agree_in, in_module, is_met, is_global_met, one_leaves, all_leave};
+
+use crate::agreed::{Agreed, agreed_with, is_agreed};
+use indexmap::IndexMap;
+use std::alloc::Global;
+use wesl_meanings::Key;
+use wesl_names::{Error, law_of_equality};
+use wesl_occurrences::{Occurrence, Standing};
+
+/// From which place on a name that stands so is visible, if it is declared.
+fn visible_from(standing: &Standing<'_>) -> Option<usize>
+    ensures { (p : ℕ) → opened result p ≡ is_visible p (standing_view standing.now) }
+{
+    match standing {
+        Standing::ModuleName => Some(0),
+        Standing::Parameter => Some(0),
+        Standing::Local { end } => Some(*end),
+        Standing::Reference(_) => None,
+        Standing::Word => None,
+    }
+}
+
+/// Whether a name that stands so is declared.
+pub fn is_binder(standing: &Standing<'_>) -> bool
+    ensures { result ≡ is_binder (standing_view standing.now) }
+{
+    match standing {
+        Standing::ModuleName => true,
+        Standing::Parameter => true,
+        Standing::Local { end: _ } => true,
+        Standing::Reference(_) => false,
+        Standing::Word => false,
+    }
+}
+
+/// Whether a key is of a name of the module's block.
+pub fn is_of_module(key: &Key<'_>) -> bool
+    ensures { result ≡ in_module (flat key.now) }
+{
+    match key {
+        Key::Bound(block, _) => *block == 0,
+        Key::Free(_) => false,
+        Key::Qualified(_, _) => false,
+    }
+}
+
+/// Of names, the numbers on which their binders agree.
+#[derive(Drop)]
+pub struct Agreements<'a> {
+    /// of each name, by what it means
+    pub of: IndexMap<Key<'a>, Agreed>,
+}
+
+impl<'a> Agreements<'a> {
+    /// One more binder, which is visible from that place on.
+    fn add(&mut self, key: Key<'a>, from: usize, number: usize) -> Result<(), Error>
+        ensures agree { OnOk result ((k : scopes.Key) (p m : ℕ) → agree_in self.new.of.entries k p m ≡ (agree_in self.old.of.entries k p m && (if same_key (flat key.entry) k then leaves from number p m else true))) }
+        ensures refused { IfErr result (λ e. e ≡ error.Memory) }
+    {
+        law_of_equality();
+        let agreed = agreed_with(self.of.get(&key).copied(), from, number);
+        self.of.insert(key, agreed)?;
+        Ok(())
+    }
+
+    /// Whether all binders of a name that are visible at a place have this number.
+    pub fn are_at(&self, key: &Key<'_>, place: usize, number: usize) -> bool
+        ensures { result ≡ agree_in self.now.of.entries (flat key.now) place number }
+    {
+        law_of_equality();
+        is_agreed(self.of.get(key).copied(), place, number)
+    }
+
+    /// An identifier, if it is a binder.
+    fn meet(&mut self, occurrence: &Occurrence<'_>, key: Key<'a>) -> Result<(), Error>
+        ensures agree { OnOk result ((k : scopes.Key) (p m : ℕ) → agree_in self.new.of.entries k p m ≡ (agree_in self.old.of.entries k p m && one_leaves (is_met k p) m (flat key.entry) (occurrence_view occurrence.now))) }
+        ensures refused { IfErr result (λ e. e ≡ error.Memory) }
+    {
+        match visible_from(&occurrence.standing) {
+            Some(from) => self.add(key, from, occurrence.ident.0),
+            None => Ok(()),
+        }
+    }
+
+    /// Of the binders among identifiers, by what each means.
+    pub fn of_binders(
+        alloc: Global,
+        all: &[Occurrence<'_>],
+        keys: &[Key<'a>],
+    ) -> Result<Agreements<'a>, Error>
+        requires { length keys.now ≡ length all.now }
+        ensures agree { IfOk result (λ r. (k : scopes.Key) (p m : ℕ) → agree_in r.of.entries k p m ≡ all_leave (is_met k p) m (map flat keys.now) (map occurrence_view all.now)) }
+        ensures refused { IfErr result (λ e. e ≡ error.Memory) }
+    {
+        let mut agreements = Agreements {
+            of: IndexMap::new(alloc),
+        };
+        for i in 0..all.len() {
+            agreements.meet(&all[i], keys[i])?;
+        }
+        Ok(agreements)
+    }
+
+    /// An identifier, if it is a binder of the module's block.
+    fn meet_global(&mut self, occurrence: &Occurrence<'_>, key: Key<'a>) -> Result<(), Error>
+        ensures agree { OnOk result ((n : Text) (m : ℕ) → agree_in self.new.of.entries (bound (0 ∷ []) n) 0 m ≡ (agree_in self.old.of.entries (bound (0 ∷ []) n) 0 m && one_leaves (is_global_met n) m (flat key.entry) (occurrence_view occurrence.now))) }
+        ensures refused { IfErr result (λ e. e ≡ error.Memory) }
+    {
+        if is_binder(&occurrence.standing) && is_of_module(&key) {
+            self.add(key, 0, occurrence.ident.0)
+        } else {
+            Ok(())
+        }
+    }
+
+    /// Of the binders of the module's block among identifiers, wherever they are visible.
+    pub fn of_module(
+        alloc: Global,
+        all: &[Occurrence<'_>],
+        keys: &[Key<'a>],
+    ) -> Result<Agreements<'a>, Error>
+        requires { length keys.now ≡ length all.now }
+        ensures agree { IfOk result (λ r. (n : Text) (m : ℕ) → agree_in r.of.entries (bound (0 ∷ []) n) 0 m ≡ all_leave (is_global_met n) m (map flat keys.now) (map occurrence_view all.now)) }
+        ensures refused { IfErr result (λ e. e ≡ error.Memory) }
+    {
+        let mut agreements = Agreements {
+            of: IndexMap::new(alloc),
+        };
+        for i in 0..all.len() {
+            agreements.meet_global(&all[i], keys[i])?;
+        }
+        Ok(agreements)
+    }
+}
