@@ -4,20 +4,23 @@ use Rattle.std.specs.Prelude.{not, ◌&&◌, ◌||◌, ◌==◌, bytes_eq, Optio
 use Rattle.std.specs.List.{All, filter, list_all, list_any}
 use Rattle.std.specs.Bool.{Decides}
 use Rattle.std.proofs.lemmas.Bool.Decides.{Decides-eqb}
+use Rattle.std.proofs.lemmas.Slice.Eq.{bytes_eq-Decides}
 use Rattle.wesl_names.specs.Path.{Text}
-use Rattle.wesl_syntax.specs.Unit.{name_in}
-use Rattle.wesl_occurrences.specs.Occurrences.{Block, Standing, module_name, parameter, local, reference, word, Occurrence}
+use Rattle.wesl_syntax.specs.Unit.{UnitView, name_in, trees_of, spelled}
+use Rattle.wesl_occurrences.specs.Occurrences.{Block, Standing, module_name, parameter, local, reference, word, Occurrence, occurrences}
+use Rattle.wesl_occurrences.specs.Views.{occurrence_view}
+use Rattle.wesl_occurrences.specs.declared.occurrence.Occurrence.{Occurrence as FoundOccurrence}
 use Rattle.wesl_occurrences.specs.Walk.{Found}
 use Rattle.wesl_occurrences.specs.Ways.{AreNested, way, told}
-use Rattle.wesl_occurrences.specs.Laws.{WaysLeadOutwards}
+use Rattle.wesl_occurrences.specs.Laws.{WaysLeadOutwards, SpellingKeepsOccurrences}
 use Rattle.wesl_meanings.specs.Scopes as scopes
-use Rattle.wesl_meanings.specs.Scopes.{bound, free, is_visible, binds, binder_of, meaning, key_as, key_of}
+use Rattle.wesl_meanings.specs.Scopes.{bound, free, is_visible, binds, binder_of, meaning, key_as, key_of, keys}
 use Rattle.wesl_meanings.specs.Canonical.{same_key}
 use Rattle.wesl_meanings.specs.Keys.{named, key_view, flat, IsKeyBelow}
 use Rattle.wesl_meanings.specs.declared.keys.Key.{Key}
 use Rattle.wesl_meanings.specs.declared.keys.Key.TheVariants as made
 use Rattle.wesl_meanings.proofs.Scoping.{same_way}
-use Rattle.wesl_meanings.proofs.Entries.{one_block}
+use Rattle.wesl_meanings.proofs.Entries.{one_test}
 use Rattle.wesl_faith.specs.declared.agreed.Agreed.{Agreed}
 use Rattle.wesl_faith.specs.Faithful.{is_binder, is_global, is_unqualified, binders_in, binders_of}
 use Rattle.wesl_faith.specs.Test.{is_named, is_one, are_apart, has_number, agree_on, reads_right, all_read_right}
@@ -36,6 +39,12 @@ all_filtered p q (x ∷ xs) = by (p x) (all_filtered p q xs)
 any_mapped : {X Y : Type 0} (f : X → Y) (p : Y → Bool) (xs : List X) → list_any p (map f xs) ≡ list_any (λ x. p (f x)) xs
 any_mapped f p [] = refl
 any_mapped f p (x ∷ xs) = ap (λ r. p (f x) || r) (any_mapped f p xs)
+
+along : {P Q : Type 0} {r : Bool} → Decides r P → (P → Q) → (Q → P) → Decides r Q
+along d f g = (λ e. f (d.0 e), λ q. d.1 (g q))
+
+one_block : (x y : ℕ) → bytes_eq (x ∷ []) (y ∷ []) ≡ (x == y)
+one_block x y = one_test _ _ (bytes_eq-Decides (x ∷ []) (y ∷ [])) (along (Decides-eqb x y) (λ e. ap (λ z. z ∷ []) e) (λ e. let p : x ≡ y = cc in p))
 
 turned : (a b : Bool) → (a && b) ≡ (b && a)
 turned true true = refl
@@ -60,8 +69,8 @@ module _ (ways : WaysLeadOutwards) (names : List Text) (outer : List ℕ) (ns : 
   in_whole : (k : Key) (c : Block) → IsKeyBelow (length outer) k → (m : Text) → key_view (way outer) k ≡ bound c m → in_module (flat k) ≡ bytes_eq c []
   in_whole (made.Bound a t) c ha m e =
       let block : way outer a ≡ c = cc in
-      let some : 0 < length outer = omega (arith, ha) in
-      one_block a 0 ∙ (sym (same_way ways outer a 0 ns ha some) ∙ ap₂ bytes_eq block (ways.whole outer some))
+      let begun : 0 < length outer = omega (arith, ha) in
+      one_block a 0 ∙ (sym (same_way ways outer a 0 ns ha begun) ∙ ap₂ bytes_eq block (ways.whole outer begun))
   in_whole (made.Free t) c ha m e = absurd (let x : ⊥ = cc in x)
   in_whole (made.Qualified q t) c ha m e = absurd (let x : ⊥ = cc in x)
 
@@ -83,10 +92,10 @@ module _ (ways : WaysLeadOutwards) (names : List Text) (outer : List ℕ) (ns : 
 
   global_met_is : 0 < length outer → (all : List (Occurrence Text)) (x : Occurrence Text) (r : Standing) (k : Key) (n : Text) → IsKeyBelow (length outer) k → key_view (way outer) k ≡ key_as all x r
       → (is_binder r && same_key (flat k) (bound (0 ∷ []) n)) ≡ ((is_binder r && bytes_eq x.block []) && bytes_eq x.name n)
-  global_met_is some all x r k n hk e = by r e
+  global_met_is begun all x r k n hk e = by r e
     where
       here : key_view (way outer) k ≡ bound x.block x.name → same_key (flat k) (bound (0 ∷ []) n) ≡ (bytes_eq x.block [] && bytes_eq x.name n)
-      here f = same_bound k x.block 0 hk some n x.name f ∙ (turned (bytes_eq x.name n) (bytes_eq x.block (way outer 0)) ∙ ap (λ w. bytes_eq x.block w && bytes_eq x.name n) (ways.whole outer some))
+      here f = same_bound k x.block 0 hk begun n x.name f ∙ (turned (bytes_eq x.name n) (bytes_eq x.block (way outer 0)) ∙ ap (λ w. bytes_eq x.block w && bytes_eq x.name n) (ways.whole outer begun))
 
       by : (s : Standing) → key_view (way outer) k ≡ key_as all x s → (is_binder s && same_key (flat k) (bound (0 ∷ []) n)) ≡ ((is_binder s && bytes_eq x.block []) && bytes_eq x.name n)
       by module_name f = here f
@@ -117,15 +126,15 @@ module _ (ways : WaysLeadOutwards) (names : List Text) (outer : List ℕ) (ns : 
 
     globals_leave : 0 < length outer → (m : ℕ) (n : Text) (ks : List Key) (os : List Found) → All (IsKeyBelow (length outer)) ks → AreKeyed ks os
         → all_leave (is_global_met n) m (map flat ks) os ≡ list_all (λ b. if is_named names n b then b.name == m else true) (told_all os)
-    globals_leave some m n [] [] below e = refl
-    globals_leave some m n [] (o ∷ os) below e = absurd (let x : ⊥ = cc in x)
-    globals_leave some m n (k ∷ ks) [] below e = absurd (let x : ⊥ = cc in x)
-    globals_leave some m n (k ∷ ks) (o ∷ os) below e =
+    globals_leave begun m n [] [] below e = refl
+    globals_leave begun m n [] (o ∷ os) below e = absurd (let x : ⊥ = cc in x)
+    globals_leave begun m n (k ∷ ks) [] below e = absurd (let x : ⊥ = cc in x)
+    globals_leave begun m n (k ∷ ks) (o ∷ os) below e =
         let first : key_view (way outer) k ≡ key_here o = cc in
         let rest : AreKeyed ks os = cc in
         ap₂ (λ t r. (if t then o.name == m else true) && r)
-        (global_met_is some all (named names (told (way outer) o)) o.role k n (below 0 k (omega arith)) first)
-        (globals_leave some m n ks os (λ i d l. below (suc i) d (omega (arith, l))) rest)
+        (global_met_is begun all (named names (told (way outer) o)) o.role k n (below 0 k (omega arith)) first)
+        (globals_leave begun m n ks os (λ i d l. below (suc i) d (omega (arith, l))) rest)
 
   -- ---- the whole module
   module _ (found : List Found) (keys : List Key) (below : All (IsKeyBelow (length outer)) keys) (keyed : AreKeyed (map (named names) (told_all found)) keys found) (entries : List (Key × Agreed)) where
@@ -139,9 +148,9 @@ module _ (ways : WaysLeadOutwards) (names : List Text) (outer : List ℕ) (ns : 
       global_entry (made.Bound a t) c n m ha e h =
           let block : a ≡ 0 = (Decides-eqb a 0).0 (sym (one_block a 0) ∙ h) in
           let name : t.now ≡ n = cc in
-          let some : 0 < length outer = omega (arith, ha) in
+          let begun : 0 < length outer = omega (arith, ha) in
           ap₂ (λ b x. agree_in entries (bound (b ∷ []) x) 0 m) block name
-          ∙ (agree n m ∙ globals_leave whole some m n keys found below keyed)
+          ∙ (agree n m ∙ globals_leave whole begun m n keys found below keyed)
       global_entry (made.Free t) c n m ha e h = absurd (let x : ⊥ = cc in x)
       global_entry (made.Qualified q t) c n m ha e h = absurd (let x : ⊥ = cc in x)
 
@@ -222,3 +231,51 @@ module _ (ways : WaysLeadOutwards) (names : List Text) (outer : List ℕ) (ns : 
 
       pub references_are : references_right entries numbers (map flat keys) found ≡ all_read_right names (told_all found)
       references_are = references_from keys found below keyed
+
+-- ---- what the parts of `readings_of` say together
+mapped_count : {X Y : Type 0} (f : X → Y) (xs : List X) → length (map f xs) ≡ length xs
+mapped_count f [] = refl
+mapped_count f (x ∷ xs) = ap suc (mapped_count f xs)
+
+mapped_thrice : {X Y Z W : Type 0} (h : X → Y) (g : Y → Z) (f : Z → W) (xs : List X) → map f (map g (map h xs)) ≡ map (λ x. f (g (h x))) xs
+mapped_thrice h g f [] = refl
+mapped_thrice h g f (x ∷ xs) = ap (λ ys. f (g (h x)) ∷ ys) (mapped_thrice h g f xs)
+
+module _ (ways : WaysLeadOutwards) (spelling : SpellingKeepsOccurrences) (v : UnitView) (outer : List ℕ) (items : List FoundOccurrence) (ks : List Key) (ns : AreNested outer) (below : All (IsKeyBelow (length outer)) ks)
+    (found : map (told (way outer)) (map occurrence_view items) ≡ occurrences (trees_of v)) (meant : map (key_view (way outer)) ks ≡ keys (occurrences (spelled v))) where
+  abbrev those : List (Occurrence ℕ)
+  those = map (told (way outer)) (map occurrence_view items)
+
+  keyed_is : map (key_view (way outer)) ks ≡ map (λ o. key_of (map (named v.names) those) (named v.names (told (way outer) o))) (map occurrence_view items)
+  keyed_is =
+      meant
+      ∙ (ap keys (spelling v ∙ ap (map (named v.names)) (sym found))
+      ∙ mapped_thrice (told (way outer)) (named v.names) (key_of (map (named v.names) those)) (map occurrence_view items))
+
+  pub one_count : length ks ≡ length items
+  one_count =
+      sym (mapped_count (key_view (way outer)) ks)
+      ∙ (ap length keyed_is
+      ∙ (mapped_count (λ o. key_of (map (named v.names) those) (named v.names (told (way outer) o))) (map occurrence_view items) ∙ mapped_count occurrence_view items))
+
+  pub globals_read : (entries : List (Key × Agreed)) (a1 a2 : List FoundOccurrence) (k1 k2 : List Key) → a1 ≡ items → k1 ≡ ks → a2 ≡ items → k2 ≡ ks
+      → ((n : Text) (m : ℕ) → agree_in entries (bound (0 ∷ []) n) 0 m ≡ all_leave (is_global_met n) m (map flat k1) (map occurrence_view a1))
+      → globals_right entries (map flat k2) (map occurrence_view a2) ≡ are_apart v.names (occurrences (trees_of v))
+  globals_read entries a1 a2 k1 k2 a1e k1e a2e k2e agree =
+      ap₂ (λ k a. globals_right entries (map flat k) (map occurrence_view a)) k2e a2e
+      ∙ (globals_are ways v.names outer ns (map occurrence_view items) ks below keyed_is entries
+      (λ n m. agree n m ∙ ap₂ (λ k a. all_leave (is_global_met n) m (map flat k) (map occurrence_view a)) k1e a1e)
+      ∙ ap (are_apart v.names) found)
+
+  pub references_read : (entries : List (Key × Agreed)) (numbers numbers2 : List ℕ) (a1 a2 a3 : List FoundOccurrence) (k1 k2 : List Key) → a1 ≡ items → k1 ≡ ks → a2 ≡ items → k2 ≡ ks → a3 ≡ items
+      → ((k : scopes.Key) (p m : ℕ) → agree_in entries k p m ≡ all_leave (is_met k p) m (map flat k1) (map occurrence_view a1))
+      → ((m : ℕ) → list_any (λ k. k == m) numbers ≡ list_any (has_number m) (map occurrence_view a3))
+      → numbers2 ≡ numbers
+      → references_right entries numbers2 (map flat k2) (map occurrence_view a2) ≡ all_read_right v.names (occurrences (trees_of v))
+  references_read entries numbers numbers2 a1 a2 a3 k1 k2 a1e k1e a2e k2e a3e agree bound_are same =
+      ap (λ ms. references_right entries ms (map flat k2) (map occurrence_view a2)) same
+      ∙ (ap₂ (λ k a. references_right entries numbers (map flat k) (map occurrence_view a)) k2e a2e
+      ∙ (references_are ways v.names outer ns (map occurrence_view items) ks below keyed_is entries numbers
+      (λ k p m. agree k p m ∙ ap₂ (λ x a. all_leave (is_met k p) m (map flat x) (map occurrence_view a)) k1e a1e)
+      (λ m. bound_are m ∙ ap (λ a. list_any (has_number m) (map occurrence_view a)) a3e)
+      ∙ ap (all_read_right v.names) found))

@@ -154,13 +154,16 @@ canonical_is_faithful spelling identified u a =
 -- ---- the other way round
 -- the first that passes a test is one of the list
 module _ {X : Type 0} (p : X → Bool) where
-  first_passing : (xs : List X) (x : X) (more : List X) → filter p xs ≡ x ∷ more → (i : ℕ) × (i < length xs) × ((d : X) → get_or xs i d ≡ x) × (p x ≡ true)
+  abbrev StandsIn : List X → X → Type 0
+  StandsIn xs x = (i : ℕ) × (i < length xs) × ((d : X) → get_or xs i d ≡ x) × (p x ≡ true)
+
+  first_or_later : (a : X) (xs : List X) (x : X) (more : List X) (t : Bool) → p a ≡ t → (filter p xs ≡ x ∷ more → StandsIn xs x) → cond t (a ∷ filter p xs) (filter p xs) ≡ x ∷ more → StandsIn (a ∷ xs) x
+  first_or_later a xs x more true f rest e = let h : a ≡ x = cc in (0, omega arith, λ d. h, subst (λ y. p y ≡ true) h f)
+  first_or_later a xs x more false f rest e = let r = rest e in (suc r.0, omega (arith, r.1), r.2, r.3)
+
+  first_passing : (xs : List X) (x : X) (more : List X) → filter p xs ≡ x ∷ more → StandsIn xs x
   first_passing [] x more e = absurd (let z : ⊥ = cc in z)
-  first_passing (a ∷ xs) x more e = by (p a) refl e
-    where
-      by : (t : Bool) → p a ≡ t → cond t (a ∷ filter p xs) (filter p xs) ≡ x ∷ more → (i : ℕ) × (i < length (a ∷ xs)) × ((d : X) → get_or (a ∷ xs) i d ≡ x) × (p x ≡ true)
-      by true f e = let h : a ≡ x = cc in (0, omega arith, λ d. h, subst (λ y. p y ≡ true) h f)
-      by false f e = let r = first_passing xs x more e in (suc r.0, omega (arith, r.1), r.2, r.3)
+  first_passing (a ∷ xs) x more e = first_or_later a xs x more (p a) refl (first_passing xs x more) e
 
 either : (b : Bool) → (b ≡ true) ⊎ (b ≡ false)
 either true = inl refl
