@@ -1,16 +1,14 @@
 -- Numbers on which binders agree.
-use Rattle.std.proofs.Common.{◌≡◌, ◌≢◌, ℕ, ◌+◌, ◌<◌, ◌≤◌, Bool, true, false, cond, List, [], ◌∷◌, length, get_or, map, drop, drop-cons, add-one, refl, sym, ap, ap₂, ◌∙◌, arith}
-use Rattle.std.specs.Prelude.{not, ◌&&◌, ◌||◌, ◌==◌, nat_le, bytes_eq, Option, Some, None, if◌then◌else◌}
+use Rattle.std.proofs.Common.{◌≡◌, ℕ, ◌+◌, ◌<◌, ◌≤◌, Bool, true, false, List, length, get_or, map, drop, drop-cons, add-one, refl, sym, ap, ap₂, ◌∙◌}
+use Rattle.std.specs.Prelude.{◌&&◌, Option, Some, if◌then◌else◌}
 use Rattle.std.specs.Map.{lookup}
-use Rattle.std.specs.Bool.{Decides}
-use Rattle.std.proofs.lemmas.Bool.Decides.{Decides-eqb}
 use Rattle.std.proofs.lemmas.List.{drop_all}
 use Rattle.indexmap.specs.IndexMap.{insert_entry}
 use Rattle.wesl_names.specs.PathLaws.{Equality}
 use Rattle.wesl_occurrences.specs.Walk.{Found}
 use Rattle.wesl_meanings.specs.Scopes as scopes
 use Rattle.wesl_meanings.specs.Canonical.{same_key}
-use Rattle.wesl_meanings.specs.Keys.{flat, opened}
+use Rattle.wesl_meanings.specs.Keys.{flat}
 use Rattle.wesl_meanings.specs.declared.keys.Key.{Key}
 use Rattle.wesl_meanings.proofs.Entries.{key_eq, key_decides, key_test, keys_decide, same_lookup, inserted}
 use Rattle.wesl_faith.specs.declared.agreed.Agreed.{Agreed}

@@ -1,6 +1,6 @@
 -- What the code finds by keys, read as the definition reads it.
-use Rattle.std.proofs.Common.{◌≡◌, ℕ, zero, suc, ◌<◌, Bool, true, false, cond, List, [], ◌∷◌, length, map, refl, sym, ap, ap₂, ◌∙◌, arith}
-use Rattle.std.specs.Prelude.{not, ◌&&◌, ◌||◌, ◌==◌, bytes_eq, Option, Some, None, if◌then◌else◌}
+use Rattle.std.proofs.Common.{◌≡◌, ℕ, suc, ◌<◌, Bool, true, false, cond, List, [], ◌∷◌, length, map, refl, sym, ap, ap₂, ◌∙◌, arith}
+use Rattle.std.specs.Prelude.{not, ◌&&◌, ◌||◌, ◌==◌, bytes_eq, Some, None, if◌then◌else◌}
 use Rattle.std.specs.List.{All, filter, list_all, list_any}
 use Rattle.std.specs.Bool.{Decides}
 use Rattle.std.proofs.lemmas.Bool.Decides.{Decides-eqb}
@@ -22,9 +22,9 @@ use Rattle.wesl_meanings.specs.declared.keys.Key.TheVariants as made
 use Rattle.wesl_meanings.proofs.Scoping.{same_way}
 use Rattle.wesl_meanings.proofs.Entries.{one_test}
 use Rattle.wesl_faith.specs.declared.agreed.Agreed.{Agreed}
-use Rattle.wesl_faith.specs.Faithful.{is_binder, is_global, is_unqualified, binders_in, binders_of}
+use Rattle.wesl_faith.specs.Faithful.{is_binder, is_unqualified, binders_in, binders_of}
 use Rattle.wesl_faith.specs.Test.{is_named, is_one, are_apart, has_number, agree_on, reads_right, all_read_right}
-use Rattle.wesl_faith.specs.Agreement.{agree_in, in_module, is_met, is_global_met, one_leaves, all_leave, global_right, globals_right, key_right, reference_right, references_right}
+use Rattle.wesl_faith.specs.Agreement.{agree_in, in_module, is_met, is_global_met, all_leave, globals_right, key_right, references_right}
 use Rattle.wesl_faith.proofs.Picked.{Picked, none, some, picked}
 
 -- what holds of all that pass

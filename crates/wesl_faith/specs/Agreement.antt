@@ -3,7 +3,6 @@ use Rattle.std.specs.Prelude.{ℕ, Bool, true, false, not, ◌&&◌, ◌==◌, n
 use Rattle.std.specs.List.{list_any}
 use Rattle.std.specs.Map.{lookup}
 use Rattle.wesl_names.specs.Path.{Text}
-use Rattle.wesl_occurrences.specs.Occurrences.{OccurrenceIn}
 use Rattle.wesl_occurrences.specs.Walk.{Found}
 use Rattle.wesl_meanings.specs.Scopes as scopes
 use Rattle.wesl_meanings.specs.Scopes.{bound, free, qualified, is_visible}

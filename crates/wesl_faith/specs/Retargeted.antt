@@ -1,5 +1,5 @@
 -- Modules whose numbers are canonical exactly where their names read right.
-use Rattle.std.specs.Prelude.{◌≡◌, ◌≢◌, ◌↔◌, ℕ, ◌<◌, Bool, true, false, Option, Some, None, List, length}
+use Rattle.std.specs.Prelude.{◌≡◌, ◌≢◌, ◌↔◌, ℕ, ◌<◌, true, false, Some, List, length}
 use Rattle.std.specs.List.{All}
 use Rattle.wesl_names.specs.Path.{Text}
 use Rattle.wesl_syntax.specs.Unit.{UnitView, trees_of, numbers}

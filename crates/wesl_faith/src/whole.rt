@@ -14,6 +14,7 @@ use wesl_occurrences::{law_of_occurrences, law_of_ways};
 use wesl_tree::{Error, TranslationUnit};
 
 /// How the names of a module read, by plain scoping.
+#[derive(Clone, Copy)]
 pub struct Readings {
     /// whether binders of the module's block that are spelled alike have one number
     pub are_names_apart: bool,

@@ -1,4 +1,4 @@
-use Rattle.std.proofs.Common.{◌≡◌, ◌∙◌, ap, sym, refl, length}
+use Rattle.std.proofs.Common.{◌∙◌, ap, sym, refl, length}
 use Rattle.wesl_tree.specs.Translation.{unit_view}
 use Rattle.wesl_faith.proofs.ByKeys.{one_count, globals_read, references_read}
 use Rattle.wesl_faith.proofs.whole.readings_of.Goals as goal
