@@ -7,6 +7,7 @@ ghost use Rattle.wesl_syntax.specs.Numbers.{AreNumbers};
 ghost use Rattle.wesl_tree.specs.Translation.{unit_view};
 ghost use Rattle.wesl_occurrences.specs.Occurrences.{occurrences};
 ghost use Rattle.wesl_occurrences.specs.Identified.{identified};
+ghost use Rattle.wesl_occurrences.specs.Pieces.{starts};
 ghost use Rattle.wesl_occurrences.specs.Ways.{AreNested, way};
 ghost use Rattle.wesl_meanings.specs.Scopes.{keys};
 ghost use Rattle.wesl_meanings.specs.Keys.{key_view, IsKeyBelow};
@@ -31,6 +32,8 @@ pub struct Meanings<'a> {
 pub fn meanings_of<'a>(alloc: Global, unit: &'a TranslationUnit) -> Result<Meanings<'a>, Error>
     ensures found { IfOk result (λ m. identified m.found ≡ occurrences (trees_of (unit_view unit.now))) }
     ensures keys { IfOk result (λ m. map (key_view (way m.found.outer.items)) m.keys.items ≡ keys (occurrences (spelled (unit_view unit.now)))) }
+    ensures starts { IfOk result (λ m. m.found.starts.items ≡ starts (trees_of (unit_view unit.now))) }
+    ensures names { IfOk result (λ m. All (λ o. o.ident.0 < length (unit_view unit.now).names) m.found.all.items) }
     ensures nested { IfOk result (λ m. AreNested m.found.outer.items) }
     ensures below { IfOk result (λ m. All (IsKeyBelow (length m.found.outer.items)) m.keys.items) }
     ensures refused { IfErr result (λ e. e ≡ error.Memory) }

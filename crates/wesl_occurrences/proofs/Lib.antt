@@ -1,5 +1,7 @@
 pub mod Bounds
+pub mod Cutting
 pub mod Ended
+pub mod Found
 pub mod Joined
 pub mod Listed
 pub mod Names

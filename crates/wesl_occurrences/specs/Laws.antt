@@ -1,9 +1,11 @@
 -- Laws of the definitions, as functions of the crate cite them.
 use Rattle.std.specs.Prelude.{◌≡◌, ℕ, ◌<◌, List, [], ◌∷◌, length, get_or, map}
+use Rattle.wesl_names.specs.Path.{Text}
 use Rattle.wesl_syntax.specs.Unit.{UnitView, UnitOf, forest_of_unit, trees_of, name_in, spelled}
-use Rattle.wesl_syntax.specs.Tree.{identifiers}
+use Rattle.wesl_syntax.specs.Tree.{before, end, identifiers, kind, declarations}
 use Rattle.wesl_occurrences.specs.Occurrences.{OccurrenceIn, occurrences}
 use Rattle.wesl_occurrences.specs.Ways.{AreNested, way}
+use Rattle.wesl_occurrences.specs.Pieces.{declarations_in, pieces}
 
 -- the module's block has the empty way, and any other block its number before the way of the block round it
 pub record WaysLeadOutwards : Type 0 where
@@ -21,3 +23,8 @@ SpellingKeepsOccurrences = (u : UnitView) → occurrences (spelled u) ≡ map (r
 -- what is listed are the identifiers of the tree, each once
 abbrev pub OccurrencesAreIdentifiers : Type 0
 OccurrencesAreIdentifiers = (u : UnitOf ℕ) → map (λ o. o.name) (occurrences u) ≡ identifiers (forest_of_unit u)
+
+-- the pieces are the identifiers of the global declarations
+abbrev pub PiecesAreDeclarations : Type 0
+PiecesAreDeclarations = (u : UnitOf Text) → u.declarations.label ≡ kind declarations
+    → map (map (λ o. o.name)) (pieces u) ≡ map (λ t. identifiers (before t end)) (declarations_in u)

@@ -3,4 +3,5 @@ pub mod Walk
 pub mod Ways
 pub mod Views
 pub mod Identified
+pub mod Pieces
 pub mod Laws

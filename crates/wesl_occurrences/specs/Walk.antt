@@ -15,6 +15,13 @@ pub record State : Type 0 where
   pub found : List Found
   pub outer : List ℕ
 
+-- where a module begins: in its block, with nothing found
+abbrev pub outermost : Here
+outermost = record { block = 0; held_block = 0; is_local = false; declaration = None; words = false; excused = false }
+
+abbrev pub start : State
+start = record { found = []; outer = 0 ∷ [] }
+
 -- a node, and the places of the names that it has declared so far
 pub record Fields : Type 0 where
   pub node : Node ℕ

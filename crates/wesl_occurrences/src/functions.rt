@@ -1,12 +1,14 @@
 //! The identifiers of functions and of global declarations.
-ghost use Rattle.std.specs.Prelude.{◌≡◌, OnOk};
+ghost use Rattle.std.specs.Prelude.{◌≡◌, OnOk, IfOk, length};
+ghost use Rattle.wesl_syntax.specs.Tree.{trees};
 ghost use Rattle.wesl_syntax.specs.View.{function_view, global_view, declarations_tree};
+ghost use Rattle.wesl_occurrences.specs.Pieces.{starts_from};
 ghost use Rattle.wesl_occurrences.specs.Walk.{walked};
 ghost use Rattle.wesl_occurrences.specs.Views.{state_of, here_view};
 
 use crate::occurrence::Standing;
 use crate::walk::{Here, Walk};
-use std::alloc::AllocError;
+use std::alloc::{AllocError, Global};
 use wesl_tree::{Function, GlobalDeclaration, GlobalDeclarationNode};
 
 impl<'a> Walk<'a> {
@@ -35,20 +37,25 @@ impl<'a> Walk<'a> {
         }
     }
 
+    /// The identifiers of global declarations; and how many come before each of these.
     pub fn globals(
         &mut self,
+        alloc: Global,
         here: Here,
         declarations: &'a Vec<GlobalDeclarationNode>,
-    ) -> Result<(), AllocError>
-        ensures { OnOk result (state_of self.new ≡ walked (here_view here) (state_of self.old) (declarations_tree declarations.now)) }
+    ) -> Result<Vec<usize>, AllocError>
+        ensures found { OnOk result (state_of self.new ≡ walked (here_view here) (state_of self.old) (declarations_tree declarations.now)) }
+        ensures starts { IfOk result (λ starts. starts.items ≡ starts_from (length (state_of self.old).found) (trees (declarations_tree declarations.now).children)) }
     {
+        let mut starts = Vec::new(alloc);
         for i in 0..declarations.len() {
             let inside = Here {
                 declaration: Some(i),
                 ..here
             };
+            starts.push(self.found.len())?;
             self.global(inside, &declarations[i].node)?;
         }
-        Ok(())
+        Ok(starts)
     }
 }

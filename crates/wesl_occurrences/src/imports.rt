@@ -67,7 +67,11 @@ impl<'a> Walk<'a> {
         Ok(())
     }
 
-    fn directive(&mut self, here: Here, directive: &'a GlobalDirective) -> Result<(), AllocError>
+    pub fn directive(
+        &mut self,
+        here: Here,
+        directive: &'a GlobalDirective,
+    ) -> Result<(), AllocError>
         ensures { OnOk result (state_of self.new ≡ walked (here_view here) (state_of self.old) (directive_view directive.now)) }
     {
         match directive {

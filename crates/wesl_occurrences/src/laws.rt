@@ -1,5 +1,5 @@
 //! Laws of the definitions.
-ghost use Rattle.wesl_occurrences.specs.Laws.{WaysLeadOutwards, SpellingKeepsOccurrences, OccurrencesAreIdentifiers};
+ghost use Rattle.wesl_occurrences.specs.Laws.{WaysLeadOutwards, SpellingKeepsOccurrences, OccurrencesAreIdentifiers, PiecesAreDeclarations};
 
 /// The way of a block leads from it outwards: the module's block has the empty way, and any other its number before
 /// the way of the block round it.
@@ -11,4 +11,9 @@ pub fn law_of_ways()
 pub fn law_of_occurrences()
     ensures spelling { SpellingKeepsOccurrences }
     ensures identifiers { OccurrencesAreIdentifiers }
+{}
+
+/// The identifiers that lie in a global declaration are those of its tree.
+pub fn law_of_pieces()
+    ensures { PiecesAreDeclarations }
 {}

@@ -12,6 +12,6 @@ mod statements;
 mod walk;
 mod whole;
 
-pub use laws::{law_of_occurrences, law_of_ways};
+pub use laws::{law_of_occurrences, law_of_pieces, law_of_ways};
 pub use occurrence::{Occurrence, Standing};
-pub use whole::{Identifiers, occurrences};
+pub use whole::{Identifiers, occurrences, words_of};

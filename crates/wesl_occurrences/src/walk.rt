@@ -1,11 +1,11 @@
 //! One walk over a module, which collects its identifiers and its blocks.
 ghost use Rattle.std.specs.Prelude.{◌≡◌, ◌∷◌, [], ◌++◌, length, OnOk, IfOk, true, false};
 ghost use Rattle.wesl_occurrences.specs.Occurrences.{standing_in, declared, a_value};
-ghost use Rattle.wesl_occurrences.specs.Walk.{ended_at};
+ghost use Rattle.wesl_occurrences.specs.Walk.{outermost, start, ended_at};
 ghost use Rattle.wesl_occurrences.specs.Views.{state_of, here_view, standing_view};
 
 use crate::occurrence::{Occurrence, Standing};
-use std::alloc::AllocError;
+use std::alloc::{AllocError, Global};
 use wesl_tree::{Ident, ModulePath};
 
 /// What its surroundings say of a node.
@@ -26,6 +26,20 @@ pub struct Here {
 }
 
 impl Here {
+    /// In the module's block, outside of all declarations.
+    pub fn outermost() -> Here
+        ensures { here_view result ≡ outermost }
+    {
+        Here {
+            block: 0,
+            held_block: 0,
+            is_local: false,
+            declaration: None,
+            words: false,
+            excused: false,
+        }
+    }
+
     /// In the block that the holder opens.
     pub fn inside(self) -> Here
         ensures { here_view result ≡ standing_in self.held_block (here_view self) }
@@ -80,6 +94,16 @@ pub struct Walk<'a> {
 }
 
 impl<'a> Walk<'a> {
+    /// Nothing found yet, and the module's block alone.
+    pub fn new(alloc: Global) -> Result<Walk<'a>, AllocError>
+        ensures { IfOk result (λ walk. state_of walk ≡ start) }
+    {
+        Ok(Walk {
+            found: Vec::new(alloc),
+            outer: vec![in alloc; 0]?,
+        })
+    }
+
     /// An identifier that stands here.
     pub fn add(
         &mut self,

@@ -1,17 +1,20 @@
 //! The identifiers of a whole module.
-ghost use Rattle.std.specs.Prelude.{◌≡◌, ◌<◌, IfOk, IfErr, length};
+ghost use Rattle.std.specs.Prelude.{◌≡◌, ◌<◌, IfOk, IfErr, length, map};
 ghost use Rattle.std.specs.List.{All};
 ghost use Rattle.wesl_names.specs.declared.errors.Error as error;
+ghost use Rattle.wesl_syntax.specs.Tree.{before, end, identifiers, directive_node};
 ghost use Rattle.wesl_syntax.specs.Unit.{trees_of};
+ghost use Rattle.wesl_syntax.specs.View.{placed, directive_view};
 ghost use Rattle.wesl_tree.specs.Translation.{unit_view};
 ghost use Rattle.wesl_occurrences.specs.Occurrences.{occurrences};
 ghost use Rattle.wesl_occurrences.specs.Identified.{identified};
+ghost use Rattle.wesl_occurrences.specs.Pieces.{starts};
 ghost use Rattle.wesl_occurrences.specs.Ways.{AreNested};
 
 use crate::occurrence::Occurrence;
 use crate::walk::{Here, Walk};
 use std::alloc::Global;
-use wesl_tree::{Error, TranslationUnit};
+use wesl_tree::{Error, GlobalDirectiveNode, Ident, TranslationUnit};
 
 /// The identifiers of a module, and its blocks.
 #[derive(Drop)]
@@ -20,6 +23,8 @@ pub struct Identifiers<'a> {
     pub all: Vec<Occurrence<'a>>,
     /// of each block, by its number, the number of the one round it; the module's block is 0
     pub outer: Vec<usize>,
+    /// of each global declaration how many identifiers come before it
+    pub starts: Vec<usize>,
 }
 
 /// The identifiers of a module in document order, each with how it stands, its place in that order and its block
@@ -28,26 +33,40 @@ pub fn occurrences<'a>(alloc: Global, unit: &'a TranslationUnit) -> Result<Ident
     ensures all { IfOk result (λ found. identified found ≡ occurrences (trees_of (unit_view unit.now))) }
     ensures blocks { IfOk result (λ found. All (λ o. o.block < length found.outer.items) found.all.items) }
     ensures nested { IfOk result (λ found. AreNested found.outer.items) }
+    ensures starts { IfOk result (λ found. found.starts.items ≡ starts (trees_of (unit_view unit.now))) }
     ensures names { IfOk result (λ found. All (λ o. o.ident.0 < length (unit_view unit.now).names) found.all.items) }
     ensures refused { IfErr result (λ e. e ≡ error.Memory) }
 {
-    let here = Here {
-        block: 0,
-        held_block: 0,
-        is_local: false,
-        declaration: None,
-        words: false,
-        excused: false,
-    };
-    let mut walk = Walk {
-        found: Vec::new(alloc),
-        outer: vec![in alloc; 0]?,
-    };
+    let here = Here::outermost();
+    let mut walk = Walk::new(alloc)?;
     walk.imports(here, unit.imports())?;
     walk.directives(here, unit.global_directives())?;
-    walk.globals(here, unit.global_declarations())?;
+    let starts = walk.globals(alloc, here, unit.global_declarations())?;
     Ok(Identifiers {
         all: walk.found,
         outer: walk.outer,
+        starts,
     })
+}
+
+/// The identifiers themselves.
+fn idents(alloc: Global, found: &[Occurrence<'_>]) -> Result<Vec<Ident>, Error>
+    ensures idents { IfOk result (λ idents. map (λ i. i.0) idents.items ≡ map (λ o. o.ident.0) found.now) }
+    ensures refused { IfErr result (λ e. e ≡ error.Memory) }
+{
+    let mut idents = Vec::with_capacity(alloc, found.len())?;
+    for occurrence in found {
+        idents.push(occurrence.ident)?;
+    }
+    Ok(idents)
+}
+
+/// The identifiers of a directive, in document order: all are words. Refused for want of memory alone.
+pub fn words_of(alloc: Global, directive: &GlobalDirectiveNode) -> Result<Vec<Ident>, Error>
+    ensures words { IfOk result (λ found. map (λ i. i.0) found.items ≡ identifiers (before (placed directive_view directive_node directive.now) end)) }
+    ensures refused { IfErr result (λ e. e ≡ error.Memory) }
+{
+    let mut walk = Walk::new(alloc)?;
+    walk.directive(Here::outermost(), &directive.node)?;
+    idents(alloc, &walk.found)
 }

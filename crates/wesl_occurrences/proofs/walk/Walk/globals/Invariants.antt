@@ -1,8 +1,12 @@
-use Rattle.std.proofs.Common.{◌≡◌, drop}
+use Rattle.std.proofs.Common.{◌≡◌, ◌++◌, drop, length}
+use Rattle.wesl_occurrences.specs.Pieces.{starts_from}
 use Rattle.wesl_occurrences.specs.Views.{state_of, here_view}
+use Rattle.wesl_occurrences.proofs.Found.{globals_in}
 use Rattle.wesl_occurrences.proofs.Listed.{globals_walked}
 use Rattle.wesl_occurrences.proofs.walk.Walk.globals.Given as goal
 
 abbrev pub invariant-loop-i : goal.invariant-loop-i
-invariant-loop-i l =
-    globals_walked (here_view l.here) 0 (state_of l.initial.self) l.declarations.items ≡ globals_walked (here_view l.here) l.i (state_of l.self) (drop l.i l.declarations.items)
+invariant-loop-i l = record {
+  found : globals_walked (here_view l.here) 0 (state_of l.initial.self) l.declarations.items ≡ globals_walked (here_view l.here) l.i (state_of l.self) (drop l.i l.declarations.items);
+  starts : l.starts.items ++ starts_from (length (state_of l.self).found) (globals_in (drop l.i l.declarations.items)) ≡ starts_from (length (state_of l.initial.self).found) (globals_in l.declarations.items);
+}

@@ -1,0 +1,18 @@
+use Rattle.std.proofs.Common.{◌∙◌, ap, map}
+use Rattle.std.specs.Prelude.{Result, Ok, Err, IfOk}
+use Rattle.wesl_occurrences.specs.Views.{state_of, here_view}
+use Rattle.wesl_occurrences.specs.declared.occurrence.Occurrence.{Occurrence}
+use Rattle.wesl_occurrences.proofs.Found.{words_found}
+use Rattle.wesl_occurrences.proofs.whole.words_of.Goals as goal
+
+if_ok : {X E : Type 0} {P Q : X → Type 0} (r : Result X E) → ((x : X) → P x → Q x) → IfOk r P → IfOk r Q
+if_ok (Ok x) f h = f x h
+if_ok (Err e) f h = tt
+
+pub returns-clause-words : goal.returns-clause-words
+returns-clause-words c =
+    let walk = c.directive.new.self in
+    if_ok c.idents.result
+    (λ found e. e ∙ (ap (map (λ (o : Occurrence). o.ident.0)) c.deref.ensures.value
+    ∙ words_found (here_view c.outermost.result) (state_of c.in_ok-walk.walk) walk.found.items walk.outer.items c.args.directive.now c.in_ok-walk.ensures c.in_ok-directive.ensures))
+    c.idents.ensures.idents
