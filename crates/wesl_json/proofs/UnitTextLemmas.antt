@@ -22,7 +22,7 @@ both-err (Err e) h k f = f e h k
 
 pub unreadable : (text : Text) (d : Data) (e : error.Error) → read text ≡ Some d → IfPlace e (IsBrokenUnit whole_form d) → IfPlace e (λ _. IsNoUnit whole_form d) → (e ≡ error.Memory) ⊎ IsUnreadable text e
 unreadable text d error.Memory r p q = inl refl
-unreadable text d (error.BadTree s) r p q = inr (inr (d, string_bytes s, r, refl, p, q))
+unreadable text d (error.BadTree s) r p q = inr (inr (d, r, (string_bytes s, refl, p, q)))
 unreadable text d _ r p q = absurd p
 
 pub no-json : (text : Text) (e : error.Error) → IsNoJson text e → (e ≡ error.Memory) ⊎ IsUnreadable text e

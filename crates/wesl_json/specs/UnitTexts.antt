@@ -14,15 +14,23 @@ use Rattle.wesl_form.specs.Writing.{written}
 use Rattle.wesl_reading.specs.Faults.{place_of}
 use Rattle.wesl_resolve.specs.UnitText.{HasTextPaths}
 
+-- the value stands for a unit that is spelled so: at each number of levels above its depth that is its reading
+abbrev pub IsSpelled : Data → UnitOf Text → Type 0
+IsSpelled d u = (n : ℕ) → depth d < n → reading whole_form n (node a_unit) d ≡ Some (unit_tree u)
+
+-- the value stands for no unit, and breaks the form of one at the place that is told
+abbrev pub IsTreeFault : Data → error.Error → Type 0
+IsTreeFault d e = (place : Text) × (place_of e ≡ Some place) × IsBrokenUnit whole_form d place × IsNoUnit whole_form d
+
 -- the text is JSON, and its value stands for a unit that is spelled so
 abbrev pub ReadsAs : Text → UnitOf Text → Type 0
-ReadsAs text u = (d : Data) × (read text ≡ Some d) × ((n : ℕ) → depth d < n → reading whole_form n (node a_unit) d ≡ Some (unit_tree u))
+ReadsAs text u = (d : Data) × (read text ≡ Some d) × IsSpelled d u
 
--- the text is no JSON, or its value stands for no unit, and breaks the form of one at the place that is told
+-- the text is no JSON, or its value stands for no unit
 abbrev pub IsUnreadable : Text → error.Error → Type 0
 IsUnreadable text e =
     (e ≡ error.NotJson) × (read text ≡ None)
-    ⊎ ((d : Data) × (place : Text) × (read text ≡ Some d) × (place_of e ≡ Some place) × IsBrokenUnit whole_form d place × IsNoUnit whole_form d)
+    ⊎ ((d : Data) × (read text ≡ Some d) × IsTreeFault d e)
 
 -- the text, with no space, of the value that a unit of this spelling is written as; where it is read as a unit, this one
 -- has the same spelling, if each path in the first has a text that says the same path or none

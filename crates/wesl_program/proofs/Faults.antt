@@ -18,7 +18,8 @@ use Rattle.wesl_tree.specs.declared.unit.TranslationUnit.{TranslationUnit}
 use Rattle.wesl_resolve.specs.ByOrigin.{AtOrigin, ByOrigin}
 use Rattle.wesl_resolve.specs.Packages.{IsRefusedIn}
 use Rattle.wesl_resolve.specs.declared.packages.CodegenPkg.{CodegenPkg}
-use Rattle.wesl_sources.specs.Reading.{IsTreeFault, IsUnreadable}
+use Rattle.wesl_json.specs.UnitTexts.{IsTreeFault}
+use Rattle.wesl_reading.specs.Faults.{place_of}
 use Rattle.wesl_conditional.specs.Conditions.{IsRefusedBy, RefusesLeft}
 use Rattle.wesl_conditional.specs.Linking.{RefusesLink, hands_left, refuses_left}
 use Rattle.wesl_program.specs.Fault as told
@@ -28,6 +29,7 @@ use Rattle.wesl_program.specs.Linking.{Kept, RefusesBundle, handed, refused, han
 use Rattle.wesl_bundle.specs.Bundle.{Bundle}
 use Rattle.wesl_program.specs.Line.{memory, IsOfModules}
 use Rattle.wesl_program.specs.Refused.{IsLinkFault}
+use Rattle.wesl_program.specs.StoredTexts.{IsUnreadable}
 use Rattle.wesl_world.specs.World.{Task}
 use Rattle.wesl_world.specs.Faults as standing
 use Rattle.wesl_linker.specs.Refusal.{TellsOfImport, TellsOf}
@@ -57,15 +59,24 @@ refused-with P of (resolve_error.ModuleNotFound q text) h = absurd h
 refused-with P of (resolve_error.FileNotFound file text) h = absurd h
 refused-with P of resolve_error.Memory h = absurd h
 
-bad_tree : (e : error.Error) (place : String Global) → e ≡ error.BadTree place → IsOfModules (fault_of e)
-bad_tree e place is = subst (λ x. IsOfModules (fault_of x)) (sym is) (of_modules (fault_of (error.BadTree place)) refl refl)
+bad_tree : (e : error.Error) (place : Text) → place_of e ≡ Some place → IsOfModules (fault_of e)
+bad_tree (error.BadTree s) place is = of_modules (fault_of (error.BadTree s)) refl refl
+bad_tree (error.CondComp c) place is = cc
+bad_tree (error.Import i) place is = cc
+bad_tree (error.Resolve r) place is = cc
+bad_tree (error.Validate v) place is = cc
+bad_tree (error.ModuleLimit k) place is = cc
+bad_tree error.NotNormalType place is = cc
+bad_tree error.NotJson place is = cc
+bad_tree (error.BadBundle s) place is = cc
+bad_tree error.Memory place is = cc
 
 refused_at : (p : Path) (u : Option Data) (e : resolve_error.ResolveError) → IsRefusedAt p u e → IsOfModules (fault_of_resolver e)
 refused_at p None e h = not_found p virtual_module e h
 refused_at p (Some d) e h = refused-with (IsTreeFault d) (λ fault f. bad_tree fault f.0 f.1) e h
 
 unreadable : (text : Text) (e : error.Error) → IsUnreadable text e → IsOfModules (fault_of e)
-unreadable text e (inl h) = bad_tree e h.0 h.1
+unreadable text e (inl h) = bad_tree e [] h.0
 unreadable text e (inr h) = bad_tree e h.2.0 h.2.1
 
 refused_in : (packages : List CodegenPkg) (p : Path) (e : resolve_error.ResolveError) → IsRefusedIn IsUnreadable packages p e → IsOfModules (fault_of_resolver e)

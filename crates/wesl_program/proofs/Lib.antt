@@ -4,3 +4,5 @@ pub mod Units
 pub mod Faults
 pub mod Answered
 pub mod PackageTexts
+pub mod StoredTexts
+pub mod TreeFaults

@@ -6,7 +6,7 @@ use Rattle.wesl_syntax.specs.Unit.{UnitOf}
 use Rattle.wesl_names.specs.Path.{Text, Path}
 use Rattle.wesl_names.specs.Errors.{IsModuleNotFound, IsRefusedWith}
 use Rattle.wesl_names.specs.declared.errors.ResolveError.{ResolveError}
-use Rattle.wesl_sources.specs.Reading.{IsRead, IsTreeFault}
+use Rattle.wesl_json.specs.UnitTexts.{IsSpelled, IsTreeFault}
 use Rattle.wesl_program.specs.Holds.{values_of, value_at}
 use Rattle.wesl_program.specs.declared.modules.Modules.{Modules}
 
@@ -18,10 +18,10 @@ abbrev pub IsRefusedAt : Path → Option Data → ResolveError → Type 0
 IsRefusedAt p None e = IsModuleNotFound p virtual_module e
 IsRefusedAt p (Some d) e = IsRefusedWith (IsTreeFault d) e
 
--- the unit that the value of a module is read as is handed out
+-- the unit that the value of a module stands for is handed out
 abbrev pub IsHandedAt : Option Data → UnitOf Text → Type 0
 IsHandedAt None u = ⊥
-IsHandedAt (Some d) u = IsRead d u
+IsHandedAt (Some d) u = IsSpelled d u
 
 -- the source of a module is its value as compact JSON
 abbrev pub IsSourceAt : Option Data → Text → Type 0

@@ -4,6 +4,7 @@ pub mod Fault
 pub mod Holds
 pub mod Hands
 pub mod PackageTexts
+pub mod StoredTexts
 pub mod Linking
 pub mod Line
 pub mod Made

@@ -37,6 +37,10 @@ not_json = fault (codes "NotJson") []
 abbrev pub bad_bundle : Text → Fault
 bad_bundle place = fault (codes "BadBundle") (place ∷ [])
 
+-- the bytes are UTF-8, and JSON of this value
+abbrev pub IsJsonOf : List ℕ → Data → Type 0
+IsJsonOf bytes d = IsUtf8 bytes × (read bytes ≡ Some d)
+
 -- no UTF-8, no JSON, or nested past 127
 abbrev pub IsNotJson : List ℕ → Type 0
 IsNotJson bytes = IsUtf8 bytes → read bytes ≡ None
@@ -53,8 +57,8 @@ TellsOfLink b f = (e : error.Error) × RefusesBundle b e × (f ≡ fault_of e)
 abbrev pub StandsFor : List ℕ → Fault → Type 0
 StandsFor bytes f =
     ((f ≡ not_json) × IsNotJson bytes)
-    ⊎ ((d : Data) × (place : Text) × (read bytes ≡ Some d) × (f ≡ bad_bundle place) × IsBrokenBundle d place)
-    ⊎ ((d : Data) × (b : Bundle) × (read bytes ≡ Some d) × (bundle_of d ≡ Some b) × IsOfModules f × TellsOfLink b f)
+    ⊎ ((d : Data) × (place : Text) × IsJsonOf bytes d × (f ≡ bad_bundle place) × IsBrokenBundle d place)
+    ⊎ ((d : Data) × (b : Bundle) × IsJsonOf bytes d × (bundle_of d ≡ Some b) × IsOfModules f × TellsOfLink b f)
 
 -- the error is want of memory, or one that the bytes may be refused with
 abbrev pub IsRefusal : List ℕ → error.Error → Type 0
@@ -74,4 +78,4 @@ answer_value unit = object (member (codes "unit") unit no_members)
 
 -- the bytes are a bundle's that is linked, and the line has the written form of its linked unit
 abbrev pub IsAnswerLine : List ℕ → Text → Type 0
-IsAnswerLine bytes line = (d : Data) × (b : Bundle) × (u : UnitView) × (read bytes ≡ Some d) × (bundle_of d ≡ Some b) × LinksTo b u × (line ≡ line_of (answer_value (unit_value u)))
+IsAnswerLine bytes line = (d : Data) × (b : Bundle) × (u : UnitView) × IsJsonOf bytes d × (bundle_of d ≡ Some b) × LinksTo b u × (line ≡ line_of (answer_value (unit_value u)))

@@ -13,7 +13,7 @@ use Rattle.wesl_bundle.specs.Views.{features_view}
 use Rattle.wesl_resolve.specs.ByOrigin.{ByOrigin}
 use Rattle.wesl_resolve.specs.Packages.{IsReadIn, IsRefusedIn}
 use Rattle.wesl_resolve.specs.declared.packages.CodegenPkg.{CodegenPkg}
-use Rattle.wesl_sources.specs.Reading.{ReadsText, IsUnreadable}
+use Rattle.wesl_json.specs.UnitTexts.{ReadsAs}
 use Rattle.wesl_conditional.specs.Linking.{Links, RefusesLink, hands_left, refuses_left}
 use Rattle.wesl_linker.specs.Worlds as worlds
 use Rattle.wesl_linker.specs.Linked.{IsAssembled}
@@ -24,6 +24,7 @@ use Rattle.wesl_world.specs.World.{Task}
 use Rattle.wesl_program.specs.Bundle.{unit_at}
 use Rattle.wesl_program.specs.Hands.{IsHandedAt, IsRefusedAt}
 use Rattle.wesl_program.specs.PackageTexts.{ArePackagesOf}
+use Rattle.wesl_program.specs.StoredTexts.{IsUnreadable}
 
 -- What is kept of a bundle: the values of its modules by their paths, of a path that stands twice the last; its packages; and
 -- its features.
@@ -38,7 +39,7 @@ pub record Kept (b : Bundle) : Type 0 where
 module _ (b : Bundle) (k : Kept b) where
   -- the unit at a path: in a named package that of its module, else that of the bundle's module there
   abbrev pub handed : Path → UnitOf Text → Type 0
-  handed p u = ByOrigin p (IsReadIn ReadsText k.packages p u) (IsHandedAt (k.units p) u)
+  handed p u = ByOrigin p (IsReadIn ReadsAs k.packages p u) (IsHandedAt (k.units p) u)
 
   -- no module is at the path, or it is no unit
   abbrev pub refused : Path → ResolveError → Type 0

@@ -1,17 +1,18 @@
 //! The modules of a bundle, as a resolver: the unit at a path is read only when it is asked for.
-ghost use Rattle.std.specs.Prelude.{◌≡◌, None, IfOk, IfErr, string_bytes};
+ghost use Rattle.std.specs.Prelude.{◌≡◌, ◌⊎◌, None, IfOk, IfErr, string_bytes};
+ghost use Rattle.wesl_names.specs.declared.errors.Error as error;
 ghost use Rattle.wesl_names.specs.Path.{path_view};
 ghost use Rattle.wesl_names.specs.Errors.{IsModuleNotFound, IsRefusedWith, OrMemory};
 ghost use Rattle.serde_json.specs.View.{view};
 ghost use Rattle.wesl_syntax.specs.Unit.{spelled};
 ghost use Rattle.wesl_tree.specs.Translation.{unit_view};
-ghost use Rattle.wesl_sources.specs.Reading.{IsRead, IsTreeFault};
+ghost use Rattle.wesl_json.specs.UnitTexts.{IsSpelled, IsTreeFault};
 ghost use Rattle.wesl_program.specs.Hands.{IsHandedAt, IsRefusedAt, IsSourceAt, unit_in, virtual_module};
 
 use crate::modules::Modules;
 use serde_json::Value;
 use std::alloc::Global;
-use wesl_profile::unit_of_value;
+use wesl_json::unit_of_value;
 use wesl_resolve::Resolver;
 use wesl_tree::{Diagnostic, Error, ModulePath, ResolveError, TranslationUnit};
 
@@ -86,11 +87,19 @@ fn unit_of_module(
 }
 
 // The unit that a value stands for.
+fn tree_of(alloc: Global, value: &Value) -> Result<TranslationUnit, Error>
+    ensures read { IfOk result (λ u. IsSpelled (view value.now) (spelled (unit_view u))) }
+    ensures refused { IfErr result (λ e. (e ≡ error.Memory) ⊎ IsTreeFault (view value.now) e) }
+{
+    unit_of_value(alloc, value)
+}
+
+// The same, its fault as that of a resolver.
 fn read_unit(alloc: Global, value: &Value) -> Result<TranslationUnit, ResolveError>
-    ensures read { IfOk result (λ u. IsRead (view value.now) (spelled (unit_view u))) }
+    ensures read { IfOk result (λ u. IsSpelled (view value.now) (spelled (unit_view u))) }
     ensures refused { IfErr result (OrMemory (IsRefusedWith (IsTreeFault (view value.now)))) }
 {
-    match unit_of_value(alloc, value) {
+    match tree_of(alloc, value) {
         Ok(unit) => Ok(unit),
         Err(Error::BadTree(place)) => Err(ResolveError::Error(Box::new(
             alloc,

@@ -1,16 +1,15 @@
 //! The bytes of a bundle as a value.
-ghost use Rattle.std.specs.Prelude.{◌≡◌, Some, IfOk, IfErr};
-ghost use Rattle.serde_json.specs.Read.{read};
+ghost use Rattle.std.specs.Prelude.{IfOk, IfErr};
 ghost use Rattle.serde_json.specs.View.{view};
-ghost use Rattle.wesl_program.specs.Line.{IsRefusal};
+ghost use Rattle.wesl_program.specs.Line.{IsJsonOf, IsRefusal};
 
 use serde_json::Value;
 use std::alloc::Global;
 use wesl_tree::Error;
 
-/// The value of JSON bytes. Refused where they are no JSON, and for want of memory.
+/// The value of bytes that are JSON in UTF-8. Refused where they are none, and for want of memory.
 pub fn value_of_bytes(alloc: Global, bytes: &[u8]) -> Result<Value, Error>
-    ensures value { IfOk result (λ v. read bytes.now ≡ Some (view v)) }
+    ensures value { IfOk result (λ v. IsJsonOf bytes.now (view v)) }
     ensures refused { IfErr result (IsRefusal bytes.now) }
 {
     match Value::from_slice(alloc, bytes) {

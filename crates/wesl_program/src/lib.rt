@@ -9,6 +9,7 @@ mod lines;
 mod linking;
 mod modules;
 mod packages;
+mod stored_text;
 mod streams;
 mod text_line;
 

@@ -20,6 +20,7 @@ ghost use Rattle.wesl_program.specs.Refused.{IsLinkFault};
 use crate::bundle_resolver::BundleResolver;
 use crate::modules::Modules;
 use crate::packages::package_of;
+use crate::stored_text::StoredText;
 use serde_json::Value;
 use std::alloc::{AllocError, Global};
 use wesl_bundle::{Bundle, BundleModule, Naming, Options, Package};
@@ -28,11 +29,10 @@ use wesl_json::value_of_unit;
 use wesl_link::Resolutions;
 use wesl_mangle::{EscapeMangler, NoMangler, UnicodeMangler};
 use wesl_resolve::StandardResolver;
-use wesl_sources::ProfileText;
 use wesl_tree::{Error, TranslationUnit};
 
 // The modules of a bundle, and its packages.
-type Sources<'b, 'v> = StandardResolver<BundleResolver<'b, 'v>, ProfileText>;
+type Sources<'b, 'v> = StandardResolver<BundleResolver<'b, 'v>, StoredText>;
 
 /// The value of the unit that is linked of a bundle's modules.
 pub fn linked(alloc: Global, bundle: Bundle) -> Result<Value, Error>
@@ -93,7 +93,7 @@ fn sources_of<'b, 'v>(
     ensures packages { IfOk result (λ s. ArePackagesOf (packages_view packages.entry.items) s.packages.packages.items) }
     ensures refused { IfErr result (λ e. e ≡ error.Memory) }
 {
-    let mut sources = StandardResolver::new(alloc, BundleResolver { modules }, ProfileText);
+    let mut sources = StandardResolver::new(alloc, BundleResolver { modules }, StoredText);
     for package in packages {
         sources.add_package(package_of(alloc, package)?)?;
     }

@@ -1,4 +1,0 @@
-pub mod Roles
-pub mod Vocabulary
-pub mod Places
-pub mod Units
