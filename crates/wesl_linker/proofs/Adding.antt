@@ -1,209 +1,210 @@
 -- One declaration of a module is added, or none.
-use Rattle.std.proofs.Common.{◌≡◌, ℕ, suc, ◌<◌, ◌+◌, true, false, Option, Some, None, List, [], ◌∷◌, ◌++◌, length, map, take, get_or, Contains, refl, sym, subst, ap, ◌∙◌}
+use Rattle.std.proofs.Common.{◌≡◌, ℕ, ◌<◌, ◌+◌, true, false, Option, Some, None, List, [], ◌∷◌, ◌++◌, length, map, take, drop, get_or, Contains, refl, sym, subst, ap, ◌∙◌, append_assoc}
 use Rattle.std.specs.Prelude.{slice_get, Vec}
 use Rattle.std.specs.declared.alloc.Global.{Global}
 use Rattle.std.proofs.lemmas.List.{map-append}
-use Rattle.std.proofs.lemmas.Option.{get_or_from_slice_get}
 use mathlib.Core.List.{map-map}
 use denote.Ref.{Bor}
 use Rattle.wesl_names.specs.Path.{Text, Path, path_view}
-use Rattle.wesl_names.specs.declared.names.Ident.{Ident}
-use Rattle.wesl_names.specs.declared.path.ModulePath.{ModulePath}
-use Rattle.wesl_syntax.specs.Tree.{TreeOf, end, before, forest_of, trees, identifiers, respell, declaration_node}
-use Rattle.wesl_syntax.specs.Unit.{UnitView, name_in, spelled}
-use Rattle.wesl_syntax.specs.View.{global_view, placed, declarations_tree}
+use Rattle.wesl_syntax.specs.Tree.{LabelOf, kind, at, ident, text, texts, truth, unary, binary, assignment, space, access, path, ForestOf, TreeOf, end, tree, before, trees, forest_of, respell, respell_forest, respell_label, declaration_node}
+use Rattle.wesl_syntax.specs.Unit.{UnitOf, name_in}
+use Rattle.wesl_syntax.specs.View.{global_view, placed as placed_tree, declarations_tree}
 use Rattle.wesl_syntax.specs.declared.span.Spanned.{Spanned}
 use Rattle.wesl_syntax.specs.declared.declaration.GlobalDeclaration.{GlobalDeclaration}
-use Rattle.wesl_syntax.specs.declared.declaration.GlobalDeclaration.TheVariants as globals
 use Rattle.wesl_tree.specs.Translation.{unit_view}
 use Rattle.wesl_world.specs.declared.ids.PathId.{PathId}
 use Rattle.wesl_world.specs.declared.ids.NameId.{NameId}
-use Rattle.wesl_world.specs.Tables.{Table}
+use Rattle.wesl_world.specs.Tables.{Declaration, Table}
+use Rattle.wesl_world.specs.Linking.{Linking}
 use Rattle.wesl_world.proofs.Lists.{map_contains}
-use Rattle.wesl_world.specs.declared.symbols.Import.{Import}
-use Rattle.wesl_table.specs.Imports.{first_label, below, all_imports, imports}
-use Rattle.wesl_table.specs.Walks.{import_view}
-use Rattle.wesl_table.specs.Tables.{declared_name, is_linked}
-use Rattle.wesl_table.specs.Laws.{UsesAreIdentifiers}
-use Rattle.wesl_table.specs.Uses.{Use, use_name, uses}
-use Rattle.wesl_table.specs.Spelling.{respell_use, respell_import, spelled_imports}
-use Rattle.wesl_table.specs.Numbering.{Numbering, NameAt, PathAt, AreRelated, IsNumbered}
+use Rattle.wesl_occurrences.specs.Occurrences.{occurrences}
+use Rattle.wesl_occurrences.specs.Pieces.{size, declarations_in, pieces}
+use Rattle.wesl_table.specs.Imports.{first_label, imports}
+use Rattle.wesl_table.specs.Marks.{IsMark}
+use Rattle.wesl_table.specs.Tables.{declaration_of, name_of, names_declared, uses}
+use Rattle.wesl_table.specs.Uses.{Use, use_of}
+use Rattle.wesl_table.specs.Numbering.{Numbering, NameAt, PathAt, AreRelated, IsRelatedOption, IsNumbered, SameDeclaration}
 use Rattle.wesl_table.specs.NumbersView.{numbering}
-use Rattle.wesl_table.proofs.Lists.{take_next}
-use Rattle.wesl_table.proofs.Declared.{uses_respelled, all_imports_respelled}
+use Rattle.wesl_table.specs.declared.marks.Mark.{Mark}
+use Rattle.wesl_table.proofs.Lists.{related_append}
+use Rattle.wesl_assembly.specs.Linked.{declaration_ref_tree}
 use Rattle.wesl_assembly.specs.Views.{Meaning, denotation_view}
-use Rattle.wesl_linker.specs.Linked.{IsHeld, IsHeldAs}
+use Rattle.wesl_assembly.specs.declared.denotation.Denotation.{Denotation}
+use Rattle.wesl_linker.specs.Linked.{Placed, placed, is_assert, IsHeldAs}
 use Rattle.wesl_linker.specs.Worlds.{table, tables}
+use Rattle.wesl_linker.specs.Tabled.{IsMarked}
 use Rattle.wesl_linker.specs.Keeping.{module_of, all_loaded, modules_in, task_in, IsLinkOf}
-use Rattle.wesl_linker.specs.Holding.{IsUsable, IsMeantBy, IsHeldHere, name_of, IsNumberedDeclaration, AddsOne, is_added, is_not_linked, is_not_held, Adds}
+use Rattle.wesl_linker.specs.Holding.{IsMeant, IsHeldHere, AddsOne, is_added, is_not_held, Adds}
 use Rattle.wesl_linker.specs.declared.loaded.Loaded.{Loaded}
 use Rattle.wesl_linker.specs.declared.link.Link.{Link}
 use Rattle.wesl_linker.specs.declared.assemble.Parts.{Parts}
 use Rattle.wesl_linker.proofs.Carried.{Covers}
-use Rattle.wesl_linker.proofs.Binders.{binds_own}
-use Rattle.wesl_linker.proofs.Each.{item_held}
-use Rattle.wesl_linker.proofs.Meant.{all_stand, each_named, as_many}
-use Rattle.wesl_linker.proofs.Parted.{adds_not, adds_one}
-use Rattle.wesl_linker.proofs.Usable.{trees_of, trees_respelled, linked_respelled, name_respelled, named_row, usable_row}
+use Rattle.wesl_linker.proofs.Lists.{item_held, read_at, take_at, map_at, paired_at, related_at, same_length, related_length, paired_length, cut_length, trees_of}
+use Rattle.wesl_linker.proofs.Meant.{meanings_told}
+use Rattle.wesl_linker.proofs.Parted.{shape_replaced, adds_not, adds_one}
 
 abbrev pub Node : Type 0
 Node = Spanned GlobalDeclaration
 
-abbrev pub spelled_node : Loaded → Node → TreeOf Text
-spelled_node m g = respell (name_in (unit_view m.unit).names) (placed global_view declaration_node g)
+-- the declaration, as it is spelled in the module
+abbrev pub spelled_in : Loaded → Node → TreeOf Text
+spelled_in m g = respell (name_in (unit_view m.unit).names) (placed_tree global_view declaration_node g)
 
--- the declarations of a module, as they are spelled
-pub all_trees : (m : Loaded) (gs : List Node) → (unit_view m.unit).declarations.children ≡ forest_of (map (placed global_view declaration_node) gs)
-    → trees (spelled (unit_view m.unit)).declarations.children ≡ map (respell (name_in (unit_view m.unit).names)) (map (placed global_view declaration_node) gs)
+-- ---- other names
+
+module _ {I J : Type 0} (f : I → J) where
+  assert_label : (l : LabelOf I) → is_assert (respell_label f l) ≡ is_assert l
+  assert_label (kind k) = refl
+  assert_label (at k s e) = refl
+  assert_label (ident r i) = refl
+  assert_label (text x) = refl
+  assert_label (texts x) = refl
+  assert_label (truth x) = refl
+  assert_label (unary x) = refl
+  assert_label (binary x) = refl
+  assert_label (assignment x) = refl
+  assert_label (space x) = refl
+  assert_label (access x) = refl
+  assert_label (path x) = refl
+
+  assert_respelled : (g : ForestOf I) → first_label false is_assert (respell_forest f g) ≡ first_label false is_assert g
+  assert_respelled end = refl
+  assert_respelled (tree l children others) = assert_label l
+
+  trees_respelled : (g : ForestOf I) → trees (respell_forest f g) ≡ map (respell f) (trees g)
+  trees_respelled end = refl
+  trees_respelled (tree l children others) = ap (λ ts. record { label = respell_label f l; children = respell_forest f children } ∷ ts) (trees_respelled others)
+
+-- ---- the declarations of a module
+
+abbrev pub HasNodes : Loaded → List Node → Type 0
+HasNodes m gs = (unit_view m.unit).declarations.children ≡ forest_of (map (placed_tree global_view declaration_node) gs)
+
+pub declarations_are : (m : Loaded) (v : Vec Node Global) (gs : List Node) → declarations_tree v ≡ (unit_view m.unit).declarations → gs ≡ v.items → HasNodes m gs
+declarations_are m v gs e g = sym (ap (λ (t : TreeOf ℕ). t.children) e) ∙ ap (λ xs. forest_of (map (placed_tree global_view declaration_node) xs)) (sym g)
+
+all_trees : (m : Loaded) (gs : List Node) → HasNodes m gs → declarations_in (module_of m).unit ≡ map (spelled_in m) gs
 all_trees m gs e =
+    let apart : map (spelled_in m) gs ≡ map (respell (name_in (unit_view m.unit).names)) (map (placed_tree global_view declaration_node) gs) = simp map-map in
     trees_respelled (name_in (unit_view m.unit).names) (unit_view m.unit).declarations.children
-    ∙ ap (map (respell (name_in (unit_view m.unit).names))) (ap trees e ∙ trees_of (map (placed global_view declaration_node) gs))
+    ∙ (ap (map (respell (name_in (unit_view m.unit).names))) (ap trees e ∙ trees_of (map (placed_tree global_view declaration_node) gs)) ∙ sym apart)
 
--- of linked kinds no label is an identifier
-many_identifiers : (law : UsesAreIdentifiers) (g : Node) → first_label false is_linked (before (global_view g.node) end) ≡ true → length (uses (global_view g.node).children) ≡ length (identifiers (before (placed global_view declaration_node g) end))
-many_identifiers law g linked = same_length (uses (global_view g.node).children) ∙ (ap length (law (global_view g.node).children) ∙ by g.node linked)
-  where
-    same_length : (us : List (Use ℕ)) → length us ≡ length (map use_name us)
-    same_length [] = refl
-    same_length (u ∷ us) = ap suc (same_length us)
+uses_length : (own : Path) (u : UnitOf Text) → length (uses own u) ≡ length (declarations_in u)
+uses_length own u =
+    same_length (map (use_of own (names_declared u) (imports own u) (occurrences u))) (pieces u) ∙ cut_length (declarations_in u) (drop (size u.directives) (drop (size u.imports) (occurrences u)))
 
-    more : (xs : List ℕ) → length xs ≡ length ((xs ++ []) ++ [])
-    more [] = refl
-    more (x ∷ xs) = ap suc (more xs)
+-- what stands at a place of a module's declarations, with its row in the table and its marks
+pub record OneAt (nb : Numbering) (m : Loaded) (i : ℕ) (g : Node) (row : Declaration PathId NameId) (ms : List Mark) : Type 0 where
+  pub uses : List (Use Path Text)
+  pub stands : slice_get (placed (module_of m)) i ≡ Some (record { home = module_of m; declaration = spelled_in m g; uses = uses })
+  pub same : SameDeclaration (PathAt nb) (NameAt nb) row (declaration_of (spelled_in m g) uses)
+  pub marked : AreRelated (IsMark nb) ms uses
 
-    by : (d : GlobalDeclaration) → first_label false is_linked (before (global_view d) end) ≡ true → length (identifiers (global_view d).children) ≡ length (identifiers (before (global_view d) end) ++ [])
-    by (globals.Declaration d) h = more (identifiers (global_view (globals.Declaration d)).children)
-    by (globals.TypeAlias a) h = more (identifiers (global_view (globals.TypeAlias a)).children)
-    by (globals.ConstAssert a) h = more (identifiers (global_view (globals.ConstAssert a)).children)
-    by (globals.Struct s) h = absurd (let x : ⊥ = cc in x)
-    by (globals.Function f) h = absurd (let x : ⊥ = cc in x)
-    by globals.Void h = absurd (let x : ⊥ = cc in x)
+module _ (nb : Numbering) (m : Loaded) (t : Table PathId NameId) (same : IsNumbered nb t (table (module_of m))) (marked : IsMarked nb m) (gs : List Node) (all : HasNodes m gs) where
+  abbrev own : Path
+  own = (module_of m).path
+
+  abbrev unit : UnitOf Text
+  unit = (module_of m).unit
+
+  trees_many : length (declarations_in unit) ≡ length gs
+  trees_many = ap length (all_trees m gs all) ∙ same_length (spelled_in m) gs
+
+  -- as many rows, and as many marks
+  pub rows_many : length t.declarations ≡ length gs
+  rows_many =
+      sym (related_length (SameDeclaration (PathAt nb) (NameAt nb)) t.declarations (table (module_of m)).declarations same.declarations)
+      ∙ (paired_length declaration_of (declarations_in unit) (uses own unit) (uses_length own unit) ∙ trees_many)
+
+  pub marks_many : length m.marks.items ≡ length gs
+  marks_many = sym (related_length (λ (v : Vec Mark Global) us. AreRelated (IsMark nb) v.items us) m.marks.items (uses own unit) marked) ∙ (uses_length own unit ∙ trees_many)
+
+  pub placed_many : length (placed (module_of m)) ≡ length gs
+  placed_many = paired_length (λ x vs. record { home = module_of m; declaration = x; uses = vs }) (declarations_in unit) (uses own unit) (uses_length own unit) ∙ trees_many
+
+  pub one_at : (i : ℕ) (g : Node) (row : Declaration PathId NameId) (ms : Vec Mark Global) → slice_get gs i ≡ Some g → slice_get t.declarations i ≡ Some row → slice_get m.marks.items i ≡ Some ms → OneAt nb m i g row ms.items
+  one_at i g row ms g_at row_at ms_at =
+      let (us, us_at, is_marked) = related_at (λ (v : Vec Mark Global) us. AreRelated (IsMark nb) v.items us) m.marks.items (uses own unit) marked i ms ms_at in
+      let tree_at : slice_get (declarations_in unit) i ≡ Some (spelled_in m g) = ap (λ ts. slice_get ts i) (all_trees m gs all) ∙ map_at (spelled_in m) gs i g g_at in
+      let (d, d_at, is_d) = related_at (SameDeclaration (PathAt nb) (NameAt nb)) t.declarations (table (module_of m)).declarations same.declarations i row row_at in
+      let both : Some d ≡ Some (declaration_of (spelled_in m g) us) = sym d_at ∙ paired_at declaration_of (declarations_in unit) (uses own unit) i (spelled_in m g) us tree_at us_at in
+      let is : d ≡ declaration_of (spelled_in m g) us = cc in
+      record {
+        uses = us;
+        stands = paired_at (λ x vs. record { home = module_of m; declaration = x; uses = vs }) (declarations_in unit) (uses own unit) i (spelled_in m g) us tree_at us_at;
+        same = subst (λ (e : Declaration Path Text). SameDeclaration (PathAt nb) (NameAt nb) row e) is is_d;
+        marked = is_marked;
+      }
+
+  -- the same, of what the code reads there
+  pub told_at : (i : ℕ) (g : Node) (rows : List (Declaration PathId NameId)) (row : Declaration PathId NameId) (v : Vec Mark Global) (ms : List Mark) → i < length gs → rows ≡ t.declarations
+      → g ≡ get_or gs i g → row ≡ get_or rows i row → v ≡ get_or m.marks.items i v → ms ≡ v.items → OneAt nb m i g row ms
+  told_at i g rows row v ms b rows_are g_is row_is v_is ms_are =
+      let row_at : slice_get t.declarations i ≡ Some row = ap (λ ds. slice_get ds i) (sym rows_are) ∙ read_at rows i row (subst (λ n. i < n) (sym (ap length rows_are ∙ rows_many)) b) row_is in
+      let v_at : slice_get m.marks.items i ≡ Some v = read_at m.marks.items i v (subst (λ n. i < n) (sym marks_many) b) v_is in
+      subst (λ (ns : List Mark). OneAt nb m i g row ns) (sym ms_are) (one_at i g row v (read_at gs i g b g_is) row_at v_at)
+
+  pub row_held : (i : ℕ) (rows : List (Declaration PathId NameId)) (row : Declaration PathId NameId) → i < length gs → rows ≡ t.declarations → row ≡ get_or rows i row → Contains t.declarations row
+  row_held i rows row b rows_are row_is = subst (λ (ds : List (Declaration PathId NameId)). Contains ds row) rows_are (item_held rows i row (subst (λ n. i < n) (sym (ap length rows_are ∙ rows_many)) b) row_is)
+
+-- ---- one declaration
 
 module _ (l : Link) (sound : IsLinkOf (task_in l) l) where
-  abbrev nb : Numbering
-  nb = numbering l.numbers
-
-  pub covers : Covers (PathAt (numbering l.numbers)) (NameAt (numbering l.numbers)) l.linked.tables (tables (modules_in l))
+  covers : Covers (PathAt (numbering l.numbers)) (NameAt (numbering l.numbers)) l.linked.tables (tables (modules_in l))
   covers = record {
     covered = λ t c.
         let (m, d, f) = sound.covered t c in
         (table (module_of m), map_contains table (modules_in l) (module_of m) (map_contains module_of (all_loaded l) m d), f);
   }
 
-  module _ (m : Loaded) (t : Table PathId NameId) (same : IsNumbered (numbering l.numbers) t (table (module_of m))) (gs : List Node) (all : (unit_view m.unit).declarations.children ≡ forest_of (map (placed global_view declaration_node) gs)) where
-    in_trees : (g : Node) → Contains gs g → Contains (trees (spelled (unit_view m.unit)).declarations.children) (spelled_node m g)
-    in_trees g c =
-        subst (λ (ts : List (TreeOf Text)). Contains ts (spelled_node m g)) (sym (all_trees m gs all))
-        (map_contains (respell (name_in (unit_view m.unit).names)) (map (placed global_view declaration_node) gs) (placed global_view declaration_node g) (map_contains (placed global_view declaration_node) gs g c))
+  module _ (m : Loaded) (t : Table PathId NameId) (same : IsNumbered (numbering l.numbers) t (table (module_of m))) (p q r : Parts) (i : ℕ) (g : Bor Node) (row : Declaration PathId NameId) (ms : List Mark)
+      (one : OneAt (numbering l.numbers) m i g.now row ms) where
+    abbrev d : Placed
+    d = record { home = module_of m; declaration = spelled_in m g.now; uses = one.uses }
 
-    linked_text : (g : Node) → first_label false is_linked (before (global_view g.node) end) ≡ true → first_label false is_linked (spelled_node m g).children ≡ true
-    linked_text g linked = linked_respelled (name_in (unit_view m.unit).names) (before (global_view g.node) end) ∙ linked
+    abbrev f : ℕ → Text
+    f = name_in (unit_view m.unit).names
 
-    its_name : (g : Node) → declared_name (respell (name_in (unit_view m.unit).names) (global_view g.node)).children ≡ name_of (unit_view m.unit).names g.node
-    its_name g = name_respelled (name_in (unit_view m.unit).names) (global_view g.node).children
+    -- what is held in numbers is held in texts, and the other way round
+    held_text : (o : Option NameId) (x : Option Text) → IsRelatedOption (NameAt (numbering l.numbers)) o x → IsHeldHere l.linked t.path g.now.node o → IsHeldAs (tables (modules_in l)) (task_in l) d x
+    held_text None None h e = assert_respelled f (before (global_view g.now.node) end) ∙ e
+    held_text (Some n) (Some x) h c = (sound.reached (record { path = t.path; name = n }) (record { path = path_view m.path; name = x }) same.path h).0 c
+    held_text None (Some x) h e = absurd h
+    held_text (Some n) None h e = absurd h
 
-    -- the name of a linked declaration has a number
-    pub name_numbered : (g : Node) → Contains gs g → first_label false is_linked (before (global_view g.node) end) ≡ true → (x : Text) → name_of (unit_view m.unit).names g.node ≡ Some x
-        → (n : NameId) × NameAt (numbering l.numbers) n x
-    name_numbered g c linked x e =
-        let (n, at, d) = named_row (numbering l.numbers) l.numbers.names.different l.linked t (table (module_of m)).path (table (module_of m)).imports (spelled (unit_view m.unit)).declarations.children same.declarations (spelled_node m g) (in_trees g c) (linked_text g linked) x (its_name g ∙ e) in
-        (n, at)
+    held_number : (o : Option NameId) (x : Option Text) → IsRelatedOption (NameAt (numbering l.numbers)) o x → IsHeldAs (tables (modules_in l)) (task_in l) d x → IsHeldHere l.linked t.path g.now.node o
+    held_number None None h e = sym (assert_respelled f (before (global_view g.now.node) end)) ∙ e
+    held_number (Some n) (Some x) h c = (sound.reached (record { path = t.path; name = n }) (record { path = path_view m.path; name = x }) same.path h).1 c
+    held_number None (Some x) h e = absurd h
+    held_number (Some n) None h e = absurd h
 
-    -- what it uses is in its row
-    pub all_usable : (g : Node) → Contains gs g → first_label false is_linked (before (global_view g.node) end) ≡ true
-        → IsHeldHere (numbering l.numbers) l.linked t.path (name_of (unit_view m.unit).names g.node)
-        → (u : Use Text) → Contains (map (respell_use (name_in (unit_view m.unit).names)) (uses (global_view g.node).children)) u → IsUsable (numbering l.numbers) l.linked t (table (module_of m)).path (table (module_of m)).imports u
-    all_usable g c linked held =
-        usable_row (numbering l.numbers) l.numbers.names.different l.linked t (table (module_of m)).path (table (module_of m)).imports (spelled (unit_view m.unit)).declarations.children same.declarations
-        (name_in (unit_view m.unit).names) (global_view g.node).children (binds_own g.node linked) (spelled_node m g) refl (in_trees g c) (linked_text g linked) (subst (λ (o : Option Text). IsHeldHere (numbering l.numbers) l.linked t.path o) (sym (its_name g)) held)
+    abbrev done : List Placed
+    done = take i (placed (module_of m))
 
-    -- what is held in numbers is held in texts
-    held_text : (o : Option Text) → IsHeldHere (numbering l.numbers) l.linked t.path o → IsHeldAs (tables (modules_in l)) (task_in l) (path_view m.path) o
-    held_text None h = tt
-    held_text (Some x) (n, at, c) = (sound.reached (record { path = t.path; name = n }) (record { path = path_view m.path; name = x }) same.path at).0 c
+    next : take (i + 1) (placed (module_of m)) ≡ done ++ d ∷ []
+    next = take_at (placed (module_of m)) i d one.stands
 
-    held_number : (o : Option Text) → ((x : Text) → o ≡ Some x → (n : NameId) × NameAt (numbering l.numbers) n x) → IsHeldAs (tables (modules_in l)) (task_in l) (path_view m.path) o → IsHeldHere (numbering l.numbers) l.linked t.path o
-    held_number None named h = tt
-    held_number (Some x) named r = let (n, at) = named x refl in (n, at, (sound.reached (record { path = t.path; name = n }) (record { path = path_view m.path; name = x }) same.path at).1 r)
+    pub adds_next : Adds l (take i (placed (module_of m))) p q → AddsOne (numbering l.numbers) l.linked t g row.name ms q r → Adds l (take (i + 1) (placed (module_of m))) p r
+    adds_next s (is_added ds here decls denots meant) =
+        let (told, named) = meanings_told (numbering l.numbers) l.numbers.paths.different l.numbers.names.different l.linked (modules_in l) covers t (path_view m.path) same.path ms one.uses ds one.marked meant in
+        subst (λ (all : List Placed). Adds l all p r) (sym next)
+        (adds_one l done p q d s r g ds (held_text row.name (name_of (spelled_in m g.now)) one.same.name here) (sym (shape_replaced f (before (declaration_ref_tree g) end))) decls denots told named)
+    adds_next s (is_not_held out e) =
+        subst (λ (all : List Placed). Adds l all p r) (sym next)
+        (subst (λ (x : Parts). Adds l (done ++ d ∷ []) p x) (sym e) (adds_not l done p q d s (λ h. out (held_number row.name (name_of (spelled_in m g.now)) one.same.name h))))
 
-    pub is_held_text : (g : Node) → first_label false is_linked (before (global_view g.node) end) ≡ true → IsHeldHere (numbering l.numbers) l.linked t.path (name_of (unit_view m.unit).names g.node)
-        → IsHeld (tables (modules_in l)) (task_in l) (path_view m.path) (spelled_node m g)
-    is_held_text g linked h = (linked_text g linked, subst (λ (o : Option Text). IsHeldAs (tables (modules_in l)) (task_in l) (path_view m.path) o) (sym (its_name g)) (held_text (name_of (unit_view m.unit).names g.node) h))
+-- ---- one identifier
 
-    pub is_held_number : (g : Node) → Contains gs g → IsHeld (tables (modules_in l)) (task_in l) (path_view m.path) (spelled_node m g)
-        → (first_label false is_linked (before (global_view g.node) end) ≡ true) × IsHeldHere (numbering l.numbers) l.linked t.path (name_of (unit_view m.unit).names g.node)
-    is_held_number g c (linked, h) =
-        let here : first_label false is_linked (before (global_view g.node) end) ≡ true = sym (linked_respelled (name_in (unit_view m.unit).names) (before (global_view g.node) end)) ∙ linked in
-        (here, held_number (name_of (unit_view m.unit).names g.node) (name_numbered g c here) (subst (λ (o : Option Text). IsHeldAs (tables (modules_in l)) (task_in l) (path_view m.path) o) (its_name g) h))
+module _ (nb : Numbering) (k : Linking PathId NameId) (t : Table PathId NameId) where
+  -- after these the meanings of what has the marks
+  abbrev pub AllMeant : List Denotation → List Mark → List Denotation → Type 0
+  AllMeant before ms after = (ds : List Meaning) × (map denotation_view after ≡ map denotation_view before ++ ds) × AreRelated (IsMeant nb k t) ms ds
 
-    -- a held declaration is added
-    pub adds_held : (law : UsesAreIdentifiers) (done : List (TreeOf Text)) (p q r : Parts) (n : Bor Node) (ds : List Meaning) → Adds l m done p q → first_label false is_linked (before (global_view n.now.node) end) ≡ true
-        → IsHeldHere (numbering l.numbers) l.linked t.path (name_of (unit_view m.unit).names n.now.node)
-        → r.declarations.items ≡ q.declarations.items ++ n ∷ [] → map denotation_view r.denotations.items ≡ map denotation_view q.denotations.items ++ ds
-        → AreRelated (IsMeantBy (numbering l.numbers) l.linked t (table (module_of m)).path (table (module_of m)).imports) (map (respell_use (name_in (unit_view m.unit).names)) (uses (global_view n.now.node).children)) ds
-        → Adds l m (done ++ spelled_node m n.now ∷ []) p r
-    adds_held law done p q r n ds s linked held decls denots meant =
-        let f = name_in (unit_view m.unit).names in
-        let fields = (global_view n.now.node).children in
-        let meant_uses : AreRelated (IsMeantBy (numbering l.numbers) l.linked t (table (module_of m)).path (table (module_of m)).imports) (uses (below (spelled_node m n.now).children)) ds =
-        subst (λ (us : List (Use Text)). AreRelated (IsMeantBy (numbering l.numbers) l.linked t (table (module_of m)).path (table (module_of m)).imports) us ds) (sym (uses_respelled f false None fields)) meant in
-        adds_one l m done p q (spelled_node m n.now) s r n ds refl (is_held_text n.now linked held) decls denots
-        (all_stand (numbering l.numbers) l.numbers.paths.different l.numbers.names.different l.linked (modules_in l) covers t (module_of m) same (uses (below (spelled_node m n.now).children)) ds meant_uses)
-        (each_named (numbering l.numbers) l.numbers.paths.different l.numbers.names.different l.linked (modules_in l) covers t (module_of m) same (uses (below (spelled_node m n.now).children)) ds meant_uses)
-        (as_many (IsMeantBy (numbering l.numbers) l.linked t (table (module_of m)).path (table (module_of m)).imports) (uses (below (spelled_node m n.now).children)) ds meant_uses
-        ∙ (ap length (uses_respelled f false None fields) ∙ (mapped_length (uses fields) ∙ many_identifiers law n.now linked)))
-      where
-        mapped_length : (us : List (Use ℕ)) → length (map (respell_use (name_in (unit_view m.unit).names)) us) ≡ length us
-        mapped_length [] = refl
-        mapped_length (u ∷ us) = ap suc (mapped_length us)
-
-    -- so it is for each declaration of the module
-    pub numbered_declaration : (g : Node) → Contains gs g → IsNumberedDeclaration (numbering l.numbers) l.linked t (table (module_of m)).path (table (module_of m)).imports (unit_view m.unit).names g.node
-    numbered_declaration g c = record { named = λ linked. name_numbered g c linked; usable = λ linked h. all_usable g c linked h }
-
-    pub adds_next : (law : UsesAreIdentifiers) (done : List (TreeOf Text)) (p q r : Parts) (n : Bor Node) → Contains gs n.now → Adds l m done p q
-        → AddsOne (numbering l.numbers) l.linked t (table (module_of m)).path (table (module_of m)).imports (unit_view m.unit).names n q r → Adds l m (done ++ spelled_node m n.now ∷ []) p r
-    adds_next law done p q r n c s (is_added ds linked here decls denots meant) = adds_held law done p q r n ds s linked here decls denots meant
-    adds_next law done p q r n c s (is_not_linked out e) =
-        subst (λ (x : Parts). Adds l m (done ++ spelled_node m n.now ∷ []) p x) (sym e) (adds_not l m done p q (spelled_node m n.now) s (λ h. out (is_held_number n.now c h).0))
-    adds_next law done p q r n c s (is_not_held out e) =
-        subst (λ (x : Parts). Adds l m (done ++ spelled_node m n.now ∷ []) p x) (sym e) (adds_not l m done p q (spelled_node m n.now) s (λ h. out (is_held_number n.now c h).1))
-
--- ---- the code's values
-
-pub is_there : {X : Type 0} (xs : List X) (i : ℕ) (t x : X) → slice_get xs i ≡ Some t → x ≡ get_or xs i x → x ≡ t
-is_there xs i t x at e = e ∙ get_or_from_slice_get xs i t x at
-
-imports_text : (own : Path) (u : UnitView) (is : List (Import ModulePath Ident)) → map import_view is ≡ all_imports own u.imports.children → spelled_imports u.names is ≡ imports own (spelled u)
-imports_text own u is e =
-    let f : ℕ → Text = name_in u.names in
-    let apart : spelled_imports u.names is ≡ map (respell_import f) (map import_view is) = simp map-map in
-    apart ∙ (ap (map (respell_import f)) e ∙ sym (all_imports_respelled f own u.imports.children))
-
-pub imports_told : (m : Loaded) (names : List Text) (is js : List (Import ModulePath Ident)) (statements : TreeOf ℕ) → names ≡ (unit_view m.unit).names → js ≡ is → statements ≡ (unit_view m.unit).imports
-    → map import_view is ≡ all_imports (path_view m.path) statements.children → spelled_imports names js ≡ (table (module_of m)).imports
-imports_told m names is js statements n j s e =
-    ap (λ ns. spelled_imports ns js) n ∙ (ap (spelled_imports (unit_view m.unit).names) j ∙ imports_text (path_view m.path) (unit_view m.unit) is (e ∙ ap (λ (t : TreeOf ℕ). all_imports (path_view m.path) t.children) s))
-
--- the children of the declarations' tree
-pub declarations_are : (m : Loaded) (v : Vec Node Global) (gs : List Node) → declarations_tree v ≡ (unit_view m.unit).declarations → gs ≡ v.items → (unit_view m.unit).declarations.children ≡ forest_of (map (placed global_view declaration_node) gs)
-declarations_are m v gs e g = sym (ap (λ (t : TreeOf ℕ). t.children) e) ∙ ap (λ xs. forest_of (map (placed global_view declaration_node) xs)) (sym g)
-
-pub next_trees : (m : Loaded) (gs : List Node) (i : ℕ) (g : Node) → i < length gs → g ≡ get_or gs i g
-    → map (respell (name_in (unit_view m.unit).names)) (map (placed global_view declaration_node) (take (i + 1) gs)) ≡ map (respell (name_in (unit_view m.unit).names)) (map (placed global_view declaration_node) (take i gs)) ++ spelled_node m g ∷ []
-next_trees m gs i g b e =
-    ap (λ xs. map (respell (name_in (unit_view m.unit).names)) (map (placed global_view declaration_node) xs)) (take_next gs i g b e)
-    ∙ (ap (map (respell (name_in (unit_view m.unit).names))) (map-append (placed global_view declaration_node) (take i gs) (g ∷ []))
-    ∙ map-append (respell (name_in (unit_view m.unit).names)) (map (placed global_view declaration_node) (take i gs)) (placed global_view declaration_node g ∷ []))
-
--- the same, of what the code has
-pub adds_next_told : (l : Link) (sound : IsLinkOf (task_in l) l) (m : Loaded) (t : Table PathId NameId) (same : IsNumbered (numbering l.numbers) t (table (module_of m))) (gs : List Node) (all : (unit_view m.unit).declarations.children ≡ forest_of (map (placed global_view declaration_node) gs))
-    (law : UsesAreIdentifiers) (p q r : Parts) (i : ℕ) (n : Bor Node) (names : List Text) (is : List (Import Path Text)) → i < length gs → n.now ≡ get_or gs i n.now → names ≡ (unit_view m.unit).names → is ≡ (table (module_of m)).imports
-    → Adds l m (map (respell (name_in (unit_view m.unit).names)) (map (placed global_view declaration_node) (take i gs))) p q → AddsOne (numbering l.numbers) l.linked t (path_view m.path) is names n q r
-    → Adds l m (map (respell (name_in (unit_view m.unit).names)) (map (placed global_view declaration_node) (take (i + 1) gs))) p r
-adds_next_told l sound m t same gs all law p q r i n names is b e names_are imports_are s added =
-    let told : AddsOne (numbering l.numbers) l.linked t (path_view m.path) (table (module_of m)).imports (unit_view m.unit).names n q r =
-    subst (λ (js : List (Import Path Text)). AddsOne (numbering l.numbers) l.linked t (path_view m.path) js (unit_view m.unit).names n q r) imports_are
-    (subst (λ (ns : List Text). AddsOne (numbering l.numbers) l.linked t (path_view m.path) is ns n q r) names_are added) in
-    subst (λ (ts : List (TreeOf Text)). Adds l m ts p r) (sym (next_trees m gs i n.now b e))
-    (adds_next l sound m t same gs all law (map (respell (name_in (unit_view m.unit).names)) (map (placed global_view declaration_node) (take i gs))) p q r n (item_held gs i n.now b e) s told)
+  pub meant_more : (ms : List Mark) (i : ℕ) (m : Mark) (before old new : List Denotation) (d : Denotation) → slice_get ms i ≡ Some m → AllMeant before (take i ms) old → new ≡ old ++ d ∷ [] → IsMeant nb k t m (denotation_view d)
+      → AllMeant before (take (i + 1) ms) new
+  meant_more ms i m before old new d at_i (ds, same, all) pushed here = (
+    ds ++ denotation_view d ∷ [],
+    ap (map denotation_view) pushed ∙ (map-append denotation_view old (d ∷ []) ∙ (ap (λ xs. xs ++ denotation_view d ∷ []) same ∙ append_assoc (map denotation_view before) ds (denotation_view d ∷ []))),
+    subst (λ (ns : List Mark). AreRelated (IsMeant nb k t) ns (ds ++ denotation_view d ∷ [])) (sym (take_at ms i m at_i))
+        (related_append (IsMeant nb k t) (IsMeant nb k t) (λ x y h. h) (take i ms) (m ∷ []) ds (denotation_view d ∷ []) all (here, tt)),
+  )

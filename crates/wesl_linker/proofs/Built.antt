@@ -5,7 +5,6 @@ use Rattle.std.proofs.lemmas.Option.{slice_get_within, get_or_from_slice_get}
 use Rattle.wesl_names.specs.Path.{Text, Path, is_relative}
 use Rattle.wesl_syntax.specs.Unit.{UnitOf, spelled}
 use Rattle.wesl_tree.specs.Translation.{unit_view}
-use Rattle.wesl_tree.specs.declared.unit.TranslationUnit.{TranslationUnit}
 use Rattle.wesl_world.specs.declared.ids.PathId.{PathId}
 use Rattle.wesl_world.specs.declared.ids.NameId.{NameId}
 use Rattle.wesl_world.specs.declared.symbols.Symbol.{Symbol}
@@ -19,6 +18,7 @@ use Rattle.wesl_world.proofs.Lists.{contains_later, contains_first, contains_map
 use Rattle.wesl_table.specs.Numbering.{AreRelated, SameTable, Numbering, NameAt, PathAt, AreDifferent}
 use Rattle.wesl_linker.specs.Handing.{HaveOne, IsHandedTable}
 use Rattle.wesl_linker.specs.Worlds.{Module, table, tables, IsWorld, task_of, IsLinked}
+use Rattle.wesl_linker.specs.declared.loaded.Held.{Held}
 use Rattle.wesl_linker.proofs.Carried.{Back, IsOneToOne, one_back, related_in, related_back, table_back, SameSymbol, SameTask, Covers, SameFault, stands_to, entered_to, reached_to}
 
 module _ (nb : Numbering) where
@@ -41,12 +41,12 @@ module _ (nb : Numbering) where
   path_asked all p q at =
       subst (λ (x : Path). is_relative x ≡ false) (get_or_from_slice_get nb.paths p.0 q q at) (all p.0 q (slice_get_within nb.paths p.0 q at))
 
-  module _ (hands : Path → UnitOf Text → Type 0) (units : List (PathId × TranslationUnit)) (one : HaveOne units) (rt : Table PathId NameId) (rm : Module) (root_same : SameTable R S rt (table rm))
+  module _ (hands : Path → UnitOf Text → Type 0) (units : List (PathId × Held)) (one : HaveOne units) (rt : Table PathId NameId) (rm : Module) (root_same : SameTable R S rt (table rm))
       (different_paths : AreDifferent nb.paths) (different_names : AreDifferent nb.names) (asked : All (λ p. is_relative p ≡ false) nb.paths) where
     -- a module whose table it is
     pub record ModuleFor (t : Table PathId NameId) (m : Module) : Type 0 where
       pub same : SameTable R S t (table m)
-      pub whence : ((t ≡ rt) × (m ≡ rm)) ⊎ ((t.path ≡ rt.path → ⊥) × hands m.path m.unit × ((unit : TranslationUnit) × Contains units (t.path, unit) × (m.unit ≡ spelled (unit_view unit))))
+      pub whence : ((t ≡ rt) × (m ≡ rm)) ⊎ ((t.path ≡ rt.path → ⊥) × hands m.path m.unit × ((unit : Held) × Contains units (t.path, unit) × (m.unit ≡ spelled (unit_view unit.unit))))
 
     module _ (w : List (Table PathId NameId)) (is_world : world.IsWorld (IsHandedTable hands nb units) rt w) where
       module_for : (t : Table PathId NameId) → Contains w t → (m : Module) × ModuleFor t m
@@ -55,7 +55,7 @@ module _ (nb : Numbering) where
           other : (t.path ≡ rt.path → ⊥) → (t ≡ rt) ⊎ IsHandedTable hands nb units t.path t → (m : Module) × ModuleFor t m
           other differ (inl e) = absurd (differ (ap (λ (x : Table PathId NameId). x.path) e))
           other differ (inr (q, unit, at, kept, given, numbered)) =
-              (record { path = q; unit = spelled (unit_view unit) }, record { same = numbered; whence = inr (differ, given, (unit, kept, refl)) })
+              (record { path = q; unit = spelled (unit_view unit.unit) }, record { same = numbered; whence = inr (differ, given, (unit, kept, refl)) })
 
           by : (b : Bool) → (t.path.0 == rt.path.0) ≡ b → (m : Module) × ModuleFor t m
           by true e =
@@ -98,14 +98,14 @@ module _ (nb : Numbering) where
             at : t.path ≡ u.path
             at = same_path t u m n f g e
 
-            by : ((t ≡ rt) × (m ≡ rm)) ⊎ ((t.path ≡ rt.path → ⊥) × hands m.path m.unit × ((unit : TranslationUnit) × Contains units (t.path, unit) × (m.unit ≡ spelled (unit_view unit))))
-                → ((u ≡ rt) × (n ≡ rm)) ⊎ ((u.path ≡ rt.path → ⊥) × hands n.path n.unit × ((unit : TranslationUnit) × Contains units (u.path, unit) × (n.unit ≡ spelled (unit_view unit)))) → m ≡ n
+            by : ((t ≡ rt) × (m ≡ rm)) ⊎ ((t.path ≡ rt.path → ⊥) × hands m.path m.unit × ((unit : Held) × Contains units (t.path, unit) × (m.unit ≡ spelled (unit_view unit.unit))))
+                → ((u ≡ rt) × (n ≡ rm)) ⊎ ((u.path ≡ rt.path → ⊥) × hands n.path n.unit × ((unit : Held) × Contains units (u.path, unit) × (n.unit ≡ spelled (unit_view unit.unit)))) → m ≡ n
             by (inl (a, b)) (inl (c, d)) = b ∙ sym d
             by (inl (a, b)) (inr (differ, given, rest)) = absurd (differ (sym at ∙ ap (λ (x : Table PathId NameId). x.path) a))
             by (inr (differ, given, rest)) (inl (c, d)) = absurd (differ (at ∙ ap (λ (x : Table PathId NameId). x.path) c))
             by (inr (differ, given, (x, kept, is))) (inr (differ2, given2, (y, kept2, is2))) =
                 let same : x ≡ y = one u.path x y (subst (λ (p : PathId). Contains units (p, x)) at kept) kept2 in
-                let unit : m.unit ≡ n.unit = is ∙ (ap (λ (z : TranslationUnit). spelled (unit_view z)) same ∙ sym is2) in
+                let unit : m.unit ≡ n.unit = is ∙ (ap (λ (z : Held). spelled (unit_view z.unit)) same ∙ sym is2) in
                 ap (λ (q : Path). record { path = q; unit = m.unit }) e ∙ ap (λ (z : UnitOf Text). record { path = n.path; unit = z }) unit
 
         pub unit_world : IsWorld hands rm ms
@@ -116,11 +116,11 @@ module _ (nb : Numbering) where
           no_relative = λ m c is. let (t, held, f) = from_module m c in true≢false (sym is ∙ path_asked asked t.path m.path f.same.path);
         }
           where
-            by_root : (m : Module) → Contains ms m → ((rt ≡ rt) × (m ≡ rm)) ⊎ ((rt.path ≡ rt.path → ⊥) × hands m.path m.unit × ((unit : TranslationUnit) × Contains units (rt.path, unit) × (m.unit ≡ spelled (unit_view unit)))) → Contains ms rm
+            by_root : (m : Module) → Contains ms m → ((rt ≡ rt) × (m ≡ rm)) ⊎ ((rt.path ≡ rt.path → ⊥) × hands m.path m.unit × ((unit : Held) × Contains units (rt.path, unit) × (m.unit ≡ spelled (unit_view unit.unit)))) → Contains ms rm
             by_root m c (inl (a, b)) = subst (λ (x : Module). Contains ms x) b c
             by_root m c (inr (differ, given, rest)) = absurd (differ refl)
 
-            by_handed : (t : Table PathId NameId) (m : Module) → ((t ≡ rt) × (m ≡ rm)) ⊎ ((t.path ≡ rt.path → ⊥) × hands m.path m.unit × ((unit : TranslationUnit) × Contains units (t.path, unit) × (m.unit ≡ spelled (unit_view unit))))
+            by_handed : (t : Table PathId NameId) (m : Module) → ((t ≡ rt) × (m ≡ rm)) ⊎ ((t.path ≡ rt.path → ⊥) × hands m.path m.unit × ((unit : Held) × Contains units (t.path, unit) × (m.unit ≡ spelled (unit_view unit.unit))))
                 → (m ≡ rm) ⊎ hands m.path m.unit
             by_handed t m (inl (a, b)) = inl b
             by_handed t m (inr (differ, given, rest)) = inr given

@@ -9,7 +9,6 @@ use Rattle.wesl_names.specs.declared.errors.ResolveError as resolve_error
 use Rattle.wesl_names.proofs.Order.{before-total}
 use Rattle.wesl_syntax.specs.Unit.{UnitOf, spelled}
 use Rattle.wesl_tree.specs.Translation.{unit_view}
-use Rattle.wesl_tree.specs.declared.unit.TranslationUnit.{TranslationUnit}
 use Rattle.wesl_world.specs.declared.ids.PathId.{PathId}
 use Rattle.wesl_world.specs.declared.ids.NameId.{NameId}
 use Rattle.wesl_world.specs.Tables.{Table}
@@ -27,6 +26,7 @@ use Rattle.wesl_linker.specs.Taking.{path_eq, unit_at, AreKept, IsTaken, AreInOr
 use Rattle.wesl_linker.specs.Resolved.{module_at}
 use Rattle.wesl_linker.specs.Keeping.{loaded_modules}
 use Rattle.wesl_linker.specs.Worlds.{Module, table, task_of, IsLinked, IsModuleOrder}
+use Rattle.wesl_linker.specs.declared.loaded.Held.{Held}
 use Rattle.wesl_linker.specs.declared.loaded.Loaded.{Loaded}
 use Rattle.wesl_linker.proofs.Kept.{path_same, path_own}
 use Rattle.wesl_linker.proofs.Built.{ModuleFor, linked_world, paths_one}
@@ -54,14 +54,14 @@ in_order (m ∷ n ∷ ms) h (one_distinct _ _ fresh d) (suc k) x b =
     subst (λ (i : ℕ). path_before (path_view (get_or (m ∷ n ∷ ms) i y).path) (path_view (get_or (n ∷ ms) j y).path) ≡ false) f (h (suc j) y (omega arith)) in
     subst (λ (i : ℕ). path_before (get_or (loaded_modules (n ∷ ms)) k x).path (get_or (loaded_modules (m ∷ n ∷ ms)) i x).path ≡ true) (sym e) (in_order (n ∷ ms) rest d k x (omega arith))
 
-unit_has : (units : List (PathId × TranslationUnit)) → HaveOne units → (p : PathId) (u : TranslationUnit) → Contains units (p, u) → unit_at units p ≡ Some u
+unit_has : (units : List (PathId × Held)) → HaveOne units → (p : PathId) (u : Held) → Contains units (p, u) → unit_at units p ≡ Some u
 unit_has units one p u held = by (unit_at units p) refl
   where
-    by : (o : Option TranslationUnit) → unit_at units p ≡ o → unit_at units p ≡ Some u
+    by : (o : Option Held) → unit_at units p ≡ o → unit_at units p ≡ Some u
     by None e = absurd (none_at path_eq path_same path_own units p u e held)
     by (Some w) e = e ∙ ap Some (one p w u (found_at path_eq path_same units p w e) held)
 
-module _ (first nb : Numbering) (g : Grows first nb) (hands : Path → UnitOf Text → Type 0) (refuses : Path → resolve_error.ResolveError → Type 0) (units : List (PathId × TranslationUnit)) (one : HaveOne units)
+module _ (first nb : Numbering) (g : Grows first nb) (hands : Path → UnitOf Text → Type 0) (refuses : Path → resolve_error.ResolveError → Type 0) (units : List (PathId × Held)) (one : HaveOne units)
     (rt : Table PathId NameId) (rm : Module) (root : IsNumbered first rt (table rm)) (different_paths : AreDifferent nb.paths) (different_names : AreDifferent nb.names) (asked : All (λ p. is_relative p ≡ false) nb.paths)
     (kept : List NameId) (keep : List Text) (kept_same : AreRelated (NameAt first) kept keep) (limit : ℕ) where
   pub root_now : IsNumbered nb rt (table rm)
@@ -77,13 +77,14 @@ module _ (first nb : Numbering) (g : Grows first nb) (hands : Path → UnitOf Te
     pub other_for : (us : List (Table PathId NameId)) (t : Table PathId NameId) (m : Loaded) → (t.path ≡ rt.path → ⊥) → (t ≡ rt) ⊎ IsHandedTable hands nb units t.path t → IsTaken nb units us t m → For t (module_at m.path m.unit)
     other_for us t m differ (inl e) h = absurd (differ (ap (λ (x : Table PathId NameId). x.path) e))
     other_for us t m differ (inr (q, unit, at, there, given, numbered)) (named, has, placed) =
-        let held : Contains units (t.path, m.unit) = found_at path_eq path_same units t.path m.unit has in
-        let same_unit : unit ≡ m.unit = one t.path unit m.unit there held in
+        let kept_unit : Held = record { unit = m.unit; marks = m.marks } in
+        let held : Contains units (t.path, kept_unit) = found_at path_eq path_same units t.path kept_unit has in
+        let same_unit : unit ≡ kept_unit = one t.path unit kept_unit there held in
         let same_path : q ≡ path_view m.path = (paths_one nb different_paths).one t.path q (path_view m.path) at named in
         record {
           same = subst (λ (x : Path). SameTable (PathAt nb) (NameAt nb) t (table_at x (spelled (unit_view m.unit)))) same_path
-              (subst (λ (x : TranslationUnit). SameTable (PathAt nb) (NameAt nb) t (table_at q (spelled (unit_view x)))) same_unit numbered);
-          whence = inr (differ, subst (λ (x : Path). hands x (spelled (unit_view m.unit))) same_path (subst (λ (x : TranslationUnit). hands q (spelled (unit_view x))) same_unit given), (m.unit, held, refl));
+              (subst (λ (x : Held). SameTable (PathAt nb) (NameAt nb) t (table_at q (spelled (unit_view x.unit)))) same_unit numbered);
+          whence = inr (differ, subst (λ (x : Path). hands x (spelled (unit_view m.unit))) same_path (subst (λ (x : Held). hands q (spelled (unit_view x.unit))) same_unit given), (kept_unit, held, refl));
         }
 
     others_for : (us ts : List (Table PathId NameId)) (ms : List Loaded) → ((t : Table PathId NameId) → Contains ts t → Contains k.tables t × (t.path ≡ rt.path → ⊥)) → AreRelated (IsTaken nb units us) ts ms → AreRelated For ts (loaded_modules ms)
@@ -108,7 +109,7 @@ module _ (first nb : Numbering) (g : Grows first nb) (hands : Path → UnitOf Te
       pub kept_left : AreKept nb units (drop 1 k.tables)
       kept_left = subst (λ (xs : List (Table PathId NameId)). AreKept nb units (drop 1 xs)) (sym is) (λ t c. by t (fresh_root ts ts_distinct t c) (linked.world.handed t (ts_held t c)))
         where
-          by : (t : Table PathId NameId) → (t.path ≡ rt.path → ⊥) → (t ≡ rt) ⊎ IsHandedTable hands nb units t.path t → ((q : Path) × PathAt nb t.path q) × ((u : TranslationUnit) × (unit_at units t.path ≡ Some u))
+          by : (t : Table PathId NameId) → (t.path ≡ rt.path → ⊥) → (t ≡ rt) ⊎ IsHandedTable hands nb units t.path t → ((q : Path) × PathAt nb t.path q) × ((u : Held) × (unit_at units t.path ≡ Some u))
           by t differ (inl e) = absurd (differ (ap (λ (x : Table PathId NameId). x.path) e))
           by t differ (inr (q, unit, at, there, given, numbered)) = ((q, at), (unit, unit_has units one t.path unit there))
 

@@ -1,3 +1,5 @@
+pub mod Lists
+pub mod Marked
 pub mod Carried
 pub mod Built
 pub mod Refusing
@@ -11,9 +13,6 @@ pub mod Found
 pub mod Sound
 pub mod Texts
 pub mod Meant
-pub mod Each
-pub mod Binders
-pub mod Usable
 pub mod Parted
 pub mod Adding
 pub mod Whole

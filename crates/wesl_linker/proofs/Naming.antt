@@ -27,7 +27,7 @@ use Rattle.wesl_naming.specs.declared.given.GivenNames.{GivenNames}
 use Rattle.wesl_linker.proofs.Carried.{related_in, related_back, option_of, option_back, declares_from, IsOneToOne}
 use Rattle.wesl_linker.proofs.Built.{paths_one, names_one}
 use Rattle.wesl_linker.proofs.Texts.{name_is, name_by}
-use Rattle.wesl_linker.proofs.Each.{item_held}
+use Rattle.wesl_linker.proofs.Lists.{item_held}
 
 -- each declared name of a numbered table has a text
 pub all_named : (nb : Numbering) (t : Table PathId NameId) (m : Module) → IsNumbered nb t (table m) → AreNamed nb t
@@ -126,7 +126,7 @@ names_given l sound given mangle_root name_of h m x c d =
   where
     by : (k : Loaded) → Contains (all_loaded l) k → Declares (table (module_of k)) x → name_under (numbering l.numbers) given (path_view k.path) x ≡ mangled (path_view l.root.path) mangle_root name_of (path_view k.path) x
     by k held declared =
-        let (t, at, same) = sound.tabled k held in
+        let (t, at, same, marked) = sound.tabled k held in
         let (e, there, is_x) = declared in
         let (f, in_t, row) = related_in (λ a b. SameDeclaration (PathAt (numbering l.numbers)) (NameAt (numbering l.numbers)) b a) (table (module_of k)).declarations t.declarations e
         (related_back (SameDeclaration (PathAt (numbering l.numbers)) (NameAt (numbering l.numbers))) (λ a b. SameDeclaration (PathAt (numbering l.numbers)) (NameAt (numbering l.numbers)) b a) (λ a b y. y) t.declarations (table (module_of k)).declarations same.declarations) there in

@@ -4,7 +4,6 @@ use Rattle.wesl_names.specs.Path.{Text, Path, is_relative}
 use Rattle.wesl_names.specs.declared.errors.ResolveError as resolve_error
 use Rattle.wesl_names.specs.declared.errors.Error as error
 use Rattle.wesl_syntax.specs.Unit.{UnitOf}
-use Rattle.wesl_tree.specs.declared.unit.TranslationUnit.{TranslationUnit}
 use Rattle.wesl_world.specs.declared.ids.PathId.{PathId}
 use Rattle.wesl_world.specs.declared.ids.NameId.{NameId}
 use Rattle.wesl_world.specs.declared.error.LinkError.{LinkError}
@@ -17,10 +16,11 @@ use Rattle.wesl_table.proofs.Related.{name_later, table_later}
 use Rattle.wesl_linker.specs.Handing.{HaveOne, IsHandedTable, IsRefusedPath}
 use Rattle.wesl_linker.specs.Worlds.{Module, table, task_of, IsLinked, IsRefused}
 use Rattle.wesl_linker.specs.Refusal.{TellsOf, HasNumbers, Tells}
+use Rattle.wesl_linker.specs.declared.loaded.Held.{Held}
 use Rattle.wesl_linker.proofs.Built.{modules, linked_world, paths_one}
 use Rattle.wesl_linker.proofs.Refusing.{has_numbers, refusal_told}
 
-module _ (first nb : Numbering) (g : Grows first nb) (hands : Path → UnitOf Text → Type 0) (refuses : Path → resolve_error.ResolveError → Type 0) (units : List (PathId × TranslationUnit)) (one : HaveOne units)
+module _ (first nb : Numbering) (g : Grows first nb) (hands : Path → UnitOf Text → Type 0) (refuses : Path → resolve_error.ResolveError → Type 0) (units : List (PathId × Held)) (one : HaveOne units)
     (rt : Table PathId NameId) (rm : Module) (root : IsNumbered first rt (table rm)) (different_paths : AreDifferent nb.paths) (different_names : AreDifferent nb.names) (asked : All (λ p. is_relative p ≡ false) nb.paths)
     (kept : List NameId) (keep : List Text) (kept_same : AreRelated (NameAt first) kept keep) (limit : ℕ) where
   root_now : IsNumbered nb rt (table rm)

@@ -6,7 +6,6 @@ use Rattle.wesl_names.specs.Errors.{error_of_resolve}
 use Rattle.wesl_names.specs.declared.errors.ResolveError as resolve_error
 use Rattle.wesl_names.specs.declared.errors.Error as error
 use Rattle.wesl_syntax.specs.Unit.{UnitOf}
-use Rattle.wesl_tree.specs.declared.unit.TranslationUnit.{TranslationUnit}
 use Rattle.wesl_world.specs.declared.ids.PathId.{PathId}
 use Rattle.wesl_world.specs.declared.ids.NameId.{NameId}
 use Rattle.wesl_world.specs.declared.error.LinkError.{LinkError}
@@ -19,10 +18,11 @@ use Rattle.wesl_table.specs.Numbering.{AreRelated, SameTable, Numbering, NameAt,
 use Rattle.wesl_linker.specs.Handing.{HaveOne, IsHandedTable}
 use Rattle.wesl_linker.specs.Worlds.{Module, table, task_of, IsRefused}
 use Rattle.wesl_linker.specs.Refusal.{TellsOf, HasNumbers, Tells}
+use Rattle.wesl_linker.specs.declared.loaded.Held.{Held}
 use Rattle.wesl_linker.proofs.Carried.{SameFault}
 use Rattle.wesl_linker.proofs.Built.{modules, unit_world, refused_world, paths_one, names_one}
 
-module _ (nb : Numbering) (hands : Path → UnitOf Text → Type 0) (units : List (PathId × TranslationUnit)) (one : HaveOne units) (rt : Table PathId NameId) (rm : Module) (root_same : SameTable (PathAt nb) (NameAt nb) rt (table rm))
+module _ (nb : Numbering) (hands : Path → UnitOf Text → Type 0) (units : List (PathId × Held)) (one : HaveOne units) (rt : Table PathId NameId) (rm : Module) (root_same : SameTable (PathAt nb) (NameAt nb) rt (table rm))
     (different_paths : AreDifferent nb.paths) (different_names : AreDifferent nb.names) (asked : All (λ p. is_relative p ≡ false) nb.paths)
     (kept : List NameId) (keep : List Text) (kept_same : AreRelated (NameAt nb) kept keep) (refuses : Path → resolve_error.ResolveError → Type 0) (refuses_id : PathId → resolve_error.ResolveError → Type 0)
     (to : (p : PathId) (q : Path) (e : resolve_error.ResolveError) → PathAt nb p q → refuses_id p e → refuses q e) (limit : ℕ) where

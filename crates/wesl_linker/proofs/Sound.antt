@@ -7,7 +7,8 @@ use Rattle.std.proofs.lemmas.List.Sorted.{Contains-permutation, IsPermutation-sy
 use Rattle.wesl_names.specs.Path.{Text, Path, path_view, is_relative}
 use Rattle.wesl_names.specs.declared.path.ModulePath.{ModulePath}
 use Rattle.wesl_names.specs.declared.errors.ResolveError as resolve_error
-use Rattle.wesl_syntax.specs.Unit.{UnitOf}
+use Rattle.wesl_syntax.specs.Unit.{UnitOf, spelled}
+use Rattle.wesl_tree.specs.Translation.{unit_view}
 use Rattle.wesl_tree.specs.declared.unit.TranslationUnit.{TranslationUnit}
 use Rattle.wesl_world.specs.declared.ids.PathId.{PathId}
 use Rattle.wesl_world.specs.declared.ids.NameId.{NameId}
@@ -15,23 +16,32 @@ use Rattle.wesl_world.specs.declared.symbols.Symbol.{Symbol}
 use Rattle.wesl_world.specs.Tables.{Table}
 use Rattle.wesl_world.specs.World.{Task, Reached}
 use Rattle.wesl_world.specs.Linking as linking
+use Rattle.wesl_world.proofs.Entries.{found_at}
 use Rattle.wesl_world.proofs.Lists.{contains_cases, contains_first, contains_later, contains_map, map_contains}
 use Rattle.wesl_table.specs.Numbering.{Numbering, AreRelated, Grows, NameAt, PathAt, AreDifferent, IsNumbered, SameTable}
 use Rattle.wesl_table.specs.NumbersView.{numbering}
+use Rattle.wesl_table.specs.Marks.{AreMarked}
+use Rattle.wesl_table.specs.Tables.{uses}
+use Rattle.wesl_table.specs.declared.marks.Mark.{Mark}
 use Rattle.wesl_table.specs.declared.numbers.Numbers.{Numbers}
 use Rattle.wesl_table.proofs.Lists.{related_more}
 use Rattle.wesl_table.proofs.Related.{name_later, table_later}
-use Rattle.wesl_linker.specs.Handing.{HaveOne, IsHandedTable, IsRefusedPath}
-use Rattle.wesl_linker.specs.Taking.{IsTaken, AreInOrder}
+use Rattle.wesl_linker.specs.Handing.{HaveOne, AreHanded, IsHandedTable, IsMarkedAt, IsRefusedPath}
+use Rattle.wesl_linker.specs.Taking.{path_eq, IsTaken, AreInOrder}
+use Rattle.wesl_linker.specs.Tabled.{IsMarked}
 use Rattle.wesl_linker.specs.Worlds.{Module, table, tables, task_of, IsLinked, IsModuleOrder}
 use Rattle.wesl_linker.specs.Resolved.{Resolved, module_at}
 use Rattle.wesl_linker.specs.Holding.{IsFoundBy}
 use Rattle.wesl_linker.specs.Keeping.{name_text, module_of, loaded_modules, IsTabled, IsCovered, IsLinkOf, task_in}
+use Rattle.wesl_linker.specs.declared.loaded.Held.{Held}
 use Rattle.wesl_linker.specs.declared.loaded.Loaded.{Loaded}
 use Rattle.wesl_linker.specs.declared.link.Link.{Link}
 use Rattle.wesl_linker.proofs.Carried.{Back, one_back, related_in, related_back, table_back, SameSymbol, SameTask, Covers, reached_to}
 use Rattle.wesl_linker.proofs.Built.{paths_one, names_one}
 use Rattle.wesl_linker.proofs.Found as found
+use Rattle.wesl_linker.proofs.Kept.{path_same}
+use Rattle.wesl_linker.proofs.Lists.{at_has}
+use Rattle.wesl_linker.proofs.Marked.{marks_later}
 use Rattle.wesl_linker.proofs.Texts.{name_is}
 
 -- the texts of numbers that are related to texts
@@ -53,8 +63,8 @@ symbol_other : (nb : Numbering) → AreDifferent nb.paths → AreDifferent nb.na
 symbol_other nb dp dn s u x h k =
     ap (λ (q : PathId). record { path = q; name = s.name }) ((paths_one nb dp).other s.path u.path x.path h.path k.path) ∙ ap (λ (z : NameId). record { path = u.path; name = z }) ((names_one nb dn).other s.name u.name x.name h.name k.name)
 
-module _ (numbers : Numbers) (first : Numbering) (g : Grows first (numbering numbers)) (hands : Path → UnitOf Text → Type 0) (refuses : Path → resolve_error.ResolveError → Type 0) (units : List (PathId × TranslationUnit)) (one : HaveOne units)
-    (rt : Table PathId NameId) (path : ModulePath) (unit : TranslationUnit) (root : IsNumbered first rt (table (module_at path unit)))
+module _ (numbers : Numbers) (first : Numbering) (g : Grows first (numbering numbers)) (hands : Path → UnitOf Text → Type 0) (refuses : Path → resolve_error.ResolveError → Type 0) (units : List (PathId × Held)) (one : HaveOne units) (handed : AreHanded hands (numbering numbers) units)
+    (rt : Table PathId NameId) (path : ModulePath) (unit : TranslationUnit) (marks : Vec (Vec Mark Global) Global) (root : IsNumbered first rt (table (module_at path unit))) (marked : AreMarked first marks.items (uses (path_view path) (spelled (unit_view unit))))
     (kept : Vec NameId Global) (keep : List Text) (kept_same : AreRelated (NameAt first) kept.items keep) (limit : ℕ)
     (k : linking.Linking PathId NameId) (linked : linking.IsLinked (IsHandedTable hands (numbering numbers) units) (IsRefusedPath refuses (numbering numbers)) rt (linking.task_of rt kept.items false) limit k)
     (ts : List (Table PathId NameId)) (is : k.tables ≡ rt ∷ ts) (ms : List Loaded) (others : Vec Loaded Global) (rel : AreRelated (IsTaken (numbering numbers) units ts) ts ms) (same : IsPermutation ms others.items) where
@@ -65,7 +75,7 @@ module _ (numbers : Numbers) (first : Numbering) (g : Grows first (numbering num
   rm = module_at path unit
 
   abbrev first_loaded : Loaded
-  first_loaded = record { path = path; place = 0; unit = unit }
+  first_loaded = record { path = path; place = 0; unit = unit; marks = marks }
 
   abbrev pub link : Link
   link = record { root = first_loaded; others = others; kept = kept; numbers = numbers; linked = k }
@@ -89,15 +99,24 @@ module _ (numbers : Numbers) (first : Numbering) (g : Grows first (numbering num
       (found.ts_distinct first nb g hands refuses units one rt rm root numbers.paths.different numbers.names.different numbers.paths.asked kept.items keep kept_same limit k linked ts is) t c)
       (linked.world.handed t (found.ts_held first nb g hands refuses units one rt rm root numbers.paths.different numbers.names.different numbers.paths.asked kept.items keep kept_same limit k linked ts is t c)) h).same
 
+  root_marked : IsMarked nb first_loaded
+  root_marked = marks_later first nb g marks.items (uses (path_view path) (spelled (unit_view unit))) marked
+
+  taken_marked : (us : List (Table PathId NameId)) (t : Table PathId NameId) (m : Loaded) → IsTaken nb units us t m → IsMarked nb m
+  taken_marked us t m (at, has, placed) =
+      let kept_unit : Held = record { unit = m.unit; marks = m.marks } in
+      let (q, named, given, its_marks) = handed t.path kept_unit (found_at path_eq path_same units t.path kept_unit has) in
+      subst (λ (x : Path). IsMarkedAt nb x kept_unit) ((paths_one nb numbers.paths.different).one t.path q (path_view m.path) named at) its_marks
+
   tabled : (m : Loaded) → Contains (first_loaded ∷ others.items) m → IsTabled nb k.tables m
   tabled m c = by (contains_cases first_loaded m others.items c)
     where
       by : (first_loaded ≡ m) ⊎ Contains others.items m → IsTabled nb k.tables m
-      by (inl e) = subst (λ (x : Loaded). IsTabled nb k.tables x) e (rt, ap (λ xs. slice_get xs 0) is, root_now)
+      by (inl e) = subst (λ (x : Loaded). IsTabled nb k.tables x) e (rt, ap (λ xs. slice_get xs 0) is, root_now, root_marked)
       by (inr d) =
           let (t, held, taken) = related_in (Back (IsTaken nb units ts)) ms ts m (related_back (IsTaken nb units ts) (Back (IsTaken nb units ts)) (λ x y z. z) ts ms rel) (Contains-permutation others.items ms m (IsPermutation-sym ms others.items same) d) in
           let (i, e, at) = taken.2 in
-          (t, ap (slice_get k.tables) e ∙ (ap (λ xs. slice_get xs (suc i)) is ∙ at), taken_same ts t m held taken)
+          (t, ap (slice_get k.tables) e ∙ (ap (λ xs. slice_get xs (suc i)) is ∙ at), taken_same ts t m held taken, taken_marked ts t m taken)
 
   covered : (t : Table PathId NameId) → Contains k.tables t → IsCovered nb (first_loaded ∷ others.items) t
   covered t c = by (contains_cases rt t ts (subst (λ (xs : List (Table PathId NameId)). Contains xs t) is c))
@@ -111,17 +130,12 @@ module _ (numbers : Numbers) (first : Numbering) (g : Grows first (numbering num
   covers : Covers (PathAt nb) (NameAt nb) k.tables (tables w)
   covers = record { covered = λ t c. let (m, d, f) = covered t c in (table (module_of m), map_contains table w (module_of m) (map_contains module_of (first_loaded ∷ others.items) m d), f) }
 
-  at_has : (xs : List (Table PathId NameId)) (i : ℕ) (t : Table PathId NameId) → slice_get xs i ≡ Some t → Contains xs t
-  at_has [] i t e = absurd (cc)
-  at_has (y ∷ xs) zero t e = let f : y ≡ t = cc in subst (λ z. Contains (y ∷ xs) z) f (contains_first y xs)
-  at_has (y ∷ xs) (suc i) t e = contains_later y t xs (at_has xs i t e)
-
   covers_back : Covers (Back (PathAt nb)) (Back (NameAt nb)) (tables w) k.tables
   covers_back = record {
     covered = λ u c.
         let (n, d, e) = contains_map table w u c in
         let (m, held, f) = contains_map module_of (first_loaded ∷ others.items) n d in
-        let (t, at, same_t) = tabled m held in
+        let (t, at, same_t, marked_t) = tabled m held in
         let named : table (module_of m) ≡ u = ap table f ∙ e in
         (t, at_has k.tables m.place t at, subst (λ x. SameTable (Back (PathAt nb)) (Back (NameAt nb)) x t) named (table_back (PathAt nb) (NameAt nb) t (table (module_of m)) same_t));
   }

@@ -4,13 +4,14 @@ use Rattle.wesl_names.specs.Path.{Text, Path}
 use Rattle.wesl_names.specs.declared.errors.ResolveError.{ResolveError}
 use Rattle.wesl_syntax.specs.Unit.{UnitOf, spelled}
 use Rattle.wesl_tree.specs.Translation.{unit_view}
-use Rattle.wesl_tree.specs.declared.unit.TranslationUnit.{TranslationUnit}
 use Rattle.wesl_world.specs.declared.ids.PathId.{PathId}
 use Rattle.wesl_world.specs.declared.ids.NameId.{NameId}
 use Rattle.wesl_world.specs.Tables.{Table}
 use Rattle.wesl_world.specs.Keyed.{Puts}
-use Rattle.wesl_table.specs.Tables.{table_at}
+use Rattle.wesl_table.specs.Marks.{AreMarked}
+use Rattle.wesl_table.specs.Tables.{table_at, uses}
 use Rattle.wesl_table.specs.Numbering.{Numbering, Grows, PathAt, IsNumbered}
+use Rattle.wesl_linker.specs.declared.loaded.Held.{Held}
 
 -- what is handed out and refused at least here, is so there
 pub record Follows {P U E : Type 0} (handed : P → U → Type 0) (refused : P → E → Type 0) (handed_there : P → U → Type 0) (refused_there : P → E → Type 0) : Type 0 where
@@ -18,26 +19,31 @@ pub record Follows {P U E : Type 0} (handed : P → U → Type 0) (refused : P �
   pub refuses : (p : P) (e : E) → refused p e → refused_there p e
 
 -- no path has two units
-abbrev pub HaveOne : List (PathId × TranslationUnit) → Type 0
-HaveOne units = (p : PathId) (u w : TranslationUnit) → Contains units (p, u) → Contains units (p, w) → u ≡ w
+abbrev pub HaveOne : List (PathId × Held) → Type 0
+HaveOne units = (p : PathId) (u w : Held) → Contains units (p, u) → Contains units (p, w) → u ≡ w
 
 -- the entries after a unit is put at a path: it has that unit alone, and each other path keeps its own
-abbrev pub PutsUnit : List (PathId × TranslationUnit) → PathId → TranslationUnit → List (PathId × TranslationUnit) → Type 0
+abbrev pub PutsUnit : List (PathId × Held) → PathId → Held → List (PathId × Held) → Type 0
 PutsUnit old p unit new = Puts old p unit new
 
 -- the path has a number
 abbrev pub IsReadyPath : Numbering → PathId → Type 0
 IsReadyPath numbering p = (q : Path) × PathAt numbering p q
 
--- each unit was handed out at the path that it is kept for
-abbrev pub AreHanded : (Path → UnitOf Text → Type 0) → Numbering → List (PathId × TranslationUnit) → Type 0
-AreHanded hands numbering units = (p : PathId) (u : TranslationUnit) → Contains units (p, u) → (q : Path) × PathAt numbering p q × hands q (spelled (unit_view u))
+-- the marks that are kept with a unit are those of its identifiers, where it stands at the path
+abbrev pub IsMarkedAt : Numbering → Path → Held → Type 0
+IsMarkedAt numbering q u = AreMarked numbering u.marks.items (uses q (spelled (unit_view u.unit)))
+
+-- each unit was handed out at the path that it is kept for, and has its marks
+abbrev pub AreHanded : (Path → UnitOf Text → Type 0) → Numbering → List (PathId × Held) → Type 0
+AreHanded hands numbering units =
+    (p : PathId) (u : Held) → Contains units (p, u) → (q : Path) × PathAt numbering p q × hands q (spelled (unit_view u.unit)) × IsMarkedAt numbering q u
 
 -- the table is that of the unit that is kept for the path, which was handed out there
-abbrev pub IsHandedTable : (Path → UnitOf Text → Type 0) → Numbering → List (PathId × TranslationUnit) → PathId → Table PathId NameId → Type 0
+abbrev pub IsHandedTable : (Path → UnitOf Text → Type 0) → Numbering → List (PathId × Held) → PathId → Table PathId NameId → Type 0
 IsHandedTable hands numbering units p t =
-    (q : Path) × (unit : TranslationUnit) × PathAt numbering p q × Contains units (p, unit) × hands q (spelled (unit_view unit))
-    × IsNumbered numbering t (table_at q (spelled (unit_view unit)))
+    (q : Path) × (u : Held) × PathAt numbering p q × Contains units (p, u) × hands q (spelled (unit_view u.unit))
+    × IsNumbered numbering t (table_at q (spelled (unit_view u.unit)))
 
 -- the path of that number is refused with the error
 abbrev pub IsRefusedPath : (Path → ResolveError → Type 0) → Numbering → PathId → ResolveError → Type 0
@@ -45,7 +51,7 @@ IsRefusedPath refuses numbering p e = (q : Path) × PathAt numbering p q × refu
 
 -- What stays so as modules are loaded: the resolver hands out and refuses what it did, and units and numbers are kept.
 pub record Keeps (handed : Path → UnitOf Text → Type 0) (refused : Path → ResolveError → Type 0) (handed_there : Path → UnitOf Text → Type 0) (refused_there : Path → ResolveError → Type 0)
-    (first numbering : Numbering) (units : List (PathId × TranslationUnit)) : Type 0 where
+    (first numbering : Numbering) (units : List (PathId × Held)) : Type 0 where
   pub follows : Follows handed refused handed_there refused_there
   pub grows : Grows first numbering
   pub one_unit : HaveOne units

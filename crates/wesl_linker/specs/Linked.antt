@@ -1,54 +1,62 @@
 -- The linked form: what a link leaves of a world of modules (WESL, "Imports").
-use Rattle.std.specs.Prelude.{◌≡◌, ◌++◌, ℕ, true, false, Option, Some, None, List, [], ◌∷◌, Contains, flat_map, map}
+use Rattle.std.specs.Prelude.{◌≡◌, ◌++◌, ℕ, Bool, true, false, Option, Some, None, List, [], ◌∷◌, Contains, flat_map, map}
 use Rattle.wesl_names.specs.Path.{Text, Path}
-use Rattle.wesl_syntax.specs.Tree.{TreeOf, trees, branch, forest_of, identifiers, imports as imports_kind, directive_list, declarations as declarations_kind}
+use Rattle.wesl_syntax.specs.Tree.{LabelOf, kind, const_assert, TreeOf, trees, branch, forest_of, identifiers, imports as imports_kind, directive_list, declarations as declarations_kind}
 use Rattle.wesl_syntax.specs.Unit.{UnitOf, UnitView}
-use Rattle.wesl_world.specs.declared.symbols.Reference.{Reference}
-use Rattle.wesl_world.specs.declared.symbols.LookUp.{LookUp}
+use Rattle.wesl_world.specs.declared.symbols.Symbol.{Symbol}
 use Rattle.wesl_world.specs.Tables.{Table}
-use Rattle.wesl_world.specs.World.{Task, Asks, LeadsTo, Reached}
-use Rattle.wesl_table.specs.Imports.{first_label, below}
-use Rattle.wesl_table.specs.Tables.{declared_name, is_linked}
-use Rattle.wesl_table.specs.Uses.{Use, declares, refers, word, uses}
-use Rattle.wesl_table.specs.Mentions.{referred}
+use Rattle.wesl_world.specs.World.{Task, LeadsTo, Reached}
+use Rattle.wesl_occurrences.specs.Pieces.{declarations_in}
+use Rattle.wesl_table.specs.Imports.{first_label}
 use Rattle.wesl_table.specs.Numbering.{AreRelated}
+use Rattle.wesl_table.specs.Tables.{name_of, paired, uses}
+use Rattle.wesl_table.specs.Uses.{Use, declares, refers, local as in_block}
 use Rattle.wesl_assembly.specs.Denotations.{DenotationOf, symbol, local, free_name, printed_as}
 use Rattle.wesl_assembly.specs.Directives.{Thins}
 use Rattle.wesl_assembly.specs.Linked.{IsLinkedAs}
-use Rattle.wesl_linker.specs.Worlds.{Module, table, tables}
+use Rattle.wesl_linker.specs.Worlds.{Module, tables}
 
 -- ---- what identifiers stand for
 
 abbrev pub Denotation : Type 0
 Denotation = DenotationOf Path Text ℕ
 
-module _ (w : List (Table Path Text)) (t : Table Path Text) where
-  -- what is written there may refer to this, and asks for it
-  abbrev pub AsksFor : Reference Path Text → LookUp Path Text → Type 0
-  AsksFor r l = (q : Reference Path Text) × Contains (referred t.path t.imports r) q × Asks t q l
+-- what the module at `own` asks for leads to the symbol
+abbrev pub Answers : List (Table Path Text) → Path → Symbol Path Text → Symbol Path Text → Type 0
+Answers w own asked s = LeadsTo w (record { asker = Some own; path = asked.path; name = asked.name }) s
 
-  -- a reference stands for the symbol that what it asks for leads to; where it asks for nothing, for its name
-  abbrev pub RefersTo : Reference Path Text → Denotation → Type 0
-  RefersTo r (symbol p n) = (l : LookUp Path Text) × AsksFor r l × LeadsTo w l (record { path = p; name = n })
-  RefersTo r (free_name n) = (n ≡ r.name) × ((l : LookUp Path Text) → AsksFor r l → ⊥)
-  RefersTo r (local p b n) = ⊥
-
-  -- the name of a declaration stands for its symbol, and a word for itself
-  abbrev pub StandsFor : Use Text → Denotation → Type 0
-  StandsFor (declares n) d = d ≡ symbol t.path n
-  StandsFor (refers r) d = RefersTo r d
-  StandsFor (word n) d = d ≡ free_name n
+-- What an identifier of the module at `own` stands for: a declared name for its symbol, a name of a block for itself there,
+-- a reference for what one of those that it asks for leads to, and where it asks for nothing, for its name.
+abbrev pub StandsFor : List (Table Path Text) → Path → Use Path Text → Denotation → Type 0
+StandsFor w own (declares n) d = d ≡ symbol own n
+StandsFor w own (in_block b n) d = d ≡ local own b n
+StandsFor w own (refers n asked) (symbol p m) = (a : Symbol Path Text) × Contains asked a × Answers w own a (record { path = p; name = m })
+StandsFor w own (refers n asked) (free_name m) = (m ≡ n) × (asked ≡ [])
+StandsFor w own (refers n asked) (local p b m) = ⊥
 
 -- ---- what is held
 
--- a const_assert is held, and a declaration whose symbol is reached
-abbrev pub IsHeldAs : List (Table Path Text) → Task Path Text → Path → Option Text → Type 0
-IsHeldAs w task p (Some n) = Reached w task (record { path = p; name = n })
-IsHeldAs w task p None = Unit {0}
+-- a declaration of a module, and what its identifiers are, in document order
+pub record Placed : Type 0 where
+  pub home : Module
+  pub declaration : TreeOf Text
+  pub uses : List (Use Path Text)
 
--- of those declarations that are linked (functions and structs are not linked yet)
-abbrev pub IsHeld : List (Table Path Text) → Task Path Text → Path → TreeOf Text → Type 0
-IsHeld w task p t = (first_label false is_linked t.children ≡ true) × IsHeldAs w task p (declared_name (below t.children))
+-- the declarations of a module, in the order of its source
+abbrev pub placed : Module → List Placed
+placed m = paired (λ t us. record { home = m; declaration = t; uses = us }) (declarations_in m.unit) (uses m.path m.unit)
+
+abbrev pub is_assert : {I : Type 0} → LabelOf I → Bool
+is_assert (kind const_assert) = true
+is_assert _ = false
+
+-- a declaration whose symbol is reached is held, a const_assert, and no void
+abbrev pub IsHeldAs : List (Table Path Text) → Task Path Text → Placed → Option Text → Type 0
+IsHeldAs w task d (Some n) = Reached w task (record { path = d.home.path; name = n })
+IsHeldAs w task d None = first_label false is_assert d.declaration.children ≡ true
+
+abbrev pub IsHeld : List (Table Path Text) → Task Path Text → Placed → Type 0
+IsHeld w task d = IsHeldAs w task d (name_of d.declaration)
 
 -- those of which Q holds, in their order
 pub data Selects {X : Type 0} (Q : X → Type 0) : List X → List X → Type 0 where
@@ -61,21 +69,13 @@ pub data Joins {X Y : Type 0} (R : X → List Y → Type 0) : List X → List Y 
   none : Joins R [] []
   one_more : (x : X) (xs : List X) (ys zs : List Y) → R x ys → Joins R xs zs → Joins R (x ∷ xs) (ys ++ zs)
 
--- a declaration of a module
-pub record Placed : Type 0 where
-  pub home : Module
-  pub declaration : TreeOf Text
-
-abbrev pub placed_in : Module → TreeOf Text → Placed
-placed_in m t = record { home = m; declaration = t }
-
 -- the held declarations of a module, in the order of its source
 abbrev pub AreHeldOf : List (Table Path Text) → Task Path Text → Module → List Placed → Type 0
-AreHeldOf w task m held = (ts : List (TreeOf Text)) × Selects (IsHeld w task m.path) (trees m.unit.declarations.children) ts × (held ≡ map (placed_in m) ts)
+AreHeldOf w task m held = Selects (IsHeld w task) (placed m) held
 
 -- what the identifiers of a declaration stand for, in document order
 abbrev pub AreMeanings : List (Table Path Text) → Placed → List Denotation → Type 0
-AreMeanings w d meanings = AreRelated (StandsFor w (table d.home)) (uses (below d.declaration.children)) meanings
+AreMeanings w d meanings = AreRelated (StandsFor w d.home.path) d.uses meanings
 
 -- ---- the whole
 

@@ -4,33 +4,33 @@ use Rattle.std.specs.List.{AllAdjacentBelow}
 use Rattle.std.specs.Map.{lookup}
 use Rattle.wesl_names.specs.Path.{Path, path_view}
 use Rattle.wesl_names.specs.PathOrder.{path_before}
-use Rattle.wesl_tree.specs.declared.unit.TranslationUnit.{TranslationUnit}
 use Rattle.wesl_world.specs.declared.ids.PathId.{PathId}
 use Rattle.wesl_world.specs.declared.ids.NameId.{NameId}
 use Rattle.wesl_world.specs.contracts.ids.PathIdPartialEq.TheImpl as equality
 use Rattle.wesl_world.specs.Tables.{Table}
 use Rattle.wesl_table.specs.Numbering.{Numbering, PathAt}
+use Rattle.wesl_linker.specs.declared.loaded.Held.{Held}
 use Rattle.wesl_linker.specs.declared.loaded.Loaded.{Loaded}
 
 abbrev pub path_eq : PathId → PathId → Bool
 path_eq = (equality.ghosts).eq
 
 -- the unit that is kept for the path
-abbrev pub unit_at : List (PathId × TranslationUnit) → PathId → Option TranslationUnit
+abbrev pub unit_at : List (PathId × Held) → PathId → Option Held
 unit_at units p = lookup (path_eq p) units
 
 -- the path of each table has a number, and a unit is kept for it
-abbrev pub AreKept : Numbering → List (PathId × TranslationUnit) → List (Table PathId NameId) → Type 0
+abbrev pub AreKept : Numbering → List (PathId × Held) → List (Table PathId NameId) → Type 0
 AreKept numbering units ts =
-    (t : Table PathId NameId) → Contains ts t → ((q : Path) × PathAt numbering t.path q) × ((u : TranslationUnit) × (unit_at units t.path ≡ Some u))
+    (t : Table PathId NameId) → Contains ts t → ((q : Path) × PathAt numbering t.path q) × ((u : Held) × (unit_at units t.path ≡ Some u))
 
 -- the module's place is that of the table, where one more table stands before these
 abbrev pub IsPlaced : List (Table PathId NameId) → Table PathId NameId → Loaded → Type 0
 IsPlaced ts t m = (i : ℕ) × (m.place ≡ suc i) × (slice_get ts i ≡ Some t)
 
 -- the module has the table's path and place, and the unit that is kept for the path
-abbrev pub IsTaken : Numbering → List (PathId × TranslationUnit) → List (Table PathId NameId) → Table PathId NameId → Loaded → Type 0
-IsTaken numbering units ts t m = PathAt numbering t.path (path_view m.path) × (unit_at units t.path ≡ Some m.unit) × IsPlaced ts t m
+abbrev pub IsTaken : Numbering → List (PathId × Held) → List (Table PathId NameId) → Table PathId NameId → Loaded → Type 0
+IsTaken numbering units ts t m = PathAt numbering t.path (path_view m.path) × (unit_at units t.path ≡ Some (record { unit = m.unit; marks = m.marks })) × IsPlaced ts t m
 
 -- none stands before the one in front of it
 abbrev pub AreInOrder : List Loaded → Type 0

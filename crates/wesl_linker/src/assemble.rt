@@ -1,22 +1,19 @@
 //! The linked unit: of each module, the directives and the declarations that are held.
-ghost use Rattle.std.specs.Prelude.{◌≡◌, ◌↔◌, ◌++◌, [], List, Some, All, Contains, IsTrue, IfOk, IfErr, OnOk, map, option_map, false, true};
-ghost use Rattle.wesl_names.specs.Path.{Text, path_view, is_relative};
+ghost use Rattle.std.specs.Prelude.{◌≡◌, ◌↔◌, ◌++◌, [], List, Contains, IsTrue, IfOk, IfErr, OnOk, map, false};
 ghost use Rattle.wesl_names.specs.declared.errors.Error as error;
 ghost use Rattle.wesl_syntax.specs.Tree.{before, end};
-ghost use Rattle.wesl_syntax.specs.Unit.{name_in};
 ghost use Rattle.wesl_syntax.specs.View.{global_view};
 ghost use Rattle.wesl_tree.specs.Translation.{unit_view};
-ghost use Rattle.wesl_world.specs.declared.ids.NameId as name_id;
+ghost use Rattle.wesl_world.specs.World.{LeadsTo};
+ghost use Rattle.wesl_world.specs.Keeping.{StandsHeld};
 ghost use Rattle.wesl_table.specs.Imports.{first_label};
-ghost use Rattle.wesl_table.specs.Numbering.{AreRelated, NameAt};
+ghost use Rattle.wesl_table.specs.Numbering.{AreRelated};
 ghost use Rattle.wesl_table.specs.NumbersView.{numbering};
-ghost use Rattle.wesl_table.specs.Spelling.{respell_use, spelled_use, spelled_imports};
-ghost use Rattle.wesl_table.specs.Tables as kinds;
-ghost use Rattle.wesl_table.specs.Uses as names_used;
-ghost use Rattle.wesl_table.specs.Uses.{use_name};
-ghost use Rattle.wesl_table.specs.Walks.{use_view};
+ghost use Rattle.wesl_table.specs.Tables.{reference_to};
+ghost use Rattle.wesl_table.specs.declared.marks.Mark as marked;
 ghost use Rattle.wesl_assembly.specs.Views.{Meaning, denotation_view};
 ghost use Rattle.wesl_naming.specs.GivenView.{given as given_names};
+ghost use Rattle.wesl_linker.specs.Linked as linked;
 ghost use Rattle.wesl_linker.specs.Linked.{IsAssembled};
 ghost use Rattle.wesl_linker.specs.Keeping.{all_loaded, modules_in, name_text, name_under, IsLinkOf, task_in};
 ghost use Rattle.wesl_linker.specs.Holding as holding;
@@ -27,19 +24,16 @@ use std::alloc::Global;
 use wesl_assembly::{
     Denotation, Directives, Printing, law_of_meanings, linked_unit, thinned_directives,
 };
-use wesl_names::{Error, Ident, Names};
+use wesl_names::Error;
 use wesl_naming::GivenNames;
+use wesl_occurrences::law_of_pieces;
 use wesl_syntax::{GlobalDeclaration, GlobalDeclarationNode};
-use wesl_table::aims::Scope;
-use wesl_table::imports::imports;
-use wesl_table::laws::law_of_uses;
-use wesl_table::numbers::{Numbers, spelling};
-use wesl_table::references::reference_of;
-use wesl_table::uses::{Use, declared_ident, is_linked, uses};
+use wesl_table::marks::Mark;
+use wesl_table::numbers::Numbers;
 use wesl_tree::TranslationUnit;
 use wesl_world::ids::{NameId, PathId};
-use wesl_world::symbols::Symbol;
-use wesl_world::table::Table;
+use wesl_world::symbols::{Reference, Symbol};
+use wesl_world::table::{Declaration, Table};
 
 /// The declarations that are held, and what the identifiers of directives and of these stand for, in document order.
 #[derive(Drop)]
@@ -76,168 +70,113 @@ fn text_of(numbers: &Numbers, name: NameId) -> &str
     }
 }
 
-/// The symbol of a name that the module of a table declares.
-fn symbol_of(numbers: &Numbers, table: &Table, name: &str) -> Symbol<PathId, NameId>
-    requires { (n : name_id.NameId) × NameAt (numbering numbers.now) n name.now }
-    ensures path { result.path ≡ table.now.path }
-    ensures name { NameAt (numbering numbers.now) result.name name.now }
+/// The symbol that a held declaration of a module refers to.
+fn symbol_asked(link: &Link, table: &Table, asked: Symbol<PathId, NameId>) -> Symbol<PathId, NameId>
+    requires loaded { Contains link.now.linked.tables table.now }
+    requires held { StandsHeld link.now.linked table.now (reference_to asked) }
+    ensures { LeadsTo link.now.linked.tables (holding.look_up table.now asked) result }
 {
-    let Some(name) = numbers.names.find(name) else {
+    let reference = Reference {
+        path: Some(asked.path),
+        name: asked.name,
+    };
+    let Some(symbol) = link.linked.denotes(table, &reference) else {
         unreachable!()
     };
-    Symbol {
-        path: table.path(),
-        name,
-    }
+    symbol
 }
 
-/// The symbol that an identifier of a held declaration stands for, if it stands for one.
-fn symbol_meant(
-    alloc: Global,
-    link: &Link,
-    table: &Table,
-    scope: Scope<'_>,
-    found: &Use<'_>,
-) -> Result<Option<Symbol<PathId, NameId>>, Error>
-    requires own { is_relative (path_view scope.own.now) ≡ false }
-    requires imports { All (λ i. is_relative (path_view i.path) ≡ false) scope.imports.now }
+/// What an identifier of a held declaration stands for, by its mark.
+fn denotation<'a>(link: &'a Link, table: &Table, mark: Mark) -> Denotation<'a>
     requires loaded { Contains link.now.linked.tables table.now }
-    requires usable { holding.IsUsable (numbering link.now.numbers) link.now.linked table.now (path_view scope.own.now) (spelled_imports scope.names.now scope.imports.now) (spelled_use scope.names.now found.now) }
-    ensures meant { IfOk result (holding.IsMeant (numbering link.now.numbers) link.now.linked table.now (path_view scope.entry.own.now) (spelled_imports scope.entry.names.now scope.entry.imports.now) (spelled_use scope.entry.names.now found.now)) }
-    ensures refused { IfErr result (λ e. e ≡ error.Memory) }
+    requires held { holding.IsAskable link.now.linked table.now mark }
+    ensures { holding.IsMeant (numbering link.now.numbers) link.now.linked table.now mark (denotation_view result) }
 {
-    match found {
-        Use::Declares(ident) => {
-            let name = spelling(scope.names, *ident);
-            Ok(Some(symbol_of(&link.numbers, table, name)))
-        }
-        Use::Refers(mention) => {
-            let reference = reference_of(alloc, &link.numbers, scope, mention)?;
-            Ok(link.linked.denotes(table, &reference))
-        }
-        Use::Word(_) => Ok(None),
-    }
-}
-
-/// The identifier itself.
-fn ident_of(found: &Use<'_>) -> Ident
-    ensures { result.0 ≡ use_name (use_view found.now) }
-{
-    match found {
-        Use::Declares(ident) => *ident,
-        Use::Refers(mention) => mention.ident,
-        Use::Word(ident) => *ident,
-    }
-}
-
-/// What an identifier stands for: a symbol, or its name.
-fn denotation<'a>(
-    names: &'a Names,
-    ident: Ident,
-    meant: Option<Symbol<PathId, NameId>>,
-) -> Denotation<'a>
-    ensures { denotation_view result ≡ holding.meaning_of meant (name_in names.now ident.0) }
-{
-    match meant {
-        Some(symbol) => Denotation::Symbol(symbol),
-        None => Denotation::Free(spelling(names, ident)),
+    let path = table.path();
+    match mark {
+        Mark::Declares(name) => Denotation::Symbol(Symbol { path, name }),
+        Mark::Asks(asked) => Denotation::Symbol(symbol_asked(link, table, asked)),
+        Mark::Local(block, name) => Denotation::Local(path, block, text_of(&link.numbers, name)),
+        Mark::Free(name) => Denotation::Free(text_of(&link.numbers, name)),
     }
 }
 
 /// What the identifiers of a held declaration stand for, after those before them.
 fn add_denotations<'a>(
-    alloc: Global,
-    link: &Link,
-    names: &'a Names,
+    link: &'a Link,
     table: &Table,
-    scope: Scope<'_>,
-    declaration: &GlobalDeclaration,
+    marks: &[Mark],
     denotations: &mut Vec<Denotation<'a>>,
 ) -> Result<(), Error>
-    requires own { is_relative (path_view scope.own.now) ≡ false }
-    requires imports { All (λ i. is_relative (path_view i.path) ≡ false) scope.imports.now }
-    requires names { scope.names.now ≡ names.now }
     requires loaded { Contains link.now.linked.tables table.now }
-    requires linked { first_label false kinds.is_linked (before (global_view declaration.now) end) ≡ true }
-    requires usable { (u : names_used.Use Text) → Contains (map (respell_use (name_in names.now)) (names_used.uses (global_view declaration.now).children)) u → holding.IsUsable (numbering link.now.numbers) link.now.linked table.now (path_view scope.own.now) (spelled_imports scope.names.now scope.imports.now) u }
+    requires held { (m : marked.Mark) → Contains marks.now m → holding.IsAskable link.now.linked table.now m }
     ensures added { OnOk result ((ds : List Meaning) × (map denotation_view denotations.new.items ≡ map denotation_view denotations.old.items ++ ds)
-        × AreRelated (holding.IsMeantBy (numbering link.now.numbers) link.now.linked table.now (path_view scope.entry.own.now) (spelled_imports scope.entry.names.now scope.entry.imports.now)) (map (respell_use (name_in names.now)) (names_used.uses (global_view declaration.now).children)) ds) }
+        × AreRelated (holding.IsMeant (numbering link.now.numbers) link.now.linked table.now) marks.now ds) }
     ensures refused { IfErr result (λ e. e ≡ error.Memory) }
 {
-    let all = uses(alloc, declaration)?;
-    for found in &all {
-        let meant = symbol_meant(alloc, link, table, scope, found)?;
-        denotations.push(denotation(names, ident_of(found), meant))?;
+    for mark in marks {
+        denotations.push(denotation(link, table, *mark))?;
     }
     Ok(())
 }
 
-/// Whether what a declaration binds is a symbol that is reached; a const_assert binds nothing, and is held.
-fn is_reached(link: &Link, table: &Table, names: &Names, ident: Option<Ident>) -> bool
-    requires named { (x : Text) → option_map (λ i. name_in names.now i.0) ident ≡ Some x → (n : name_id.NameId) × NameAt (numbering link.now.numbers) n x }
-    ensures { IsTrue result ↔ holding.IsHeldHere (numbering link.now.numbers) link.now.linked table.now.path (option_map (λ i. name_in names.now i.0) ident) }
+/// Whether a declaration is a const_assert.
+fn is_assert(declaration: &GlobalDeclaration) -> bool
+    ensures { result ≡ first_label false linked.is_assert (before (global_view declaration.now) end) }
 {
-    let Some(ident) = ident else {
-        return true;
-    };
-    let symbol = symbol_of(&link.numbers, table, spelling(names, ident));
-    link.linked.holds(symbol.path, symbol.name)
+    match declaration {
+        GlobalDeclaration::ConstAssert(_) => true,
+        _ => false,
+    }
 }
 
-/// A declaration of a module is added, where it is held.
+/// Whether a declaration of a module is held: what it binds is a symbol that is reached, or it is a const_assert.
+fn is_held(link: &Link, table: &Table, row: &Declaration, declaration: &GlobalDeclaration) -> bool
+    ensures { IsTrue result ↔ holding.IsHeldHere link.now.linked table.now.path declaration.now row.now.name }
+{
+    match row.name() {
+        Some(name) => link.linked.holds(table.path(), name),
+        None => is_assert(declaration),
+    }
+}
+
+/// A declaration of a module is added, where it is held: its row in the module's table, and its marks.
 fn add_declaration<'a>(
-    alloc: Global,
-    link: &Link,
-    names: &'a Names,
+    link: &'a Link,
     table: &Table,
-    scope: Scope<'_>,
+    row: &Declaration,
+    marks: &[Mark],
     declaration: &'a GlobalDeclarationNode,
     parts: &mut Parts<'a>,
 ) -> Result<(), Error>
-    requires own { is_relative (path_view scope.own.now) ≡ false }
-    requires imports { All (λ i. is_relative (path_view i.path) ≡ false) scope.imports.now }
-    requires names { scope.names.now ≡ names.now }
     requires loaded { Contains link.now.linked.tables table.now }
-    requires numbered { holding.IsNumberedDeclaration (numbering link.now.numbers) link.now.linked table.now (path_view scope.own.now) (spelled_imports scope.names.now scope.imports.now) names.now declaration.now.node }
-    ensures added { OnOk result (holding.AddsOne (numbering link.now.numbers) link.now.linked table.now (path_view scope.entry.own.now) (spelled_imports scope.entry.names.now scope.entry.imports.now) names.now declaration.entry parts.old parts.new) }
+    requires inside { Contains table.now.declarations row.now }
+    requires refers { holding.RefersToAll row.now marks.now }
+    ensures added { OnOk result (holding.AddsOne (numbering link.now.numbers) link.now.linked table.now declaration.entry row.now.name marks.now parts.old parts.new) }
     ensures refused { IfErr result (λ e. e ≡ error.Memory) }
 {
-    let node = &declaration.node;
-    if !is_linked(node) {
+    if !is_held(link, table, row, &declaration.node) {
         return Ok(());
     }
-    if !is_reached(link, table, names, declared_ident(node)) {
-        return Ok(());
-    }
-    let denotations = &mut parts.denotations;
-    add_denotations(alloc, link, names, table, scope, node, denotations)?;
+    add_denotations(link, table, marks, &mut parts.denotations)?;
     parts.declarations.push(declaration)?;
     Ok(())
 }
 
 /// The held declarations of a module.
-fn add_module<'a>(
-    alloc: Global,
-    link: &'a Link,
-    module: &'a Loaded,
-    parts: &mut Parts<'a>,
-) -> Result<(), Error>
+fn add_module<'a>(link: &'a Link, module: &'a Loaded, parts: &mut Parts<'a>) -> Result<(), Error>
     requires sound { IsLinkOf (task_in link.now) link.now }
     requires inside { Contains (all_loaded link.now) module.now }
     ensures added { OnOk result (holding.AddsModule link.now module.now parts.old parts.new) }
     ensures refused { IfErr result (λ e. e ≡ error.Memory) }
 {
-    law_of_uses();
     let table = table_of(link, module);
-    let names = module.unit.names();
-    let imports = imports(alloc, &module.path, module.unit.imports())?;
-    let scope = Scope {
-        own: &module.path,
-        names,
-        imports: &imports,
-    };
-    for declaration in module.unit.global_declarations() {
-        add_declaration(alloc, link, names, table, scope, declaration, parts)?;
+    let rows = table.declarations();
+    let nodes = module.unit.global_declarations();
+    for (index, declaration) in nodes.iter().enumerate() {
+        let row = &rows[index];
+        let marks = &module.marks[index];
+        add_declaration(link, table, row, marks, declaration, parts)?;
     }
     Ok(())
 }
@@ -256,14 +195,14 @@ fn units(alloc: Global, link: &Link) -> Result<Vec<&TranslationUnit>, Error>
 }
 
 /// The held declarations of all modules.
-fn add_modules<'a>(alloc: Global, link: &'a Link, parts: &mut Parts<'a>) -> Result<(), Error>
+fn add_modules<'a>(link: &'a Link, parts: &mut Parts<'a>) -> Result<(), Error>
     requires sound { IsLinkOf (task_in link.now) link.now }
     ensures added { OnOk result ((words : List Meaning) → holding.AreParts link.now [] words parts.old → holding.AreParts link.now (all_loaded link.now) words parts.new) }
     ensures refused { IfErr result (λ e. e ≡ error.Memory) }
 {
-    add_module(alloc, link, &link.root, parts)?;
+    add_module(link, &link.root, parts)?;
     for module in &link.others {
-        add_module(alloc, link, module, parts)?;
+        add_module(link, module, parts)?;
     }
     Ok(())
 }
@@ -275,12 +214,13 @@ pub fn assembled(alloc: Global, link: &Link, given: &GivenNames) -> Result<Trans
     ensures refused { IfErr result (λ e. e ≡ error.Memory) }
 {
     law_of_meanings();
+    law_of_pieces();
     let Directives { nodes, words } = thinned_directives(alloc, &units(alloc, link)?)?;
     let mut parts = Parts {
         declarations: Vec::new(alloc),
         denotations: words,
     };
-    add_modules(alloc, link, &mut parts)?;
+    add_modules(link, &mut parts)?;
     let printing = SymbolNames {
         numbers: &link.numbers,
         given,

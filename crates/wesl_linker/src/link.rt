@@ -3,7 +3,7 @@ ghost use Rattle.std.specs.Prelude.{Contains};
 ghost use Rattle.wesl_table.specs.Numbering.{IsNumbered};
 ghost use Rattle.wesl_table.specs.NumbersView.{numbering};
 ghost use Rattle.wesl_linker.specs.Worlds as worlds;
-ghost use Rattle.wesl_linker.specs.Tabled.{IsTabled, module_of};
+ghost use Rattle.wesl_linker.specs.Tabled.{IsMarked, IsTabled, module_of};
 
 use crate::loaded::Loaded;
 use wesl_table::numbers::Numbers;
@@ -26,6 +26,7 @@ pub fn table_of<'a>(link: &'a Link, module: &Loaded) -> &'a Table
     requires tabled { IsTabled (numbering link.now.numbers) link.now.linked.tables module.now }
     ensures loaded { Contains link.now.linked.tables result.now }
     ensures numbered { IsNumbered (numbering link.now.numbers) result.now (worlds.table (module_of module.now)) }
+    ensures marked { IsMarked (numbering link.now.numbers) module.now }
 {
     let Some(table) = link.linked.tables().get(module.place) else {
         unreachable!()

@@ -3,34 +3,44 @@ ghost use Rattle.std.specs.Prelude.{◌≡◌, Some, Option, Contains, IfOk, IfE
 ghost use Rattle.std.specs.List.Sorted.{IsPermutation};
 ghost use Rattle.wesl_names.specs.Path.{Path, path_view};
 ghost use Rattle.wesl_names.specs.declared.errors.Error as error;
-ghost use Rattle.wesl_tree.specs.declared.unit.TranslationUnit as unit;
 ghost use Rattle.wesl_world.specs.Faults.{AreDistinct};
 ghost use Rattle.wesl_world.specs.Linking.{paths};
 ghost use Rattle.wesl_world.specs.declared.ids.PathId as path_id;
 ghost use Rattle.wesl_table.specs.Numbering.{AreRelated};
 ghost use Rattle.wesl_table.specs.NumbersView.{numbering};
 ghost use Rattle.wesl_linker.specs.Taking.{AreKept, AreInOrder, IsTaken, unit_at};
+ghost use Rattle.wesl_linker.specs.declared.loaded.Held as held;
 
 use crate::refusals::path_of;
 use indexmap::IndexMap;
 use std::alloc::Global;
 use wesl_names::{Error, ModulePath, law_of_order};
+use wesl_table::marks::Mark;
 use wesl_table::numbers::Numbers;
 use wesl_tree::TranslationUnit;
 use wesl_world::ids::PathId;
 use wesl_world::table::Table;
 
-/// A module that was loaded: its path, where its symbol table stands, and its unit.
+/// A unit that is held for a path, and of each of its declarations what the identifiers are.
+#[derive(Drop)]
+pub struct Held {
+    pub unit: TranslationUnit,
+    pub marks: Vec<Vec<Mark>>,
+}
+
+/// A module that was loaded: its path, where its symbol table stands, its unit, and of each of its declarations what
+/// the identifiers are.
 #[derive(Drop)]
 pub struct Loaded {
     pub path: ModulePath,
     pub place: usize,
     pub unit: TranslationUnit,
+    pub marks: Vec<Vec<Mark>>,
 }
 
 /// Takes the unit that is kept for a path.
-fn take_unit(units: &mut IndexMap<PathId, TranslationUnit>, id: PathId) -> TranslationUnit
-    requires { (u : unit.TranslationUnit) × (unit_at units.old.entries id ≡ Some u) }
+fn take_unit(units: &mut IndexMap<PathId, Held>, id: PathId) -> Held
+    requires { (h : held.Held) × (unit_at units.old.entries id ≡ Some h) }
     ensures taken { unit_at units.old.entries id ≡ Some result }
     ensures others { (p : path_id.PathId) → (p ≡ id → ⊥) → unit_at units.new.entries p ≡ unit_at units.old.entries p }
 {
@@ -45,7 +55,7 @@ pub fn take_modules(
     alloc: Global,
     numbers: &Numbers,
     tables: &[Table],
-    units: &mut IndexMap<PathId, TranslationUnit>,
+    units: &mut IndexMap<PathId, Held>,
 ) -> Result<Vec<Loaded>, Error>
     requires kept { AreKept (numbering numbers.now) units.old.entries tables.now }
     requires once { AreDistinct (paths tables.now) }
@@ -56,11 +66,13 @@ pub fn take_modules(
     for (index, table) in tables.iter().enumerate() {
         let id = table.path();
         let path = path_of(alloc, numbers, id)?;
-        let unit = take_unit(units, id);
+        let held = take_unit(units, id);
+        let Held { unit, marks } = held;
         modules.push(Loaded {
             path,
             place: index + 1,
             unit,
+            marks,
         })?;
     }
     Ok(modules)

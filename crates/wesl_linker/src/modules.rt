@@ -4,23 +4,25 @@ ghost use Rattle.wesl_names.specs.Path.{Text, Path, path_view, is_relative};
 ghost use Rattle.wesl_names.specs.declared.errors.ResolveError.{ResolveError};
 ghost use Rattle.wesl_syntax.specs.Unit.{UnitOf, spelled};
 ghost use Rattle.wesl_tree.specs.Translation.{unit_view};
-ghost use Rattle.wesl_tree.specs.declared.unit.TranslationUnit as unit;
 ghost use Rattle.wesl_world.specs.declared.ids.PathId as path_id;
 ghost use Rattle.wesl_world.specs.Loader.{Explains};
 ghost use Rattle.wesl_world.specs.Tables as tables;
 ghost use Rattle.wesl_world.specs.declared.loader.LoadError.TheVariants as load_error;
-ghost use Rattle.wesl_table.specs.Tables.{table_at};
+ghost use Rattle.wesl_table.specs.Marks.{AreMarked};
+ghost use Rattle.wesl_table.specs.Tables.{table_at, uses};
 ghost use Rattle.wesl_table.specs.Numbering.{Numbering, Grows, IsNumbered, PathAt};
 ghost use Rattle.wesl_table.specs.NumbersView.{numbering};
 ghost use Rattle.wesl_linker.specs.Handing.{Keeps, IsReadyPath, IsHandedTable, IsRefusedPath, PutsUnit};
+ghost use Rattle.wesl_linker.specs.declared.loaded.Held as held;
 
+use crate::loaded::Held;
 use indexmap::IndexMap;
 use std::alloc::Global;
 use std::marker::{Brand, PhantomData};
 use wesl_names::{ModulePath, ResolveError};
 use wesl_resolve::Resolver;
 use wesl_table::numbers::Numbers;
-use wesl_table::table::table_of;
+use wesl_table::table::{Tabled, table_of};
 use wesl_tree::TranslationUnit;
 use wesl_world::ids::PathId;
 use wesl_world::loader::{LoadError, Loader};
@@ -51,12 +53,34 @@ impl Source for Brand {
 pub struct Modules<R: Resolver, S: Source> {
     pub resolver: R,
     pub numbers: Numbers,
-    pub units: IndexMap<PathId, TranslationUnit>,
+    pub units: IndexMap<PathId, Held>,
     pub source: PhantomData<S>,
 }
 
-/// The table of a unit that stands at a path, whose number is `id`.
+/// The table of a unit that stands at a path, whose number is `id`, and what the identifiers of the unit are.
 fn read(
+    alloc: Global,
+    numbers: &mut Numbers,
+    id: PathId,
+    path: &ModulePath,
+    unit: &TranslationUnit,
+) -> Result<Tabled, LoadError<ResolveError>>
+    requires asked { is_relative (path_view path.now) ≡ false }
+    requires held { PathAt (numbering numbers.old) id (path_view path.now) }
+    ensures numbered { IfOk result (λ t. IsNumbered (numbering numbers.new) t.table (table_at (path_view path.now) (spelled (unit_view unit.now)))) }
+    ensures marked { IfOk result (λ t. AreMarked (numbering numbers.new) t.marks.items (uses (path_view path.now) (spelled (unit_view unit.now)))) }
+    ensures path { IfOk result (λ t. t.table.path ≡ id) }
+    ensures refused { IfErr result (λ e. e ≡ load_error.Memory) }
+    ensures grows { Grows (numbering numbers.old) (numbering numbers.new) }
+{
+    match table_of(alloc, numbers, id, path, unit) {
+        Ok(tabled) => Ok(tabled),
+        Err(_) => Err(LoadError::Memory),
+    }
+}
+
+/// The table alone, of a unit that is kept.
+fn read_again(
     alloc: Global,
     numbers: &mut Numbers,
     id: PathId,
@@ -70,17 +94,15 @@ fn read(
     ensures refused { IfErr result (λ e. e ≡ load_error.Memory) }
     ensures grows { Grows (numbering numbers.old) (numbering numbers.new) }
 {
-    match table_of(alloc, numbers, id, path, unit) {
-        Ok(table) => Ok(table),
-        Err(_) => Err(LoadError::Memory),
-    }
+    let Tabled { table, marks: _ } = read(alloc, numbers, id, path, unit)?;
+    Ok(table)
 }
 
 /// Keeps the unit of a path that has none.
 fn put(
-    units: &mut IndexMap<PathId, TranslationUnit>,
+    units: &mut IndexMap<PathId, Held>,
     id: PathId,
-    unit: TranslationUnit,
+    unit: Held,
 ) -> Result<(), LoadError<ResolveError>>
     ensures put { OnOk result (PutsUnit units.old.entries id unit units.new.entries) }
     ensures unchanged { OnErr result (units.new.entries ≡ units.old.entries) }
@@ -93,9 +115,9 @@ fn put(
 }
 
 /// The unit that is kept for a path.
-fn unit_of(units: &IndexMap<PathId, TranslationUnit>, id: PathId) -> Option<&TranslationUnit>
+fn unit_of(units: &IndexMap<PathId, Held>, id: PathId) -> Option<&Held>
     ensures found { IfSome result (λ u. Contains units.now.entries (id, u.now)) }
-    ensures none { IfNone result ((u : unit.TranslationUnit) → Contains units.now.entries (id, u) → ⊥) }
+    ensures none { IfNone result ((u : held.Held) → Contains units.now.entries (id, u) → ⊥) }
 {
     match units.get(&id) {
         Some(unit) => Some(unit),
@@ -114,14 +136,14 @@ impl<R: Resolver, S: Source> Modules<R, S> {
         requires ready { R.ready self.old.resolver }
         requires asked { is_relative (path_view path.now) ≡ false }
         requires held { PathAt (numbering self.old.numbers) id (path_view path.now) }
-        requires absent { (u : unit.TranslationUnit) → Contains self.old.units.entries (id, u) → ⊥ }
+        requires absent { (u : held.Held) → Contains self.old.units.entries (id, u) → ⊥ }
         requires keeps { Keeps (R.hands self.old.resolver) (R.refuses self.old.resolver) S.hands S.refuses S.first (numbering self.old.numbers) self.old.units.entries }
         ensures handed { IfOk result (IsHandedTable S.hands (numbering self.new.numbers) self.new.units.entries id) }
         ensures path { IfOk result (λ t. t.path ≡ id) }
         ensures numbered { IfOk result (λ t. (u : tables.Table Path Text) × IsNumbered (numbering self.new.numbers) t u) }
         ensures refused { IfErr result (Explains (IsRefusedPath S.refuses (numbering self.new.numbers) id)) }
         ensures grows { Grows (numbering self.old.numbers) (numbering self.new.numbers) }
-        ensures units { (p : path_id.PathId) (u : unit.TranslationUnit) → Contains self.old.units.entries (p, u) → Contains self.new.units.entries (p, u) }
+        ensures units { (p : path_id.PathId) (u : held.Held) → Contains self.old.units.entries (p, u) → Contains self.new.units.entries (p, u) }
         ensures keeps { Keeps (R.hands self.new.resolver) (R.refuses self.new.resolver) S.hands S.refuses S.first (numbering self.new.numbers) self.new.units.entries }
         ensures stays_ready { R.ready self.new.resolver }
     {
@@ -130,8 +152,8 @@ impl<R: Resolver, S: Source> Modules<R, S> {
             Err(ResolveError::Memory) => return Err(LoadError::Memory),
             Err(error) => return Err(LoadError::Refused(error)),
         };
-        let table = read(alloc, &mut self.numbers, id, path, &unit)?;
-        put(&mut self.units, id, unit)?;
+        let Tabled { table, marks } = read(alloc, &mut self.numbers, id, path, &unit)?;
+        put(&mut self.units, id, Held { unit, marks })?;
         Ok(table)
     }
 }
@@ -151,7 +173,7 @@ impl<R: Resolver, S: Source> Loader<ResolveError> for Modules<R, S> {
             return Err(LoadError::Memory);
         };
         match unit_of(&self.units, path) {
-            Some(unit) => read(alloc, &mut self.numbers, path, &module, unit),
+            Some(held) => read_again(alloc, &mut self.numbers, path, &module, &held.unit),
             None => self.fetch(alloc, path, &module),
         }
     }

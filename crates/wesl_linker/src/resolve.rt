@@ -9,7 +9,8 @@ ghost use Rattle.wesl_syntax.specs.Unit.{spelled};
 ghost use Rattle.wesl_tree.specs.Translation.{unit_view};
 ghost use Rattle.wesl_world.specs.Faults.{AreDistinct};
 ghost use Rattle.wesl_world.specs.Linking.{paths};
-ghost use Rattle.wesl_table.specs.Tables.{table_at};
+ghost use Rattle.wesl_table.specs.Marks.{AreMarked};
+ghost use Rattle.wesl_table.specs.Tables.{table_at, uses};
 ghost use Rattle.wesl_table.specs.Numbering.{AreRelated, Grows, NameAt, IsNumbered};
 ghost use Rattle.wesl_table.specs.NumbersView.{numbering};
 ghost use Rattle.wesl_linker.specs.Handing.{Follows};
@@ -21,7 +22,7 @@ ghost use Rattle.wesl_linker.specs.Worlds as worlds;
 ghost use Rattle.wesl_linker.specs.declared.loaded.Loaded as loaded;
 
 use crate::link::Link;
-use crate::loaded::{Loaded, put_in_order, take_modules};
+use crate::loaded::{Held, Loaded, put_in_order, take_modules};
 use crate::modules::{Modules, Source};
 use crate::refusals::told;
 use crate::resolutions::Resolutions;
@@ -30,8 +31,9 @@ use std::alloc::Global;
 use std::marker::{Brand, PhantomData};
 use wesl_names::{Diagnostic, Error, ModulePath};
 use wesl_resolve::Resolver;
+use wesl_table::marks::Mark;
 use wesl_table::numbers::Numbers;
-use wesl_table::table::table_of;
+use wesl_table::table::{Tabled, table_of};
 use wesl_tree::TranslationUnit;
 use wesl_world::ids::{NameId, PathId};
 use wesl_world::link::Linked;
@@ -65,9 +67,10 @@ fn copied(alloc: Global, ids: &Vec<NameId>) -> Result<Vec<NameId>, Error>
 fn link_of(
     alloc: Global,
     numbers: Numbers,
-    units: IndexMap<PathId, TranslationUnit>,
+    units: IndexMap<PathId, Held>,
     path: ModulePath,
     unit: TranslationUnit,
+    marks: Vec<Vec<Mark>>,
     kept: Vec<NameId>,
     linked: Linked,
 ) -> Result<Link, Error>
@@ -75,7 +78,7 @@ fn link_of(
     requires left { AreKept (numbering numbers) units.entries (drop 1 linked.tables) }
     requires once { AreDistinct (paths (drop 1 linked.tables)) }
     ensures found { IfOk result (λ l. (ms : List loaded.Loaded) × AreRelated (IsTaken (numbering numbers) units.entries (drop 1 linked.tables)) (drop 1 linked.tables) ms × IsPermutation ms l.others.items × AreInOrder l.others.items) }
-    ensures rest { IfOk result (λ l. l ≡ record { root = record { path = path; place = 0; unit = unit }; others = l.others; kept = kept; numbers = numbers; linked = linked }) }
+    ensures rest { IfOk result (λ l. l ≡ record { root = record { path = path; place = 0; unit = unit; marks = marks }; others = l.others; kept = kept; numbers = numbers; linked = linked }) }
     ensures refused { IfErr result (λ e. e ≡ error.Memory) }
 {
     let mut units = units;
@@ -86,6 +89,7 @@ fn link_of(
             path,
             place: 0,
             unit,
+            marks,
         },
         others,
         kept,
@@ -102,6 +106,7 @@ fn reach<R: Resolver + Drop, S: Source>(
     kept: Vec<NameId>,
     path: ModulePath,
     unit: TranslationUnit,
+    marks: Vec<Vec<Mark>>,
     resolver: R,
     max_modules: usize,
 ) -> Result<Resolutions, Error>
@@ -109,6 +114,7 @@ fn reach<R: Resolver + Drop, S: Source>(
     requires follows { Follows (R.hands resolver) (R.refuses resolver) S.hands S.refuses }
     requires first { S.first ≡ numbering numbers }
     requires root { IsNumbered (numbering numbers) table (table_at (path_view path) (spelled (unit_view unit))) }
+    requires marked { AreMarked (numbering numbers) marks.items (uses (path_view path) (spelled (unit_view unit))) }
     requires asked { is_relative (path_view path) ≡ false }
     requires kept { (keep : List Text) × AreRelated (NameAt (numbering numbers)) kept.items keep }
     ensures linked { (keep : List Text) → AreRelated (NameAt (numbering numbers)) kept.items keep → IfOk result (λ r. worlds.IsLinked S.hands S.refuses (module_at path unit) (worlds.task_of (module_at path unit) keep false) max_modules (turns_of r) (modules_of r)) }
@@ -133,7 +139,7 @@ fn reach<R: Resolver + Drop, S: Source>(
                 units,
                 source: _,
             } = modules;
-            let link = link_of(alloc, numbers, units, path, unit, kept, linked)?;
+            let link = link_of(alloc, numbers, units, path, unit, marks, kept, linked)?;
             Ok(Resolutions::of_link(alloc, link))
         }
         Err(fault) => {
@@ -173,9 +179,10 @@ pub fn resolve_lazy<R: Resolver>(
     let Ok(id) = numbers.path(alloc, path) else {
         return Err(Diagnostic::of(Error::Memory));
     };
-    let Ok(table) = table_of(alloc, &mut numbers, id, path, &unit) else {
+    let Ok(tabled) = table_of(alloc, &mut numbers, id, path, &unit) else {
         return Err(Diagnostic::of(Error::Memory));
     };
+    let Tabled { table, marks } = tabled;
     let Ok(root) = path.try_clone(alloc) else {
         return Err(Diagnostic::of(Error::Memory));
     };
@@ -186,6 +193,7 @@ pub fn resolve_lazy<R: Resolver>(
         kept,
         root,
         unit,
+        marks,
         resolver,
         max_modules,
     ) {

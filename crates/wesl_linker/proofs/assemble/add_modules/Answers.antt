@@ -4,7 +4,7 @@ use Rattle.wesl_world.proofs.Lists.{contains_first, contains_later}
 use Rattle.wesl_table.proofs.Lists.{take_next}
 use Rattle.wesl_linker.specs.Holding.{AreParts}
 use Rattle.wesl_linker.specs.declared.loaded.Loaded.{Loaded}
-use Rattle.wesl_linker.proofs.Each.{item_held}
+use Rattle.wesl_linker.proofs.Lists.{item_held}
 use Rattle.wesl_linker.proofs.Parted.{parts_more}
 use Rattle.wesl_linker.proofs.assemble.add_modules.Goals as goal
 

@@ -37,7 +37,7 @@ linked_unit-requires c =
     let to : nodes_of c.deref-2.result.now c.deref-3.result.now ≡ nodes_of nodes parts.declarations.items = ap (λ ns. nodes_of ns c.deref-3.result.now) c.deref-2.ensures.value ∙ ap (nodes_of nodes) c.deref-3.ensures.value in
     record {
       one_each = ap length c.deref-4.ensures.value ∙ (sym (same_length denotation_view parts.denotations.items)
-          ∙ (all_named l (given c.args.given.now) us nodes words parts units c.in_ok-nodes.ensures.thinned all ∙ ap (λ u. length (identifiers (forest_of_unit u))) (sym to)));
+          ∙ (all_named c.law_of_pieces.ensures l (given c.args.given.now) us nodes words parts units c.in_ok-nodes.ensures.thinned all ∙ ap (λ u. length (identifiers (forest_of_unit u))) (sym to)));
     }
 
 pub returns-clause-assembled : goal.returns-clause-assembled
@@ -53,7 +53,7 @@ returns-clause-assembled c =
     let to : nodes_of c.deref-2.result.now c.deref-3.result.now ≡ nodes_of nodes parts.declarations.items = ap (λ ns. nodes_of ns c.deref-3.result.now) c.deref-2.ensures.value ∙ ap (nodes_of nodes) c.deref-3.ensures.value in
     let print : Meaning → Text = printed_as (printed_by (numbering l.numbers) (given c.args.given.now)) in
     if_ok c.linked_unit.result
-    (λ unit linked. assembled_is l (given c.args.given.now) us nodes words parts units c.in_ok-nodes.ensures.thinned all c.law_of_meanings.ensures (unit_view unit)
+    (λ unit linked. assembled_is c.law_of_pieces.ensures l (given c.args.given.now) us nodes words parts units c.in_ok-nodes.ensures.thinned all c.law_of_meanings.ensures (unit_view unit)
     (subst (λ (ds : List Meaning). IsLinkedAs print (nodes_of nodes parts.declarations.items) ds (unit_view unit)) (ap (map denotation_view) c.deref-4.ensures.value)
     (subst (λ (u : UnitOf ℕ). IsLinkedAs print u (map denotation_view c.deref-4.result.now) (unit_view unit)) to linked)))
     c.linked_unit.ensures.linked

@@ -17,3 +17,6 @@ returns-clause-given g c = if_ok c.add_table.result
     (λ gives ms name_of same fresh s. gives_more (numbering c.args.link.now.numbers) c.args.link.now.numbers.paths.different c.args.link.now.numbers.names.different name_of (g.M.Mangler.name_of c.args.mangler.now) same ms c.args.module.now fresh
     c.table_of-table.result.now c.table_of-table.ensures.numbered (given c.args.given.now) (given c.add_table.new.self) s gives c.add_table.ensures.others c.add_table.ensures.keeps)
     c.add_table.ensures.given
+
+pub table_of-table-requires : goal.table_of-table-requires
+table_of-table-requires g c = record { tabled = c.requires.sound.tabled c.args.module.now c.requires.inside }

@@ -6,7 +6,7 @@ use Rattle.wesl_table.proofs.Lists.{take_next}
 use Rattle.wesl_naming.specs.GivenView.{given}
 use Rattle.wesl_linker.specs.Holding.{GivesTo, IsFreshAfter}
 use Rattle.wesl_linker.specs.declared.loaded.Loaded.{Loaded}
-use Rattle.wesl_linker.proofs.Each.{item_held}
+use Rattle.wesl_linker.proofs.Lists.{item_held}
 use Rattle.wesl_linker.proofs.Naming.{fresh_other}
 use Rattle.wesl_linker.proofs.resolutions.add_others.Goals as goal
 

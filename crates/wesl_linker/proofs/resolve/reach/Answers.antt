@@ -89,7 +89,7 @@ of_link-requires g c =
     let l = c.in_ok-link-in-Ok.link in
     let (ms, rel, same, sorted) = c.in_ok-link-in-Ok.ensures.found in
     let taken : AreRelated (IsTaken nb end.units.entries ts) ts ms = subst (λ (xs : List (Table PathId NameId)). AreRelated (IsTaken nb end.units.entries (drop 1 xs)) (drop 1 xs) ms) is rel in
-    record { sound = subst (λ (x : Link). IsLinkOf (task_in x) x) (sym c.in_ok-link-in-Ok.ensures.rest) (sound.sound end.numbers first grown g.S.Source.hands g.S.Source.refuses end.units.entries kept.one_unit c.args.table c.args.path c.args.unit c.requires.root c.args.kept c.requires.kept.0 c.requires.kept.1 c.args.max_modules c.in-Ok.linked linked ts is ms l.others taken same) }
+    record { sound = subst (λ (x : Link). IsLinkOf (task_in x) x) (sym c.in_ok-link-in-Ok.ensures.rest) (sound.sound end.numbers first grown g.S.Source.hands g.S.Source.refuses end.units.entries kept.one_unit kept.handed_out c.args.table c.args.path c.args.unit c.args.marks c.requires.root c.requires.marked c.args.kept c.requires.kept.0 c.requires.kept.1 c.args.max_modules c.in-Ok.linked linked ts is ms l.others taken same) }
 
 pub returns-in_ok-link-in-Ok-clause-linked : goal.returns-in_ok-link-in-Ok-clause-linked
 returns-in_ok-link-in-Ok-clause-linked g c =
@@ -109,7 +109,7 @@ returns-in_ok-link-in-Ok-clause-linked g c =
     let l = c.in_ok-link-in-Ok.link in
     let (ms, rel, same, sorted) = c.in_ok-link-in-Ok.ensures.found in
     let taken : AreRelated (IsTaken nb end.units.entries ts) ts ms = subst (λ (xs : List (Table PathId NameId)). AreRelated (IsTaken nb end.units.entries (drop 1 xs)) (drop 1 xs) ms) is rel in
-    λ keep kept_so. sound.linked_told end.numbers first grown g.S.Source.hands g.S.Source.refuses end.units.entries kept.one_unit c.args.table c.args.path c.args.unit c.requires.root c.args.kept keep kept_so c.args.max_modules c.in-Ok.linked linked ts is ms l.others taken same (resolved c.of_link.result) (subst (λ (x : Link). IsFoundBy x (resolved c.of_link.result)) c.in_ok-link-in-Ok.ensures.rest c.of_link.ensures.found)
+    λ keep kept_so. sound.linked_told end.numbers first grown g.S.Source.hands g.S.Source.refuses end.units.entries kept.one_unit kept.handed_out c.args.table c.args.path c.args.unit c.args.marks c.requires.root c.requires.marked c.args.kept keep kept_so c.args.max_modules c.in-Ok.linked linked ts is ms l.others taken same (resolved c.of_link.result) (subst (λ (x : Link). IsFoundBy x (resolved c.of_link.result)) c.in_ok-link-in-Ok.ensures.rest c.of_link.ensures.found)
 
 pub returns-in_ok-link-in-Ok-clause-order : goal.returns-in_ok-link-in-Ok-clause-order
 returns-in_ok-link-in-Ok-clause-order g c =
@@ -129,7 +129,7 @@ returns-in_ok-link-in-Ok-clause-order g c =
     let l = c.in_ok-link-in-Ok.link in
     let (ms, rel, same, sorted) = c.in_ok-link-in-Ok.ensures.found in
     let taken : AreRelated (IsTaken nb end.units.entries ts) ts ms = subst (λ (xs : List (Table PathId NameId)). AreRelated (IsTaken nb end.units.entries (drop 1 xs)) (drop 1 xs) ms) is rel in
-    sound.order_told end.numbers first grown g.S.Source.hands g.S.Source.refuses end.units.entries kept.one_unit c.args.table c.args.path c.args.unit c.requires.root c.args.kept c.requires.kept.0 c.requires.kept.1 c.args.max_modules c.in-Ok.linked linked ts is ms l.others taken same (resolved c.of_link.result) (subst (λ (x : Link). IsFoundBy x (resolved c.of_link.result)) c.in_ok-link-in-Ok.ensures.rest c.of_link.ensures.found) sorted
+    sound.order_told end.numbers first grown g.S.Source.hands g.S.Source.refuses end.units.entries kept.one_unit kept.handed_out c.args.table c.args.path c.args.unit c.args.marks c.requires.root c.requires.marked c.args.kept c.requires.kept.0 c.requires.kept.1 c.args.max_modules c.in-Ok.linked linked ts is ms l.others taken same (resolved c.of_link.result) (subst (λ (x : Link). IsFoundBy x (resolved c.of_link.result)) c.in_ok-link-in-Ok.ensures.rest c.of_link.ensures.found) sorted
 
 pub returns-in_ok-link-in-Ok-clause-kept : goal.returns-in_ok-link-in-Ok-clause-kept
 returns-in_ok-link-in-Ok-clause-kept g c =
@@ -149,7 +149,7 @@ returns-in_ok-link-in-Ok-clause-kept g c =
     let l = c.in_ok-link-in-Ok.link in
     let (ms, rel, same, sorted) = c.in_ok-link-in-Ok.ensures.found in
     let taken : AreRelated (IsTaken nb end.units.entries ts) ts ms = subst (λ (xs : List (Table PathId NameId)). AreRelated (IsTaken nb end.units.entries (drop 1 xs)) (drop 1 xs) ms) is rel in
-    λ keep kept_so. sound.kept_told end.numbers first grown g.S.Source.hands g.S.Source.refuses end.units.entries kept.one_unit c.args.table c.args.path c.args.unit c.requires.root c.args.kept keep kept_so c.args.max_modules c.in-Ok.linked linked ts is ms l.others taken same (resolved c.of_link.result) (subst (λ (x : Link). IsFoundBy x (resolved c.of_link.result)) c.in_ok-link-in-Ok.ensures.rest c.of_link.ensures.found)
+    λ keep kept_so. sound.kept_told end.numbers first grown g.S.Source.hands g.S.Source.refuses end.units.entries kept.one_unit kept.handed_out c.args.table c.args.path c.args.unit c.args.marks c.requires.root c.requires.marked c.args.kept keep kept_so c.args.max_modules c.in-Ok.linked linked ts is ms l.others taken same (resolved c.of_link.result) (subst (λ (x : Link). IsFoundBy x (resolved c.of_link.result)) c.in_ok-link-in-Ok.ensures.rest c.of_link.ensures.found)
 
 pub returns-in_ok-error-in-Err-clause-refused : goal.returns-in_ok-error-in-Err-clause-refused
 returns-in_ok-error-in-Err-clause-refused g c =

@@ -4,7 +4,9 @@ use Rattle.wesl_names.specs.Path.{Path, path_view}
 use Rattle.wesl_names.specs.declared.errors.Error as error
 use Rattle.wesl_syntax.specs.Unit.{spelled}
 use Rattle.wesl_tree.specs.Translation.{unit_view}
-use Rattle.wesl_table.specs.Numbering.{AreRelated, NameAt}
+use Rattle.wesl_table.specs.Marks.{AreMarked}
+use Rattle.wesl_table.specs.Tables.{table_at, uses}
+use Rattle.wesl_table.specs.Numbering.{AreRelated, NameAt, IsNumbered}
 use Rattle.wesl_table.specs.NumbersView.{numbering}
 use Rattle.wesl_table.proofs.Lists.{related_more}
 use Rattle.wesl_table.proofs.Related.{grows_trans, name_later}
@@ -12,6 +14,14 @@ use Rattle.wesl_linker.specs.Refusal.{TellsOf}
 use Rattle.wesl_linker.specs.Keeping.{modules_of, turns_of}
 use Rattle.wesl_linker.specs.Worlds.{task_of, IsLinked, IsRefused}
 use Rattle.wesl_linker.proofs.resolve.resolve_lazy.Goals as goal
+
+pub reach-requires-clause-root : goal.reach-requires-clause-root
+reach-requires-clause-root g c =
+    subst (λ (p : Path). IsNumbered (numbering c.table_of.new.numbers) c.in-Ok-table_of.tabled.table (table_at p (spelled (unit_view c.args.unit)))) (sym c.in-Ok-try_clone.ensures.equal) c.in-Ok-table_of.ensures.numbered
+
+pub reach-requires-clause-marked : goal.reach-requires-clause-marked
+reach-requires-clause-marked g c =
+    subst (λ (p : Path). AreMarked (numbering c.table_of.new.numbers) c.in-Ok-table_of.tabled.marks.items (uses p (spelled (unit_view c.args.unit)))) (sym c.in-Ok-try_clone.ensures.equal) c.in-Ok-table_of.ensures.marked
 
 pub reach-requires-clause-kept : goal.reach-requires-clause-kept
 reach-requires-clause-kept g c =

@@ -17,35 +17,35 @@ use Rattle.wesl_linker.proofs.modules.ModulesLoaderResolveError.load.Goals as go
 pub returns-in-Some-unit_of-clause-handed : goal.returns-in-Some-unit_of-clause-handed
 returns-in-Some-unit_of-clause-handed g c =
     let a = numbering c.args.self.now.numbers in
-    let b = numbering c.read.new.numbers in
+    let b = numbering c.read_again.new.numbers in
     let q = path_view c.in-Ok.module in
     let at : PathAt a c.args.path q = c.in-Some.ensures.found ∙ ap Some (sym c.in-Ok.ensures.equal) in
-    in_ok (λ (t : Table PathId NameId). IsNumbered b t (table_at q (spelled (unit_view c.in-Some-unit_of.unit.now)))) (IsHandedTable g.S.Source.hands b c.args.self.now.units.entries c.args.path) c.read.result
-    (λ t h. handed_again g.S.Source.hands a b c.args.self.now.units.entries c.args.path c.in-Some-unit_of.unit.now q t c.read.ensures.grows c.requires.1.1.handed_out c.in-Some-unit_of.ensures.found at h) c.read.ensures.numbered
+    in_ok (λ (t : Table PathId NameId). IsNumbered b t (table_at q (spelled (unit_view c.in-Some-unit_of.held.now.unit)))) (IsHandedTable g.S.Source.hands b c.args.self.now.units.entries c.args.path) c.read_again.result
+    (λ t h. handed_again g.S.Source.hands a b c.args.self.now.units.entries c.args.path c.in-Some-unit_of.held.now q t c.read_again.ensures.grows c.requires.1.1.handed_out c.in-Some-unit_of.ensures.found at h) c.read_again.ensures.numbered
 
 pub returns-in-Some-unit_of-clause-ready_paths : goal.returns-in-Some-unit_of-clause-ready_paths
 returns-in-Some-unit_of-clause-ready_paths g c =
-    let b = numbering c.read.new.numbers in
+    let b = numbering c.read_again.new.numbers in
     let q = path_view c.in-Ok.module in
     let hands = g.R.Resolver.hands c.args.self.now.resolver in
     let refuses = g.R.Resolver.refuses c.args.self.now.resolver in
     let units = c.args.self.now.units.entries in
     let keeps : Keeps hands refuses g.S.Source.hands g.S.Source.refuses g.S.Source.first b units =
-    keeps_on hands hands g.S.Source.hands refuses refuses g.S.Source.refuses g.S.Source.first (numbering c.args.self.now.numbers) b units units c.requires.1.1 (itself hands) (itself refuses) c.read.ensures.grows refl in
-    let u : Table Path Text = table_at q (spelled (unit_view c.in-Some-unit_of.unit.now)) in
+    keeps_on hands hands g.S.Source.hands refuses refuses g.S.Source.refuses g.S.Source.first (numbering c.args.self.now.numbers) b units units c.requires.1.1 (itself hands) (itself refuses) c.read_again.ensures.grows refl in
+    let u : Table Path Text = table_at q (spelled (unit_view c.in-Some-unit_of.held.now.unit)) in
     let K = g.R.Resolver.ready c.args.self.now.resolver × Keeps hands refuses g.S.Source.hands g.S.Source.refuses g.S.Source.first b units in
-    in_ok (λ (t : Table PathId NameId). IsNumbered b t u) (IsReady (λ p. IsReadyPath b p × K)) c.read.result (λ t h. ready_table K (c.requires.1.0, keeps) b t u h) c.read.ensures.numbered
+    in_ok (λ (t : Table PathId NameId). IsNumbered b t u) (IsReady (λ p. IsReadyPath b p × K)) c.read_again.result (λ t h. ready_table K (c.requires.1.0, keeps) b t u h) c.read_again.ensures.numbered
 
 pub returns-in-Some-unit_of-clause-adds : goal.returns-in-Some-unit_of-clause-adds
 returns-in-Some-unit_of-clause-adds g c =
     let a = numbering c.args.self.now.numbers in
-    let b = numbering c.read.new.numbers in
+    let b = numbering c.read_again.new.numbers in
     let ready = g.R.Resolver.ready c.args.self.now.resolver in
     let hands = g.R.Resolver.hands c.args.self.now.resolver in
     let refuses = g.R.Resolver.refuses c.args.self.now.resolver in
     let units = c.args.self.now.units.entries in
     adds_more (ready × Keeps hands refuses g.S.Source.hands g.S.Source.refuses g.S.Source.first a units) (ready × Keeps hands refuses g.S.Source.hands g.S.Source.refuses g.S.Source.first b units)
-    (λ (r, k). (r, keeps_on hands hands g.S.Source.hands refuses refuses g.S.Source.refuses g.S.Source.first a b units units k (itself hands) (itself refuses) c.read.ensures.grows refl)) g.S.Source.hands g.S.Source.refuses a b units units c.read.ensures.grows
+    (λ (r, k). (r, keeps_on hands hands g.S.Source.hands refuses refuses g.S.Source.refuses g.S.Source.first a b units units k (itself hands) (itself refuses) c.read_again.ensures.grows refl)) g.S.Source.hands g.S.Source.refuses a b units units c.read_again.ensures.grows
     (λ p u h. h)
 
 pub fetch-requires-clause-asked : goal.fetch-requires-clause-asked
