@@ -7,8 +7,8 @@ turned : (t : Bool) → (not t ≡ false) ↔ (t ≡ true)
 turned true = (λ e. refl, λ e. refl)
 turned false = (λ e. sym e, λ e. sym e)
 
-pub no_clash : {P : Type 0} (clash a r x y : Bool) → clash ≡ not (a && r) → a ≡ x → r ≡ y → Decides (x && y) P → (clash ≡ false) ↔ P
-no_clash clash a r x y e ae re d = (
-  λ h. d.0 (sym (ap₂ (λ s t. s && t) ae re) ∙ (turned (a && r)).0 (sym e ∙ h)),
-  λ p. e ∙ (turned (a && r)).1 (ap₂ (λ s t. s && t) ae re ∙ d.1 p),
-)
+-- `b` says whether both tests pass, which decide P
+pub no_clash : {P : Type 0} (b s t x y : Bool) → b ≡ (s && t) → s ≡ x → t ≡ y → Decides (x && y) P → (not b ≡ false) ↔ P
+no_clash b s t x y e se te d =
+    let both = ap₂ (λ p q. p && q) se te in
+    (λ h. d.0 (sym both ∙ (sym e ∙ (turned b).0 h)), λ p. (turned b).1 (e ∙ (both ∙ d.1 p)))

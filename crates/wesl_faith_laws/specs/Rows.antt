@@ -1,5 +1,5 @@
 -- Worked rows: whether the names of linked units and of units made by hand read as their numbers say.
-use Rattle.std.specs.Prelude.{◌≡◌, Bool, true, false, [], ◌∷◌, codes}
+use Rattle.std.specs.Prelude.{◌≡◌, true, false, [], ◌∷◌, codes}
 use Rattle.wesl_syntax.specs.Unit.{UnitView}
 use Rattle.wesl_scope_laws.specs.Builders.{none, some, plain_type, of_type, literal_text, plus, called, declare, parameter_of, statement, body, function_of, block, loop_of, continue_with, for_of, call_now, var_of, module_of, const_value, let_value}
 use Rattle.wesl_faith.specs.Test.{is_faithful}
