@@ -3,7 +3,7 @@ use Rattle.std.proofs.Common.{◌≡◌, ℕ, zero, suc, ◌<◌, Bool, true, fa
 use Rattle.std.proofs.lemmas.Bool.Decides.{Decides-ltb}
 use Rattle.wesl_names.specs.Path.{Text}
 use Rattle.wesl_names.specs.declared.names.Ident.{Ident}
-use Rattle.wesl_syntax.specs.Tree.{Tree, Forest, TreeOf, end, tree, kind, at, ident, text, texts, truth, unary, binary, assignment, space, access, path, forest_of, trees, identifiers, respell, respell_forest, forest_below, tree_below, directive_node}
+use Rattle.wesl_syntax.specs.Tree.{Tree, Forest, TreeOf, before, end, tree, kind, at, ident, text, texts, truth, unary, binary, assignment, space, access, path, forest_of, trees, identifiers, respell, respell_forest, forest_below, tree_below, directive_node}
 use Rattle.wesl_syntax.specs.Unit.{name_in}
 use Rattle.wesl_syntax.specs.View.{placed, directive_view}
 use Rattle.wesl_syntax.specs.declared.span.Spanned.{Spanned}
@@ -75,8 +75,12 @@ place_below n (x ∷ xs) zero d b h = b.0
 place_below n (x ∷ xs) (suc k) d b h = place_below n xs k d b.1 (omega (arith, h))
 
 -- each has a name in the table
-pub word_below : (n : ℕ) (f : Forest) (xs : List Ident) (k : ℕ) (d : Ident) → numbers_of xs ≡ identifiers f → forest_below n f ≡ true → k < length xs → (get_or xs k d).0 < n
-word_below n f xs k d e b h = place_below n xs k d (subst (EachBelow n) (sym e) (identifiers_below n f b)) h
+pub word_below : (n : ℕ) (t : Tree) (xs : List Ident) (k : ℕ) (d : Ident) → numbers_of xs ≡ identifiers (before t end) → tree_below n t ≡ true → k < length xs → (get_or xs k d).0 < n
+word_below n t xs k d e b h = place_below n xs k d (subst (EachBelow n) (sym e) (identifiers_below n (before t end) (alone (tree_below n t) b))) h
+  where
+    alone : (a : Bool) → a ≡ true → (a && true) ≡ true
+    alone true h = refl
+    alone false h = h
 
 abbrev pub word_of : List Text → Ident → Meaning
 word_of names i = free_name (name_in names i.0)
@@ -85,9 +89,5 @@ words_told : (names : List Text) (xs : List Ident) → map (word_of names) xs �
 words_told names [] = refl
 words_told names (x ∷ xs) = ap (λ ws. word_of names x ∷ ws) (words_told names xs)
 
-no_more : {X : Type 0} (xs : List X) → xs ++ [] ≡ xs
-no_more [] = refl
-no_more (x ∷ xs) = ap (λ ys. x ∷ ys) (no_more xs)
-
-pub words_are : (names : List Text) (f : Forest) (xs : List Ident) → numbers_of xs ≡ identifiers f → map (word_of names) xs ≡ map free_name (map (name_in names) (identifiers f ++ []))
-words_are names f xs e = words_told names xs ∙ ap (λ ns. map free_name (map (name_in names) ns)) (e ∙ sym (no_more (identifiers f)))
+pub words_are : (names : List Text) (f : Forest) (xs : List Ident) → numbers_of xs ≡ identifiers f → map (word_of names) xs ≡ map free_name (map (name_in names) (identifiers f))
+words_are names f xs e = words_told names xs ∙ ap (λ ns. map free_name (map (name_in names) ns)) e

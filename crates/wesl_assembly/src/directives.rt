@@ -13,9 +13,9 @@ use crate::denotation::Denotation;
 use std::alloc::Global;
 use wesl_copies::copy_global_directive_node;
 use wesl_names::{Error, Names};
+use wesl_occurrences::words_of;
 use wesl_spelling::same_directives;
 use wesl_syntax::GlobalDirectiveNode;
-use wesl_table::uses;
 
 /// The directives that stay of those of many modules, and what their identifiers stand for, in document order.
 #[derive(Drop)]
@@ -34,7 +34,7 @@ fn words<'a>(
     ensures words { IfOk result (λ words. map denotation_view words.items ≡ map free_name (map (name_in names.now) (identifiers (before (placed directive_view directive_node directive.now) end)))) }
     ensures refused { IfErr result (λ e. e ≡ error.Memory) }
 {
-    let idents = uses::words(alloc, &directive.node)?;
+    let idents = words_of(alloc, directive)?;
     let mut words = Vec::with_capacity(alloc, idents.len())?;
     for ident in &idents {
         words.push(Denotation::Free(names.name(*ident)))?;

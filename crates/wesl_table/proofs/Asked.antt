@@ -8,7 +8,7 @@ use Rattle.wesl_names.specs.declared.path.ModulePath.{ModulePath}
 use Rattle.wesl_syntax.specs.Tree.{ForestOf, TreeOf, end, tree, trees, identifiers}
 use Rattle.wesl_world.specs.declared.symbols.Import.{Import}
 use Rattle.wesl_table.specs.Imports as imports
-use Rattle.wesl_table.specs.Mentions.{is_package, in_place, or_else, aims}
+use Rattle.wesl_table.specs.Uses.{is_package, module_in_place, or_else, aims}
 use Rattle.wesl_table.specs.Spelling.{spelled_import}
 use Rattle.wesl_table.specs.Walks.{import_view}
 use Rattle.wesl_table.proofs.Nodes.{flat_map-map}
@@ -55,7 +55,7 @@ join_origin_asked (from_package a) (from_package b) h = refl
 pub join_asked : (own s : Path) → Asked own → Asked (join own s)
 join_asked own s h = join_origin_asked own.origin s.origin h
 
-in_place_asked : (s : Path) (i : Import Path Text) → Asked i.path → All Asked (in_place s i)
+in_place_asked : (s : Path) (i : Import Path Text) → Asked i.path → All Asked (module_in_place s i)
 in_place_asked s i h = by (is_package s.origin i.bound)
   where
     by : (b : Bool) → All Asked (if b then extend (push i.path i.item) s.components ∷ [] else [])
@@ -67,11 +67,11 @@ or_else_asked [] q h k = all_one Asked q k
 or_else_asked (p ∷ ps) q h k = h
 
 aims_asked : (own : Path) (is : List (Import Path Text)) (s : Path) → Asked own → All (λ i. Asked i.path) is → All Asked (aims own is s)
-aims_asked own is s h k = or_else_asked (flat_map (in_place s) is) (join own s) (all_flat (in_place s) (λ i. Asked i.path) Asked (in_place_asked s) is k) (join_asked own s h)
+aims_asked own is s h k = or_else_asked (flat_map (module_in_place s) is) (join own s) (all_flat (module_in_place s) (λ i. Asked i.path) Asked (in_place_asked s) is k) (join_asked own s h)
 
 module _ (own : Path) (names : List Text) (is : List (Import ModulePath Ident)) (s : Path) where
-  pub aims_is : (found : List Path) → found ≡ flat_map (λ i. in_place s (spelled_import names i)) is → or_else found (join own s) ≡ aims own (map (spelled_import names) is) s
-  aims_is found e = ap (λ qs. or_else qs (join own s)) (e ∙ sym (flat_map-map (in_place s) (spelled_import names) is))
+  pub aims_is : (found : List Path) → found ≡ flat_map (λ i. module_in_place s (spelled_import names i)) is → or_else found (join own s) ≡ aims own (map (spelled_import names) is) s
+  aims_is found e = ap (λ qs. or_else qs (join own s)) (e ∙ sym (flat_map-map (module_in_place s) (spelled_import names) is))
 
   pub found_asked : (found : List ModulePath) → Asked own → All (λ i. Asked (path_view i.path)) is → map path_view found ≡ aims own (map (spelled_import names) is) s → All (λ p. Asked (path_view p)) found
   found_asked found h k e =

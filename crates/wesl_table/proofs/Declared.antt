@@ -4,58 +4,21 @@ use Rattle.std.specs.Prelude.{flat_map, option_map, if◌then◌else◌}
 use mathlib.Core.List.{map-map}
 use Rattle.std.proofs.lemmas.List.{map-append}
 use Rattle.wesl_names.specs.Path.{Text, Path}
-use Rattle.wesl_syntax.specs.Tree.{LabelOf, kind, at, ident, text, texts, truth, unary, binary, assignment, space, access, path, Role, binder, reference, word, ForestOf, Forest, TreeOf, Tree, end, tree, before, trees, identifiers, respell_label, respell_forest, respell, forest_of, declaration_node}
-use Rattle.wesl_syntax.specs.Unit.{name_in, UnitView, spelled}
 use Rattle.wesl_names.specs.declared.names.Ident.{Ident}
 use Rattle.wesl_names.specs.declared.path.ModulePath.{ModulePath}
-use Rattle.wesl_syntax.specs.Nodes.{is_type, is_formula}
-use Rattle.wesl_syntax.specs.View.{global_view, placed}
-use Rattle.wesl_syntax.specs.declared.declaration.GlobalDeclaration.{GlobalDeclaration}
-use Rattle.wesl_syntax.specs.declared.span.Spanned.{Spanned}
+use Rattle.wesl_syntax.specs.Tree.{LabelOf, kind, at, ident, text, texts, truth, unary, binary, assignment, space, access, path, binder, reference, word, ForestOf, TreeOf, end, tree, trees, identifiers, respell_label, respell_forest, respell}
+use Rattle.wesl_syntax.specs.Unit.{name_in, UnitView, spelled}
 use Rattle.wesl_world.specs.declared.symbols.Import.{Import}
-use Rattle.wesl_world.specs.Tables.{Declaration, Table}
 use Rattle.wesl_table.specs.Imports as imports
-use Rattle.wesl_table.specs.Uses.{use_of, path_of, uses_in, uses}
-use Rattle.wesl_table.specs.Mentions.{referring, mentions, referred}
-use Rattle.wesl_table.specs.Tables.{bound_name, or_later, declared_name, is_linked, declaration_of, declared, declarations_of, table_at}
-use Rattle.wesl_table.specs.Spelling.{respell_import, respell_use, spelled_imports, spelled_uses}
-use Rattle.wesl_table.specs.Walks.{use_view, import_view}
-use Rattle.wesl_table.specs.declared.uses.Use as code
-use Rattle.wesl_table.proofs.Nodes.{trees-forest_of, flat_map-map}
+use Rattle.wesl_table.specs.Tables.{bound_name, or_later, declared_name}
+use Rattle.wesl_table.specs.Spelling.{respell_import, spelled_imports}
+use Rattle.wesl_table.specs.Walks.{import_view}
 
 -- a question about labels whose answer does not depend on identifiers
 abbrev pub IsBlind : {I J X : Type 0} → (I → J) → (LabelOf I → X) → (LabelOf J → X) → Type 0
 IsBlind {I} f p q = (l : LabelOf I) → q (respell_label f l) ≡ p l
 
 module _ {I J : Type 0} (f : I → J) where
-  is_type-blind : IsBlind f is_type is_type
-  is_type-blind (kind k) = refl
-  is_type-blind (at k s e) = refl
-  is_type-blind (ident r i) = refl
-  is_type-blind (text x) = refl
-  is_type-blind (texts x) = refl
-  is_type-blind (truth x) = refl
-  is_type-blind (unary x) = refl
-  is_type-blind (binary x) = refl
-  is_type-blind (assignment x) = refl
-  is_type-blind (space x) = refl
-  is_type-blind (access x) = refl
-  is_type-blind (path x) = refl
-
-  is_formula-blind : IsBlind f is_formula is_formula
-  is_formula-blind (kind k) = refl
-  is_formula-blind (at k s e) = refl
-  is_formula-blind (ident r i) = refl
-  is_formula-blind (text x) = refl
-  is_formula-blind (texts x) = refl
-  is_formula-blind (truth x) = refl
-  is_formula-blind (unary x) = refl
-  is_formula-blind (binary x) = refl
-  is_formula-blind (assignment x) = refl
-  is_formula-blind (space x) = refl
-  is_formula-blind (access x) = refl
-  is_formula-blind (path x) = refl
-
   is_item-blind : IsBlind f imports.is_item imports.is_item
   is_item-blind (kind k) = refl
   is_item-blind (at k s e) = refl
@@ -138,49 +101,9 @@ module _ {I J : Type 0} (f : I → J) where
 
   -- ---- identifiers
 
-  below_respelled : (g : ForestOf I) → imports.below (respell_forest f g) ≡ respell_forest f (imports.below g)
+  pub below_respelled : (g : ForestOf I) → imports.below (respell_forest f g) ≡ respell_forest f (imports.below g)
   below_respelled end = refl
   below_respelled (tree l children others) = refl
-
-  use_respelled : (words : Bool) (by : Option Path) (r : Role) (x : I) → use_of words by r (f x) ≡ respell_use f (use_of words by r x)
-  use_respelled words by binder x = refl
-  use_respelled true by reference x = refl
-  use_respelled false by reference x = refl
-  use_respelled words by word x = refl
-
-  path_respelled : (l : LabelOf I) (g : ForestOf I) → path_of (respell_label f l) (respell_forest f g) ≡ path_of l g
-  path_respelled l g =
-      ap (λ b. if b then imports.first_label None imports.label_path (imports.below (respell_forest f g)) else None) (is_type-blind l)
-      ∙ (ap (λ h. if is_type l then imports.first_label None imports.label_path h else None) (below_respelled g)
-      ∙ ap (λ p. if is_type l then p else None) (first_blind None imports.label_path imports.label_path label_path-blind (imports.below g)))
-
-  tree_respelled : (l : LabelOf I) (words : Bool) (by : Option Path) (children others : ForestOf I)
-      → ((w : Bool) (p : Option Path) → uses_in w p (respell_forest f children) ≡ map (respell_use f) (uses_in w p children))
-      → uses_in words by (respell_forest f others) ≡ map (respell_use f) (uses_in words by others)
-      → uses_in (words || is_formula (respell_label f l)) (path_of (respell_label f l) (respell_forest f children)) (respell_forest f children) ++ uses_in words by (respell_forest f others)
-      ≡ map (respell_use f) (uses_in (words || is_formula l) (path_of l children) children ++ uses_in words by others)
-  tree_respelled l words by children others inner outer =
-      ap (λ b. uses_in (words || b) (path_of (respell_label f l) (respell_forest f children)) (respell_forest f children) ++ uses_in words by (respell_forest f others)) (is_formula-blind l)
-      ∙ (ap (λ p. uses_in (words || is_formula l) p (respell_forest f children) ++ uses_in words by (respell_forest f others)) (path_respelled l children)
-      ∙ (ap (λ us. us ++ uses_in words by (respell_forest f others)) (inner (words || is_formula l) (path_of l children))
-      ∙ (ap (λ us. map (respell_use f) (uses_in (words || is_formula l) (path_of l children) children) ++ us) outer
-      ∙ sym (map-append (respell_use f) (uses_in (words || is_formula l) (path_of l children) children) (uses_in words by others)))))
-
-  pub uses_respelled : (words : Bool) (by : Option Path) (g : ForestOf I) → uses_in words by (respell_forest f g) ≡ map (respell_use f) (uses_in words by g)
-  uses_respelled words by end = refl
-  uses_respelled words by (tree (ident r x) children others) =
-      ap (λ u. u ∷ uses_in words by (respell_forest f others)) (use_respelled words by r x) ∙ ap (λ us. respell_use f (use_of words by r x) ∷ us) (uses_respelled words by others)
-  uses_respelled words by (tree (kind k) children others) = tree_respelled (kind k) words by children others (λ w p. uses_respelled w p children) (uses_respelled words by others)
-  uses_respelled words by (tree (at k s e) children others) = tree_respelled (at k s e) words by children others (λ w p. uses_respelled w p children) (uses_respelled words by others)
-  uses_respelled words by (tree (text x) children others) = tree_respelled (text x) words by children others (λ w p. uses_respelled w p children) (uses_respelled words by others)
-  uses_respelled words by (tree (texts x) children others) = tree_respelled (texts x) words by children others (λ w p. uses_respelled w p children) (uses_respelled words by others)
-  uses_respelled words by (tree (truth x) children others) = tree_respelled (truth x) words by children others (λ w p. uses_respelled w p children) (uses_respelled words by others)
-  uses_respelled words by (tree (unary x) children others) = tree_respelled (unary x) words by children others (λ w p. uses_respelled w p children) (uses_respelled words by others)
-  uses_respelled words by (tree (binary x) children others) = tree_respelled (binary x) words by children others (λ w p. uses_respelled w p children) (uses_respelled words by others)
-  uses_respelled words by (tree (assignment x) children others) = tree_respelled (assignment x) words by children others (λ w p. uses_respelled w p children) (uses_respelled words by others)
-  uses_respelled words by (tree (space x) children others) = tree_respelled (space x) words by children others (λ w p. uses_respelled w p children) (uses_respelled words by others)
-  uses_respelled words by (tree (access x) children others) = tree_respelled (access x) words by children others (λ w p. uses_respelled w p children) (uses_respelled words by others)
-  uses_respelled words by (tree (path p) children others) = tree_respelled (path p) words by children others (λ w p. uses_respelled w p children) (uses_respelled words by others)
 
   -- ---- the name that a declaration binds
 
@@ -204,27 +127,13 @@ module _ {I J : Type 0} (f : I → J) where
   later_respelled (Some x) b = refl
   later_respelled None b = refl
 
-  name_respelled : (g : ForestOf I) → declared_name (respell_forest f g) ≡ option_map f (declared_name g)
+  pub name_respelled : (g : ForestOf I) → declared_name (respell_forest f g) ≡ option_map f (declared_name g)
   name_respelled end = refl
   name_respelled (tree l children others) =
       ap (λ o. or_later o (declared_name (respell_forest f others))) (bound_respelled l)
       ∙ (ap (λ o. or_later (option_map f (bound_name l)) o) (name_respelled others) ∙ later_respelled (bound_name l) (declared_name others))
 
-  is_linked-blind : IsBlind f is_linked is_linked
-  is_linked-blind (kind k) = refl
-  is_linked-blind (at k s e) = refl
-  is_linked-blind (ident r i) = refl
-  is_linked-blind (text x) = refl
-  is_linked-blind (texts x) = refl
-  is_linked-blind (truth x) = refl
-  is_linked-blind (unary x) = refl
-  is_linked-blind (binary x) = refl
-  is_linked-blind (assignment x) = refl
-  is_linked-blind (space x) = refl
-  is_linked-blind (access x) = refl
-  is_linked-blind (path p) = refl
-
-  trees_respelled : (g : ForestOf I) → trees (respell_forest f g) ≡ map (respell f) (trees g)
+  pub trees_respelled : (g : ForestOf I) → trees (respell_forest f g) ≡ map (respell f) (trees g)
   trees_respelled end = refl
   trees_respelled (tree l children others) = ap (λ ts. record { label = respell_label f l; children = respell_forest f children } ∷ ts) (trees_respelled others)
 
@@ -234,7 +143,7 @@ module _ {I J : Type 0} (f : I → J) where
       → identifiers (respell_forest f a) ++ identifiers (respell_forest f b) ≡ map f (identifiers a ++ identifiers b)
   both_respelled a b e g = ap (λ xs. xs ++ identifiers (respell_forest f b)) e ∙ (ap (λ xs. map f (identifiers a) ++ xs) g ∙ sym (map-append f (identifiers a) (identifiers b)))
 
-  identifiers_respelled : (g : ForestOf I) → identifiers (respell_forest f g) ≡ map f (identifiers g)
+  pub identifiers_respelled : (g : ForestOf I) → identifiers (respell_forest f g) ≡ map f (identifiers g)
   identifiers_respelled end = refl
   identifiers_respelled (tree (ident r i) children others) = ap (λ xs. f i ∷ xs) (identifiers_respelled others)
   identifiers_respelled (tree (kind k) children others) = both_respelled children others (identifiers_respelled children) (identifiers_respelled others)
@@ -321,59 +230,10 @@ module _ {I J : Type 0} (f : I → J) where
   pub all_imports_respelled : (own : Path) (g : ForestOf I) → imports.all_imports own (respell_forest f g) ≡ map (respell_import f) (imports.all_imports own g)
   all_imports_respelled own g = ap (flat_map (λ t. imports.statement_imports own (imports.below t.children))) (trees_respelled g) ∙ statements_respelled own (trees g)
 
--- ---- declarations
+-- ---- the whole module
 
-module _ (own : Path) (is : List (Import Path Text)) (names : List Text) where
-  mentions_named : (g : Forest) (us : List code.Use) → map use_view us ≡ uses g → mentions (respell_forest (name_in names) g) ≡ flat_map referring (spelled_uses names us)
-  mentions_named g us e =
-      let apart : map (respell_use (name_in names)) (map use_view us) ≡ spelled_uses names us = simp map-map in
-      ap (flat_map referring) (uses_respelled (name_in names) false None g ∙ (ap (map (respell_use (name_in names))) (sym e) ∙ apart))
-
-  abbrev pub named : Option Text → List code.Use → Declaration Path Text
-  named name us = record { name = name; references = flat_map (referred own is) (flat_map referring (spelled_uses names us)) }
-
-  name_named : (g : Forest) (o : Option Ident) → option_map (λ i. i.0) o ≡ declared_name g → declared_name (respell_forest (name_in names) g) ≡ option_map (λ i. name_in names i.0) o
-  name_named g o e = name_respelled (name_in names) g ∙ (ap (option_map (name_in names)) (sym e) ∙ twice o)
-    where
-      twice : (o : Option Ident) → option_map (name_in names) (option_map (λ i. i.0) o) ≡ option_map (λ i. name_in names i.0) o
-      twice None = refl
-      twice (Some i) = refl
-
-  pub linked_is : (t : Tree) (o : Option Ident) (us : List code.Use) → is_linked t.label ≡ true → option_map (λ i. i.0) o ≡ declared_name t.children → map use_view us ≡ uses t.children
-      → declared own is (before (respell (name_in names) t) end) ≡ named (option_map (λ i. name_in names i.0) o) us ∷ []
-  linked_is t o us l n e =
-      let d : Declaration Path Text = declaration_of own is (respell_forest (name_in names) t.children) in
-      ap (λ b. if b then d ∷ [] else []) (is_linked-blind (name_in names) t.label ∙ l)
-      ∙ (ap (λ x. record { name = x; references = flat_map (referred own is) (mentions (respell_forest (name_in names) t.children)) } ∷ []) (name_named t.children o n)
-      ∙ ap (λ rs. record { name = option_map (λ i. name_in names i.0) o; references = flat_map (referred own is) rs } ∷ []) (mentions_named t.children us e))
-
-  pub not_linked : (t : Tree) → is_linked t.label ≡ false → declared own is (before (respell (name_in names) t) end) ≡ []
-  not_linked t l = ap (λ b. if b then declaration_of own is (respell_forest (name_in names) t.children) ∷ [] else []) (is_linked-blind (name_in names) t.label ∙ l)
-
-  abbrev pub declared_in : Spanned GlobalDeclaration → List (Declaration Path Text)
-  declared_in d = declared own is (before (respell (name_in names) (global_view d.node)) end)
-
-  pub declarations_are : (ds : List (Spanned GlobalDeclaration)) → declarations_of own is (respell_forest (name_in names) (forest_of (map (placed global_view declaration_node) ds))) ≡ flat_map declared_in ds
-  declarations_are ds =
-      ap (flat_map (λ t. declared own is t.children)) (trees_respelled (name_in names) (forest_of (map (placed global_view declaration_node) ds)) ∙ ap (map (respell (name_in names))) (trees-forest_of (map (placed global_view declaration_node) ds)))
-      ∙ (flat_map-map (λ t. declared own is t.children) (respell (name_in names)) (map (placed global_view declaration_node) ds)
-      ∙ flat_map-map (λ t. declared own is (respell (name_in names) t).children) (placed global_view declaration_node) ds)
-
--- ---- the whole table
-
-abbrev made : Path → List (Import Path Text) → List (Declaration Path Text) → Table Path Text
-made own is ds = record { path = own; imports = is; declarations = ds }
-
-imports_are : (own : Path) (u : UnitView) (is : List (Import ModulePath Ident)) → map import_view is ≡ imports.all_imports own u.imports.children → spelled_imports u.names is ≡ imports.imports own (spelled u)
+pub imports_are : (own : Path) (u : UnitView) (is : List (Import ModulePath Ident)) → map import_view is ≡ imports.all_imports own u.imports.children → spelled_imports u.names is ≡ imports.imports own (spelled u)
 imports_are own u is e =
     let f : ℕ → Text = name_in u.names in
     let apart : spelled_imports u.names is ≡ map (respell_import f) (map import_view is) = simp map-map in
     apart ∙ (ap (map (respell_import f)) e ∙ sym (all_imports_respelled f own u.imports.children))
-
-pub table_is : (own : Path) (u : UnitView) (names : List Text) (is : List (Import ModulePath Ident)) (ds : Tree) → names ≡ u.names → map import_view is ≡ imports.all_imports own u.imports.children → ds ≡ u.declarations
-    → record { path = own; imports = spelled_imports names is; declarations = declarations_of own (spelled_imports names is) (respell (name_in names) ds).children } ≡ table_at own (spelled u)
-table_is own u names is ds n e d =
-    let js : List (Import Path Text) = imports.imports own (spelled u) in
-    ap (λ ns. made own (spelled_imports ns is) (declarations_of own (spelled_imports ns is) (respell (name_in ns) ds).children)) n
-    ∙ (ap (λ xs. made own xs (declarations_of own xs (respell (name_in u.names) ds).children)) (imports_are own u is e)
-    ∙ ap (λ t. made own js (declarations_of own js (respell (name_in u.names) t).children)) d)

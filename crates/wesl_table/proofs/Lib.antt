@@ -5,4 +5,10 @@ mod Numbered
 pub mod Related
 pub mod Asked
 pub mod Declared
-mod Aimed
+pub mod Naming
+pub mod Plain
+pub mod Holding
+pub mod Added
+pub mod Seen
+pub mod Pieced
+pub mod Tabling

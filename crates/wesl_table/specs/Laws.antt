@@ -1,8 +1,13 @@
 -- Laws of declarations.
-use Rattle.std.specs.Prelude.{◌≡◌, ℕ, map}
-use Rattle.wesl_syntax.specs.Tree.{ForestOf, identifiers}
-use Rattle.wesl_table.specs.Uses.{use_name, uses}
+use Rattle.std.specs.Prelude.{◌≡◌, map}
+use Rattle.wesl_names.specs.Path.{Text, Path}
+use Rattle.wesl_syntax.specs.Tree.{before, end, identifiers, kind, declarations}
+use Rattle.wesl_syntax.specs.Unit.{UnitOf}
+use Rattle.wesl_occurrences.specs.Pieces.{declarations_in}
+use Rattle.wesl_table.specs.Tables.{uses}
+use Rattle.wesl_table.specs.Uses.{use_name}
 
--- each identifier stands once
+-- each identifier of a declaration stands once
 abbrev pub UsesAreIdentifiers : Type 0
-UsesAreIdentifiers = (f : ForestOf ℕ) → map use_name (uses f) ≡ identifiers f
+UsesAreIdentifiers = (own : Path) (u : UnitOf Text) → u.declarations.label ≡ kind declarations
+    → map (map use_name) (uses own u) ≡ map (λ t. identifiers (before t end)) (declarations_in u)

@@ -1,7 +1,8 @@
 pub mod Imports
 pub mod Uses
-pub mod Mentions
 pub mod Tables
+pub mod Marks
+pub mod Reading
 pub mod Numbering
 pub mod Walks
 pub mod Spelling

@@ -88,10 +88,3 @@ module _ (numbering : Numbering) where
 
   abbrev pub AreNumberedDeclarations : List (Declaration PathId NameId) → List (Declaration Path Text) → Type 0
   AreNumberedDeclarations ds es = AreRelated (SameDeclaration (PathAt numbering) (NameAt numbering)) ds es
-
--- a list of references, or of declarations, gains numbers for those in `more`
-abbrev pub ReferencesGain : Numbering → Numbering → List (Reference PathId NameId) → List (Reference PathId NameId) → List (Reference Path Text) → Type 0
-ReferencesGain a b old new more = (before : List (Reference Path Text)) → AreNumberedReferences a old before → AreNumberedReferences b new (before ++ more)
-
-abbrev pub DeclarationsGain : Numbering → Numbering → List (Declaration PathId NameId) → List (Declaration PathId NameId) → List (Declaration Path Text) → Type 0
-DeclarationsGain a b old new more = (before : List (Declaration Path Text)) → AreNumberedDeclarations a old before → AreNumberedDeclarations b new (before ++ more)

@@ -1,12 +1,15 @@
--- The symbol table of a module: its imports with a target, its declarations, and what each of these refers to.
-use Rattle.std.specs.Prelude.{Bool, true, false, Option, Some, None, List, [], ◌∷◌, flat_map, if◌then◌else◌}
+-- The symbol table of a module: its imports with a target, its declarations, and what each of these asks for.
+use Rattle.std.specs.Prelude.{Option, Some, None, List, [], ◌∷◌, map, flat_map, filter_map}
 use Rattle.wesl_names.specs.Path.{Text, Path}
-use Rattle.wesl_syntax.specs.Tree.{LabelOf, ForestOf, end, tree, trees, kind, ident, binder, declaration, type_alias, const_assert}
+use Rattle.wesl_syntax.specs.Tree.{LabelOf, ForestOf, end, tree, TreeOf, ident, binder}
 use Rattle.wesl_syntax.specs.Unit.{UnitOf}
-use Rattle.wesl_world.specs.declared.symbols.Import.{Import}
+use Rattle.wesl_world.specs.declared.symbols.Reference.{Reference}
+use Rattle.wesl_world.specs.declared.symbols.Symbol.{Symbol}
 use Rattle.wesl_world.specs.Tables.{Declaration, Table}
-use Rattle.wesl_table.specs.Imports.{first_label, below, imports}
-use Rattle.wesl_table.specs.Mentions.{mentions, referred}
+use Rattle.wesl_occurrences.specs.Occurrences.{occurrences}
+use Rattle.wesl_occurrences.specs.Pieces.{declarations_in, pieces}
+use Rattle.wesl_table.specs.Imports.{below, imports}
+use Rattle.wesl_table.specs.Uses.{Use, asked, use_of}
 
 module _ {I : Type 0} where
   abbrev pub bound_name : LabelOf I → Option I
@@ -22,27 +25,31 @@ module _ {I : Type 0} where
   declared_name end = None
   declared_name (tree l children others) = or_later (bound_name l) (declared_name others)
 
-  -- A constant, an override, a variable, an alias or a const_assert. Functions and structs are not linked yet: to a link
-  -- they are not there, and voids never are.
-  abbrev pub is_linked : LabelOf I → Bool
-  is_linked (kind declaration) = true
-  is_linked (kind type_alias) = true
-  is_linked (kind const_assert) = true
-  is_linked _ = false
+  -- the name that a global declaration binds; a const_assert and a void bind none
+  abbrev pub name_of : TreeOf I → Option I
+  name_of t = declared_name (below t.children)
 
-  -- a global declaration of these fields: a const_assert has no name
-  abbrev pub declaration_of : Path → List (Import Path Text) → ForestOf I → Declaration Path I
-  declaration_of own imports fields =
-      record { name = declared_name fields; references = flat_map (referred own imports) (mentions fields) }
+-- one element of each
+abbrev pub paired : {X Y Z : Type 0} → (X → Y → Z) → List X → List Y → List Z
+paired f (x ∷ xs) (y ∷ ys) = f x y ∷ paired f xs ys
+paired f _ _ = []
 
-  -- the declaration in a node of a module's declarations, if it is linked
-  abbrev pub declared : Path → List (Import Path Text) → ForestOf I → List (Declaration Path I)
-  declared own imports node = if first_label false is_linked node then declaration_of own imports (below node) ∷ [] else []
+-- the names that a module declares
+abbrev pub names_declared : UnitOf Text → List Text
+names_declared u = filter_map name_of (declarations_in u)
 
-  -- the declarations of a module, in document order
-  abbrev pub declarations_of : Path → List (Import Path Text) → ForestOf I → List (Declaration Path I)
-  declarations_of own imports f = flat_map (λ t. declared own imports t.children) (trees f)
+-- of each global declaration what its identifiers are, in document order
+abbrev pub uses : Path → UnitOf Text → List (List (Use Path Text))
+uses own u = map (map (use_of own (names_declared u) (imports own u) (occurrences u))) (pieces u)
+
+-- a reference by what it asks for, which always has a path
+abbrev pub reference_to : {P I : Type 0} → Symbol P I → Reference P I
+reference_to a = record { path = Some a.path; name = a.name }
+
+-- a declaration, and what its identifiers ask for; a const_assert has no name, nor has a void, which asks for nothing
+abbrev pub declaration_of : TreeOf Text → List (Use Path Text) → Declaration Path Text
+declaration_of t us = record { name = name_of t; references = map reference_to (flat_map asked us) }
 
 -- the symbol table of a unit that stands at a path
 abbrev pub table_at : Path → UnitOf Text → Table Path Text
-table_at own u = record { path = own; imports = imports own u; declarations = declarations_of own (imports own u) u.declarations.children }
+table_at own u = record { path = own; imports = imports own u; declarations = paired declaration_of (declarations_in u) (uses own u) }

@@ -1,45 +1,73 @@
--- The identifiers of a declaration, and how each stands (WGSL, "Types" and "Expressions"; WESL, "ConditionalTranslation").
-use Rattle.std.specs.Prelude.{Bool, true, false, ◌||◌, Option, None, List, [], ◌∷◌, ◌++◌, if◌then◌else◌}
-use Rattle.wesl_names.specs.Path.{Path}
-use Rattle.wesl_syntax.specs.Tree as syntax
-use Rattle.wesl_syntax.specs.Tree.{Role, LabelOf, ForestOf, end, tree, ident}
-use Rattle.wesl_syntax.specs.Nodes.{is_type, is_formula}
-use Rattle.wesl_world.specs.declared.symbols.Reference.{Reference}
-use Rattle.wesl_table.specs.Imports.{first_label, label_path, below}
+-- What the identifiers of a declaration are to a link (WGSL, "Declaration and Scope"; WESL, "Imports").
+use Rattle.std.specs.Prelude.{ℕ, Bool, false, List, [], ◌∷◌, map, flat_map, bytes_eq, if◌then◌else◌}
+use Rattle.std.specs.List.{list_any}
+use Rattle.wesl_names.specs.Path.{Text, Origin, from_package, Path, push, extend, join}
+use Rattle.wesl_world.specs.declared.symbols.Import.{Import}
+use Rattle.wesl_world.specs.declared.symbols.Symbol.{Symbol}
+use Rattle.wesl_occurrences.specs.Occurrences.{Standing, module_name, word, Occurrence}
+use Rattle.wesl_meanings.specs.Scopes.{Key, bound, free, qualified, key_of}
 
--- how an identifier of a declaration stands
-pub data Use (I : Type 0) : Type 0 where
-  -- the name that a declaration binds
-  declares : I → Use I
-  -- a name that is used, under the path that is written before it
-  refers : Reference Path I → Use I
-  -- a name in the formula of a condition, which uses nothing
-  word : I → Use I
+pub data Use (P I : Type 0) : Type 0 where
+  -- the name that a global declaration binds
+  declares : I → Use P I
+  -- a name that no block of a function binds, and what it asks for: nothing where it is a word or the module does not bind it
+  refers : I → List (Symbol P I) → Use P I
+  -- a name of the block with this number: a parameter, a local declaration, or a reference to one
+  local : ℕ → I → Use P I
 
-module _ {I : Type 0} where
-  -- the identifier itself
-  abbrev pub use_name : Use I → I
-  use_name (declares x) = x
-  use_name (refers r) = r.name
-  use_name (word x) = x
+-- the identifier itself
+abbrev pub use_name : {P I : Type 0} → Use P I → I
+use_name (declares n) = n
+use_name (refers n asked) = n
+use_name (local b n) = n
 
-  -- An identifier with a role. `words`: it stands in the formula of a condition; `by`: the path of the type expression
-  -- that it is a field of.
-  abbrev pub use_of : Bool → Option Path → Role → I → Use I
-  use_of words by syntax.binder x = declares x
-  use_of true by syntax.reference x = word x
-  use_of false by syntax.reference x = refers (record { path = by; name = x })
-  use_of words by syntax.word x = word x
+-- what an identifier asks for
+abbrev pub asked : {P I : Type 0} → Use P I → List (Symbol P I)
+asked (refers n ss) = ss
+asked _ = []
 
-  -- the path of a type expression is its first field
-  abbrev pub path_of : LabelOf I → ForestOf I → Option Path
-  path_of l children = if is_type l then first_label None label_path (below children) else None
+-- ---- what a name asks for in the module at `own`, which declares these names and has these imports
 
-  -- the identifiers of these trees, in document order
-  abbrev pub uses_in : Bool → Option Path → ForestOf I → List (Use I)
-  uses_in words by end = []
-  uses_in words by (tree (ident r x) children others) = use_of words by r x ∷ uses_in words by others
-  uses_in words by (tree l children others) = uses_in (words || is_formula l) (path_of l children) children ++ uses_in words by others
+abbrev pub under : {P I : Type 0} → I → P → Symbol P I
+under name q = record { path = q; name = name }
 
-  abbrev pub uses : ForestOf I → List (Use I)
-  uses f = uses_in false None f
+abbrev pub in_place_of : Text → Import Path Text → List (Symbol Path Text)
+in_place_of n i = if bytes_eq i.bound n then under i.item i.path ∷ [] else []
+
+-- a name without a path: the module's own declaration, else what its imports of the name aim at, else nothing
+abbrev pub asked_plain : Path → List Text → List (Import Path Text) → Text → List (Symbol Path Text)
+asked_plain own declared imports n = if list_any (bytes_eq n) declared then under n own ∷ [] else flat_map (in_place_of n) imports
+
+abbrev pub is_package : Origin → Text → Bool
+is_package (from_package x) name = bytes_eq x name
+is_package _ name = false
+
+-- the module that stands for the path, where it begins with the name that the import binds
+abbrev pub module_in_place : Path → Import Path Text → List Path
+module_in_place s i = if is_package s.origin i.bound then extend (push i.path i.item) s.components ∷ [] else []
+
+abbrev pub or_else : List Path → Path → List Path
+or_else [] p = p ∷ []
+or_else (q ∷ qs) p = q ∷ qs
+
+-- The modules that a path aims at in the module at `own`: where it begins with a name that imports bind, the items of
+-- these imports in its place, else the path joined to that of the module.
+abbrev pub aims : Path → List (Import Path Text) → Path → List Path
+aims own imports s = or_else (flat_map (module_in_place s) imports) (join own s)
+
+module _ (own : Path) (declared : List Text) (imports : List (Import Path Text)) where
+  -- a reference, by what plain scoping says of it
+  abbrev pub meant : Text → Key → Use Path Text
+  meant n (bound [] m) = refers n (asked_plain own declared imports n)
+  meant n (bound (k ∷ outer) m) = local k n
+  meant n (free m) = refers n (asked_plain own declared imports n)
+  meant n (qualified s m) = refers n (map (under n) (aims own imports s))
+
+  abbrev pub use_as : Standing → Text → Key → Use Path Text
+  use_as module_name n key = declares n
+  use_as word n key = refers n []
+  use_as _ n key = meant n key
+
+  -- an identifier among all of a module
+  abbrev pub use_of : List (Occurrence Text) → Occurrence Text → Use Path Text
+  use_of all o = use_as o.role o.name (key_of all o)

@@ -2,7 +2,7 @@
 ghost use Rattle.std.specs.Prelude.{◌≡◌, ◌++◌, false, All, map, IfOk, IfErr, OnOk};
 ghost use Rattle.wesl_names.specs.declared.errors.Error as error;
 ghost use Rattle.wesl_names.specs.Path.{path_view, origin_view, push, extend, join, is_relative};
-ghost use Rattle.wesl_table.specs.Mentions as mentions;
+ghost use Rattle.wesl_table.specs.Uses as uses;
 ghost use Rattle.wesl_table.specs.Spelling.{spelled_import, spelled_imports};
 
 use crate::numbers::spelling;
@@ -20,7 +20,7 @@ pub struct Scope<'a> {
 
 /// Whether a path begins with the package of that name.
 fn is_package(origin: &PathOrigin, name: &str) -> bool
-    ensures { result ≡ mentions.is_package (origin_view origin.now) name.now }
+    ensures { result ≡ uses.is_package (origin_view origin.now) name.now }
 {
     match origin {
         PathOrigin::Package(package) => package.as_str() == name,
@@ -51,7 +51,7 @@ fn add_in_place(
     path: &ModulePath,
     import: &Import<ModulePath, Ident>,
 ) -> Result<(), Error>
-    ensures found { OnOk result (map path_view found.new.items ≡ map path_view found.old.items ++ mentions.in_place (path_view path.now) (spelled_import names.now import.now)) }
+    ensures found { OnOk result (map path_view found.new.items ≡ map path_view found.old.items ++ uses.module_in_place (path_view path.now) (spelled_import names.now import.now)) }
     ensures refused { IfErr result (λ e. e ≡ error.Memory) }
 {
     if !is_package(&path.origin, spelling(names, import.bound)) {
@@ -68,7 +68,7 @@ fn or_else(
     path: &ModulePath,
     found: Vec<ModulePath>,
 ) -> Result<Vec<ModulePath>, Error>
-    ensures aims { IfOk result (λ aims. map path_view aims.items ≡ mentions.or_else (map path_view found.items) (join (path_view own.now) (path_view path.now))) }
+    ensures aims { IfOk result (λ aims. map path_view aims.items ≡ uses.or_else (map path_view found.items) (join (path_view own.now) (path_view path.now))) }
     ensures refused { IfErr result (λ e. e ≡ error.Memory) }
 {
     if !found.is_empty() {
@@ -85,7 +85,7 @@ pub fn aims(alloc: Global, scope: Scope<'_>, path: &ModulePath) -> Result<Vec<Mo
     requires own { is_relative (path_view scope.own.now) ≡ false }
     requires imports { All (λ i. is_relative (path_view i.path) ≡ false) scope.imports.now }
     ensures asked { IfOk result (λ found. All (λ p. is_relative (path_view p) ≡ false) found.items) }
-    ensures aims { IfOk result (λ found. map path_view found.items ≡ mentions.aims (path_view scope.entry.own.now) (spelled_imports scope.entry.names.now scope.entry.imports.now) (path_view path.now)) }
+    ensures aims { IfOk result (λ found. map path_view found.items ≡ uses.aims (path_view scope.entry.own.now) (spelled_imports scope.entry.names.now scope.entry.imports.now) (path_view path.now)) }
     ensures refused { IfErr result (λ e. e ≡ error.Memory) }
 {
     let mut found = Vec::new(alloc);

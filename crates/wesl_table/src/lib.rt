@@ -1,10 +1,11 @@
-//! The symbol table of a module: what its imports bind, what it declares, and what its declarations refer to.
+//! The symbol table of a module: what its imports bind, what it declares, and what the identifiers of its declarations
+//! are to a link.
 #![tactic(auto)]
 
 pub mod aims;
 pub mod imports;
 pub mod laws;
+pub mod marks;
 pub mod numbers;
-pub mod references;
+pub mod reading;
 pub mod table;
-pub mod uses;

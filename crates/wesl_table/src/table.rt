@@ -1,28 +1,35 @@
 //! The symbol table of a module.
-ghost use Rattle.std.specs.Prelude.{◌≡◌, false, All, Option, Some, None, [], ◌∷◌, map, flat_map, option_map, IfOk, OnOk};
+ghost use Rattle.std.specs.Prelude.{◌≡◌, ◌<◌, suc, false, All, IfOk, IfErr, length, get_or, map};
 ghost use Rattle.wesl_names.specs.Path.{path_view, is_relative};
-ghost use Rattle.wesl_syntax.specs.Tree.{before, end, respell};
-ghost use Rattle.wesl_syntax.specs.Unit.{name_in, spelled};
-ghost use Rattle.wesl_syntax.specs.View.{global_view, declarations_tree};
+ghost use Rattle.wesl_names.specs.declared.errors.Error as error;
+ghost use Rattle.wesl_syntax.specs.Unit.{spelled};
 ghost use Rattle.wesl_tree.specs.Translation.{unit_view};
-ghost use Rattle.wesl_table.specs.Mentions.{referred, referring};
-ghost use Rattle.wesl_table.specs.Tables.{declared, declarations_of, table_at};
-ghost use Rattle.wesl_table.specs.Spelling.{spelled_import, spelled_imports, spelled_uses};
-ghost use Rattle.wesl_table.specs.Numbering.{IsRelatedOption, IsNumberedImport, AreNumberedImports, AreNumberedDeclarations, DeclarationsGain, IsNumbered, Grows, NameAt, PathAt};
+ghost use Rattle.wesl_occurrences.specs.Pieces.{declarations_in};
+ghost use Rattle.wesl_table.specs.Marks.{AreMarked};
+ghost use Rattle.wesl_table.specs.Numbering.{AreRelated, IsRelatedOption, IsNumberedImport, AreNumberedImports, AreNumberedDeclarations, IsNumbered, Grows, NameAt, PathAt};
 ghost use Rattle.wesl_table.specs.NumbersView.{numbering};
+ghost use Rattle.wesl_table.specs.Reading.{IsRead, IsNumberedBy, own_path, unit_in};
+ghost use Rattle.wesl_table.specs.Spelling.{spelled_import, spelled_imports};
+ghost use Rattle.wesl_table.specs.Tables.{name_of, declaration_of, paired, uses, table_at};
 
-use crate::aims::Scope;
 use crate::imports::imports;
+use crate::marks::{Mark, mark_piece};
 use crate::numbers::{Numbers, spelling};
-use crate::references::references;
-use crate::uses::{Use, declared_ident, is_linked, uses};
+use crate::reading::{Reading, name_ids, name_set, names_of};
 use std::alloc::Global;
+use wesl_meanings::meanings_of;
 use wesl_names::{Error, Ident, ModulePath, Names};
-use wesl_syntax::{GlobalDeclaration, GlobalDeclarationNode};
 use wesl_tree::TranslationUnit;
 use wesl_world::ids::{NameId, PathId};
 use wesl_world::symbols::Import;
 use wesl_world::table::{Declaration, Table};
+
+/// A symbol table, and of each global declaration what its identifiers are, in document order.
+#[derive(Drop)]
+pub struct Tabled {
+    pub table: Table,
+    pub marks: Vec<Vec<Mark>>,
+}
 
 fn number_import(
     alloc: Global,
@@ -33,6 +40,7 @@ fn number_import(
     requires { is_relative (path_view import.now.path) ≡ false }
     ensures numbered { IfOk result (λ i. IsNumberedImport (numbering numbers.new) i (spelled_import names.now import.now)) }
     ensures grows { Grows (numbering numbers.old) (numbering numbers.new) }
+    ensures refused { IfErr result (λ e. e ≡ error.Memory) }
 {
     let bound = numbers.name(spelling(names, import.bound))?;
     let path = numbers.path(alloc, &import.path)?;
@@ -55,137 +63,100 @@ fn number_imports(
     requires { All (λ i. is_relative (path_view i.path) ≡ false) imports.now }
     ensures numbered { IfOk result (λ found. AreNumberedImports (numbering numbers.new) found.items (spelled_imports names.now imports.now)) }
     ensures grows { Grows (numbering numbers.old) (numbering numbers.new) }
+    ensures refused { IfErr result (λ e. e ≡ error.Memory) }
 {
-    let mut found = Vec::new(alloc);
+    let mut found = Vec::with_capacity(alloc, imports.len())?;
     for import in imports {
         found.push(number_import(alloc, numbers, names, import)?)?;
     }
     Ok(found)
 }
 
-/// The number of the name that a declaration binds, if it binds one.
-fn number_ident(
-    numbers: &mut Numbers,
-    names: &Names,
-    ident: Option<Ident>,
-) -> Result<Option<NameId>, Error>
-    ensures numbered { IfOk result (λ n. IsRelatedOption (NameAt (numbering numbers.new)) n (option_map (λ i. name_in names.now i.0) ident)) }
-    ensures grows { Grows (numbering numbers.old) (numbering numbers.new) }
+/// Where the identifiers of a declaration end: where those of the next begin, and those of the last with the module's.
+fn end_of(starts: &[usize], index: usize, whole: usize) -> usize
+    requires { index < length starts.now }
+    ensures { result ≡ get_or starts.now (suc index) whole }
 {
-    match ident {
-        Some(ident) => Ok(Some(numbers.name(spelling(names, ident))?)),
-        None => Ok(None),
+    match starts.get(index + 1) {
+        Some(start) => *start,
+        None => whole,
     }
 }
 
-/// The declaration that binds `ident` and has these identifiers.
-fn add_symbol(
-    alloc: Global,
-    numbers: &mut Numbers,
-    scope: Scope<'_>,
-    found: &mut Vec<Declaration>,
-    ident: Option<Ident>,
-    uses: &[Use<'_>],
-) -> Result<(), Error>
-    requires own { is_relative (path_view scope.own.now) ≡ false }
-    requires imports { All (λ i. is_relative (path_view i.path) ≡ false) scope.imports.now }
-    ensures numbered { OnOk result (DeclarationsGain (numbering numbers.old) (numbering numbers.new) found.old.items found.new.items (record { name = option_map (λ i. name_in scope.entry.names.now i.0) ident; references = flat_map (referred (path_view scope.entry.own.now) (spelled_imports scope.entry.names.now scope.entry.imports.now)) (flat_map referring (spelled_uses scope.entry.names.now uses.now)) } ∷ [])) }
-    ensures grows { Grows (numbering numbers.old) (numbering numbers.new) }
-{
-    let name = number_ident(numbers, scope.names, ident)?;
-    let references = references(alloc, numbers, scope, uses)?;
-    found.push(Declaration::new(name, references))?;
-    Ok(())
+/// The declarations of a module, and the marks of their identifiers.
+#[derive(Drop)]
+struct Declared {
+    declarations: Vec<Declaration>,
+    marks: Vec<Vec<Mark>>,
 }
 
-/// A declaration of a module, unless it is one that is not linked.
-fn add_declaration(
+/// The declarations that bind these names, if they bind one, with what their identifiers are.
+fn mark_declarations(
     alloc: Global,
     numbers: &mut Numbers,
-    scope: Scope<'_>,
-    found: &mut Vec<Declaration>,
-    declaration: &GlobalDeclaration,
-) -> Result<(), Error>
-    requires own { is_relative (path_view scope.own.now) ≡ false }
-    requires imports { All (λ i. is_relative (path_view i.path) ≡ false) scope.imports.now }
-    ensures numbered { OnOk result (DeclarationsGain (numbering numbers.old) (numbering numbers.new) found.old.items found.new.items (declared (path_view scope.entry.own.now) (spelled_imports scope.entry.names.now scope.entry.imports.now) (before (respell (name_in scope.entry.names.now) (global_view declaration.now)) end))) }
+    reading: Reading<'_, '_>,
+    names: &[Option<NameId>],
+) -> Result<Declared, Error>
+    requires read { IsRead reading }
+    requires numbered { IsNumberedBy (numbering numbers.now) reading }
+    requires named { AreRelated (IsRelatedOption (NameAt (numbering numbers.now))) names.now (map name_of (declarations_in (unit_in reading))) }
+    ensures declared { IfOk result (λ d. AreNumberedDeclarations (numbering numbers.new) d.declarations.items (paired declaration_of (declarations_in (unit_in reading.entry)) (uses (own_path reading.entry) (unit_in reading.entry)))) }
+    ensures marked { IfOk result (λ d. AreMarked (numbering numbers.new) d.marks.items (uses (own_path reading.entry) (unit_in reading.entry))) }
     ensures grows { Grows (numbering numbers.old) (numbering numbers.new) }
+    ensures refused { IfErr result (λ e. e ≡ error.Memory) }
 {
-    if !is_linked(declaration) {
-        return Ok(());
+    let found = &reading.meanings.found;
+    let mut declarations = Vec::with_capacity(alloc, names.len())?;
+    let mut marks = Vec::with_capacity(alloc, names.len())?;
+    for i in 0..names.len() {
+        let end = end_of(&found.starts, i, found.all.len());
+        let one = mark_piece(alloc, numbers, reading, found.starts[i], end)?;
+        declarations.push(Declaration::new(names[i], one.references))?;
+        marks.push(one.marks)?;
     }
-    let uses = uses(alloc, declaration)?;
-    add_symbol(
-        alloc,
-        numbers,
-        scope,
-        found,
-        declared_ident(declaration),
-        &uses,
-    )
+    Ok(Declared {
+        declarations,
+        marks,
+    })
 }
 
-/// The declarations of a module, in the order of the source.
-fn declarations(
-    alloc: Global,
-    numbers: &mut Numbers,
-    scope: Scope<'_>,
-    nodes: &Vec<GlobalDeclarationNode>,
-) -> Result<Vec<Declaration>, Error>
-    requires own { is_relative (path_view scope.own.now) ≡ false }
-    requires imports { All (λ i. is_relative (path_view i.path) ≡ false) scope.imports.now }
-    ensures numbered { IfOk result (λ found. AreNumberedDeclarations (numbering numbers.new) found.items (declarations_of (path_view scope.entry.own.now) (spelled_imports scope.entry.names.now scope.entry.imports.now) (respell (name_in scope.entry.names.now) (declarations_tree nodes.now)).children)) }
-    ensures grows { Grows (numbering numbers.old) (numbering numbers.new) }
-{
-    let mut found = Vec::new(alloc);
-    for node in nodes {
-        add_declaration(alloc, numbers, scope, &mut found, &node.node)?;
-    }
-    Ok(found)
-}
-
-/// The table of a module whose imports are read.
-fn table_in(
-    alloc: Global,
-    numbers: &mut Numbers,
-    id: PathId,
-    scope: Scope<'_>,
-    nodes: &Vec<GlobalDeclarationNode>,
-) -> Result<Table, Error>
-    requires own { is_relative (path_view scope.own.now) ≡ false }
-    requires imports { All (λ i. is_relative (path_view i.path) ≡ false) scope.imports.now }
-    requires held { PathAt (numbering numbers.old) id (path_view scope.own.now) }
-    ensures numbered { IfOk result (λ t. IsNumbered (numbering numbers.new) t (record { path = path_view scope.entry.own.now; imports = spelled_imports scope.entry.names.now scope.entry.imports.now; declarations = declarations_of (path_view scope.entry.own.now) (spelled_imports scope.entry.names.now scope.entry.imports.now) (respell (name_in scope.entry.names.now) (declarations_tree nodes.now)).children })) }
-    ensures path { IfOk result (λ t. t.path ≡ id) }
-    ensures grows { Grows (numbering numbers.old) (numbering numbers.new) }
-{
-    let imports = number_imports(alloc, numbers, scope.names, scope.imports)?;
-    let declarations = declarations(alloc, numbers, scope, nodes)?;
-    let table = Table::new(alloc, id, imports, declarations)?;
-    Ok(table)
-}
-
-/// The symbol table of the unit that stands at a path, whose number is `id`: what its imports bind, what it declares and
-/// what each of its declarations refers to (WESL, "Imports"). Functions and structs are not linked yet, and have no place
-/// in it. Refused for want of memory alone.
+/// The symbol table of a unit that stands at a path, which has this number, with numbers in place of names and paths;
+/// and of each global declaration what its identifiers are (WESL, "Imports"; WGSL, "Declaration and Scope"). Refused for
+/// want of memory alone.
 pub fn table_of(
     alloc: Global,
     numbers: &mut Numbers,
     id: PathId,
     path: &ModulePath,
     unit: &TranslationUnit,
-) -> Result<Table, Error>
+) -> Result<Tabled, Error>
     requires asked { is_relative (path_view path.now) ≡ false }
     requires held { PathAt (numbering numbers.old) id (path_view path.now) }
-    ensures numbered { IfOk result (λ t. IsNumbered (numbering numbers.new) t (table_at (path_view path.now) (spelled (unit_view unit.now)))) }
-    ensures path { IfOk result (λ t. t.path ≡ id) }
+    ensures numbered { IfOk result (λ t. IsNumbered (numbering numbers.new) t.table (table_at (path_view path.now) (spelled (unit_view unit.now)))) }
+    ensures marked { IfOk result (λ t. AreMarked (numbering numbers.new) t.marks.items (uses (path_view path.now) (spelled (unit_view unit.now)))) }
+    ensures path { IfOk result (λ t. t.table.path ≡ id) }
     ensures grows { Grows (numbering numbers.old) (numbering numbers.new) }
+    ensures refused { IfErr result (λ e. e ≡ error.Memory) }
 {
     let imports = imports(alloc, path, unit.imports())?;
-    let scope = Scope {
-        own: path,
-        names: unit.names(),
+    let numbered = number_imports(alloc, numbers, unit.names(), &imports)?;
+    let ids = name_ids(alloc, numbers, unit.names())?;
+    let names = names_of(alloc, numbers, unit.names(), unit.global_declarations())?;
+    let declared_names = name_set(alloc, &names)?;
+    let meanings = meanings_of(alloc, unit)?;
+    let reading = Reading {
+        path,
+        unit,
+        meanings: &meanings,
         imports: &imports,
+        own: id,
+        numbered: &numbered,
+        ids: &ids,
+        declared: &declared_names,
     };
-    table_in(alloc, numbers, id, scope, unit.global_declarations())
+    let found = mark_declarations(alloc, numbers, reading, &names)?;
+    Ok(Tabled {
+        table: Table::new(alloc, id, numbered, found.declarations)?,
+        marks: found.marks,
+    })
 }

@@ -1,0 +1,18 @@
+use Rattle.wesl_table.specs.NumbersView.{numbering}
+use Rattle.wesl_table.proofs.Added.{adds_none, under_next}
+use Rattle.wesl_table.proofs.Related.{grows_itself, grows_trans}
+use Rattle.wesl_table.proofs.marks.add_under.Goals as goal
+
+pub loop-module-init : goal.loop-module-init
+loop-module-init c = record { added = λ x n. adds_none (numbering c.args.numbers.now) c.args.found.now.items; grows = grows_itself (numbering c.args.numbers.now) }
+
+pub loop-module-preserved : goal.loop-module-preserved
+loop-module-preserved c = record {
+  added = λ x n. rw c.in_ok-push.ensures.items
+      (under_next (numbering c.args.numbers.now) (numbering c.loop-module.numbers) (numbering c.path.new.self) c.loop-module.invariant.grows c.path.ensures.grows c.args.name c.in_ok-path.field-0 c.args.modules.now c.loop-module.module-index
+      c.module-item.result c.args.found.now.items c.loop-module.found.items x n (c.loop-module.invariant.added x n) c.in_ok-path.ensures.numbered c.loop-module-test.true c.module-item.is);
+  grows = grows_trans (numbering c.args.numbers.now) (numbering c.loop-module.numbers) (numbering c.path.new.self) c.loop-module.invariant.grows c.path.ensures.grows;
+}
+
+pub returns-in_err-path-clause-grows : goal.returns-in_err-path-clause-grows
+returns-in_err-path-clause-grows c = grows_trans (numbering c.args.numbers.now) (numbering c.loop-module.numbers) (numbering c.path.new.self) c.loop-module.invariant.grows c.path.ensures.grows

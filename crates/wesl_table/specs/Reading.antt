@@ -1,0 +1,113 @@
+-- What is known of a module while its identifiers are marked.
+use Rattle.std.specs.Prelude.{◌≡◌, ℕ, ◌<◌, ◌==◌, Bool, false, Option, Some, None, List, [], ◌∷◌, ◌++◌, length, map, flat_map, take, drop, get_or, Contains, if◌then◌else◌}
+use Rattle.std.specs.List.{All, list_any}
+use Rattle.wesl_names.specs.Path.{Text, Path, path_view, is_relative}
+use Rattle.wesl_syntax.specs.Tree.{kind, declarations}
+use Rattle.wesl_syntax.specs.Unit.{UnitOf, UnitView, spelled, trees_of}
+use Rattle.wesl_tree.specs.Translation.{unit_view}
+use Rattle.wesl_world.specs.declared.ids.PathId.{PathId}
+use Rattle.wesl_world.specs.declared.ids.NameId.{NameId}
+use Rattle.wesl_world.specs.declared.symbols.Import.{Import}
+use Rattle.wesl_world.specs.declared.symbols.Reference.{Reference}
+use Rattle.wesl_world.specs.declared.symbols.Symbol.{Symbol}
+use Rattle.wesl_occurrences.specs.Occurrences.{occurrences}
+use Rattle.wesl_occurrences.specs.Identified.{identified}
+use Rattle.wesl_occurrences.specs.Pieces.{starts}
+use Rattle.wesl_occurrences.specs.Ways.{AreNested, way}
+use Rattle.wesl_meanings.specs.Scopes.{Key, keys}
+use Rattle.wesl_meanings.specs.Keys.{key_view, IsKeyBelow}
+use Rattle.wesl_table.specs.Imports.{imports}
+use Rattle.wesl_table.specs.Marks.{IsMark}
+use Rattle.wesl_table.specs.Numbering.{Numbering, AreRelated, AreNumberedImports, AreNumberedReferences, NameAt, PathAt}
+use Rattle.wesl_table.specs.Spelling.{spelled_imports}
+use Rattle.wesl_table.specs.Tables.{names_declared, reference_to}
+use Rattle.wesl_table.specs.Uses.{Use, local, asked, asked_plain, meant, use_of}
+use Rattle.wesl_table.specs.declared.marks.Mark.{Mark}
+use Rattle.wesl_table.specs.declared.marks.Mark.TheVariants as marks
+use Rattle.wesl_table.specs.declared.reading.Reading.{Reading}
+
+-- ---- the module
+
+abbrev pub view_in : Reading → UnitView
+view_in r = unit_view r.unit.now
+
+abbrev pub unit_in : Reading → UnitOf Text
+unit_in r = spelled (view_in r)
+
+abbrev pub own_path : Reading → Path
+own_path r = path_view r.path.now
+
+abbrev pub imports_in : Reading → List (Import Path Text)
+imports_in r = imports (own_path r) (unit_in r)
+
+-- what a name without a path asks for in it, and what a name with this meaning is
+abbrev pub plain_in : Reading → Text → List (Symbol Path Text)
+plain_in r x = asked_plain (own_path r) (names_declared (unit_in r)) (imports_in r) x
+
+abbrev pub meant_in : Reading → Text → Key → Use Path Text
+meant_in r x k = meant (own_path r) (names_declared (unit_in r)) (imports_in r) x k
+
+-- what all its identifiers are, and the one at a place
+abbrev pub all_uses : Reading → List (Use Path Text)
+all_uses r = map (use_of (own_path r) (names_declared (unit_in r)) (imports_in r) (occurrences (unit_in r))) (occurrences (unit_in r))
+
+abbrev pub use_at : Reading → ℕ → Use Path Text
+use_at r i = get_or (all_uses r) i (local 0 [])
+
+-- the elements from one place to another
+abbrev pub span : {X : Type 0} → ℕ → ℕ → List X → List X
+span from to xs = drop from (take to xs)
+
+-- what was read of it
+pub record IsRead (r : Reading) : Type 0 where
+  pub own : is_relative (own_path r) ≡ false
+  pub asked : All (λ i. is_relative (path_view i.path) ≡ false) r.imports.now
+  pub imports : spelled_imports (view_in r).names r.imports.now ≡ imports_in r
+  pub label : (view_in r).declarations.label ≡ kind declarations
+  pub found : identified r.meanings.now.found ≡ occurrences (trees_of (view_in r))
+  pub keys : map (key_view (way r.meanings.now.found.outer.items)) r.meanings.now.keys.items ≡ keys (occurrences (unit_in r))
+  pub starts : r.meanings.now.found.starts.items ≡ starts (trees_of (view_in r))
+  pub named : All (λ o. o.ident.0 < length (view_in r).names) r.meanings.now.found.all.items
+  pub nested : AreNested r.meanings.now.found.outer.items
+  pub below : All (IsKeyBelow (length r.meanings.now.found.outer.items)) r.meanings.now.keys.items
+
+-- its numbers: of its path, its imports, its names, and of those that it declares
+pub record IsNumberedBy (nb : Numbering) (r : Reading) : Type 0 where
+  pub own : PathAt nb r.own (own_path r)
+  pub imports : AreNumberedImports nb r.numbered.now (imports_in r)
+  pub ids : AreRelated (NameAt nb) r.ids.now (view_in r).names
+  pub declares : (n : NameId) → Contains r.declared.now.keys n → (x : Text) × Contains (names_declared (unit_in r)) x × NameAt nb n x
+  pub declared : (x : Text) → Contains (names_declared (unit_in r)) x → (n : NameId) × Contains r.declared.now.keys n × NameAt nb n x
+
+-- ---- what names ask for, by numbers
+
+abbrev pub same_id : NameId → NameId → Bool
+same_id m n = m.0 == n.0
+
+abbrev pub reference_by : NameId → PathId → Reference PathId NameId
+reference_by n p = record { path = Some p; name = n }
+
+abbrev pub imported_as : NameId → Import PathId NameId → List (Reference PathId NameId)
+imported_as n i = if same_id i.bound n then reference_by i.item i.path ∷ [] else []
+
+-- of a name without a path, where the module declares these names and has these imports
+abbrev pub plain : PathId → List NameId → List (Import PathId NameId) → NameId → List (Reference PathId NameId)
+plain own declared imports n = if list_any (same_id n) declared then reference_by n own ∷ [] else flat_map (imported_as n) imports
+
+abbrev pub mark_by : NameId → NameId → Option PathId → Mark
+mark_by n m (Some p) = marks.Asks (record { path = p; name = m })
+mark_by n m None = marks.Free n
+
+-- the mark of a name that asks for these
+abbrev pub mark_of : NameId → List (Reference PathId NameId) → Mark
+mark_of n [] = marks.Free n
+mark_of n (r ∷ rs) = mark_by n r.name r.path
+
+-- references are added that say this by numbers
+abbrev pub Adds : Numbering → List (Reference PathId NameId) → List (Reference PathId NameId) → List (Symbol Path Text) → Type 0
+Adds nb old new more = (added : List (Reference PathId NameId)) × (new ≡ old ++ added) × AreNumberedReferences nb added (map reference_to more)
+
+-- the mark says what an identifier is, and what it asks for is added
+pub record Marks (nb : Numbering) (m : Mark) (old new : List (Reference PathId NameId)) (u : Use Path Text) : Type 0 where
+  pub mark : IsMark nb m u
+  pub added : Adds nb old new (asked u)

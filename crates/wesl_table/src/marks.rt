@@ -1,0 +1,236 @@
+//! What the identifiers of a module are to a link.
+ghost use Rattle.std.specs.Prelude.{◌≡◌, ◌<◌, ◌≤◌, ◌++◌, false, All, length, get_or, map, flat_map, drop, IfOk, IfErr, OnOk};
+ghost use Rattle.wesl_names.specs.Path.{Text, path_view, is_relative};
+ghost use Rattle.wesl_names.specs.declared.errors.Error as error;
+ghost use Rattle.wesl_occurrences.specs.Ways.{way};
+ghost use Rattle.wesl_meanings.specs.Keys.{key_view, IsKeyBelow};
+ghost use Rattle.wesl_table.specs.Uses.{refers, under, asked, aims as modules_aimed};
+ghost use Rattle.wesl_table.specs.Marks.{IsMark};
+ghost use Rattle.wesl_table.specs.Tables.{reference_to};
+ghost use Rattle.wesl_table.specs.Numbering.{AreRelated, AreNumberedReferences, Grows, NameAt};
+ghost use Rattle.wesl_table.specs.NumbersView.{numbering};
+ghost use Rattle.wesl_table.specs.Reading.{IsRead, IsNumberedBy, Marks, Adds, plain, mark_of, plain_in, meant_in, own_path, imports_in, use_at, all_uses, span};
+
+use crate::aims::{Scope, aims};
+use crate::numbers::Numbers;
+use crate::reading::Reading;
+use std::alloc::Global;
+use wesl_meanings::Key;
+use wesl_names::{Error, Ident, ModulePath};
+use wesl_occurrences::{Standing, law_of_ways};
+use wesl_world::ids::{NameId, PathId};
+use wesl_world::symbols::{Reference, Symbol};
+
+/// What an identifier of a declaration is to a link, by numbers.
+#[derive(Clone, Copy)]
+pub enum Mark {
+    /// the name that the declaration binds
+    Declares(NameId),
+    /// a name that asks for this symbol; of several that it asks for, one
+    Asks(Symbol<PathId, NameId>),
+    /// a name of the block with this number
+    Local(usize, NameId),
+    /// a name that asks for nothing
+    Free(NameId),
+}
+
+/// The mark of a name for which the references from this index on were added: it asks for the first of them.
+fn mark_after(references: &[Reference<PathId, NameId>], before: usize, name: NameId) -> Mark
+    ensures { result ≡ mark_of name (drop before references.now) }
+{
+    match references.get(before) {
+        Some(reference) => match reference.path {
+            Some(path) => Mark::Asks(Symbol {
+                path,
+                name: reference.name,
+            }),
+            None => Mark::Free(name),
+        },
+        None => Mark::Free(name),
+    }
+}
+
+/// What a name without a path asks for: the module's own declaration, else what its imports of the name aim at.
+fn add_plain(
+    reading: Reading<'_, '_>,
+    found: &mut Vec<Reference<PathId, NameId>>,
+    name: NameId,
+) -> Result<(), Error>
+    ensures added { OnOk result (found.new.items ≡ found.old.items ++ plain reading.entry.own reading.entry.declared.now.keys reading.entry.numbered.now name) }
+    ensures refused { IfErr result (λ e. e ≡ error.Memory) }
+{
+    if reading.declared.contains(&name) {
+        found.push(Reference {
+            path: Some(reading.own),
+            name,
+        })?;
+        return Ok(());
+    }
+    for import in reading.numbered {
+        if import.bound == name {
+            found.push(Reference {
+                path: Some(import.path),
+                name: import.item,
+            })?;
+        }
+    }
+    Ok(())
+}
+
+/// The mark of a name without a path.
+fn mark_plain(
+    numbers: &Numbers,
+    reading: Reading<'_, '_>,
+    found: &mut Vec<Reference<PathId, NameId>>,
+    name: NameId,
+) -> Result<Mark, Error>
+    requires numbered { IsNumberedBy (numbering numbers.now) reading }
+    ensures marked { IfOk result (λ m. (x : Text) → NameAt (numbering numbers.now) name x → Marks (numbering numbers.now) m found.old.items found.new.items (refers x (plain_in reading.entry x))) }
+    ensures refused { IfErr result (λ e. e ≡ error.Memory) }
+{
+    let before = found.len();
+    add_plain(reading, found, name)?;
+    Ok(mark_after(found, before, name))
+}
+
+/// A name under each of these modules.
+fn add_under(
+    alloc: Global,
+    numbers: &mut Numbers,
+    found: &mut Vec<Reference<PathId, NameId>>,
+    name: NameId,
+    modules: &[ModulePath],
+) -> Result<(), Error>
+    requires { All (λ p. is_relative (path_view p) ≡ false) modules.now }
+    ensures added { OnOk result ((x : Text) → NameAt (numbering numbers.old) name x → Adds (numbering numbers.new) found.old.items found.new.items (map (under x) (map path_view modules.now))) }
+    ensures grows { Grows (numbering numbers.old) (numbering numbers.new) }
+    ensures refused { IfErr result (λ e. e ≡ error.Memory) }
+{
+    for module in modules {
+        let path = Some(numbers.path(alloc, module)?);
+        found.push(Reference { path, name })?;
+    }
+    Ok(())
+}
+
+/// The mark of a name under a path.
+fn mark_aimed(
+    alloc: Global,
+    numbers: &mut Numbers,
+    reading: Reading<'_, '_>,
+    found: &mut Vec<Reference<PathId, NameId>>,
+    name: NameId,
+    path: &ModulePath,
+) -> Result<Mark, Error>
+    requires read { IsRead reading }
+    ensures marked { IfOk result (λ m. (x : Text) → NameAt (numbering numbers.old) name x → Marks (numbering numbers.new) m found.old.items found.new.items (refers x (map (under x) (modules_aimed (own_path reading.entry) (imports_in reading.entry) (path_view path.now))))) }
+    ensures grows { Grows (numbering numbers.old) (numbering numbers.new) }
+    ensures refused { IfErr result (λ e. e ≡ error.Memory) }
+{
+    let scope = Scope {
+        own: reading.path,
+        names: reading.unit.names(),
+        imports: reading.imports,
+    };
+    let modules = aims(alloc, scope, path)?;
+    let before = found.len();
+    add_under(alloc, numbers, found, name, &modules)?;
+    Ok(mark_after(found, before, name))
+}
+
+/// The mark of a name that is no word and that its declaration does not bind, by what it means.
+fn mark_reference(
+    alloc: Global,
+    numbers: &mut Numbers,
+    reading: Reading<'_, '_>,
+    found: &mut Vec<Reference<PathId, NameId>>,
+    name: NameId,
+    key: Key<'_>,
+) -> Result<Mark, Error>
+    requires read { IsRead reading }
+    requires numbered { IsNumberedBy (numbering numbers.now) reading }
+    requires below { IsKeyBelow (length reading.meanings.now.found.outer.items) key }
+    ensures marked { IfOk result (λ m. (x : Text) → NameAt (numbering numbers.old) name x → Marks (numbering numbers.new) m found.old.items found.new.items (meant_in reading.entry x (key_view (way reading.entry.meanings.now.found.outer.items) key.entry))) }
+    ensures grows { Grows (numbering numbers.old) (numbering numbers.new) }
+    ensures refused { IfErr result (λ e. e ≡ error.Memory) }
+{
+    law_of_ways();
+    match key {
+        Key::Bound(block, _) => {
+            if block > 0 {
+                Ok(Mark::Local(block, name))
+            } else {
+                mark_plain(numbers, reading, found, name)
+            }
+        }
+        Key::Free(_) => mark_plain(numbers, reading, found, name),
+        Key::Qualified(path, _) => mark_aimed(alloc, numbers, reading, found, name, path),
+    }
+}
+
+/// The number of a name.
+fn id_of(ids: &[NameId], ident: Ident) -> NameId
+    requires { ident.0 < length ids.now }
+    ensures { result ≡ get_or ids.now ident.0 result }
+{
+    ids[ident.0]
+}
+
+/// The mark of the identifier at an index, where what it asks for is added to the references.
+fn mark_at(
+    alloc: Global,
+    numbers: &mut Numbers,
+    reading: Reading<'_, '_>,
+    found: &mut Vec<Reference<PathId, NameId>>,
+    index: usize,
+) -> Result<Mark, Error>
+    requires read { IsRead reading }
+    requires numbered { IsNumberedBy (numbering numbers.now) reading }
+    requires inside { index < length reading.meanings.now.found.all.items }
+    ensures marked { IfOk result (λ m. Marks (numbering numbers.new) m found.old.items found.new.items (use_at reading.entry index)) }
+    ensures grows { Grows (numbering numbers.old) (numbering numbers.new) }
+    ensures refused { IfErr result (λ e. e ≡ error.Memory) }
+{
+    let occurrence = reading.meanings.found.all[index];
+    let name = id_of(reading.ids, occurrence.ident);
+    let key = reading.meanings.keys[index];
+    match occurrence.standing {
+        Standing::ModuleName => Ok(Mark::Declares(name)),
+        Standing::Word => Ok(Mark::Free(name)),
+        Standing::Parameter => mark_reference(alloc, numbers, reading, found, name, key),
+        Standing::Local { end: _ } => mark_reference(alloc, numbers, reading, found, name, key),
+        Standing::Reference(_) => mark_reference(alloc, numbers, reading, found, name, key),
+    }
+}
+
+/// What the identifiers of a declaration are, and what they ask for.
+#[derive(Drop)]
+pub struct Marked {
+    pub marks: Vec<Mark>,
+    pub references: Vec<Reference<PathId, NameId>>,
+}
+
+/// The marks of the identifiers from one index to another, and what these ask for. Refused for want of memory alone.
+pub fn mark_piece(
+    alloc: Global,
+    numbers: &mut Numbers,
+    reading: Reading<'_, '_>,
+    from: usize,
+    to: usize,
+) -> Result<Marked, Error>
+    requires read { IsRead reading }
+    requires numbered { IsNumberedBy (numbering numbers.now) reading }
+    requires ordered { from ≤ to }
+    requires inside { to ≤ length reading.meanings.now.found.all.items }
+    ensures marks { IfOk result (λ m. AreRelated (IsMark (numbering numbers.new)) m.marks.items (span from to (all_uses reading.entry))) }
+    ensures references { IfOk result (λ m. AreNumberedReferences (numbering numbers.new) m.references.items (map reference_to (flat_map asked (span from to (all_uses reading.entry))))) }
+    ensures grows { Grows (numbering numbers.old) (numbering numbers.new) }
+    ensures refused { IfErr result (λ e. e ≡ error.Memory) }
+{
+    let mut marks = Vec::with_capacity(alloc, to - from)?;
+    let mut references = Vec::new(alloc);
+    for index in from..to {
+        marks.push(mark_at(alloc, numbers, reading, &mut references, index)?)?;
+    }
+    Ok(Marked { marks, references })
+}

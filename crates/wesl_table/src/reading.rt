@@ -1,0 +1,127 @@
+//! A module as its identifiers are marked.
+ghost use Rattle.std.specs.Prelude.{◌≡◌, ◌↔◌, ◌⊎◌, Some, Contains, map, option_map, IfOk, IfErr, OnOk};
+ghost use Rattle.wesl_names.specs.declared.errors.Error as error;
+ghost use Rattle.wesl_syntax.specs.Tree.{trees, respell};
+ghost use Rattle.wesl_syntax.specs.Unit.{name_in};
+ghost use Rattle.wesl_syntax.specs.View.{global_view, declarations_tree};
+ghost use Rattle.wesl_world.specs.declared.ids.NameId.{NameId};
+ghost use Rattle.wesl_table.specs.Tables.{declared_name, name_of};
+ghost use Rattle.wesl_table.specs.Numbering.{AreRelated, IsRelatedOption, Grows, NameAt};
+ghost use Rattle.wesl_table.specs.NumbersView.{numbering};
+
+use crate::numbers::{Numbers, spelling};
+use indexmap::IndexSet;
+use std::alloc::Global;
+use wesl_meanings::Meanings;
+use wesl_names::{Error, Ident, ModulePath, Names};
+use wesl_syntax::{GlobalDeclaration, GlobalDeclarationNode};
+use wesl_tree::TranslationUnit;
+use wesl_world::ids::{NameId, PathId};
+use wesl_world::symbols::Import;
+
+/// A module as its identifiers are marked.
+#[derive(Clone, Copy)]
+pub struct Reading<'a, 'b> {
+    /// where it stands
+    pub path: &'a ModulePath,
+    pub unit: &'a TranslationUnit,
+    /// its identifiers, and what they mean by plain scoping
+    pub meanings: &'a Meanings<'b>,
+    pub imports: &'a [Import<ModulePath, Ident>],
+    /// the number of its path
+    pub own: PathId,
+    /// its imports by numbers
+    pub numbered: &'a [Import<PathId, NameId>],
+    /// of each of its names the number
+    pub ids: &'a [NameId],
+    /// the names that it declares
+    pub declared: &'a IndexSet<NameId>,
+}
+
+/// The numbers of these names. Refused for want of memory alone.
+pub fn name_ids(alloc: Global, numbers: &mut Numbers, names: &Names) -> Result<Vec<NameId>, Error>
+    ensures numbered { IfOk result (λ ids. AreRelated (NameAt (numbering numbers.new)) ids.items names.now) }
+    ensures grows { Grows (numbering numbers.old) (numbering numbers.new) }
+    ensures refused { IfErr result (λ e. e ≡ error.Memory) }
+{
+    let mut ids = Vec::with_capacity(alloc, names.len())?;
+    for i in 0..names.len() {
+        ids.push(numbers.name(names.name(Ident(i)))?)?;
+    }
+    Ok(ids)
+}
+
+/// The name that a global declaration binds; a const_assert and a void bind none.
+pub fn declared_ident(declaration: &GlobalDeclaration) -> Option<Ident>
+    ensures { option_map (λ i. i.0) result ≡ declared_name (global_view declaration.now).children }
+{
+    match declaration {
+        GlobalDeclaration::Void => None,
+        GlobalDeclaration::Declaration(declaration) => Some(declaration.ident),
+        GlobalDeclaration::TypeAlias(alias) => Some(alias.ident),
+        GlobalDeclaration::Struct(structure) => Some(structure.ident),
+        GlobalDeclaration::Function(function) => Some(function.ident),
+        GlobalDeclaration::ConstAssert(_) => None,
+    }
+}
+
+/// The number of a name, if there is one.
+fn number_ident(
+    numbers: &mut Numbers,
+    names: &Names,
+    ident: Option<Ident>,
+) -> Result<Option<NameId>, Error>
+    ensures numbered { IfOk result (λ n. IsRelatedOption (NameAt (numbering numbers.new)) n (option_map (λ i. name_in names.now i.0) ident)) }
+    ensures grows { Grows (numbering numbers.old) (numbering numbers.new) }
+    ensures refused { IfErr result (λ e. e ≡ error.Memory) }
+{
+    match ident {
+        Some(ident) => Ok(Some(numbers.name(spelling(names, ident))?)),
+        None => Ok(None),
+    }
+}
+
+/// Of each declaration the number of the name that it binds, if it binds one. Refused for want of memory alone.
+pub fn names_of(
+    alloc: Global,
+    numbers: &mut Numbers,
+    names: &Names,
+    nodes: &Vec<GlobalDeclarationNode>,
+) -> Result<Vec<Option<NameId>>, Error>
+    ensures numbered { IfOk result (λ found. AreRelated (IsRelatedOption (NameAt (numbering numbers.new))) found.items (map name_of (trees (respell (name_in names.now) (declarations_tree nodes.now)).children))) }
+    ensures grows { Grows (numbering numbers.old) (numbering numbers.new) }
+    ensures refused { IfErr result (λ e. e ≡ error.Memory) }
+{
+    let mut found = Vec::with_capacity(alloc, nodes.len())?;
+    for node in nodes {
+        let ident = declared_ident(&node.node);
+        found.push(number_ident(numbers, names, ident)?)?;
+    }
+    Ok(found)
+}
+
+/// One more name, if there is one and it is not there yet.
+fn add_name(set: &mut IndexSet<NameId>, name: Option<NameId>) -> Result<(), Error>
+    ensures names { OnOk result ((n : NameId) → Contains set.new.keys n ↔ (Contains set.old.keys n ⊎ (name ≡ Some n))) }
+    ensures refused { IfErr result (λ e. e ≡ error.Memory) }
+{
+    match name {
+        Some(name) => {
+            set.insert(name)?;
+            Ok(())
+        }
+        None => Ok(()),
+    }
+}
+
+/// The names among these, each once. Refused for want of memory alone.
+pub fn name_set(alloc: Global, names: &[Option<NameId>]) -> Result<IndexSet<NameId>, Error>
+    ensures names { IfOk result (λ set. (n : NameId) → Contains set.keys n ↔ Contains names.now (Some n)) }
+    ensures refused { IfErr result (λ e. e ≡ error.Memory) }
+{
+    let mut set = IndexSet::new(alloc);
+    for name in names {
+        add_name(&mut set, *name)?;
+    }
+    Ok(set)
+}
