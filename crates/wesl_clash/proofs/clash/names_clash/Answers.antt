@@ -11,6 +11,6 @@ returns-clause-exact c =
     let t = c.in_ok-read.read.are_references_right in
     let both : c.if-read.result ≡ (s && t) = elim c.if-read.branch [
       | then-read w ↦ w.result-is ∙ ap (λ x. x && t) (sym w.if-read.true)
-      | else-read w ↦ w.result-is ∙ ap (λ x. x && t) (sym w.if-read.false)
+      | else-read w ↦ w.result-is ∙ (w.if-read.false ∙ ap (λ x. x && t) (sym w.if-read.false))
     ] in
     no_clash c.if-read.result s t _ _ both c.in_ok-read.ensures.apart c.in_ok-read.ensures.right (c.law_of_faith.ensures.test (unit_view c.args.unit.now))
