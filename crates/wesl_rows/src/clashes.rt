@@ -31,12 +31,7 @@ fn named(alloc: Global, row: &Value) -> Result<Option<TranslationUnit>, anyhow::
     for text in &texts {
         names.add(text)?;
     }
-    Ok(TranslationUnit::from_parts(
-        names,
-        imports,
-        directives,
-        declarations,
-    ))
+    Ok(TranslationUnit::from_parts(names, imports, directives, declarations))
 }
 
 /// Whether the names of a unit clash, and whether new numbers by meaning are the numbers that it has.
