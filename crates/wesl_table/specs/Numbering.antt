@@ -2,6 +2,7 @@
 use Rattle.std.specs.Prelude.{◌≡◌, ◌⊎◌, ℕ, Bool, false, Option, Some, None, List, [], ◌∷◌, ◌++◌, slice_get}
 use Rattle.std.specs.List.{list_any}
 use Rattle.wesl_names.specs.Path.{Text, Path}
+pub use Rattle.wesl_interner.specs.Different.{AreDifferent}
 use Rattle.wesl_world.specs.declared.ids.PathId.{PathId}
 use Rattle.wesl_world.specs.declared.ids.NameId.{NameId}
 use Rattle.wesl_world.specs.declared.symbols.Import.{Import}
@@ -55,10 +56,6 @@ IsLonger {X} old new = (more : List X) × (new ≡ old ++ more)
 -- a key that equals none goes last; else the keys stay as they are
 abbrev pub Puts : {K : Type 0} → (K → K → Bool) → List K → K → List K → Type 0
 Puts eq old key new = (new ≡ old) ⊎ ((list_any (eq key) old ≡ false) × (new ≡ old ++ key ∷ []))
-
--- nothing stands twice
-abbrev pub AreDifferent : {X : Type 0} → List X → Type 0
-AreDifferent {X} xs = (i j : ℕ) (x : X) → slice_get xs i ≡ Some x → slice_get xs j ≡ Some x → i ≡ j
 
 -- names and paths are added at the end
 pub record Grows (old new : Numbering) : Type 0 where

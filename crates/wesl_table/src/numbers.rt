@@ -3,11 +3,13 @@ ghost use Rattle.std.specs.Prelude.{◌≡◌, ℕ, [], true, false, All, IfOk, 
 ghost use Rattle.wesl_names.specs.Path.{path_view, is_relative};
 ghost use Rattle.wesl_names.specs.declared.errors.Error as error;
 ghost use Rattle.wesl_syntax.specs.Unit.{name_in};
-ghost use Rattle.wesl_table.specs.Numbering.{AreDifferent, IsLonger, Puts, Grows, NameAt, PathAt};
+ghost use Rattle.wesl_interner.specs.Different.{AreDifferent};
+ghost use Rattle.wesl_table.specs.Numbering.{IsLonger, Puts, Grows, NameAt, PathAt};
 
 use indexmap::IndexSet;
 use std::alloc::Global;
 use std::hash::Hash;
+use wesl_interner::Interner;
 use wesl_names::{Error, Ident, ModulePath, Names, law_of_equality};
 use wesl_world::ids::{NameId, PathId};
 
@@ -19,62 +21,6 @@ fn put<K: Eq + Hash + Drop>(keys: &mut IndexSet<K>, key: K) -> Result<usize, Err
 {
     let (index, _) = keys.insert_full(key)?;
     Ok(index)
-}
-
-/// Numbers for names: equal names have one number, and numbers run 0, 1, 2, .. by first occurrence.
-#[derive(Drop)]
-pub struct NameNumbers {
-    names: IndexSet<String>,
-    pub ghost different: { AreDifferent (map string_bytes names.keys) },
-}
-
-impl NameNumbers {
-    ghost use Rattle.wesl_table.specs.NumbersView.{names_of};
-
-    /// No names. It takes no memory.
-    pub fn new(alloc: Global) -> NameNumbers
-        ensures { names_of result ≡ [] }
-    {
-        NameNumbers {
-            names: IndexSet::new(alloc),
-        }
-    }
-
-    /// The number of a name. Refused for want of memory alone.
-    pub fn number(&mut self, name: &str) -> Result<NameId, Error>
-        ensures held { IfOk result (λ i. slice_get (names_of self.new) i.0 ≡ Some name.now) }
-        ensures grows { IsLonger (names_of self.old) (names_of self.new) }
-        ensures refused { IfErr result (λ e. e ≡ error.Memory) }
-    {
-        if let Some(index) = self.names.get_index_of(name) {
-            return Ok(NameId(index));
-        }
-        let alloc = *self.names.allocator();
-        let name = String::from_str(alloc, name)?;
-        Ok(NameId(put(&mut self.names, name)?))
-    }
-
-    /// The number that a name has, if it has one. It takes no memory.
-    pub fn find(&self, name: &str) -> Option<NameId>
-        ensures found { IfSome result (λ i. slice_get (names_of self.now) i.0 ≡ Some name.now) }
-        ensures none { IfNone result ((i : ℕ) → slice_get (names_of self.now) i ≡ Some name.now → ⊥) }
-    {
-        match self.names.get_index_of(name) {
-            Some(index) => Some(NameId(index)),
-            None => None,
-        }
-    }
-
-    /// The name of a number.
-    pub fn name(&self, id: NameId) -> Option<&str>
-        ensures found { IfSome result (λ x. slice_get (names_of self.now) id.0 ≡ Some x.now) }
-        ensures none { IfNone result (slice_get (names_of self.now) id.0 ≡ None) }
-    {
-        match self.names.get_index(id.0) {
-            Some(name) => Some(name.as_str()),
-            None => None,
-        }
-    }
 }
 
 /// Numbers for the paths of modules, none of them relative: equal paths have one number.
@@ -147,7 +93,7 @@ pub fn spelling(names: &Names, ident: Ident) -> &str
 /// The numbers of names and of paths.
 #[derive(Drop)]
 pub struct Numbers {
-    pub names: NameNumbers,
+    pub names: Interner,
     pub paths: PathNumbers,
 }
 
@@ -159,7 +105,7 @@ impl Numbers {
         ensures { numbering result ≡ record { names = []; paths = [] } }
     {
         Numbers {
-            names: NameNumbers::new(alloc),
+            names: Interner::new(alloc),
             paths: PathNumbers::new(alloc),
         }
     }
@@ -170,7 +116,7 @@ impl Numbers {
         ensures grows { Grows (numbering self.old) (numbering self.new) }
         ensures refused { IfErr result (λ e. e ≡ error.Memory) }
     {
-        self.names.number(name)
+        self.names.intern(name)
     }
 
     /// The number of a path, which is not relative. Refused for want of memory alone.
