@@ -10,7 +10,7 @@ use Rattle.wesl_valid.specs.Faults.{IsCycle}
 use Rattle.wesl_valid.proofs.Graphs as graphs
 use Rattle.wesl_acyclic.specs.Steps.{steps}
 use Rattle.wesl_acyclic.proofs.Stepping.{same_steps, on_some, on_none}
-use Rattle.wesl_acyclic.proofs.cycle.cycle.Goals as goal
+use Rattle.wesl_acyclic.proofs.rings.cycle.Goals as goal
 
 pub returns-clause-cycle : goal.returns-clause-cycle
 returns-clause-cycle c =
