@@ -6,17 +6,13 @@ use Rattle.wesl_syntax.specs.Unit.{name_in}
 use Rattle.wesl_distinct.proofs.Twice.{turn_twice, turn_apart, turn_seen}
 use Rattle.wesl_distinct.proofs.distinct.repeated.Goals as goal
 
-stands : (t s : Bool) → t ≡ not s → not t ≡ true → s ≡ true
-stands true true e f = refl
-stands true false e f = cc
-stands false true e f = refl
-stands false false e f = cc
+stands : (t s : Bool) → t ≡ not s → t ≡ false → s ≡ true
+stands t true e f = refl
+stands t false e f = cc
 
-stands_not : (t s : Bool) → t ≡ not s → not t ≡ false → s ≡ false
-stands_not true true e f = cc
-stands_not true false e f = refl
-stands_not false true e f = cc
-stands_not false false e f = refl
+stands_not : (t s : Bool) → t ≡ not s → t ≡ true → s ≡ false
+stands_not t true e f = cc
+stands_not t false e f = refl
 
 pub returns-then-not-is_new-clause-repeated : goal.returns-then-not-is_new-clause-repeated
 returns-then-not-is_new-clause-repeated c =
