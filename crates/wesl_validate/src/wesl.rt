@@ -1,0 +1,35 @@
+//! The validator of what WESL asks.
+ghost use Rattle.std.specs.Prelude.{IfOk, IfErr};
+ghost use Rattle.wesl_tree.specs.Translation.{unit_view};
+ghost use Rattle.wesl_builtins.specs.Builtins.{builtins_view};
+ghost use Rattle.wesl_valid.specs.Valid.{IsValidWesl};
+ghost use Rattle.wesl_valid.specs.Faults.{RefusesWesl};
+
+use crate::fault::wesl_fault;
+use std::alloc::Global;
+use wesl_builtins::Builtins;
+use wesl_names::{Diagnostic, Error};
+use wesl_tree::TranslationUnit;
+
+/// Asks that names are defined and distinct and that no declaration reaches itself, by the numbers as they stand; call
+/// `retarget_idents` first.
+///
+/// Refused with one fault that stands, and the name of the declaration that holds it (none for one in a `const_assert`;
+/// of `Duplicate` and `Cycle` the name that they carry first), or for want of memory.
+pub fn validate_wesl(
+    alloc: Global,
+    unit: &TranslationUnit,
+    builtins: &Builtins,
+) -> Result<(), Diagnostic>
+    ensures valid { IfOk result (λ _. IsValidWesl (unit_view unit.now) (builtins_view builtins.now)) }
+    ensures refused { IfErr result (RefusesWesl (unit_view unit.now) (builtins_view builtins.now)) }
+{
+    match wesl_fault(alloc, unit, builtins)? {
+        None => Ok(()),
+        Some(fault) => {
+            let mut diagnostic = Diagnostic::of(Error::Validate(fault.error));
+            diagnostic.declaration = fault.declaration;
+            Err(diagnostic)
+        }
+    }
+}
