@@ -1,0 +1,99 @@
+//! A caller of the linker: it links modules that it holds itself, and prints the linked unit as JSON.
+//!
+//! Standard input is a JSON object with a tree for the text of each module's path. The root is `package::main`, and `main`
+//! is kept of it.
+#![tactic(auto)]
+
+use serde_json::Value;
+use std::alloc::Global;
+use std::io;
+use wesl::{
+    Diagnostic, Error, EscapeMangler, Feature, Features, ModulePath, ResolveError, Resolver,
+    TranslationUnit, link_under, unit_of_value, value_of_unit,
+};
+use wesl_clash::names_clash;
+
+/// The trees of modules, each under the text of its path.
+#[derive(Drop)]
+struct Trees {
+    trees: Value,
+}
+
+impl Trees {
+    /// The tree of the module at a path.
+    fn tree_at(&self, alloc: Global, path: &ModulePath) -> Result<&Value, ResolveError> {
+        let (Ok(text), Ok(path)) = (path.to_text(alloc), path.try_clone(alloc)) else {
+            return Err(ResolveError::Memory);
+        };
+        match self.trees.get(text.as_str()) {
+            Some(tree) => Ok(tree),
+            None => Err(ResolveError::ModuleNotFound(
+                path,
+                String::from_str(alloc, "no such tree")?,
+            )),
+        }
+    }
+}
+
+impl Resolver for Trees {
+    ghost ready = { λ _. Unit {0} };
+
+    ghost hands = { λ _ p u. Unit {0} };
+
+    ghost refuses = { λ _ p e. Unit {0} };
+
+    ghost source = { λ _ p text. Unit {0} };
+
+    ghost shown = { λ _ p name. Unit {0} };
+
+    fn resolve_source(&mut self, alloc: Global, path: &ModulePath) -> Result<String, ResolveError> {
+        Ok(self.tree_at(alloc, path)?.to_string(alloc)?)
+    }
+
+    fn resolve_module(
+        &mut self,
+        alloc: Global,
+        path: &ModulePath,
+    ) -> Result<TranslationUnit, ResolveError> {
+        match unit_of_value(alloc, self.tree_at(alloc, path)?) {
+            Ok(unit) => Ok(unit),
+            Err(Error::Memory) => Err(ResolveError::Memory),
+            Err(error) => Err(ResolveError::Error(Box::new(alloc, Diagnostic::of(error))?)),
+        }
+    }
+
+    fn display_name(
+        &self,
+        _alloc: Global,
+        _path: &ModulePath,
+    ) -> Result<Option<String>, ResolveError> {
+        Ok(None)
+    }
+}
+
+/// The unit that is linked of the modules, where the flag `fast` is enabled and every other disabled.
+fn linked(alloc: Global, modules: Trees) -> Result<TranslationUnit, Diagnostic> {
+    let mut features = Features::new(alloc);
+    features
+        .flags
+        .insert(String::from_str(alloc, "fast")?, Feature::Enable)?;
+    let mut root = ModulePath::new_root(alloc);
+    root.push("main")?;
+    let mut found = link_under(alloc, &["main"], &root, modules, &Some(features), 1000)?;
+    found.mangle(alloc, &mut EscapeMangler, false)?;
+    Ok(found.assemble(alloc, true)?)
+}
+
+fn main(rt: HostRuntime) -> Result<(), anyhow::Error> {
+    let alloc = rt.alloc();
+    let text = io::read_to_string(alloc, rt.stdin())?;
+    let trees = Value::from_str(alloc, text.as_str())?;
+    match linked(alloc, Trees { trees }) {
+        Ok(unit) => {
+            println!(rt; "{}", value_of_unit(alloc, &unit)?.to_string(alloc)?)?;
+            println!(rt; "names clash: {}", names_clash(alloc, &unit)?)?;
+        }
+        Err(refusal) => println!(rt; "refused: {}", refusal.error)?,
+    }
+    Ok(())
+}
