@@ -1,0 +1,25 @@
+use Rattle.std.proofs.Common.{◌≡◌, ◌∷◌, [], List, map, None, sym, ap, ◌∙◌, rules}
+use Rattle.std.specs.Map.{update_all}
+use Rattle.std.specs.Map.Iter.{deref_pair}
+use Rattle.std.proofs.lemmas.List.{map-append}
+use Rattle.std.proofs.lemmas.Map.Iter.{iter_end}
+use Rattle.wesl_names.specs.PathOrder.{same_path}
+use Rattle.wesl_names.specs.declared.path.ModulePath.{ModulePath}
+use Rattle.wesl_source_map.proofs.Sources.{Said, entry_seen, sources_in-more, sources_in-all}
+use Rattle.wesl_source_map.proofs.basic.copied_sources.Goals as goal
+
+pub loop-path-preserved : goal.loop-path-preserved
+loop-path-preserved c q =
+    sources_in-more c.loop-path.copy.entries c.put_source.new.sources.entries (map deref_pair c.loop-path.yielded) (c.in-Some.path.now, c.in-Some.field-0-1.now) _
+    c.loop-path.invariant
+    c.in_ok-put_source.ensures.written
+    (λ i. (c.in_ok-path.ensures.equal i, (c.in_ok-copied_text.ensures.equal i, c.in_ok-clone.ensures.cases i)))
+    q
+    ∙ ap (λ (es : List (ModulePath × Said)). update_all same_path (λ _. None) (map entry_seen es) q) (sym (map-append deref_pair c.loop-path.yielded ((c.in-Some.path, c.in-Some.field-0-1) ∷ [])))
+
+pub returns-clause-equal : goal.returns-clause-equal
+returns-clause-equal c q =
+    let all : map deref_pair c.loop-path.yielded ≡ c.args.sources.now.entries = search (rules, iter_end) in
+    c.loop-path.invariant q
+    ∙ ap (λ (es : List (ModulePath × Said)). update_all same_path (λ _. None) (map entry_seen es) q) all
+    ∙ sources_in-all c.args.sources.now.entries c.iter-path-items.ensures.unique q

@@ -1,0 +1,3 @@
+pub mod BasicView
+pub mod Listed
+pub mod Records

@@ -1,0 +1,35 @@
+-- What a resolver and a mangler that record leave in the record.
+use Rattle.std.specs.Prelude.{◌≡◌, ◌⊎◌, Option, Some, None, Bool}
+use Rattle.wesl_names.specs.Path.{Text, Path}
+use Rattle.wesl_names.specs.declared.errors.ResolveError as resolve_error
+use Rattle.wesl_names.specs.declared.path.ModulePath.{ModulePath}
+use Rattle.wesl_mangle.specs.Mangler.{written_if}
+use Rattle.wesl_source_map.specs.Records.{Item, Items, Source, Sources, Tells, SameItems, SameSources}
+use Rattle.wesl_source_map.specs.BasicView.{items, default_text}
+use Rattle.wesl_source_map.specs.declared.basic.BasicSourceMap.{BasicSourceMap}
+
+-- the text is recorded as the module's source, with a name by which the module may be shown
+abbrev pub Records : (Option Text → Type 0) → Path → Text → Sources → Sources → Type 0
+Records shows path text old new = (display : Option Text) × shows display × Tells path (display, text) old new
+
+-- a source that is given is recorded; where the source is refused, and not for want of memory, nothing is
+abbrev pub RecordsIfGiven : (Text → Type 0) → (resolve_error.ResolveError → Type 0) → (Option Text → Type 0) → Path → Sources → Sources → Type 0
+RecordsIfGiven gives refuses shows path old new =
+    ((text : Text) × gives text × Records shows path text old new)
+    ⊎ ((e : resolve_error.ResolveError) × refuses e × (e ≡ resolve_error.Memory → ⊥) × SameSources old new)
+
+-- a question to the resolver leaves the mangler, the root's path, the names and the default source as they were
+pub record IsAskedAlone {M : Type 0} (mangler mangler' : M) (root root' : ModulePath) (old new : BasicSourceMap) : Type 0 where
+  pub names : mangler' ≡ mangler
+  pub path : root' ≡ root
+  pub decls : SameItems (items old) (items new)
+  pub default : default_text new ≡ default_text old
+
+-- a mangler that keeps a record has written the item for the name
+abbrev pub HasNamed : Bool → Text → Item → Items → Items → Type 0
+HasNamed writes name item old new = (other : Text) → new other ≡ written_if writes name item old other
+
+-- the source that is recorded of a module, else the text that was there
+abbrev pub source_or : Option Source → Option Text → Option Text
+source_or (Some source) text = Some source.1
+source_or None text = text
