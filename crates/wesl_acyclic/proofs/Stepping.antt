@@ -179,20 +179,3 @@ no_place xs j o e = ap (λ d. xs ++ (if is_reference o.role && lies_in j d then 
     by : (t : Bool) → xs ++ (if t && false then o.name ∷ [] else []) ≡ xs
     by true = append-nil xs
     by false = append-nil xs
-
-pub a_use : (xs : List ℕ) (i j : ℕ) (o : Found) → is_reference o.role ≡ true → o.declaration ≡ Some i → xs ++ (if i == j then o.name ∷ [] else []) ≡ xs ++ referred_here j o
-a_use xs i j o e f = ap (λ t. xs ++ (if t && i == j then o.name ∷ [] else [])) (sym e) ∙ ap (λ d. xs ++ (if is_reference o.role && lies_in j d then o.name ∷ [] else [])) (sym f)
-
-module _ (used : Option ℕ → List ℕ) where
-  pub no_name : (xs : List ℕ) (a : ℕ) (o : Found) → is_module_name o.role ≡ false → xs ++ steps_here used a o ≡ xs
-  no_name xs a o e = ap (λ t. xs ++ (if t && o.name == a then used o.declaration else [])) e ∙ append-nil xs
-
-  pub no_steps : (xs : List ℕ) (a : ℕ) (o : Found) → used o.declaration ≡ [] → xs ++ steps_here used a o ≡ xs
-  no_steps xs a o e = ap (λ ns. xs ++ (if is_module_name o.role && o.name == a then ns else [])) e ∙ by (is_module_name o.role && o.name == a)
-    where
-      by : (t : Bool) → xs ++ (if t then [] else []) ≡ xs
-      by true = append-nil xs
-      by false = append-nil xs
-
-  pub some_steps : (xs ts : List ℕ) (a : ℕ) (o : Found) → is_module_name o.role ≡ true → used o.declaration ≡ ts → xs ++ (if o.name == a then ts else []) ≡ xs ++ steps_here used a o
-  some_steps xs ts a o e f = ap (λ ns. xs ++ (if o.name == a then ns else [])) (sym f) ∙ ap (λ t. xs ++ (if t && o.name == a then used o.declaration else [])) (sym e)

@@ -1,6 +1,6 @@
 -- Texts one after the other, until one stands twice.
 use Rattle.std.proofs.Common.{◌≡◌, ◌≢◌, ◌⊎◌, ℕ, zero, suc, ◌<◌, ◌≤◌, ◌+◌, ◌++◌, ◌||◌, Bool, true, false, not, List, [], ◌∷◌, length, get_or, map, take, refl, sym, ap, ◌∙◌, subst, inl, inr, arith, add-one}
-use Rattle.std.specs.Prelude.{bytes_eq, Result, Ok, Err, Option, Some, None, IfOk, IfSome, IfNone}
+use Rattle.std.specs.Prelude.{bytes_eq}
 use Rattle.std.specs.List.{list_any}
 use Rattle.std.proofs.lemmas.Slice.Eq.{bytes_eq-Decides}
 use Rattle.wesl_names.specs.Path.{Text}
@@ -105,13 +105,3 @@ module _ {K : Type 0} (text : K → Text) (name : ℕ → Text) (numbers : List 
       pushed : (ks : List K) → map text (ks ++ key ∷ []) ≡ map text ks ++ text key ∷ []
       pushed [] = refl
       pushed (k ∷ ks) = ap (λ ns. text k ∷ ns) (pushed ks)
-
-pub on_some : {X E : Type 0} (r : Result (Option X) E) (P Q : X → Type 0) → ((x : X) → P x → Q x) → IfOk r (λ o. IfSome o P) → IfOk r (λ o. IfSome o Q)
-on_some (Ok (Some x)) P Q f h = f x h
-on_some (Ok None) P Q f h = h
-on_some (Err e) P Q f h = h
-
-pub on_none : {X E : Type 0} (r : Result (Option X) E) (P Q : Type 0) → (P → Q) → IfOk r (λ o. IfNone o P) → IfOk r (λ o. IfNone o Q)
-on_none (Ok (Some x)) P Q f h = h
-on_none (Ok None) P Q f h = f h
-on_none (Err e) P Q f h = h

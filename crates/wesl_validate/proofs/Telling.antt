@@ -1,6 +1,6 @@
 -- What a fault tells is so in the module.
 use Rattle.std.proofs.Common.{◌≡◌, ℕ, Bool, true, false, cond, ◌&&◌, List, [], ◌∷◌, map, refl, sym, ap, ◌∙◌}
-use Rattle.std.specs.Prelude.{Option, Some, None, Result, Ok, Err, IfOk, IfNone, slice_get}
+use Rattle.std.specs.Prelude.{Option, Some, None, Result, Ok, Err, IfOk, IfSome, IfNone, slice_get}
 use Rattle.std.specs.Option.{option_map}
 use Rattle.std.specs.List.{filter, find}
 use Rattle.wesl_names.specs.Path.{Text}
@@ -12,7 +12,7 @@ use Rattle.wesl_kept.specs.Declarations.{is_module_name, lies_in, declared_in}
 use Rattle.wesl_kept.specs.Marks.{names_here}
 use Rattle.wesl_builtins.specs.Builtins.{BuiltinNames}
 use Rattle.wesl_valid.specs.Valid.{spelling}
-use Rattle.wesl_valid.specs.Faults.{name_round, IsUndefined, IsDuplicate, IsCycle}
+use Rattle.wesl_valid.specs.Faults.{name_round, IsUndefined}
 use Rattle.wesl_defined.specs.Known.{IsUndefinedAt}
 
 -- the first of a list that passes, seen by `g`
@@ -51,25 +51,17 @@ module _ (u : UnitView) (b : BuiltinNames) (names : List Text) (same : names ≡
     round = ap (name_round u) f.lies ∙ sym within_is;
   }
 
-  pub duplicate_told : (m : ℕ) (n within : Text) → IsDuplicate u (spelling u m) → n ≡ name_in names m → within ≡ name_in names m → IsDuplicate u n × (Some within ≡ Some n)
-  duplicate_told m n within f n_is within_is =
-      let e : spelling u m ≡ n = ap (λ ns. name_in ns m) (sym same) ∙ sym n_is in
-      (record { first = f.first; second = f.second; before = f.before; inside = f.inside; named = f.named ∙ e; again = f.again ∙ e }, ap Some (within_is ∙ sym n_is))
-
-  pub cycle_told : (a z : ℕ) (n via within : Text) → IsCycle u (spelling u a) (spelling u z) → n ≡ name_in names a → via ≡ name_in names z → within ≡ name_in names a → IsCycle u n via × (Some within ≡ Some n)
-  cycle_told a z n via within f n_is via_is within_is = (
-    record {
-      first = f.first;
-      last = f.last;
-      named = f.named ∙ (ap (λ ns. name_in ns a) (sym same) ∙ sym n_is);
-      named_last = f.named_last ∙ (ap (λ ns. name_in ns z) (sym same) ∙ sym via_is);
-      leads_there = f.leads_there;
-      leads_back = f.leads_back;
-    },
-    ap Some (within_is ∙ sym n_is),
-  )
+pub on_some : {X E : Type 0} (r : Result (Option X) E) (P Q : X → Type 0) → ((x : X) → P x → Q x) → IfOk r (λ o. IfSome o P) → IfOk r (λ o. IfSome o Q)
+on_some (Ok (Some x)) P Q f h = f x h
+on_some (Ok None) P Q f h = h
+on_some (Err e) P Q f h = h
 
 pub on_none : {X E : Type 0} (r : Result (Option X) E) (P Q : Type 0) → (P → Q) → IfOk r (λ o. IfNone o P) → IfOk r (λ o. IfNone o Q)
 on_none (Ok (Some x)) P Q f h = h
 on_none (Ok None) P Q f h = f h
 on_none (Err e) P Q f h = h
+
+-- what holds where nothing was found
+pub none_of : {X : Type 0} (r : Option X) (P : Type 0) → r ≡ None → IfNone r P → P
+none_of None P e h = h
+none_of (Some x) P e h = cc
