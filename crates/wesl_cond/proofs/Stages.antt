@@ -18,7 +18,7 @@ with_trees names t = record { names = names; imports = t.imports; directives = t
 left_twice : TwiceIsOnce → (reply : Replies Text) (u : UnitView) → left_of reply (left_of reply u) ≡ left_of reply u
 left_twice twice reply u = ap (with_trees u.names) (twice (known (by_number u.names reply)) (trees_of u))
 
-left_in_stages : RunsInStages → ThenIsInStages → (first second : Replies Text) (u : UnitView) → HoldsNoError first → left_of second (left_of first u) ≡ left_of (then_replies first second) u
+pub left_in_stages : RunsInStages → ThenIsInStages → (first second : Replies Text) (u : UnitView) → HoldsNoError first → left_of second (left_of first u) ≡ left_of (then_replies first second) u
 left_in_stages stages both first second u h =
     let f = by_number u.names first in
     let g = by_number u.names second in

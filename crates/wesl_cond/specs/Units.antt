@@ -5,10 +5,11 @@ use Rattle.wesl_chains.specs.Flags.{flags_of, AgreesOn}
 use Rattle.wesl_chains.specs.Judging.{RefusesIn}
 use Rattle.wesl_chains.specs.Laws.{IsFaultless}
 use Rattle.wesl_chains.specs.Picked.{Choice, picked_unit}
+use Rattle.wesl_chains.specs.Residual.{residual_unit}
 use Rattle.wesl_formula.specs.Features.{Replies, known, by_number, HoldsNoError, then_replies}
 use Rattle.wesl_names.specs.Path.{Text}
 use Rattle.wesl_names.specs.declared.errors.Error as error
-use Rattle.wesl_syntax.specs.Unit.{UnitView, trees_of, forest_of_unit}
+use Rattle.wesl_syntax.specs.Unit.{UnitView, trees_of, forest_of_unit, spelled}
 
 -- no fault of a condition stands in a unit
 abbrev pub IsFaultlessUnit : Replies Text → UnitView → Type 0
@@ -21,6 +22,15 @@ RefusesUnit reply u e = RefusesIn u.names (by_number u.names reply) (forest_of_u
 -- Whatever an earlier stage without refusals left a unit of, this one goes on with it: what is left now is what both in one leave.
 abbrev pub GoesOn : Replies Text → UnitView → UnitView → Type 0
 GoesOn second before after = (first : Replies Text) (u : UnitView) → HoldsNoError first → before ≡ left_of first u → after ≡ left_of (then_replies first second) u
+
+-- So too where spans and numbers do not count: for whatever is only spelled as what the earlier stage left, as where that was printed and read again.
+abbrev pub GoesOnSpelled : Replies Text → UnitView → UnitView → Type 0
+GoesOnSpelled second before after =
+    (first : Replies Text) (u : UnitView) → HoldsNoError first → spelled before ≡ spelled (left_of first u) → spelled after ≡ spelled (left_of (then_replies first second) u)
+
+-- The spelling of what is left is what is left of the spelling.
+abbrev pub SpellsWhatIsLeft : Type 0
+SpellsWhatIsLeft = (reply : Replies Text) (u : UnitView) → spelled (left_of reply u) ≡ residual_unit (known reply) (spelled u)
 
 -- some earlier stage left it of a unit without a fault in that stage
 abbrev pub IsLeftOver : UnitView → Type 0

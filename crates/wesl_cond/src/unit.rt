@@ -1,6 +1,6 @@
 //! What is left of a unit.
 ghost use Rattle.std.specs.Prelude.{◌≡◌, IfOk, IfErr, IsOk};
-ghost use Rattle.wesl_cond.specs.Units.{left_of, AreTwoStages, GoesOn, IsFaultlessUnit, IsLeftOver, Picks, RefusesUnit};
+ghost use Rattle.wesl_cond.specs.Units.{left_of, AreTwoStages, GoesOn, GoesOnSpelled, IsFaultlessUnit, IsLeftOver, Picks, RefusesUnit};
 ghost use Rattle.wesl_formula.specs.Features.{answer_to, HoldsNoError};
 ghost use Rattle.wesl_names.specs.declared.errors.Diagnostic.{out-Diagnostic};
 ghost use Rattle.wesl_tree.specs.Translation.{unit_view};
@@ -27,12 +27,14 @@ use wesl_tree::TranslationUnit;
 ///
 /// Runs may come in stages: what one run left is taken by the next, and the two leave what one run with
 /// [`Features::then`] of their features leaves. Where neither refuses a flag and the first met no fault, the next meets
-/// none, and no more does the one run.
+/// none, and no more does the one run. Spans and numbers do not count there: what the first run left may be printed and
+/// read again before the next.
 pub fn run(alloc: Global, unit: &mut TranslationUnit, features: &Features) -> Result<(), Diagnostic>
     ensures faultless { IfOk result (λ _. IsFaultlessUnit (answer_to features.now) (unit_view unit.old)) }
     ensures left { IfOk result (λ _. unit_view unit.new ≡ left_of (answer_to features.now) (unit_view unit.old)) }
     ensures settled { IfOk result (λ _. left_of (answer_to features.now) (unit_view unit.new) ≡ unit_view unit.new) }
     ensures staged { IfOk result (λ _. GoesOn (answer_to features.now) (unit_view unit.old) (unit_view unit.new)) }
+    ensures staged_spelled { IfOk result (λ _. GoesOnSpelled (answer_to features.now) (unit_view unit.old) (unit_view unit.new)) }
     ensures picks { IfOk result (λ _. Picks (answer_to features.now) (unit_view unit.old) (unit_view unit.new)) }
     ensures refused { IfErr result (λ told. RefusesUnit (answer_to features.now) (unit_view unit.old) (out-Diagnostic told).error) }
     ensures unchanged { IfErr result (λ _. unit.new ≡ unit.old) }

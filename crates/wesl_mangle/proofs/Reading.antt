@@ -3,10 +3,12 @@ use Rattle.std.proofs.Common.{◌≡◌, ◌<◌, ◌≤◌, ◌^◌, ℕ, zero,
 use Rattle.std.proofs.lemmas.Bool.{false≢true, ne_eqb, le-leb}
 use Rattle.std.proofs.lemmas.List.{take_at, drop_at, append-nil, length-replicate}
 use Rattle.std.proofs.lemmas.List.Concat.{flat_map-append}
-use Rattle.std.proofs.lemmas.List.Splits.{join_with_byte-slice_split}
+use Rattle.std.proofs.lemmas.List.Elements.{All-nil, All-cons, All-head, All-tail, All-push}
+use Rattle.std.proofs.lemmas.List.Sums.{count_by-le-length}
+use Rattle.std.proofs.lemmas.List.Splits.{join_with_byte-slice_split, length-slice_split}
 use Rattle.std.proofs.lemmas.Str.Parse.{IsNumeralModel, numerals_by_value, tells_all_ascii_digits}
 use Rattle.std.proofs.lemmas.Fmt.{digits_decimal, digits_value-decimal, decimal_nonempty}
-use Rattle.std.specs.List.{flat_map, prefix_len, list_any, list_all}
+use Rattle.std.specs.List.{All, flat_map, prefix_len, slice_split, list_any, list_all}
 use Rattle.std.specs.Char.{is_ascii_digit}
 use Rattle.std.specs.Fmt.{decimal}
 use Rattle.std.specs.Str.{all_ascii_digits, bytes_eq}
@@ -14,8 +16,8 @@ use Rattle.std.specs.Str.Parse.{digits_value}
 use lib.Chars.{codes}
 use Rattle.wesl_names.specs.Path.{Text, Origin, absolute, relative, from_package, Path}
 use Rattle.wesl_mangle.specs.Escape.{◌>>=◌, pieces_of, parts_of, from_pieces, from_parts, told, escaped_part, escaped_parts, escaped, escaped_origin, escaped_item, escape, counted, read_name, read_names, read_all_names, read_import, is_super, read_origin, item_below, unescaped, is_word, is_plain, is_plain_origin, is_reversible}
-use Rattle.wesl_mangle.specs.Laws.{RoundTrip}
-use Rattle.wesl_mangle.proofs.Cuts.{and-both, or-neither, not-true, first_fails, prefix_len-all, list_all-append, list_any-append, cut_none, clean, cut_clean, cut_some, cut_join, join_longer}
+use Rattle.wesl_mangle.specs.Laws.{IsShort, IsShortOrigin, HasShortNames, RoundTrip}
+use Rattle.wesl_mangle.proofs.Cuts.{and-both, or-neither, not-true, first_fails, prefix_len-all, list_all-append, list_any-append, cut_none, clean, cut_clean, cut_some, cut_join}
 
 -- decimal texts
 
@@ -91,12 +93,25 @@ uncut n = join_with_byte-slice_split 95 n
 pub unparted : (n : Text) → from_parts (parts_of n) ≡ n
 unparted n = join_with_byte-slice_split 47 n
 
-pub read_name-part : (n : Text) (rest : List Text) → length (escaped_part n) < 2 ^ 64 → is_plain n ≡ true → read_name (escaped_part n ++ rest) ≡ Some (n, rest)
+-- how often a short text is cut
+
+pub few-cuts : (p : ℕ → Bool) (n : Text) → IsShort n → length (slice_split p n) < 2 ^ 64
+few-cuts p n l = omega (arith, l, length-slice_split p n, count_by-le-length p n)
+
+short-parts : (ps : List Text) → length (from_parts ps) < 2 ^ 63 → All IsShort ps
+short-parts [] l = All-nil IsShort
+short-parts (p ∷ []) l = All-cons IsShort p [] l (All-nil IsShort)
+short-parts (p ∷ q ∷ ps) l = let a = length-append p (47 ∷ from_parts (q ∷ ps)) in
+    All-cons IsShort p (q ∷ ps) (omega (arith, l, a)) (short-parts (q ∷ ps) (omega (arith, l, a)))
+
+are-short : (n : Text) → IsShort n → All IsShort (parts_of n)
+are-short n l = short-parts (parts_of n) (subst IsShort (sym (unparted n)) l)
+
+pub read_name-part : (n : Text) (rest : List Text) → IsShort n → is_plain n ≡ true → read_name (escaped_part n ++ rest) ≡ Some (n, rest)
 read_name-part n rest l h =
     let u = uncut n in
     let b : begins_name (from_pieces (pieces_of n)) ≡ true = subst (λ (t : Text). begins_name t ≡ true) (sym u) (begins-plain n h) in
-    let le = length-told (pieces_of n) in
-    read_name-told (pieces_of n) rest (omega (arith, l, le)) b ∙ ap (λ (t : Text). Some (t, rest)) u
+    read_name-told (pieces_of n) rest (few-cuts _ n l) b ∙ ap (λ (t : Text). Some (t, rest)) u
 
 pub some-part : (n : Text) → 0 < length (escaped_part n)
 some-part n = let a = length-told (pieces_of n) in let b = cut_some (λ c. c == 95) n in omega (arith, a, b)
@@ -119,15 +134,14 @@ names-step : (o : Option (Text × List Text)) (k : ℕ) (n : Text) (ps : List Te
     → (o >>= names_after k) ≡ Some (n ∷ ns, rest)
 names-step o k n ps ns rest e h = rw (e, h) refl
 
-read_names-parts : (ns rest : List Text) → length (flat_map escaped_part ns) < 2 ^ 64 → list_all is_plain ns ≡ true → read_names (length ns) (flat_map escaped_part ns ++ rest) ≡ Some (ns, rest)
+read_names-parts : (ns rest : List Text) → All IsShort ns → list_all is_plain ns ≡ true → read_names (length ns) (flat_map escaped_part ns ++ rest) ≡ Some (ns, rest)
 read_names-parts [] rest l h = refl
 read_names-parts (n ∷ ns) rest l h =
     let g = and-both (is_plain n) (list_all is_plain ns) h in
-    let b = length-append (escaped_part n) (flat_map escaped_part ns) in
     let e = append_assoc (escaped_part n) (flat_map escaped_part ns) rest in
     let r : read_name ((escaped_part n ++ flat_map escaped_part ns) ++ rest) ≡ Some (n, flat_map escaped_part ns ++ rest) =
-    ap read_name e ∙ read_name-part n (flat_map escaped_part ns ++ rest) (omega (arith, l, b)) g.0 in
-    names-step (read_name ((escaped_part n ++ flat_map escaped_part ns) ++ rest)) (length ns) n (flat_map escaped_part ns ++ rest) ns rest r (read_names-parts ns rest (omega (arith, l, b)) g.1)
+    ap read_name e ∙ read_name-part n (flat_map escaped_part ns ++ rest) (All-head IsShort n ns l) g.0 in
+    names-step (read_name ((escaped_part n ++ flat_map escaped_part ns) ++ rest)) (length ns) n (flat_map escaped_part ns ++ rest) ns rest r (read_names-parts ns rest (All-tail IsShort n ns l) g.1)
 
 all-step : (o : Option (Text × List Text)) (most : ℕ) (n : Text) (rest ns : List Text) → o ≡ Some (n, rest) → read_all_names most rest ≡ Some ns
     → (o >>= λ x. read_all_names most x.1 >>= λ ns. Some (x.0 ∷ ns)) ≡ Some (n ∷ ns)
@@ -137,15 +151,14 @@ all-more : (most : ℕ) (ps : List Text) (n : Text) (rest ns : List Text) → re
 all-more most [] n rest ns e h = cc
 all-more most (p ∷ ps) n rest ns e h = all-step (read_name (p ∷ ps)) most n rest ns e h
 
-read_all-parts : (most : ℕ) (ns : List Text) → length ns ≤ most → length (flat_map escaped_part ns) < 2 ^ 64 → list_all is_plain ns ≡ true → read_all_names most (flat_map escaped_part ns) ≡ Some ns
+read_all-parts : (most : ℕ) (ns : List Text) → length ns ≤ most → All IsShort ns → list_all is_plain ns ≡ true → read_all_names most (flat_map escaped_part ns) ≡ Some ns
 read_all-parts most [] m l h = refl
 read_all-parts zero (n ∷ ns) m l h = absurd (omega arith)
 read_all-parts (suc most) (n ∷ ns) m l h =
     let g = and-both (is_plain n) (list_all is_plain ns) h in
-    let b = length-append (escaped_part n) (flat_map escaped_part ns) in
     all-more most (escaped_part n ++ flat_map escaped_part ns) n (flat_map escaped_part ns) ns
-    (read_name-part n (flat_map escaped_part ns) (omega (arith, l, b)) g.0)
-    (read_all-parts most ns (omega arith) (omega (arith, l, b)) g.1)
+    (read_name-part n (flat_map escaped_part ns) (All-head IsShort n ns l) g.0)
+    (read_all-parts most ns (omega arith) (All-tail IsShort n ns l) g.1)
 
 pub below-item : (o : Origin) (ns : List Text) (i : Text) → item_below o (ns ++ i ∷ []) ≡ Some (record { origin = o; components = ns }, i)
 below-item o [] i = refl
@@ -215,18 +228,16 @@ pub import-step : (q : Text) (ps : List Text) (ns rest : List Text) → 0 < leng
     → read_import (q ∷ ps) ≡ Some (from_package (from_parts ns), rest)
 import-step q ps ns rest l a h = let z : (length q == 0) ≡ false = ne_eqb (length q) 0 (λ e. omega (arith, e)) in rw (z, a, h) refl
 
-read_origin-parts : (parts rest : List Text) → 0 < length parts → length (escaped_parts parts) < 2 ^ 64 → list_all is_plain parts ≡ true → read_origin (escaped_parts parts ++ rest) ≡ Some (from_package (from_parts parts), rest)
-read_origin-parts [] rest z l h = absurd (omega arith)
-read_origin-parts (p ∷ []) rest z l h =
+read_origin-parts : (parts rest : List Text) → 0 < length parts → length parts < 2 ^ 64 → All IsShort parts → list_all is_plain parts ≡ true → read_origin (escaped_parts parts ++ rest) ≡ Some (from_package (from_parts parts), rest)
+read_origin-parts [] rest z k l h = absurd (omega arith)
+read_origin-parts (p ∷ []) rest z k l h =
     let g = and-both (is_plain p) true h in
-    read_origin-name (escaped_part p ++ rest) (part-no_word p rest g.0) ∙ ap (option_map (λ (x : Text × List Text). (from_package x.0, x.1))) (read_name-part p rest l g.0)
-read_origin-parts (p ∷ q ∷ parts) rest z l h =
+    read_origin-name (escaped_part p ++ rest) (part-no_word p rest g.0) ∙ ap (option_map (λ (x : Text × List Text). (from_package x.0, x.1))) (read_name-part p rest (All-head IsShort p [] l) g.0)
+read_origin-parts (p ∷ q ∷ parts) rest z k l h =
     let ns : List Text = p ∷ q ∷ parts in
-    let a = parts_all ns in
-    let k : length ns < 2 ^ 64 = omega (arith, a, l) in
     let v : digits_value 10 (decimal (length ns)) ≡ length ns = digits_value-decimal own (length ns) k in
     import-step (decimal (length ns)) (flat_map escaped_part ns ++ rest) ns rest (decimal_nonempty (length ns) k) (digits_decimal own (length ns) k)
-    (ap (λ m. read_names m (flat_map escaped_part ns ++ rest)) v ∙ read_names-parts ns rest (omega arith) h)
+    (ap (λ m. read_names m (flat_map escaped_part ns ++ rest)) v ∙ read_names-parts ns rest l h)
 
 pub supers : (n : ℕ) → list_all is_super (replicate n (codes "super")) ≡ true
 supers zero = refl
@@ -239,14 +250,14 @@ pub read_origin-supers : (n m : ℕ) (rest : List Text) → m ≡ n → super_ru
 read_origin-supers n m rest e =
     rw (e, drop_at (replicate n (codes "super")) rest n (length-replicate n (codes "super"))) refl
 
-read_origin-escaped : (o : Origin) (rest : List Text) → length (escaped_origin o) < 2 ^ 64 → is_plain_origin o ≡ true → starts_no_word rest ≡ true → read_origin (escaped_origin o ++ rest) ≡ Some (o, rest)
+read_origin-escaped : (o : Origin) (rest : List Text) → IsShortOrigin o → is_plain_origin o ≡ true → starts_no_word rest ≡ true → read_origin (escaped_origin o ++ rest) ≡ Some (o, rest)
 read_origin-escaped absolute rest l h s = refl
 read_origin-escaped (relative zero) rest l h s = refl
 read_origin-escaped (relative (suc n)) rest l h s =
     read_origin-supers n (prefix_len is_super (replicate n (codes "super") ++ rest)) rest
     (prefix_len-all is_super (replicate n (codes "super")) rest (supers n) (super-no_word rest s) ∙ length-replicate n (codes "super"))
 read_origin-escaped (from_package name) rest l h s =
-    read_origin-parts (parts_of name) rest (cut_some (λ c. c == 47) name) l h ∙ ap (λ (t : Text). Some (from_package t, rest)) (unparted name)
+    read_origin-parts (parts_of name) rest (cut_some (λ c. c == 47) name) (few-cuts _ name l) (are-short name l) h ∙ ap (λ (t : Text). Some (from_package t, rest)) (unparted name)
 
 -- the whole
 
@@ -277,19 +288,17 @@ first-name : (ns : List Text) (i : Text) → list_all is_plain (ns ++ i ∷ []) 
 first-name [] i h = part-no_word i [] (and-both (is_plain i) true h).0
 first-name (n ∷ ns) i h = part-no_word n (flat_map escaped_part (ns ++ i ∷ [])) (and-both (is_plain n) _ h).0
 
-pub unescaped-item : (p : Path) (i : Text) → length (escaped_item p i) < 2 ^ 64 → is_reversible p i ≡ true → unescaped (escaped_item p i) ≡ Some (p, i)
+unescaped-item : (p : Path) (i : Text) → HasShortNames p i → is_reversible p i ≡ true → unescaped (escaped_item p i) ≡ Some (p, i)
 unfolding names-of
 unescaped-item p i l h =
     let ns : List Text = names-of p i in
     let ps : List Text = flat_map escaped_part ns in
     let e = item-pieces p i h in
-    let m = length-append (escaped_origin p.origin) ps in
-    let le = ap length e in
     let q = names-plain p i h in
     ap unescaped e
     ∙ whole-step (read_origin (escaped_origin p.origin ++ ps)) p.origin ps ns (Some (p, i))
-    (read_origin-escaped p.origin ps (omega (arith, l, le, m)) (and-both (is_plain_origin p.origin) _ h).0 (first-name p.components i q))
-    (read_all-parts (length ps) ns (parts_all ns) (omega (arith, l, le, m)) q)
+    (read_origin-escaped p.origin ps l.0 (and-both (is_plain_origin p.origin) _ h).0 (first-name p.components i q))
+    (read_all-parts (length ps) ns (parts_all ns) (All-push IsShort p.components i l.1 l.2) q)
     (below-item p.origin p.components i)
 
 -- what is written has no underscore in a piece
@@ -314,39 +323,39 @@ told-clean (p ∷ q ∷ ps) l h =
     list_any-append is_line (decimal (length (q ∷ ps))) p (digits_clean (decimal (length (q ∷ ps))) (digits_decimal own (length (q ∷ ps)) k)) (not-true _ g.0) in
     rw d g.1
 
-part-clean : (n : Text) → length (escaped_part n) < 2 ^ 64 → list_all (clean is_line) (escaped_part n) ≡ true
-part-clean n l = let a = length-told (pieces_of n) in told-clean (pieces_of n) (omega (arith, a, l)) (cut_clean is_line n)
+part-clean : (n : Text) → IsShort n → list_all (clean is_line) (escaped_part n) ≡ true
+part-clean n l = told-clean (pieces_of n) (few-cuts _ n l) (cut_clean is_line n)
 
-flat-clean : (ns : List Text) → length (flat_map escaped_part ns) < 2 ^ 64 → list_all (clean is_line) (flat_map escaped_part ns) ≡ true
+flat-clean : (ns : List Text) → All IsShort ns → list_all (clean is_line) (flat_map escaped_part ns) ≡ true
 flat-clean [] l = refl
 flat-clean (n ∷ ns) l =
-    let b = length-append (escaped_part n) (flat_map escaped_part ns) in
-    list_all-append (clean is_line) (escaped_part n) (flat_map escaped_part ns) (part-clean n (omega (arith, l, b))) (flat-clean ns (omega (arith, l, b)))
+    list_all-append (clean is_line) (escaped_part n) (flat_map escaped_part ns) (part-clean n (All-head IsShort n ns l)) (flat-clean ns (All-tail IsShort n ns l))
 
-parts-clean : (ns : List Text) → length (escaped_parts ns) < 2 ^ 64 → list_all (clean is_line) (escaped_parts ns) ≡ true
-parts-clean [] l = refl
-parts-clean (p ∷ []) l = part-clean p l
-parts-clean (p ∷ q ∷ ns) l =
+parts-clean : (ns : List Text) → length ns < 2 ^ 64 → All IsShort ns → list_all (clean is_line) (escaped_parts ns) ≡ true
+parts-clean [] k l = refl
+parts-clean (p ∷ []) k l = part-clean p (All-head IsShort p [] l)
+parts-clean (p ∷ q ∷ ns) k l =
     let xs : List Text = p ∷ q ∷ ns in
-    let k : length xs < 2 ^ 64 = (let a = parts_all xs in omega (arith, a, l)) in
     let d : list_any is_line (decimal (length xs)) ≡ false = digits_clean (decimal (length xs)) (digits_decimal own (length xs) k) in
-    rw d (flat-clean xs (omega arith))
+    rw d (flat-clean xs l)
+
+name-clean : (n : Text) → IsShort n → list_all (clean is_line) (escaped n) ≡ true
+name-clean n l = parts-clean (parts_of n) (few-cuts _ n l) (are-short n l)
 
 supers-clean : (n : ℕ) → list_all (clean is_line) (replicate n (codes "super")) ≡ true
 supers-clean zero = refl
 supers-clean (suc n) = supers-clean n
 
-origin-clean : (o : Origin) → length (escaped_origin o) < 2 ^ 64 → list_all (clean is_line) (escaped_origin o) ≡ true
+origin-clean : (o : Origin) → IsShortOrigin o → list_all (clean is_line) (escaped_origin o) ≡ true
 origin-clean absolute l = refl
 origin-clean (relative zero) l = refl
 origin-clean (relative (suc n)) l = supers-clean (suc n)
-origin-clean (from_package name) l = parts-clean (parts_of name) l
+origin-clean (from_package name) l = name-clean name l
 
-several-clean : (ns : List Text) → length (flat_map escaped ns) < 2 ^ 64 → list_all (clean is_line) (flat_map escaped ns) ≡ true
+several-clean : (ns : List Text) → All IsShort ns → list_all (clean is_line) (flat_map escaped ns) ≡ true
 several-clean [] l = refl
 several-clean (n ∷ ns) l =
-    let b = length-append (escaped n) (flat_map escaped ns) in
-    list_all-append (clean is_line) (escaped n) (flat_map escaped ns) (parts-clean (parts_of n) (omega (arith, l, b))) (several-clean ns (omega (arith, l, b)))
+    list_all-append (clean is_line) (escaped n) (flat_map escaped ns) (name-clean n (All-head IsShort n ns l)) (several-clean ns (All-tail IsShort n ns l))
 
 some-parts : (ns : List Text) → 0 < length ns → 0 < length (escaped_parts ns)
 some-parts [] l = absurd (omega arith)
@@ -357,22 +366,17 @@ pub some-escaped : (n : Text) → 0 < length (escaped n)
 some-escaped n = some-parts (parts_of n) (cut_some (λ c. c == 47) n)
 
 -- the pieces of what is written are those that were joined
-pub pieces-escape : (p : Path) (i : Text) → length (escape p i) < 2 ^ 63 → pieces_of (escape p i) ≡ escaped_item p i
+pieces-escape : (p : Path) (i : Text) → HasShortNames p i → pieces_of (escape p i) ≡ escaped_item p i
 pieces-escape p i h =
     let o : List Text = escaped_origin p.origin in
     let cs : List Text = flat_map escaped p.components in
     let x : List Text = escaped i in
     let a = length-append (o ++ cs) x in
-    let b = length-append o cs in
     let n = some-escaped i in
-    let j = join_longer 95 (escaped_item p i) in
-    let l : length (o ++ cs ++ x) < 2 ^ 64 = omega (arith, h, j) in
     cut_join 95 is_line (escaped_item p i) refl (omega (arith, n, a))
     (list_all-append (clean is_line) (o ++ cs) x
-    (list_all-append (clean is_line) o cs (origin-clean p.origin (omega (arith, l, a, b))) (several-clean p.components (omega (arith, l, a, b))))
-    (parts-clean (parts_of i) (omega (arith, l, a, b))))
+    (list_all-append (clean is_line) o cs (origin-clean p.origin h.0) (several-clean p.components h.1))
+    (name-clean i h.2))
 
 pub round_trip : RoundTrip
-round_trip p i h r =
-    let j = join_longer 95 (escaped_item p i) in
-    ap unescaped (pieces-escape p i h) ∙ unescaped-item p i (omega (arith, h, j)) r
+round_trip p i h r = ap unescaped (pieces-escape p i h) ∙ unescaped-item p i h r

@@ -1,4 +1,5 @@
 pub mod Escape
+pub mod Held
 pub mod Identifier
 pub mod Laws
 pub mod Mangler

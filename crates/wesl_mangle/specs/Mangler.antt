@@ -23,6 +23,10 @@ abbrev pub written_if : Bool → Text → Path × Text → (Text → Option (Pat
 written_if true name item items = update bytes_eq items name (Some item)
 written_if false name item items = items
 
+-- the record is as it was, or has this item written for the name
+abbrev pub IsWrittenOrKept : Bool → Text → Path × Text → (Text → Option (Path × Text)) → (Text → Option (Path × Text)) → Type 0
+IsWrittenOrKept writes name item old new = ((n : Text) → new n ≡ old n) ⊎ ((n : Text) → new n ≡ written_if writes name item old n)
+
 -- a text, an underscore and a number
 abbrev pub numbered : Text → ℕ → Text
 numbered item n = item ++ 95 ∷ decimal n

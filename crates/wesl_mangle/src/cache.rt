@@ -1,7 +1,8 @@
 //! A record of the names that a mangler gave.
-ghost use Rattle.std.specs.Prelude.{◌≡◌, List, [], true, Some, option_map};
-ghost use Rattle.wesl_names.specs.Path.{Text};
-ghost use Rattle.wesl_mangle.specs.Mangler.{item_view, numbered};
+ghost use Rattle.std.specs.Prelude.{◌≡◌, None, Some, true, IfOk, IfErr, OnOk, OnErr, string_bytes};
+ghost use Rattle.wesl_names.specs.Path.{Text, Path, path_view};
+ghost use Rattle.wesl_names.specs.declared.errors.Error as error;
+ghost use Rattle.wesl_mangle.specs.Mangler.{IsWrittenOrKept, numbered, written_if};
 
 use crate::mangler::Mangler;
 use crate::numbered::number_item;
@@ -18,13 +19,12 @@ pub struct CacheMangler<M> {
 }
 
 impl<M> CacheMangler<M> {
-    ghost use Rattle.std.specs.Prelude.{Option, None};
-    ghost use Rattle.std.specs.BTreeMap.{get_by_text};
+    ghost use Rattle.wesl_mangle.specs.Held.{inner, record_of};
 
     /// A mangler that gives the names of `mangler`, with nothing recorded. It takes no memory.
     pub fn new(alloc: Global, mangler: M) -> CacheMangler<M>
-        ensures mangler { result.mangler ≡ mangler }
-        ensures empty { (name : Text) → get_by_text result.items name ≡ None }
+        ensures mangler { inner result ≡ mangler }
+        ensures empty { (name : Text) → record_of result name ≡ None }
     {
         CacheMangler {
             mangler,
@@ -34,20 +34,34 @@ impl<M> CacheMangler<M> {
 }
 
 impl<M: Mangler> Mangler for CacheMangler<M> {
-    ghost use Rattle.std.specs.BTreeMap.{get_by_text};
+    ghost use Rattle.wesl_mangle.specs.Held.{inner, record_of};
     ghost use Rattle.wesl_mangle.specs.Mangler.{option_or};
 
-    ghost name_of = { λ s. M.name_of s.mangler };
+    ghost name_of = { λ s. M.name_of (inner s) };
 
-    ghost recorded = { λ s name. option_map item_view (get_by_text s.items name) };
+    ghost recorded = { λ s. record_of s };
 
     ghost writes = { true };
 
-    ghost item_of = { λ s name. option_or (option_map item_view (get_by_text s.items name)) (M.item_of s.mangler name) };
+    ghost item_of = { λ s name. option_or (record_of s name) (M.item_of (inner s) name) };
 
     ghost variant_of = { λ _ names item number types. Some (numbered item number) };
 
-    fn mangle(&mut self, alloc: Global, path: &ModulePath, item: &str) -> Result<String, Error> {
+    /// The name that the other mangler gives, with the item recorded for it.
+    ///
+    /// Refused for want of memory alone; the record is then as before, and the other mangler's may have the item.
+    fn mangle(&mut self, alloc: Global, path: &ModulePath, item: &str) -> Result<String, Error>
+        ensures named { IfOk result (λ name. string_bytes name ≡ M.name_of (inner self.old) (path_view path.now) item.now) }
+        ensures refused { IfErr result (λ e. e ≡ error.Memory) }
+        ensures same { (p : Path) (i : Text) → M.name_of (inner self.new) p i ≡ M.name_of (inner self.old) p i }
+        ensures written { OnOk result ((name : Text) → record_of self.new name
+            ≡ written_if true (M.name_of (inner self.old) (path_view path.now) item.now) (path_view path.now, item.now) (record_of self.old) name) }
+        ensures unwritten { OnErr result ((name : Text) → record_of self.new name ≡ record_of self.old name) }
+        ensures inner_written { OnOk result ((name : Text) → M.recorded (inner self.new) name
+            ≡ written_if M.writes (M.name_of (inner self.old) (path_view path.now) item.now) (path_view path.now, item.now) (M.recorded (inner self.old)) name) }
+        ensures inner_refused { OnErr result (IsWrittenOrKept M.writes (M.name_of (inner self.old) (path_view path.now) item.now) (path_view path.now, item.now)
+            (M.recorded (inner self.old)) (M.recorded (inner self.new))) }
+    {
         let mangled = self.mangler.mangle(alloc, path, item)?;
         let name = mangled.clone()?;
         let written = (path.try_clone(alloc)?, String::from_str(alloc, item)?);

@@ -1,6 +1,7 @@
 //! Names with a number.
-ghost use Rattle.std.specs.Prelude.{◌≡◌, ℕ, Some, None, false};
+ghost use Rattle.std.specs.Prelude.{◌≡◌, ℕ, Some, None, false, IfOk, IfErr, string_bytes};
 ghost use Rattle.wesl_names.specs.Path.{Text, Path, path_view};
+ghost use Rattle.wesl_names.specs.declared.errors.Error as error;
 ghost use Rattle.wesl_mangle.specs.Mangler.{numbered};
 
 use crate::mangler::Mangler;
@@ -26,16 +27,20 @@ pub struct HashMangler<H> {
 }
 
 impl<H> HashMangler<H> {
+    ghost use Rattle.wesl_mangle.specs.Held.{hasher_of};
+
     /// A mangler with these numbers.
     pub fn new(hasher: H) -> HashMangler<H>
-        ensures { result.hasher ≡ hasher }
+        ensures { hasher_of result ≡ hasher }
     {
         HashMangler { hasher }
     }
 }
 
 impl<H: PathHash> Mangler for HashMangler<H> {
-    ghost name_of = { λ s p i. numbered i (H.hash_of s.hasher p i) };
+    ghost use Rattle.wesl_mangle.specs.Held.{hasher_of};
+
+    ghost name_of = { λ s p i. numbered i (H.hash_of (hasher_of s) p i) };
 
     ghost recorded = { λ _ name. None };
 
@@ -45,7 +50,12 @@ impl<H: PathHash> Mangler for HashMangler<H> {
 
     ghost variant_of = { λ _ names item number types. Some (numbered item number) };
 
-    fn mangle(&mut self, alloc: Global, path: &ModulePath, item: &str) -> Result<String, Error> {
+    /// The item and its number. Refused for want of memory alone.
+    fn mangle(&mut self, alloc: Global, path: &ModulePath, item: &str) -> Result<String, Error>
+        ensures named { IfOk result (λ name. string_bytes name ≡ numbered item.now (H.hash_of (hasher_of self.old) (path_view path.now) item.now)) }
+        ensures refused { IfErr result (λ e. e ≡ error.Memory) }
+        ensures unchanged { self.new ≡ self.old }
+    {
         let hash = self.hasher.hash(path, item);
         Ok(number_item(alloc, item, hash)?)
     }

@@ -16,5 +16,6 @@ mod ununicode;
 pub use cache::CacheMangler;
 pub use escape::EscapeMangler;
 pub use hash::{HashMangler, PathHash};
+pub use laws::{escape_round_trip, escape_rows, unicode_round_trip, unicode_rows};
 pub use mangler::{Mangler, NoMangler};
 pub use unicode::UnicodeMangler;

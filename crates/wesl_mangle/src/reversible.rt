@@ -1,8 +1,8 @@
 //! Where the escape form is read back as what it was written for.
-ghost use Rattle.std.specs.Prelude.{◌≡◌, ◌==◌, map, string_bytes};
+ghost use Rattle.std.specs.Prelude.{◌≡◌, ◌==◌, Some, true, map, string_bytes};
 ghost use Rattle.std.specs.List.{list_any, list_all};
 ghost use Rattle.wesl_names.specs.Path.{path_view, origin_view};
-ghost use Rattle.wesl_mangle.specs.Escape.{parts_of, is_word, is_plain, is_plain_origin, is_reversible};
+ghost use Rattle.wesl_mangle.specs.Escape.{parts_of, is_word, is_plain, is_plain_origin, escape, unescape, is_reversible};
 
 use crate::escape::EscapeMangler;
 use wesl_names::{ModulePath, PathOrigin};
@@ -59,7 +59,8 @@ impl EscapeMangler {
     /// `package`, `self`, `super` and `import`; a package's name is such names with a slash between
     /// each two. It takes no memory.
     pub fn is_reversible(&self, path: &ModulePath, item: &str) -> bool
-        ensures { result ≡ is_reversible (path_view path.now) item.now }
+        ensures told { result ≡ is_reversible (path_view path.now) item.now }
+        ensures read_back { result ≡ true → unescape (escape (path_view path.now) item.now) ≡ Some (path_view path.now, item.now) }
     {
         is_plain_origin(&path.origin) && are_plain(path.components.as_slice()) && is_plain(item)
     }

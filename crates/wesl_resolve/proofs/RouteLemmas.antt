@@ -100,7 +100,7 @@ set-there [] i y x h = absurd (none-some x h)
 set-there (z ∷ zs) zero y x h = refl
 set-there (z ∷ zs) (suc i) y x h = set-there zs i y x h
 
-set-others : {X : Type 0} (xs : List X) (i k : ℕ) (y x : X) → slice_get xs k ≡ Some x → (k ≡ i) ⊎ (slice_get (set xs i y) k ≡ Some x)
+pub set-others : {X : Type 0} (xs : List X) (i k : ℕ) (y x : X) → slice_get xs k ≡ Some x → (k ≡ i) ⊎ (slice_get (set xs i y) k ≡ Some x)
 set-others [] i k y x h = inr h
 set-others (z ∷ zs) zero zero y x h = inl refl
 set-others (z ∷ zs) zero (suc k) y x h = inr h

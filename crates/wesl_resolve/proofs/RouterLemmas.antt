@@ -1,16 +1,17 @@
 -- What a router means, once the resolver that a path went to was asked.
-use Rattle.std.proofs.Common.{◌≡◌, ◌≤◌, ◌⊎◌, ◌↔◌, ℕ, zero, suc, Bool, true, false, ◌&&◌, List, [], ◌∷◌, ◌++◌, Option, Some, None, slice_get, get_or, set, length, arith, subst, sym, ◌∙◌, inl, inr, ⊎_elim, true≢false, codes}
+use Rattle.std.proofs.Common.{◌≡◌, ◌≤◌, ◌⊎◌, ◌↔◌, ℕ, zero, suc, Bool, true, false, ◌&&◌, List, [], ◌∷◌, ◌++◌, Option, Some, slice_get, get_or, set, length, arith, subst, sym, ◌∙◌, inl, inr, ⊎_elim, true≢false, refl, ap}
+use Rattle.std.proofs.Math.Seq.{map-set_same}
 use Rattle.std.proofs.lemmas.Option.{get_or_from_slice_get, none-some, same_Some}
 use Rattle.std.specs.Str.{bytes_eq}
 use Rattle.wesl_names.specs.Path.{Text, Path, path_view, starts_with, same_origin, components_begin}
 use Rattle.wesl_names.specs.declared.path.ModulePath.{ModulePath}
-use Rattle.wesl_resolve.specs.Router.{prefix_length, suffix, Takes, Routed, NoRoute, AllReady}
-use Rattle.wesl_resolve.proofs.RouteLemmas.{Holds-set, Holds-before, Routed-held, TakenByNone-held, set-cases}
+use Rattle.wesl_resolve.specs.Router.{prefix_length, suffix, Takes, TakenByNone, Routed, NoRoute, AllReady, LeavesOthers}
+use Rattle.wesl_resolve.proofs.RouteLemmas.{Holds-set, Holds-before, Routed-held, TakenByNone-held, set-cases, set-others}
 use Rattle.std.specs.Vec.{with_item}
-use Rattle.wesl_names.specs.Errors.{IsModuleNotFound}
 use Rattle.wesl_syntax.specs.Unit.{UnitOf}
 use Rattle.wesl_names.specs.declared.errors.ResolveError.{ResolveError}
 use Rattle.wesl_resolve.specs.Resolver.{MeansTheSame}
+use Rattle.wesl_resolve.specs.RouterMeaning.{RouterMeans}
 use Rattle.wesl_resolve.specs.declared.router.Router.{Router}
 use Rattle.wesl_resolve.proofs.ResultLemmas.{both-iff, either-iff}
 
@@ -76,6 +77,46 @@ module _ {B : Type 0} where
   NoRoute-fallback mounts fallback a b p is =
       ((λ h. absurd (none-some b (sym h.1))), (λ h. absurd (none-some a (sym h.1 ∙ is))))
 
+module _ {B : Type 0} where
+  -- the mount at the place is the one that takes the path
+  Takes-at : (mounts : List (ModulePath × B)) (p : Path) (place k : ℕ) (m other : ModulePath × B) → Takes mounts p place m → slice_get mounts k ≡ Some other → k ≡ place → Takes mounts p k other
+  Takes-at mounts p place k m other takes at same =
+      let here : slice_get mounts place ≡ Some other = ap (slice_get mounts) (sym same) ∙ at in
+      let At : ℕ → Type 0 = λ j. Takes mounts p j other in
+      let It : ModulePath × B → Type 0 = λ x. Takes mounts p place x in
+      subst At (sym same) (subst It (same_Some m other (sym takes.there ∙ here)) takes)
+
+  -- the mount that takes the path was asked
+  pub LeavesOthers-set : (mounts : List (ModulePath × B)) (fallback : Option B) (p : Path) (place : ℕ) (m : ModulePath × B) (b : B) → Takes mounts p place m
+      → LeavesOthers p mounts fallback (set mounts place (m.0, b)) fallback
+  LeavesOthers-set mounts fallback p place m b takes =
+      record {
+        prefixes = map-set_same (λ (x : ModulePath × B). x.0) mounts place (m.0, b) m (ap (λ (x : ModulePath × B). x.0) (sym (get_or_from_slice_get mounts place m m takes.there)));
+        mounted = λ k other at no. ⊎_elim (λ same. absurd (no (Takes-at mounts p place k m other takes at same))) (λ kept. kept) (set-others mounts place k (m.0, b) other at);
+        beside = λ some. refl;
+        no_fallback = λ none. none;
+      }
+
+  pub TakenByNone-read : (seen mounts : List (ModulePath × B)) (p : Path) → seen ≡ mounts → TakenByNone seen p → TakenByNone mounts p
+  TakenByNone-read seen mounts p same none =
+      let None-of : List (ModulePath × B) → Type 0 = λ ms. TakenByNone ms p in
+      subst None-of same none
+
+  -- the fallback was asked
+  pub LeavesOthers-fallback : (mounts : List (ModulePath × B)) (fallback : Option B) (p : Path) (a b : B) → fallback ≡ Some a → TakenByNone mounts p
+      → LeavesOthers p mounts fallback mounts (Some b)
+  LeavesOthers-fallback mounts fallback p a b is none =
+      record {
+        prefixes = refl;
+        mounted = λ k other at no. at;
+        beside = λ some. absurd (some none);
+        no_fallback = λ no. absurd (none-some a (sym no ∙ is));
+      }
+
+  -- nothing was asked
+  pub LeavesOthers-same : (mounts : List (ModulePath × B)) (fallback : Option B) (p : Path) → LeavesOthers p mounts fallback mounts fallback
+  LeavesOthers-same mounts fallback p = record { prefixes = refl; mounted = λ k other at no. at; beside = λ some. refl; no_fallback = λ none. none }
+
 pushed-cases : {X : Type 0} (xs : List X) (y x : X) (k : ℕ) → slice_get (xs ++ y ∷ []) k ≡ Some x → (slice_get xs k ≡ Some x) ⊎ (y ≡ x)
 pushed-cases [] y x zero h = inr (same_Some y x h)
 pushed-cases [] y x (suc k) h = absurd (none-some x h)
@@ -103,17 +144,9 @@ module _ {B : Type 0} (ready : B → Type 0) where
       })
 
 module _ {B : Type 0} (hands : B → Path → UnitOf Text → Type 0) (refuses : B → Path → ResolveError → Type 0) (source : B → Path → Text → Type 0) (shown : B → Path → Option Text → Type 0) where
-  abbrev pub RouterMeans : Router B → Router B → Type 0
-  RouterMeans =
-      MeansTheSame
-      (λ r p u. Routed (λ b q. hands b q u) r.mount_points.items r.fallback p)
-      (λ r p e. Routed (λ b q. refuses b q e) r.mount_points.items r.fallback p ⊎ (NoRoute r.mount_points.items r.fallback p × IsModuleNotFound p (codes "no mount point") e))
-      (λ r p text. Routed (λ b q. source b q text) r.mount_points.items r.fallback p)
-      (λ r p name. Routed (λ b q. shown b q name) r.mount_points.items r.fallback p ⊎ (NoRoute r.mount_points.items r.fallback p × (name ≡ None)))
-
   -- one mount was asked, and means what it did
   pub RouterMeans-set : (r : Router B) (place : ℕ) (m : ModulePath × B) (b : B) → slice_get r.mount_points.items place ≡ Some m → MeansTheSame hands refuses source shown m.1 b
-      → RouterMeans r (record { mount_points = with_item r.mount_points place (m.0, b); fallback = r.fallback })
+      → RouterMeans hands refuses source shown r (record { mount_points = with_item r.mount_points place (m.0, b); fallback = r.fallback })
   RouterMeans-set r place m b there same =
       record {
         units = λ p u. Routed-set (λ b q. hands b q u) r.mount_points.items r.fallback place m b p there (λ q. same.units q u);
@@ -128,7 +161,7 @@ module _ {B : Type 0} (hands : B → Path → UnitOf Text → Type 0) (refuses :
 
   -- the fallback was asked, and means what it did
   pub RouterMeans-fallback : (r : Router B) (a b : B) → r.fallback ≡ Some a → MeansTheSame hands refuses source shown a b
-      → RouterMeans r (record { mount_points = r.mount_points; fallback = Some b })
+      → RouterMeans hands refuses source shown r (record { mount_points = r.mount_points; fallback = Some b })
   RouterMeans-fallback r a b is same =
       record {
         units = λ p u. Routed-fallback (λ b q. hands b q u) r.mount_points.items r.fallback a b p is (λ q. same.units q u);

@@ -6,3 +6,5 @@ pub mod UnitText
 pub mod Texts
 pub mod Packages
 pub mod ByOrigin
+pub mod Held
+pub mod RouterMeaning

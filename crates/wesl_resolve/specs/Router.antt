@@ -1,5 +1,5 @@
 -- Which mount of a router a path goes to, and what is asked of it there.
-use Rattle.std.specs.Prelude.{◌≡◌, ◌≤◌, ℕ, List, Option, Some, None, true, false, IsSomeAnd, IfSome, ◌⊎◌, length, drop, slice_get}
+use Rattle.std.specs.Prelude.{◌≡◌, ◌≤◌, ℕ, List, map, Option, Some, None, true, false, IsSomeAnd, IfSome, ◌⊎◌, length, drop, slice_get}
 use Rattle.wesl_names.specs.Path.{Path, absolute, path_view, starts_with}
 use Rattle.wesl_names.specs.declared.path.ModulePath.{ModulePath}
 
@@ -38,6 +38,14 @@ Routed {B} Answers mounts fallback p =
 -- no mount takes the path, and there is no fallback
 abbrev pub NoRoute : {B : Type 0} → List (ModulePath × B) → Option B → Path → Type 0
 NoRoute mounts fallback p = TakenByNone mounts p × (fallback ≡ None)
+
+-- A call for the path leaves as they were all prefixes, each mount that does not take the path, and the fallback where
+-- one does; what has no fallback gets none.
+pub record LeavesOthers {B : Type 0} (p : Path) (mounts : List (ModulePath × B)) (fallback : Option B) (mounts_after : List (ModulePath × B)) (fallback_after : Option B) : Type 0 where
+  pub prefixes : map (λ m. m.0) mounts_after ≡ map (λ m. m.0) mounts
+  pub mounted : (k : ℕ) (m : ModulePath × B) → slice_get mounts k ≡ Some m → (Takes mounts p k m → ⊥) → slice_get mounts_after k ≡ Some m
+  pub beside : (TakenByNone mounts p → ⊥) → fallback_after ≡ fallback
+  pub no_fallback : fallback ≡ None → fallback_after ≡ None
 
 -- each resolver that is mounted may be asked, and so may the fallback
 pub record AllReady {B : Type 0} (ready : B → Type 0) (mounts : List (ModulePath × B)) (fallback : Option B) : Type 0 where

@@ -5,7 +5,7 @@ ghost use Rattle.wesl_names.specs.Errors.{OrMemory};
 ghost use Rattle.wesl_names.specs.declared.errors.Error as error;
 ghost use Rattle.wesl_syntax.specs.Unit.{spelled};
 ghost use Rattle.wesl_tree.specs.Translation.{unit_view};
-ghost use Rattle.wesl_resolve.specs.Packages.{IsReadIn, IsRefusedIn, IsSourceIn};
+ghost use Rattle.wesl_resolve.specs.Packages.{IsMissingIn, IsReadIn, IsRefusedIn, IsSourceIn};
 
 use crate::packages::{CodegenPkg, module_at};
 use crate::resolver::Resolver;
@@ -54,7 +54,7 @@ impl<P: UnitText> PkgResolver<P> {
     /// The source of the module at a path.
     fn source_at(&self, alloc: Global, path: &ModulePath) -> Result<String, ResolveError>
         ensures given { IfOk result (λ text. IsSourceIn self.now.packages.items (path_view path.now) (string_bytes text)) }
-        ensures refused { IfErr result (OrMemory (IsRefusedIn (P.unreadable self.now.text) self.now.packages.items (path_view path.now))) }
+        ensures refused { IfErr result (OrMemory (IsMissingIn self.now.packages.items (path_view path.now))) }
     {
         let module = module_at(alloc, &self.packages, path)?;
         Ok(String::from_str(alloc, module.source.as_str())?)
@@ -72,6 +72,7 @@ impl<P: UnitText> PkgResolver<P> {
 
 impl<P: UnitText> Resolver for PkgResolver<P> {
     ghost use Rattle.wesl_resolve.specs.Packages.{IsReadIn, IsRefusedIn, IsSourceIn};
+    ghost use Rattle.wesl_resolve.specs.Held.{packages_of, package_reader_of};
 
     ghost ready = { λ _. Unit {0} };
 
@@ -83,15 +84,26 @@ impl<P: UnitText> Resolver for PkgResolver<P> {
 
     ghost shown = { λ _ p name. name ≡ None };
 
-    fn resolve_source(&mut self, alloc: Global, path: &ModulePath) -> Result<String, ResolveError> {
+    /// The source of the module at a path. Refused where there is none, and for want of memory.
+    fn resolve_source(&mut self, alloc: Global, path: &ModulePath) -> Result<String, ResolveError>
+        ensures given { IfOk result (λ text. IsSourceIn (packages_of self.old) (path_view path.now) (string_bytes text)) }
+        ensures refused { IfErr result (OrMemory (IsMissingIn (packages_of self.old) (path_view path.now))) }
+        ensures unchanged { self.new ≡ self.old }
+    {
         self.source_at(alloc, path)
     }
 
+    /// The unit that the source of the module at a path is read as. Refused where there is no module or its source
+    /// cannot be read, and for want of memory.
     fn resolve_module(
         &mut self,
         alloc: Global,
         path: &ModulePath,
-    ) -> Result<TranslationUnit, ResolveError> {
+    ) -> Result<TranslationUnit, ResolveError>
+        ensures handed { IfOk result (λ u. IsReadIn (P.reads (package_reader_of self.old)) (packages_of self.old) (path_view path.now) (spelled (unit_view u))) }
+        ensures refused { IfErr result (OrMemory (IsRefusedIn (P.unreadable (package_reader_of self.old)) (packages_of self.old) (path_view path.now))) }
+        ensures unchanged { self.new ≡ self.old }
+    {
         self.read_at(alloc, path)
     }
 

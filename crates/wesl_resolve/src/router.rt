@@ -160,23 +160,30 @@ impl<B: Resolver + Drop> Router<B> {
 }
 
 impl<B: Resolver> Resolver for Router<B> {
-    ghost use Rattle.std.specs.Prelude.{◌⊎◌, codes};
-    ghost use Rattle.wesl_names.specs.Errors.{IsModuleNotFound};
-    ghost use Rattle.wesl_resolve.specs.Router.{AllReady, Routed, NoRoute};
+    ghost use Rattle.wesl_resolve.specs.Held.{mounts_of, fallback_of};
+    ghost use Rattle.wesl_resolve.specs.Router.{AllReady};
+    ghost use Rattle.wesl_resolve.specs.RouterMeaning.{router_hands, router_refuses, router_source, router_shown, ReachesOne, RouterMeans};
 
-    ghost ready = { λ r. AllReady B.ready r.mount_points.items r.fallback };
+    ghost ready = { λ r. AllReady B.ready (mounts_of r) (fallback_of r) };
 
-    ghost hands = { λ r p u. Routed (λ b q. B.hands b q u) r.mount_points.items r.fallback p };
+    ghost hands = { router_hands B.hands };
 
-    ghost refuses = { λ r p e. Routed (λ b q. B.refuses b q e) r.mount_points.items r.fallback p
-        ⊎ (NoRoute r.mount_points.items r.fallback p × IsModuleNotFound p (codes "no mount point") e) };
+    ghost refuses = { router_refuses B.refuses };
 
-    ghost source = { λ r p text. Routed (λ b q. B.source b q text) r.mount_points.items r.fallback p };
+    ghost source = { router_source B.source };
 
-    ghost shown = { λ r p name. Routed (λ b q. B.shown b q name) r.mount_points.items r.fallback p
-        ⊎ (NoRoute r.mount_points.items r.fallback p × (name ≡ None)) };
+    ghost shown = { router_shown B.shown };
 
-    fn resolve_source(&mut self, alloc: Global, path: &ModulePath) -> Result<String, ResolveError> {
+    /// The source that the resolver which the path goes to gives. No other resolver is asked.
+    fn resolve_source(&mut self, alloc: Global, path: &ModulePath) -> Result<String, ResolveError>
+        requires asked { AllReady B.ready (mounts_of self.old) (fallback_of self.old) }
+        requires rooted { is_relative (path_view path.now) ≡ false }
+        ensures given { IfOk result (λ text. router_source B.source self.old (path_view path.now) (string_bytes text)) }
+        ensures refused { IfErr result (OrMemory (router_refuses B.refuses self.old (path_view path.now))) }
+        ensures same { RouterMeans B.hands B.refuses B.source B.shown self.old self.new }
+        ensures stays_ready { AllReady B.ready (mounts_of self.new) (fallback_of self.new) }
+        ensures others { ReachesOne (path_view path.now) self.old self.new }
+    {
         match route(&self.mount_points, path) {
             Some(place) => {
                 let mount = &mut self.mount_points[place];
@@ -190,11 +197,20 @@ impl<B: Resolver> Resolver for Router<B> {
         }
     }
 
+    /// The unit that the resolver which the path goes to hands out. No other resolver is asked.
     fn resolve_module(
         &mut self,
         alloc: Global,
         path: &ModulePath,
-    ) -> Result<TranslationUnit, ResolveError> {
+    ) -> Result<TranslationUnit, ResolveError>
+        requires asked { AllReady B.ready (mounts_of self.old) (fallback_of self.old) }
+        requires rooted { is_relative (path_view path.now) ≡ false }
+        ensures handed { IfOk result (λ u. router_hands B.hands self.old (path_view path.now) (spelled (unit_view u))) }
+        ensures refused { IfErr result (OrMemory (router_refuses B.refuses self.old (path_view path.now))) }
+        ensures same { RouterMeans B.hands B.refuses B.source B.shown self.old self.new }
+        ensures stays_ready { AllReady B.ready (mounts_of self.new) (fallback_of self.new) }
+        ensures others { ReachesOne (path_view path.now) self.old self.new }
+    {
         match route(&self.mount_points, path) {
             Some(place) => {
                 let mount = &mut self.mount_points[place];

@@ -126,6 +126,7 @@ impl<P: UnitText> VirtualResolver<P> {
 
 impl<P: UnitText> Resolver for VirtualResolver<P> {
     ghost use Rattle.wesl_resolve.specs.Texts.{texts_of, text_at, IsReadAt, IsRefusedAt};
+    ghost use Rattle.wesl_resolve.specs.Held.{modules_of, reader_of};
 
     ghost ready = { λ _. Unit {0} };
 
@@ -137,16 +138,27 @@ impl<P: UnitText> Resolver for VirtualResolver<P> {
 
     ghost shown = { λ _ p name. name ≡ None };
 
-    fn resolve_source(&mut self, alloc: Global, path: &ModulePath) -> Result<String, ResolveError> {
+    /// The text of the module at a path. Refused where there is none, and for want of memory.
+    fn resolve_source(&mut self, alloc: Global, path: &ModulePath) -> Result<String, ResolveError>
+        ensures given { IfOk result (λ text. text_at (path_view path.now) (modules_of self.old) ≡ Some (string_bytes text)) }
+        ensures refused { IfErr result (OrMemory (IsMissing (modules_of self.old) (path_view path.now))) }
+        ensures unchanged { self.new ≡ self.old }
+    {
         let source = self.get_module(alloc, path)?;
         Ok(String::from_str(alloc, source)?)
     }
 
+    /// The unit that the text of the module at a path is read as. Refused where there is no text or it cannot be
+    /// read, and for want of memory.
     fn resolve_module(
         &mut self,
         alloc: Global,
         path: &ModulePath,
-    ) -> Result<TranslationUnit, ResolveError> {
+    ) -> Result<TranslationUnit, ResolveError>
+        ensures handed { IfOk result (λ u. IsReadAt (P.reads (reader_of self.old)) (modules_of self.old) (path_view path.now) (spelled (unit_view u))) }
+        ensures refused { IfErr result (OrMemory (IsRefusedAt (P.unreadable (reader_of self.old)) (modules_of self.old) (path_view path.now))) }
+        ensures unchanged { self.new ≡ self.old }
+    {
         self.read_at(alloc, path)
     }
 

@@ -3,6 +3,7 @@ use Rattle.wesl_syntax.specs.Unit.{forest_of_unit, trees_of}
 use Rattle.wesl_formula.specs.Features.{answer_to}
 use Rattle.wesl_tree.specs.Translation.{unit_view}
 use Rattle.wesl_cond.proofs.Stages.{settled_is, goes_on, picks_same, err_not_clear, left_over_faultless, two_stages_faultless}
+use Rattle.wesl_cond.proofs.Spelled.{goes_on_spelled}
 use Rattle.wesl_cond.proofs.unit.run.Goals as goal
 
 pub returns-clause-settled : goal.returns-clause-settled
@@ -10,6 +11,9 @@ returns-clause-settled c = settled_is c.law_of_twice.ensures (answer_to c.args.f
 
 pub returns-clause-staged : goal.returns-clause-staged
 returns-clause-staged c = goes_on c.law_of_stages.ensures c.law_of_then.ensures (answer_to c.args.features.now) (unit_view c.args.unit.now) (unit_view c.resolve.new.unit) c.resolve.ensures
+
+pub returns-clause-staged_spelled : goal.returns-clause-staged_spelled
+returns-clause-staged_spelled c = goes_on_spelled c.law_of_stages.ensures c.law_of_then.ensures (answer_to c.args.features.now) (unit_view c.args.unit.now) (unit_view c.resolve.new.unit) c.resolve.ensures
 
 pub returns-clause-picks : goal.returns-clause-picks
 returns-clause-picks c = picks_same c.law_of_choices.ensures (answer_to c.args.features.now) (unit_view c.args.unit.now) (unit_view c.resolve.new.unit) c.resolve.ensures

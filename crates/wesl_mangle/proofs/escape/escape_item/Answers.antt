@@ -6,7 +6,7 @@ use Rattle.wesl_mangle.specs.Escape.{from_pieces, escaped, escaped_origin, unesc
 use Rattle.wesl_mangle.specs.Identifier.{is_ascii_identifier, begins_with_two_underscores}
 use Rattle.wesl_mangle.proofs.Identifiers.{identifier_form}
 use Rattle.wesl_mangle.proofs.Reading.{some-escaped, round_trip}
-use Rattle.wesl_mangle.proofs.Writing.{written-more, some-origin, with-item, text_small}
+use Rattle.wesl_mangle.proofs.Writing.{written-more, some-origin, with-item, text_small, short-names}
 use Rattle.wesl_mangle.proofs.escape.escape_item.Goals as goal
 
 pub loop-component-preserved : goal.loop-component-preserved
@@ -36,9 +36,7 @@ returns-clause-read_back c =
     let e = returns-clause-form c in
     let p = path_view c.args.path.now in
     let i = c.args.item.now in
-    let l = text_small c.push_piece-2.new.text in
-    let m = ap length e in
-    λ r. ap unescape e ∙ round_trip p i (omega (arith, l, m)) r
+    λ r. ap unescape e ∙ round_trip p i (short-names c.args.path.now i (omega arith)) r
 
 pub returns-clause-identifier : goal.returns-clause-identifier
 returns-clause-identifier c =

@@ -4,7 +4,7 @@ use Rattle.wesl_syntax.specs.Unit.{spelled}
 use Rattle.wesl_tree.specs.Translation.{unit_view}
 use Rattle.wesl_tree.specs.declared.unit.TranslationUnit.{TranslationUnit}
 use Rattle.wesl_resolve.proofs.ResultLemmas.{IfOk-to, refused-to}
-use Rattle.wesl_resolve.proofs.RouterLemmas.{Takes-read, Takes-fits, Routed-by, RouterMeans-set, RouterMeans-fallback, AllReady-set}
+use Rattle.wesl_resolve.proofs.RouterLemmas.{Takes-read, Takes-fits, Routed-by, RouterMeans-set, RouterMeans-fallback, AllReady-set, LeavesOthers-set, LeavesOthers-fallback, TakenByNone-read}
 use Rattle.wesl_resolve.proofs.router.RouterResolver.resolve_module.Goals as goal
 
 pub module_after-requires-clause-asked : goal.module_after-requires-clause-asked
@@ -55,3 +55,17 @@ returns-in-Some-clause-stays_ready g c =
     let mounts = c.args.self.now.mount_points.items in
     let m = c.index_mut-mount.result.now in
     AllReady-set g.B.Resolver.ready mounts c.args.self.now.fallback c.in-Some.place m c.module_after.new.resolver c.requires.asked c.module_after.ensures.stays_ready
+
+pub returns-in-Some-clause-others : goal.returns-in-Some-clause-others
+returns-in-Some-clause-others g c =
+    let mounts = c.args.self.now.mount_points.items in
+    let p = path_view c.args.path.now in
+    let m = c.index_mut-mount.result.now in
+    let taken = Takes-read c.deref.result.now mounts p c.in-Some.place m c.deref.ensures.value c.in-Some.ensures c.index_mut-mount.ensures.value in
+    LeavesOthers-set mounts c.args.self.now.fallback p c.in-Some.place m c.module_after.new.resolver taken
+
+pub returns-in-Some-fallback-clause-others : goal.returns-in-Some-fallback-clause-others
+returns-in-Some-fallback-clause-others g c =
+    let mounts = c.args.self.now.mount_points.items in
+    let p = path_view c.args.path.now in
+    LeavesOthers-fallback mounts c.args.self.now.fallback p _ c.module_after-in-Some-fallback.new.resolver c.in-Some-fallback.is (TakenByNone-read c.deref.result.now mounts p c.deref.ensures.value c.in-None.ensures)

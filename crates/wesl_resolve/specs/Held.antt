@@ -1,0 +1,30 @@
+-- What resolvers hold.
+use Rattle.std.specs.Prelude.{List, Option}
+use Rattle.wesl_names.specs.Path.{Text, Path}
+use Rattle.wesl_names.specs.declared.path.ModulePath.{ModulePath}
+use Rattle.wesl_resolve.specs.Texts.{texts_of}
+use Rattle.wesl_resolve.specs.declared.packages.CodegenPkg.{CodegenPkg}
+use Rattle.wesl_resolve.specs.declared.pkg_resolver.PkgResolver.{PkgResolver}
+use Rattle.wesl_resolve.specs.declared.router.Router.{Router}
+use Rattle.wesl_resolve.specs.declared.virtual_resolver.VirtualResolver.{VirtualResolver}
+
+-- the modules, in the order in which their paths were first added, and what reads their texts
+abbrev pub modules_of : {P : Type 0} → VirtualResolver P → List (Path × Text)
+modules_of s = texts_of s.modules.entries
+
+abbrev pub reader_of : {P : Type 0} → VirtualResolver P → P
+reader_of s = s.text
+
+-- the packages, in the order in which they were added, and what reads their sources
+abbrev pub packages_of : {P : Type 0} → PkgResolver P → List CodegenPkg
+packages_of s = s.packages.items
+
+abbrev pub package_reader_of : {P : Type 0} → PkgResolver P → P
+package_reader_of s = s.text
+
+-- the resolvers that are mounted, each with its prefix, in the order in which they were mounted, and the fallback
+abbrev pub mounts_of : {B : Type 0} → Router B → List (ModulePath × B)
+mounts_of r = r.mount_points.items
+
+abbrev pub fallback_of : {B : Type 0} → Router B → Option B
+fallback_of r = r.fallback

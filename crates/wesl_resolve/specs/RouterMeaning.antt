@@ -1,0 +1,32 @@
+-- What a router means, by what the resolvers that it holds mean.
+use Rattle.std.specs.Prelude.{◌≡◌, ◌⊎◌, Option, None, codes}
+use Rattle.wesl_names.specs.Path.{Text, Path}
+use Rattle.wesl_names.specs.Errors.{IsModuleNotFound}
+use Rattle.wesl_names.specs.declared.errors.ResolveError.{ResolveError}
+use Rattle.wesl_syntax.specs.Unit.{UnitOf}
+use Rattle.wesl_resolve.specs.Held.{mounts_of, fallback_of}
+use Rattle.wesl_resolve.specs.Resolver.{MeansTheSame}
+use Rattle.wesl_resolve.specs.Router.{LeavesOthers, Routed, NoRoute}
+use Rattle.wesl_resolve.specs.declared.router.Router.{Router}
+
+module _ {B : Type 0} where
+  abbrev pub router_hands : (B → Path → UnitOf Text → Type 0) → Router B → Path → UnitOf Text → Type 0
+  router_hands hands r p u = Routed (λ b q. hands b q u) (mounts_of r) (fallback_of r) p
+
+  abbrev pub router_refuses : (B → Path → ResolveError → Type 0) → Router B → Path → ResolveError → Type 0
+  router_refuses refuses r p e =
+      Routed (λ b q. refuses b q e) (mounts_of r) (fallback_of r) p ⊎ (NoRoute (mounts_of r) (fallback_of r) p × IsModuleNotFound p (codes "no mount point") e)
+
+  abbrev pub router_source : (B → Path → Text → Type 0) → Router B → Path → Text → Type 0
+  router_source source r p text = Routed (λ b q. source b q text) (mounts_of r) (fallback_of r) p
+
+  abbrev pub router_shown : (B → Path → Option Text → Type 0) → Router B → Path → Option Text → Type 0
+  router_shown shown r p name = Routed (λ b q. shown b q name) (mounts_of r) (fallback_of r) p ⊎ (NoRoute (mounts_of r) (fallback_of r) p × (name ≡ None))
+
+  -- both routers mean the same
+  abbrev pub RouterMeans : (B → Path → UnitOf Text → Type 0) → (B → Path → ResolveError → Type 0) → (B → Path → Text → Type 0) → (B → Path → Option Text → Type 0) → Router B → Router B → Type 0
+  RouterMeans hands refuses source shown = MeansTheSame (router_hands hands) (router_refuses refuses) (router_source source) (router_shown shown)
+
+  -- a call for the path reaches no resolver but the one that the path goes to
+  abbrev pub ReachesOne : Path → Router B → Router B → Type 0
+  ReachesOne p old new = LeavesOthers p (mounts_of old) (fallback_of old) (mounts_of new) (fallback_of new)
