@@ -7,11 +7,13 @@
 use serde_json::Value;
 use std::alloc::Global;
 use std::io;
-use wesl::{
-    Diagnostic, Error, EscapeMangler, Feature, Features, ModulePath, ResolveError, Resolver,
-    TranslationUnit, link_under, unit_of_value, value_of_unit,
-};
 use wesl_clash::names_clash;
+use wesl_cond::{Feature, Features};
+use wesl_conditional::link_under;
+use wesl_json::{unit_of_value, value_of_unit};
+use wesl_link::Resolver;
+use wesl_mangle::EscapeMangler;
+use wesl_tree::{Diagnostic, Error, ModulePath, ResolveError, TranslationUnit};
 
 /// The trees of modules, each under the text of its path.
 #[derive(Drop)]
