@@ -13,7 +13,7 @@ use wesl_program::{
 };
 use wesl_tree::Error;
 
-/// What a line says: the linked unit, or why there is none.
+/// What a line says: the linked unit and whether its names clash, or why there is none.
 #[derive(Clone, Copy, Debug, PartialEq, Eq)]
 pub enum Outcome {
     Linked,
@@ -103,7 +103,7 @@ fn answer(alloc: Global, bytes: &[u8]) -> Result<String, Error>
     let value = value_of_bytes(alloc, bytes)?;
     let bundle = read_bundle(alloc, &value)?;
     match linked(alloc, bundle) {
-        Ok(unit) => Ok(answer_line(alloc, unit)?),
+        Ok(answer) => Ok(answer_line(alloc, answer)?),
         Err(error) => Err(error),
     }
 }
