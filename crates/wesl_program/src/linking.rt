@@ -43,8 +43,8 @@ pub fn linked(alloc: Global, bundle: Bundle) -> Result<Answer, Error>
 {
     let unit = linked_unit(alloc, bundle)?;
     let clash = names_clash(alloc, &unit)?;
-    let unit = value_of_unit(alloc, &unit)?;
-    Ok(Answer { clash, unit })
+    let value = value_of_unit(alloc, &unit)?;
+    Ok(Answer { clash, unit: value })
 }
 
 /// The root is handed out as each other module is, and each is linked as the bundle's features leave it. Of the other
