@@ -29,9 +29,9 @@ pub enum RunError {
 
 /// Reads a bundle whole, links it, and writes its line.
 ///
-/// The line is the answer (`Linked`) or a fault (`Refused`). With `RunError::Input`, which comes only where a
-/// read failed, nothing was written; with `RunError::Output`, which comes only where a write failed or took no
-/// byte, a beginning of the line was.
+/// The line is the answer (`Linked`), which has the linked unit as a tree and says whether its names clash, or a fault
+/// (`Refused`). With `RunError::Input`, which comes only where a read failed, nothing was written; with
+/// `RunError::Output`, which comes only where a write failed or took no byte, a beginning of the line was.
 pub fn run<R: Read, W: Write>(
     alloc: Global,
     reader: &mut R,
