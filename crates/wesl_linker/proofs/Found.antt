@@ -1,5 +1,5 @@
 -- The modules that were taken are the world that the link found, in path order.
-use Rattle.std.proofs.Common.{◌≡◌, ◌⊎◌, inl, inr, ℕ, zero, suc, ◌<◌, ◌+◌, true, false, true≢false, Option, Some, None, List, [], ◌∷◌, length, map, drop, get_or, Contains, All, refl, sym, subst, ap, ◌∙◌, arith}
+use Rattle.std.proofs.Common.{◌≡◌, ◌⊎◌, inl, inr, ℕ, zero, suc, ◌<◌, ◌+◌, Bool, true, false, true≢false, Option, Some, None, List, [], ◌∷◌, length, map, drop, get_or, Contains, All, refl, sym, subst, ap, ◌∙◌, arith}
 use Rattle.std.specs.List.{AllAdjacentBelow}
 use Rattle.std.specs.List.Sorted.{IsPermutation}
 use Rattle.std.proofs.lemmas.List.Sorted.{IsPermutation-cons, IsPermutation-map}
@@ -63,7 +63,7 @@ unit_has units one p u held = by (unit_at units p) refl
 
 module _ (first nb : Numbering) (g : Grows first nb) (hands : Path → UnitOf Text → Type 0) (refuses : Path → resolve_error.ResolveError → Type 0) (units : List (PathId × Held)) (one : HaveOne units)
     (rt : Table PathId NameId) (rm : Module) (root : IsNumbered first rt (table rm)) (different_paths : AreDifferent nb.paths) (different_names : AreDifferent nb.names) (asked : All (λ p. is_relative p ≡ false) nb.paths)
-    (kept : List NameId) (keep : List Text) (kept_same : AreRelated (NameAt first) kept keep) (limit : ℕ) where
+    (kept : List NameId) (keep : List Text) (kept_same : AreRelated (NameAt first) kept keep) (is_eager : Bool) (limit : ℕ) where
   pub root_now : IsNumbered nb rt (table rm)
   root_now = table_later first nb g rt (table rm) root
 
@@ -73,7 +73,7 @@ module _ (first nb : Numbering) (g : Grows first nb) (hands : Path → UnitOf Te
   abbrev For : Table PathId NameId → Module → Type 0
   For = ModuleFor nb hands units one rt rm root_now different_paths different_names asked
 
-  module _ (k : linking.Linking PathId NameId) (linked : linking.IsLinked (IsHandedTable hands nb units) (IsRefusedPath refuses nb) rt (linking.task_of rt kept false) limit k) where
+  module _ (k : linking.Linking PathId NameId) (linked : linking.IsLinked (IsHandedTable hands nb units) (IsRefusedPath refuses nb) rt (linking.task_of rt kept is_eager) limit k) where
     pub other_for : (us : List (Table PathId NameId)) (t : Table PathId NameId) (m : Loaded) → (t.path ≡ rt.path → ⊥) → (t ≡ rt) ⊎ IsHandedTable hands nb units t.path t → IsTaken nb units us t m → For t (module_at m.path m.unit)
     other_for us t m differ (inl e) h = absurd (differ (ap (λ (x : Table PathId NameId). x.path) e))
     other_for us t m differ (inr (q, unit, at, there, given, numbered)) (named, has, placed) =
@@ -128,11 +128,11 @@ module _ (first nb : Numbering) (g : Grows first nb) (hands : Path → UnitOf Te
           let rest : AreRelated For ts (loaded_modules ms) = others_for ts ts ms (λ t c. (ts_held ts is t c, fresh_root ts (ts_distinct ts is) t c)) rel in
           subst (λ (xs : List (Table PathId NameId)). AreRelated For xs (rm ∷ loaded_modules ms)) (sym is) (record { same = root_now; whence = inl (refl, refl) }, rest)
 
-      pub found_linked : IsLinked hands refuses rm (task_of rm keep false) limit k.turns (rm ∷ loaded_modules others)
+      pub found_linked : IsLinked hands refuses rm (task_of rm keep is_eager) limit k.turns (rm ∷ loaded_modules others)
       found_linked =
-          reordered hands refuses rm (task_of rm keep false) limit k.turns (rm ∷ loaded_modules ms) (rm ∷ loaded_modules others)
+          reordered hands refuses rm (task_of rm keep is_eager) limit k.turns (rm ∷ loaded_modules ms) (rm ∷ loaded_modules others)
           (IsPermutation-cons rm (loaded_modules ms) (loaded_modules others) (IsPermutation-map (λ m. module_at m.path m.unit) ms others same))
-          (linked_world nb hands units one rt rm root_now different_paths different_names asked k.tables linked.world (rm ∷ loaded_modules ms) all_for kept keep kept_now false refuses (IsRefusedPath refuses nb) (λ p q e at why. (q, at, why)) limit
+          (linked_world nb hands units one rt rm root_now different_paths different_names asked k.tables linked.world (rm ∷ loaded_modules ms) all_for kept keep kept_now is_eager refuses (IsRefusedPath refuses nb) (λ p q e at why. (q, at, why)) limit
           k.symbols k.turns linked)
 
       pub found_order : AreInOrder others → IsModuleOrder rm (rm ∷ loaded_modules others)

@@ -17,3 +17,6 @@ pub mod Parted
 pub mod Adding
 pub mod Whole
 pub mod Naming
+pub mod Recorded
+pub mod Faultless
+pub mod Excluding

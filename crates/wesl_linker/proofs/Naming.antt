@@ -161,6 +161,7 @@ pub mangled_some : (l : Link) → IsLinkOf (task_in l) l → (before after : Giv
 mangled_some l sound before after mangle_root name_of h = record {
   modules = refl;
   kept = refl;
+  eager = refl;
   turns = refl;
   names = λ root is m x c d.
       let at : path_view l.root.path ≡ root = cc in
@@ -168,7 +169,7 @@ mangled_some l sound before after mangle_root name_of h = record {
 }
 
 pub mangled_none : (before after : Given) (mangle_root : Bool) (name_of : Path → Text → Text) → IsMangled name_of mangle_root (resolved_of None before) (resolved_of None after)
-mangled_none before after mangle_root name_of = record { modules = refl; kept = refl; turns = refl; names = λ root is m x c d. absurd (contains_nil m c) }
+mangled_none before after mangle_root name_of = record { modules = refl; kept = refl; eager = refl; turns = refl; names = λ root is m x c d. absurd (contains_nil m c) }
 
 pub mangled_found : (r q : Resolutions) (l : Link) (n : GivenNames) (mangle_root : Bool) (name_of : Path → Text → Text) → r.link ≡ Some l → IsSound r → q.link ≡ r.link → q.given ≡ n → IsGivenAll l mangle_root name_of (given n) → IsMangled name_of mangle_root (resolved r) (resolved q)
 mangled_found r q l n mangle_root name_of is sound same_link same_given h =

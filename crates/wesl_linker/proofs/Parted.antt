@@ -12,7 +12,7 @@ use Rattle.wesl_assembly.specs.Linked.{shape, declaration_ref_tree}
 use Rattle.wesl_assembly.specs.Views.{Meaning, denotation_view}
 use Rattle.wesl_assembly.proofs.Replaced.{replaced_twice}
 use Rattle.wesl_assembly.proofs.SideBySide.{side_by_side, forests_joined, shapes_joined, identifiers_joined}
-use Rattle.wesl_linker.specs.Linked.{Denotation, Selects, Joins, IsHeld, AreMeanings, AreHeldOf, Placed, placed}
+use Rattle.wesl_linker.specs.Linked.{Denotation, Selects, Joins, IsHeld, AreMeanings, AreHeldOf, Placed}
 use Rattle.wesl_linker.specs.Linked.{Selects as selects, Joins as joins}
 use Rattle.wesl_linker.specs.Worlds.{Module, tables}
 use Rattle.wesl_linker.specs.Keeping.{denotation_text, module_of, loaded_modules, modules_in, task_in}

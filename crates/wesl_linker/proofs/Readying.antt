@@ -1,9 +1,10 @@
 -- A loader may be asked for what a numbered table names, and keeps what it handed out as it learns more.
-use Rattle.std.proofs.Common.{◌≡◌, ◌↔◌, ◌⊎◌, inl, inr, Some, Result, Ok, Err, IfOk, List, [], Contains, subst, sym, ◌∙◌}
+use Rattle.std.proofs.Common.{◌≡◌, ◌↔◌, ◌⊎◌, inl, inr, ℕ, Option, Some, Result, Ok, Err, IfOk, List, [], Contains, subst, sym, ◌∙◌}
 use Rattle.wesl_names.specs.Path.{Text, Path}
 use Rattle.wesl_names.specs.declared.errors.ResolveError.{ResolveError}
 use Rattle.wesl_syntax.specs.Unit.{UnitOf, spelled}
 use Rattle.wesl_tree.specs.Translation.{unit_view}
+use Rattle.wesl_resolve.specs.Resolver.{MeansTheSame}
 use Rattle.wesl_world.specs.declared.ids.PathId.{PathId}
 use Rattle.wesl_world.specs.declared.ids.NameId.{NameId}
 use Rattle.wesl_world.specs.Tables.{Table}
@@ -12,7 +13,7 @@ use Rattle.wesl_world.proofs.Lists.{contains_nil}
 use Rattle.wesl_table.specs.Tables.{table_at, uses}
 use Rattle.wesl_table.specs.Numbering.{Numbering, Grows, NameAt, PathAt, IsNumbered, SameImport, SameReference, SameDeclaration}
 use Rattle.wesl_table.proofs.Related.{path_later, table_later, grows_itself, grows_trans}
-use Rattle.wesl_linker.specs.Handing.{Follows, HaveOne, AreHanded, Keeps, IsReadyPath, IsHandedTable, IsMarkedAt, IsRefusedPath, PutsUnit}
+use Rattle.wesl_linker.specs.Handing.{Follows, StaysOne, HaveOne, AreHanded, Keeps, IsReadyPath, IsHandedTable, IsMarkedAt, IsRefusedPath, PutsUnit}
 use Rattle.wesl_linker.specs.declared.loaded.Held.{Held}
 use Rattle.wesl_linker.proofs.Carried.{related_in, option_of}
 use Rattle.wesl_linker.proofs.Marked.{marks_later}
@@ -69,6 +70,25 @@ handed_put hands nb units more id unit q at given marked all puts p u held = by 
 pub follows_on : (hands hands2 fixed : Path → UnitOf Text → Type 0) (refuses refuses2 also : Path → ResolveError → Type 0) → Follows hands refuses fixed also
     → ((p : Path) (u : UnitOf Text) → hands2 p u ↔ hands p u) → ((p : Path) (e : ResolveError) → refuses2 p e ↔ refuses p e) → Follows hands2 refuses2 fixed also
 follows_on hands hands2 fixed refuses refuses2 also f h r = record { hands = λ p u x. f.hands p u ((h p u).0 x); refuses = λ p e x. f.refuses p e ((r p e).0 x) }
+
+-- the resolver is one of the same after a call
+pub stays_on : {R : Type 0} (hands : R → Path → UnitOf Text → Type 0) (refuses : R → Path → ResolveError → Type 0) (source : R → Path → Text → Type 0) (shown : R → Path → Option Text → Type 0) (these : R → Type 0) (loan : ℕ) (old new : R) (name name2 : ℕ)
+    → StaysOne hands refuses source shown these loan old name → MeansTheSame hands refuses source shown old new → name2 ≡ name → StaysOne hands refuses source shown these loan new name2
+stays_on hands refuses source shown these loan old new name name2 s m e = record { here = s.on old new s.here m; on = s.on; held = e ∙ s.held }
+
+-- one means the same as itself
+pub means_itself : {R : Type 0} (hands : R → Path → UnitOf Text → Type 0) (refuses : R → Path → ResolveError → Type 0) (source : R → Path → Text → Type 0) (shown : R → Path → Option Text → Type 0) (a : R) → MeansTheSame hands refuses source shown a a
+means_itself hands refuses source shown a = record { units = λ p u. (λ h. h, λ h. h); faults = λ p e. (λ h. h, λ h. h); sources = λ p t. (λ h. h, λ h. h); names = λ p n. (λ h. h, λ h. h) }
+
+-- and what means the same as one that means the same does
+pub means_on : {R : Type 0} (hands : R → Path → UnitOf Text → Type 0) (refuses : R → Path → ResolveError → Type 0) (source : R → Path → Text → Type 0) (shown : R → Path → Option Text → Type 0) (a b c : R)
+    → MeansTheSame hands refuses source shown a b → MeansTheSame hands refuses source shown b c → MeansTheSame hands refuses source shown a c
+means_on hands refuses source shown a b c m n = record {
+  units = λ p u. (λ h. (m.units p u).0 ((n.units p u).0 h), λ h. (n.units p u).1 ((m.units p u).1 h));
+  faults = λ p e. (λ h. (m.faults p e).0 ((n.faults p e).0 h), λ h. (n.faults p e).1 ((m.faults p e).1 h));
+  sources = λ p t. (λ h. (m.sources p t).0 ((n.sources p t).0 h), λ h. (n.sources p t).1 ((m.sources p t).1 h));
+  names = λ p x. (λ h. (m.names p x).0 ((n.names p x).0 h), λ h. (n.names p x).1 ((m.names p x).1 h));
+}
 
 -- a unit that was handed out is kept
 pub keeps_put : (handed handed2 handed_there : Path → UnitOf Text → Type 0) (refused refused2 refused_there : Path → ResolveError → Type 0) (first a b : Numbering) (units more : List (PathId × Held)) (id : PathId) (unit : Held) (q : Path)

@@ -22,7 +22,7 @@ module _ {X : Type 0} where
   split_at y ys x (inl e) rest = ([], ys, ap (λ (z : X). z ∷ ys) e)
   split_at y ys x (inr h) rest = let (before, after, e) = rest h in (y ∷ before, after, ap (λ (zs : List X). y ∷ zs) e)
 
-  split : (ys : List X) (x : X) → Contains ys x → (before : List X) × (after : List X) × (ys ≡ before ++ x ∷ after)
+  pub split : (ys : List X) (x : X) → Contains ys x → (before : List X) × (after : List X) × (ys ≡ before ++ x ∷ after)
   split [] x h = absurd (contains_nil x h)
   split (y ∷ ys) x h = split_at y ys x (contains_cases y x ys h) (split ys x)
 

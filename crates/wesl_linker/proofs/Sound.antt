@@ -1,5 +1,5 @@
 -- What a link keeps is what the engine found: its tables are those of the modules, and its symbols those that are reached.
-use Rattle.std.proofs.Common.{◌≡◌, ◌⊎◌, inl, inr, ◌↔◌, ℕ, zero, suc, Bool, true, false, Some, List, [], ◌∷◌, map, Contains, refl, sym, subst, ap, ◌∙◌}
+use Rattle.std.proofs.Common.{◌≡◌, ◌⊎◌, inl, inr, ◌↔◌, ℕ, suc, Bool, true, false, List, [], ◌∷◌, map, Contains, refl, sym, subst, ap, ◌∙◌}
 use Rattle.std.specs.Prelude.{slice_get, Vec}
 use Rattle.std.specs.declared.alloc.Global.{Global}
 use Rattle.std.specs.List.Sorted.{IsPermutation}
@@ -65,8 +65,8 @@ symbol_other nb dp dn s u x h k =
 
 module _ (numbers : Numbers) (first : Numbering) (g : Grows first (numbering numbers)) (hands : Path → UnitOf Text → Type 0) (refuses : Path → resolve_error.ResolveError → Type 0) (units : List (PathId × Held)) (one : HaveOne units) (handed : AreHanded hands (numbering numbers) units)
     (rt : Table PathId NameId) (path : ModulePath) (unit : TranslationUnit) (marks : Vec (Vec Mark Global) Global) (root : IsNumbered first rt (table (module_at path unit))) (marked : AreMarked first marks.items (uses (path_view path) (spelled (unit_view unit))))
-    (kept : Vec NameId Global) (keep : List Text) (kept_same : AreRelated (NameAt first) kept.items keep) (limit : ℕ)
-    (k : linking.Linking PathId NameId) (linked : linking.IsLinked (IsHandedTable hands (numbering numbers) units) (IsRefusedPath refuses (numbering numbers)) rt (linking.task_of rt kept.items false) limit k)
+    (kept : Vec NameId Global) (keep : List Text) (kept_same : AreRelated (NameAt first) kept.items keep) (is_eager : Bool) (limit : ℕ)
+    (k : linking.Linking PathId NameId) (linked : linking.IsLinked (IsHandedTable hands (numbering numbers) units) (IsRefusedPath refuses (numbering numbers)) rt (linking.task_of rt kept.items is_eager) limit k)
     (ts : List (Table PathId NameId)) (is : k.tables ≡ rt ∷ ts) (ms : List Loaded) (others : Vec Loaded Global) (rel : AreRelated (IsTaken (numbering numbers) units ts) ts ms) (same : IsPermutation ms others.items) where
   abbrev nb : Numbering
   nb = numbering numbers
@@ -78,7 +78,7 @@ module _ (numbers : Numbers) (first : Numbering) (g : Grows first (numbering num
   first_loaded = record { path = path; place = 0; unit = unit; marks = marks }
 
   abbrev pub link : Link
-  link = record { root = first_loaded; others = others; kept = kept; numbers = numbers; linked = k }
+  link = record { root = first_loaded; others = others; kept = kept; is_eager = is_eager; numbers = numbers; linked = k }
 
   abbrev w : List Module
   w = rm ∷ loaded_modules others.items
@@ -89,15 +89,15 @@ module _ (numbers : Numbers) (first : Numbering) (g : Grows first (numbering num
   kept_now : AreRelated (NameAt nb) kept.items keep
   kept_now = related_more (NameAt first) (NameAt nb) (name_later first nb g) kept.items keep kept_same
 
-  found_now : IsLinked hands refuses rm (task_of rm keep false) limit k.turns w
-  found_now = found.found_linked first nb g hands refuses units one rt rm root numbers.paths.different numbers.names.different numbers.paths.asked kept.items keep kept_same limit k linked ts is ms others.items rel same
+  found_now : IsLinked hands refuses rm (task_of rm keep is_eager) limit k.turns w
+  found_now = found.found_linked first nb g hands refuses units one rt rm root numbers.paths.different numbers.names.different numbers.paths.asked kept.items keep kept_same is_eager limit k linked ts is ms others.items rel same
 
   taken_same : (us : List (Table PathId NameId)) (t : Table PathId NameId) (m : Loaded) → Contains ts t → IsTaken nb units us t m → IsNumbered nb t (table (module_of m))
   taken_same us t m c h =
-      (found.other_for first nb g hands refuses units one rt rm root numbers.paths.different numbers.names.different numbers.paths.asked kept.items keep kept_same limit k linked us t m
-      (found.fresh_root first nb g hands refuses units one rt rm root numbers.paths.different numbers.names.different numbers.paths.asked kept.items keep kept_same limit k linked ts
-      (found.ts_distinct first nb g hands refuses units one rt rm root numbers.paths.different numbers.names.different numbers.paths.asked kept.items keep kept_same limit k linked ts is) t c)
-      (linked.world.handed t (found.ts_held first nb g hands refuses units one rt rm root numbers.paths.different numbers.names.different numbers.paths.asked kept.items keep kept_same limit k linked ts is t c)) h).same
+      (found.other_for first nb g hands refuses units one rt rm root numbers.paths.different numbers.names.different numbers.paths.asked kept.items keep kept_same is_eager limit k linked us t m
+      (found.fresh_root first nb g hands refuses units one rt rm root numbers.paths.different numbers.names.different numbers.paths.asked kept.items keep kept_same is_eager limit k linked ts
+      (found.ts_distinct first nb g hands refuses units one rt rm root numbers.paths.different numbers.names.different numbers.paths.asked kept.items keep kept_same is_eager limit k linked ts is) t c)
+      (linked.world.handed t (found.ts_held first nb g hands refuses units one rt rm root numbers.paths.different numbers.names.different numbers.paths.asked kept.items keep kept_same is_eager limit k linked ts is t c)) h).same
 
   root_marked : IsMarked nb first_loaded
   root_marked = marks_later first nb g marks.items (uses (path_view path) (spelled (unit_view unit))) marked
@@ -141,10 +141,10 @@ module _ (numbers : Numbers) (first : Numbering) (g : Grows first (numbering num
   }
 
   abbrev a : Task PathId NameId
-  a = linking.task_of rt kept.items false
+  a = linking.task_of rt kept.items is_eager
 
   abbrev b : Task Path Text
-  b = task_of rm keep false
+  b = task_of rm keep is_eager
 
   same_task : SameTask (PathAt nb) (NameAt nb) a b
   same_task = record { root = root_now.path; kept = kept_now; eager = refl }
@@ -163,7 +163,7 @@ module _ (numbers : Numbers) (first : Numbering) (g : Grows first (numbering num
   )
 
   pub sound : IsLinkOf (task_in link) link
-  sound = subst (λ (xs : List Text). IsLinkOf (task_of rm xs false) link) (sym (texts_are nb kept.items keep kept_now)) (record {
+  sound = subst (λ (xs : List Text). IsLinkOf (task_of rm xs is_eager) link) (sym (texts_are nb kept.items keep kept_now)) (record {
     tabled = tabled;
     covered = covered;
     once = found_now.once;
@@ -173,15 +173,18 @@ module _ (numbers : Numbers) (first : Numbering) (g : Grows first (numbering num
 
   -- what is told of a link
   module _ (r : Resolved) (f : IsFoundBy link r) where
-    pub linked_told : IsLinked hands refuses rm (task_of rm keep false) limit r.turns r.modules
+    pub linked_told : IsLinked hands refuses rm (task_of rm keep is_eager) limit r.turns r.modules
     linked_told =
-        subst (λ (v : List Module). IsLinked hands refuses rm (task_of rm keep false) limit r.turns v) (sym f.modules)
-        (subst (λ (n : ℕ). IsLinked hands refuses rm (task_of rm keep false) limit n w) (sym f.turns) found_now)
+        subst (λ (v : List Module). IsLinked hands refuses rm (task_of rm keep is_eager) limit r.turns v) (sym f.modules)
+        (subst (λ (n : ℕ). IsLinked hands refuses rm (task_of rm keep is_eager) limit n w) (sym f.turns) found_now)
 
     pub order_told : AreInOrder others.items → IsModuleOrder rm r.modules
     order_told sorted =
         subst (λ (v : List Module). IsModuleOrder rm v) (sym f.modules)
-        (found.found_order first nb g hands refuses units one rt rm root numbers.paths.different numbers.names.different numbers.paths.asked kept.items keep kept_same limit k linked ts is ms others.items rel same sorted)
+        (found.found_order first nb g hands refuses units one rt rm root numbers.paths.different numbers.names.different numbers.paths.asked kept.items keep kept_same is_eager limit k linked ts is ms others.items rel same sorted)
+
+    pub eager_told : r.is_eager ≡ is_eager
+    eager_told = f.eager
 
     pub kept_told : r.kept ≡ keep
     kept_told = f.kept ∙ texts_are nb kept.items keep kept_now

@@ -1,5 +1,5 @@
 -- The linked unit of what a link found.
-use Rattle.std.proofs.Common.{◌≡◌, inl, inr, suc, ◌+◌, List, [], ◌∷◌, ◌++◌, length, length-append, map, Contains, refl, sym, subst, ap, ◌∙◌, append-nil}
+use Rattle.std.proofs.Common.{◌≡◌, inl, inr, ◌+◌, List, [], ◌∷◌, ◌++◌, length, length-append, map, Contains, refl, sym, subst, ap, ◌∙◌, append-nil}
 use Rattle.std.proofs.lemmas.List.{map-append}
 use Rattle.std.proofs.lemmas.List.Elements.{Contains-append_cases}
 use denote.Ref.{Bor}

@@ -1,9 +1,10 @@
 -- The modules that a link has from a resolver, under the numbers of the link.
-use Rattle.std.specs.Prelude.{◌≡◌, List, Contains}
+use Rattle.std.specs.Prelude.{◌≡◌, ℕ, Option, List, Contains}
 use Rattle.wesl_names.specs.Path.{Text, Path}
 use Rattle.wesl_names.specs.declared.errors.ResolveError.{ResolveError}
 use Rattle.wesl_syntax.specs.Unit.{UnitOf, spelled}
 use Rattle.wesl_tree.specs.Translation.{unit_view}
+use Rattle.wesl_resolve.specs.Resolver.{MeansTheSame}
 use Rattle.wesl_world.specs.declared.ids.PathId.{PathId}
 use Rattle.wesl_world.specs.declared.ids.NameId.{NameId}
 use Rattle.wesl_world.specs.Tables.{Table}
@@ -17,6 +18,13 @@ use Rattle.wesl_linker.specs.declared.loaded.Held.{Held}
 pub record Follows {P U E : Type 0} (handed : P → U → Type 0) (refused : P → E → Type 0) (handed_there : P → U → Type 0) (refused_there : P → E → Type 0) : Type 0 where
   pub hands : (p : P) (u : U) → handed p u → handed_there p u
   pub refuses : (p : P) (e : E) → refused p e → refused_there p e
+
+-- the resolver is one of these, as is each that means the same, and it is held by the loan of that name
+pub record StaysOne {R : Type 0} (hands : R → Path → UnitOf Text → Type 0) (refuses : R → Path → ResolveError → Type 0) (source : R → Path → Text → Type 0) (shown : R → Path → Option Text → Type 0)
+    (these : R → Type 0) (loan : ℕ) (resolver : R) (name : ℕ) : Type 0 where
+  pub here : these resolver
+  pub on : (a b : R) → these a → MeansTheSame hands refuses source shown a b → these b
+  pub held : name ≡ loan
 
 -- no path has two units
 abbrev pub HaveOne : List (PathId × Held) → Type 0

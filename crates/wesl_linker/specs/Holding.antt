@@ -42,6 +42,7 @@ printed_by nb given p n = or_own (name_text nb n) (given (record { path = p; nam
 pub record IsFoundBy (l : Link) (r : Resolved) : Type 0 where
   pub modules : r.modules ≡ modules_in l
   pub kept : r.kept ≡ kept_texts l
+  pub eager : r.is_eager ≡ l.is_eager
   pub turns : r.turns ≡ l.linked.turns
   pub names : (p : Path) (n : Text) → r.names p n ≡ n
 

@@ -82,7 +82,7 @@ abbrev pub kept_texts : Link → List Text
 kept_texts l = map (name_text (numbering l.numbers)) l.kept.items
 
 abbrev pub task_in : Link → Task Path Text
-task_in l = task_of (module_of l.root) (kept_texts l) false
+task_in l = task_of (module_of l.root) (kept_texts l) l.is_eager
 
 -- ---- the whole
 
@@ -95,8 +95,8 @@ abbrev pub IsSound : Resolutions → Type 0
 IsSound r = IsSoundLink r.link
 
 abbrev pub resolved_of : Option Link → Given → Resolved
-resolved_of None names = record { modules = []; kept = []; turns = 0; names = λ p n. n }
-resolved_of (Some l) names = record { modules = modules_in l; kept = kept_texts l; turns = l.linked.turns; names = name_under (numbering l.numbers) names }
+resolved_of None names = record { modules = []; kept = []; is_eager = false; turns = 0; names = λ p n. n }
+resolved_of (Some l) names = record { modules = modules_in l; kept = kept_texts l; is_eager = l.is_eager; turns = l.linked.turns; names = name_under (numbering l.numbers) names }
 
 abbrev pub resolved : Resolutions → Resolved
 resolved r = resolved_of r.link (given r.given)

@@ -7,3 +7,4 @@ pub mod Tabled
 pub mod Keeping
 pub mod Holding
 pub mod Refusal
+pub mod Laws

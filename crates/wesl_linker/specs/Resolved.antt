@@ -1,6 +1,6 @@
 -- What a `Resolutions` is: the modules of a link, the names that were kept, how many turns it took, and the names that symbols
 -- are printed as.
-use Rattle.std.specs.Prelude.{◌≡◌, ℕ, Bool, false, not, ◌&&◌, if◌then◌else◌, Option, Some, None, List, [], ◌∷◌, Contains, map}
+use Rattle.std.specs.Prelude.{◌≡◌, ℕ, Bool, true, false, not, ◌&&◌, if◌then◌else◌, Option, Some, None, List, [], ◌∷◌, ◌++◌, Contains, map, filter_map}
 use denote.Ref.{Bor}
 use Rattle.wesl_names.specs.Path.{Text, Path, path_view}
 use Rattle.wesl_names.specs.PathOrder.{same_path}
@@ -9,6 +9,7 @@ use Rattle.wesl_syntax.specs.Unit.{UnitView, spelled, empty_unit}
 use Rattle.wesl_tree.specs.Translation.{unit_view}
 use Rattle.wesl_tree.specs.declared.unit.TranslationUnit.{TranslationUnit}
 use Rattle.wesl_world.specs.World.{Declares}
+use Rattle.wesl_naming.specs.Recorded.{Write, firsts, writes_of}
 use Rattle.wesl_linker.specs.Worlds.{Module, table, task_of}
 use Rattle.wesl_linker.specs.Linked.{IsAssembled}
 
@@ -16,6 +17,8 @@ pub record Resolved : Type 0 where
   -- the modules of the link, the root's first
   pub modules : List Module
   pub kept : List Text
+  -- whether all that the modules declare was asked for
+  pub is_eager : Bool
   pub turns : ℕ
   -- the printed name of each symbol
   pub names : Path → Text → Text
@@ -39,6 +42,7 @@ first_path (m ∷ ms) = Some m.path
 pub record IsNothing (r : Resolved) : Type 0 where
   pub modules : r.modules ≡ []
   pub kept : r.kept ≡ []
+  pub eager : r.is_eager ≡ false
   pub turns : r.turns ≡ 0
   pub names : (p : Path) (n : Text) → r.names p n ≡ n
 
@@ -56,15 +60,33 @@ NamesAgree w names others = (m : Module) (n : Text) → Contains w m → Declare
 pub record IsMangled (name_of : Path → Text → Text) (mangle_root : Bool) (before after : Resolved) : Type 0 where
   pub modules : after.modules ≡ before.modules
   pub kept : after.kept ≡ before.kept
+  pub eager : after.is_eager ≡ before.is_eager
   pub turns : after.turns ≡ before.turns
   pub names : (root : Path) → first_path before.modules ≡ Some root → NamesAgree after.modules after.names (mangled root mangle_root name_of)
+
+-- ---- a mangler's record
+
+-- the names that a module declares, each once, where it stands first
+abbrev pub declared_names : Module → List Text
+declared_names m = firsts (filter_map (λ d. d.name) (table m).declarations)
+
+-- each declared name of each module, reached or not, in module order
+abbrev pub writes_from : (Path → Text → Text) → List Module → List Write
+writes_from name_of [] = []
+writes_from name_of (m ∷ ms) = writes_of name_of m.path (declared_names m) ++ writes_from name_of ms
+
+-- those of the root only where it is to be mangled
+abbrev pub writes : (Path → Text → Text) → Bool → List Module → List Write
+writes name_of true w = writes_from name_of w
+writes name_of false [] = []
+writes name_of false (root ∷ others) = writes_from name_of others
 
 -- ---- the linked unit
 
 abbrev pub IsAssembledOf : Resolved → List Module → UnitView → Type 0
 IsAssembledOf r [] unit = unit ≡ empty_unit
-IsAssembledOf r (root ∷ others) unit = IsAssembled (root ∷ others) (task_of root r.kept false) r.names unit
+IsAssembledOf r (root ∷ others) unit = IsAssembled (root ∷ others) (task_of root r.kept r.is_eager) r.names unit
 
--- the linked form of the modules, from the kept names of the root, each symbol under its printed name; of no modules the empty unit
+-- the linked form of the modules, from the kept names of the root or of all that is declared, each symbol under its printed name; of no modules the empty unit
 abbrev pub AssemblesTo : Resolved → UnitView → Type 0
 AssemblesTo r unit = IsAssembledOf r r.modules unit

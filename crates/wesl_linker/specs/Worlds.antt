@@ -48,3 +48,7 @@ IsModuleOrder root w = (others : List Module) × (w ≡ root ∷ others) × AllA
 -- a link that is refused: the fault stands in a world of units that were handed out
 abbrev pub IsRefused : {E : Type 0} → (Path → UnitOf Text → Type 0) → (Path → E → Type 0) → Module → Task Path Text → ℕ → Fault Path Text E → Type 0
 IsRefused hands refuses root task limit fault = (w : List Module) × IsWorld hands root w × Stands refuses task limit (tables w) fault
+
+-- no fault can stand, whatever is handed out
+abbrev pub IsFaultless : {E : Type 0} → (Path → UnitOf Text → Type 0) → (Path → E → Type 0) → Module → Task Path Text → ℕ → Type 0
+IsFaultless {E} hands refuses root task limit = (fault : Fault Path Text E) → IsRefused hands refuses root task limit fault → ⊥

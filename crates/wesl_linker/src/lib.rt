@@ -2,6 +2,7 @@
 #![tactic(auto)]
 
 mod assemble;
+mod laws;
 mod link;
 mod loaded;
 mod modules;
@@ -9,5 +10,6 @@ mod refusals;
 mod resolutions;
 mod resolve;
 
+pub use laws::{law_of_eager_links, law_of_links};
 pub use resolutions::Resolutions;
-pub use resolve::resolve_lazy;
+pub use resolve::{resolve_eager, resolve_lazy};

@@ -11,12 +11,14 @@ use wesl_world::ids::NameId;
 use wesl_world::link::Linked;
 use wesl_world::table::Table;
 
-/// A link that succeeded: its root, its other modules in path order, the names that were kept, and what they reach.
+/// A link that succeeded: its root, its other modules in path order, the names that were kept or that all was asked for,
+/// and what is reached.
 #[derive(Drop)]
 pub struct Link {
     pub root: Loaded,
     pub others: Vec<Loaded>,
     pub kept: Vec<NameId>,
+    pub is_eager: bool,
     pub numbers: Numbers,
     pub linked: Linked,
 }

@@ -1,9 +1,10 @@
 //! The modules of a link, as a resolver hands them out.
-ghost use Rattle.std.specs.Prelude.{◌≡◌, false, [], IfOk, IfErr, IfSome, IfNone, OnOk, OnErr, Contains};
+ghost use Rattle.std.specs.Prelude.{◌≡◌, ℕ, false, [], IfOk, IfErr, IfSome, IfNone, OnOk, OnErr, Contains};
 ghost use Rattle.wesl_names.specs.Path.{Text, Path, path_view, is_relative};
 ghost use Rattle.wesl_names.specs.declared.errors.ResolveError.{ResolveError};
 ghost use Rattle.wesl_syntax.specs.Unit.{UnitOf, spelled};
 ghost use Rattle.wesl_tree.specs.Translation.{unit_view};
+ghost use Rattle.wesl_resolve.specs.Resolver.{MeansTheSame};
 ghost use Rattle.wesl_world.specs.declared.ids.PathId as path_id;
 ghost use Rattle.wesl_world.specs.Loader.{Explains};
 ghost use Rattle.wesl_world.specs.Tables as tables;
@@ -12,10 +13,11 @@ ghost use Rattle.wesl_table.specs.Marks.{AreMarked};
 ghost use Rattle.wesl_table.specs.Tables.{table_at, uses};
 ghost use Rattle.wesl_table.specs.Numbering.{Numbering, Grows, IsNumbered, PathAt};
 ghost use Rattle.wesl_table.specs.NumbersView.{numbering};
-ghost use Rattle.wesl_linker.specs.Handing.{Keeps, IsReadyPath, IsHandedTable, IsRefusedPath, PutsUnit};
+ghost use Rattle.wesl_linker.specs.Handing.{Keeps, StaysOne, IsReadyPath, IsHandedTable, IsRefusedPath, PutsUnit};
 ghost use Rattle.wesl_linker.specs.declared.loaded.Held as held;
 
 use crate::loaded::Held;
+use crate::refusals::path_of;
 use indexmap::IndexMap;
 use std::alloc::Global;
 use std::marker::{Brand, PhantomData};
@@ -29,7 +31,7 @@ use wesl_world::loader::{LoadError, Loader};
 use wesl_world::table::Table;
 
 /// What a resolver hands out and refuses, held fixed for one link.
-pub trait Source {
+pub trait Source<R> {
     /// The unit, as it is spelled, is one that is handed out at the path.
     ghost hands: { Path → UnitOf Text → Type 0 };
 
@@ -38,22 +40,32 @@ pub trait Source {
 
     /// The names and paths that have numbers before the first module is loaded.
     ghost first: { Numbering };
+
+    /// The resolver may be what is left of the one that was given.
+    ghost these: { R → Type 0 };
+
+    /// The name of the loan of the resolver.
+    ghost loan: { ℕ };
 }
 
-impl Source for Brand {
+impl<R> Source<R> for Brand {
     ghost hands = { λ _ _. ⊥ };
 
     ghost refuses = { λ _ _. ⊥ };
 
     ghost first = { record { names = []; paths = [] } };
+
+    ghost these = { λ _. ⊥ };
+
+    ghost loan = { 0 };
 }
 
 /// What was loaded from a resolver, and the numbers of all paths and names in it.
 #[derive(Drop)]
-pub struct Modules<R: Resolver, S: Source> {
-    pub resolver: R,
-    pub numbers: Numbers,
-    pub units: IndexMap<PathId, Held>,
+pub struct Modules<'r, 'n, R: Resolver, S: Source<R>> {
+    pub resolver: &'r mut R,
+    pub numbers: &'n mut Numbers,
+    pub units: &'n mut IndexMap<PathId, Held>,
     pub source: PhantomData<S>,
 }
 
@@ -125,7 +137,7 @@ fn unit_of(units: &IndexMap<PathId, Held>, id: PathId) -> Option<&Held>
     }
 }
 
-impl<R: Resolver, S: Source> Modules<R, S> {
+impl<R: Resolver, S: Source<R>> Modules<'_, '_, R, S> {
     /// Asks the resolver for the module at a path whose unit is not kept, and keeps it.
     fn fetch(
         &mut self,
@@ -133,47 +145,46 @@ impl<R: Resolver, S: Source> Modules<R, S> {
         id: PathId,
         path: &ModulePath,
     ) -> Result<Table, LoadError<ResolveError>>
-        requires ready { R.ready self.old.resolver }
+        requires ready { R.ready self.old.resolver.now }
         requires asked { is_relative (path_view path.now) ≡ false }
-        requires held { PathAt (numbering self.old.numbers) id (path_view path.now) }
-        requires absent { (u : held.Held) → Contains self.old.units.entries (id, u) → ⊥ }
-        requires keeps { Keeps (R.hands self.old.resolver) (R.refuses self.old.resolver) S.hands S.refuses S.first (numbering self.old.numbers) self.old.units.entries }
-        ensures handed { IfOk result (IsHandedTable S.hands (numbering self.new.numbers) self.new.units.entries id) }
+        requires held { PathAt (numbering self.old.numbers.now) id (path_view path.now) }
+        requires absent { (u : held.Held) → Contains self.old.units.now.entries (id, u) → ⊥ }
+        requires keeps { Keeps (R.hands self.old.resolver.now) (R.refuses self.old.resolver.now) S.hands S.refuses S.first (numbering self.old.numbers.now) self.old.units.now.entries }
+        ensures handed { IfOk result (IsHandedTable S.hands (numbering self.new.numbers.now) self.new.units.now.entries id) }
         ensures path { IfOk result (λ t. t.path ≡ id) }
-        ensures numbered { IfOk result (λ t. (u : tables.Table Path Text) × IsNumbered (numbering self.new.numbers) t u) }
-        ensures refused { IfErr result (Explains (IsRefusedPath S.refuses (numbering self.new.numbers) id)) }
-        ensures grows { Grows (numbering self.old.numbers) (numbering self.new.numbers) }
-        ensures units { (p : path_id.PathId) (u : held.Held) → Contains self.old.units.entries (p, u) → Contains self.new.units.entries (p, u) }
-        ensures keeps { Keeps (R.hands self.new.resolver) (R.refuses self.new.resolver) S.hands S.refuses S.first (numbering self.new.numbers) self.new.units.entries }
-        ensures stays_ready { R.ready self.new.resolver }
+        ensures numbered { IfOk result (λ t. (u : tables.Table Path Text) × IsNumbered (numbering self.new.numbers.now) t u) }
+        ensures refused { IfErr result (Explains (IsRefusedPath S.refuses (numbering self.new.numbers.now) id)) }
+        ensures grows { Grows (numbering self.old.numbers.now) (numbering self.new.numbers.now) }
+        ensures units { (p : path_id.PathId) (u : held.Held) → Contains self.old.units.now.entries (p, u) → Contains self.new.units.now.entries (p, u) }
+        ensures keeps { Keeps (R.hands self.new.resolver.now) (R.refuses self.new.resolver.now) S.hands S.refuses S.first (numbering self.new.numbers.now) self.new.units.now.entries }
+        ensures stays_ready { R.ready self.new.resolver.now }
+        ensures same { MeansTheSame R.hands R.refuses R.source R.shown self.old.resolver.now self.new.resolver.now }
+        ensures loan { self.new.resolver.ghost_name ≡ self.old.resolver.ghost_name }
     {
         let unit = match self.resolver.resolve_module(alloc, path) {
             Ok(unit) => unit,
             Err(ResolveError::Memory) => return Err(LoadError::Memory),
             Err(error) => return Err(LoadError::Refused(error)),
         };
-        let Tabled { table, marks } = read(alloc, &mut self.numbers, id, path, &unit)?;
-        put(&mut self.units, id, Held { unit, marks })?;
+        let Tabled { table, marks } = read(alloc, self.numbers, id, path, &unit)?;
+        put(self.units, id, Held { unit, marks })?;
         Ok(table)
     }
 }
 
-impl<R: Resolver, S: Source> Loader<ResolveError> for Modules<R, S> {
-    ghost hands = { λ s p t. IsHandedTable S.hands (numbering s.numbers) s.units.entries p t };
+impl<R: Resolver, S: Source<R>> Loader<ResolveError> for Modules<'_, '_, R, S> {
+    ghost hands = { λ s p t. IsHandedTable S.hands (numbering s.numbers.now) s.units.now.entries p t };
 
-    ghost refuses = { λ s p e. IsRefusedPath S.refuses (numbering s.numbers) p e };
+    ghost refuses = { λ s p e. IsRefusedPath S.refuses (numbering s.numbers.now) p e };
 
-    ghost ready = { λ s p. IsReadyPath (numbering s.numbers) p × (R.ready s.resolver × Keeps (R.hands s.resolver) (R.refuses s.resolver) S.hands S.refuses S.first (numbering s.numbers) s.units.entries) };
+    ghost ready = { λ s p. IsReadyPath (numbering s.numbers.now) p × ((R.ready s.resolver.now × StaysOne R.hands R.refuses R.source R.shown S.these S.loan s.resolver.now s.resolver.ghost_name) × Keeps (R.hands s.resolver.now) (R.refuses s.resolver.now) S.hands S.refuses S.first (numbering s.numbers.now) s.units.now.entries) };
 
     fn load(&mut self, alloc: Global, path: PathId) -> Result<Table, LoadError<ResolveError>> {
-        let Some(module) = self.numbers.paths.path(path) else {
-            unreachable!()
-        };
-        let Ok(module) = module.try_clone(alloc) else {
+        let Ok(module) = path_of(alloc, self.numbers, path) else {
             return Err(LoadError::Memory);
         };
-        match unit_of(&self.units, path) {
-            Some(held) => read_again(alloc, &mut self.numbers, path, &module, &held.unit),
+        match unit_of(self.units, path) {
+            Some(held) => read_again(alloc, self.numbers, path, &module, &held.unit),
             None => self.fetch(alloc, path, &module),
         }
     }

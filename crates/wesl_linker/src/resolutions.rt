@@ -1,12 +1,13 @@
 //! What a link found: its modules, what they declare that is reached, and the names that these print as.
-ghost use Rattle.std.specs.Prelude.{◌≡◌, ◌∷◌, ◌++◌, [], List, Contains, IsTrue, OnOk, OnErr, IfOk, IfErr, option_map, map};
+ghost use Rattle.std.specs.Prelude.{◌≡◌, ◌⊎◌, true, ◌∷◌, ◌++◌, [], List, Contains, IsTrue, OnOk, OnErr, IfOk, IfErr, option_map, map};
 ghost use Rattle.wesl_names.specs.declared.errors.Error as error;
 ghost use Rattle.wesl_names.specs.Path.{Text, Path, path_view};
 ghost use Rattle.wesl_tree.specs.Translation.{unit_view};
 ghost use Rattle.wesl_table.specs.NumbersView.{numbering};
 ghost use Rattle.wesl_naming.specs.GivenView.{given as given_names};
-ghost use Rattle.wesl_linker.specs.Resolved.{paths_of, paths_told, first_path, IsNothing, IsMangled, AssemblesTo};
-ghost use Rattle.wesl_linker.specs.Keeping.{all_loaded, loaded_modules, IsLinkOf, task_in, IsSound, resolved, modules_of, turns_of};
+ghost use Rattle.wesl_linker.specs.Resolved.{paths_of, paths_told, first_path, IsNothing, IsMangled, AssemblesTo, declared_names, writes_from, writes};
+ghost use Rattle.wesl_naming.specs.Recorded.{IsRecordedBy, writes_of};
+ghost use Rattle.wesl_linker.specs.Keeping.{all_loaded, loaded_modules, modules_in, module_of, IsLinkOf, task_in, IsSound, resolved, modules_of, turns_of};
 ghost use Rattle.wesl_linker.specs.Holding.{IsFoundBy, IsGivenAll, GivesTo, IsFreshAfter, AreOnlyRoot};
 ghost use Rattle.wesl_linker.specs.declared.loaded.Loaded as loaded;
 
@@ -60,6 +61,7 @@ fn add_names<M: Mangler>(
     requires sound { IsLinkOf (task_in link.now) link.now }
     requires inside { Contains (all_loaded link.now) module.now }
     ensures given { OnOk result ((ms : List loaded.Loaded) (name_of : Path → Text → Text) → ((p : Path) (x : Text) → M.name_of mangler.old p x ≡ name_of p x) → IsFreshAfter ms module.now → GivesTo (numbering link.now.numbers) ms name_of (given_names given.old) → GivesTo (numbering link.now.numbers) (ms ++ module.now ∷ []) name_of (given_names given.new)) }
+    ensures recorded { OnOk result ((ms : List loaded.Loaded) (name_of : Path → Text → Text) → ((p : Path) (x : Text) → M.name_of mangler.old p x ≡ name_of p x) → IsFreshAfter ms module.now → GivesTo (numbering link.now.numbers) ms name_of (given_names given.old) → IsRecordedBy M.writes (writes_of name_of (path_view module.now.path) (declared_names (module_of module.now))) (M.recorded mangler.old) (M.recorded mangler.new)) }
     ensures same { (p : Path) (x : Text) → M.name_of mangler.new p x ≡ M.name_of mangler.old p x }
     ensures refused { IfErr result (λ e. e ≡ error.Memory) }
 {
@@ -76,6 +78,8 @@ fn add_others<M: Mangler>(
 ) -> Result<(), Error>
     requires sound { IsLinkOf (task_in link.now) link.now }
     ensures given { OnOk result ((ms : List loaded.Loaded) → AreOnlyRoot link.now ms → GivesTo (numbering link.now.numbers) ms (M.name_of mangler.old) (given_names given.old) → GivesTo (numbering link.now.numbers) (ms ++ link.now.others.items) (M.name_of mangler.old) (given_names given.new)) }
+    ensures recorded { OnOk result ((ms : List loaded.Loaded) → AreOnlyRoot link.now ms → GivesTo (numbering link.now.numbers) ms (M.name_of mangler.old) (given_names given.old) → IsRecordedBy M.writes (writes_from (M.name_of mangler.old) (loaded_modules link.now.others.items)) (M.recorded mangler.old) (M.recorded mangler.new)) }
+    ensures same { (p : Path) (x : Text) → M.name_of mangler.new p x ≡ M.name_of mangler.old p x }
     ensures refused { IfErr result (λ e. e ≡ error.Memory) }
 {
     for module in &link.others {
@@ -93,6 +97,8 @@ fn names_of<M: Mangler>(
 ) -> Result<GivenNames, Error>
     requires sound { IsLinkOf (task_in link.now) link.now }
     ensures given { IfOk result (λ names. IsGivenAll link.now mangle_root (M.name_of mangler.old) (given_names names)) }
+    ensures recorded { OnOk result (IsRecordedBy M.writes (writes (M.name_of mangler.old) mangle_root (modules_in link.now)) (M.recorded mangler.old) (M.recorded mangler.new)) }
+    ensures same { (p : Path) (x : Text) → M.name_of mangler.new p x ≡ M.name_of mangler.old p x }
     ensures refused { IfErr result (λ e. e ≡ error.Memory) }
 {
     let mut given = GivenNames::new(alloc);
@@ -150,6 +156,16 @@ impl Resolutions {
         }
     }
 
+    /// Whether all that the modules declare was asked for.
+    pub fn is_eager(&self) -> bool
+        ensures { result ≡ (resolved self.now).is_eager }
+    {
+        match &self.link {
+            Some(link) => link.is_eager,
+            None => false,
+        }
+    }
+
     /// How many modules were loaded and symbols reached.
     pub fn turns(&self) -> usize
         ensures { result ≡ turns_of self.now }
@@ -161,7 +177,8 @@ impl Resolutions {
     }
 
     /// Gives each declared name of each module the name that the mangler has for it, the root's only with
-    /// `mangle_root` (WESL, "NameMangling"). Refused for want of memory alone, and then the names are as before.
+    /// `mangle_root` (WESL, "NameMangling"). The mangler writes each of these names once, in module order. Refused for want
+    /// of memory alone, and then the names are as before.
     pub fn mangle<M: Mangler>(
         &mut self,
         alloc: Global,
@@ -171,6 +188,8 @@ impl Resolutions {
         requires sound { IsSound self.old }
         ensures sound { IsSound self.new }
         ensures mangled { OnOk result (IsMangled (M.name_of mangler.old) mangle_root (resolved self.old) (resolved self.new)) }
+        ensures recorded { OnOk result (IsRecordedBy M.writes (writes (M.name_of mangler.old) mangle_root (modules_of self.old)) (M.recorded mangler.old) (M.recorded mangler.new)) }
+        ensures same { (p : Path) (x : Text) → M.name_of mangler.new p x ≡ M.name_of mangler.old p x }
         ensures unchanged { OnErr result (self.new ≡ self.old) }
         ensures refused { IfErr result (λ e. e ≡ error.Memory) }
     {
@@ -182,10 +201,11 @@ impl Resolutions {
 
     /// The linked unit: the root's directives and held declarations first, then those of the other modules in path
     /// order; of equal adjacent directives one stays. Held are the const_asserts of the modules and the declarations
-    /// of reached symbols. Refused for want of memory alone.
+    /// of reached symbols; of an eager link that is each that declares a name, and `strip` counts for nothing. Refused
+    /// for want of memory alone.
     pub fn assemble(&self, alloc: Global, strip: bool) -> Result<TranslationUnit, Error>
         requires sound { IsSound self.now }
-        requires stripped { IsTrue strip }
+        requires stripped { IsTrue strip ⊎ ((resolved self.now).is_eager ≡ true) }
         ensures assembled { IfOk result (λ unit. AssemblesTo (resolved self.now) (unit_view unit)) }
         ensures refused { IfErr result (λ e. e ≡ error.Memory) }
     {

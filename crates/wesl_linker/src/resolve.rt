@@ -1,5 +1,5 @@
 //! Linking a root with the modules that it reaches.
-ghost use Rattle.std.specs.Prelude.{◌≡◌, ◌∷◌, false, List, IfOk, IfErr, drop, length, ◌<◌};
+ghost use Rattle.std.specs.Prelude.{◌≡◌, ◌∷◌, [], true, false, List, IfOk, IfErr, drop, length, ◌<◌};
 ghost use Rattle.std.specs.List.Sorted.{IsPermutation};
 ghost use Rattle.wesl_names.specs.declared.errors.Error as error;
 ghost use Rattle.wesl_names.specs.declared.errors.Diagnostic.{out-Diagnostic};
@@ -8,12 +8,16 @@ ghost use Rattle.wesl_names.specs.Path.{Text, Path, path_view, is_relative};
 ghost use Rattle.wesl_syntax.specs.Unit.{spelled};
 ghost use Rattle.wesl_tree.specs.Translation.{unit_view};
 ghost use Rattle.wesl_world.specs.Faults.{AreDistinct};
+ghost use Rattle.wesl_resolve.specs.Resolver.{MeansTheSame};
 ghost use Rattle.wesl_world.specs.Linking.{paths};
+ghost use Rattle.wesl_world.specs.Linking as links;
+ghost use Rattle.wesl_world.specs.Loader.{IsReady, OnlyAdds};
+ghost use Rattle.wesl_world.specs.Refusal.{IsExplained};
 ghost use Rattle.wesl_table.specs.Marks.{AreMarked};
 ghost use Rattle.wesl_table.specs.Tables.{table_at, uses};
 ghost use Rattle.wesl_table.specs.Numbering.{AreRelated, Grows, NameAt, IsNumbered};
 ghost use Rattle.wesl_table.specs.NumbersView.{numbering};
-ghost use Rattle.wesl_linker.specs.Handing.{Follows};
+ghost use Rattle.wesl_linker.specs.Handing.{Follows, StaysOne};
 ghost use Rattle.wesl_linker.specs.Refusal.{TellsOf};
 ghost use Rattle.wesl_linker.specs.Resolved.{module_at};
 ghost use Rattle.wesl_linker.specs.Keeping.{IsSound, resolved, modules_of, turns_of};
@@ -29,14 +33,17 @@ use crate::resolutions::Resolutions;
 use indexmap::IndexMap;
 use std::alloc::Global;
 use std::marker::{Brand, PhantomData};
+use std::mem::replace;
 use wesl_names::{Diagnostic, Error, ModulePath};
 use wesl_resolve::Resolver;
 use wesl_table::marks::Mark;
 use wesl_table::numbers::Numbers;
 use wesl_table::table::{Tabled, table_of};
 use wesl_tree::TranslationUnit;
+use wesl_world::error::LinkError;
 use wesl_world::ids::{NameId, PathId};
 use wesl_world::link::Linked;
+use wesl_world::loader::Loader;
 use wesl_world::table::Table;
 
 /// The numbers of the kept names.
@@ -67,22 +74,22 @@ fn copied(alloc: Global, ids: &Vec<NameId>) -> Result<Vec<NameId>, Error>
 fn link_of(
     alloc: Global,
     numbers: Numbers,
-    units: IndexMap<PathId, Held>,
+    units: &mut IndexMap<PathId, Held>,
     path: ModulePath,
     unit: TranslationUnit,
     marks: Vec<Vec<Mark>>,
     kept: Vec<NameId>,
+    is_eager: bool,
     linked: Linked,
 ) -> Result<Link, Error>
     requires some { 0 < length linked.tables }
-    requires left { AreKept (numbering numbers) units.entries (drop 1 linked.tables) }
+    requires left { AreKept (numbering numbers) units.old.entries (drop 1 linked.tables) }
     requires once { AreDistinct (paths (drop 1 linked.tables)) }
-    ensures found { IfOk result (λ l. (ms : List loaded.Loaded) × AreRelated (IsTaken (numbering numbers) units.entries (drop 1 linked.tables)) (drop 1 linked.tables) ms × IsPermutation ms l.others.items × AreInOrder l.others.items) }
-    ensures rest { IfOk result (λ l. l ≡ record { root = record { path = path; place = 0; unit = unit; marks = marks }; others = l.others; kept = kept; numbers = numbers; linked = linked }) }
+    ensures found { IfOk result (λ l. (ms : List loaded.Loaded) × AreRelated (IsTaken (numbering numbers) units.old.entries (drop 1 linked.tables)) (drop 1 linked.tables) ms × IsPermutation ms l.others.items × AreInOrder l.others.items) }
+    ensures rest { IfOk result (λ l. l ≡ record { root = record { path = path; place = 0; unit = unit; marks = marks }; others = l.others; kept = kept; is_eager = is_eager; numbers = numbers; linked = linked }) }
     ensures refused { IfErr result (λ e. e ≡ error.Memory) }
 {
-    let mut units = units;
-    let mut others = take_modules(alloc, &numbers, &linked.tables()[1..], &mut units)?;
+    let mut others = take_modules(alloc, &numbers, &linked.tables()[1..], units)?;
     put_in_order(&mut others);
     Ok(Link {
         root: Loaded {
@@ -93,71 +100,146 @@ fn link_of(
         },
         others,
         kept,
+        is_eager,
         numbers,
         linked,
     })
 }
 
-/// Links a root with the modules of a resolver, whose relations are held fixed.
-fn reach<R: Resolver + Drop, S: Source>(
+/// Links a root table with the tables of a loader: what the kept names reach, or all that is declared, and then none is kept.
+fn linked_by<E, L: Loader<E>>(
     alloc: Global,
-    numbers: Numbers,
+    root: Table,
+    kept: Vec<NameId>,
+    is_eager: bool,
+    loader: &mut L,
+    max_modules: usize,
+) -> Result<Linked, LinkError<E>>
+    requires ready { IsReady (L.ready loader.old) root }
+    requires none_kept { is_eager ≡ true → kept.items ≡ [] }
+    ensures linked { IfOk result (links.IsLinked (L.hands loader.new) (L.refuses loader.new) root (links.task_of root kept.items is_eager) max_modules) }
+    ensures refused { IfErr result (IsExplained (L.hands loader.new) (L.refuses loader.new) root (links.task_of root kept.items is_eager) max_modules) }
+    ensures adds { OnlyAdds (L.hands loader.old) (L.refuses loader.old) (L.ready loader.old) (L.hands loader.new) (L.refuses loader.new) (L.ready loader.new) }
+{
+    if is_eager {
+        return wesl_world::link::resolve_eager(alloc, root, loader, max_modules);
+    }
+    wesl_world::link::resolve_lazy(alloc, root, kept, loader, max_modules)
+}
+
+/// Links a root with the modules of a resolver, whose relations are held fixed.
+fn reach_modules<R: Resolver, S: Source<R>>(
+    alloc: Global,
+    modules: &mut Modules<'_, '_, R, S>,
     table: Table,
     kept: Vec<NameId>,
+    is_eager: bool,
     path: ModulePath,
     unit: TranslationUnit,
     marks: Vec<Vec<Mark>>,
-    resolver: R,
     max_modules: usize,
 ) -> Result<Resolutions, Error>
-    requires ready { R.ready resolver }
-    requires follows { Follows (R.hands resolver) (R.refuses resolver) S.hands S.refuses }
-    requires first { S.first ≡ numbering numbers }
-    requires root { IsNumbered (numbering numbers) table (table_at (path_view path) (spelled (unit_view unit))) }
-    requires marked { AreMarked (numbering numbers) marks.items (uses (path_view path) (spelled (unit_view unit))) }
+    requires ready { R.ready modules.old.resolver.now }
+    requires stays { StaysOne R.hands R.refuses R.source R.shown S.these S.loan modules.old.resolver.now modules.old.resolver.ghost_name }
+    requires follows { Follows (R.hands modules.old.resolver.now) (R.refuses modules.old.resolver.now) S.hands S.refuses }
+    requires first { S.first ≡ numbering modules.old.numbers.now }
+    requires nothing { modules.old.units.now.entries ≡ [] }
+    requires root { IsNumbered (numbering modules.old.numbers.now) table (table_at (path_view path) (spelled (unit_view unit))) }
+    requires marked { AreMarked (numbering modules.old.numbers.now) marks.items (uses (path_view path) (spelled (unit_view unit))) }
     requires asked { is_relative (path_view path) ≡ false }
-    requires kept { (keep : List Text) × AreRelated (NameAt (numbering numbers)) kept.items keep }
-    ensures linked { (keep : List Text) → AreRelated (NameAt (numbering numbers)) kept.items keep → IfOk result (λ r. worlds.IsLinked S.hands S.refuses (module_at path unit) (worlds.task_of (module_at path unit) keep false) max_modules (turns_of r) (modules_of r)) }
+    requires kept { (keep : List Text) × AreRelated (NameAt (numbering modules.old.numbers.now)) kept.items keep }
+    requires none_kept { is_eager ≡ true → kept.items ≡ [] }
+    ensures linked { (keep : List Text) → AreRelated (NameAt (numbering modules.old.numbers.now)) kept.items keep → IfOk result (λ r. worlds.IsLinked S.hands S.refuses (module_at path unit) (worlds.task_of (module_at path unit) keep is_eager) max_modules (turns_of r) (modules_of r)) }
     ensures order { IfOk result (λ r. worlds.IsModuleOrder (module_at path unit) (modules_of r)) }
-    ensures kept { (keep : List Text) → AreRelated (NameAt (numbering numbers)) kept.items keep → IfOk result (λ r. (resolved r).kept ≡ keep) }
+    ensures kept { (keep : List Text) → AreRelated (NameAt (numbering modules.old.numbers.now)) kept.items keep → IfOk result (λ r. (resolved r).kept ≡ keep) }
+    ensures eager { IfOk result (λ r. (resolved r).is_eager ≡ is_eager) }
     ensures sound { IfOk result IsSound }
     ensures names { IfOk result (λ r. (p : Path) (n : Text) → (resolved r).names p n ≡ n) }
-    ensures refused { (keep : List Text) → AreRelated (NameAt (numbering numbers)) kept.items keep → IfErr result (TellsOf (worlds.IsRefused S.hands S.refuses (module_at path unit) (worlds.task_of (module_at path unit) keep false) max_modules)) }
+    ensures refused { (keep : List Text) → AreRelated (NameAt (numbering modules.old.numbers.now)) kept.items keep → IfErr result (TellsOf (worlds.IsRefused S.hands S.refuses (module_at path unit) (worlds.task_of (module_at path unit) keep is_eager) max_modules)) }
+    ensures these { S.these modules.new.resolver.now }
+    ensures stays_ready { R.ready modules.new.resolver.now }
+    ensures loan { modules.new.resolver.ghost_name ≡ modules.old.resolver.ghost_name }
 {
-    let mut modules = Modules::<R, S> {
-        resolver,
-        numbers,
-        units: IndexMap::new(alloc),
-        source: PhantomData,
-    };
     let names = copied(alloc, &kept)?;
-    match wesl_world::link::resolve_lazy(alloc, table, names, &mut modules, max_modules) {
+    match linked_by(alloc, table, names, is_eager, modules, max_modules) {
         Ok(linked) => {
-            let Modules {
-                resolver: _,
+            let numbers = replace(modules.numbers, Numbers::new(alloc));
+            let link = link_of(
+                alloc,
                 numbers,
-                units,
-                source: _,
-            } = modules;
-            let link = link_of(alloc, numbers, units, path, unit, marks, kept, linked)?;
+                modules.units,
+                path,
+                unit,
+                marks,
+                kept,
+                is_eager,
+                linked,
+            )?;
             Ok(Resolutions::of_link(alloc, link))
         }
         Err(fault) => {
-            let error = told(alloc, &modules.numbers, fault)?;
+            let error = told(alloc, modules.numbers, fault)?;
             Err(error)
         }
     }
 }
 
-/// Links the root `unit`, which stands at `path`, with the modules that the names in `keep` and the const_asserts
-/// reach, and no others (WESL, "Imports").
-///
-/// `resolver` hands out every module but the root; no more than `max_modules` are loaded, the root counted. Refused
-/// where a name has two targets, where the resolver refuses a path, where a look-up finds nothing or nothing that it
-/// may see, where there are more modules than may be, and for want of memory.
-pub fn resolve_lazy<R: Resolver>(
+/// Links a root with the modules of a resolver, which means afterwards what it meant.
+fn reach<R: Resolver>(
+    alloc: Global,
+    numbers: Numbers,
+    table: Table,
+    kept: Vec<NameId>,
+    is_eager: bool,
+    path: ModulePath,
+    unit: TranslationUnit,
+    marks: Vec<Vec<Mark>>,
+    resolver: &mut R,
+    max_modules: usize,
+) -> Result<Resolutions, Error>
+    requires ready { R.ready resolver.old }
+    requires root { IsNumbered (numbering numbers) table (table_at (path_view path) (spelled (unit_view unit))) }
+    requires marked { AreMarked (numbering numbers) marks.items (uses (path_view path) (spelled (unit_view unit))) }
+    requires asked { is_relative (path_view path) ≡ false }
+    requires kept { (keep : List Text) × AreRelated (NameAt (numbering numbers)) kept.items keep }
+    requires none_kept { is_eager ≡ true → kept.items ≡ [] }
+    ensures linked { (keep : List Text) → AreRelated (NameAt (numbering numbers)) kept.items keep → IfOk result (λ r. worlds.IsLinked (R.hands resolver.old) (R.refuses resolver.old) (module_at path unit) (worlds.task_of (module_at path unit) keep is_eager) max_modules (turns_of r) (modules_of r)) }
+    ensures order { IfOk result (λ r. worlds.IsModuleOrder (module_at path unit) (modules_of r)) }
+    ensures kept { (keep : List Text) → AreRelated (NameAt (numbering numbers)) kept.items keep → IfOk result (λ r. (resolved r).kept ≡ keep) }
+    ensures eager { IfOk result (λ r. (resolved r).is_eager ≡ is_eager) }
+    ensures sound { IfOk result IsSound }
+    ensures names { IfOk result (λ r. (p : Path) (n : Text) → (resolved r).names p n ≡ n) }
+    ensures refused { (keep : List Text) → AreRelated (NameAt (numbering numbers)) kept.items keep → IfErr result (TellsOf (worlds.IsRefused (R.hands resolver.old) (R.refuses resolver.old) (module_at path unit) (worlds.task_of (module_at path unit) keep is_eager) max_modules)) }
+    ensures same { MeansTheSame R.hands R.refuses R.source R.shown resolver.old resolver.new }
+    ensures stays_ready { R.ready resolver.new }
+{
+    let mut numbers = numbers;
+    let mut units = IndexMap::new(alloc);
+    let mut modules = Modules::<'_, '_, R, Brand> {
+        resolver,
+        numbers: &mut numbers,
+        units: &mut units,
+        source: PhantomData,
+    };
+    reach_modules::<R, Brand>(
+        alloc,
+        &mut modules,
+        table,
+        kept,
+        is_eager,
+        path,
+        unit,
+        marks,
+        max_modules,
+    )
+}
+
+/// Links a root with the modules of a resolver: what the names in `keep` reach, or all that is declared, and then none is
+/// kept.
+fn resolutions_of<R: Resolver>(
     alloc: Global,
     keep: &[&str],
+    is_eager: bool,
     unit: TranslationUnit,
     path: &ModulePath,
     resolver: &mut R,
@@ -165,12 +247,16 @@ pub fn resolve_lazy<R: Resolver>(
 ) -> Result<Resolutions, Diagnostic>
     requires ready { R.ready resolver.old }
     requires asked { is_relative (path_view path.now) ≡ false }
-    ensures linked { let root = module_at path.now unit in IfOk result (λ r. worlds.IsLinked (R.hands resolver.old) (R.refuses resolver.old) root (worlds.task_of root (texts keep.now) false) max_modules (turns_of r) (modules_of r)) }
+    requires none_kept { is_eager ≡ true → texts keep.now ≡ [] }
+    ensures linked { let root = module_at path.now unit in IfOk result (λ r. worlds.IsLinked (R.hands resolver.old) (R.refuses resolver.old) root (worlds.task_of root (texts keep.now) is_eager) max_modules (turns_of r) (modules_of r)) }
     ensures order { IfOk result (λ r. worlds.IsModuleOrder (module_at path.now unit) (modules_of r)) }
     ensures kept { IfOk result (λ r. (resolved r).kept ≡ texts keep.now) }
+    ensures eager { IfOk result (λ r. (resolved r).is_eager ≡ is_eager) }
     ensures sound { IfOk result IsSound }
     ensures names { IfOk result (λ r. (p : Path) (n : Text) → (resolved r).names p n ≡ n) }
-    ensures refused { let root = module_at path.now unit in IfErr result (λ d. TellsOf (worlds.IsRefused (R.hands resolver.old) (R.refuses resolver.old) root (worlds.task_of root (texts keep.now) false) max_modules) (out-Diagnostic d).error) }
+    ensures refused { let root = module_at path.now unit in IfErr result (λ d. TellsOf (worlds.IsRefused (R.hands resolver.old) (R.refuses resolver.old) root (worlds.task_of root (texts keep.now) is_eager) max_modules) (out-Diagnostic d).error) }
+    ensures same { MeansTheSame R.hands R.refuses R.source R.shown resolver.old resolver.new }
+    ensures stays_ready { R.ready resolver.new }
 {
     let mut numbers = Numbers::new(alloc);
     let Ok(kept) = numbers_of(alloc, &mut numbers, keep) else {
@@ -186,11 +272,12 @@ pub fn resolve_lazy<R: Resolver>(
     let Ok(root) = path.try_clone(alloc) else {
         return Err(Diagnostic::of(Error::Memory));
     };
-    match reach::<_, Brand>(
+    match reach(
         alloc,
         numbers,
         table,
         kept,
+        is_eager,
         root,
         unit,
         marks,
@@ -200,4 +287,61 @@ pub fn resolve_lazy<R: Resolver>(
         Ok(resolutions) => Ok(resolutions),
         Err(error) => Err(Diagnostic::of(error)),
     }
+}
+
+/// Links the root `unit`, which stands at `path`, with the modules that the names in `keep` and the const_asserts
+/// reach, and no others (WESL, "Imports").
+///
+/// `resolver` hands out every module but the root, and means afterwards what it meant; no more than `max_modules` are
+/// loaded, the root counted. Refused where a name has two targets, where the resolver refuses a path, where a look-up
+/// finds nothing or nothing that it may see, where there are more modules than may be, and for want of memory.
+pub fn resolve_lazy<R: Resolver>(
+    alloc: Global,
+    keep: &[&str],
+    unit: TranslationUnit,
+    path: &ModulePath,
+    resolver: &mut R,
+    max_modules: usize,
+) -> Result<Resolutions, Diagnostic>
+    requires ready { R.ready resolver.old }
+    requires asked { is_relative (path_view path.now) ≡ false }
+    ensures linked { let root = module_at path.now unit in IfOk result (λ r. worlds.IsLinked (R.hands resolver.old) (R.refuses resolver.old) root (worlds.task_of root (texts keep.now) false) max_modules (turns_of r) (modules_of r)) }
+    ensures order { IfOk result (λ r. worlds.IsModuleOrder (module_at path.now unit) (modules_of r)) }
+    ensures kept { IfOk result (λ r. (resolved r).kept ≡ texts keep.now) }
+    ensures lazy { IfOk result (λ r. (resolved r).is_eager ≡ false) }
+    ensures sound { IfOk result IsSound }
+    ensures names { IfOk result (λ r. (p : Path) (n : Text) → (resolved r).names p n ≡ n) }
+    ensures refused { let root = module_at path.now unit in IfErr result (λ d. TellsOf (worlds.IsRefused (R.hands resolver.old) (R.refuses resolver.old) root (worlds.task_of root (texts keep.now) false) max_modules) (out-Diagnostic d).error) }
+    ensures succeeds { let root = module_at path.now unit in worlds.IsFaultless (R.hands resolver.old) (R.refuses resolver.old) root (worlds.task_of root (texts keep.now) false) max_modules → IfErr result (λ d. (out-Diagnostic d).error ≡ error.Memory) }
+    ensures same { MeansTheSame R.hands R.refuses R.source R.shown resolver.old resolver.new }
+    ensures stays_ready { R.ready resolver.new }
+{
+    resolutions_of(alloc, keep, false, unit, path, resolver, max_modules)
+}
+
+/// Links the root `unit`, which stands at `path`, with the modules that it imports from, and those that they import from,
+/// and holds all that they declare (WESL, "Imports").
+///
+/// The resolver, the limit and the refusals are those of `resolve_lazy`.
+pub fn resolve_eager<R: Resolver>(
+    alloc: Global,
+    unit: TranslationUnit,
+    path: &ModulePath,
+    resolver: &mut R,
+    max_modules: usize,
+) -> Result<Resolutions, Diagnostic>
+    requires ready { R.ready resolver.old }
+    requires asked { is_relative (path_view path.now) ≡ false }
+    ensures linked { let root = module_at path.now unit in IfOk result (λ r. worlds.IsLinked (R.hands resolver.old) (R.refuses resolver.old) root (worlds.task_of root [] true) max_modules (turns_of r) (modules_of r)) }
+    ensures order { IfOk result (λ r. worlds.IsModuleOrder (module_at path.now unit) (modules_of r)) }
+    ensures kept { IfOk result (λ r. (resolved r).kept ≡ []) }
+    ensures eager { IfOk result (λ r. (resolved r).is_eager ≡ true) }
+    ensures sound { IfOk result IsSound }
+    ensures names { IfOk result (λ r. (p : Path) (n : Text) → (resolved r).names p n ≡ n) }
+    ensures refused { let root = module_at path.now unit in IfErr result (λ d. TellsOf (worlds.IsRefused (R.hands resolver.old) (R.refuses resolver.old) root (worlds.task_of root [] true) max_modules) (out-Diagnostic d).error) }
+    ensures succeeds { let root = module_at path.now unit in worlds.IsFaultless (R.hands resolver.old) (R.refuses resolver.old) root (worlds.task_of root [] true) max_modules → IfErr result (λ d. (out-Diagnostic d).error ≡ error.Memory) }
+    ensures same { MeansTheSame R.hands R.refuses R.source R.shown resolver.old resolver.new }
+    ensures stays_ready { R.ready resolver.new }
+{
+    resolutions_of(alloc, &[], true, unit, path, resolver, max_modules)
 }

@@ -16,12 +16,12 @@ rest_is xs ys e =
 
 pub take_modules-requires-clause-kept : goal.take_modules-requires-clause-kept
 take_modules-requires-clause-kept c =
-    subst (λ (ts : List (Table PathId NameId)). AreKept (numbering c.args.numbers) c.args.units.entries ts) (sym (rest_is c.tables.result.now c.args.linked.tables c.tables.ensures)) c.requires.left
+    subst (λ (ts : List (Table PathId NameId)). AreKept (numbering c.args.numbers) c.args.units.now.entries ts) (sym (rest_is c.tables.result.now c.args.linked.tables c.tables.ensures)) c.requires.left
 
 pub returns-clause-found : goal.returns-clause-found
 returns-clause-found c = (
   c.in_ok-others.others.items,
-  subst (λ (ts : List (Table PathId NameId)). AreRelated (IsTaken (numbering c.args.numbers) c.args.units.entries ts) ts c.in_ok-others.others.items) (rest_is c.tables.result.now c.args.linked.tables c.tables.ensures) c.in_ok-others.ensures.taken,
+  subst (λ (ts : List (Table PathId NameId)). AreRelated (IsTaken (numbering c.args.numbers) c.args.units.now.entries ts) ts c.in_ok-others.others.items) (rest_is c.tables.result.now c.args.linked.tables c.tables.ensures) c.in_ok-others.ensures.taken,
   c.put_in_order.ensures.same,
   c.put_in_order.ensures.sorted,
 )
