@@ -119,57 +119,58 @@ module _ {N : Type 0} (Q : N → Type 0) where
     pub stays_in_both : (ns : List N) → Each (staying J F ns) → Each (staying J (in_stages F G) ns)
     stays_in_both ns h = lives_in_both (chains J (filter (is_node J) ns)) h
 
--- Nodes changed where no condition looks.
-module _ {I N : Type 0} (J : Judged I N) (i : N → N) (v : (n : N) → J.is_void (i n) ≡ J.is_void n) (c : (n : N) → J.condition_of (i n) ≡ J.condition_of n) (known : Answers I) where
-  filtered_at : (test : N → Bool) (b d : Bool) (n : N) (ns : List N) → d ≡ b → filter test (map i ns) ≡ map i (filter test ns) → cond d (i n ∷ filter test (map i ns)) (filter test (map i ns)) ≡ map i (cond b (n ∷ filter test ns) (filter test ns))
-  filtered_at test true d n ns e ih = rw (e, ih) refl
-  filtered_at test false d n ns e ih = rw (e, ih) refl
+-- Nodes changed where no condition looks, or for others whose conditions are told alike.
+module _ {I N I' N' : Type 0} (J : Judged I N) (J' : Judged I' N') (i : N → N') (known : Answers I) (known' : Answers I') (v : (n : N) → J'.is_void (i n) ≡ J.is_void n)
+    (follows : (n : N) → is_branch J' (i n) ≡ is_branch J n) (branch_same : (n : N) → branch J' known' (i n) ≡ branch J known n) where
+  filtered_at : (test : N → Bool) (test' : N' → Bool) (b d : Bool) (n : N) (ns : List N) → d ≡ b → filter test' (map i ns) ≡ map i (filter test ns) → cond d (i n ∷ filter test' (map i ns)) (filter test' (map i ns)) ≡ map i (cond b (n ∷ filter test ns) (filter test ns))
+  filtered_at test test' true d n ns e ih = rw (e, ih) refl
+  filtered_at test test' false d n ns e ih = rw (e, ih) refl
 
-  filtered_map : (test : N → Bool) → ((n : N) → test (i n) ≡ test n) → (ns : List N) → filter test (map i ns) ≡ map i (filter test ns)
-  filtered_map test same [] = refl
-  filtered_map test same (n ∷ ns) = filtered_at test (test n) (test (i n)) n ns (same n) (filtered_map test same ns)
+  filtered_map : (test : N → Bool) (test' : N' → Bool) → ((n : N) → test' (i n) ≡ test n) → (ns : List N) → filter test' (map i ns) ≡ map i (filter test ns)
+  filtered_map test test' same [] = refl
+  filtered_map test test' same (n ∷ ns) = filtered_at test test' (test n) (test' (i n)) n ns (same n) (filtered_map test test' same ns)
 
   attach_cond : (b d : Bool) (n m : N) (ms : List N) (cs : List (List N)) → d ≡ b → cond d ((i n ∷ i m ∷ map i ms) ∷ map (map i) cs) ((i n ∷ []) ∷ (i m ∷ map i ms) ∷ map (map i) cs) ≡ map (map i) (cond b ((n ∷ m ∷ ms) ∷ cs) ((n ∷ []) ∷ (m ∷ ms) ∷ cs))
   attach_cond true d n m ms cs e = rw e refl
   attach_cond false d n m ms cs e = rw e refl
 
-  attach_map : (n : N) (cs : List (List N)) → attach J (i n) (map (map i) cs) ≡ map (map i) (attach J n cs)
+  attach_map : (n : N) (cs : List (List N)) → attach J' (i n) (map (map i) cs) ≡ map (map i) (attach J n cs)
   attach_map n [] = refl
   attach_map n ([] ∷ cs) = refl
-  attach_map n ((m ∷ ms) ∷ cs) = attach_cond (is_branch J m) (is_branch J (i m)) n m ms cs (ap follows_on (c m))
+  attach_map n ((m ∷ ms) ∷ cs) = attach_cond (is_branch J m) (is_branch J' (i m)) n m ms cs (follows m)
 
-  chains_map : (ns : List N) → chains J (map i ns) ≡ map (map i) (chains J ns)
+  chains_map : (ns : List N) → chains J' (map i ns) ≡ map (map i) (chains J ns)
   chains_map [] = refl
-  chains_map (n ∷ ns) = ap (attach J (i n)) (chains_map ns) ∙ attach_map n (chains J ns)
+  chains_map (n ∷ ns) = ap (attach J' (i n)) (chains_map ns) ∙ attach_map n (chains J ns)
 
-  branch_same : (n : N) → branch J known (i n) ≡ branch J known n
-  branch_same n = ap (holds known) (c n)
-
-  until_map : (t : Truth) (n : N) (ns : List N) → until J t (i n) (map i ns) ≡ map i (until J t n ns)
+  until_map : (t : Truth) (n : N) (ns : List N) → until J' t (i n) (map i ns) ≡ map i (until J t n ns)
   until_map Yes n ns = refl
   until_map No n ns = refl
   until_map Undecided n ns = refl
 
-  up_to_map : (ns : List N) → up_to_true J known (map i ns) ≡ map i (up_to_true J known ns)
+  up_to_map : (ns : List N) → up_to_true J' known' (map i ns) ≡ map i (up_to_true J known ns)
   up_to_map [] = refl
   up_to_map (n ∷ ns) =
-      ap (λ t. until J t (i n) (up_to_true J known (map i ns))) (branch_same n)
-      ∙ ap (until J (branch J known n) (i n)) (up_to_map ns)
+      ap (λ t. until J' t (i n) (up_to_true J' known' (map i ns))) (branch_same n)
+      ∙ ap (until J' (branch J known n) (i n)) (up_to_map ns)
       ∙ until_map (branch J known n) n (up_to_true J known ns)
 
-  live_map : (ns : List N) → live J known (map i ns) ≡ map i (live J known ns)
-  live_map ns = ap (filter (λ n. is_not_false (branch J known n))) (up_to_map ns) ∙ filtered_map (λ n. is_not_false (branch J known n)) (λ n. ap is_not_false (branch_same n)) (up_to_true J known ns)
+  live_map : (ns : List N) → live J' known' (map i ns) ≡ map i (live J known ns)
+  live_map ns =
+      ap (filter (λ n. is_not_false (branch J' known' n))) (up_to_map ns) ∙ filtered_map (λ n. is_not_false (branch J known n)) (λ n. is_not_false (branch J' known' n)) (λ n. ap is_not_false (branch_same n)) (up_to_true J known ns)
 
-  lives_map : (cs : List (List N)) → flat_map (live J known) (map (map i) cs) ≡ map i (flat_map (live J known) cs)
+  lives_map : (cs : List (List N)) → flat_map (live J' known') (map (map i) cs) ≡ map i (flat_map (live J known) cs)
   lives_map [] = refl
-  lives_map (d ∷ cs) = ap (λ xs. xs ++ flat_map (live J known) (map (map i) cs)) (live_map d) ∙ ap (λ ys. map i (live J known d) ++ ys) (lives_map cs) ∙ sym (map-append i (live J known d) (flat_map (live J known) cs))
+  lives_map (d ∷ cs) = ap (λ xs. xs ++ flat_map (live J' known') (map (map i) cs)) (live_map d) ∙ ap (λ ys. map i (live J known d) ++ ys) (lives_map cs) ∙ sym (map-append i (live J known d) (flat_map (live J known) cs))
 
-  pub staying_map : (ns : List N) → staying J known (map i ns) ≡ map i (staying J known ns)
+  pub staying_map : (ns : List N) → staying J' known' (map i ns) ≡ map i (staying J known ns)
   staying_map ns =
-      ap (λ xs. flat_map (live J known) (chains J xs)) (filtered_map (is_node J) (λ n. ap not (v n)) ns)
-      ∙ ap (flat_map (live J known)) (chains_map (filter (is_node J) ns))
+      ap (λ xs. flat_map (live J' known') (chains J' xs)) (filtered_map (is_node J) (is_node J') (λ n. ap not (v n)) ns)
+      ∙ ap (flat_map (live J' known')) (chains_map (filter (is_node J) ns))
       ∙ lives_map (chains J (filter (is_node J) ns))
 
 -- what stays, judged inside
 pub staying_inside : {I : Type 0} (g : List (Element I) → List (Element I)) (known : Answers I) (xs : List (Element I)) → staying element known (map (inside g) xs) ≡ map (inside g) (staying element known xs)
-staying_inside g known xs = staying_map element (inside g) (λ x. void_inside g x.label x.children) (λ x. ap first_condition (attributes_through g false (tree x.label x.children end))) known xs
+staying_inside {I} g known xs =
+    let same = λ (x : Element I). ap first_condition (attributes_through g false (tree x.label x.children end)) in
+    staying_map element element (inside g) known known (λ x. void_inside g x.label x.children) (λ x. ap follows_on (same x)) (λ x. ap (holds known) (same x)) xs

@@ -25,3 +25,4 @@ pub mod Natural
 pub mod Same
 pub mod SameTrees
 pub mod Bounds
+pub mod NaturalFaults

@@ -70,7 +70,7 @@ module _ {I J : Type 0} (r : I → J) where
       ∙ ap (λ f. record { span = nowhere; form = f } ∷ ys) (reading_natural l c (spots c))
       ∙ ap (λ zs. respell_spot (record { span = nowhere; form = reading l c (spots c) }) ∷ zs) d
 
-  spots_natural : (c : ForestOf I) → spots (respell_forest r c) ≡ map respell_spot (spots c)
+  pub spots_natural : (c : ForestOf I) → spots (respell_forest r c) ≡ map respell_spot (spots c)
   spots_natural end = refl
   spots_natural (tree (at expression_node s e) (tree l c end) others) = spot_natural l c others (spots (respell_forest r c)) (spots (respell_forest r others)) (spots_natural c) (spots_natural others)
   spots_natural (tree l c others) = spot_natural l c others (spots (respell_forest r c)) (spots (respell_forest r others)) (spots_natural c) (spots_natural others)
@@ -150,31 +150,31 @@ module _ {I J : Type 0} (r : I → J) where
   respell_element x = record { closes = x.closes; label = respell_label r x.label; children = respell_forest r x.children }
 
   -- Tests of labels.
-  attributes_natural : (l : LabelOf I) → is_attributes (respell_label r l) ≡ is_attributes l
+  pub attributes_natural : (l : LabelOf I) → is_attributes (respell_label r l) ≡ is_attributes l
   attributes_natural (kind k) = refl
   attributes_natural l = refl
 
-  list_natural : (l : LabelOf I) → is_list (respell_label r l) ≡ is_list l
+  pub list_natural : (l : LabelOf I) → is_list (respell_label r l) ≡ is_list l
   list_natural (kind k) = refl
   list_natural l = refl
 
-  statements_natural : (l : LabelOf I) → is_statements (respell_label r l) ≡ is_statements l
+  pub statements_natural : (l : LabelOf I) → is_statements (respell_label r l) ≡ is_statements l
   statements_natural (kind k) = refl
   statements_natural l = refl
 
-  closed_natural : (l : LabelOf I) → is_closed (respell_label r l) ≡ is_closed l
+  pub closed_natural : (l : LabelOf I) → is_closed (respell_label r l) ≡ is_closed l
   closed_natural (kind k) = refl
   closed_natural l = refl
 
-  compound_natural : (l : LabelOf I) → is_compound (respell_label r l) ≡ is_compound l
+  pub compound_natural : (l : LabelOf I) → is_compound (respell_label r l) ≡ is_compound l
   compound_natural (kind k) = refl
   compound_natural l = refl
 
-  option_natural : (l : LabelOf I) → is_option (respell_label r l) ≡ is_option l
+  pub option_natural : (l : LabelOf I) → is_option (respell_label r l) ≡ is_option l
   option_natural (kind k) = refl
   option_natural l = refl
 
-  entered_natural : (l : LabelOf I) → is_entered (respell_label r l) ≡ is_entered l
+  pub entered_natural : (l : LabelOf I) → is_entered (respell_label r l) ≡ is_entered l
   entered_natural (kind k) = refl
   entered_natural (at declaration_node s e) = refl
   entered_natural (at statement_node s e) = refl
@@ -185,15 +185,15 @@ module _ {I J : Type 0} (r : I → J) where
   begins_natural (tree (kind void) c o) = refl
   begins_natural (tree l c o) = refl
 
-  void_natural : (l : LabelOf I) (c : ForestOf I) → is_void (respell_label r l) (respell_forest r c) ≡ is_void l c
+  pub void_natural : (l : LabelOf I) (c : ForestOf I) → is_void (respell_label r l) (respell_forest r c) ≡ is_void l c
   void_natural (at k s e) c = begins_natural c
   void_natural l c = refl
 
-  cond_natural : {X Y : Type 0} (f : X → Y) (b b' : Bool) (x x' : X) (y y' : Y) → b' ≡ b → y ≡ f x → y' ≡ f x' → cond b' y y' ≡ f (cond b x x')
+  pub cond_natural : {X Y : Type 0} (f : X → Y) (b b' : Bool) (x x' : X) (y y' : Y) → b' ≡ b → y ≡ f x → y' ≡ f x' → cond b' y y' ≡ f (cond b x x')
   cond_natural f true b' x x' y y' e d g = rw e d
   cond_natural f false b' x x' y y' e d g = rw e g
 
-  attributes_in_natural : (t : ForestOf I) → attributes_in (respell_forest r t) ≡ respell_forest r (attributes_in t)
+  pub attributes_in_natural : (t : ForestOf I) → attributes_in (respell_forest r t) ≡ respell_forest r (attributes_in t)
   attributes_in_natural end = refl
   attributes_in_natural (tree l c o) =
       cond_natural (respell_forest r) (is_attributes l) (is_attributes (respell_label r l)) c (cond (is_list l) end (attributes_in c)) _ _ (attributes_natural l) refl
@@ -206,7 +206,7 @@ module _ {I J : Type 0} (r : I → J) where
       (cond_natural (respell_forest r) (is_attributes l) (is_attributes (respell_label r l)) (change c) (cond (is_list l) c (with_attributes change c)) _ _ (attributes_natural l) (h c)
       (cond_natural (respell_forest r) (is_list l) (is_list (respell_label r l)) c (with_attributes change c) _ _ (list_natural l) refl (with_natural change change' h c)))
 
-  elements_natural : (b : Bool) (c : ForestOf I) → elements b (respell_forest r c) ≡ map respell_element (elements b c)
+  pub elements_natural : (b : Bool) (c : ForestOf I) → elements b (respell_forest r c) ≡ map respell_element (elements b c)
   elements_natural b end = refl
   elements_natural b (tree l c o) = ap (λ xs. record { closes = b; label = respell_label r l; children = respell_forest r c } ∷ xs) (elements_natural b o)
 
@@ -225,7 +225,7 @@ module _ {I J : Type 0} (r : I → J) where
   first_natural : (c : ForestOf I) → first_spot (respell_forest r c) ≡ respell_spot (first_spot c)
   first_natural c = ap first_of (spots_natural c) ∙ first_of_natural (spots c)
 
-  condition_natural : (a : ForestOf I) → condition_at (respell_forest r a) ≡ respell_condition (condition_at a)
+  pub condition_natural : (a : ForestOf I) → condition_at (respell_forest r a) ≡ respell_condition (condition_at a)
   condition_natural (tree (kind if_attribute) operand others) = ap on (first_natural operand)
   condition_natural (tree (kind elif_attribute) operand others) = ap else_on (first_natural operand)
   condition_natural (tree (kind else_attribute) operand others) = refl
@@ -268,6 +268,62 @@ module _ {I J : Type 0} (r : I → J) where
   replaced_natural l a otherwise (else_on y) o = over_natural l o (else_on y)
   replaced_natural l a otherwise otherwise o = over_natural l o otherwise
 
+  -- Lists judged in the one way and in the other.
+  module _ (P : List (Element I) → List (Element I)) (Q : List (Element J) → List (Element J)) (natural : (xs : List (Element I)) → Q (map respell_element xs) ≡ map respell_element (P xs)) where
+    alone_natural : (c : ForestOf I) → alone Q (respell_forest r c) ≡ respell_forest r (alone P c)
+    alone_natural c =
+        ap (λ xs. back false (Q xs)) (elements_natural false c)
+        ∙ ap (back false) (natural (elements false c))
+        ∙ back_natural false (P (elements false c))
+
+    both_elements : (c d : ForestOf I) → Q (elements false (respell_forest r c) ++ elements true (respell_forest r d)) ≡ map respell_element (P (elements false c ++ elements true d))
+    both_elements c d =
+        ap (λ xs. Q (xs ++ elements true (respell_forest r d))) (elements_natural false c)
+        ∙ ap (λ xs. Q (map respell_element (elements false c) ++ xs)) (elements_natural true d)
+        ∙ ap Q (sym (map-append respell_element (elements false c) (elements true d)))
+        ∙ natural (elements false c ++ elements true d)
+
+    abbrev rebuilt : {K : Type 0} → LabelOf K → LabelOf K → ForestOf K → LabelOf K → ForestOf K → ForestOf K → List (Element K) → ForestOf K
+    rebuilt b a x s rest others kept = tree b (tree a x (tree s (back false kept) rest)) (option_of (back true kept) others)
+
+    rebuilt_natural : (b a : LabelOf I) (x : ForestOf I) (s : LabelOf I) (rest others : ForestOf I) (kept : List (Element I))
+        → rebuilt (respell_label r b) (respell_label r a) (respell_forest r x) (respell_label r s) (respell_forest r rest) (respell_forest r others) (map respell_element kept) ≡ respell_forest r (rebuilt b a x s rest others kept)
+    rebuilt_natural b a x s rest others kept =
+        ap (λ f. tree (respell_label r b) (tree (respell_label r a) (respell_forest r x) (tree (respell_label r s) f (respell_forest r rest))) (option_of (back true (map respell_element kept)) (respell_forest r others))) (back_natural false kept)
+        ∙ ap (λ f. tree (respell_label r b) (tree (respell_label r a) (respell_forest r x) (tree (respell_label r s) (respell_forest r (back false kept)) (respell_forest r rest))) (option_of f (respell_forest r others))) (back_natural true kept)
+        ∙ ap (tree (respell_label r b) (tree (respell_label r a) (respell_forest r x) (tree (respell_label r s) (respell_forest r (back false kept)) (respell_forest r rest)))) (option_of_natural (back true kept) others)
+
+    body_natural : (b : LabelOf I) (body : ForestOf I) (o : LabelOf I) (last others : ForestOf I)
+        → closed_body Q (respell_label r b) (respell_forest r body) (respell_label r o) (respell_forest r last) (respell_forest r others) ≡ respell_forest r (closed_body P b body o last others)
+    body_natural b end o last others = refl
+    body_natural b (tree a x end) o last others = refl
+    body_natural b (tree a x (tree s list rest)) o last others =
+        cond_natural (respell_forest r) (is_statements s) (is_statements (respell_label r s))
+        (rebuilt b a x s rest others (P (elements false list ++ elements true last))) (tree b (tree a x (tree s list rest)) (tree o last others)) _ _ (statements_natural s)
+        (ap (rebuilt (respell_label r b) (respell_label r a) (respell_forest r x) (respell_label r s) (respell_forest r rest) (respell_forest r others)) (both_elements list last) ∙ rebuilt_natural b a x s rest others (P (elements false list ++ elements true last)))
+        refl
+
+    and_equal : (a a' b b' : Bool) → a ≡ a' → b ≡ b' → (a && b) ≡ (a' && b')
+    and_equal a a' b b' e d = ap (λ x. x && b) e ∙ ap (λ x. a' && x) d
+
+    closed_parts_natural : (c : ForestOf I) → closed Q (respell_forest r c) ≡ respell_forest r (closed P c)
+    closed_parts_natural end = refl
+    closed_parts_natural (tree a x end) = refl
+    closed_parts_natural (tree a x (tree b body end)) = refl
+    closed_parts_natural (tree a x (tree b body (tree o last others))) = ap (tree (respell_label r a) (respell_forest r x))
+        (cond_natural (respell_forest r) (is_compound b && is_option o) (is_compound (respell_label r b) && is_option (respell_label r o)) (closed_body P b body o last others) (tree b body (tree o last others)) _ _
+        (and_equal _ _ _ _ (compound_natural b) (option_natural o)) (body_natural b body o last others) refl)
+
+    pub judged_natural : (held : Bool) (l : LabelOf I) (c : ForestOf I) → judged Q held (respell_label r l) (respell_forest r c) ≡ respell_forest r (judged P held l c)
+    judged_natural held l c =
+        cond_natural (respell_forest r) (is_closed l) (is_closed (respell_label r l)) (closed P c) (cond (is_list l && not (is_statements l && held)) (alone P c) c) _ _ (closed_natural l) (closed_parts_natural c)
+        (cond_natural (respell_forest r) (is_list l && not (is_statements l && held)) (is_list (respell_label r l) && not (is_statements (respell_label r l) && held)) (alone P c) c _ _
+        (and_equal _ _ _ _ (list_natural l) (ap (λ b. not (b && held)) (statements_natural l))) (alone_natural c) refl)
+
+  pub holds_natural_body : (held : Bool) (l : LabelOf I) → holds_body held (respell_label r l) ≡ holds_body held l
+  holds_natural_body held (kind k) = refl
+  holds_natural_body held l = refl
+
   module _ (F : Answers I) (G : Answers J) (agree : (i : I) → F i ≡ G (r i)) where
     residual_natural : (f : Form I) → residual G (respell_form f) ≡ respell_form (residual F f)
     residual_natural always = refl
@@ -299,13 +355,13 @@ module _ {I J : Type 0} (r : I → J) where
     decided_natural : (x : Spot I) → decided G (respell_form x.form) ≡ decided F x.form
     decided_natural x = ap literal (residual_natural x.form) ∙ literal_natural (residual F x.form)
 
-    holds_natural : (c : Condition I) → holds G (respell_condition c) ≡ holds F c
+    pub holds_natural : (c : Condition I) → holds G (respell_condition c) ≡ holds F c
     holds_natural none = refl
     holds_natural (on x) = decided_natural x
     holds_natural (else_on x) = decided_natural x
     holds_natural otherwise = refl
 
-    follows_natural : (c : Condition I) → follows_on (respell_condition c) ≡ follows_on c
+    pub follows_natural : (c : Condition I) → follows_on (respell_condition c) ≡ follows_on c
     follows_natural none = refl
     follows_natural (on x) = refl
     follows_natural (else_on x) = refl
@@ -334,10 +390,10 @@ module _ {I J : Type 0} (r : I → J) where
         ∙ ap (replaced (respell_label r l) (respell_forest r a) (respell_condition (condition_at a)) (respell_condition (recast_condition F role (condition_at a)))) (recast_natural role o)
         ∙ replaced_natural l a (condition_at a) (recast_condition F role (condition_at a)) (recast F role o)
 
-    abbrev condition_in : Element I → Condition I
+    abbrev pub condition_in : Element I → Condition I
     condition_in x = first_condition (attributes_in (tree x.label x.children end))
 
-    condition_in_natural : (x : Element I) → element.condition_of (respell_element x) ≡ respell_condition (condition_in x)
+    pub condition_in_natural : (x : Element I) → element.condition_of (respell_element x) ≡ respell_condition (condition_in x)
     condition_in_natural x = ap first_condition (attributes_in_natural (tree x.label x.children end)) ∙ first_condition_natural (attributes_in (tree x.label x.children end))
 
     role_natural : (role : Role) (x : Element I) → element.in_role G role (respell_element x) ≡ respell_element (element.in_role F role x)
@@ -367,60 +423,6 @@ module _ {I J : Type 0} (r : I → J) where
     judge_natural : (xs : List (Element I)) → residual_list element G (map respell_element xs) ≡ map respell_element (residual_list element F xs)
     judge_natural xs = sym (scan_is element G (map respell_element xs)) ∙ scan_natural false false xs ∙ ap (map respell_element) (scan_is element F xs)
 
-    alone_natural : (c : ForestOf I) → alone (residual_list element G) (respell_forest r c) ≡ respell_forest r (alone (residual_list element F) c)
-    alone_natural c =
-        ap (λ xs. back false (residual_list element G xs)) (elements_natural false c)
-        ∙ ap (back false) (judge_natural (elements false c))
-        ∙ back_natural false (residual_list element F (elements false c))
-
-    both_elements : (c d : ForestOf I) → residual_list element G (elements false (respell_forest r c) ++ elements true (respell_forest r d)) ≡ map respell_element (residual_list element F (elements false c ++ elements true d))
-    both_elements c d =
-        ap (λ xs. residual_list element G (xs ++ elements true (respell_forest r d))) (elements_natural false c)
-        ∙ ap (λ xs. residual_list element G (map respell_element (elements false c) ++ xs)) (elements_natural true d)
-        ∙ ap (residual_list element G) (sym (map-append respell_element (elements false c) (elements true d)))
-        ∙ judge_natural (elements false c ++ elements true d)
-
-    abbrev rebuilt : {K : Type 0} → LabelOf K → LabelOf K → ForestOf K → LabelOf K → ForestOf K → ForestOf K → List (Element K) → ForestOf K
-    rebuilt b a x s rest others kept = tree b (tree a x (tree s (back false kept) rest)) (option_of (back true kept) others)
-
-    rebuilt_natural : (b a : LabelOf I) (x : ForestOf I) (s : LabelOf I) (rest others : ForestOf I) (kept : List (Element I))
-        → rebuilt (respell_label r b) (respell_label r a) (respell_forest r x) (respell_label r s) (respell_forest r rest) (respell_forest r others) (map respell_element kept) ≡ respell_forest r (rebuilt b a x s rest others kept)
-    rebuilt_natural b a x s rest others kept =
-        ap (λ f. tree (respell_label r b) (tree (respell_label r a) (respell_forest r x) (tree (respell_label r s) f (respell_forest r rest))) (option_of (back true (map respell_element kept)) (respell_forest r others))) (back_natural false kept)
-        ∙ ap (λ f. tree (respell_label r b) (tree (respell_label r a) (respell_forest r x) (tree (respell_label r s) (respell_forest r (back false kept)) (respell_forest r rest))) (option_of f (respell_forest r others))) (back_natural true kept)
-        ∙ ap (tree (respell_label r b) (tree (respell_label r a) (respell_forest r x) (tree (respell_label r s) (respell_forest r (back false kept)) (respell_forest r rest)))) (option_of_natural (back true kept) others)
-
-    body_natural : (b : LabelOf I) (body : ForestOf I) (o : LabelOf I) (last others : ForestOf I)
-        → closed_body (residual_list element G) (respell_label r b) (respell_forest r body) (respell_label r o) (respell_forest r last) (respell_forest r others) ≡ respell_forest r (closed_body (residual_list element F) b body o last others)
-    body_natural b end o last others = refl
-    body_natural b (tree a x end) o last others = refl
-    body_natural b (tree a x (tree s list rest)) o last others =
-        cond_natural (respell_forest r) (is_statements s) (is_statements (respell_label r s))
-        (rebuilt b a x s rest others (residual_list element F (elements false list ++ elements true last))) (tree b (tree a x (tree s list rest)) (tree o last others)) _ _ (statements_natural s)
-        (ap (rebuilt (respell_label r b) (respell_label r a) (respell_forest r x) (respell_label r s) (respell_forest r rest) (respell_forest r others)) (both_elements list last) ∙ rebuilt_natural b a x s rest others (residual_list element F (elements false list ++ elements true last)))
-        refl
-
-    and_equal : (a a' b b' : Bool) → a ≡ a' → b ≡ b' → (a && b) ≡ (a' && b')
-    and_equal a a' b b' e d = ap (λ x. x && b) e ∙ ap (λ x. a' && x) d
-
-    closed_parts_natural : (c : ForestOf I) → closed (residual_list element G) (respell_forest r c) ≡ respell_forest r (closed (residual_list element F) c)
-    closed_parts_natural end = refl
-    closed_parts_natural (tree a x end) = refl
-    closed_parts_natural (tree a x (tree b body end)) = refl
-    closed_parts_natural (tree a x (tree b body (tree o last others))) = ap (tree (respell_label r a) (respell_forest r x))
-        (cond_natural (respell_forest r) (is_compound b && is_option o) (is_compound (respell_label r b) && is_option (respell_label r o)) (closed_body (residual_list element F) b body o last others) (tree b body (tree o last others)) _ _
-        (and_equal _ _ _ _ (compound_natural b) (option_natural o)) (body_natural b body o last others) refl)
-
-    judged_natural : (held : Bool) (l : LabelOf I) (c : ForestOf I) → judged (residual_list element G) held (respell_label r l) (respell_forest r c) ≡ respell_forest r (judged (residual_list element F) held l c)
-    judged_natural held l c =
-        cond_natural (respell_forest r) (is_closed l) (is_closed (respell_label r l)) (closed (residual_list element F) c) (cond (is_list l && not (is_statements l && held)) (alone (residual_list element F) c) c) _ _ (closed_natural l) (closed_parts_natural c)
-        (cond_natural (respell_forest r) (is_list l && not (is_statements l && held)) (is_list (respell_label r l) && not (is_statements (respell_label r l) && held)) (alone (residual_list element F) c) c _ _
-        (and_equal _ _ _ _ (list_natural l) (ap (λ b. not (b && held)) (statements_natural l))) (alone_natural c) refl)
-
-    holds_natural_body : (held : Bool) (l : LabelOf I) → holds_body held (respell_label r l) ≡ holds_body held l
-    holds_natural_body held (kind k) = refl
-    holds_natural_body held l = refl
-
     pub through_natural : (held : Bool) (t : ForestOf I) → through (residual_list element G) held (respell_forest r t) ≡ respell_forest r (through (residual_list element F) held t)
     through_natural held end = refl
     through_natural held (tree l c o) =
@@ -428,4 +430,4 @@ module _ {I J : Type 0} (r : I → J) where
         ap (tree (respell_label r l) (cond (is_entered (respell_label r l)) (judged (residual_list element G) held (respell_label r l) (through (residual_list element G) (holds_body held (respell_label r l)) (respell_forest r c))) (respell_forest r c))) (through_natural held o)
         ∙ ap (λ x. tree (respell_label r l) x (respell_forest r (through (residual_list element F) held o)))
         (cond_natural (respell_forest r) (is_entered l) (is_entered (respell_label r l)) (judged (residual_list element F) held l (through (residual_list element F) (holds_body held l) c)) c _ _ (entered_natural l)
-        (ap (judged (residual_list element G) held (respell_label r l)) inner ∙ judged_natural held l (through (residual_list element F) (holds_body held l) c)) refl)
+        (ap (judged (residual_list element G) held (respell_label r l)) inner ∙ judged_natural (residual_list element F) (residual_list element G) judge_natural held l (through (residual_list element F) (holds_body held l) c)) refl)

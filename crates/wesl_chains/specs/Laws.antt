@@ -1,14 +1,15 @@
 -- What the definitions promise.
-use Rattle.std.specs.Prelude.{◌≡◌, ℕ, false, true, nat_lt}
+use Rattle.std.specs.Prelude.{◌≡◌, ◌↔◌, ℕ, false, true, nat_lt}
 use Rattle.wesl_chains.specs.Faults.{Stands}
 use Rattle.wesl_chains.specs.Flags.{flags_of, AgreesOn}
 use Rattle.wesl_chains.specs.Picked.{Choice, picked_unit}
 use Rattle.wesl_chains.specs.Residual.{residual_tree, residual_unit}
 use Rattle.wesl_formula.specs.Answers.{Answers, in_stages}
 use Rattle.wesl_formula.specs.Faults.{Fault}
-use Rattle.wesl_formula.specs.Features.{Replies, known, HoldsNoError, then_replies}
+use Rattle.wesl_formula.specs.Features.{Replies, known, by_number, HoldsNoError, then_replies}
+use Rattle.wesl_names.specs.Path.{Text}
 use Rattle.wesl_syntax.specs.Tree.{Tree, tree_below}
-use Rattle.wesl_syntax.specs.Unit.{UnitOf, forest_of_unit}
+use Rattle.wesl_syntax.specs.Unit.{UnitOf, UnitView, forest_of_unit, trees_of, spelled}
 
 -- What a second stage leaves of what a first one left is what both in one leave.
 abbrev pub RunsInStages : Type 0
@@ -41,6 +42,10 @@ LaterStagesAreFaultless = (first second : Replies ℕ) (u : UnitOf ℕ) → Hold
 -- A module in which no fault stands has none in this and a later stage at once, where neither refuses a flag.
 abbrev pub BothStagesAreFaultless : Type 0
 BothStagesAreFaultless = (first second : Replies ℕ) (u : UnitOf ℕ) → HoldsNoError first → HoldsNoError second → IsFaultless first u → IsFaultless (then_replies first second) u
+
+-- No fault stands in a module exactly where none stands in its spelling: spans and numbers do not count.
+abbrev pub SpellingTellsFaults : Type 0
+SpellingTellsFaults = (reply : Replies Text) (u : UnitView) → IsFaultless (by_number u.names reply) (trees_of u) ↔ IsFaultless reply (spelled u)
 
 -- What is left of a tree names nothing outside a table, where the answers are the same for all numbers outside.
 abbrev pub LeftStaysWithin : Type 0

@@ -1,5 +1,5 @@
 //! What conditional translation promises, whatever the module.
-ghost use Rattle.wesl_chains.specs.Laws.{BothStagesAreFaultless, LaterStagesAreFaultless, LeftStaysWithin, PicksTheSame, RunsInStages, ThenIsInStages, TwiceIsOnce};
+ghost use Rattle.wesl_chains.specs.Laws.{BothStagesAreFaultless, LaterStagesAreFaultless, LeftStaysWithin, PicksTheSame, RunsInStages, SpellingTellsFaults, ThenIsInStages, TwiceIsOnce};
 
 /// What a second stage leaves of what a first one left is what both in one leave.
 pub fn law_of_stages()
@@ -29,6 +29,11 @@ pub fn law_of_later_stages()
 /// A module without a fault has none in two stages at once, where neither refuses a flag.
 pub fn law_of_both_stages()
     ensures { BothStagesAreFaultless }
+{}
+
+/// No fault stands in a module exactly where none stands in its spelling.
+pub fn law_of_faults()
+    ensures { SpellingTellsFaults }
 {}
 
 /// What is left of a tree names nothing outside its table.

@@ -12,7 +12,7 @@ mod nodes;
 pub use chain::{Chain, Role};
 pub use faults::{check_both, check_list};
 pub use laws::{
-    law_of_both_stages, law_of_bounds, law_of_choices, law_of_later_stages, law_of_stages,
-    law_of_then, law_of_twice,
+    law_of_both_stages, law_of_bounds, law_of_choices, law_of_faults, law_of_later_stages,
+    law_of_stages, law_of_then, law_of_twice,
 };
 pub use lists::{Conditional, closes, settle_both, settle_list, stays};

@@ -36,10 +36,18 @@ SpellsWhatIsLeft = (reply : Replies Text) (u : UnitView) → spelled (left_of re
 abbrev pub IsLeftOver : UnitView → Type 0
 IsLeftOver before = (first : Replies Text) × (u : UnitView) × IsFaultlessUnit first u × (before ≡ left_of first u)
 
+-- some earlier stage left a unit that is spelled as it is
+abbrev pub IsSpelledLeftOver : UnitView → Type 0
+IsSpelledLeftOver before = (first : Replies Text) × (u : UnitView) × IsFaultlessUnit first u × (spelled before ≡ spelled (left_of first u))
+
 -- the answers are those of two stages that refuse no flag, and the unit has no fault in the first
 abbrev pub AreTwoStages : Replies Text → UnitView → Type 0
 AreTwoStages reply u =
     (first : Replies Text) × (second : Replies Text) × HoldsNoError first × HoldsNoError second × IsFaultlessUnit first u × ((flag : Text) → reply flag ≡ then_replies first second flag)
+
+-- so for a unit that is spelled as it is
+abbrev pub AreSpelledTwoStages : Replies Text → UnitView → Type 0
+AreSpelledTwoStages reply before = (u : UnitView) × AreTwoStages reply u × (spelled before ≡ spelled u)
 
 -- every choice that agrees with the answers on the flags of a unit picks the same before and after
 abbrev pub Picks : Replies Text → UnitView → UnitView → Type 0

@@ -1,6 +1,6 @@
 //! What is left of a unit.
 ghost use Rattle.std.specs.Prelude.{◌≡◌, IfOk, IfErr, IsOk};
-ghost use Rattle.wesl_cond.specs.Units.{left_of, AreTwoStages, GoesOn, GoesOnSpelled, IsFaultlessUnit, IsLeftOver, Picks, RefusesUnit};
+ghost use Rattle.wesl_cond.specs.Units.{left_of, AreSpelledTwoStages, AreTwoStages, GoesOn, GoesOnSpelled, IsFaultlessUnit, IsLeftOver, IsSpelledLeftOver, Picks, RefusesUnit};
 ghost use Rattle.wesl_formula.specs.Features.{answer_to, HoldsNoError};
 ghost use Rattle.wesl_names.specs.declared.errors.Diagnostic.{out-Diagnostic};
 ghost use Rattle.wesl_tree.specs.Translation.{unit_view};
@@ -8,8 +8,8 @@ ghost use Rattle.wesl_tree.specs.Translation.{unit_view};
 use std::alloc::Global;
 use wesl_branches::{check, resolve};
 use wesl_chains::{
-    law_of_both_stages, law_of_choices, law_of_later_stages, law_of_stages, law_of_then,
-    law_of_twice,
+    law_of_both_stages, law_of_choices, law_of_faults, law_of_later_stages, law_of_stages,
+    law_of_then, law_of_twice,
 };
 use wesl_formula::Features;
 use wesl_names::Diagnostic;
@@ -41,6 +41,8 @@ pub fn run(alloc: Global, unit: &mut TranslationUnit, features: &Features) -> Re
     ensures succeeds { IsFaultlessUnit (answer_to features.now) (unit_view unit.old) → IsOk result }
     ensures staged_succeeds { HoldsNoError (answer_to features.now) → IsLeftOver (unit_view unit.old) → IsOk result }
     ensures composed_succeeds { AreTwoStages (answer_to features.now) (unit_view unit.old) → IsOk result }
+    ensures staged_spelled_succeeds { HoldsNoError (answer_to features.now) → IsSpelledLeftOver (unit_view unit.old) → IsOk result }
+    ensures composed_spelled_succeeds { AreSpelledTwoStages (answer_to features.now) (unit_view unit.old) → IsOk result }
 {
     law_of_stages();
     law_of_then();
@@ -48,6 +50,7 @@ pub fn run(alloc: Global, unit: &mut TranslationUnit, features: &Features) -> Re
     law_of_choices();
     law_of_later_stages();
     law_of_both_stages();
+    law_of_faults();
     check(alloc, unit, features)?;
     resolve(alloc, unit, features);
     Ok(())

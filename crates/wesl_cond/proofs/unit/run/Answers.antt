@@ -3,7 +3,7 @@ use Rattle.wesl_syntax.specs.Unit.{forest_of_unit, trees_of}
 use Rattle.wesl_formula.specs.Features.{answer_to}
 use Rattle.wesl_tree.specs.Translation.{unit_view}
 use Rattle.wesl_cond.proofs.Stages.{settled_is, goes_on, picks_same, err_not_clear, left_over_faultless, two_stages_faultless}
-use Rattle.wesl_cond.proofs.Spelled.{goes_on_spelled}
+use Rattle.wesl_cond.proofs.Spelled.{goes_on_spelled, spelled_left_over_faultless, spelled_two_stages_faultless}
 use Rattle.wesl_cond.proofs.unit.run.Goals as goal
 
 pub returns-clause-settled : goal.returns-clause-settled
@@ -27,3 +27,13 @@ pub returns-in_err-check-clause-composed_succeeds : goal.returns-in_err-check-cl
 returns-in_err-check-clause-composed_succeeds c = λ stages.
     let u = unit_view c.args.unit.now in
     absurd (err_not_clear u.names (replies u.names c.args.features.now) (forest_of_unit (trees_of u)) c.check.result _ c.in_err-check.was c.check.ensures (two_stages_faultless c.law_of_both_stages.ensures (answer_to c.args.features.now) u stages))
+
+pub returns-in_err-check-clause-staged_spelled_succeeds : goal.returns-in_err-check-clause-staged_spelled_succeeds
+returns-in_err-check-clause-staged_spelled_succeeds c = λ no_error left.
+    let u = unit_view c.args.unit.now in
+    absurd (err_not_clear u.names (replies u.names c.args.features.now) (forest_of_unit (trees_of u)) c.check.result _ c.in_err-check.was c.check.ensures (spelled_left_over_faultless c.law_of_faults.ensures c.law_of_later_stages.ensures (answer_to c.args.features.now) u no_error left))
+
+pub returns-in_err-check-clause-composed_spelled_succeeds : goal.returns-in_err-check-clause-composed_spelled_succeeds
+returns-in_err-check-clause-composed_spelled_succeeds c = λ stages.
+    let u = unit_view c.args.unit.now in
+    absurd (err_not_clear u.names (replies u.names c.args.features.now) (forest_of_unit (trees_of u)) c.check.result _ c.in_err-check.was c.check.ensures (spelled_two_stages_faultless c.law_of_faults.ensures c.law_of_both_stages.ensures (answer_to c.args.features.now) u stages))
