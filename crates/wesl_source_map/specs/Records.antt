@@ -24,8 +24,8 @@ abbrev pub Sources : Type 0
 Sources = Path → Option Source
 
 -- the name stands for the item, and every other name for what it stood for
-abbrev pub Names : Text → Item → Items → Items → Type 0
-Names name item old new = (other : Text) → new other ≡ update bytes_eq old name (Some item) other
+abbrev pub StandsFor : Text → Item → Items → Items → Type 0
+StandsFor name item old new = (other : Text) → new other ≡ update bytes_eq old name (Some item) other
 
 -- this is known of the module at the path, and of every other module what was known
 abbrev pub Tells : Path → Source → Sources → Sources → Type 0

@@ -8,7 +8,7 @@ ghost use Rattle.wesl_names.specs.Errors.{OrMemory};
 ghost use Rattle.wesl_names.specs.declared.errors.Error as error;
 ghost use Rattle.wesl_names.specs.declared.errors.ResolveError as resolve_error;
 ghost use Rattle.wesl_resolve.specs.Resolver.{MeansTheSame};
-ghost use Rattle.wesl_source_map.specs.Records.{Names as Stands, Tells, SameItems, SameSources};
+ghost use Rattle.wesl_source_map.specs.Records.{StandsFor, Tells, SameItems, SameSources};
 ghost use Rattle.wesl_source_map.specs.BasicView.{items, sources, default_text, KnowsTheSame};
 ghost use Rattle.wesl_source_mapper.specs.Recording.{Records, RecordsIfGiven, IsAskedAlone, HasNamed, source_or};
 
@@ -72,7 +72,8 @@ impl<R: Drop, M: Drop> SourceMapper<R, M> {
     pub fn finish(self, alloc: Global) -> Result<BasicSourceMap, BasicSourceMap>
         ensures decls { IfOk result (λ map. SameItems (items self.sourcemap) (items map)) }
         ensures modules { IfOk result (λ map. SameSources (sources self.sourcemap) (sources map)) }
-        ensures default { IfOk result (λ map. default_text map ≡ source_or (sources self.sourcemap (path_view self.root)) (default_text self.sourcemap)) }
+        ensures default { IfOk result (λ map. default_text map
+            ≡ source_or (sources self.sourcemap (path_view self.root)) (default_text self.sourcemap)) }
         ensures kept { IfErr result (KnowsTheSame self.sourcemap) }
     {
         let mut sourcemap = self.sourcemap;
@@ -176,8 +177,9 @@ impl<R: Resolver, M> Resolver for SourceMapper<R, M> {
         requires asked { R.ready self.old.resolver }
         requires rooted { is_relative (path_view path.now) ≡ false }
         ensures handed { IfOk result (λ u. R.hands self.old.resolver (path_view path.now) (spelled (unit_view u))) }
-        ensures recorded { OnOk result (RecordsIfGiven (R.source self.old.resolver (path_view path.now)) (R.refuses self.old.resolver (path_view path.now))
-            (R.shown self.old.resolver (path_view path.now)) (path_view path.now) (sources self.old.sourcemap) (sources self.new.sourcemap)) }
+        ensures recorded { OnOk result (RecordsIfGiven (R.source self.old.resolver (path_view path.now))
+            (R.refuses self.old.resolver (path_view path.now)) (R.shown self.old.resolver (path_view path.now)) (path_view path.now)
+            (sources self.old.sourcemap) (sources self.new.sourcemap)) }
         ensures refused { IfErr result (OrMemory (R.refuses self.old.resolver (path_view path.now))) }
         ensures kept { OnErr result (SameSources (sources self.old.sourcemap) (sources self.new.sourcemap)) }
         ensures same { MeansTheSame R.hands R.refuses R.source R.shown self.old.resolver self.new.resolver }
@@ -220,16 +222,18 @@ impl<R, M: Mangler> Mangler for SourceMapper<R, M> {
     /// it keeps one, may then have the name.
     fn mangle(&mut self, alloc: Global, path: &ModulePath, item: &str) -> Result<String, Error>
         ensures named { IfOk result (λ name. string_bytes name ≡ M.name_of self.old.mangler (path_view path.now) item.now) }
-        ensures written { OnOk result (Stands (M.name_of self.old.mangler (path_view path.now) item.now) (path_view path.now, item.now)
+        ensures written { OnOk result (StandsFor (M.name_of self.old.mangler (path_view path.now) item.now) (path_view path.now, item.now)
             (items self.old.sourcemap) (items self.new.sourcemap)) }
         ensures unwritten { OnErr result (SameItems (items self.old.sourcemap) (items self.new.sourcemap)) }
         ensures refused { IfErr result (λ e. e ≡ error.Memory) }
         ensures same { (p : Path) (i : Text) → M.name_of self.new.mangler p i ≡ M.name_of self.old.mangler p i }
-        ensures same_variants { (names : List Text) (i : Text) (n : ℕ) (ts : List Tree) → M.variant_of self.new.mangler names i n ts ≡ M.variant_of self.old.mangler names i n ts }
+        ensures same_variants { (names : List Text) (i : Text) (n : ℕ) (ts : List Tree)
+            → M.variant_of self.new.mangler names i n ts ≡ M.variant_of self.old.mangler names i n ts }
         ensures inner { OnOk result (HasNamed M.writes (M.name_of self.old.mangler (path_view path.now) item.now) (path_view path.now, item.now)
             (M.recorded self.old.mangler) (M.recorded self.new.mangler)) }
         ensures inner_left { OnErr result (SameItems (M.recorded self.old.mangler) (M.recorded self.new.mangler)
-            ⊎ HasNamed M.writes (M.name_of self.old.mangler (path_view path.now) item.now) (path_view path.now, item.now) (M.recorded self.old.mangler) (M.recorded self.new.mangler)) }
+            ⊎ HasNamed M.writes (M.name_of self.old.mangler (path_view path.now) item.now) (path_view path.now, item.now)
+            (M.recorded self.old.mangler) (M.recorded self.new.mangler)) }
         ensures resolver { self.new.resolver ≡ self.old.resolver }
         ensures root { self.new.root ≡ self.old.root }
         ensures modules { SameSources (sources self.old.sourcemap) (sources self.new.sourcemap) }
