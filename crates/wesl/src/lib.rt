@@ -5,6 +5,7 @@
 mod program;
 
 pub use program::{Outcome, RunError, run, run_noting};
+pub use wesl_clash::names_clash;
 pub use wesl_clone::TryClone;
 pub use wesl_cond::{Feature, Features, eval_attr};
 pub use wesl_conditional::link_under;

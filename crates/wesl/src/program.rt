@@ -13,7 +13,7 @@ use wesl_program::{
 };
 use wesl_tree::Error;
 
-/// What a line says: the linked unit, or why there is none.
+/// What a line says: the linked unit and whether its names clash, or why there is none.
 #[derive(Clone, Copy, Debug, PartialEq, Eq)]
 pub enum Outcome {
     Linked,
@@ -29,9 +29,9 @@ pub enum RunError {
 
 /// Reads a bundle whole, links it, and writes its line.
 ///
-/// The line is the answer (`Linked`) or a fault (`Refused`). With `RunError::Input`, which comes only where a
-/// read failed, nothing was written; with `RunError::Output`, which comes only where a write failed or took no
-/// byte, a beginning of the line was.
+/// The line is the answer (`Linked`), which has the linked unit as a tree and says whether its names clash, or a fault
+/// (`Refused`). With `RunError::Input`, which comes only where a read failed, nothing was written; with
+/// `RunError::Output`, which comes only where a write failed or took no byte, a beginning of the line was.
 pub fn run<R: Read, W: Write>(
     alloc: Global,
     reader: &mut R,
@@ -103,7 +103,7 @@ fn answer(alloc: Global, bytes: &[u8]) -> Result<String, Error>
     let value = value_of_bytes(alloc, bytes)?;
     let bundle = read_bundle(alloc, &value)?;
     match linked(alloc, bundle) {
-        Ok(unit) => Ok(answer_line(alloc, unit)?),
+        Ok(answer) => Ok(answer_line(alloc, answer)?),
         Err(error) => Err(error),
     }
 }

@@ -1,11 +1,12 @@
 -- The line for the bytes of a bundle: an answer or a fault.
-use Rattle.std.specs.Prelude.{◌≡◌, ◌≢◌, ◌⊎◌, ℕ, List, [], ◌∷◌, ◌++◌, Option, Some, None, codes, IsUtf8}
-use Rattle.serde_json.specs.Data.{Data, string, array, object, item, no_items, member, no_members, Items}
+use Rattle.std.specs.Prelude.{◌≡◌, ◌≢◌, ◌⊎◌, ◌↔◌, ℕ, List, [], ◌∷◌, ◌++◌, Bool, false, Option, Some, None, codes, IsUtf8}
+use Rattle.serde_json.specs.Data.{Data, boolean, string, array, object, item, no_items, member, no_members, Items}
 use Rattle.serde_json.specs.Read.{read}
 use Rattle.serde_json.specs.Written.{compact_text}
 use Rattle.wesl_names.specs.Path.{Text}
 use Rattle.wesl_syntax.specs.Unit.{UnitView}
 use Rattle.wesl_form.specs.Units.{unit_value}
+use Rattle.wesl_faith.specs.Faithful.{IsFaithful}
 use Rattle.wesl_bundle.specs.Bundle.{Bundle, bundle_of}
 use Rattle.wesl_bundle.specs.Forms.{IsBrokenBundle}
 use Rattle.wesl_names.specs.declared.errors.Error as error
@@ -73,9 +74,20 @@ IsFaultLine bytes line = (line ≡ fault_line memory) ⊎ ((f : Fault) × Stands
 
 -- ---- answers
 
-abbrev pub answer_value : Data → Data
-answer_value unit = object (member (codes "unit") unit no_members)
+abbrev pub answer_value : Bool → Data → Data
+answer_value clash unit = object (member (codes "clash") (boolean clash) (member (codes "unit") unit no_members))
 
--- the bytes are a bundle's that is linked, and the line has the written form of its linked unit
+-- there is no clash exactly where plain scoping of the names of the unit reads each reference as its number says
+abbrev pub SaysClash : Bool → UnitView → Type 0
+SaysClash clash u = (clash ≡ false) ↔ IsFaithful u
+
+-- the value of a unit to which the bundle's modules link, and whether its names clash
+abbrev pub IsAnswerOf : Bundle → Bool → Data → Type 0
+IsAnswerOf b clash unit = (u : UnitView) × LinksTo b u × SaysClash clash u × (unit ≡ unit_value u)
+
+-- the bytes are a bundle's that is linked, and the line says whether the names of its linked unit clash, and has the written
+-- form of this unit
 abbrev pub IsAnswerLine : List ℕ → Text → Type 0
-IsAnswerLine bytes line = (d : Data) × (b : Bundle) × (u : UnitView) × IsJsonOf bytes d × (bundle_of d ≡ Some b) × LinksTo b u × (line ≡ line_of (answer_value (unit_value u)))
+IsAnswerLine bytes line =
+    (d : Data) × (b : Bundle) × (clash : Bool) × (unit : Data)
+    × IsJsonOf bytes d × (bundle_of d ≡ Some b) × IsAnswerOf b clash unit × (line ≡ line_of (answer_value clash unit))

@@ -8,17 +8,26 @@ use crate::text_line::text_line;
 use serde_json::{Value, json};
 use std::alloc::{AllocError, Global};
 
-/// The line of a linked unit.
-pub fn answer_line(alloc: Global, unit: Value) -> Result<String, AllocError>
-    requires { has_float (view unit) ≡ false }
-    ensures { IfOk result (λ s. string_bytes s ≡ line_of (answer_value (view unit))) }
+/// What is answered of a linked unit.
+#[derive(Drop)]
+pub struct Answer {
+    /// Whether the names of the unit clash.
+    pub clash: bool,
+    /// The unit as a tree.
+    pub unit: Value,
+}
+
+/// The line of an answer.
+pub fn answer_line(alloc: Global, answer: Answer) -> Result<String, AllocError>
+    requires { has_float (view answer.unit) ≡ false }
+    ensures { IfOk result (λ s. string_bytes s ≡ line_of (answer_value answer.clash (view answer.unit))) }
 {
-    let answer = answer_object(alloc, unit)?;
+    let answer = answer_object(alloc, answer)?;
     text_line(alloc, &answer)
 }
 
-fn answer_object(alloc: Global, unit: Value) -> Result<Value, AllocError>
-    ensures { IfOk result (λ v. view v ≡ answer_value (view unit)) }
+fn answer_object(alloc: Global, answer: Answer) -> Result<Value, AllocError>
+    ensures { IfOk result (λ v. view v ≡ answer_value answer.clash (view answer.unit)) }
 {
-    json!(in alloc; {"unit": unit})
+    json!(in alloc; {"clash": answer.clash, "unit": answer.unit})
 }

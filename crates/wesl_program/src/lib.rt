@@ -13,7 +13,7 @@ mod stored_text;
 mod streams;
 mod text_line;
 
-pub use answer::answer_line;
+pub use answer::{Answer, answer_line};
 pub use bundle_value::value_of_bytes;
 pub use lines::{Line, memory_line, refusal};
 pub use linking::linked;

@@ -1,29 +1,29 @@
-//! From a bundle to the value of its linked unit.
+//! From a bundle to what is answered of its linked unit.
 ghost use Rattle.std.specs.Prelude.{◌≡◌, map, false, string_bytes, IfOk, IfErr, OnOk};
 ghost use Rattle.wesl_names.specs.Borrowed.{texts};
 ghost use Rattle.serde_json.specs.View.{view};
 ghost use Rattle.serde_json.specs.Written.{has_float};
 ghost use Rattle.wesl_names.specs.Path.{path_view, is_relative};
 ghost use Rattle.wesl_names.specs.declared.errors.Error as error;
-ghost use Rattle.wesl_syntax.specs.Unit.{UnitView};
 ghost use Rattle.wesl_tree.specs.Translation.{unit_view};
-ghost use Rattle.wesl_form.specs.Units.{unit_value};
 ghost use Rattle.wesl_bundle.specs.PackageViews.{packages_view};
 ghost use Rattle.wesl_bundle.specs.Views.{bundle_view, module_view};
 ghost use Rattle.wesl_link.specs.Keeping.{IsSound, resolved};
 ghost use Rattle.wesl_linker.specs.Resolved.{IsMangled, AssemblesTo, Resolved};
+ghost use Rattle.wesl_program.specs.Line.{IsAnswerOf};
 ghost use Rattle.wesl_program.specs.Linking.{LinksTo, named_by};
 ghost use Rattle.wesl_program.specs.PackageTexts.{ArePackagesOf};
 ghost use Rattle.wesl_program.specs.Holds.{Holds};
 ghost use Rattle.wesl_program.specs.Refused.{IsLinkFault};
 
+use crate::answer::Answer;
 use crate::bundle_resolver::BundleResolver;
 use crate::modules::Modules;
 use crate::packages::package_of;
 use crate::stored_text::StoredText;
-use serde_json::Value;
 use std::alloc::{AllocError, Global};
 use wesl_bundle::{Bundle, BundleModule, Naming, Options, Package};
+use wesl_clash::names_clash;
 use wesl_conditional::link_under;
 use wesl_json::value_of_unit;
 use wesl_link::Resolutions;
@@ -34,15 +34,17 @@ use wesl_tree::{Error, TranslationUnit};
 // The modules of a bundle, and its packages.
 type Sources<'b, 'v> = StandardResolver<BundleResolver<'b, 'v>, StoredText>;
 
-/// The value of the unit that is linked of a bundle's modules.
-pub fn linked(alloc: Global, bundle: Bundle) -> Result<Value, Error>
+/// The value of the unit that is linked of a bundle's modules, and whether its names clash.
+pub fn linked(alloc: Global, bundle: Bundle) -> Result<Answer, Error>
     requires fixed { is_relative (path_view bundle.root) ≡ false }
-    ensures linked { IfOk result (λ v. (u : UnitView) × LinksTo (bundle_view bundle.entry) u × (view v ≡ unit_value u)) }
-    ensures whole { IfOk result (λ v. has_float (view v) ≡ false) }
+    ensures linked { IfOk result (λ a. IsAnswerOf (bundle_view bundle.entry) a.clash (view a.unit)) }
+    ensures whole { IfOk result (λ a. has_float (view a.unit) ≡ false) }
     ensures refused { IfErr result (IsLinkFault (bundle_view bundle.entry)) }
 {
     let unit = linked_unit(alloc, bundle)?;
-    value_of_unit(alloc, &unit)
+    let clash = names_clash(alloc, &unit)?;
+    let value = value_of_unit(alloc, &unit)?;
+    Ok(Answer { clash, unit: value })
 }
 
 /// The root is handed out as each other module is, and each is linked as the bundle's features leave it. Of the other
