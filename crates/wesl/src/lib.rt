@@ -10,7 +10,7 @@ pub use wesl_clone::TryClone;
 pub use wesl_cond::{Feature, Features, eval_attr};
 pub use wesl_conditional::link_under;
 pub use wesl_json::{unit_of_value, value_of_unit};
-pub use wesl_link::{Resolutions, Resolver, resolve_lazy};
+pub use wesl_link::{Resolutions, Resolver, resolve_eager, resolve_lazy};
 pub use wesl_mangle::{
     CacheMangler, EscapeMangler, HashMangler, Mangler, NoMangler, PathHash, UnicodeMangler,
 };

@@ -1,5 +1,5 @@
 -- A link over relations that mean the same.
-use Rattle.std.proofs.Common.{◌≡◌, ◌⊎◌, ◌↔◌, Option, ℕ, List, false, Result, Ok, Err, IfOk, inl, inr, ⊎_elim}
+use Rattle.std.proofs.Common.{◌≡◌, ◌⊎◌, ◌↔◌, Option, ℕ, Bool, List, Result, Ok, Err, IfOk, inl, inr, ⊎_elim}
 use Rattle.wesl_names.specs.Path.{Text, Path}
 use Rattle.wesl_names.specs.declared.errors.Error as error
 use Rattle.wesl_names.specs.declared.errors.ImportError as import_error
@@ -16,7 +16,7 @@ use Rattle.wesl_world.specs.World.{Task}
 use Rattle.wesl_world.specs.Faults.{Fault, duplicate, refused, missing, private, too_many, Stands}
 use Rattle.wesl_names.specs.Errors.{OrMemory}
 use Rattle.wesl_linker.specs.Worlds.{Module, tables, task_of, IsWorld, IsLinked, IsRefused}
-use Rattle.wesl_conditional.specs.Linking.{Links, RefusesLink, hands_left, refuses_left}
+use Rattle.wesl_conditional.specs.Linking.{Links, RefusesLink, kept_names, hands_left, refuses_left}
 use Rattle.wesl_linker.specs.Refusal.{TellsOfImport, TellsOf}
 
 stands-over : (refuses others : Path → ResolveError → Type 0) → ((p : Path) (e : ResolveError) → refuses p e → others p e) → (task : Task Path Text) (limit : ℕ) (ts : List (Table Path Text)) (fault : Fault Path Text ResolveError) → Stands refuses task limit ts fault → Stands others task limit ts fault
@@ -65,12 +65,12 @@ module _ (hands hands2 : Path → UnitOf Text → Type 0) (refuses refuses2 : Pa
   or-memory-over p e (inl h) = inl h
   or-memory-over p e (inr h) = inr (alike.on p e h)
 
-  pub links-over : (p : Path) (keep : List Text) (limit turns : ℕ) (w : List Module) → Links hands refuses p keep limit turns w → Links hands2 refuses2 p keep limit turns w
-  links-over p keep limit turns w (root, at_root, linked, order) = (root, (at_root.0, alike.to p root.unit at_root.1), linked-over root (task_of root keep false) limit turns w linked, order)
+  pub links-over : (p : Path) (keep : List Text) (is_eager : Bool) (limit turns : ℕ) (w : List Module) → Links hands refuses p keep is_eager limit turns w → Links hands2 refuses2 p keep is_eager limit turns w
+  links-over p keep is_eager limit turns w (root, at_root, linked, order) = (root, (at_root.0, alike.to p root.unit at_root.1), linked-over root (task_of root (kept_names is_eager keep) is_eager) limit turns w linked, order)
 
-  pub refuses-over : (p : Path) (keep : List Text) (limit : ℕ) (e : error.Error) → RefusesLink hands refuses p keep limit e → RefusesLink hands2 refuses2 p keep limit e
-  refuses-over p keep limit e (inl h) = inl (h.0, or-memory-over p h.0 h.1, h.2)
-  refuses-over p keep limit e (inr h) = inr (h.0, (h.1.0, alike.to p h.0.unit h.1.1), refused-over h.0 (task_of h.0 keep false) limit e h.2)
+  pub refuses-over : (p : Path) (keep : List Text) (is_eager : Bool) (limit : ℕ) (e : error.Error) → RefusesLink hands refuses p keep is_eager limit e → RefusesLink hands2 refuses2 p keep is_eager limit e
+  refuses-over p keep is_eager limit e (inl h) = inl (h.0, or-memory-over p h.0 h.1, h.2)
+  refuses-over p keep is_eager limit e (inr h) = inr (h.0, (h.1.0, alike.to p h.0.unit h.1.1), refused-over h.0 (task_of h.0 (kept_names is_eager keep) is_eager) limit e h.2)
 
 pub both-ok : {T E : Type 0} (r : Result T E) (P Q R : T → Type 0) → ((x : T) → P x → Q x → R x) → IfOk r P → IfOk r Q → IfOk r R
 both-ok (Ok x) P Q R f h k = f x h k

@@ -1,5 +1,5 @@
 -- What a link promises whose root is handed out as every other module is.
-use Rattle.std.specs.Prelude.{◌≡◌, ◌⊎◌, ℕ, List, Option, false}
+use Rattle.std.specs.Prelude.{◌≡◌, ◌⊎◌, ℕ, Bool, true, false, List, [], Option}
 use Rattle.wesl_names.specs.Path.{Text, Path}
 use Rattle.wesl_names.specs.Errors.{OrMemory, error_of_resolve}
 use Rattle.wesl_names.specs.declared.errors.Error as error
@@ -10,20 +10,25 @@ use Rattle.wesl_linker.specs.Worlds.{Module, task_of, IsLinked, IsRefused, IsMod
 use Rattle.wesl_linker.specs.Refusal.{TellsOf}
 use Rattle.wesl_conditional.specs.Conditions.{HandsLeft, RefusesLeft}
 
+-- the names that are kept: none where all that is declared is asked for
+abbrev pub kept_names : Bool → List Text → List Text
+kept_names true keep = []
+kept_names false keep = keep
+
 module _ (hands : Path → UnitOf Text → Type 0) (refuses : Path → ResolveError → Type 0) where
   -- the root's unit is handed out at its path
   abbrev pub IsRoot : Path → Module → Type 0
   IsRoot p root = (root.path ≡ p) × hands p root.unit
 
-  -- a link from such a root, in module order
-  abbrev pub Links : Path → List Text → ℕ → ℕ → List Module → Type 0
-  Links p keep limit turns w = (root : Module) × IsRoot p root × IsLinked hands refuses root (task_of root keep false) limit turns w × IsModuleOrder root w
+  -- a link from such a root, from the names that are kept or from all that is declared, in module order
+  abbrev pub Links : Path → List Text → Bool → ℕ → ℕ → List Module → Type 0
+  Links p keep is_eager limit turns w = (root : Module) × IsRoot p root × IsLinked hands refuses root (task_of root (kept_names is_eager keep) is_eager) limit turns w × IsModuleOrder root w
 
   -- the root is refused, or a link from it is
-  abbrev pub RefusesLink : Path → List Text → ℕ → error.Error → Type 0
-  RefusesLink p keep limit e =
+  abbrev pub RefusesLink : Path → List Text → Bool → ℕ → error.Error → Type 0
+  RefusesLink p keep is_eager limit e =
       ((fault : ResolveError) × OrMemory (refuses p) fault × (e ≡ error_of_resolve fault))
-      ⊎ ((root : Module) × IsRoot p root × TellsOf (IsRefused hands refuses root (task_of root keep false) limit) e)
+      ⊎ ((root : Module) × IsRoot p root × TellsOf (IsRefused hands refuses root (task_of root (kept_names is_eager keep) is_eager) limit) e)
 
 module _ (hands : Path → UnitOf Text → Type 0) (refuses : Path → ResolveError → Type 0) (features : Option Features) where
   -- what is left of the units that are handed out

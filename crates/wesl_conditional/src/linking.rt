@@ -6,25 +6,29 @@ ghost use Rattle.wesl_names.specs.Borrowed.{texts};
 ghost use Rattle.wesl_names.specs.Path.{Text, Path, path_view, is_relative};
 ghost use Rattle.wesl_names.specs.declared.errors.Diagnostic.{out-Diagnostic};
 ghost use Rattle.wesl_conditional.specs.Conditions.{IsConditioned};
-ghost use Rattle.wesl_conditional.specs.Linking.{Links, RefusesLink, hands_left, refuses_left};
+ghost use Rattle.wesl_conditional.specs.Linking.{Links, RefusesLink, kept_names, hands_left, refuses_left};
+ghost use Rattle.wesl_linker.specs.Refusal.{TellsOf};
+ghost use Rattle.wesl_linker.specs.Resolved.{module_at};
+ghost use Rattle.wesl_linker.specs.Worlds as worlds;
 ghost use Rattle.wesl_link.specs.Keeping.{IsSound, resolved, modules_of, turns_of};
 
 use crate::units::condition;
 use std::alloc::Global;
 use wesl_cond::Features;
-use wesl_link::{Resolutions, resolve_lazy};
+use wesl_link::{Resolutions, resolve_eager, resolve_lazy};
 use wesl_resolve::{Preprocessor, Resolver};
 use wesl_tree::{Diagnostic, Error, ModulePath, TranslationUnit};
 
 /// Links the module at `path` with the modules that the names in `keep` and the const_asserts reach, and no others, each as
 /// the features leave it, the root too (WESL, "ConditionalTranslation" and "Imports"). Without features no condition is
-/// judged.
+/// judged. With `is_eager` all that the modules declare is asked for, and `keep` counts for nothing.
 ///
 /// Refused where the resolver refuses a path, where a fault of a condition stands in a unit, where a link is refused, and
 /// for want of memory.
 pub fn link_under<R: Resolver + Drop>(
     alloc: Global,
     keep: &[&str],
+    is_eager: bool,
     path: &ModulePath,
     resolver: R,
     features: &Option<Features>,
@@ -32,22 +36,33 @@ pub fn link_under<R: Resolver + Drop>(
 ) -> Result<Resolutions, Diagnostic>
     requires ready { R.ready resolver }
     requires asked { is_relative (path_view path.now) ≡ false }
-    ensures linked { IfOk result (λ r. Links (hands_left (λ p u. R.hands resolver p u) (λ p e. R.refuses resolver p e) features.now) (refuses_left (λ p u. R.hands resolver p u) (λ p e. R.refuses resolver p e) features.now) (path_view path.now) (texts keep.now) max_modules (turns_of r) (modules_of r)) }
-    ensures kept { IfOk result (λ r. (resolved r).kept ≡ texts keep.now) }
+    ensures linked { IfOk result (λ r. Links (hands_left (λ p u. R.hands resolver p u) (λ p e. R.refuses resolver p e) features.now) (refuses_left (λ p u. R.hands resolver p u) (λ p e. R.refuses resolver p e) features.now) (path_view path.now) (texts keep.now) is_eager max_modules (turns_of r) (modules_of r)) }
+    ensures kept { IfOk result (λ r. (resolved r).kept ≡ kept_names is_eager (texts keep.now)) }
+    ensures eager { IfOk result (λ r. (resolved r).is_eager ≡ is_eager) }
     ensures names { IfOk result (λ r. (p : Path) (n : Text) → (resolved r).names p n ≡ n) }
     ensures sound { IfOk result IsSound }
-    ensures refused { IfErr result (λ d. RefusesLink (hands_left (λ p u. R.hands resolver p u) (λ p e. R.refuses resolver p e) features.now) (refuses_left (λ p u. R.hands resolver p u) (λ p e. R.refuses resolver p e) features.now) (path_view path.now) (texts keep.now) max_modules (out-Diagnostic d).error) }
+    ensures refused { IfErr result (λ d. RefusesLink (hands_left (λ p u. R.hands resolver p u) (λ p e. R.refuses resolver p e) features.now) (refuses_left (λ p u. R.hands resolver p u) (λ p e. R.refuses resolver p e) features.now) (path_view path.now) (texts keep.now) is_eager max_modules (out-Diagnostic d).error) }
 {
     let judge = |unit: TranslationUnit|
         ensures { IsConditioned features.entry.now unit result }
     { condition(alloc, unit, features) };
-    link_judged(alloc, keep, path, resolver, judge, features, max_modules)
+    link_judged(
+        alloc,
+        keep,
+        is_eager,
+        path,
+        resolver,
+        judge,
+        features,
+        max_modules,
+    )
 }
 
 // Links what a function leaves of the units that are handed out.
 fn link_judged<R: Resolver + Drop, F: Fn(TranslationUnit) -> Result<TranslationUnit, Error> + Drop>(
     alloc: Global,
     keep: &[&str],
+    is_eager: bool,
     path: &ModulePath,
     resolver: R,
     judge: F,
@@ -58,35 +73,65 @@ fn link_judged<R: Resolver + Drop, F: Fn(TranslationUnit) -> Result<TranslationU
     requires asked { is_relative (path_view path.now) ≡ false }
     requires callable { F.IsAlwaysCallable judge }
     requires judges { (given : TranslationUnit) (answer : Result TranslationUnit error.Error) → F.post judge given answer ↔ IsConditioned features.now given answer }
-    ensures linked { IfOk result (λ r. Links (hands_left (λ p u. R.hands resolver p u) (λ p e. R.refuses resolver p e) features.now) (refuses_left (λ p u. R.hands resolver p u) (λ p e. R.refuses resolver p e) features.now) (path_view path.now) (texts keep.now) max_modules (turns_of r) (modules_of r)) }
-    ensures kept { IfOk result (λ r. (resolved r).kept ≡ texts keep.now) }
+    ensures linked { IfOk result (λ r. Links (hands_left (λ p u. R.hands resolver p u) (λ p e. R.refuses resolver p e) features.now) (refuses_left (λ p u. R.hands resolver p u) (λ p e. R.refuses resolver p e) features.now) (path_view path.now) (texts keep.now) is_eager max_modules (turns_of r) (modules_of r)) }
+    ensures kept { IfOk result (λ r. (resolved r).kept ≡ kept_names is_eager (texts keep.now)) }
+    ensures eager { IfOk result (λ r. (resolved r).is_eager ≡ is_eager) }
     ensures names { IfOk result (λ r. (p : Path) (n : Text) → (resolved r).names p n ≡ n) }
     ensures sound { IfOk result IsSound }
-    ensures refused { IfErr result (λ d. RefusesLink (hands_left (λ p u. R.hands resolver p u) (λ p e. R.refuses resolver p e) features.now) (refuses_left (λ p u. R.hands resolver p u) (λ p e. R.refuses resolver p e) features.now) (path_view path.now) (texts keep.now) max_modules (out-Diagnostic d).error) }
+    ensures refused { IfErr result (λ d. RefusesLink (hands_left (λ p u. R.hands resolver p u) (λ p e. R.refuses resolver p e) features.now) (refuses_left (λ p u. R.hands resolver p u) (λ p e. R.refuses resolver p e) features.now) (path_view path.now) (texts keep.now) is_eager max_modules (out-Diagnostic d).error) }
 {
     let judged = Preprocessor::new(resolver, judge);
-    link_from(alloc, keep, path, judged, max_modules)
+    link_from(alloc, keep, is_eager, path, judged, max_modules)
 }
 
 // Links the module at a path, which the resolver hands out as every other.
 fn link_from<R: Resolver + Drop>(
     alloc: Global,
     keep: &[&str],
+    is_eager: bool,
     path: &ModulePath,
     resolver: R,
     max_modules: usize,
 ) -> Result<Resolutions, Diagnostic>
     requires ready { R.ready resolver }
     requires asked { is_relative (path_view path.now) ≡ false }
-    ensures linked { IfOk result (λ r. Links (λ p u. R.hands resolver p u) (λ p e. R.refuses resolver p e) (path_view path.now) (texts keep.now) max_modules (turns_of r) (modules_of r)) }
-    ensures kept { IfOk result (λ r. (resolved r).kept ≡ texts keep.now) }
+    ensures linked { IfOk result (λ r. Links (λ p u. R.hands resolver p u) (λ p e. R.refuses resolver p e) (path_view path.now) (texts keep.now) is_eager max_modules (turns_of r) (modules_of r)) }
+    ensures kept { IfOk result (λ r. (resolved r).kept ≡ kept_names is_eager (texts keep.now)) }
+    ensures eager { IfOk result (λ r. (resolved r).is_eager ≡ is_eager) }
     ensures names { IfOk result (λ r. (p : Path) (n : Text) → (resolved r).names p n ≡ n) }
     ensures sound { IfOk result IsSound }
-    ensures refused { IfErr result (λ d. RefusesLink (λ p u. R.hands resolver p u) (λ p e. R.refuses resolver p e) (path_view path.now) (texts keep.now) max_modules (out-Diagnostic d).error) }
+    ensures refused { IfErr result (λ d. RefusesLink (λ p u. R.hands resolver p u) (λ p e. R.refuses resolver p e) (path_view path.now) (texts keep.now) is_eager max_modules (out-Diagnostic d).error) }
 {
     let mut resolver = resolver;
     match resolver.resolve_module(alloc, path) {
-        Ok(unit) => resolve_lazy(alloc, keep, unit, path, &mut resolver, max_modules),
+        Ok(unit) => link_unit(alloc, keep, is_eager, unit, path, resolver, max_modules),
         Err(fault) => Err(Diagnostic::of(Error::of_resolve(fault))),
     }
+}
+
+// Links a root: what its kept names reach, or all that is declared.
+fn link_unit<R: Resolver + Drop>(
+    alloc: Global,
+    keep: &[&str],
+    is_eager: bool,
+    unit: TranslationUnit,
+    path: &ModulePath,
+    resolver: R,
+    max_modules: usize,
+) -> Result<Resolutions, Diagnostic>
+    requires ready { R.ready resolver }
+    requires asked { is_relative (path_view path.now) ≡ false }
+    ensures linked { let root = module_at path.now unit in IfOk result (λ r. worlds.IsLinked (R.hands resolver) (R.refuses resolver) root (worlds.task_of root (kept_names is_eager (texts keep.now)) is_eager) max_modules (turns_of r) (modules_of r)) }
+    ensures order { IfOk result (λ r. worlds.IsModuleOrder (module_at path.now unit) (modules_of r)) }
+    ensures kept { IfOk result (λ r. (resolved r).kept ≡ kept_names is_eager (texts keep.now)) }
+    ensures eager { IfOk result (λ r. (resolved r).is_eager ≡ is_eager) }
+    ensures names { IfOk result (λ r. (p : Path) (n : Text) → (resolved r).names p n ≡ n) }
+    ensures sound { IfOk result IsSound }
+    ensures refused { let root = module_at path.now unit in IfErr result (λ d. TellsOf (worlds.IsRefused (R.hands resolver) (R.refuses resolver) root (worlds.task_of root (kept_names is_eager (texts keep.now)) is_eager) max_modules) (out-Diagnostic d).error) }
+{
+    let mut resolver = resolver;
+    if is_eager {
+        return resolve_eager(alloc, unit, path, &mut resolver, max_modules);
+    }
+    resolve_lazy(alloc, keep, unit, path, &mut resolver, max_modules)
 }

@@ -5,5 +5,6 @@ mod resolutions;
 mod resolve;
 
 pub use resolutions::Resolutions;
-pub use resolve::resolve_lazy;
+pub use resolve::{resolve_eager, resolve_lazy};
+pub use wesl_linker::{law_of_eager_links, law_of_links};
 pub use wesl_resolve::Resolver;

@@ -1,9 +1,10 @@
 //! What a link found: its modules, what they declare that is reached, and the names that these print as.
-ghost use Rattle.std.specs.Prelude.{◌≡◌, IsTrue, OnOk, OnErr, IfOk, IfErr, option_map};
+ghost use Rattle.std.specs.Prelude.{◌≡◌, ◌⊎◌, true, IsTrue, OnOk, OnErr, IfOk, IfErr, option_map};
 ghost use Rattle.wesl_names.specs.declared.errors.Error as error;
-ghost use Rattle.wesl_names.specs.Path.{path_view};
+ghost use Rattle.wesl_names.specs.Path.{Text, Path, path_view};
 ghost use Rattle.wesl_tree.specs.Translation.{unit_view};
-ghost use Rattle.wesl_linker.specs.Resolved.{paths_of, paths_told, first_path, IsNothing, IsMangled, AssemblesTo};
+ghost use Rattle.wesl_naming.specs.Recorded.{IsRecordedBy};
+ghost use Rattle.wesl_linker.specs.Resolved.{paths_of, paths_told, first_path, IsNothing, IsMangled, AssemblesTo, writes};
 ghost use Rattle.wesl_link.specs.Keeping.{IsSound, resolved, modules_of, turns_of};
 
 use std::alloc::Global;
@@ -49,6 +50,13 @@ impl Resolutions {
         self.found.module_order(alloc)
     }
 
+    /// Whether all that the modules declare was asked for, as `resolve_eager` does.
+    pub fn is_eager(&self) -> bool
+        ensures { result ≡ (resolved self.now).is_eager }
+    {
+        self.found.is_eager()
+    }
+
     /// How many modules were loaded and symbols reached.
     pub fn turns(&self) -> usize
         ensures { result ≡ turns_of self.now }
@@ -57,7 +65,8 @@ impl Resolutions {
     }
 
     /// Gives each declared name of each module the name that the mangler has for it, the root's only with
-    /// `mangle_root` (WESL, "NameMangling"). Refused for want of memory alone, and then the names are as before.
+    /// `mangle_root` (WESL, "NameMangling"). The mangler writes each of these names once, in module order. Refused for want
+    /// of memory alone, and then the names are as before.
     pub fn mangle<M: Mangler>(
         &mut self,
         alloc: Global,
@@ -67,6 +76,8 @@ impl Resolutions {
         requires sound { IsSound self.old }
         ensures sound { IsSound self.new }
         ensures mangled { OnOk result (IsMangled (M.name_of mangler.old) mangle_root (resolved self.old) (resolved self.new)) }
+        ensures recorded { OnOk result (IsRecordedBy M.writes (writes (M.name_of mangler.old) mangle_root (modules_of self.old)) (M.recorded mangler.old) (M.recorded mangler.new)) }
+        ensures same { (p : Path) (x : Text) → M.name_of mangler.new p x ≡ M.name_of mangler.old p x }
         ensures unchanged { OnErr result (self.new ≡ self.old) }
         ensures refused { IfErr result (λ e. e ≡ error.Memory) }
     {
@@ -75,10 +86,11 @@ impl Resolutions {
 
     /// The linked unit: the root's directives and held declarations first, then those of the other modules in path
     /// order; of equal adjacent directives one stays. Held are the const_asserts of the modules and the declarations
-    /// of reached symbols. Refused for want of memory alone.
+    /// of reached symbols; of an eager link that is each that declares a name, and `strip` counts for nothing. Refused
+    /// for want of memory alone.
     pub fn assemble(&self, alloc: Global, strip: bool) -> Result<TranslationUnit, Error>
         requires sound { IsSound self.now }
-        requires stripped { IsTrue strip }
+        requires stripped { IsTrue strip ⊎ ((resolved self.now).is_eager ≡ true) }
         ensures assembled { IfOk result (λ unit. AssemblesTo (resolved self.now) (unit_view unit)) }
         ensures refused { IfErr result (λ e. e ≡ error.Memory) }
     {

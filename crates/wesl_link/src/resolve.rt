@@ -1,8 +1,10 @@
 //! Linking a root with the modules that it reaches.
-ghost use Rattle.std.specs.Prelude.{◌≡◌, false, IfOk, IfErr};
+ghost use Rattle.std.specs.Prelude.{◌≡◌, [], true, false, IfOk, IfErr};
+ghost use Rattle.wesl_names.specs.declared.errors.Error as error;
 ghost use Rattle.wesl_names.specs.declared.errors.Diagnostic.{out-Diagnostic};
 ghost use Rattle.wesl_names.specs.Borrowed.{texts};
 ghost use Rattle.wesl_names.specs.Path.{Text, Path, path_view, is_relative};
+ghost use Rattle.wesl_resolve.specs.Resolver.{MeansTheSame};
 ghost use Rattle.wesl_linker.specs.Refusal.{TellsOf};
 ghost use Rattle.wesl_linker.specs.Resolved.{module_at};
 ghost use Rattle.wesl_linker.specs.Worlds as worlds;
@@ -17,9 +19,9 @@ use wesl_tree::TranslationUnit;
 /// Links the root `unit`, which stands at `path`, with the modules that the names in `keep` and the const_asserts
 /// reach, and no others (WESL, "Imports").
 ///
-/// `resolver` hands out every module but the root; no more than `max_modules` are loaded, the root counted. Refused
-/// where a name has two targets, where the resolver refuses a path, where a look-up finds nothing or nothing that it
-/// may see, where there are more modules than may be, and for want of memory.
+/// `resolver` hands out every module but the root, and means afterwards what it meant; no more than `max_modules` are
+/// loaded, the root counted. Refused where a name has two targets, where the resolver refuses a path, where a look-up
+/// finds nothing or nothing that it may see, where there are more modules than may be, and for want of memory.
 pub fn resolve_lazy<R: Resolver>(
     alloc: Global,
     keep: &[&str],
@@ -33,12 +35,46 @@ pub fn resolve_lazy<R: Resolver>(
     ensures linked { let root = module_at path.now unit in IfOk result (λ r. worlds.IsLinked (R.hands resolver.old) (R.refuses resolver.old) root (worlds.task_of root (texts keep.now) false) max_modules (turns_of r) (modules_of r)) }
     ensures order { IfOk result (λ r. worlds.IsModuleOrder (module_at path.now unit) (modules_of r)) }
     ensures kept { IfOk result (λ r. (resolved r).kept ≡ texts keep.now) }
+    ensures lazy { IfOk result (λ r. (resolved r).is_eager ≡ false) }
     ensures sound { IfOk result IsSound }
     ensures names { IfOk result (λ r. (p : Path) (n : Text) → (resolved r).names p n ≡ n) }
     ensures refused { let root = module_at path.now unit in IfErr result (λ d. TellsOf (worlds.IsRefused (R.hands resolver.old) (R.refuses resolver.old) root (worlds.task_of root (texts keep.now) false) max_modules) (out-Diagnostic d).error) }
+    ensures succeeds { let root = module_at path.now unit in worlds.IsFaultless (R.hands resolver.old) (R.refuses resolver.old) root (worlds.task_of root (texts keep.now) false) max_modules → IfErr result (λ d. (out-Diagnostic d).error ≡ error.Memory) }
+    ensures same { MeansTheSame R.hands R.refuses R.source R.shown resolver.old resolver.new }
+    ensures stays_ready { R.ready resolver.new }
 {
     match wesl_linker::resolve_lazy(alloc, keep, unit, path, resolver, max_modules) {
         Ok(found) => Ok(Resolutions { found }),
+        Err(diagnostic) => Err(diagnostic),
+    }
+}
+
+/// Links the root `unit`, which stands at `path`, with the modules that it imports from, and those that they import from,
+/// and holds all that they declare (WESL, "Imports").
+///
+/// The resolver, the limit and the refusals are those of `resolve_lazy`.
+pub fn resolve_eager<R: Resolver>(
+    alloc: Global,
+    unit: TranslationUnit,
+    path: &ModulePath,
+    resolver: &mut R,
+    max_modules: usize,
+) -> Result<Resolutions, Diagnostic>
+    requires ready { R.ready resolver.old }
+    requires asked { is_relative (path_view path.now) ≡ false }
+    ensures linked { let root = module_at path.now unit in IfOk result (λ r. worlds.IsLinked (R.hands resolver.old) (R.refuses resolver.old) root (worlds.task_of root [] true) max_modules (turns_of r) (modules_of r)) }
+    ensures order { IfOk result (λ r. worlds.IsModuleOrder (module_at path.now unit) (modules_of r)) }
+    ensures kept { IfOk result (λ r. (resolved r).kept ≡ []) }
+    ensures eager { IfOk result (λ r. (resolved r).is_eager ≡ true) }
+    ensures sound { IfOk result IsSound }
+    ensures names { IfOk result (λ r. (p : Path) (n : Text) → (resolved r).names p n ≡ n) }
+    ensures refused { let root = module_at path.now unit in IfErr result (λ d. TellsOf (worlds.IsRefused (R.hands resolver.old) (R.refuses resolver.old) root (worlds.task_of root [] true) max_modules) (out-Diagnostic d).error) }
+    ensures succeeds { let root = module_at path.now unit in worlds.IsFaultless (R.hands resolver.old) (R.refuses resolver.old) root (worlds.task_of root [] true) max_modules → IfErr result (λ d. (out-Diagnostic d).error ≡ error.Memory) }
+    ensures same { MeansTheSame R.hands R.refuses R.source R.shown resolver.old resolver.new }
+    ensures stays_ready { R.ready resolver.new }
+{
+    match wesl_linker::resolve_eager(alloc, unit, path, resolver, max_modules) {
+        Ok(whole) => Ok(Resolutions { found: whole }),
         Err(diagnostic) => Err(diagnostic),
     }
 }

@@ -71,10 +71,10 @@ task_for b = record { root = b.root; kept = b.keep; is_eager = false }
 abbrev pub LinksTo : Bundle → UnitView → Type 0
 LinksTo b u =
     (k : Kept b) × (turns : ℕ) × (w : List worlds.Module) × (names : Path → Text → Text)
-    × Links (handed_left b k) (refused_left b k) b.root b.keep b.options.max_modules turns w
+    × Links (handed_left b k) (refused_left b k) b.root b.keep false b.options.max_modules turns w
     × NamesAgree w names (names_for b)
     × IsAssembled w (task_for b) names u
 
 -- such a link is refused with the error, which stands
 abbrev pub RefusesBundle : Bundle → error.Error → Type 0
-RefusesBundle b e = (k : Kept b) × RefusesLink (handed_left b k) (refused_left b k) b.root b.keep b.options.max_modules e
+RefusesBundle b e = (k : Kept b) × RefusesLink (handed_left b k) (refused_left b k) b.root b.keep false b.options.max_modules e

@@ -66,7 +66,8 @@ fn linked_unit(alloc: Global, bundle: Bundle) -> Result<TranslationUnit, Error>
     let units = modules_of(alloc, modules)?;
     let sources = sources_of(alloc, &units, packages)?;
     let keep = names(alloc, &keep)?;
-    match link_under(alloc, &keep, &root, sources, &features, options.max_modules) {
+    let limit = options.max_modules;
+    match link_under(alloc, &keep, false, &root, sources, &features, limit) {
         Ok(resolutions) => named_unit(alloc, resolutions, options),
         Err(diagnostic) => Err(diagnostic.error),
     }
@@ -120,8 +121,8 @@ fn named_unit(
 // The names of the modules' items become those of the mangler, the root's where the options say so.
 fn mangle(alloc: Global, resolutions: &mut Resolutions, options: Options) -> Result<(), Error>
     requires sound { IsSound resolutions.old }
-    ensures mangled { OnOk result (IsMangled (named_by options.mangler) options.mangle_root (resolved resolutions.old) (resolved resolutions.new)) }
     ensures sound { IsSound resolutions.new }
+    ensures mangled { OnOk result (IsMangled (named_by options.mangler) options.mangle_root (resolved resolutions.old) (resolved resolutions.new)) }
     ensures refused { IfErr result (λ e. e ≡ error.Memory) }
 {
     let root = options.mangle_root;

@@ -6,6 +6,7 @@ use Rattle.wesl_names.specs.Errors.{error_of_resolve}
 use Rattle.wesl_linker.specs.Resolved.{module_at}
 use Rattle.wesl_link.specs.Keeping.{modules_of, turns_of}
 use Rattle.wesl_linker.specs.Worlds.{task_of}
+use Rattle.wesl_conditional.specs.Linking.{kept_names}
 use Rattle.wesl_conditional.proofs.Along.{AreAlike, linked-over, refused-over, both-ok}
 use Rattle.wesl_conditional.proofs.linking.link_from.Goals as goal
 
@@ -15,9 +16,9 @@ returns-in-Ok-clause-linked g c =
     let root = module_at c.args.path.now c.in-Ok.unit in
     let alike : AreAlike (g.R.Resolver.hands new) (g.R.Resolver.hands c.args.resolver) (g.R.Resolver.refuses new) (g.R.Resolver.refuses c.args.resolver) =
     record { to = λ p u. (c.resolve_module.ensures.same.units p u).0; on = λ p e. (c.resolve_module.ensures.same.faults p e).0; back = λ p e. (c.resolve_module.ensures.same.faults p e).1 } in
-    both-ok c.resolve_lazy.result _ _ _
-    (λ r linked order. (root, (refl, c.in-Ok.ensures.handed), linked-over _ _ _ _ alike root (task_of root (texts c.args.keep.now) false) c.args.max_modules (turns_of r) (modules_of r) linked, order))
-    c.resolve_lazy.ensures.linked c.resolve_lazy.ensures.order
+    both-ok c.link_unit.result _ _ _
+    (λ r linked order. (root, (refl, c.in-Ok.ensures.handed), linked-over _ _ _ _ alike root (task_of root (kept_names c.args.is_eager (texts c.args.keep.now)) c.args.is_eager) c.args.max_modules (turns_of r) (modules_of r) linked, order))
+    c.link_unit.ensures.linked c.link_unit.ensures.order
 
 pub returns-in-Ok-clause-refused : goal.returns-in-Ok-clause-refused
 returns-in-Ok-clause-refused g c =
@@ -25,9 +26,9 @@ returns-in-Ok-clause-refused g c =
     let root = module_at c.args.path.now c.in-Ok.unit in
     let alike : AreAlike (g.R.Resolver.hands new) (g.R.Resolver.hands c.args.resolver) (g.R.Resolver.refuses new) (g.R.Resolver.refuses c.args.resolver) =
     record { to = λ p u. (c.resolve_module.ensures.same.units p u).0; on = λ p e. (c.resolve_module.ensures.same.faults p e).0; back = λ p e. (c.resolve_module.ensures.same.faults p e).1 } in
-    IfErr-weaker c.resolve_lazy.result _ _
-    (λ d h. inr (root, (refl, c.in-Ok.ensures.handed), refused-over _ _ _ _ alike root (task_of root (texts c.args.keep.now) false) c.args.max_modules d.error h))
-    c.resolve_lazy.ensures.refused
+    IfErr-weaker c.link_unit.result _ _
+    (λ d h. inr (root, (refl, c.in-Ok.ensures.handed), refused-over _ _ _ _ alike root (task_of root (kept_names c.args.is_eager (texts c.args.keep.now)) c.args.is_eager) c.args.max_modules d.error h))
+    c.link_unit.ensures.refused
 
 pub returns-clause-refused : goal.returns-clause-refused
 returns-clause-refused g c =

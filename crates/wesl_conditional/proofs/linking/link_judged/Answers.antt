@@ -19,7 +19,7 @@ returns-clause-linked g c =
     c.args.features.now (λ given answer. g.F.Fn.post c.new-judged.result.preprocess (given, tt) answer)
     (λ given answer. subst (λ f. g.F.Fn.post f (given, tt) answer ↔ IsConditioned c.args.features.now given answer) (sym stored) (c.requires.judges given answer)) in
     IfOk-weaker c.link_from.result _ _
-    (λ r h. links-over _ _ _ _ alike (path_view c.args.path.now) (texts c.args.keep.now) c.args.max_modules (turns_of r) (modules_of r) h)
+    (λ r h. links-over _ _ _ _ alike (path_view c.args.path.now) (texts c.args.keep.now) c.args.is_eager c.args.max_modules (turns_of r) (modules_of r) h)
     c.link_from.ensures.linked
 
 pub returns-clause-refused : goal.returns-clause-refused
@@ -34,5 +34,5 @@ returns-clause-refused g c =
     c.args.features.now (λ given answer. g.F.Fn.post c.new-judged.result.preprocess (given, tt) answer)
     (λ given answer. subst (λ f. g.F.Fn.post f (given, tt) answer ↔ IsConditioned c.args.features.now given answer) (sym stored) (c.requires.judges given answer)) in
     IfErr-weaker c.link_from.result _ _
-    (λ d h. refuses-over _ _ _ _ alike (path_view c.args.path.now) (texts c.args.keep.now) c.args.max_modules d.error h)
+    (λ d h. refuses-over _ _ _ _ alike (path_view c.args.path.now) (texts c.args.keep.now) c.args.is_eager c.args.max_modules d.error h)
     c.link_from.ensures.refused
