@@ -39,6 +39,13 @@ all3 mk (Some x) None c r h = cc
 all3 mk (Some x) (Some y) None r h = cc
 all3 mk (Some x) (Some y) (Some z) r h = ((x, refl), (y, refl), (z, refl))
 
+all4 : {A B C D R : Type 0} (mk : A → B → C → D → R) (a : Option A) (b : Option B) (c : Option C) (d : Option D) (r : R) → option_and_then (λ w. option_and_then (λ x. option_and_then (λ y. option_and_then (λ z. Some (mk w x y z)) d) c) b) a ≡ Some r → Given a × Given b × Given c × Given d
+all4 mk None b c d r h = cc
+all4 mk (Some w) None c d r h = cc
+all4 mk (Some w) (Some x) None d r h = cc
+all4 mk (Some w) (Some x) (Some y) None r h = cc
+all4 mk (Some w) (Some x) (Some y) (Some z) r h = ((w, refl), (x, refl), (y, refl), (z, refl))
+
 all6 : {A B C D E F R : Type 0} (mk : A → B → C → D → E → F → R) (a : Option A) (b : Option B) (c : Option C) (d : Option D) (e : Option E) (f : Option F) (r : R)
     → option_and_then (λ u. option_and_then (λ v. option_and_then (λ w. option_and_then (λ x. option_and_then (λ y. option_and_then (λ z. Some (mk u v w x y z)) f) e) d) c) b) a ≡ Some r
     → Given a × Given b × Given c × Given d × Given e × Given f
@@ -70,8 +77,8 @@ flag-before name answer fs = (record { named = name; answer = answer }) ∷ fs
 abbrev made-module : Path → Data → spec.Module
 made-module path unit = record { path = path; unit = unit }
 
-abbrev made-options : Naming → Bool → ℕ → spec.Options
-made-options mangler root limit = record { mangler = mangler; mangle_root = root; max_modules = limit }
+abbrev made-options : Naming → Bool → Bool → ℕ → spec.Options
+made-options mangler root eager limit = record { mangler = mangler; mangle_root = root; eager = eager; max_modules = limit }
 
 abbrev made-features : Feature → List Flag → Features
 made-features default flags = record { default = default; flags = flags }
@@ -162,12 +169,13 @@ module-object d h =
     let parts = all2 made-module (required_in path_in (codes "path") d) (get (codes "unit") d) h.0 known.1 in
     (known.0, (needed path_in (codes "path") a_path (λ e x. x) (get (codes "path") d) parts.0, (there (codes "unit") (get (codes "unit") d) parts.1, tt)))
 
-options-parts : (d : Data) → Given (spec.options_in d) → IsFieldRead (optional (codes "mangler") a_mangler) (get (codes "mangler") d) × IsFieldRead (optional (codes "mangle_root") a_truth) (get (codes "mangle_root") d) × IsFieldRead (optional (codes "max_modules") a_limit) (get (codes "max_modules") d)
+options-parts : (d : Data) → Given (spec.options_in d) → IsFieldRead (optional (codes "mangler") a_mangler) (get (codes "mangler") d) × IsFieldRead (optional (codes "mangle_root") a_truth) (get (codes "mangle_root") d) × IsFieldRead (optional (codes "eager") a_truth) (get (codes "eager") d) × IsFieldRead (optional (codes "max_modules") a_limit) (get (codes "max_modules") d)
 options-parts d h =
-    let parts = all3 made-options (or_default naming.Escape spec.naming_in (get (codes "mangler") d)) (or_default false as_bool (get (codes "mangle_root") d)) (or_default 1000 spec.limit_in (get (codes "max_modules") d)) h.0 h.1 in (
+    let parts = all4 made-options (or_default naming.Escape spec.naming_in (get (codes "mangler") d)) (or_default false as_bool (get (codes "mangle_root") d)) (or_default false as_bool (get (codes "eager") d)) (or_default 1000 spec.limit_in (get (codes "max_modules") d)) h.0 h.1 in (
       may (or_default naming.Escape spec.naming_in) (codes "mangler") a_mangler (λ e x. x) (get (codes "mangler") d) parts.0,
       may (or_default false as_bool) (codes "mangle_root") a_truth (λ e x. x) (get (codes "mangle_root") d) parts.1,
-      may (or_default 1000 spec.limit_in) (codes "max_modules") a_limit (λ e x. x) (get (codes "max_modules") d) parts.2,
+      may (or_default false as_bool) (codes "eager") a_truth (λ e x. x) (get (codes "eager") d) parts.2,
+      may (or_default 1000 spec.limit_in) (codes "max_modules") a_limit (λ e x. x) (get (codes "max_modules") d) parts.3,
     )
 
 features-object : (d : Data) → Given (features_in d) → IsObjectRead some_features d
@@ -222,7 +230,7 @@ bundle-object d h =
     let modules = may (or_empty spec.module_in) (codes "modules") (a_list_of a_module) (λ e x. list-read spec.module_in a_module (λ e y. y) e x) (get (codes "modules") d) parts.2 in
     let packages = may (or_default said.no_packages said.packages_in) (codes "packages") (a_list_of a_package) (λ e x. list-read said.package_in a_package (λ e y. y) e (packages-listed e x.0 x.1)) (get (codes "packages") d) parts.3 in
     let features = may (optional_in features_in) (codes "features") some_features (λ e x. map_given Some (features_in e) x.0 x.1) (get (codes "features") d) parts.4 in
-    (known.0, (root, (keep, (modules, (packages, (features, (options.0, (options.1, (options.2, tt)))))))))
+    (known.0, (root, (keep, (modules, (packages, (features, (options.0, (options.1, (options.2, (options.3, tt))))))))))
 
 fields-read : (g : Form) (d : Data) → HasReading g d → AreFieldsRead (fields g) d
 fields-read a_bundle d h = (bundle-object d h).1

@@ -89,5 +89,5 @@ features-read d default flags known is_default are_flags = rw (known, is_default
 pub bundle-read : (d : Data) (root : Path) (keep : List Text) (modules : List Module) (packages : Packages) (features : Option Features) (options : Options) → has_only bundle_keys d ≡ true → required_in path_in (codes "root") d ≡ Some root → or_empty name_in (get (codes "keep") d) ≡ Some keep → or_empty module_in (get (codes "modules") d) ≡ Some modules → or_default no_packages packages_in (get (codes "packages") d) ≡ Some packages → optional_in features_in (get (codes "features") d) ≡ Some features → options_in d ≡ Some options → bundle_in d ≡ Some (record { root = root; keep = keep; modules = modules; packages = packages; features = features; options = options })
 bundle-read d root keep modules packages features options known is_root is_keep is_modules are_packages are_features are_options = rw (known, is_root, is_keep, is_modules, are_packages, are_features, are_options) refl
 
-pub options-read : (d : Data) (mangler : Naming) (mangle_root : Bool) (max_modules : ℕ) → or_default naming.Escape naming_in (get (codes "mangler") d) ≡ Some mangler → or_default false as_bool (get (codes "mangle_root") d) ≡ Some mangle_root → or_default 1000 limit_in (get (codes "max_modules") d) ≡ Some max_modules → options_in d ≡ Some (record { mangler = mangler; mangle_root = mangle_root; max_modules = max_modules })
-options-read d mangler mangle_root max_modules is_mangler is_root is_max = rw (is_mangler, is_root, is_max) refl
+pub options-read : (d : Data) (mangler : Naming) (mangle_root eager : Bool) (max_modules : ℕ) → or_default naming.Escape naming_in (get (codes "mangler") d) ≡ Some mangler → or_default false as_bool (get (codes "mangle_root") d) ≡ Some mangle_root → or_default false as_bool (get (codes "eager") d) ≡ Some eager → or_default 1000 limit_in (get (codes "max_modules") d) ≡ Some max_modules → options_in d ≡ Some (record { mangler = mangler; mangle_root = mangle_root; eager = eager; max_modules = max_modules })
+options-read d mangler mangle_root eager max_modules is_mangler is_root is_eager is_max = rw (is_mangler, is_root, is_eager, is_max) refl

@@ -19,11 +19,12 @@ pub record Module : Type 0 where
   pub path : Path
   pub unit : Data
 
--- how modules are linked: how the names of their items are written, whether those of the root's items are too, and how
--- many modules may be loaded
+-- how modules are linked: how the names of their items are written, whether those of the root's items are too, whether
+-- every import is followed and every declaration is held, and how many modules may be loaded
 pub record Options : Type 0 where
   pub mangler : Naming
   pub mangle_root : Bool
+  pub eager : Bool
   pub max_modules : ℕ
 
 -- the path of the root, the names that are kept, the modules in order, where one path may stand twice, the packages, the
@@ -65,15 +66,16 @@ abbrev pub module_in : Data → Option Module
 module_in d = if has_only module_keys d then module_of_members d else None
 
 abbrev pub bundle_keys : List Text
-bundle_keys = codes "root" ∷ codes "keep" ∷ codes "modules" ∷ codes "packages" ∷ codes "features" ∷ codes "mangler" ∷ codes "mangle_root" ∷ codes "max_modules" ∷ []
+bundle_keys = codes "root" ∷ codes "keep" ∷ codes "modules" ∷ codes "packages" ∷ codes "features" ∷ codes "mangler" ∷ codes "mangle_root" ∷ codes "eager" ∷ codes "max_modules" ∷ []
 
--- the escape form, the root's names as they are, and a thousand modules, where nothing else is said
+-- the escape form, the root's names as they are, only what is reached, and a thousand modules, where nothing else is said
 abbrev pub options_in : Data → Option Options
 options_in d = do
   mangler ← or_default naming.Escape naming_in (get (codes "mangler") d)
   mangle_root ← or_default false as_bool (get (codes "mangle_root") d)
+  eager ← or_default false as_bool (get (codes "eager") d)
   max_modules ← or_default 1000 limit_in (get (codes "max_modules") d)
-  Some (record { mangler = mangler; mangle_root = mangle_root; max_modules = max_modules })
+  Some (record { mangler = mangler; mangle_root = mangle_root; eager = eager; max_modules = max_modules })
 
 abbrev pub bundle_of_members : Data → Option Bundle
 bundle_of_members d = do

@@ -27,7 +27,7 @@ abbrev pub features_view : Features → said.Features
 features_view f = record { default = f.default; flags = flags_view f.flags }
 
 abbrev pub options_view : Options → spec.Options
-options_view o = record { mangler = o.mangler; mangle_root = o.mangle_root; max_modules = o.max_modules }
+options_view o = record { mangler = o.mangler; mangle_root = o.mangle_root; eager = o.eager; max_modules = o.max_modules }
 
 abbrev pub bundle_view : Bundle → spec.Bundle
 bundle_view b = record { root = path_view b.root; keep = map string_bytes b.keep.items; modules = map module_view b.modules.items; packages = packages_view b.packages.items; features = option_map features_view b.features; options = options_view b.options }

@@ -72,6 +72,7 @@ fn read_members<'v>(alloc: Global, value: &'v Value) -> Result<Bundle<'v>, Bundl
         "features",
         "mangler",
         "mangle_root",
+        "eager",
         "max_modules",
     ];
     check_keys(alloc, value, &known)?;

@@ -31,6 +31,8 @@ pub struct Options {
     pub mangler: Naming,
     /// Whether the root's items are named so too.
     pub mangle_root: bool,
+    /// Whether every import is followed and every declaration is held.
+    pub eager: bool,
     /// How many modules may be loaded, the root counted.
     pub max_modules: usize,
 }
@@ -42,10 +44,12 @@ pub(crate) fn read_options(alloc: Global, value: &Value) -> Result<Options, Bund
 {
     let mangler = naming_member(alloc, value, "mangler")?;
     let mangle_root = truth_member(alloc, value, "mangle_root")?;
+    let eager = truth_member(alloc, value, "eager")?;
     let max_modules = limit_member(alloc, value, "max_modules")?;
     Ok(Options {
         mangler,
         mangle_root,
+        eager,
         max_modules,
     })
 }

@@ -163,8 +163,8 @@ module _ (hands : Path → UnitOf Text → Type 0) (refuses : Path → resolve_e
   link-is-of-modules p keep is_eager limit e (inr h) = standing-is-of-modules _ _ either h.0 _ limit e h.2
 
 -- a fault of a link of a bundle
-pub bundle-fault : (b : Bundle) (k : Kept b) (e : error.Error) → RefusesLink (handed_left b k) (refused_left b k) b.root b.keep false b.options.max_modules e → IsLinkFault b e
-bundle-fault b k e h = by (link-is-of-modules (handed b k) (refused b k) k.features (sources-are-of-modules k.units k.packages) b.root b.keep false b.options.max_modules e h)
+pub bundle-fault : (b : Bundle) (k : Kept b) (e : error.Error) → RefusesLink (handed_left b k) (refused_left b k) b.root b.keep b.options.eager b.options.max_modules e → IsLinkFault b e
+bundle-fault b k e h = by (link-is-of-modules (handed b k) (refused b k) k.features (sources-are-of-modules k.units k.packages) b.root b.keep b.options.eager b.options.max_modules e h)
   where
     by : IsModuleFault e → IsLinkFault b e
     by (inl is) = inl is

@@ -1,5 +1,5 @@
 -- What is linked of a bundle.
-use Rattle.std.specs.Prelude.{◌≡◌, ℕ, List, Option, option_map, false}
+use Rattle.std.specs.Prelude.{◌≡◌, ℕ, List, Option, option_map}
 use Rattle.serde_json.specs.Data.{Data}
 use Rattle.wesl_names.specs.Path.{Text, Path}
 use Rattle.wesl_names.specs.declared.errors.Error as error
@@ -14,7 +14,7 @@ use Rattle.wesl_resolve.specs.ByOrigin.{ByOrigin}
 use Rattle.wesl_resolve.specs.Packages.{IsReadIn, IsRefusedIn}
 use Rattle.wesl_resolve.specs.declared.packages.CodegenPkg.{CodegenPkg}
 use Rattle.wesl_json.specs.UnitTexts.{ReadsAs}
-use Rattle.wesl_conditional.specs.Linking.{Links, RefusesLink, hands_left, refuses_left}
+use Rattle.wesl_conditional.specs.Linking.{Links, RefusesLink, kept_names, hands_left, refuses_left}
 use Rattle.wesl_linker.specs.Worlds as worlds
 use Rattle.wesl_linker.specs.Linked.{IsAssembled}
 use Rattle.wesl_linker.specs.Resolved.{mangled, NamesAgree}
@@ -62,19 +62,19 @@ named_by naming.Own p n = n
 abbrev pub names_for : Bundle → Path → Text → Text
 names_for b = mangled b.root b.options.mangle_root (named_by b.options.mangler)
 
--- the names that are kept of the root
+-- the names that are kept of the root, or all that is declared
 abbrev pub task_for : Bundle → Task Path Text
-task_for b = record { root = b.root; kept = b.keep; is_eager = false }
+task_for b = record { root = b.root; kept = kept_names b.options.eager b.keep; is_eager = b.options.eager }
 
--- A link of the bundle's modules and packages, each as the features leave it, from the root and the names that are kept, with no
--- more modules than are allowed; and the unit is its linked form, under the names that the bundle asks for.
+-- A link of the bundle's modules and packages, each as the features leave it, from the root and the names that are kept, or all
+-- that is declared, with no more modules than are allowed; and the unit is its linked form, under the names that the bundle asks for.
 abbrev pub LinksTo : Bundle → UnitView → Type 0
 LinksTo b u =
     (k : Kept b) × (turns : ℕ) × (w : List worlds.Module) × (names : Path → Text → Text)
-    × Links (handed_left b k) (refused_left b k) b.root b.keep false b.options.max_modules turns w
+    × Links (handed_left b k) (refused_left b k) b.root b.keep b.options.eager b.options.max_modules turns w
     × NamesAgree w names (names_for b)
     × IsAssembled w (task_for b) names u
 
 -- such a link is refused with the error, which stands
 abbrev pub RefusesBundle : Bundle → error.Error → Type 0
-RefusesBundle b e = (k : Kept b) × RefusesLink (handed_left b k) (refused_left b k) b.root b.keep false b.options.max_modules e
+RefusesBundle b e = (k : Kept b) × RefusesLink (handed_left b k) (refused_left b k) b.root b.keep b.options.eager b.options.max_modules e

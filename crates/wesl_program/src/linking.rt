@@ -48,8 +48,9 @@ pub fn linked(alloc: Global, bundle: Bundle) -> Result<Answer, Error>
 }
 
 /// The root is handed out as each other module is, and each is linked as the bundle's features leave it. Of the other
-/// modules those are loaded that are reached from the names that are kept, and no more than the bundle allows; the names of
-/// their items are as its mangler gives them, and those of the root's stay where it says nothing else.
+/// modules those are loaded that are reached from the names that are kept, or from all that is declared, and no more than
+/// the bundle allows; the names of their items are as its mangler gives them, and those of the root's stay where it says
+/// nothing else.
 fn linked_unit(alloc: Global, bundle: Bundle) -> Result<TranslationUnit, Error>
     requires fixed { is_relative (path_view bundle.root) ≡ false }
     ensures linked { IfOk result (λ unit. LinksTo (bundle_view bundle.entry) (unit_view unit)) }
@@ -66,8 +67,9 @@ fn linked_unit(alloc: Global, bundle: Bundle) -> Result<TranslationUnit, Error>
     let units = modules_of(alloc, modules)?;
     let sources = sources_of(alloc, &units, packages)?;
     let keep = names(alloc, &keep)?;
+    let eager = options.eager;
     let limit = options.max_modules;
-    match link_under(alloc, &keep, false, &root, sources, &features, limit) {
+    match link_under(alloc, &keep, eager, &root, sources, &features, limit) {
         Ok(resolutions) => named_unit(alloc, resolutions, options),
         Err(diagnostic) => Err(diagnostic.error),
     }

@@ -4,7 +4,7 @@ use Rattle.wesl_names.specs.Borrowed.{texts}
 use Rattle.wesl_tree.specs.Translation.{unit_view}
 use Rattle.wesl_bundle.specs.Views.{bundle_view}
 use Rattle.wesl_program.specs.Hands.{unit_in}
-use Rattle.wesl_conditional.specs.Linking.{Links, RefusesLink}
+use Rattle.wesl_conditional.specs.Linking.{Links, RefusesLink, kept_names}
 use Rattle.wesl_link.specs.Keeping.{resolved, modules_of, turns_of}
 use Rattle.wesl_program.specs.Linking.{Kept, handed_left, refused_left}
 use Rattle.wesl_program.proofs.Faults.{bundle-fault}
@@ -30,8 +30,8 @@ returns-in-Ok-clause-linked c =
     let keep : texts c.deref-2.result.now ≡ map string_bytes c.args.bundle.keep.items = ap texts c.deref-2.ensures.value ∙ c.in_ok-keep.ensures ∙ ap (map string_bytes) c.deref.ensures.value in
     let r = c.in-Ok.resolutions in
     if-ok c.named_unit.result
-    (λ unit (q, mangled, assembled). links_to b kept (resolved r) (subst (λ ks. Links (handed_left b kept) (refused_left b kept) b.root ks false b.options.max_modules (turns_of r) (modules_of r)) keep c.in-Ok.ensures.linked)
-    (c.in-Ok.ensures.kept ∙ keep) c.in-Ok.ensures.eager q mangled (unit_view unit) assembled)
+    (λ unit (q, mangled, assembled). links_to b kept (resolved r) (subst (λ ks. Links (handed_left b kept) (refused_left b kept) b.root ks b.options.eager b.options.max_modules (turns_of r) (modules_of r)) keep c.in-Ok.ensures.linked)
+    (c.in-Ok.ensures.kept ∙ ap (kept_names b.options.eager) keep) c.in-Ok.ensures.eager q mangled (unit_view unit) assembled)
     c.named_unit.ensures.named
 
 pub returns : goal.returns
@@ -50,5 +50,5 @@ returns c =
     record {
       linked = tt;
       refused = bundle-fault b kept c.in-Err.diagnostic.error
-          (subst (λ ks. RefusesLink (handed_left b kept) (refused_left b kept) b.root ks false b.options.max_modules c.in-Err.diagnostic.error) keep c.in-Err.ensures.refused);
+          (subst (λ ks. RefusesLink (handed_left b kept) (refused_left b kept) b.root ks b.options.eager b.options.max_modules c.in-Err.diagnostic.error) keep c.in-Err.ensures.refused);
     }
