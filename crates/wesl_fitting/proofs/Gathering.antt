@@ -28,7 +28,11 @@ use Rattle.wesl_fitting.proofs.Members.{contains_none, to_mapped}
 
 -- the node itself is none of those that are sought
 below_all : (p : Label → Bool) (l : Label) (f : Forest) → p l ≡ false → all_nodes p f ≡ all_nodes p (tree l f end)
-below_all p l f e = sym (append-nil (all_nodes p f)) ∙ ap (λ z. (if z then record { label = l; children = f } ∷ [] else []) ++ (all_nodes p f ++ [])) (sym e)
+below_all p l f e = by (p l) e
+  where
+    by : (z : Bool) → z ≡ false → all_nodes p f ≡ ((if z then record { label = l; children = f } ∷ [] else []) ++ all_nodes p f) ++ []
+    by false q = sym (append-nil (all_nodes p f))
+    by true q = absurd (let g : true ≡ false = q in cc)
 
 no_expression : (d : GlobalDeclaration) → is_expression (global_view d).label ≡ false
 no_expression globals.Void = refl
@@ -114,7 +118,7 @@ module _ (u : UnitView) (b : BuiltinNames) (v : Vec (Spanned GlobalDeclaration) 
   pass_none i h = absurd (omega (arith, h))
 
   pub pass_next : (j : ℕ) (d : Spanned GlobalDeclaration) → j < length v.items → d ≡ get_or v.items j d → PassBefore u b j → All (Passes u b) (calls_in (before (global_view d.node) end)) → PassBefore u b (j + 1)
-  pass_next j d h e all this i l = by (nat_cases i j (rw ← add-one l))
+  pass_next j d h e all this i l = by (nat_cases i j (omega (arith, l)))
     where
       nat_cases : (i j : ℕ) → i < suc j → (i < j) ⊎ (i ≡ j)
       nat_cases zero zero l = inr refl

@@ -77,14 +77,14 @@ something_in (y ∷ xs) f = absurd (f y (contains_here y xs))
 module _ (u : UnitView) (t : Tables) (a : AreTables u t) where
   to_aliases : (m e : ℕ) → ReachedFrom t.aliases m e → AliasesTo u m e
   to_aliases m e (reached.itself _) = itself m
-  to_aliases m e (reached.onward _ n _ l r) = let s = (a.aliased m n).0 l in aliased m n e s.0 s.1.0 s.1.1 (to_aliases n e r)
+  to_aliases m e (reached.onward _ n _ l r) = let s = (a.aliased m n).0 l in aliased m n e s.0 s.1 s.2 (to_aliases n e r)
 
   from_aliases : (m e : ℕ) → AliasesTo u m e → ReachedFrom t.aliases m e
   from_aliases m e (itself _) = reached.itself m
   from_aliases m e (aliased _ n _ j d s r) = reached.onward m n e ((a.aliased m n).1 (j, d, s)) (from_aliases n e r)
 
   takes_from : (c e : ℕ) → takes_at t c e ≡ true → (j : ℕ) × Declares u j e × (takes c (shape_of u j) ≡ true)
-  takes_from c e h = let s = any_from (λ j. takes c (shape_at t.shapes j)) (edges_at t.declarers e) h in (s.0, (a.declared e s.0).0 s.1.0, ap (takes c) (sym (a.shaped s.0)) ∙ s.1.1)
+  takes_from c e h = let s = any_from (λ j. takes c (shape_at t.shapes j)) (edges_at t.declarers e) h in (s.0, (a.declared e s.0).0 s.1, ap (takes c) (sym (a.shaped s.0)) ∙ s.2)
 
   takes_to : (c e : ℕ) → (j : ℕ) × Declares u j e × (takes c (shape_of u j) ≡ true) → takes_at t c e ≡ true
   takes_to c e (j, d, h) = any_to (λ i. takes c (shape_at t.shapes i)) (edges_at t.declarers e) j ((a.declared e j).1 d) (ap (takes c) (a.shaped j) ∙ h)
@@ -92,7 +92,7 @@ module _ (u : UnitView) (t : Tables) (a : AreTables u t) where
   counts_from : (e k : ℕ) → count_at t e ≡ Some k → Counts u e k
   counts_from e k h =
       let s = some_from (λ j. count_of (shape_at t.shapes j)) (edges_at t.declarers e) k h in
-      (s.0, (a.declared e s.0).0 s.1.0, count_from (shape_of u s.0) k (ap count_of (sym (a.shaped s.0)) ∙ s.1.1))
+      (s.0, (a.declared e s.0).0 s.1, count_from (shape_of u s.0) k (ap count_of (sym (a.shaped s.0)) ∙ s.2))
 
   counts_none : (e : ℕ) → count_at t e ≡ None → (k : ℕ) → Counts u e k → ⊥
   counts_none e h k (j, d, s) = is_some_not_none (count_of (shape_at t.shapes j)) k (ap count_of (a.shaped j) ∙ count_to (shape_of u j) k s) (none_from (λ i. count_of (shape_at t.shapes i)) (edges_at t.declarers e) h j ((a.declared e j).1 d))
@@ -104,7 +104,7 @@ module _ (u : UnitView) (t : Tables) (a : AreTables u t) where
       by (inl q) = inr (λ j d. nothing_in (edges_at t.declarers e) q j ((a.declared e j).1 d))
       by (inr q) =
           let s = any_from (λ j. not (is_plain_alias (shape_at t.shapes j))) (edges_at t.declarers e) q in
-          inl (s.0, (a.declared e s.0).0 s.1.0, ap is_plain_alias (sym (a.shaped s.0)) ∙ negated (is_plain_alias (shape_at t.shapes s.0)) s.1.1)
+          inl (s.0, (a.declared e s.0).0 s.1, ap is_plain_alias (sym (a.shaped s.0)) ∙ negated (is_plain_alias (shape_at t.shapes s.0)) s.2)
 
   ends_to : (e : ℕ) → IsEnd u e → ends_at t e ≡ true
   ends_to e (inl (j, d, h)) =
@@ -141,13 +141,13 @@ module _ (u : UnitView) (t : Tables) (a : AreTables u t) where
       ending e d = to_aliases m e ((all e).0 d)
 
       fits_from : list_any (accepts_at t u.names b c) ns ≡ true → Fits u b call
-      fits_from h = let s = any_from (accepts_at t u.names b c) ns h in (s.0, ending s.0 s.1.0, accepts_from c s.0 s.1.1)
+      fits_from h = let s = any_from (accepts_at t u.names b c) ns h in (s.0, ending s.0 s.1, accepts_from c s.0 s.2)
 
       fits_none : list_any (accepts_at t u.names b c) ns ≡ false → Fits u b call → ⊥
       fits_none h (e, r, q) = no (sym h ∙ any_to (accepts_at t u.names b c) ns e (there e r) (accepts_to c e q))
 
       miscounted : (x : Misfit) → (Fits u b call → ⊥) → first_some (miscounted_at t c) ns ≡ Some x → Misses u b call x
-      miscounted x f h = let s = some_from (miscounted_at t c) ns x h in by s.0 s.1.0 (count_at t s.0) refl s.1.1
+      miscounted x f h = let s = some_from (miscounted_at t c) ns x h in by s.0 s.1 (count_at t s.0) refl s.2
         where
           by : (e : ℕ) → Contains ns e → (o : Option ℕ) → count_at t e ≡ o → option_map (λ k. misfit.ParamCount e k c) o ≡ Some x → Misses u b call x
           by e d None q g = absurd (let z : None ≡ Some x = g in cc)
@@ -161,7 +161,7 @@ module _ (u : UnitView) (t : Tables) (a : AreTables u t) where
           by (Some k) q = absurd (let z : Some (misfit.ParamCount e k c) ≡ None = q in cc)
 
       not_callable : (x : Misfit) → (Fits u b call → ⊥) → first_some (miscounted_at t c) ns ≡ None → first_some (not_callable_at t) ns ≡ Some x → Misses u b call x
-      not_callable x f n h = let s = some_from (not_callable_at t) ns x h in by s.0 s.1.0 (ends_at t s.0) refl s.1.1
+      not_callable x f n h = let s = some_from (not_callable_at t) ns x h in by s.0 s.1 (ends_at t s.0) refl s.2
         where
           by : (e : ℕ) → Contains ns e → (z : Bool) → ends_at t e ≡ z → (if z then Some (misfit.NotCallable e) else None) ≡ Some x → Misses u b call x
           by e d false q g = absurd (let z : None ≡ Some x = g in cc)

@@ -2,6 +2,7 @@ pub mod Gathering
 pub mod Judging
 pub mod Marked
 pub mod Members
+pub mod Plain
 pub mod Reaching
 pub mod Searching
 pub mod Shaping

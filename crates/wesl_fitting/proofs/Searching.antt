@@ -24,20 +24,17 @@ module _ (p : ℕ → Bool) where
   any_from (x ∷ xs) e = by (p x) refl e (any_from xs)
     where
       by : (t : Bool) → p x ≡ t → (t || list_any p xs) ≡ true → (list_any p xs ≡ true → (y : ℕ) × Contains xs y × (p y ≡ true)) → (y : ℕ) × Contains (x ∷ xs) y × (p y ≡ true)
-      by true q h r = (x, (contains_here x xs, q))
-      by false q h r = let s = r h in (s.0, (contains_later x s.0 xs s.1.0, s.1.1))
+      by true q h r = (x, contains_here x xs, q)
+      by false q h r = let s = r h in (s.0, contains_later x s.0 xs s.1, s.2)
 
   pub any_to : (xs : List ℕ) (x : ℕ) → Contains xs x → p x ≡ true → list_any p xs ≡ true
   any_to [] x c e = absurd (contains_none x c)
-  any_to (y ∷ xs) x c e = by (p y) refl
+  any_to (y ∷ xs) x c e = by (p y) refl (contains_cases y x xs c) (λ d. any_to xs x d e)
     where
-      by : (t : Bool) → p y ≡ t → (t || list_any p xs) ≡ true
-      by true q = refl
-      by false q = any_to xs x (later (contains_cases y x xs c)) e
-        where
-          later : (y ≡ x) ⊎ Contains xs x → Contains xs x
-          later (inl s) = absurd (let f : false ≡ true = sym q ∙ (ap p s ∙ e) in cc)
-          later (inr d) = d
+      by : (t : Bool) → p y ≡ t → (y ≡ x) ⊎ Contains xs x → (Contains xs x → list_any p xs ≡ true) → (t || list_any p xs) ≡ true
+      by true q s r = refl
+      by false q (inl s) r = absurd (let f : false ≡ true = sym q ∙ (ap p s ∙ e) in cc)
+      by false q (inr d) r = r d
 
 module _ {Y : Type 0} (f : ℕ → Option Y) where
   pub some_here : (xs : List ℕ) (i : ℕ) (y : Y) → i < length xs → f (get_or xs i 0) ≡ Some y → first_some f (drop i xs) ≡ Some y
@@ -58,17 +55,14 @@ module _ {Y : Type 0} (f : ℕ → Option Y) where
   some_from (x ∷ xs) y e = by (f x) refl e (some_from xs y)
     where
       by : (o : Option Y) → f x ≡ o → or_else o (first_some f xs) ≡ Some y → (first_some f xs ≡ Some y → (z : ℕ) × Contains xs z × (f z ≡ Some y)) → (z : ℕ) × Contains (x ∷ xs) z × (f z ≡ Some y)
-      by (Some v) q h r = (x, (contains_here x xs, q ∙ h))
-      by None q h r = let s = r h in (s.0, (contains_later x s.0 xs s.1.0, s.1.1))
+      by (Some v) q h r = (x, contains_here x xs, q ∙ h)
+      by None q h r = let s = r h in (s.0, contains_later x s.0 xs s.1, s.2)
 
   pub none_from : (xs : List ℕ) → first_some f xs ≡ None → (x : ℕ) → Contains xs x → f x ≡ None
   none_from [] e x c = absurd (contains_none x c)
-  none_from (y ∷ xs) e x c = by (f y) refl e
+  none_from (y ∷ xs) e x c = by (f y) refl e (contains_cases y x xs c) (λ h d. none_from xs h x d)
     where
-      by : (o : Option Y) → f y ≡ o → or_else o (first_some f xs) ≡ None → f x ≡ None
-      by (Some v) q h = absurd (let g : Some v ≡ None = h in cc)
-      by None q h = at (contains_cases y x xs c)
-        where
-          at : (y ≡ x) ⊎ Contains xs x → f x ≡ None
-          at (inl s) = subst (λ z. f z ≡ None) s q
-          at (inr d) = none_from xs h x d
+      by : (o : Option Y) → f y ≡ o → or_else o (first_some f xs) ≡ None → (y ≡ x) ⊎ Contains xs x → (first_some f xs ≡ None → Contains xs x → f x ≡ None) → f x ≡ None
+      by (Some v) q h s r = absurd (let g : Some v ≡ None = h in cc)
+      by None q h (inl s) r = subst (λ z. f z ≡ None) s q
+      by None q h (inr d) r = r h d

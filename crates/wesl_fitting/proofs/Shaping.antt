@@ -16,3 +16,8 @@ module _ {A B : Type 0} (f : A → B) where
   at_mapped_past [] i e h = refl
   at_mapped_past (y ∷ xs) zero e h = absurd (omega (arith, h))
   at_mapped_past (y ∷ xs) (suc i) e h = at_mapped_past xs i e (omega (arith, h))
+
+pub at_itself : {A : Type 0} (xs : List A) (i : ℕ) (x d : A) → i < length xs → x ≡ get_or xs i d → x ≡ get_or xs i x
+at_itself [] i x d h q = absurd (omega (arith, h))
+at_itself (y ∷ xs) zero x d h q = q
+at_itself (y ∷ xs) (suc i) x d h q = at_itself xs i x d (omega (arith, h)) q

@@ -30,10 +30,10 @@ and_true a b e f = rw e f
 
 -- edges are made by identifiers of that number
 module _ (f : Found → Option ℕ) (m b : ℕ) where
-  abbrev Made : Found → Type 0
-  Made o = (o.name ≡ m) × (f o ≡ Some b)
+  abbrev IsMadeBy : Found → Type 0
+  IsMadeBy o = (o.name ≡ m) × (f o ≡ Some b)
 
-  made : (o : Found) → Contains (edges_here f m o) b → Made o
+  made : (o : Found) → Contains (edges_here f m o) b → IsMadeBy o
   made o c = by (o.name == m) (Decides-eqb o.name m) c
     where
       at : (t : Option ℕ) → f o ≡ t → Contains (one_or_none t) b → f o ≡ Some b
@@ -44,17 +44,17 @@ module _ (f : Found → Option ℕ) (m b : ℕ) where
           one (inl e) = ap Some e
           one (inr d) = absurd (contains_none b d)
 
-      by : (t : Bool) → ((t ≡ true → o.name ≡ m) × (o.name ≡ m → t ≡ true)) → Contains (if t then one_or_none (f o) else []) b → Made o
+      by : (t : Bool) → ((t ≡ true → o.name ≡ m) × (o.name ≡ m → t ≡ true)) → Contains (if t then one_or_none (f o) else []) b → IsMadeBy o
       by true d c = (d.0 refl, at (f o) refl c)
       by false d c = absurd (contains_none b c)
 
-  makes : (o : Found) → Made o → Contains (edges_here f m o) b
+  makes : (o : Found) → IsMadeBy o → Contains (edges_here f m o) b
   makes o r = subst (λ t. Contains (if t then one_or_none (f o) else []) b) (sym ((Decides-eqb o.name m).1 r.0)) (subst (λ t. Contains (one_or_none t) b) (sym r.1) (contains_here b []))
 
-  pub from_edges : (os : List Found) → Contains (edges_of f m os) b → (o : Found) × (Contains os o × Made o)
+  pub from_edges : (os : List Found) → Contains (edges_of f m os) b → (o : Found) × (Contains os o × IsMadeBy o)
   from_edges os c = let s = from_joined (edges_here f m) os b c in (s.0, (s.1.0, made s.0 s.1.1))
 
-  pub to_edges : (os : List Found) (o : Found) → Contains os o → Made o → Contains (edges_of f m os) b
+  pub to_edges : (os : List Found) (o : Found) → Contains os o → IsMadeBy o → Contains (edges_of f m os) b
   to_edges os o c r = to_joined (edges_here f m) os o b c (makes o r)
 
 named : (o : Found) (j : ℕ) → declaration_named o ≡ Some j → (is_module_name o.role && lies_in j o.declaration) ≡ true
@@ -104,7 +104,7 @@ module _ (u : UnitView) (w : ℕ → Block) (os : List Found) (all_is : map (tol
       to l = let s = from_edges declaration_named m j os (subst (λ xs. Contains xs j) (is m) l) in declares j m s.0 s.1.0 s.1.1.0 s.1.1.1
 
       from : Declares u j m → Leads g m j
-      from d = let s = declared j m d in subst (λ xs. Contains xs j) (sym (is m)) (to_edges declaration_named m j os s.0 s.1.0 (s.1.1.0, s.1.1.1))
+      from d = let s = declared j m d in subst (λ xs. Contains xs j) (sym (is m)) (to_edges declaration_named m j os s.0 s.1.0 (s.1.1, s.1.2))
 
   module _ (shapes : List (ShapeOf ℕ)) (shaped : (j : ℕ) → shape_at shapes j ≡ shape_of u j) where
     target_from : (s : ShapeOf ℕ) (b : ℕ) → target_of s ≡ Some b → s ≡ alias_of b
@@ -125,7 +125,7 @@ module _ (u : UnitView) (w : ℕ → Block) (os : List Found) (all_is : map (tol
       where
         at : (o : Found) → Contains os o → o.name ≡ a → (d : Option ℕ) → declaration_named o ≡ d → target_at shapes d ≡ Some b → (j : ℕ) × Declares u j a × (shape_of u j ≡ alias_of b)
         at o there name None q e = absurd (let g : None ≡ Some b = e in cc)
-        at o there name (Some j) q e = (j, (declares j a o there name q, sym (shaped j) ∙ target_from (shape_at shapes j) b e))
+        at o there name (Some j) q e = (j, declares j a o there name q, sym (shaped j) ∙ target_from (shape_at shapes j) b e)
 
         to : Leads g a b → (j : ℕ) × Declares u j a × (shape_of u j ≡ alias_of b)
         to l = let s = from_edges (alias_named shapes) a b os (subst (λ xs. Contains xs b) (is a) l) in at s.0 s.1.0 s.1.1.0 (declaration_named s.0) refl s.1.1.1
@@ -133,8 +133,8 @@ module _ (u : UnitView) (w : ℕ → Block) (os : List Found) (all_is : map (tol
         from : (j : ℕ) × Declares u j a × (shape_of u j ≡ alias_of b) → Leads g a b
         from (j, d, e) =
             let s = declared j a d in
-            let target : alias_named shapes s.0 ≡ Some b = ap (target_at shapes) s.1.1.1 ∙ target_to (shape_at shapes j) b (shaped j ∙ e) in
-            subst (λ xs. Contains xs b) (sym (is a)) (to_edges (alias_named shapes) a b os s.0 s.1.0 (s.1.1.0, target))
+            let target : alias_named shapes s.0 ≡ Some b = ap (target_at shapes) s.1.2 ∙ target_to (shape_at shapes j) b (shaped j ∙ e) in
+            subst (λ xs. Contains xs b) (sym (is a)) (to_edges (alias_named shapes) a b os s.0 s.1.0 (s.1.1, target))
 
 any_told : (w : ℕ → Block) (m : ℕ) (os : List Found) → list_any (λ (o : Occurrence ℕ). is_binder o.role && o.name == m) (map (told w) os) ≡ list_any (binds_here m) os
 any_told w m [] = refl

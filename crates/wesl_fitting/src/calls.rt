@@ -112,7 +112,7 @@ fn add_statements(calls: &mut Vec<Call>, nodes: &Vec<&StatementNode>) -> Result<
 }
 
 /// The calls without a path in a declaration: expressions, then statements. Refused for want of memory alone.
-pub(crate) fn calls(alloc: Global, declaration: &GlobalDeclaration) -> Result<Vec<Call>, Error>
+pub(crate) fn calls_of(alloc: Global, declaration: &GlobalDeclaration) -> Result<Vec<Call>, Error>
     ensures calls { IfOk result (λ calls. map call_told calls.items ≡ calls_in (before (global_view declaration.now) end)) }
     ensures refused { IfErr result (λ e. e ≡ error.Memory) }
 {

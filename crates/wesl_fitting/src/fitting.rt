@@ -1,6 +1,5 @@
 //! Calls that fit nothing.
-ghost use Rattle.std.specs.Prelude.{◌≡◌, ◌×◌, ℕ, map, All, IfOk, IfErr, IfSome, IfNone};
-ghost use Rattle.std.specs.List.{Contains};
+ghost use Rattle.std.specs.Prelude.{◌≡◌, ◌<◌, length, get_or, map, All, IfOk, IfErr, IfSome, IfNone};
 ghost use Rattle.wesl_names.specs.declared.errors.Error as error;
 ghost use Rattle.wesl_syntax.specs.Tree.{before, end};
 ghost use Rattle.wesl_syntax.specs.View.{global_view};
@@ -8,7 +7,7 @@ ghost use Rattle.wesl_tree.specs.Translation.{unit_view};
 ghost use Rattle.wesl_occurrences.specs.Identified.{identified};
 ghost use Rattle.wesl_kept.specs.Declarations.{all};
 ghost use Rattle.wesl_builtins.specs.Builtins.{builtins_view};
-ghost use Rattle.wesl_valid.specs.Calls.{CallOf, calls_in};
+ghost use Rattle.wesl_valid.specs.Calls.{calls_in};
 ghost use Rattle.wesl_valid.specs.Valid.{IsFitting};
 ghost use Rattle.wesl_fitting.specs.Made.{call_told};
 ghost use Rattle.wesl_fitting.specs.Misfits.{Misses, Passes, MissesIn, MissesAmong};
@@ -16,11 +15,11 @@ ghost use Rattle.wesl_fitting.specs.Reached.{IsClear};
 ghost use Rattle.wesl_fitting.specs.Tables.{AreTables};
 ghost use Rattle.wesl_fitting.specs.Views.{tables_view};
 
-use crate::calls::{Call, calls};
+use crate::calls::{Call, calls_of};
 use crate::judge::judged;
 use crate::misfit::Misfit;
 use crate::reach::reached;
-use crate::tables::{Tables, tables};
+use crate::tables::{Tables, tables_of};
 use std::alloc::Global;
 use wesl_builtins::Builtins;
 use wesl_names::Error;
@@ -49,23 +48,33 @@ fn call_misfit(
     Ok(misfit)
 }
 
+/// The call at a place of the list.
+#[tactic(auto, using(crate::proofs::Shaping::at_itself))]
+fn call_at(calls: &Vec<Call>, place: usize) -> Call
+    requires { place < length calls.now.items }
+    ensures { result ≡ get_or calls.now.items place result }
+{
+    calls[place]
+}
+
 fn misfit_among(
     alloc: Global,
     unit: &TranslationUnit,
     builtins: &Builtins,
     tables: &Tables,
     marks: &mut [bool],
-    calls: &[Call],
+    calls: &Vec<Call>,
 ) -> Result<Option<Misfit>, Error>
     requires tables { AreTables (unit_view unit.now) (tables_view tables.now) }
     requires clear { IsClear (tables_view tables.now).aliases marks.old }
-    ensures misfit { IfOk result (λ r. IfSome r (MissesAmong (unit_view unit.now) (builtins_view builtins.now) (map call_told calls.now))) }
-    ensures none { IfOk result (λ r. IfNone r (All (Passes (unit_view unit.now) (builtins_view builtins.now)) (map call_told calls.now))) }
+    ensures misfit { IfOk result (λ r. IfSome r (MissesAmong (unit_view unit.now) (builtins_view builtins.now) (map call_told calls.now.items))) }
+    ensures none { IfOk result (λ r. IfNone r (All (Passes (unit_view unit.now) (builtins_view builtins.now)) (map call_told calls.now.items))) }
     ensures clear { IfOk result (λ _. IsClear (tables_view tables.now).aliases marks.new) }
     ensures refused { IfErr result (λ e. e ≡ error.Memory) }
 {
-    for call in calls {
-        match call_misfit(alloc, unit, builtins, tables, marks, *call)? {
+    for place in 0..calls.len() {
+        let call = call_at(calls, place);
+        match call_misfit(alloc, unit, builtins, tables, marks, call)? {
             Some(misfit) => return Ok(Some(misfit)),
             None => {}
         }
@@ -88,7 +97,7 @@ fn misfit_in(
     ensures clear { IfOk result (λ _. IsClear (tables_view tables.now).aliases marks.new) }
     ensures refused { IfErr result (λ e. e ≡ error.Memory) }
 {
-    let calls = calls(alloc, declaration)?;
+    let calls = calls_of(alloc, declaration)?;
     misfit_among(alloc, unit, builtins, tables, marks, &calls)
 }
 
@@ -133,7 +142,7 @@ pub fn first_misfit(
     ensures none { IfOk result (λ r. IfNone r (IsFitting (unit_view unit.now) (builtins_view builtins.now))) }
     ensures refused { IfErr result (λ e. e ≡ error.Memory) }
 {
-    let tables = tables(alloc, unit, found)?;
+    let tables = tables_of(alloc, unit, found)?;
     let mut marks = vec![in alloc; false; tables.aliases.len()]?;
     misfit_of(alloc, unit, builtins, &tables, &mut marks)
 }

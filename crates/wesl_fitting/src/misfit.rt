@@ -1,7 +1,7 @@
 //! What is wrong with a call.
 
 /// Why a call fits nothing of what its aliases end in.
-#[derive(Clone, Copy, Debug, PartialEq, Eq)]
+#[derive(Clone, Copy)]
 pub enum Misfit {
     /// they end at a function or a structure that takes another count of arguments
     ParamCount {

@@ -40,7 +40,7 @@ fn alias_shape(ty: &TypeExpression) -> Shape
 }
 
 #[tactic(auto, using(crate::proofs::Shaping::listed_count))]
-fn shape(declaration: &GlobalDeclaration) -> Shape
+fn shape_of(declaration: &GlobalDeclaration) -> Shape
     ensures { shape_view result ≡ shape_in (before (global_view declaration.now) end) }
 {
     match declaration {
@@ -54,7 +54,7 @@ fn shape(declaration: &GlobalDeclaration) -> Shape
 }
 
 /// Of each declaration what it is to a call. Refused for want of memory alone.
-pub(crate) fn shapes(
+pub(crate) fn shapes_of(
     alloc: Global,
     declarations: &Vec<GlobalDeclarationNode>,
 ) -> Result<Vec<Shape>, Error>
@@ -63,7 +63,7 @@ pub(crate) fn shapes(
 {
     let mut shapes = Vec::with_capacity(alloc, declarations.len())?;
     for declaration in declarations {
-        shapes.push(shape(&declaration.node))?;
+        shapes.push(shape_of(&declaration.node))?;
     }
     Ok(shapes)
 }

@@ -10,7 +10,7 @@ ghost use Rattle.wesl_fitting.specs.Tables.{AreTables, one_or_none, declaration_
 ghost use Rattle.wesl_fitting.specs.Views.{shape_view, tables_view};
 
 use crate::numbers::bound_numbers;
-use crate::shape::{Shape, shape_at, shapes};
+use crate::shape::{Shape, shape_at, shapes_of};
 use std::alloc::Global;
 use wesl_names::Error;
 use wesl_occurrences::{Identifiers, Occurrence, Standing};
@@ -109,7 +109,7 @@ fn aliases_of(
 }
 
 /// The tables of a module, where `found` are its identifiers. Refused for want of memory alone.
-pub(crate) fn tables(
+pub(crate) fn tables_of(
     alloc: Global,
     unit: &TranslationUnit,
     found: &Identifiers<'_>,
@@ -118,7 +118,7 @@ pub(crate) fn tables(
     ensures tables { IfOk result (λ tables. AreTables (unit_view unit.now) (tables_view tables)) }
     ensures refused { IfErr result (λ e. e ≡ error.Memory) }
 {
-    let shapes = shapes(alloc, unit.global_declarations())?;
+    let shapes = shapes_of(alloc, unit.global_declarations())?;
     let declarers = declarers_of(alloc, found)?;
     let aliases = aliases_of(alloc, &shapes, found)?;
     let bound = bound_numbers(alloc, found)?;

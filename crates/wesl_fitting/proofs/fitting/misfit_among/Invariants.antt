@@ -8,8 +8,8 @@ use Rattle.wesl_fitting.specs.Reached.{IsClear}
 use Rattle.wesl_fitting.specs.Views.{tables_view}
 use Rattle.wesl_fitting.proofs.fitting.misfit_among.Given as goal
 
-abbrev pub invariant-loop-call : goal.invariant-loop-call
-invariant-loop-call l = record {
+abbrev pub invariant-loop-place : goal.invariant-loop-place
+invariant-loop-place l = record {
   clear : IsClear (tables_view l.tables).aliases l.marks;
-  passed : All (Passes (unit_view l.unit) (builtins_view l.builtins)) (map call_told (take l.call-index l.calls));
+  passed : All (Passes (unit_view l.unit) (builtins_view l.builtins)) (map call_told (take l.place l.calls.items));
 }

@@ -1,7 +1,7 @@
 use Rattle.std.proofs.Common.{ap, map}
 use Rattle.wesl_fitting.specs.Made.{call_told}
 use Rattle.wesl_fitting.proofs.Gathering.{all_gathered}
-use Rattle.wesl_fitting.proofs.calls.calls.Goals as goal
+use Rattle.wesl_fitting.proofs.calls.calls_of.Goals as goal
 
 pub returns-clause-calls : goal.returns-clause-calls
 returns-clause-calls c =

@@ -4,7 +4,7 @@ use Rattle.wesl_occurrences.specs.Views.{occurrence_view}
 use Rattle.wesl_occurrences.specs.Ways.{way}
 use Rattle.wesl_fitting.specs.Views.{tables_view}
 use Rattle.wesl_fitting.proofs.Tabling.{are_tables}
-use Rattle.wesl_fitting.proofs.tables.tables.Goals as goal
+use Rattle.wesl_fitting.proofs.tables.tables_of.Goals as goal
 
 pub returns-clause-tables : goal.returns-clause-tables
 returns-clause-tables c =
