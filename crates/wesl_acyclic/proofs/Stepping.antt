@@ -6,7 +6,7 @@ use Rattle.std.proofs.lemmas.Bool.Decides.{Decides-eqb}
 use Rattle.std.proofs.lemmas.List.{append-nil}
 use Rattle.std.proofs.lemmas.List.Elements.{Contains-append_cases, Contains-append_left, Contains-append_right}
 use Rattle.wesl_syntax.specs.Unit.{UnitView, trees_of}
-use Rattle.wesl_occurrences.specs.Occurrences.{Block, OccurrenceIn, Occurrence, occurrences}
+use Rattle.wesl_occurrences.specs.Occurrences.{Block, Occurrence, occurrences}
 use Rattle.wesl_occurrences.specs.Walk.{Found}
 use Rattle.wesl_occurrences.specs.Ways.{told}
 use Rattle.wesl_kept.specs.Declarations.{is_module_name, is_reference, lies_in, declared_in, referred_in}
@@ -67,17 +67,17 @@ module _ {X A B : Type 0} (v : X → A) (f : A → List B) where
   pub joined_next : (xs : List X) (i : ℕ) (x : X) → i < length xs → x ≡ get_or xs i x → flat_map f (map v (take (i + 1) xs)) ≡ flat_map f (map v (take i xs)) ++ f (v x)
   joined_next xs i x h e = rw add-one (joined_suc xs i x h e)
 
-taken_suc : {X : Type 0} (xs : List X) (i : ℕ) (x : X) → i < length xs → x ≡ get_or xs i x → take (suc i) xs ≡ take i xs ++ x ∷ []
-taken_suc [] i x h e = absurd (omega (arith, h))
-taken_suc (y ∷ xs) zero x h e = ap (λ z. z ∷ []) (sym e)
-taken_suc (y ∷ xs) (suc i) x h e = ap (λ ns. y ∷ ns) (taken_suc xs i x (omega (arith, h)) e)
+taken_suc : {X : Type 0} (xs : List X) (i : ℕ) (x d : X) → i < length xs → x ≡ get_or xs i d → take (suc i) xs ≡ take i xs ++ x ∷ []
+taken_suc [] i x d h e = absurd (omega (arith, h))
+taken_suc (y ∷ xs) zero x d h e = ap (λ z. z ∷ []) (sym e)
+taken_suc (y ∷ xs) (suc i) x d h e = ap (λ ns. y ∷ ns) (taken_suc xs i x d (omega (arith, h)) e)
 
 -- one more of the targets, where a test admits them
-pub admitted_next : {X : Type 0} (t : Bool) (old now : List X) (xs : List X) (i : ℕ) (x : X) → i < length xs → x ≡ get_or xs i x → now ≡ old ++ (if t then take i xs else []) → now ++ (if t then x ∷ [] else []) ≡ old ++ (if t then take (i + 1) xs else [])
-admitted_next true old now xs i x h e n =
-    let t : take i xs ++ x ∷ [] ≡ take (i + 1) xs = rw add-one (sym (taken_suc xs i x h e)) in
+pub admitted_next : {X : Type 0} (t : Bool) (old now : List X) (xs : List X) (i : ℕ) (x d : X) → i < length xs → x ≡ get_or xs i d → now ≡ old ++ (if t then take i xs else []) → now ++ (if t then x ∷ [] else []) ≡ old ++ (if t then take (i + 1) xs else [])
+admitted_next true old now xs i x d h e n =
+    let t : take i xs ++ x ∷ [] ≡ take (i + 1) xs = rw add-one (sym (taken_suc xs i x d h e)) in
     ap (λ ns. ns ++ x ∷ []) n ∙ (append_assoc old (take i xs) (x ∷ []) ∙ ap (λ ns. old ++ ns) t)
-admitted_next false old now xs i x h e n = append-nil now ∙ n
+admitted_next false old now xs i x d h e n = append-nil now ∙ n
 
 -- a list that a test admits
 pub from_if : {B : Type 0} (t : Bool) (ys : List B) (y : B) → Contains (if t then ys else []) y → (t ≡ true) × Contains ys y
@@ -179,20 +179,3 @@ no_place xs j o e = ap (λ d. xs ++ (if is_reference o.role && lies_in j d then 
     by : (t : Bool) → xs ++ (if t && false then o.name ∷ [] else []) ≡ xs
     by true = append-nil xs
     by false = append-nil xs
-
-pub a_use : (xs : List ℕ) (i j : ℕ) (o : Found) → is_reference o.role ≡ true → o.declaration ≡ Some i → xs ++ (if i == j then o.name ∷ [] else []) ≡ xs ++ referred_here j o
-a_use xs i j o e f = ap (λ t. xs ++ (if t && i == j then o.name ∷ [] else [])) (sym e) ∙ ap (λ d. xs ++ (if is_reference o.role && lies_in j d then o.name ∷ [] else [])) (sym f)
-
-module _ (used : Option ℕ → List ℕ) where
-  pub no_name : (xs : List ℕ) (a : ℕ) (o : Found) → is_module_name o.role ≡ false → xs ++ steps_here used a o ≡ xs
-  no_name xs a o e = ap (λ t. xs ++ (if t && o.name == a then used o.declaration else [])) e ∙ append-nil xs
-
-  pub no_steps : (xs : List ℕ) (a : ℕ) (o : Found) → used o.declaration ≡ [] → xs ++ steps_here used a o ≡ xs
-  no_steps xs a o e = ap (λ ns. xs ++ (if is_module_name o.role && o.name == a then ns else [])) e ∙ by (is_module_name o.role && o.name == a)
-    where
-      by : (t : Bool) → xs ++ (if t then [] else []) ≡ xs
-      by true = append-nil xs
-      by false = append-nil xs
-
-  pub some_steps : (xs ts : List ℕ) (a : ℕ) (o : Found) → is_module_name o.role ≡ true → used o.declaration ≡ ts → xs ++ (if o.name == a then ts else []) ≡ xs ++ steps_here used a o
-  some_steps xs ts a o e f = ap (λ ns. xs ++ (if o.name == a then ns else [])) (sym f) ∙ ap (λ t. xs ++ (if t && o.name == a then used o.declaration else [])) (sym e)

@@ -2,7 +2,7 @@
 //! is one of the parts of `validate_wesl`.
 #![tactic(auto)]
 
-mod cycle;
+mod rings;
 mod steps;
 
-pub use cycle::cycle;
+pub use rings::cycle;

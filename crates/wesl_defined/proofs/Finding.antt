@@ -1,17 +1,17 @@
 -- What is found by marks is what is not defined.
-use Rattle.std.proofs.Common.{◌≡◌, ◌≢◌, ◌⊎◌, ℕ, zero, suc, ◌<◌, Bool, true, false, not, ◌&&◌, ◌||◌, ◌==◌, cond, List, [], ◌∷◌, length, map, refl, sym, ap, ◌∙◌, subst, arith, inl, inr}
-use Rattle.std.specs.Prelude.{Option, Some, None}
+use Rattle.std.proofs.Common.{◌≡◌, ◌⊎◌, ℕ, zero, suc, ◌<◌, Bool, true, false, not, ◌&&◌, ◌||◌, ◌==◌, cond, List, [], ◌∷◌, length, map, refl, sym, ap, ◌∙◌, subst, arith, inl, inr}
+use Rattle.std.specs.Prelude.{Some, None}
 use Rattle.std.specs.List.{Contains, All, find, list_any}
 use Rattle.std.proofs.lemmas.List.Elements.{All-contains}
 use Rattle.wesl_names.specs.Path.{Text}
 use Rattle.wesl_syntax.specs.Unit.{UnitView, trees_of, name_in}
-use Rattle.wesl_occurrences.specs.Occurrences.{Block, OccurrenceIn, Occurrence, occurrences}
+use Rattle.wesl_occurrences.specs.Occurrences.{Block, Occurrence, occurrences}
 use Rattle.wesl_occurrences.specs.Walk.{Found}
 use Rattle.wesl_occurrences.specs.Ways.{told}
 use Rattle.wesl_kept.specs.Marks.{mark_at}
-use Rattle.wesl_builtins.specs.Builtins.{BuiltinNames, is_among}
-use Rattle.wesl_valid.specs.Valid.{is_binder, is_unqualified, is_bound, is_known, is_undefined, spelling, underscore}
-use Rattle.wesl_defined.specs.Known.{is_meant, binds_here, binds, is_unknown, IsUndefinedAt}
+use Rattle.wesl_builtins.specs.Builtins.{BuiltinNames}
+use Rattle.wesl_valid.specs.Valid.{is_binder, is_unqualified, is_bound, is_known, is_undefined}
+use Rattle.wesl_defined.specs.Known.{is_meant, binds, is_unknown, IsUndefinedAt}
 
 contains_here : {A : Type 0} (x : A) (xs : List A) → Contains (x ∷ xs) x
 contains_here x xs = (0, omega arith, refl)
@@ -30,12 +30,12 @@ contains_cases x m xs (suc k, l, e) = inr (k, omega (arith, l), e)
 module _ {A : Type 0} (p : A → Bool) where
   none_found : (xs : List A) → find p xs ≡ None → (x : A) → Contains xs x → p x ≡ false
   none_found [] e x c = absurd (contains_none x c)
-  none_found (y ∷ xs) e x c = by (p y) refl e (contains_cases y x xs c)
+  none_found (y ∷ xs) e x c = by (p y) refl e (contains_cases y x xs c) (λ d. none_found xs d x)
     where
-      by : (t : Bool) → p y ≡ t → cond t (Some y) (find p xs) ≡ None → (y ≡ x) ⊎ Contains xs x → p x ≡ false
-      by true h e d = cc
-      by false h e (inl q) = subst (λ z. p z ≡ false) q h
-      by false h e (inr d) = none_found xs e x d
+      by : (t : Bool) → p y ≡ t → cond t (Some y) (find p xs) ≡ None → (y ≡ x) ⊎ Contains xs x → (find p xs ≡ None → Contains xs x → p x ≡ false) → p x ≡ false
+      by true h e d r = cc
+      by false h e (inl q) r = subst (λ z. p z ≡ false) q h
+      by false h e (inr d) r = r e d
 
   some_found : (xs : List A) (x : A) → find p xs ≡ Some x → Contains xs x × (p x ≡ true)
   some_found [] x e = cc

@@ -2,6 +2,6 @@
 #![tactic(auto)]
 
 mod known;
-mod undefined;
+mod unknown;
 
-pub use undefined::undefined;
+pub use unknown::undefined;

@@ -1,6 +1,6 @@
 -- What is gathered are the names that are bound.
 use Rattle.std.proofs.Common.{◌≡◌, ℕ, Bool, true, false, List, [], ◌∷◌, ◌++◌, map, refl, sym, ap, ◌∙◌, append_assoc}
-use Rattle.std.specs.Prelude.{flat_map, if◌then◌else◌}
+use Rattle.std.specs.Prelude.{flat_map, if◌then◌else◌, Result, Ok, Err, OnOk}
 use Rattle.std.proofs.lemmas.List.{append-nil}
 use Rattle.wesl_syntax.specs.Tree.{Tree, Label, Forest, end, tree, kind, at, ident, text, texts, truth, unary, binary, assignment, space, access, path, binder, reference, word, branch, before, forest_of, import_entry, import_node, declaration_node}
 use Rattle.wesl_syntax.specs.View.{entry_view, content_view, content_step, entry_step, names_tree, import_view, global_view, placed}
@@ -36,10 +36,13 @@ gathered_is found (tree (space x) children others) = inner found children others
 gathered_is found (tree (access x) children others) = inner found children others (λ ns. gathered_is ns children) (λ ns. gathered_is ns others)
 gathered_is found (tree (path p) children others) = inner found children others (λ ns. gathered_is ns children) (λ ns. gathered_is ns others)
 
--- where nothing is declared, a condition changes nothing
-pub nothing_either_way : (t : Bool) → (if t then [] else [] {A = ℕ}) ≡ []
-nothing_either_way true = refl
-nothing_either_way false = refl
+-- what is gathered where there is no condition
+pub added_plain : (old now : List ℕ) (t : Bool) (f : Forest) → t ≡ false → now ≡ gathered old f → now ≡ old ++ (if t then [] else binders_in f)
+added_plain old now t f e n = n ∙ (gathered_is old f ∙ ap (λ s. old ++ (if s then [] else binders_in f)) (sym e))
+
+pub on_ok : {X E : Type 0} (r : Result X E) (P Q : Type 0) → (P → Q) → OnOk r P → OnOk r Q
+on_ok (Ok x) P Q f h = f h
+on_ok (Err e) P Q f h = h
 
 abbrev pub imported_by : Spanned ImportStatement → List ℕ
 imported_by s = imported_in (before (import_view s.node) end)

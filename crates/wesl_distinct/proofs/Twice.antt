@@ -1,6 +1,6 @@
 -- Texts one after the other, until one stands twice.
 use Rattle.std.proofs.Common.{◌≡◌, ◌≢◌, ◌⊎◌, ℕ, zero, suc, ◌<◌, ◌≤◌, ◌+◌, ◌++◌, ◌||◌, Bool, true, false, not, List, [], ◌∷◌, length, get_or, map, take, refl, sym, ap, ◌∙◌, subst, inl, inr, arith, add-one}
-use Rattle.std.specs.Prelude.{bytes_eq, Result, Ok, Err, Option, Some, None, IfOk, IfSome, IfNone}
+use Rattle.std.specs.Prelude.{bytes_eq}
 use Rattle.std.specs.List.{list_any}
 use Rattle.std.proofs.lemmas.Slice.Eq.{bytes_eq-Decides}
 use Rattle.wesl_names.specs.Path.{Text}
@@ -18,12 +18,12 @@ among (x ∷ xs) n h = by (bytes_eq n x) (bytes_eq-Decides n x) h (among xs n)
 -- and one that is not is at no place
 pub not_among : (xs : List Text) (n : Text) → list_any (bytes_eq n) xs ≡ false → (i : ℕ) → i < length xs → get_or xs i [] ≢ n
 not_among [] n h i l e = absurd (omega (arith, l))
-not_among (x ∷ xs) n h i l e = by (bytes_eq n x) (bytes_eq-Decides n x) h i l e
+not_among (x ∷ xs) n h i l e = by (bytes_eq n x) (bytes_eq-Decides n x) h (not_among xs n) i l e
   where
-    by : (t : Bool) → ((t ≡ true → n ≡ x) × (n ≡ x → t ≡ true)) → (t || list_any (bytes_eq n) xs) ≡ false → (k : ℕ) → k < length (x ∷ xs) → get_or (x ∷ xs) k [] ≡ n → ⊥
-    by true d h k m f = cc
-    by false d h zero m f = let q : false ≡ true = d.1 (sym f) in cc
-    by false d h (suc k) m f = not_among xs n h k (omega (arith, m)) f
+    by : (t : Bool) → ((t ≡ true → n ≡ x) × (n ≡ x → t ≡ true)) → (t || list_any (bytes_eq n) xs) ≡ false → (list_any (bytes_eq n) xs ≡ false → (i : ℕ) → i < length xs → get_or xs i [] ≢ n) → (k : ℕ) → k < length (x ∷ xs) → get_or (x ∷ xs) k [] ≡ n → ⊥
+    by true d h r k m f = cc
+    by false d h r zero m f = let q : false ≡ true = d.1 (sym f) in cc
+    by false d h r (suc k) m f = r h k (omega (arith, m)) f
 
 get_push_here : (xs : List Text) (n : Text) → get_or (xs ++ n ∷ []) (length xs) [] ≡ n
 get_push_here [] n = refl
@@ -64,15 +64,15 @@ module _ {A B : Type 0} (f : A → B) where
   length_mapped [] = refl
   length_mapped (x ∷ xs) = ap suc (length_mapped xs)
 
-  get_mapped : (xs : List A) (i : ℕ) (x : A) (d : B) → i < length xs → x ≡ get_or xs i x → get_or (map f xs) i d ≡ f x
-  get_mapped [] i x d l e = absurd (omega (arith, l))
-  get_mapped (y ∷ xs) zero x d l e = ap f (sym e)
-  get_mapped (y ∷ xs) (suc i) x d l e = get_mapped xs i x d (omega (arith, l)) e
+  get_mapped : (xs : List A) (i : ℕ) (x c : A) (d : B) → i < length xs → x ≡ get_or xs i c → get_or (map f xs) i d ≡ f x
+  get_mapped [] i x c d l e = absurd (omega (arith, l))
+  get_mapped (y ∷ xs) zero x c d l e = ap f (sym e)
+  get_mapped (y ∷ xs) (suc i) x c d l e = get_mapped xs i x c d (omega (arith, l)) e
 
-  mapped_next : (xs : List A) (i : ℕ) (x : A) → i < length xs → x ≡ get_or xs i x → map f (take (suc i) xs) ≡ map f (take i xs) ++ f x ∷ []
-  mapped_next [] i x l e = absurd (omega (arith, l))
-  mapped_next (y ∷ xs) zero x l e = ap (λ z. f z ∷ []) (sym e)
-  mapped_next (y ∷ xs) (suc i) x l e = ap (λ ns. f y ∷ ns) (mapped_next xs i x (omega (arith, l)) e)
+  mapped_next : (xs : List A) (i : ℕ) (x c : A) → i < length xs → x ≡ get_or xs i c → map f (take (suc i) xs) ≡ map f (take i xs) ++ f x ∷ []
+  mapped_next [] i x c l e = absurd (omega (arith, l))
+  mapped_next (y ∷ xs) zero x c l e = ap (λ z. f z ∷ []) (sym e)
+  mapped_next (y ∷ xs) (suc i) x c l e = ap (λ ns. f y ∷ ns) (mapped_next xs i x c (omega (arith, l)) e)
 
   get_taken : (xs : List A) (i k : ℕ) (d : B) → i ≤ length xs → k < length (map f (take i xs)) → (get_or (map f (take i xs)) k d ≡ get_or (map f xs) k d) × (k < i)
   get_taken [] zero k d l h = absurd (omega (arith, h))
@@ -82,7 +82,7 @@ module _ {A B : Type 0} (f : A → B) where
   get_taken (y ∷ xs) (suc i) (suc k) d l h = let s = get_taken xs i k d (omega (arith, l)) (omega (arith, h)) in (s.0, omega (arith, s.1))
 
 -- a turn: the texts seen are those before a place
-module _ {K : Type 0} (text : K → Text) (name : ℕ → Text) (numbers : List ℕ) (i x : ℕ) (inside : i < length numbers) (is : x ≡ get_or numbers i x) (seen : List K) (seen_is : map text seen ≡ map name (take i numbers)) (key : K) (key_is : text key ≡ name x) (same : K → K → Bool) (same_is : (a b : K) → same a b ≡ bytes_eq (text a) (text b)) where
+module _ {K : Type 0} (text : K → Text) (name : ℕ → Text) (numbers : List ℕ) (i x : ℕ) (inside : i < length numbers) (is : x ≡ get_or numbers i 0) (seen : List K) (seen_is : map text seen ≡ map name (take i numbers)) (key : K) (key_is : text key ≡ name x) (same : K → K → Bool) (same_is : (a b : K) → same a b ≡ bytes_eq (text a) (text b)) where
   any_text : (ks : List K) → list_any (same key) ks ≡ list_any (bytes_eq (name x)) (map text ks)
   any_text [] = refl
   any_text (k ∷ ks) = ap (λ t. t || list_any (same key) ks) (same_is key k ∙ ap (λ n. bytes_eq n (text k)) key_is) ∙ ap (λ t. bytes_eq (name x) (text k) || t) (any_text ks)
@@ -94,24 +94,14 @@ module _ {K : Type 0} (text : K → Text) (name : ℕ → Text) (numbers : List 
   turn_twice h =
       let a = among (map name (take i numbers)) (name x) (sym any_seen ∙ h) in
       let t = get_taken name numbers i a.0 [] (omega (arith, inside)) a.1 in
-      record { first = a.0; second = i; before = t.1; inside = subst (λ n. i < n) (sym (length_mapped name numbers)) inside; named = sym t.0 ∙ a.2; again = get_mapped name numbers i x [] inside is }
+      record { first = a.0; second = i; before = t.1; inside = subst (λ n. i < n) (sym (length_mapped name numbers)) inside; named = sym t.0 ∙ a.2; again = get_mapped name numbers i x 0 [] inside is }
 
   pub turn_apart : AreApart (map name (take i numbers)) → list_any (same key) seen ≡ false → AreApart (map name (take (i + 1) numbers))
-  turn_apart apart h = rw add-one (subst AreApart (sym (mapped_next name numbers i x inside is)) (apart_push (map name (take i numbers)) (name x) apart (sym any_seen ∙ h)))
+  turn_apart apart h = rw add-one (subst AreApart (sym (mapped_next name numbers i x 0 inside is)) (apart_push (map name (take i numbers)) (name x) apart (sym any_seen ∙ h)))
 
   pub turn_seen : (now : List K) → now ≡ seen ++ key ∷ [] → map text now ≡ map name (take (i + 1) numbers)
-  turn_seen now e = rw add-one (ap (map text) e ∙ (pushed seen ∙ (ap (λ ns. ns ++ text key ∷ []) seen_is ∙ (ap (λ n. map name (take i numbers) ++ n ∷ []) key_is ∙ sym (mapped_next name numbers i x inside is)))))
+  turn_seen now e = rw add-one (ap (map text) e ∙ (pushed seen ∙ (ap (λ ns. ns ++ text key ∷ []) seen_is ∙ (ap (λ n. map name (take i numbers) ++ n ∷ []) key_is ∙ sym (mapped_next name numbers i x 0 inside is)))))
     where
       pushed : (ks : List K) → map text (ks ++ key ∷ []) ≡ map text ks ++ text key ∷ []
       pushed [] = refl
       pushed (k ∷ ks) = ap (λ ns. text k ∷ ns) (pushed ks)
-
-pub on_some : {X E : Type 0} (r : Result (Option X) E) (P Q : X → Type 0) → ((x : X) → P x → Q x) → IfOk r (λ o. IfSome o P) → IfOk r (λ o. IfSome o Q)
-on_some (Ok (Some x)) P Q f h = f x h
-on_some (Ok None) P Q f h = h
-on_some (Err e) P Q f h = h
-
-pub on_none : {X E : Type 0} (r : Result (Option X) E) (P Q : Type 0) → (P → Q) → IfOk r (λ o. IfNone o P) → IfOk r (λ o. IfNone o Q)
-on_none (Ok (Some x)) P Q f h = h
-on_none (Ok None) P Q f h = f h
-on_none (Err e) P Q f h = h

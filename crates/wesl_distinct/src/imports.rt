@@ -65,7 +65,6 @@ fn add_content(numbers: &mut Vec<usize>, content: &ImportContent) -> Result<(), 
 }
 
 /// Adds the names that an import binds, if it has no condition.
-#[tactic(auto, using(crate::proofs::Gathering::gathered_is))]
 fn add_import(numbers: &mut Vec<usize>, import: &ImportStatement) -> Result<(), Error>
     ensures added { OnOk result (numbers.new.items ≡ numbers.old.items ++ imported_in (before (import_view import.now) end)) }
     ensures refused { IfErr result (λ e. e ≡ error.Memory) }

@@ -25,7 +25,6 @@ fn add_plain(numbers: &mut Vec<usize>, attributes: &Attributes, ident: Ident) ->
 }
 
 /// Adds the name that a declaration declares, if it has no condition.
-#[tactic(auto, using(crate::proofs::Gathering::nothing_either_way))]
 fn add_declaration(numbers: &mut Vec<usize>, declaration: &GlobalDeclaration) -> Result<(), Error>
     ensures added { OnOk result (numbers.new.items ≡ numbers.old.items ++ declared_in (before (global_view declaration.now) end)) }
     ensures refused { IfErr result (λ e. e ≡ error.Memory) }

@@ -99,13 +99,11 @@ pub fn wesl_fault(
     ensures refused { IfErr result (λ e. e ≡ error.Memory) }
 {
     let found = occurrences(alloc, unit)?;
-    let undefined = undefined_fault(alloc, unit.names(), &found, builtins)?;
-    if undefined.is_some() {
-        return Ok(undefined);
+    if let Some(fault) = undefined_fault(alloc, unit.names(), &found, builtins)? {
+        return Ok(Some(fault));
     }
-    let duplicate = duplicate_fault(alloc, unit, builtins)?;
-    if duplicate.is_some() {
-        return Ok(duplicate);
+    if let Some(fault) = duplicate_fault(alloc, unit, builtins)? {
+        return Ok(Some(fault));
     }
     cycle_fault(alloc, unit.names(), &found, builtins)
 }

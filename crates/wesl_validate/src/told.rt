@@ -40,10 +40,7 @@ fn names_it(occurrence: &Occurrence<'_>, declaration: usize) -> bool
 
 /// The identifier that a declaration declares, if it declares one.
 #[tactic(auto, using(wesl_builtins::proofs::Strings::find_map, wesl_builtins::proofs::Strings::find_map_next))]
-fn declared<'a, 'b>(
-    found: &'b Identifiers<'a>,
-    declaration: usize,
-) -> Option<&'b Occurrence<'a>>
+fn declared<'a, 'b>(found: &'b Identifiers<'a>, declaration: usize) -> Option<&'b Occurrence<'a>>
     ensures { option_map (λ o. occurrence_view o.now) result ≡ find (names_here declaration) (map occurrence_view found.now.all.items) }
 {
     for occurrence in &found.all {

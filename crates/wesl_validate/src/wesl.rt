@@ -11,8 +11,15 @@ use wesl_builtins::Builtins;
 use wesl_names::{Diagnostic, Error};
 use wesl_tree::TranslationUnit;
 
-/// Asks that names are defined and distinct and that no declaration reaches itself, by the numbers as they stand; call
-/// `retarget_idents` first.
+/// Asks that names are defined and distinct, and that no declaration reaches itself (WGSL, "Declaration and Scope"). It
+/// goes by the numbers of `unit` as they stand; call `retarget_idents` first.
+///
+/// A name is defined where a binder has its number, where it is one of the names of `builtins`, or where it is `_`; names
+/// with a path and arguments of custom attributes are not asked. The names of imports and declarations without a condition
+/// are to be distinct.
+///
+/// `const k = bar;` is refused with `UndefinedSymbol("bar")` in the declaration `k`; `const k = 1; const k = 2;` with
+/// `Duplicate("k")`, and not where one of the two has a condition; `fn f() { f(); }` with `Cycle("f", "f")`.
 ///
 /// Refused with one fault that stands, and the name of the declaration that holds it (none for one in a `const_assert`;
 /// of `Duplicate` and `Cycle` the name that they carry first), or for want of memory.

@@ -4,13 +4,16 @@ use Rattle.wesl_kept.specs.Declarations.{all}
 use Rattle.wesl_occurrences.specs.Identified.{identified}
 use Rattle.wesl_occurrences.specs.Views.{occurrence_view}
 use Rattle.wesl_occurrences.specs.Ways.{way}
-use Rattle.wesl_rings.specs.Graphs.{graph_view, edges_at, IsGrounded, IsRing}
+use Rattle.wesl_rings.specs.Graphs.{graph_view, edges_at, IsClosed, IsGrounded, IsRing}
 use Rattle.wesl_valid.specs.Valid.{spelling, IsAcyclic}
 use Rattle.wesl_valid.specs.Faults.{IsCycle}
 use Rattle.wesl_valid.proofs.Graphs as graphs
 use Rattle.wesl_acyclic.specs.Steps.{steps}
 use Rattle.wesl_acyclic.proofs.Stepping.{same_steps, on_some, on_none}
-use Rattle.wesl_acyclic.proofs.cycle.cycle.Goals as goal
+use Rattle.wesl_acyclic.proofs.rings.cycle.Goals as goal
+
+pub ring-requires : goal.ring-requires
+ring-requires c = record { closed = subst (λ xs. IsClosed (graph_view xs)) (sym c.deref.ensures.value) c.in_ok-graph.ensures.closed }
 
 pub returns-clause-cycle : goal.returns-clause-cycle
 returns-clause-cycle c =
