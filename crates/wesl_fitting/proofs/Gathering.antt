@@ -14,12 +14,12 @@ use Rattle.wesl_syntax.specs.declared.declaration.GlobalDeclaration.{GlobalDecla
 use Rattle.wesl_syntax.specs.declared.declaration.GlobalDeclaration.TheVariants as globals
 use Rattle.wesl_kinds.specs.Sought.{expressions, statements}
 use Rattle.wesl_collect.specs.Lent.{views}
-use Rattle.wesl_collect.specs.Seen.{below, inside}
+use Rattle.wesl_collect.specs.Seen.{inside}
 use Rattle.wesl_collect.specs.Walk.{strictly}
 use Rattle.wesl_collect.proofs.Joined.{all_found_below}
 use Rattle.wesl_builtins.specs.Builtins.{BuiltinNames}
 use Rattle.wesl_valid.specs.Calls.{CallOf, called_in, calls_in}
-use Rattle.wesl_valid.specs.Valid.{declaration_at, calls_of, AliasesTo, IsEnd, Fits, IsFitting}
+use Rattle.wesl_valid.specs.Valid.{calls_of, AliasesTo, IsEnd, Fits, IsFitting}
 use Rattle.wesl_fitting.specs.Misfits.{Misses, Passes, MissesIn, MissesAmong, PassBefore}
 use Rattle.wesl_fitting.specs.Made.{call_told}
 use Rattle.wesl_fitting.specs.declared.calls.Call.{Call}

@@ -1,15 +1,14 @@
 -- What tables say of a call is so.
-use Rattle.std.proofs.Common.{◌≡◌, ◌⊎◌, ◌↔◌, ℕ, ◌<◌, ◌||◌, ◌&&◌, ◌++◌, not, Bool, true, false, List, [], ◌∷◌, refl, sym, ap, ◌∙◌, subst, inl, inr}
+use Rattle.std.proofs.Common.{◌≡◌, ◌⊎◌, ◌↔◌, ℕ, ◌||◌, ◌&&◌, not, Bool, true, false, List, [], ◌∷◌, refl, sym, ap, ◌∙◌, subst, inl, inr}
 use Rattle.std.specs.Prelude.{Option, Some, None, IfSome, IfNone, if◌then◌else◌}
 use Rattle.std.specs.List.{Contains, list_any}
 use Rattle.std.specs.Option.{option_map}
-use Rattle.wesl_names.specs.Path.{Text}
 use Rattle.wesl_syntax.specs.Unit.{UnitView, name_in}
 use Rattle.wesl_kept.specs.Marks.{mark_at}
-use Rattle.wesl_rings.specs.Graphs.{edges_at, Leads}
+use Rattle.wesl_rings.specs.Graphs.{edges_at}
 use Rattle.wesl_builtins.specs.Builtins.{BuiltinNames, is_callable}
 use Rattle.wesl_valid.specs.Calls.{CallOf, ShapeOf, function_with, struct_with, open_alias, alias_of, other, takes, is_plain_alias}
-use Rattle.wesl_valid.specs.Valid.{shape_of, is_bound, spelling, Declares, AliasesTo, itself, aliased, IsEnd, Accepts, Fits}
+use Rattle.wesl_valid.specs.Valid.{shape_of, Declares, AliasesTo, itself, aliased, IsEnd, Accepts, Fits}
 use Rattle.wesl_valid.specs.Faults.{Counts}
 use Rattle.wesl_fitting.specs.Reached as reached
 use Rattle.wesl_fitting.specs.Reached.{ReachedFrom}

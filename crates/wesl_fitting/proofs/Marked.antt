@@ -1,5 +1,5 @@
 -- Marks that grow.
-use Rattle.std.proofs.Common.{◌≡◌, ℕ, zero, suc, ◌++◌, Bool, true, false, List, [], ◌∷◌, refl}
+use Rattle.std.proofs.Common.{◌≡◌, ℕ, zero, suc, ◌++◌, Bool, false, List, [], ◌∷◌, refl}
 use Rattle.wesl_kept.specs.Marks.{mark_at}
 
 -- one more that is not set

@@ -26,8 +26,11 @@ view_type_of p i (Some v) = fold-roll-TypeExpression Tree Tree Tree Tree express
 view_type : (t : TypeExpression) → type_view t ≡ branch type_expression (optional path_tree (out-TypeExpression t).path ∷ ident_tree reference (out-TypeExpression t).ident ∷ optional (listed argument_view list) (out-TypeExpression t).template_args ∷ [])
 view_type t = ap type_view (sym (roll-out-TypeExpression t)) ∙ view_type_of (out-TypeExpression t).path (out-TypeExpression t).ident (out-TypeExpression t).template_args
 
+abbrev one : ℕ → ℕ → List (CallOf ℕ)
+one x k = record { callee = x; arguments = k } ∷ []
+
 pub plain : (c : FunctionCall) (k : ℕ) → (out-TypeExpression (out-FunctionCall c).ty).path ≡ None → k ≡ length (out-FunctionCall c).arguments.items
-    → ◌≡◌ {A = List (CallOf ℕ)} (record { callee = (out-TypeExpression (out-FunctionCall c).ty).ident.0; arguments = k } ∷ []) (call_by (call_view c).children)
+    → one (out-TypeExpression (out-FunctionCall c).ty).ident.0 k ≡ call_by (call_view c).children
 plain c k none count =
     let t = (out-FunctionCall c).ty in
     let arguments : Tree = listed expression_tree list (out-FunctionCall c).arguments in
@@ -35,5 +38,5 @@ plain c k none count =
     let rest : Tree = optional (listed argument_view list) (out-TypeExpression t).template_args in
     let seen : call_view c ≡ branch call (branch type_expression (optional path_tree None ∷ name ∷ rest ∷ []) ∷ arguments ∷ []) =
     view_call c ∙ (ap (λ x. branch call (x ∷ arguments ∷ [])) (view_type t) ∙ ap (λ p. branch call (branch type_expression (optional path_tree p ∷ name ∷ rest ∷ []) ∷ arguments ∷ [])) none) in
-    let whole : call_by (call_view c).children ≡ record { callee = (out-TypeExpression t).ident.0; arguments = length (trees (forest_of (map expression_tree (out-FunctionCall c).arguments.items))) } ∷ [] = ap (λ x. call_by x.children) seen in
-    sym (whole ∙ ap (λ n. ◌∷◌ {A = CallOf ℕ} (record { callee = (out-TypeExpression t).ident.0; arguments = n }) []) (listed_count expression_tree (out-FunctionCall c).arguments.items ∙ sym count))
+    let whole : call_by (call_view c).children ≡ one (out-TypeExpression t).ident.0 (length (trees (forest_of (map expression_tree (out-FunctionCall c).arguments.items)))) = ap (λ x. call_by x.children) seen in
+    sym (whole ∙ ap (one (out-TypeExpression t).ident.0) (listed_count expression_tree (out-FunctionCall c).arguments.items ∙ sym count))

@@ -1,5 +1,5 @@
 -- Searches through a list by an index.
-use Rattle.std.proofs.Common.{◌≡◌, ◌⊎◌, inl, inr, ◌+◌, ◌<◌, ◌||◌, ℕ, zero, suc, Bool, true, false, List, [], ◌∷◌, length, drop, get_or, Some, None, refl, sym, ap, ◌∙◌, subst, arith, drop-cons, add-one, Option}
+use Rattle.std.proofs.Common.{◌≡◌, ◌⊎◌, inl, inr, ◌+◌, ◌<◌, ◌||◌, ℕ, zero, suc, Bool, true, false, List, [], ◌∷◌, length, drop, get_or, Some, None, refl, sym, ap, ◌∙◌, subst, arith, add-one, Option}
 use Rattle.std.specs.List.{Contains, list_any}
 use Rattle.wesl_fitting.specs.Judged.{or_else, first_some}
 use Rattle.wesl_fitting.proofs.Members.{contains_none, contains_here, contains_later, contains_cases}

@@ -1,6 +1,5 @@
 -- What a module is to its calls, as tables tell it.
 use Rattle.std.specs.Prelude.{◌≡◌, ◌↔◌, ℕ, Bool, ◌&&◌, ◌==◌, Option, Some, None, List, [], ◌∷◌, flat_map, get_or, if◌then◌else◌}
-use Rattle.std.specs.List.{list_any}
 use Rattle.wesl_syntax.specs.Unit.{UnitView}
 use Rattle.wesl_occurrences.specs.Occurrences.{OccurrenceIn}
 use Rattle.wesl_kept.specs.Declarations.{is_module_name}

@@ -1,4 +1,4 @@
-use Rattle.std.proofs.Common.{◌≡◌, ◌∙◌, ◌++◌, ◌<◌, ◌==◌, ℕ, [], length, get_or, map, take, ap, sym, arith}
+use Rattle.std.proofs.Common.{◌≡◌, ◌∙◌, ◌++◌, ◌<◌, ◌==◌, [], length, get_or, map, take, ap, sym, arith}
 use Rattle.std.specs.Prelude.{if◌then◌else◌}
 use Rattle.wesl_occurrences.specs.Views.{occurrence_view}
 use Rattle.wesl_fitting.specs.Tables.{declaration_named, one_or_none, edges_here, edges_of}
