@@ -1,8 +1,8 @@
 -- What is gathered are the names that are bound.
-use Rattle.std.proofs.Common.{◌≡◌, ℕ, Bool, true, false, List, [], ◌∷◌, ◌++◌, map, refl, sym, ap, ◌∙◌, append_assoc}
+use Rattle.std.proofs.Common.{◌≡◌, ℕ, Bool, false, List, [], ◌∷◌, ◌++◌, map, refl, sym, ap, ◌∙◌, append_assoc}
 use Rattle.std.specs.Prelude.{flat_map, if◌then◌else◌, Result, Ok, Err, OnOk}
 use Rattle.std.proofs.lemmas.List.{append-nil}
-use Rattle.wesl_syntax.specs.Tree.{Tree, Label, Forest, end, tree, kind, at, ident, text, texts, truth, unary, binary, assignment, space, access, path, binder, reference, word, branch, before, forest_of, import_entry, import_node, declaration_node}
+use Rattle.wesl_syntax.specs.Tree.{Tree, Forest, end, tree, kind, at, ident, text, texts, truth, unary, binary, assignment, space, access, path, binder, reference, word, branch, before, forest_of, import_entry, import_node, declaration_node}
 use Rattle.wesl_syntax.specs.View.{entry_view, content_view, content_step, entry_step, names_tree, import_view, global_view, placed}
 use Rattle.wesl_syntax.specs.declared.span.Spanned.{Spanned}
 use Rattle.wesl_syntax.specs.declared.import.Import.{Import, out-Import}

@@ -1,7 +1,6 @@
-use Rattle.std.proofs.Common.{◌≡◌, ◌∙◌, ◌<◌, ◌++◌, ◌∷◌, [], ℕ, Bool, true, false, not, length, get_or, map, ap, sym, refl, rules, arith}
+use Rattle.std.proofs.Common.{◌≡◌, ◌∙◌, ◌<◌, ◌++◌, ◌∷◌, [], Bool, true, false, not, length, get_or, ap, refl, rules, arith}
 use Rattle.std.specs.Prelude.{bytes_eq, if◌then◌else◌}
 use Rattle.std.specs.List.{list_any}
-use Rattle.std.proofs.lemmas.Grind.{common_steps}
 use Rattle.wesl_syntax.specs.Unit.{name_in}
 use Rattle.wesl_distinct.proofs.Twice.{turn_twice, turn_apart, turn_seen}
 use Rattle.wesl_distinct.proofs.distinct.repeated.Goals as goal

@@ -1,4 +1,4 @@
-use Rattle.std.proofs.Common.{◌≡◌, ◌∙◌, sym, ap, map, Some}
+use Rattle.std.proofs.Common.{◌∙◌, sym, ap, map, Some}
 use Rattle.std.specs.Option.{option_map}
 use Rattle.wesl_syntax.specs.Unit.{name_in}
 use Rattle.wesl_occurrences.specs.Views.{occurrence_view}
