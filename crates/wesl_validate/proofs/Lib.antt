@@ -1,1 +1,2 @@
+pub mod Misfitting
 pub mod Telling

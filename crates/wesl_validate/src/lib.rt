@@ -2,7 +2,10 @@
 #![tactic(auto)]
 
 mod fault;
+mod misfit;
 mod told;
 mod wesl;
+mod wgsl;
 
 pub use wesl::validate_wesl;
+pub use wgsl::validate_wgsl;

@@ -1,0 +1,6 @@
+pub mod Judged
+pub mod Made
+pub mod Misfits
+pub mod Reached
+pub mod Tables
+pub mod Views

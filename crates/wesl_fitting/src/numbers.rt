@@ -1,0 +1,73 @@
+//! Numbers that binders have.
+ghost use Rattle.std.specs.Prelude.{◌≡◌, ◌<◌, ◌||◌, ◌==◌, ℕ, length, map, IfOk, IfErr};
+ghost use Rattle.std.specs.List.{list_any};
+ghost use Rattle.wesl_names.specs.declared.errors.Error as error;
+ghost use Rattle.wesl_occurrences.specs.Views.{occurrence_view};
+ghost use Rattle.wesl_kept.specs.Marks.{mark_at};
+ghost use Rattle.wesl_valid.specs.Valid.{is_binder};
+ghost use Rattle.wesl_fitting.specs.Tables.{binds_here};
+
+use std::alloc::Global;
+use wesl_names::Error;
+use wesl_occurrences::{Identifiers, Occurrence, Standing};
+
+/// Adds marks that are not set until there is one of this place.
+#[tactic(auto, using(crate::proofs::Marked::one_more))]
+fn grow(marks: &mut Vec<bool>, place: usize) -> Result<(), Error>
+    ensures there { IfOk result (λ _. place < length marks.new.items) }
+    ensures same { IfOk result (λ _. (m : ℕ) → mark_at marks.new.items m ≡ mark_at marks.old.items m) }
+    ensures refused { IfErr result (λ e. e ≡ error.Memory) }
+{
+    while marks.len() <= place {
+        marks.push(false)?;
+    }
+    Ok(())
+}
+
+/// Sets a mark.
+#[tactic(auto, using(wesl_kept::proofs::Marking::set_marked))]
+fn mark(marks: &mut Vec<bool>, place: usize) -> Result<(), Error>
+    ensures marked { IfOk result (λ _. (m : ℕ) → mark_at marks.new.items m ≡ (mark_at marks.old.items m || place == m)) }
+    ensures refused { IfErr result (λ e. e ≡ error.Memory) }
+{
+    grow(marks, place)?;
+    marks[place] = true;
+    Ok(())
+}
+
+/// Whether it declares its name.
+fn is_binder(occurrence: &Occurrence<'_>) -> bool
+    ensures { result ≡ is_binder (occurrence_view occurrence.now).role }
+{
+    match occurrence.standing {
+        Standing::ModuleName => true,
+        Standing::Parameter => true,
+        Standing::Local { end: _ } => true,
+        Standing::Reference(_) => false,
+        Standing::Word => false,
+    }
+}
+
+#[tactic(auto, using(wesl_kept::proofs::Marking::or_false))]
+fn mark_binder(bound: &mut Vec<bool>, occurrence: &Occurrence<'_>) -> Result<(), Error>
+    ensures marked { IfOk result (λ _. (m : ℕ) → mark_at bound.new.items m ≡ (mark_at bound.old.items m || binds_here m (occurrence_view occurrence.now))) }
+    ensures refused { IfErr result (λ e. e ≡ error.Memory) }
+{
+    if is_binder(occurrence) {
+        mark(bound, occurrence.ident.0)?;
+    }
+    Ok(())
+}
+
+/// Of each number whether a binder has it. Refused for want of memory alone.
+#[tactic(auto, using(wesl_kept::proofs::Marking::any_next, wesl_kept::proofs::Marking::or_assoc, wesl_kept::proofs::Marking::or_false))]
+pub(crate) fn bound_numbers(alloc: Global, found: &Identifiers<'_>) -> Result<Vec<bool>, Error>
+    ensures marked { IfOk result (λ bound. (m : ℕ) → mark_at bound.items m ≡ list_any (binds_here m) (map occurrence_view found.now.all.items)) }
+    ensures refused { IfErr result (λ e. e ≡ error.Memory) }
+{
+    let mut bound = Vec::new(alloc);
+    for occurrence in &found.all {
+        mark_binder(&mut bound, occurrence)?;
+    }
+    Ok(bound)
+}

@@ -1,0 +1,105 @@
+//! The nodes that are reached from one of a graph.
+ghost use Rattle.std.specs.Prelude.{◌≡◌, ◌<◌, ◌↔◌, ℕ, IfOk, IfErr};
+ghost use Rattle.std.specs.List.{Contains};
+ghost use Rattle.std.proofs.Common.{set};
+ghost use Rattle.wesl_names.specs.declared.errors.Error as error;
+ghost use Rattle.wesl_kept.specs.Marks.{mark_at};
+ghost use Rattle.wesl_rings.specs.Graphs.{graph_view, edges_at, IsClosed};
+ghost use Rattle.wesl_fitting.specs.Reached.{ReachedFrom, Visits, all_entered, cleared, entered, visits, IsClear};
+
+use std::alloc::Global;
+use wesl_names::Error;
+
+/// Whether a node has its mark.
+fn is_marked(marks: &[bool], node: usize) -> bool
+    ensures { result ≡ mark_at marks.now node }
+{
+    node < marks.len() && marks[node]
+}
+
+/// Sets a node's mark or takes it away. A node past the end has none.
+#[tactic(auto, using(crate::proofs::Reaching::set_outside))]
+fn set_mark(marks: &mut [bool], node: usize, value: bool)
+    ensures { marks.new ≡ set marks.old node value }
+{
+    if node < marks.len() {
+        marks[node] = value;
+    }
+}
+
+/// Puts a node at the end of those that were met, unless it has its mark.
+fn enter(marks: &mut [bool], nodes: &mut Vec<usize>, node: usize) -> Result<(), Error>
+    ensures entered { IfOk result (λ _. visits marks.new nodes.new.items ≡ entered node (visits marks.old nodes.old.items)) }
+    ensures refused { IfErr result (λ e. e ≡ error.Memory) }
+{
+    if is_marked(marks, node) {
+        return Ok(());
+    }
+    set_mark(marks, node, true);
+    nodes.push(node)?;
+    Ok(())
+}
+
+fn enter_all(marks: &mut [bool], nodes: &mut Vec<usize>, targets: &Vec<usize>) -> Result<(), Error>
+    ensures entered { IfOk result (λ _. visits marks.new nodes.new.items ≡ all_entered targets.now.items (visits marks.old nodes.old.items)) }
+    ensures refused { IfErr result (λ e. e ≡ error.Memory) }
+{
+    for target in targets {
+        enter(marks, nodes, *target)?;
+    }
+    Ok(())
+}
+
+/// Meets those to which a node leads.
+fn spread(
+    graph: &Vec<Vec<usize>>,
+    marks: &mut [bool],
+    nodes: &mut Vec<usize>,
+    node: usize,
+) -> Result<(), Error>
+    ensures entered { IfOk result (λ _. visits marks.new nodes.new.items ≡ all_entered (edges_at (graph_view graph.now.items) node) (visits marks.old nodes.old.items)) }
+    ensures refused { IfErr result (λ e. e ≡ error.Memory) }
+{
+    match graph.get(node) {
+        None => Ok(()),
+        Some(targets) => enter_all(marks, nodes, targets),
+    }
+}
+
+/// Takes the marks of these nodes away.
+fn clear(marks: &mut [bool], nodes: &[usize])
+    ensures { marks.new ≡ cleared nodes.now marks.old }
+{
+    for node in nodes {
+        set_mark(marks, *node, false);
+    }
+}
+
+/// The node and those that it reaches, each once where it is one of the graph.
+///
+/// `marks` are for each node of the graph whether it was met; none is before and after. It goes over the nodes that it
+/// answers and their edges once. Refused for want of memory alone.
+pub(crate) fn reached(
+    alloc: Global,
+    graph: &Vec<Vec<usize>>,
+    marks: &mut [bool],
+    node: usize,
+) -> Result<Vec<usize>, Error>
+    requires closed { IsClosed (graph_view graph.now.items) }
+    requires clear { IsClear (graph_view graph.now.items) marks.old }
+    ensures reached { IfOk result (λ nodes. (m : ℕ) → Contains nodes.items m ↔ ReachedFrom (graph_view graph.now.items) node m) }
+    ensures clear { IfOk result (λ _. IsClear (graph_view graph.now.items) marks.new) }
+    ensures refused { IfErr result (λ e. e ≡ error.Memory) }
+{
+    let mut nodes = Vec::new(alloc);
+    nodes.push(node)?;
+    set_mark(marks, node, true);
+    let mut next = 0;
+    while next < nodes.len() {
+        let from = nodes[next];
+        spread(graph, marks, &mut nodes, from)?;
+        next += 1;
+    }
+    clear(marks, &nodes);
+    Ok(nodes)
+}

@@ -1,0 +1,73 @@
+-- A call that misses is a fault.
+use Rattle.std.proofs.Common.{◌≡◌, ℕ, refl, sym, ap, ◌∙◌, subst}
+use Rattle.std.specs.Prelude.{Option, string_bytes}
+use Rattle.std.specs.List.{Contains}
+use Rattle.wesl_names.specs.Path.{Text}
+use Rattle.wesl_names.specs.declared.errors.ValidateError.{ValidateError}
+use Rattle.wesl_names.specs.declared.errors.ValidateError.TheVariants as fault
+use Rattle.wesl_syntax.specs.Unit.{UnitView, name_in}
+use Rattle.wesl_builtins.specs.Builtins.{BuiltinNames}
+use Rattle.wesl_valid.specs.Calls.{CallOf}
+use Rattle.wesl_valid.specs.Valid.{calls_of, Fits}
+use Rattle.wesl_valid.specs.Faults.{name_of, Counts, IsMisfit, IsMiscounted, IsNotCallable, IsWeslFault, IsWgslFault, IsRefusal, RefusesWesl, RefusesWgsl, Tells as Said}
+use Rattle.wesl_names.specs.declared.errors.Error as error
+use Rattle.wesl_names.specs.declared.errors.Diagnostic.{Diagnostic}
+use Rattle.wesl_fitting.specs.Misfits.{MissesIn}
+use Rattle.wesl_fitting.specs.declared.misfit.Misfit.{Misfit}
+use Rattle.wesl_fitting.specs.declared.misfit.Misfit.TheVariants as misfit
+use Rattle.wesl_validate.specs.Misfits.{Tells}
+
+module _ (u : UnitView) (b : BuiltinNames) (within : Option Text) (j : ℕ) (round : name_of u j ≡ within) where
+  misfit_of : (c : CallOf ℕ) → Contains (calls_of u j) c → (Fits u b c → ⊥) → IsMisfit u b within c
+  misfit_of c there none = record { declaration = j; there = there; fits_none = none; round = round }
+
+  pub is_fault : (m : Misfit) (e : ValidateError) → MissesIn u b j m → Tells u.names m e → IsWgslFault u b within e
+  is_fault (misfit.ParamCount i k g) (fault.ParamCount n x y) (c, there, none, ends, counts, got) (name, expected, given) = record {
+    callee = c.callee;
+    misfit = subst (λ a. IsMisfit u b within (record { callee = c.callee; arguments = a })) (got ∙ sym given) (misfit_of c there none);
+    last = i;
+    ends = ends;
+    counts = subst (Counts u i) (sym expected) counts;
+    named = sym name;
+  }
+  is_fault (misfit.NotCallable i) (fault.NotCallable n) (c, there, none, ends, is_end, others) name = record {
+    call = c;
+    misfit = misfit_of c there none;
+    last = i;
+    ends = ends;
+    is_end = is_end;
+    named = sym name;
+    counts_none = others;
+  }
+  is_fault (misfit.ParamCount i k g) (fault.UndefinedSymbol n) s t = absurd t
+  is_fault (misfit.ParamCount i k g) (fault.NotCallable n) s t = absurd t
+  is_fault (misfit.ParamCount i k g) (fault.Duplicate n) s t = absurd t
+  is_fault (misfit.ParamCount i k g) (fault.Cycle n via) s t = absurd t
+  is_fault (misfit.NotCallable i) (fault.UndefinedSymbol n) s t = absurd t
+  is_fault (misfit.NotCallable i) (fault.ParamCount n x y) s t = absurd t
+  is_fault (misfit.NotCallable i) (fault.Duplicate n) s t = absurd t
+  is_fault (misfit.NotCallable i) (fault.Cycle n via) s t = absurd t
+
+-- what `validate_wesl` answers is also a refusal here
+module _ (u : UnitView) (b : BuiltinNames) where
+  also_fault : (within : Option Text) (e : ValidateError) → IsWeslFault u b within e → IsWgslFault u b within e
+  also_fault within (fault.UndefinedSymbol n) f = f
+  also_fault within (fault.ParamCount n x y) f = absurd f
+  also_fault within (fault.NotCallable n) f = absurd f
+  also_fault within (fault.Duplicate n) f = f
+  also_fault within (fault.Cycle n via) f = f
+
+  also_said : (within : Option Text) (e : error.Error) → Said (IsWeslFault u b) within e → Said (IsWgslFault u b) within e
+  also_said within (error.Validate e) s = also_fault within e s
+  also_said within error.Memory s = s
+  also_said within (error.CondComp e) s = absurd s
+  also_said within (error.Import e) s = absurd s
+  also_said within (error.Resolve e) s = absurd s
+  also_said within (error.ModuleLimit n) s = absurd s
+  also_said within error.NotNormalType s = absurd s
+  also_said within error.NotJson s = absurd s
+  also_said within (error.BadTree n) s = absurd s
+  also_said within (error.BadBundle n) s = absurd s
+
+  pub also_refused : (d : Diagnostic) → RefusesWesl u b d → RefusesWgsl u b d
+  also_refused d r = record { tells = also_said _ d.error r.tells; no_module = r.no_module; no_display = r.no_display; no_span = r.no_span; no_source = r.no_source }
