@@ -29,8 +29,3 @@ returns-in-Ok-clause-refused g c =
     IfErr-weaker c.link_unit.result _ _
     (λ d h. inr (root, (refl, c.in-Ok.ensures.handed), refused-over _ _ _ _ alike root (task_of root (kept_names c.args.is_eager (texts c.args.keep.now)) c.args.is_eager) c.args.max_modules d.error h))
     c.link_unit.ensures.refused
-
-pub returns-clause-refused : goal.returns-clause-refused
-returns-clause-refused g c =
-    let bare : c.of.result.error ≡ c.of_resolve.result = search rules in
-    inl (c.in-Err.fault, c.in-Err.ensures.refused, bare ∙ c.of_resolve.ensures)
