@@ -1,6 +1,6 @@
 -- A call that misses is a fault.
 use Rattle.std.proofs.Common.{◌≡◌, ℕ, refl, sym, ap, ◌∙◌, subst}
-use Rattle.std.specs.Prelude.{Option, string_bytes}
+use Rattle.std.specs.Prelude.{Option, Some, None, IfSome, string_bytes}
 use Rattle.std.specs.List.{Contains}
 use Rattle.wesl_names.specs.Path.{Text}
 use Rattle.wesl_names.specs.declared.errors.ValidateError.{ValidateError}
@@ -22,7 +22,7 @@ module _ (u : UnitView) (b : BuiltinNames) (within : Option Text) (j : ℕ) (rou
   misfit_of c there none = record { declaration = j; there = there; fits_none = none; round = round }
 
   pub is_fault : (m : Misfit) (e : ValidateError) → MissesIn u b j m → Tells u.names m e → IsWgslFault u b within e
-  is_fault (misfit.ParamCount i k g) (fault.ParamCount n x y) (c, there, none, ends, counts, got) (name, expected, given) = record {
+  is_fault (misfit.ParamCount i k g) (fault.ParamCount n x y) (c, there, (none, ends, counts, got)) (name, expected, given) = record {
     callee = c.callee;
     misfit = subst (λ a. IsMisfit u b within (record { callee = c.callee; arguments = a })) (got ∙ sym given) (misfit_of c there none);
     last = i;
@@ -30,7 +30,7 @@ module _ (u : UnitView) (b : BuiltinNames) (within : Option Text) (j : ℕ) (rou
     counts = subst (Counts u i) (sym expected) counts;
     named = sym name;
   }
-  is_fault (misfit.NotCallable i) (fault.NotCallable n) (c, there, none, ends, is_end, others) name = record {
+  is_fault (misfit.NotCallable i) (fault.NotCallable n) (c, there, (none, ends, is_end, others)) name = record {
     call = c;
     misfit = misfit_of c there none;
     last = i;
@@ -71,3 +71,8 @@ module _ (u : UnitView) (b : BuiltinNames) where
 
   pub also_refused : (d : Diagnostic) → RefusesWesl u b d → RefusesWgsl u b d
   also_refused d r = record { tells = also_said _ d.error r.tells; no_module = r.no_module; no_display = r.no_display; no_span = r.no_span; no_source = r.no_source }
+
+-- what is so of what is there
+pub some_of : {X : Type 0} (r : Option X) (P : X → Type 0) (x : X) → r ≡ Some x → IfSome r P → P x
+some_of (Some y) P x e h = let same : y ≡ x = cc in subst P same h
+some_of None P x e h = absurd (cc)
