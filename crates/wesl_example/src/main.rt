@@ -81,7 +81,15 @@ fn linked(alloc: Global, modules: Trees) -> Result<TranslationUnit, Diagnostic> 
         .insert(String::from_str(alloc, "fast")?, Feature::Enable)?;
     let mut root = ModulePath::new_root(alloc);
     root.push("main")?;
-    let mut found = link_under(alloc, &["main"], &root, modules, &Some(features), 1000)?;
+    let mut found = link_under(
+        alloc,
+        &["main"],
+        false,
+        &root,
+        modules,
+        &Some(features),
+        1000,
+    )?;
     found.mangle(alloc, &mut EscapeMangler, false)?;
     Ok(found.assemble(alloc, true)?)
 }
