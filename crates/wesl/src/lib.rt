@@ -1,28 +1,122 @@
 //! The linker as one call: a bundle of modules in, one line out. It puts together the steps of `wesl_program`, and
-//! re-exports what users call.
+//! re-exports what users call, with the types in the signatures of these calls.
 #![tactic(auto)]
 
+pub mod condcomp;
 mod program;
 
-pub use program::{Outcome, RunError, run, run_noting};
+pub use program::Outcome;
+pub use program::RunError;
+pub use program::line_of_bytes;
+pub use program::run;
+pub use program::run_noting;
+pub use serde_json::Value;
+pub use wesl_builtins::BuiltinIdent;
+pub use wesl_builtins::BuiltinType;
+pub use wesl_builtins::Builtins;
+pub use wesl_builtins::SampledType;
+pub use wesl_builtins::SamplerType;
+pub use wesl_builtins::TextureType;
+pub use wesl_builtins::VecSize;
 pub use wesl_clash::names_clash;
 pub use wesl_clone::TryClone;
-pub use wesl_cond::{Feature, Features, eval_attr};
+pub use wesl_cond::Feature;
+pub use wesl_cond::Features;
+pub use wesl_cond::eval_attr;
 pub use wesl_conditional::link_under;
-pub use wesl_json::{unit_of_value, value_of_unit};
-pub use wesl_link::{Resolutions, Resolver, resolve_eager, resolve_lazy};
-pub use wesl_mangle::{
-    CacheMangler, EscapeMangler, HashMangler, Mangler, NoMangler, PathHash, UnicodeMangler,
-};
+pub use wesl_json::JsonText;
+pub use wesl_json::unit_of_value;
+pub use wesl_json::value_of_unit;
+pub use wesl_link::Resolutions;
+pub use wesl_link::resolve_eager;
+pub use wesl_link::resolve_lazy;
+pub use wesl_mangle::CacheMangler;
+pub use wesl_mangle::EscapeMangler;
+pub use wesl_mangle::HashMangler;
+pub use wesl_mangle::Mangler;
+pub use wesl_mangle::NoMangler;
+pub use wesl_mangle::PathHash;
+pub use wesl_mangle::UnicodeMangler;
 pub use wesl_program::Failures;
-pub use wesl_tree::{
-    AccessMode, AddressSpace, AssignmentOperator, Attribute, AttributeNode, Attributes,
-    BinaryOperator, BreakIfStatement, CaseSelector, CompoundStatement, CondCompError, ConstAssert,
-    ContinuingStatement, Declaration, DeclarationKind, Diagnostic, ElseClause, ElseIfClause, Error,
-    Expression, ExpressionNode, FormalParameter, Function, FunctionCall, GlobalDeclaration,
-    GlobalDeclarationNode, GlobalDirective, GlobalDirectiveNode, Ident, IfClause, Import,
-    ImportContent, ImportError, ImportItem, ImportStatement, ImportStatementNode, Literal,
-    ModulePath, Names, PathOrigin, ResolveError, Span, Spanned, Statement, StatementNode, Struct,
-    StructMember, StructMemberNode, SwitchClause, TemplateArg, TranslationUnit, TypeAlias,
-    TypeExpression, UnaryOperator, ValidateError,
-};
+pub use wesl_program::Line;
+pub use wesl_resolve::CodegenModule;
+pub use wesl_resolve::CodegenPkg;
+pub use wesl_resolve::NoResolver;
+pub use wesl_resolve::PkgResolver;
+pub use wesl_resolve::Preprocessor;
+pub use wesl_resolve::Resolver;
+pub use wesl_resolve::Router;
+pub use wesl_resolve::StandardResolver;
+pub use wesl_resolve::UnitText;
+pub use wesl_resolve::VirtualResolver;
+pub use wesl_scope::SyntaxUtil;
+pub use wesl_scope::strip_except;
+pub use wesl_source_map::BasicSourceMap;
+pub use wesl_source_map::NoSourceMap;
+pub use wesl_source_map::SourceMap;
+pub use wesl_source_mapper::SourceMapper;
+pub use wesl_tree::AccessMode;
+pub use wesl_tree::AddressSpace;
+pub use wesl_tree::AssignmentOperator;
+pub use wesl_tree::Attribute;
+pub use wesl_tree::AttributeNode;
+pub use wesl_tree::Attributes;
+pub use wesl_tree::BinaryOperator;
+pub use wesl_tree::BreakIfStatement;
+pub use wesl_tree::CaseSelector;
+pub use wesl_tree::CompoundStatement;
+pub use wesl_tree::CondCompError;
+pub use wesl_tree::ConstAssert;
+pub use wesl_tree::ContinuingStatement;
+pub use wesl_tree::Declaration;
+pub use wesl_tree::DeclarationKind;
+pub use wesl_tree::Diagnostic;
+pub use wesl_tree::ElseClause;
+pub use wesl_tree::ElseIfClause;
+pub use wesl_tree::Error;
+pub use wesl_tree::Expression;
+pub use wesl_tree::ExpressionNode;
+pub use wesl_tree::FormalParameter;
+pub use wesl_tree::Function;
+pub use wesl_tree::FunctionCall;
+pub use wesl_tree::GlobalDeclaration;
+pub use wesl_tree::GlobalDeclarationNode;
+pub use wesl_tree::GlobalDirective;
+pub use wesl_tree::GlobalDirectiveNode;
+pub use wesl_tree::Ident;
+pub use wesl_tree::IfClause;
+pub use wesl_tree::Import;
+pub use wesl_tree::ImportContent;
+pub use wesl_tree::ImportError;
+pub use wesl_tree::ImportItem;
+pub use wesl_tree::ImportStatement;
+pub use wesl_tree::ImportStatementNode;
+pub use wesl_tree::Literal;
+pub use wesl_tree::ModulePath;
+pub use wesl_tree::Names;
+pub use wesl_tree::PathOrigin;
+pub use wesl_tree::ResolveError;
+pub use wesl_tree::Span;
+pub use wesl_tree::Spanned;
+pub use wesl_tree::Statement;
+pub use wesl_tree::StatementNode;
+pub use wesl_tree::Struct;
+pub use wesl_tree::StructMember;
+pub use wesl_tree::StructMemberNode;
+pub use wesl_tree::SwitchClause;
+pub use wesl_tree::TemplateArg;
+pub use wesl_tree::TranslationUnit;
+pub use wesl_tree::TypeAlias;
+pub use wesl_tree::TypeExpression;
+pub use wesl_tree::UnaryOperator;
+pub use wesl_tree::ValidateError;
+pub use wesl_validate::validate_wesl;
+pub use wesl_validate::validate_wgsl;
+pub use wesl_visit::Collect;
+pub use wesl_visit::Holder;
+pub use wesl_visit::Kind;
+pub use wesl_visit::Node;
+pub use wesl_visit::Replace;
+pub use wesl_visit::Rewrite;
+pub use wesl_visit::Visit;
+pub use wesl_visit::Visitor;

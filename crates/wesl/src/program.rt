@@ -69,6 +69,18 @@ pub fn run_noting<R: Read, W: Write>(
     }
 }
 
+/// The line of these bytes: the answer (`Linked`), or a fault (`Refused`), with its line feed.
+///
+/// It is the line that `run` writes where a reader has these bytes. Want of memory is a fault too, and its line takes none.
+pub fn line_of_bytes(alloc: Global, bytes: &[u8]) -> (Outcome, Line)
+    ensures line { IsLine result.0 bytes.now (bytes_of result.1) }
+{
+    match answer(alloc, bytes) {
+        Ok(line) => (Outcome::Linked, Line::Made(line)),
+        Err(error) => (Outcome::Refused, refusal(alloc, error)),
+    }
+}
+
 // The line of what the reader has.
 fn line_for<R: Read>(
     alloc: Global,
@@ -83,15 +95,6 @@ fn line_for<R: Read>(
         Ok(bytes) => Ok(line_of_bytes(alloc, &bytes)),
         Err(ReadFault::Input) => Err(RunError::Input),
         Err(ReadFault::Memory) => Ok((Outcome::Refused, memory_line())),
-    }
-}
-
-fn line_of_bytes(alloc: Global, bytes: &[u8]) -> (Outcome, Line)
-    ensures { IsLine result.0 bytes.now (bytes_of result.1) }
-{
-    match answer(alloc, bytes) {
-        Ok(line) => (Outcome::Linked, Line::Made(line)),
-        Err(error) => (Outcome::Refused, refusal(alloc, error)),
     }
 }
 

@@ -1,3 +1,3 @@
-mod Numbered
-mod Reading
-mod Whole
+pub mod Numbered
+pub mod Reading
+pub mod Whole

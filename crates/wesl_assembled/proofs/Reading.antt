@@ -31,7 +31,7 @@ module _ (names : List Text) (all : List (Occurrence ℕ)) (P : Occurrence ℕ �
   all_picked n p (k ∷ outer) = filled (binders_in names all n p (k ∷ outer)) (binders_of names all n p outer) (All-filter (λ o. binds (k ∷ outer) n p (named names o)) P all h) (all_picked n p outer)
 
 module _ {K : Type 0} (names : List Text) (all : List (Occurrence ℕ)) (means : ℕ → K) (ks : List K) (numbered : AreNumbers ks (map (λ o. o.name) all)) (denoted : map means (map (λ o. o.name) all) ≡ ks) where
-  apart : (i j : ℕ) (d e : Occurrence ℕ) → i < length all → j < length all → means (get_or all i d).name ≡ means (get_or all j e).name → (get_or all i d).name ≡ (get_or all j e).name
+  pub apart : (i j : ℕ) (d e : Occurrence ℕ) → i < length all → j < length all → means (get_or all i d).name ≡ means (get_or all j e).name → (get_or all i d).name ≡ (get_or all j e).name
   apart i j d e hi hj same =
       let l = numbers_length all in
       let at_i = number_of all i d hi in

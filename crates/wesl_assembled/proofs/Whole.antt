@@ -17,7 +17,7 @@ use Rattle.wesl_assembled.proofs.Reading.{reads_as_meant, reads_right}
 same_first : {X Y : Type 0} (f g : X → Y) (x : X) (xs : List X) → map f (x ∷ xs) ≡ map g (x ∷ xs) → f x ≡ g x
 same_first f g x xs e = cc
 
-same_each : {X Y : Type 0} (f g : X → Y) (xs : List X) → map f xs ≡ map g xs → All (λ x. f x ≡ g x) xs
+pub same_each : {X Y : Type 0} (f g : X → Y) (xs : List X) → map f xs ≡ map g xs → All (λ x. f x ≡ g x) xs
 same_each f g [] e i d h = absurd (omega (arith, h))
 same_each f g (x ∷ xs) e zero d h = same_first f g x xs e
 same_each f g (x ∷ xs) e (suc i) d h = same_each f g xs (ap (λ ys. rest_of ys) e) i d (omega (arith, h))
@@ -26,7 +26,7 @@ same_each f g (x ∷ xs) e (suc i) d h = same_each f g xs (ap (λ ys. rest_of ys
     rest_of [] = []
     rest_of (y ∷ ys) = ys
 
-mapped_twice : {X Y Z : Type 0} (f : X → Y) (g : Y → Z) (xs : List X) → map g (map f xs) ≡ map (λ x. g (f x)) xs
+pub mapped_twice : {X Y Z : Type 0} (f : X → Y) (g : Y → Z) (xs : List X) → map g (map f xs) ≡ map (λ x. g (f x)) xs
 mapped_twice f g [] = refl
 mapped_twice f g (x ∷ xs) = ap (λ ys. g (f x) ∷ ys) (mapped_twice f g xs)
 

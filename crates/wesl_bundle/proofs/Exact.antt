@@ -4,14 +4,15 @@ use Rattle.std.proofs.lemmas.Slice.Eq.{bytes_eq-Decides}
 use Rattle.std.specs.Cmp.Lexicographic.{slice_cmp}
 use Rattle.std.specs.Ordering.{match_ordering}
 use Rattle.serde_json.specs.Data.{Data, null, boolean, number, string, array, object, Items, no_items, item, Members, no_members, member}
-use Rattle.serde_json.specs.Find.{as_array, as_bool, as_object, at, get, get_item, get_member}
+use Rattle.serde_json.specs.Find.{as_array, as_bool, as_object, as_str, at, get, get_item, get_member}
 use Rattle.serde_json.specs.Written.{has_float, items_have_float, members_have_float}
 use Rattle.wesl_names.specs.Path.{Path, Text}
 use Rattle.wesl_bundle.specs.Bundle as spec
 use Rattle.wesl_formula.specs.declared.features.Feature.{Feature}
 use Rattle.wesl_bundle.specs.declared.options.Naming.{Naming}
+use Rattle.wesl_bundle.specs.Builtins.{Builtins, builtins_in, builtins_keys, builtins_of_members}
 use Rattle.wesl_bundle.specs.Features.{Features, Flag, feature_in, features_in, features_keys, features_of_members, flags_in, flags_of}
-use Rattle.wesl_bundle.specs.Forms.{BreaksAt, Field, Form, HasFormAt, IsBrokenBundle, IsWrong, IsWrongObject, a_bundle, a_feature, a_limit, a_list_of, a_mangler, a_module, a_name, a_package, a_package_module, a_path, a_truth, a_unit, an_object_of, fields, find_field, optional, required, some_features}
+use Rattle.wesl_bundle.specs.Forms.{BreaksAt, Field, Form, HasFormAt, IsBrokenBundle, IsWrong, IsWrongObject, a_bundle, a_feature, a_limit, a_list_of, a_mangler, a_module, a_name, a_package, a_package_module, a_path, a_text, a_truth, a_unit, an_object_of, fields, find_field, optional, required, some_builtins, some_features}
 use Rattle.wesl_bundle.specs.Packages as said
 use Rattle.wesl_bundle.specs.Place.{IsFloatAt}
 use Rattle.wesl_pointer.specs.Keys.{HasMember}
@@ -46,16 +47,17 @@ all4 mk (Some w) (Some x) None d r h = cc
 all4 mk (Some w) (Some x) (Some y) None r h = cc
 all4 mk (Some w) (Some x) (Some y) (Some z) r h = ((w, refl), (x, refl), (y, refl), (z, refl))
 
-all6 : {A B C D E F R : Type 0} (mk : A → B → C → D → E → F → R) (a : Option A) (b : Option B) (c : Option C) (d : Option D) (e : Option E) (f : Option F) (r : R)
-    → option_and_then (λ u. option_and_then (λ v. option_and_then (λ w. option_and_then (λ x. option_and_then (λ y. option_and_then (λ z. Some (mk u v w x y z)) f) e) d) c) b) a ≡ Some r
-    → Given a × Given b × Given c × Given d × Given e × Given f
-all6 mk None b c d e f r h = cc
-all6 mk (Some u) None c d e f r h = cc
-all6 mk (Some u) (Some v) None d e f r h = cc
-all6 mk (Some u) (Some v) (Some w) None e f r h = cc
-all6 mk (Some u) (Some v) (Some w) (Some x) None f r h = cc
-all6 mk (Some u) (Some v) (Some w) (Some x) (Some y) None r h = cc
-all6 mk (Some u) (Some v) (Some w) (Some x) (Some y) (Some z) r h = ((u, refl), (v, refl), (w, refl), (x, refl), (y, refl), (z, refl))
+all7 : {A B C D E F G R : Type 0} (mk : A → B → C → D → E → F → G → R) (a : Option A) (b : Option B) (c : Option C) (d : Option D) (e : Option E) (f : Option F) (g : Option G) (r : R)
+    → option_and_then (λ t. option_and_then (λ u. option_and_then (λ v. option_and_then (λ w. option_and_then (λ x. option_and_then (λ y. option_and_then (λ z. Some (mk t u v w x y z)) g) f) e) d) c) b) a ≡ Some r
+    → Given a × Given b × Given c × Given d × Given e × Given f × Given g
+all7 mk None b c d e f g r h = cc
+all7 mk (Some t) None c d e f g r h = cc
+all7 mk (Some t) (Some u) None d e f g r h = cc
+all7 mk (Some t) (Some u) (Some v) None e f g r h = cc
+all7 mk (Some t) (Some u) (Some v) (Some w) None f g r h = cc
+all7 mk (Some t) (Some u) (Some v) (Some w) (Some x) None g r h = cc
+all7 mk (Some t) (Some u) (Some v) (Some w) (Some x) (Some y) None r h = cc
+all7 mk (Some t) (Some u) (Some v) (Some w) (Some x) (Some y) (Some z) r h = ((t, refl), (u, refl), (v, refl), (w, refl), (x, refl), (y, refl), (z, refl))
 
 and_given : {A B : Type 0} (f : A → Option B) (o : Option A) (y : B) → option_and_then f o ≡ Some y → (x : A) × (o ≡ Some x) × (f x ≡ Some y)
 and_given f None y h = cc
@@ -83,8 +85,11 @@ made-options mangler root eager limit = record { mangler = mangler; mangle_root 
 abbrev made-features : Feature → List Flag → Features
 made-features default flags = record { default = default; flags = flags }
 
-abbrev made-bundle : Path → List Text → List spec.Module → said.Packages → Option Features → spec.Options → spec.Bundle
-made-bundle root keep modules packages features options = record { root = root; keep = keep; modules = modules; packages = packages; features = features; options = options }
+abbrev made-builtins : List Text → List Text → List Text → Builtins
+made-builtins names functions constructors = record { names = names; functions = functions; constructors = constructors }
+
+abbrev made-bundle : Path → List Text → List spec.Module → said.Packages → Option Features → spec.Options → Option Builtins → spec.Bundle
+made-bundle root keep modules packages features options builtins = record { root = root; keep = keep; modules = modules; packages = packages; features = features; options = options; builtins = builtins }
 
 -- ---- readings by form
 
@@ -92,6 +97,7 @@ abbrev HasReading : Form → Data → Type 0
 HasReading a_bundle d = Given (spec.bundle_in d)
 HasReading a_path d = Given (path_in d)
 HasReading a_name d = Given (name_in d)
+HasReading a_text d = Given (as_str d)
 HasReading a_module d = Given (spec.module_in d)
 HasReading a_unit d = Unit {0}
 HasReading a_package d = Given (said.package_in d)
@@ -101,6 +107,7 @@ HasReading a_feature d = Given (feature_in d)
 HasReading a_mangler d = Given (spec.naming_in d)
 HasReading a_truth d = Given (as_bool d)
 HasReading a_limit d = Given (spec.limit_in d)
+HasReading some_builtins d = Given (builtins_in d)
 HasReading (a_list_of f) d = (ds : Items) × (as_array d ≡ Some ds) × ((i : ℕ) (e : Data) → get_item i ds ≡ Some e → HasReading f e)
 HasReading (an_object_of f) d = (ms : Members) × (as_object d ≡ Some ms) × ((k : Text) (e : Data) → get_member k ms ≡ Some e → HasReading f e)
 
@@ -186,6 +193,18 @@ features-object d h =
     let second = may (or_default [] flags_in) (codes "flags") (an_object_of a_feature) flags-there (get (codes "flags") d) parts.1 in
     (known.0, (first, (second, tt)))
 
+texts-there : (k : Text) (o : Option Data) → Given (or_empty as_str o) → IsFieldRead (optional k (a_list_of a_text)) o
+texts-there k o h = may (or_empty as_str) k (a_list_of a_text) (λ e x. list-read as_str a_text (λ e y. y) e x) o h
+
+builtins-object : (d : Data) → Given (builtins_in d) → IsObjectRead some_builtins d
+builtins-object d h =
+    let known = if_given (has_only builtins_keys d) (builtins_of_members d) h.0 h.1 in
+    let parts = all3 made-builtins (or_empty as_str (get (codes "names") d)) (or_empty as_str (get (codes "functions") d)) (or_empty as_str (get (codes "constructors") d)) h.0 known.1 in
+    let names = texts-there (codes "names") (get (codes "names") d) parts.0 in
+    let functions = texts-there (codes "functions") (get (codes "functions") d) parts.1 in
+    let constructors = texts-there (codes "constructors") (get (codes "constructors") d) parts.2 in
+    (known.0, (names, (functions, (constructors, tt))))
+
 module-parts : (d : Data) (below : Option said.PackageModules) → Given (said.module_with d below) → IsFieldRead (required (codes "name") a_name) (get (codes "name") d) × IsFieldRead (required (codes "unit") a_unit) (get (codes "unit") d) × Given below
 module-parts d below h =
     let parts = all3 made-package-module (required_in name_in (codes "name") d) (get (codes "unit") d) below h.0 h.1 in
@@ -223,19 +242,21 @@ package-object (object ms) h =
 bundle-object : (d : Data) → Given (spec.bundle_in d) → IsObjectRead a_bundle d
 bundle-object d h =
     let known = if_given (has_only spec.bundle_keys d) (spec.bundle_of_members d) h.0 h.1 in
-    let parts = all6 made-bundle (required_in path_in (codes "root") d) (or_empty name_in (get (codes "keep") d)) (or_empty spec.module_in (get (codes "modules") d)) (or_default said.no_packages said.packages_in (get (codes "packages") d)) (optional_in features_in (get (codes "features") d)) (spec.options_in d) h.0 known.1 in
+    let parts = all7 made-bundle (required_in path_in (codes "root") d) (or_empty name_in (get (codes "keep") d)) (or_empty spec.module_in (get (codes "modules") d)) (or_default said.no_packages said.packages_in (get (codes "packages") d)) (optional_in features_in (get (codes "features") d)) (spec.options_in d) (optional_in builtins_in (get (codes "builtins") d)) h.0 known.1 in
     let options = options-parts d parts.5 in
     let root = needed path_in (codes "root") a_path (λ e x. x) (get (codes "root") d) parts.0 in
     let keep = may (or_empty name_in) (codes "keep") (a_list_of a_name) (λ e x. list-read name_in a_name (λ e y. y) e x) (get (codes "keep") d) parts.1 in
     let modules = may (or_empty spec.module_in) (codes "modules") (a_list_of a_module) (λ e x. list-read spec.module_in a_module (λ e y. y) e x) (get (codes "modules") d) parts.2 in
     let packages = may (or_default said.no_packages said.packages_in) (codes "packages") (a_list_of a_package) (λ e x. list-read said.package_in a_package (λ e y. y) e (packages-listed e x.0 x.1)) (get (codes "packages") d) parts.3 in
     let features = may (optional_in features_in) (codes "features") some_features (λ e x. map_given Some (features_in e) x.0 x.1) (get (codes "features") d) parts.4 in
-    (known.0, (root, (keep, (modules, (packages, (features, (options.0, (options.1, (options.2, (options.3, tt))))))))))
+    let builtins = may (optional_in builtins_in) (codes "builtins") some_builtins (λ e x. map_given Some (builtins_in e) x.0 x.1) (get (codes "builtins") d) parts.6 in
+    (known.0, (root, (keep, (modules, (packages, (features, (options.0, (options.1, (options.2, (options.3, (builtins, tt)))))))))))
 
 fields-read : (g : Form) (d : Data) → HasReading g d → AreFieldsRead (fields g) d
 fields-read a_bundle d h = (bundle-object d h).1
 fields-read a_path d h = tt
 fields-read a_name d h = tt
+fields-read a_text d h = tt
 fields-read a_module d h = (module-object d h).1
 fields-read a_unit d h = tt
 fields-read a_package d h = (package-object d h).1
@@ -245,6 +266,7 @@ fields-read a_feature d h = tt
 fields-read a_mangler d h = tt
 fields-read a_truth d h = tt
 fields-read a_limit d h = tt
+fields-read some_builtins d h = (builtins-object d h).1
 fields-read (a_list_of f) d h = tt
 fields-read (an_object_of f) d h = tt
 
@@ -282,6 +304,7 @@ wrong-unread : (g : Form) (d : Data) → IsWrong g d → HasReading g d → ⊥
 wrong-unread a_bundle d wrong h = wrong-object a_bundle d (bundle-object d h) wrong
 wrong-unread a_path d wrong h = none-given (path_in d) wrong h
 wrong-unread a_name d wrong h = none-given (name_in d) wrong h
+wrong-unread a_text d wrong h = none-given (as_str d) wrong h
 wrong-unread a_module d wrong h = wrong-object a_module d (module-object d h) wrong
 wrong-unread a_unit d wrong h = absurd wrong
 wrong-unread a_package d wrong h = wrong-object a_package d (package-object d h) wrong
@@ -291,6 +314,7 @@ wrong-unread a_feature d wrong h = none-given (feature_in d) wrong h
 wrong-unread a_mangler d wrong h = none-given (spec.naming_in d) wrong h
 wrong-unread a_truth d wrong h = none-given (as_bool d) wrong h
 wrong-unread a_limit d wrong h = none-given (spec.limit_in d) wrong h
+wrong-unread some_builtins d wrong h = wrong-object some_builtins d (builtins-object d h) wrong
 wrong-unread (a_list_of f) d wrong h = none-given (as_array d) wrong (h.0, h.1)
 wrong-unread (an_object_of f) d wrong h = none-given (as_object d) wrong (h.0, h.1)
 

@@ -2,7 +2,7 @@
 use Rattle.std.proofs.Common.{◌≡◌, ℕ, ◌+◌, ◌<◌, ◌≤◌, List, [], ◌∷◌, ◌++◌, take, length, get_or, Bool, true, false, ◌||◌, Option, Some, None, option_and_then, string_bytes, refl, sym, ap, ◌∙◌, inl, inr, codes}
 use Rattle.std.proofs.lemmas.List.{take_more, take_all}
 use Rattle.serde_json.specs.Data.{Data, null, boolean, number, string, array, object}
-use Rattle.serde_json.specs.Find.{get, at, get_item, as_array, as_bool}
+use Rattle.serde_json.specs.Find.{get, at, get_item, as_array, as_bool, as_str}
 use Rattle.serde_json.specs.Written.{has_float, items_have_float, members_have_float}
 use Rattle.serde_json.specs.View.{view, items_view, members_view}
 use Rattle.serde_json.specs.declared.value.Value.{Value}
@@ -10,6 +10,7 @@ use Rattle.serde_json.proofs.Views.{Entry, get_item_within}
 use Rattle.wesl_names.specs.Path.{Text, Path}
 use Rattle.wesl_pointer.specs.Keys.{HasMember}
 use Rattle.wesl_bundle.specs.Bundle.{bundle_keys, module_in, bundle_in, Module, Options, options_in, naming_in, limit_in}
+use Rattle.wesl_bundle.specs.Builtins.{Builtins, builtins_in, builtins_keys}
 use Rattle.wesl_bundle.specs.Features.{Features, Flag, feature_in, features_in, features_keys, flags_in}
 use Rattle.wesl_bundle.specs.Packages.{Packages, no_packages, packages_in}
 use Rattle.wesl_bundle.specs.Reading.{optional_in, items_in, required_in, path_in, or_empty, name_in, or_default}
@@ -86,8 +87,11 @@ floats-member (x ∷ done) e before here = both (has_float (view x.1)) (members_
 pub features-read : (d : Data) (default : Feature) (flags : List Flag) → has_only features_keys d ≡ true → or_default feature.Disable feature_in (get (codes "default") d) ≡ Some default → or_default [] flags_in (get (codes "flags") d) ≡ Some flags → features_in d ≡ Some (record { default = default; flags = flags })
 features-read d default flags known is_default are_flags = rw (known, is_default, are_flags) refl
 
-pub bundle-read : (d : Data) (root : Path) (keep : List Text) (modules : List Module) (packages : Packages) (features : Option Features) (options : Options) → has_only bundle_keys d ≡ true → required_in path_in (codes "root") d ≡ Some root → or_empty name_in (get (codes "keep") d) ≡ Some keep → or_empty module_in (get (codes "modules") d) ≡ Some modules → or_default no_packages packages_in (get (codes "packages") d) ≡ Some packages → optional_in features_in (get (codes "features") d) ≡ Some features → options_in d ≡ Some options → bundle_in d ≡ Some (record { root = root; keep = keep; modules = modules; packages = packages; features = features; options = options })
-bundle-read d root keep modules packages features options known is_root is_keep is_modules are_packages are_features are_options = rw (known, is_root, is_keep, is_modules, are_packages, are_features, are_options) refl
+pub builtins-read : (d : Data) (names functions constructors : List Text) → has_only builtins_keys d ≡ true → or_empty as_str (get (codes "names") d) ≡ Some names → or_empty as_str (get (codes "functions") d) ≡ Some functions → or_empty as_str (get (codes "constructors") d) ≡ Some constructors → builtins_in d ≡ Some (record { names = names; functions = functions; constructors = constructors })
+builtins-read d names functions constructors known are_names are_functions are_constructors = rw (known, are_names, are_functions, are_constructors) refl
+
+pub bundle-read : (d : Data) (root : Path) (keep : List Text) (modules : List Module) (packages : Packages) (features : Option Features) (options : Options) (builtins : Option Builtins) → has_only bundle_keys d ≡ true → required_in path_in (codes "root") d ≡ Some root → or_empty name_in (get (codes "keep") d) ≡ Some keep → or_empty module_in (get (codes "modules") d) ≡ Some modules → or_default no_packages packages_in (get (codes "packages") d) ≡ Some packages → optional_in features_in (get (codes "features") d) ≡ Some features → options_in d ≡ Some options → optional_in builtins_in (get (codes "builtins") d) ≡ Some builtins → bundle_in d ≡ Some (record { root = root; keep = keep; modules = modules; packages = packages; features = features; options = options; builtins = builtins })
+bundle-read d root keep modules packages features options builtins known is_root is_keep is_modules are_packages are_features are_options are_builtins = rw (known, is_root, is_keep, is_modules, are_packages, are_features, are_options, are_builtins) refl
 
 pub options-read : (d : Data) (mangler : Naming) (mangle_root eager : Bool) (max_modules : ℕ) → or_default naming.Escape naming_in (get (codes "mangler") d) ≡ Some mangler → or_default false as_bool (get (codes "mangle_root") d) ≡ Some mangle_root → or_default false as_bool (get (codes "eager") d) ≡ Some eager → or_default 1000 limit_in (get (codes "max_modules") d) ≡ Some max_modules → options_in d ≡ Some (record { mangler = mangler; mangle_root = mangle_root; eager = eager; max_modules = max_modules })
 options-read d mangler mangle_root eager max_modules is_mangler is_root is_eager is_max = rw (is_mangler, is_root, is_eager, is_max) refl

@@ -8,6 +8,7 @@ use Rattle.wesl_names.specs.Path.{Text, Path}
 use Rattle.wesl_bundle.specs.Reading.{◌>>=◌, name_in, path_in, required_in, or_empty, or_default, optional_in}
 use Rattle.wesl_pointer.specs.Keys.{has_only}
 use Rattle.wesl_bundle.specs.Features.{Features, features_in}
+use Rattle.wesl_bundle.specs.Builtins.{Builtins, builtins_in}
 use Rattle.wesl_bundle.specs.Packages.{Packages, no_packages, packages_in}
 use Rattle.wesl_bundle.specs.declared.options.Naming.{Naming}
 use Rattle.wesl_bundle.specs.declared.options.Naming.TheVariants as naming
@@ -28,7 +29,8 @@ pub record Options : Type 0 where
   pub max_modules : ℕ
 
 -- the path of the root, the names that are kept, the modules in order, where one path may stand twice, the packages, the
--- answers for feature flags, without which no condition is judged, and the options
+-- answers for feature flags, without which no condition is judged, the options, and the built-in names, without which nothing
+-- is validated
 pub record Bundle : Type 0 where
   pub root : Path
   pub keep : List Text
@@ -36,6 +38,7 @@ pub record Bundle : Type 0 where
   pub packages : Packages
   pub features : Option Features
   pub options : Options
+  pub builtins : Option Builtins
 
 -- ---- which values are bundles
 
@@ -66,7 +69,7 @@ abbrev pub module_in : Data → Option Module
 module_in d = if has_only module_keys d then module_of_members d else None
 
 abbrev pub bundle_keys : List Text
-bundle_keys = codes "root" ∷ codes "keep" ∷ codes "modules" ∷ codes "packages" ∷ codes "features" ∷ codes "mangler" ∷ codes "mangle_root" ∷ codes "eager" ∷ codes "max_modules" ∷ []
+bundle_keys = codes "root" ∷ codes "keep" ∷ codes "modules" ∷ codes "packages" ∷ codes "features" ∷ codes "mangler" ∷ codes "mangle_root" ∷ codes "eager" ∷ codes "max_modules" ∷ codes "builtins" ∷ []
 
 -- the escape form, the root's names as they are, only what is reached, and a thousand modules, where nothing else is said
 abbrev pub options_in : Data → Option Options
@@ -85,7 +88,8 @@ bundle_of_members d = do
   packages ← or_default no_packages packages_in (get (codes "packages") d)
   features ← optional_in features_in (get (codes "features") d)
   options ← options_in d
-  Some (record { root = root; keep = keep; modules = modules; packages = packages; features = features; options = options })
+  builtins ← optional_in builtins_in (get (codes "builtins") d)
+  Some (record { root = root; keep = keep; modules = modules; packages = packages; features = features; options = options; builtins = builtins })
 
 abbrev pub bundle_in : Data → Option Bundle
 bundle_in d = if has_only bundle_keys d then bundle_of_members d else None

@@ -2,7 +2,7 @@
 use Rattle.std.specs.Prelude.{◌≡◌, ◌⊎◌, List, [], ◌∷◌, Bool, true, false, if◌then◌else◌, Option, Some, None, option_map, codes, map}
 use Rattle.std.specs.Str.{bytes_eq}
 use Rattle.serde_json.specs.Data.{Data}
-use Rattle.serde_json.specs.Find.{get, at, as_bool, as_array, as_object}
+use Rattle.serde_json.specs.Find.{get, at, as_bool, as_str, as_array, as_object}
 use Rattle.wesl_names.specs.Path.{Text}
 use Rattle.wesl_bundle.specs.Place.{IsFloatAt}
 use Rattle.wesl_pointer.specs.Pointer.{Part, key, index, pointer_text}
@@ -15,6 +15,7 @@ pub data Form : Type 0 where
   a_bundle : Form
   a_path : Form
   a_name : Form
+  a_text : Form
   a_module : Form
   a_unit : Form
   a_package : Form
@@ -24,6 +25,7 @@ pub data Form : Type 0 where
   a_mangler : Form
   a_truth : Form
   a_limit : Form
+  some_builtins : Form
   a_list_of : Form → Form
   -- any keys
   an_object_of : Form → Form
@@ -40,11 +42,12 @@ abbrev pub optional : Text → Form → Field
 optional k f = record { named = k; is_required = false; form = f }
 
 abbrev pub fields : Form → List Field
-fields a_bundle = required (codes "root") a_path ∷ optional (codes "keep") (a_list_of a_name) ∷ optional (codes "modules") (a_list_of a_module) ∷ optional (codes "packages") (a_list_of a_package) ∷ optional (codes "features") some_features ∷ optional (codes "mangler") a_mangler ∷ optional (codes "mangle_root") a_truth ∷ optional (codes "eager") a_truth ∷ optional (codes "max_modules") a_limit ∷ []
+fields a_bundle = required (codes "root") a_path ∷ optional (codes "keep") (a_list_of a_name) ∷ optional (codes "modules") (a_list_of a_module) ∷ optional (codes "packages") (a_list_of a_package) ∷ optional (codes "features") some_features ∷ optional (codes "mangler") a_mangler ∷ optional (codes "mangle_root") a_truth ∷ optional (codes "eager") a_truth ∷ optional (codes "max_modules") a_limit ∷ optional (codes "builtins") some_builtins ∷ []
 fields a_module = required (codes "path") a_path ∷ required (codes "unit") a_unit ∷ []
 fields a_package = required (codes "name") a_name ∷ required (codes "unit") a_unit ∷ optional (codes "modules") (a_list_of a_package_module) ∷ optional (codes "dependencies") (a_list_of a_package) ∷ []
 fields a_package_module = required (codes "name") a_name ∷ required (codes "unit") a_unit ∷ optional (codes "modules") (a_list_of a_package_module) ∷ []
 fields some_features = optional (codes "default") a_feature ∷ optional (codes "flags") (an_object_of a_feature) ∷ []
+fields some_builtins = optional (codes "names") (a_list_of a_text) ∷ optional (codes "functions") (a_list_of a_text) ∷ optional (codes "constructors") (a_list_of a_text) ∷ []
 fields _ = []
 
 abbrev pub find_field : Text → List Field → Option Field
@@ -65,6 +68,7 @@ abbrev pub IsWrong : Form → Data → Type 0
 IsWrong a_bundle d = IsWrongObject (fields a_bundle) d
 IsWrong a_path d = path_in d ≡ None
 IsWrong a_name d = name_in d ≡ None
+IsWrong a_text d = as_str d ≡ None
 IsWrong a_module d = IsWrongObject (fields a_module) d
 IsWrong a_unit d = ⊥
 IsWrong a_package d = IsWrongObject (fields a_package) d
@@ -74,6 +78,7 @@ IsWrong a_feature d = feature_in d ≡ None
 IsWrong a_mangler d = naming_in d ≡ None
 IsWrong a_truth d = as_bool d ≡ None
 IsWrong a_limit d = limit_in d ≡ None
+IsWrong some_builtins d = IsWrongObject (fields some_builtins) d
 IsWrong (a_list_of f) d = as_array d ≡ None
 IsWrong (an_object_of f) d = as_object d ≡ None
 

@@ -1,6 +1,7 @@
 pub mod Place
 pub mod Reading
 pub mod Features
+pub mod Builtins
 pub mod Packages
 pub mod Bundle
 pub mod Forms

@@ -8,7 +8,9 @@ use Rattle.wesl_formula.specs.declared.features.Features.{Features}
 use Rattle.wesl_names.specs.Path.{path_view}
 use Rattle.wesl_bundle.specs.Bundle as spec
 use Rattle.wesl_bundle.specs.Features as said
+use Rattle.wesl_bundle.specs.Builtins as built_in
 use Rattle.wesl_bundle.specs.PackageViews.{packages_view}
+use Rattle.wesl_bundle.specs.declared.builtins.BuiltinNames.{BuiltinNames}
 use Rattle.wesl_bundle.specs.declared.bundle.Bundle.{Bundle}
 use Rattle.wesl_bundle.specs.declared.bundle.BundleModule.{BundleModule}
 use Rattle.wesl_bundle.specs.declared.options.Options.{Options}
@@ -29,5 +31,8 @@ features_view f = record { default = f.default; flags = flags_view f.flags }
 abbrev pub options_view : Options → spec.Options
 options_view o = record { mangler = o.mangler; mangle_root = o.mangle_root; eager = o.eager; max_modules = o.max_modules }
 
+abbrev pub builtins_view : BuiltinNames → built_in.Builtins
+builtins_view b = record { names = map string_bytes b.names.items; functions = map string_bytes b.functions.items; constructors = map string_bytes b.constructors.items }
+
 abbrev pub bundle_view : Bundle → spec.Bundle
-bundle_view b = record { root = path_view b.root; keep = map string_bytes b.keep.items; modules = map module_view b.modules.items; packages = packages_view b.packages.items; features = option_map features_view b.features; options = options_view b.options }
+bundle_view b = record { root = path_view b.root; keep = map string_bytes b.keep.items; modules = map module_view b.modules.items; packages = packages_view b.packages.items; features = option_map features_view b.features; options = options_view b.options; builtins = option_map builtins_view b.builtins }

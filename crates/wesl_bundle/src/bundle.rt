@@ -9,6 +9,7 @@ ghost use Rattle.wesl_bundle.specs.Forms.{optional, a_list_of, a_name, a_module,
 ghost use Rattle.wesl_bundle.specs.Reading.{or_empty, list_in, name_in};
 ghost use Rattle.wesl_bundle.specs.Views.{bundle_view, module_view};
 
+use crate::builtins::{BuiltinNames, builtins_member};
 use crate::features::features_member;
 use crate::floats::check_whole;
 use crate::members::{
@@ -36,6 +37,8 @@ pub struct Bundle<'v> {
     pub features: Option<Features>,
     /// How the modules are linked.
     pub options: Options,
+    /// The names that are built in. Without them nothing is validated.
+    pub builtins: Option<BuiltinNames>,
 }
 
 /// A module of a bundle.
@@ -74,6 +77,7 @@ fn read_members<'v>(alloc: Global, value: &'v Value) -> Result<Bundle<'v>, Bundl
         "mangle_root",
         "eager",
         "max_modules",
+        "builtins",
     ];
     check_keys(alloc, value, &known)?;
     let root = path_member(alloc, value, "root")?;
@@ -82,6 +86,7 @@ fn read_members<'v>(alloc: Global, value: &'v Value) -> Result<Bundle<'v>, Bundl
     let packages = packages_member(alloc, value, "packages")?;
     let features = features_member(alloc, value, "features")?;
     let options = read_options(alloc, value)?;
+    let builtins = builtins_member(alloc, value, "builtins")?;
     Ok(Bundle {
         root,
         keep,
@@ -89,6 +94,7 @@ fn read_members<'v>(alloc: Global, value: &'v Value) -> Result<Bundle<'v>, Bundl
         packages,
         features,
         options,
+        builtins,
     })
 }
 

@@ -46,6 +46,8 @@ impl Resolver for Trees {
 
     ghost source = { λ _ p text. Unit {0} };
 
+    ghost lacks = { λ _ p e. Unit {0} };
+
     ghost shown = { λ _ p name. Unit {0} };
 
     fn resolve_source(&mut self, alloc: Global, path: &ModulePath) -> Result<String, ResolveError> {

@@ -27,6 +27,8 @@ impl<R: Resolver> Resolver for Counting<R> {
 
     ghost source = { λ s p text. R.source s.inner p text };
 
+    ghost lacks = { λ s p e. R.lacks s.inner p e };
+
     ghost shown = { λ s p name. R.shown s.inner p name };
 
     fn resolve_source(&mut self, alloc: Global, path: &ModulePath) -> Result<String, ResolveError> {

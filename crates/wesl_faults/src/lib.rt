@@ -5,6 +5,8 @@
 #[cfg(test)]
 mod asks;
 #[cfg(test)]
+mod endless;
+#[cfg(test)]
 mod errors;
 #[cfg(test)]
 mod nodes;

@@ -9,7 +9,7 @@ use wesl_names::{Diagnostic, Error, ModulePath, ResolveError};
 use wesl_resolve::{Preprocessor, Resolver, Router, UnitText, VirtualResolver};
 use wesl_tree::TranslationUnit;
 
-/// Every text but `bad` says the empty unit.
+/// Every text but `bad` and `large` says the empty unit; for `large` there is no memory.
 #[derive(Clone, Copy)]
 struct Empty;
 
@@ -26,6 +26,9 @@ impl UnitText for Empty {
     fn read(&self, alloc: Global, text: &str) -> Result<TranslationUnit, Diagnostic> {
         if text == "bad" {
             return Err(Diagnostic::of(Error::NotJson));
+        }
+        if text == "large" {
+            return Err(Diagnostic::of(Error::Memory));
         }
         Ok(TranslationUnit::new(alloc))
     }
@@ -126,5 +129,28 @@ fn preprocesses_units(rt: HostRuntime) -> Result<(), Fail> {
     let mut passing = Preprocessor::new(held, |unit: TranslationUnit| Ok(unit));
     let unit = passing.resolve_module(alloc, &path(alloc, "package::a")?)?;
     assert!(rt; unit.same_spelling(&TranslationUnit::new(alloc)));
+    Ok(())
+}
+
+/// Whether a resolver refuses a module for want of memory, and for nothing else.
+fn wants_memory<R: Resolver>(alloc: Global, resolver: &mut R, text: &str) -> Result<bool, Fail>
+    requires { R.ready resolver.old }
+    ensures { R.ready resolver.new }
+{
+    let path = path(alloc, text)?;
+    Ok(matches!(
+        resolver.resolve_module(alloc, &path),
+        Err(ResolveError::Memory)
+    ))
+}
+
+#[test]
+fn want_of_memory_of_a_reading_or_a_function_stays_what_it_is(rt: HostRuntime) -> Result<(), Fail> {
+    let alloc = rt.alloc();
+    let mut held = modules(alloc, &[("package::a", "large"), ("package::b", "b")])?;
+    assert!(rt; wants_memory(alloc, &mut held, "package::a")?);
+    assert!(rt; !wants_memory(alloc, &mut held, "package::b")?);
+    let mut refusing = Preprocessor::new(held, |_unit: TranslationUnit| Err(Error::Memory));
+    assert!(rt; wants_memory(alloc, &mut refusing, "package::b")?);
     Ok(())
 }

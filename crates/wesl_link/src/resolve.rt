@@ -40,7 +40,7 @@ pub fn resolve_lazy<R: Resolver>(
     ensures names { IfOk result (λ r. (p : Path) (n : Text) → (resolved r).names p n ≡ n) }
     ensures refused { let root = module_at path.now unit in IfErr result (λ d. TellsOf (worlds.IsRefused (R.hands resolver.old) (R.refuses resolver.old) root (worlds.task_of root (texts keep.now) false) max_modules) (out-Diagnostic d).error) }
     ensures succeeds { let root = module_at path.now unit in worlds.IsFaultless (R.hands resolver.old) (R.refuses resolver.old) root (worlds.task_of root (texts keep.now) false) max_modules → IfErr result (λ d. (out-Diagnostic d).error ≡ error.Memory) }
-    ensures same { MeansTheSame R.hands R.refuses R.source R.shown resolver.old resolver.new }
+    ensures same { MeansTheSame R.hands R.refuses R.source R.lacks R.shown resolver.old resolver.new }
     ensures stays_ready { R.ready resolver.new }
 {
     match wesl_linker::resolve_lazy(alloc, keep, unit, path, resolver, max_modules) {
@@ -70,7 +70,7 @@ pub fn resolve_eager<R: Resolver>(
     ensures names { IfOk result (λ r. (p : Path) (n : Text) → (resolved r).names p n ≡ n) }
     ensures refused { let root = module_at path.now unit in IfErr result (λ d. TellsOf (worlds.IsRefused (R.hands resolver.old) (R.refuses resolver.old) root (worlds.task_of root [] true) max_modules) (out-Diagnostic d).error) }
     ensures succeeds { let root = module_at path.now unit in worlds.IsFaultless (R.hands resolver.old) (R.refuses resolver.old) root (worlds.task_of root [] true) max_modules → IfErr result (λ d. (out-Diagnostic d).error ≡ error.Memory) }
-    ensures same { MeansTheSame R.hands R.refuses R.source R.shown resolver.old resolver.new }
+    ensures same { MeansTheSame R.hands R.refuses R.source R.lacks R.shown resolver.old resolver.new }
     ensures stays_ready { R.ready resolver.new }
 {
     match wesl_linker::resolve_eager(alloc, unit, path, resolver, max_modules) {

@@ -72,21 +72,22 @@ pub follows_on : (hands hands2 fixed : Path → UnitOf Text → Type 0) (refuses
 follows_on hands hands2 fixed refuses refuses2 also f h r = record { hands = λ p u x. f.hands p u ((h p u).0 x); refuses = λ p e x. f.refuses p e ((r p e).0 x) }
 
 -- the resolver is one of the same after a call
-pub stays_on : {R : Type 0} (hands : R → Path → UnitOf Text → Type 0) (refuses : R → Path → ResolveError → Type 0) (source : R → Path → Text → Type 0) (shown : R → Path → Option Text → Type 0) (these : R → Type 0) (loan : ℕ) (old new : R) (name name2 : ℕ)
-    → StaysOne hands refuses source shown these loan old name → MeansTheSame hands refuses source shown old new → name2 ≡ name → StaysOne hands refuses source shown these loan new name2
-stays_on hands refuses source shown these loan old new name name2 s m e = record { here = s.on old new s.here m; on = s.on; held = e ∙ s.held }
+pub stays_on : {R : Type 0} (hands : R → Path → UnitOf Text → Type 0) (refuses : R → Path → ResolveError → Type 0) (source : R → Path → Text → Type 0) (lacks : R → Path → ResolveError → Type 0) (shown : R → Path → Option Text → Type 0) (these : R → Type 0) (loan : ℕ) (old new : R) (name name2 : ℕ)
+    → StaysOne hands refuses source lacks shown these loan old name → MeansTheSame hands refuses source lacks shown old new → name2 ≡ name → StaysOne hands refuses source lacks shown these loan new name2
+stays_on hands refuses source lacks shown these loan old new name name2 s m e = record { here = s.on old new s.here m; on = s.on; held = e ∙ s.held }
 
 -- one means the same as itself
-pub means_itself : {R : Type 0} (hands : R → Path → UnitOf Text → Type 0) (refuses : R → Path → ResolveError → Type 0) (source : R → Path → Text → Type 0) (shown : R → Path → Option Text → Type 0) (a : R) → MeansTheSame hands refuses source shown a a
-means_itself hands refuses source shown a = record { units = λ p u. (λ h. h, λ h. h); faults = λ p e. (λ h. h, λ h. h); sources = λ p t. (λ h. h, λ h. h); names = λ p n. (λ h. h, λ h. h) }
+pub means_itself : {R : Type 0} (hands : R → Path → UnitOf Text → Type 0) (refuses : R → Path → ResolveError → Type 0) (source : R → Path → Text → Type 0) (lacks : R → Path → ResolveError → Type 0) (shown : R → Path → Option Text → Type 0) (a : R) → MeansTheSame hands refuses source lacks shown a a
+means_itself hands refuses source lacks shown a = record { units = λ p u. (λ h. h, λ h. h); faults = λ p e. (λ h. h, λ h. h); sources = λ p t. (λ h. h, λ h. h); missing = λ p e. (λ h. h, λ h. h); names = λ p n. (λ h. h, λ h. h) }
 
 -- and what means the same as one that means the same does
-pub means_on : {R : Type 0} (hands : R → Path → UnitOf Text → Type 0) (refuses : R → Path → ResolveError → Type 0) (source : R → Path → Text → Type 0) (shown : R → Path → Option Text → Type 0) (a b c : R)
-    → MeansTheSame hands refuses source shown a b → MeansTheSame hands refuses source shown b c → MeansTheSame hands refuses source shown a c
-means_on hands refuses source shown a b c m n = record {
+pub means_on : {R : Type 0} (hands : R → Path → UnitOf Text → Type 0) (refuses : R → Path → ResolveError → Type 0) (source : R → Path → Text → Type 0) (lacks : R → Path → ResolveError → Type 0) (shown : R → Path → Option Text → Type 0) (a b c : R)
+    → MeansTheSame hands refuses source lacks shown a b → MeansTheSame hands refuses source lacks shown b c → MeansTheSame hands refuses source lacks shown a c
+means_on hands refuses source lacks shown a b c m n = record {
   units = λ p u. (λ h. (m.units p u).0 ((n.units p u).0 h), λ h. (n.units p u).1 ((m.units p u).1 h));
   faults = λ p e. (λ h. (m.faults p e).0 ((n.faults p e).0 h), λ h. (n.faults p e).1 ((m.faults p e).1 h));
   sources = λ p t. (λ h. (m.sources p t).0 ((n.sources p t).0 h), λ h. (n.sources p t).1 ((m.sources p t).1 h));
+  missing = λ p e. (λ h. (m.missing p e).0 ((n.missing p e).0 h), λ h. (n.missing p e).1 ((m.missing p e).1 h));
   names = λ p x. (λ h. (m.names p x).0 ((n.names p x).0 h), λ h. (n.names p x).1 ((m.names p x).1 h));
 }
 

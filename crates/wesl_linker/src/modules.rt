@@ -158,7 +158,7 @@ impl<R: Resolver, S: Source<R>> Modules<'_, '_, R, S> {
         ensures units { (p : path_id.PathId) (u : held.Held) → Contains self.old.units.now.entries (p, u) → Contains self.new.units.now.entries (p, u) }
         ensures keeps { Keeps (R.hands self.new.resolver.now) (R.refuses self.new.resolver.now) S.hands S.refuses S.first (numbering self.new.numbers.now) self.new.units.now.entries }
         ensures stays_ready { R.ready self.new.resolver.now }
-        ensures same { MeansTheSame R.hands R.refuses R.source R.shown self.old.resolver.now self.new.resolver.now }
+        ensures same { MeansTheSame R.hands R.refuses R.source R.lacks R.shown self.old.resolver.now self.new.resolver.now }
         ensures loan { self.new.resolver.ghost_name ≡ self.old.resolver.ghost_name }
     {
         let unit = match self.resolver.resolve_module(alloc, path) {
@@ -177,7 +177,7 @@ impl<R: Resolver, S: Source<R>> Loader<ResolveError> for Modules<'_, '_, R, S> {
 
     ghost refuses = { λ s p e. IsRefusedPath S.refuses (numbering s.numbers.now) p e };
 
-    ghost ready = { λ s p. IsReadyPath (numbering s.numbers.now) p × ((R.ready s.resolver.now × StaysOne R.hands R.refuses R.source R.shown S.these S.loan s.resolver.now s.resolver.ghost_name) × Keeps (R.hands s.resolver.now) (R.refuses s.resolver.now) S.hands S.refuses S.first (numbering s.numbers.now) s.units.now.entries) };
+    ghost ready = { λ s p. IsReadyPath (numbering s.numbers.now) p × ((R.ready s.resolver.now × StaysOne R.hands R.refuses R.source R.lacks R.shown S.these S.loan s.resolver.now s.resolver.ghost_name) × Keeps (R.hands s.resolver.now) (R.refuses s.resolver.now) S.hands S.refuses S.first (numbering s.numbers.now) s.units.now.entries) };
 
     fn load(&mut self, alloc: Global, path: PathId) -> Result<Table, LoadError<ResolveError>> {
         let Ok(module) = path_of(alloc, self.numbers, path) else {

@@ -140,7 +140,7 @@ fn reach_modules<R: Resolver, S: Source<R>>(
     max_modules: usize,
 ) -> Result<Resolutions, Error>
     requires ready { R.ready modules.old.resolver.now }
-    requires stays { StaysOne R.hands R.refuses R.source R.shown S.these S.loan modules.old.resolver.now modules.old.resolver.ghost_name }
+    requires stays { StaysOne R.hands R.refuses R.source R.lacks R.shown S.these S.loan modules.old.resolver.now modules.old.resolver.ghost_name }
     requires follows { Follows (R.hands modules.old.resolver.now) (R.refuses modules.old.resolver.now) S.hands S.refuses }
     requires first { S.first ≡ numbering modules.old.numbers.now }
     requires nothing { modules.old.units.now.entries ≡ [] }
@@ -210,7 +210,7 @@ fn reach<R: Resolver>(
     ensures sound { IfOk result IsSound }
     ensures names { IfOk result (λ r. (p : Path) (n : Text) → (resolved r).names p n ≡ n) }
     ensures refused { (keep : List Text) → AreRelated (NameAt (numbering numbers)) kept.items keep → IfErr result (TellsOf (worlds.IsRefused (R.hands resolver.old) (R.refuses resolver.old) (module_at path unit) (worlds.task_of (module_at path unit) keep is_eager) max_modules)) }
-    ensures same { MeansTheSame R.hands R.refuses R.source R.shown resolver.old resolver.new }
+    ensures same { MeansTheSame R.hands R.refuses R.source R.lacks R.shown resolver.old resolver.new }
     ensures stays_ready { R.ready resolver.new }
 {
     let mut numbers = numbers;
@@ -255,7 +255,7 @@ fn resolutions_of<R: Resolver>(
     ensures sound { IfOk result IsSound }
     ensures names { IfOk result (λ r. (p : Path) (n : Text) → (resolved r).names p n ≡ n) }
     ensures refused { let root = module_at path.now unit in IfErr result (λ d. TellsOf (worlds.IsRefused (R.hands resolver.old) (R.refuses resolver.old) root (worlds.task_of root (texts keep.now) is_eager) max_modules) (out-Diagnostic d).error) }
-    ensures same { MeansTheSame R.hands R.refuses R.source R.shown resolver.old resolver.new }
+    ensures same { MeansTheSame R.hands R.refuses R.source R.lacks R.shown resolver.old resolver.new }
     ensures stays_ready { R.ready resolver.new }
 {
     let mut numbers = Numbers::new(alloc);
@@ -313,7 +313,7 @@ pub fn resolve_lazy<R: Resolver>(
     ensures names { IfOk result (λ r. (p : Path) (n : Text) → (resolved r).names p n ≡ n) }
     ensures refused { let root = module_at path.now unit in IfErr result (λ d. TellsOf (worlds.IsRefused (R.hands resolver.old) (R.refuses resolver.old) root (worlds.task_of root (texts keep.now) false) max_modules) (out-Diagnostic d).error) }
     ensures succeeds { let root = module_at path.now unit in worlds.IsFaultless (R.hands resolver.old) (R.refuses resolver.old) root (worlds.task_of root (texts keep.now) false) max_modules → IfErr result (λ d. (out-Diagnostic d).error ≡ error.Memory) }
-    ensures same { MeansTheSame R.hands R.refuses R.source R.shown resolver.old resolver.new }
+    ensures same { MeansTheSame R.hands R.refuses R.source R.lacks R.shown resolver.old resolver.new }
     ensures stays_ready { R.ready resolver.new }
 {
     resolutions_of(alloc, keep, false, unit, path, resolver, max_modules)
@@ -340,7 +340,7 @@ pub fn resolve_eager<R: Resolver>(
     ensures names { IfOk result (λ r. (p : Path) (n : Text) → (resolved r).names p n ≡ n) }
     ensures refused { let root = module_at path.now unit in IfErr result (λ d. TellsOf (worlds.IsRefused (R.hands resolver.old) (R.refuses resolver.old) root (worlds.task_of root [] true) max_modules) (out-Diagnostic d).error) }
     ensures succeeds { let root = module_at path.now unit in worlds.IsFaultless (R.hands resolver.old) (R.refuses resolver.old) root (worlds.task_of root [] true) max_modules → IfErr result (λ d. (out-Diagnostic d).error ≡ error.Memory) }
-    ensures same { MeansTheSame R.hands R.refuses R.source R.shown resolver.old resolver.new }
+    ensures same { MeansTheSame R.hands R.refuses R.source R.lacks R.shown resolver.old resolver.new }
     ensures stays_ready { R.ready resolver.new }
 {
     resolutions_of(alloc, &[], true, unit, path, resolver, max_modules)

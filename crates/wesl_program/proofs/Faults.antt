@@ -1,5 +1,7 @@
 -- The fault of a module that is refused is none of the bundle that holds it.
 use Rattle.std.specs.declared.alloc.Global.{Global}
+use Rattle.std.specs.Option.{option_map}
+use Rattle.std.specs.Prelude.{string_bytes}
 use Rattle.std.proofs.Common.{◌≡◌, ◌⊎◌, ℕ, List, [], ◌∷◌, Bool, true, false, true≢false, Option, Some, None, String, bytes_eq, codes, refl, sym, ap, ◌∙◌, subst, inl, inr}
 use Rattle.serde_json.specs.Data.{Data}
 use Rattle.wesl_syntax.specs.Unit.{UnitOf}
@@ -23,9 +25,15 @@ use Rattle.wesl_reading.specs.Faults.{place_of}
 use Rattle.wesl_conditional.specs.Conditions.{IsRefusedBy, RefusesLeft}
 use Rattle.wesl_conditional.specs.Linking.{RefusesLink, hands_left, refuses_left}
 use Rattle.wesl_program.specs.Fault as told
-use Rattle.wesl_program.specs.Fault.{fault_of, fault_of_condition, fault_of_resolver}
+use Rattle.wesl_program.specs.Fault.{fault_of, fault_of_condition, fault_of_resolver, fault_of_validation}
 use Rattle.wesl_program.specs.Hands.{IsRefusedAt, virtual_module}
-use Rattle.wesl_program.specs.Linking.{Kept, RefusesBundle, handed, refused, handed_left, refused_left}
+use Rattle.wesl_program.specs.Linking.{Kept, LinksTo, handed, refused, handed_left, refused_left}
+use Rattle.wesl_program.specs.Validity.{RefusesUnit, built_in}
+use Rattle.wesl_valid.specs.Faults as valid
+use Rattle.wesl_syntax.specs.Unit.{UnitView}
+use Rattle.wesl_names.specs.declared.errors.ValidateError.{ValidateError}
+use Rattle.wesl_names.specs.declared.errors.ValidateError.TheVariants as invalid
+use Rattle.wesl_bundle.specs.Builtins as said
 use Rattle.wesl_bundle.specs.Bundle.{Bundle}
 use Rattle.wesl_program.specs.Line.{memory, IsOfModules}
 use Rattle.wesl_program.specs.Refused.{IsLinkFault}
@@ -168,4 +176,38 @@ bundle-fault b k e h = by (link-is-of-modules (handed b k) (refused b k) k.featu
   where
     by : IsModuleFault e → IsLinkFault b e
     by (inl is) = inl is
-    by (inr of) = inr (of, (e, (k, h), refl))
+    by (inr of) = inr (of, (e, inl (k, h), refl))
+
+-- ---- faults of a unit
+
+of-validation : (v : ValidateError) → IsOfModules (fault_of_validation v)
+of-validation (invalid.UndefinedSymbol n) = of_modules (fault_of_validation (invalid.UndefinedSymbol n)) refl refl
+of-validation (invalid.ParamCount n expected got) = of_modules (fault_of_validation (invalid.ParamCount n expected got)) refl refl
+of-validation (invalid.NotCallable n) = of_modules (fault_of_validation (invalid.NotCallable n)) refl refl
+of-validation (invalid.Duplicate n) = of_modules (fault_of_validation (invalid.Duplicate n)) refl refl
+of-validation (invalid.Cycle n via) = of_modules (fault_of_validation (invalid.Cycle n via)) refl refl
+
+-- what a validator tells
+tells-validation : (IsFault : Option Text → ValidateError → Type 0) (within : Option Text) (e : error.Error) → valid.Tells IsFault within e → IsModuleFault e
+tells-validation IsFault within (error.Validate v) h = inr (of-validation v)
+tells-validation IsFault within error.Memory h = inl refl
+tells-validation IsFault within (error.CondComp c) h = absurd h
+tells-validation IsFault within (error.Import i) h = absurd h
+tells-validation IsFault within (error.Resolve r) h = absurd h
+tells-validation IsFault within (error.ModuleLimit k) h = absurd h
+tells-validation IsFault within error.NotNormalType h = absurd h
+tells-validation IsFault within error.NotJson h = absurd h
+tells-validation IsFault within (error.BadTree place) h = absurd h
+tells-validation IsFault within (error.BadBundle place) h = absurd h
+
+refused-unit : (o : Option said.Builtins) (u : UnitView) (e : error.Error) → RefusesUnit o u e → IsModuleFault e
+refused-unit None u e h = absurd h
+refused-unit (Some b) u e (d, r, is) = subst IsModuleFault is (tells-validation (valid.IsWgslFault u (built_in b)) (option_map string_bytes d.declaration) d.error r.tells)
+
+-- a fault of the unit to which a bundle links
+pub unit-fault : (b : Bundle) (u : UnitView) (e : error.Error) → LinksTo b u → RefusesUnit b.builtins u e → IsLinkFault b e
+unit-fault b u e links h = by (refused-unit b.builtins u e h)
+  where
+    by : IsModuleFault e → IsLinkFault b e
+    by (inl is) = inl is
+    by (inr of) = inr (of, (e, inr (u, links, h), refl))

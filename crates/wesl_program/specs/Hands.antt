@@ -18,6 +18,11 @@ abbrev pub IsRefusedAt : Path → Option Data → ResolveError → Type 0
 IsRefusedAt p None e = IsModuleNotFound p virtual_module e
 IsRefusedAt p (Some d) e = IsRefusedWith (IsTreeFault d) e
 
+-- a path that no module has is refused
+abbrev pub IsMissingAt : Path → Option Data → ResolveError → Type 0
+IsMissingAt p None e = IsModuleNotFound p virtual_module e
+IsMissingAt p (Some d) e = ⊥
+
 -- the unit that the value of a module stands for is handed out
 abbrev pub IsHandedAt : Option Data → UnitOf Text → Type 0
 IsHandedAt None u = ⊥

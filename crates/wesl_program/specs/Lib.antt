@@ -6,6 +6,7 @@ pub mod Hands
 pub mod PackageTexts
 pub mod StoredTexts
 pub mod Linking
+pub mod Validity
 pub mod Line
 pub mod Made
 pub mod Refused

@@ -11,7 +11,8 @@ use Rattle.wesl_bundle.specs.Bundle.{Bundle, bundle_of}
 use Rattle.wesl_bundle.specs.Forms.{IsBrokenBundle}
 use Rattle.wesl_names.specs.declared.errors.Error as error
 use Rattle.wesl_program.specs.Fault.{Fault, fault, fault_of}
-use Rattle.wesl_program.specs.Linking.{LinksTo, RefusesBundle}
+use Rattle.wesl_program.specs.Linking.{LinksTo}
+use Rattle.wesl_program.specs.Validity.{IsValidUnder, RefusesBundle}
 
 -- a value as compact JSON, and a line feed
 abbrev pub line_of : Data → Text
@@ -50,7 +51,7 @@ IsNotJson bytes = IsUtf8 bytes → read bytes ≡ None
 abbrev pub IsOfModules : Fault → Type 0
 IsOfModules f = (f.named ≢ codes "NotJson") × (f.named ≢ codes "BadBundle")
 
--- a fault that stands in a link of the bundle
+-- a fault that stands in a link of the bundle, or in its linked unit
 abbrev pub TellsOfLink : Bundle → Fault → Type 0
 TellsOfLink b f = (e : error.Error) × RefusesBundle b e × (f ≡ fault_of e)
 
@@ -81,12 +82,12 @@ answer_value clash unit = object (member (codes "clash") (boolean clash) (member
 abbrev pub SaysClash : Bool → UnitView → Type 0
 SaysClash clash u = (clash ≡ false) ↔ IsFaithful u
 
--- the value of a unit to which the bundle's modules link, and whether its names clash
+-- the value of a unit to which the bundle's modules link, which is valid under its built-in names, and whether its names clash
 abbrev pub IsAnswerOf : Bundle → Bool → Data → Type 0
-IsAnswerOf b clash unit = (u : UnitView) × LinksTo b u × SaysClash clash u × (unit ≡ unit_value u)
+IsAnswerOf b clash unit = (u : UnitView) × LinksTo b u × IsValidUnder b.builtins u × SaysClash clash u × (unit ≡ unit_value u)
 
 -- the bytes are a bundle's that is linked, and the line says whether the names of its linked unit clash, and has the written
--- form of this unit
+-- form of this unit, which is valid where the bundle has built-in names
 abbrev pub IsAnswerLine : List ℕ → Text → Type 0
 IsAnswerLine bytes line =
     (d : Data) × (b : Bundle) × (clash : Bool) × (unit : Data)

@@ -76,5 +76,5 @@ LinksTo b u =
     × IsAssembled w (task_for b) names u
 
 -- such a link is refused with the error, which stands
-abbrev pub RefusesBundle : Bundle → error.Error → Type 0
-RefusesBundle b e = (k : Kept b) × RefusesLink (handed_left b k) (refused_left b k) b.root b.keep b.options.eager b.options.max_modules e
+abbrev pub IsLinkRefused : Bundle → error.Error → Type 0
+IsLinkRefused b e = (k : Kept b) × RefusesLink (handed_left b k) (refused_left b k) b.root b.keep b.options.eager b.options.max_modules e

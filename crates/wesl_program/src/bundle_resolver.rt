@@ -7,7 +7,7 @@ ghost use Rattle.serde_json.specs.View.{view};
 ghost use Rattle.wesl_syntax.specs.Unit.{spelled};
 ghost use Rattle.wesl_tree.specs.Translation.{unit_view};
 ghost use Rattle.wesl_json.specs.UnitTexts.{IsSpelled, IsTreeFault};
-ghost use Rattle.wesl_program.specs.Hands.{IsHandedAt, IsRefusedAt, IsSourceAt, unit_in, virtual_module};
+ghost use Rattle.wesl_program.specs.Hands.{IsHandedAt, IsMissingAt, IsRefusedAt, IsSourceAt, unit_in, virtual_module};
 
 use crate::modules::Modules;
 use serde_json::Value;
@@ -23,7 +23,7 @@ pub(crate) struct BundleResolver<'b, 'v> {
 }
 
 impl Resolver for BundleResolver<'_, '_> {
-    ghost use Rattle.wesl_program.specs.Hands.{IsHandedAt, IsRefusedAt, IsSourceAt, unit_in};
+    ghost use Rattle.wesl_program.specs.Hands.{IsHandedAt, IsMissingAt, IsRefusedAt, IsSourceAt, unit_in};
 
     ghost ready = { λ _. Unit {0} };
 
@@ -32,6 +32,8 @@ impl Resolver for BundleResolver<'_, '_> {
     ghost refuses = { λ r p e. IsRefusedAt p (unit_in r.modules.now p) e };
 
     ghost source = { λ r p text. IsSourceAt (unit_in r.modules.now p) text };
+
+    ghost lacks = { λ r p e. IsMissingAt p (unit_in r.modules.now p) e };
 
     ghost shown = { λ _ p name. name ≡ None };
 
@@ -63,7 +65,7 @@ fn source_of_module(
     path: &ModulePath,
 ) -> Result<String, ResolveError>
     ensures given { IfOk result (λ s. IsSourceAt (unit_in modules.now (path_view path.now)) (string_bytes s)) }
-    ensures refused { IfErr result (OrMemory (IsRefusedAt (path_view path.now) (unit_in modules.now (path_view path.now)))) }
+    ensures refused { IfErr result (OrMemory (IsMissingAt (path_view path.now) (unit_in modules.now (path_view path.now)))) }
 {
     match modules.unit_at(path) {
         Some(value) => Ok(value.to_string(alloc)?),

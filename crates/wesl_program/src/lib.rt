@@ -12,6 +12,7 @@ mod packages;
 mod stored_text;
 mod streams;
 mod text_line;
+mod validity;
 
 pub use answer::{Answer, answer_line};
 pub use bundle_value::value_of_bytes;

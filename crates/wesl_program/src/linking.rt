@@ -21,8 +21,9 @@ use crate::bundle_resolver::BundleResolver;
 use crate::modules::Modules;
 use crate::packages::package_of;
 use crate::stored_text::StoredText;
+use crate::validity::check_valid;
 use std::alloc::{AllocError, Global};
-use wesl_bundle::{Bundle, BundleModule, Naming, Options, Package};
+use wesl_bundle::{BuiltinNames, Bundle, BundleModule, Naming, Options, Package};
 use wesl_clash::names_clash;
 use wesl_conditional::link_under;
 use wesl_json::value_of_unit;
@@ -34,14 +35,18 @@ use wesl_tree::{Error, TranslationUnit};
 // The modules of a bundle, and its packages.
 type Sources<'b, 'v> = StandardResolver<BundleResolver<'b, 'v>, StoredText>;
 
-/// The value of the unit that is linked of a bundle's modules, and whether its names clash.
+/// The value of the unit that is linked of a bundle's modules, and whether its names clash. Where the bundle has built-in
+/// names, the unit is validated by them, and refused with the validator's fault.
 pub fn linked(alloc: Global, bundle: Bundle) -> Result<Answer, Error>
     requires fixed { is_relative (path_view bundle.root) ≡ false }
     ensures linked { IfOk result (λ a. IsAnswerOf (bundle_view bundle.entry) a.clash (view a.unit)) }
     ensures whole { IfOk result (λ a. has_float (view a.unit) ≡ false) }
     ensures refused { IfErr result (IsLinkFault (bundle_view bundle.entry)) }
 {
-    let unit = linked_unit(alloc, bundle)?;
+    let (unit, builtins) = linked_unit(alloc, bundle)?;
+    if let Err(error) = check_valid(alloc, &unit, builtins) {
+        return Err(error);
+    }
     let clash = names_clash(alloc, &unit)?;
     let value = value_of_unit(alloc, &unit)?;
     Ok(Answer { clash, unit: value })
@@ -50,10 +55,14 @@ pub fn linked(alloc: Global, bundle: Bundle) -> Result<Answer, Error>
 /// The root is handed out as each other module is, and each is linked as the bundle's features leave it. Of the other
 /// modules those are loaded that are reached from the names that are kept, or from all that is declared, and no more than
 /// the bundle allows; the names of their items are as its mangler gives them, and those of the root's stay where it says
-/// nothing else.
-fn linked_unit(alloc: Global, bundle: Bundle) -> Result<TranslationUnit, Error>
+/// nothing else. The bundle's built-in names are handed back.
+fn linked_unit(
+    alloc: Global,
+    bundle: Bundle,
+) -> Result<(TranslationUnit, Option<BuiltinNames>), Error>
     requires fixed { is_relative (path_view bundle.root) ≡ false }
-    ensures linked { IfOk result (λ unit. LinksTo (bundle_view bundle.entry) (unit_view unit)) }
+    ensures linked { IfOk result (λ made. LinksTo (bundle_view bundle.entry) (unit_view made.0)) }
+    ensures builtins { IfOk result (λ made. made.1 ≡ bundle.entry.builtins) }
     ensures refused { IfErr result (IsLinkFault (bundle_view bundle.entry)) }
 {
     let Bundle {
@@ -63,6 +72,7 @@ fn linked_unit(alloc: Global, bundle: Bundle) -> Result<TranslationUnit, Error>
         packages,
         features,
         options,
+        builtins,
     } = bundle;
     let units = modules_of(alloc, modules)?;
     let sources = sources_of(alloc, &units, packages)?;
@@ -70,7 +80,7 @@ fn linked_unit(alloc: Global, bundle: Bundle) -> Result<TranslationUnit, Error>
     let eager = options.eager;
     let limit = options.max_modules;
     match link_under(alloc, &keep, eager, &root, sources, &features, limit) {
-        Ok(resolutions) => named_unit(alloc, resolutions, options),
+        Ok(resolutions) => Ok((named_unit(alloc, resolutions, options)?, builtins)),
         Err(diagnostic) => Err(diagnostic.error),
     }
 }

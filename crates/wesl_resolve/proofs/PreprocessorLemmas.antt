@@ -26,14 +26,15 @@ module _ (answers : TranslationUnit → Result TranslationUnit Error → Type 0)
   IsMadeFault-to : (hands others : UnitOf Text → Type 0) → ((u : UnitOf Text) → hands u → others u) → (e : resolve_error.ResolveError) → IsMadeFault hands answers e → IsMadeFault others answers e
   IsMadeFault-to hands others f e h = (h.0, f _ h.1, h.2)
 
-module _ {R F : Type 0} (hands : R → Path → UnitOf Text → Type 0) (refuses : R → Path → resolve_error.ResolveError → Type 0) (source : R → Path → Text → Type 0) (shown : R → Path → Option Text → Type 0)
+module _ {R F : Type 0} (hands : R → Path → UnitOf Text → Type 0) (refuses : R → Path → resolve_error.ResolveError → Type 0) (source : R → Path → Text → Type 0) (lacks : R → Path → resolve_error.ResolveError → Type 0) (shown : R → Path → Option Text → Type 0)
     (answers : F → TranslationUnit → Result TranslationUnit Error → Type 0) where
   -- the resolver means what it did, and the function is the same
-  pub Preprocessor-same : (s : Preprocessor R F) (after : R) → MeansTheSame hands refuses source shown s.resolver after
+  pub Preprocessor-same : (s : Preprocessor R F) (after : R) → MeansTheSame hands refuses source lacks shown s.resolver after
       → MeansTheSame {S = Preprocessor R F}
       (λ s p u. IsMade (hands s.resolver p) (λ given answer. answers s.preprocess given answer) u)
       (λ s p e. refuses s.resolver p e ⊎ IsMadeFault (hands s.resolver p) (λ given answer. answers s.preprocess given answer) e)
       (λ s p text. source s.resolver p text)
+      (λ s p e. lacks s.resolver p e)
       (λ s p name. shown s.resolver p name)
       s
       (record { resolver = after; preprocess = s.preprocess })
@@ -44,6 +45,7 @@ module _ {R F : Type 0} (hands : R → Path → UnitOf Text → Type 0) (refuses
             either-iff (same.faults p e)
             (IsMadeFault-to (answers s.preprocess) (hands after p) (hands s.resolver p) (λ v. (same.units p v).0) e, IsMadeFault-to (answers s.preprocess) (hands s.resolver p) (hands after p) (λ v. (same.units p v).1) e);
         sources = same.sources;
+        missing = same.missing;
         names = same.names;
       }
 

@@ -143,10 +143,10 @@ module _ {B : Type 0} (ready : B → Type 0) where
         beside = all.beside;
       })
 
-module _ {B : Type 0} (hands : B → Path → UnitOf Text → Type 0) (refuses : B → Path → ResolveError → Type 0) (source : B → Path → Text → Type 0) (shown : B → Path → Option Text → Type 0) where
+module _ {B : Type 0} (hands : B → Path → UnitOf Text → Type 0) (refuses : B → Path → ResolveError → Type 0) (source : B → Path → Text → Type 0) (lacks : B → Path → ResolveError → Type 0) (shown : B → Path → Option Text → Type 0) where
   -- one mount was asked, and means what it did
-  pub RouterMeans-set : (r : Router B) (place : ℕ) (m : ModulePath × B) (b : B) → slice_get r.mount_points.items place ≡ Some m → MeansTheSame hands refuses source shown m.1 b
-      → RouterMeans hands refuses source shown r (record { mount_points = with_item r.mount_points place (m.0, b); fallback = r.fallback })
+  pub RouterMeans-set : (r : Router B) (place : ℕ) (m : ModulePath × B) (b : B) → slice_get r.mount_points.items place ≡ Some m → MeansTheSame hands refuses source lacks shown m.1 b
+      → RouterMeans hands refuses source lacks shown r (record { mount_points = with_item r.mount_points place (m.0, b); fallback = r.fallback })
   RouterMeans-set r place m b there same =
       record {
         units = λ p u. Routed-set (λ b q. hands b q u) r.mount_points.items r.fallback place m b p there (λ q. same.units q u);
@@ -154,14 +154,17 @@ module _ {B : Type 0} (hands : B → Path → UnitOf Text → Type 0) (refuses :
             either-iff (Routed-set (λ b q. refuses b q e) r.mount_points.items r.fallback place m b p there (λ q. same.faults q e))
             (both-iff (NoRoute-set r.mount_points.items r.fallback place m b p there) ((λ x. x), (λ x. x)));
         sources = λ p text. Routed-set (λ b q. source b q text) r.mount_points.items r.fallback place m b p there (λ q. same.sources q text);
+        missing = λ p e.
+            either-iff (Routed-set (λ b q. lacks b q e) r.mount_points.items r.fallback place m b p there (λ q. same.missing q e))
+            (both-iff (NoRoute-set r.mount_points.items r.fallback place m b p there) ((λ x. x), (λ x. x)));
         names = λ p name.
             either-iff (Routed-set (λ b q. shown b q name) r.mount_points.items r.fallback place m b p there (λ q. same.names q name))
             (both-iff (NoRoute-set r.mount_points.items r.fallback place m b p there) ((λ x. x), (λ x. x)));
       }
 
   -- the fallback was asked, and means what it did
-  pub RouterMeans-fallback : (r : Router B) (a b : B) → r.fallback ≡ Some a → MeansTheSame hands refuses source shown a b
-      → RouterMeans hands refuses source shown r (record { mount_points = r.mount_points; fallback = Some b })
+  pub RouterMeans-fallback : (r : Router B) (a b : B) → r.fallback ≡ Some a → MeansTheSame hands refuses source lacks shown a b
+      → RouterMeans hands refuses source lacks shown r (record { mount_points = r.mount_points; fallback = Some b })
   RouterMeans-fallback r a b is same =
       record {
         units = λ p u. Routed-fallback (λ b q. hands b q u) r.mount_points.items r.fallback a b p is (λ q. same.units q u);
@@ -169,6 +172,9 @@ module _ {B : Type 0} (hands : B → Path → UnitOf Text → Type 0) (refuses :
             either-iff (Routed-fallback (λ b q. refuses b q e) r.mount_points.items r.fallback a b p is (λ q. same.faults q e))
             (both-iff (NoRoute-fallback r.mount_points.items r.fallback a b p is) ((λ x. x), (λ x. x)));
         sources = λ p text. Routed-fallback (λ b q. source b q text) r.mount_points.items r.fallback a b p is (λ q. same.sources q text);
+        missing = λ p e.
+            either-iff (Routed-fallback (λ b q. lacks b q e) r.mount_points.items r.fallback a b p is (λ q. same.missing q e))
+            (both-iff (NoRoute-fallback r.mount_points.items r.fallback a b p is) ((λ x. x), (λ x. x)));
         names = λ p name.
             either-iff (Routed-fallback (λ b q. shown b q name) r.mount_points.items r.fallback a b p is (λ q. same.names q name))
             (both-iff (NoRoute-fallback r.mount_points.items r.fallback a b p is) ((λ x. x), (λ x. x)));

@@ -9,3 +9,7 @@ AtOrigin (relative n) P Q = Q
 -- P where the path begins in a named package, and Q elsewhere
 abbrev pub ByOrigin : Path → Type 0 → Type 0 → Type 0
 ByOrigin p P Q = AtOrigin p.origin P Q
+
+-- P, if the path begins in a named package
+abbrev pub IfInPackage : Path → Type 0 → Type 0
+IfInPackage p P = ByOrigin p P (Unit {0})

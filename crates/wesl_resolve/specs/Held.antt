@@ -6,6 +6,7 @@ use Rattle.wesl_resolve.specs.Texts.{texts_of}
 use Rattle.wesl_resolve.specs.declared.packages.CodegenPkg.{CodegenPkg}
 use Rattle.wesl_resolve.specs.declared.pkg_resolver.PkgResolver.{PkgResolver}
 use Rattle.wesl_resolve.specs.declared.router.Router.{Router}
+use Rattle.wesl_resolve.specs.declared.standard.StandardResolver.{StandardResolver}
 use Rattle.wesl_resolve.specs.declared.virtual_resolver.VirtualResolver.{VirtualResolver}
 
 -- the modules, in the order in which their paths were first added, and what reads their texts
@@ -28,3 +29,10 @@ mounts_of r = r.mount_points.items
 
 abbrev pub fallback_of : {B : Type 0} → Router B → Option B
 fallback_of r = r.fallback
+
+-- the resolver of the paths that begin in a named package, and the one of all others
+abbrev pub package_resolver_of : {R P : Type 0} → StandardResolver R P → PkgResolver P
+package_resolver_of s = s.packages
+
+abbrev pub local_of : {R P : Type 0} → StandardResolver R P → R
+local_of s = s.local

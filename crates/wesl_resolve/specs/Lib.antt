@@ -8,3 +8,4 @@ pub mod Packages
 pub mod ByOrigin
 pub mod Held
 pub mod RouterMeaning
+pub mod StandardMeaning

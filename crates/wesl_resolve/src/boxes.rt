@@ -13,6 +13,8 @@ impl<T: Resolver> Resolver for Box<T> {
 
     ghost source = { λ b. T.source b.value };
 
+    ghost lacks = { λ b. T.lacks b.value };
+
     ghost shown = { λ b. T.shown b.value };
 
     fn resolve_source(&mut self, alloc: Global, path: &ModulePath) -> Result<String, ResolveError> {
@@ -45,6 +47,8 @@ impl<T: Resolver> Resolver for &mut T {
 
     ghost source = { λ r. T.source r.now };
 
+    ghost lacks = { λ r. T.lacks r.now };
+
     ghost shown = { λ r. T.shown r.now };
 
     fn resolve_source(&mut self, alloc: Global, path: &ModulePath) -> Result<String, ResolveError> {
@@ -76,6 +80,8 @@ impl Resolver for Box<dyn Resolver + Drop> {
     ghost refuses = { λ b. (Resolver-box b).refuses b.value };
 
     ghost source = { λ b. (Resolver-box b).source b.value };
+
+    ghost lacks = { λ b. (Resolver-box b).lacks b.value };
 
     ghost shown = { λ b. (Resolver-box b).shown b.value };
 

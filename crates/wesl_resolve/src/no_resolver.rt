@@ -21,6 +21,8 @@ impl Resolver for NoResolver {
 
     ghost source = { λ _ p text. ⊥ };
 
+    ghost lacks = { λ _ p e. IsModuleNotFound p (codes "no module resolver, imports are effectively disabled here") e };
+
     ghost shown = { λ _ p name. name ≡ None };
 
     fn resolve_source(&mut self, alloc: Global, path: &ModulePath) -> Result<String, ResolveError> {

@@ -27,10 +27,12 @@ pub struct PkgResolver<P> {
 }
 
 impl<P> PkgResolver<P> {
+    ghost use Rattle.wesl_resolve.specs.Held.{packages_of, package_reader_of};
+
     /// A resolver without packages, which will read sources by `text`. It takes no memory.
     pub fn new(alloc: Global, text: P) -> PkgResolver<P>
-        ensures text { result.text ≡ text }
-        ensures packages { result.packages.items ≡ [] }
+        ensures text { package_reader_of result ≡ text }
+        ensures packages { packages_of result ≡ [] }
     {
         PkgResolver {
             text,
@@ -40,9 +42,9 @@ impl<P> PkgResolver<P> {
 
     /// Adds a package after the others. Refused for want of memory alone, which leaves the packages as they were.
     pub fn add_package(&mut self, package: CodegenPkg) -> Result<(), Error>
-        ensures added { OnOk result (self.new.packages.items ≡ self.old.packages.items ++ «package» ∷ []) }
-        ensures kept { OnErr result (self.new.packages.items ≡ self.old.packages.items) }
-        ensures text { self.new.text ≡ self.old.text }
+        ensures added { OnOk result (packages_of self.new ≡ packages_of self.old ++ «package» ∷ []) }
+        ensures kept { OnErr result (packages_of self.new ≡ packages_of self.old) }
+        ensures text { package_reader_of self.new ≡ package_reader_of self.old }
         ensures refused { IfErr result (λ e. e ≡ error.Memory) }
     {
         self.packages.push(package)?;
@@ -51,10 +53,12 @@ impl<P> PkgResolver<P> {
 }
 
 impl<P: UnitText> PkgResolver<P> {
+    ghost use Rattle.wesl_resolve.specs.Held.{packages_of, package_reader_of};
+
     /// The source of the module at a path.
     fn source_at(&self, alloc: Global, path: &ModulePath) -> Result<String, ResolveError>
-        ensures given { IfOk result (λ text. IsSourceIn self.now.packages.items (path_view path.now) (string_bytes text)) }
-        ensures refused { IfErr result (OrMemory (IsMissingIn self.now.packages.items (path_view path.now))) }
+        ensures given { IfOk result (λ text. IsSourceIn (packages_of self.now) (path_view path.now) (string_bytes text)) }
+        ensures refused { IfErr result (OrMemory (IsMissingIn (packages_of self.now) (path_view path.now))) }
     {
         let module = module_at(alloc, &self.packages, path)?;
         Ok(String::from_str(alloc, module.source.as_str())?)
@@ -62,8 +66,8 @@ impl<P: UnitText> PkgResolver<P> {
 
     /// The unit of the module at a path.
     fn read_at(&self, alloc: Global, path: &ModulePath) -> Result<TranslationUnit, ResolveError>
-        ensures read { IfOk result (λ u. IsReadIn (P.reads self.now.text) self.now.packages.items (path_view path.now) (spelled (unit_view u))) }
-        ensures refused { IfErr result (OrMemory (IsRefusedIn (P.unreadable self.now.text) self.now.packages.items (path_view path.now))) }
+        ensures read { IfOk result (λ u. IsReadIn (P.reads (package_reader_of self.now)) (packages_of self.now) (path_view path.now) (spelled (unit_view u))) }
+        ensures refused { IfErr result (OrMemory (IsRefusedIn (P.unreadable (package_reader_of self.now)) (packages_of self.now) (path_view path.now))) }
     {
         let module = module_at(alloc, &self.packages, path)?;
         read_module(&self.text, alloc, path, module.source.as_str())
@@ -71,16 +75,18 @@ impl<P: UnitText> PkgResolver<P> {
 }
 
 impl<P: UnitText> Resolver for PkgResolver<P> {
-    ghost use Rattle.wesl_resolve.specs.Packages.{IsReadIn, IsRefusedIn, IsSourceIn};
+    ghost use Rattle.wesl_resolve.specs.Packages.{IsMissingIn, IsReadIn, IsRefusedIn, IsSourceIn};
     ghost use Rattle.wesl_resolve.specs.Held.{packages_of, package_reader_of};
 
     ghost ready = { λ _. Unit {0} };
 
-    ghost hands = { λ s p u. IsReadIn (P.reads s.text) s.packages.items p u };
+    ghost hands = { λ s p u. IsReadIn (P.reads (package_reader_of s)) (packages_of s) p u };
 
-    ghost refuses = { λ s p e. IsRefusedIn (P.unreadable s.text) s.packages.items p e };
+    ghost refuses = { λ s p e. IsRefusedIn (P.unreadable (package_reader_of s)) (packages_of s) p e };
 
-    ghost source = { λ s p text. IsSourceIn s.packages.items p text };
+    ghost source = { λ s p text. IsSourceIn (packages_of s) p text };
+
+    ghost lacks = { λ s p e. IsMissingIn (packages_of s) p e };
 
     ghost shown = { λ _ p name. name ≡ None };
 

@@ -68,6 +68,8 @@ impl<R: Resolver, F: Fn(TranslationUnit) -> Result<TranslationUnit, Error>> Reso
 
     ghost source = { λ s p text. R.source s.resolver p text };
 
+    ghost lacks = { λ s p e. R.lacks s.resolver p e };
+
     ghost shown = { λ s p name. R.shown s.resolver p name };
 
     fn resolve_source(&mut self, alloc: Global, path: &ModulePath) -> Result<String, ResolveError> {

@@ -28,6 +28,9 @@ pub trait Resolver {
     /// It may give the text as the source at the path.
     ghost source: { Self → Path → Text → Type 0 };
 
+    /// It may refuse the source at the path with the error.
+    ghost lacks: { Self → Path → ResolveError → Type 0 };
+
     /// It may show the path by the name, or by none.
     ghost shown: { Self → Path → Option Text → Type 0 };
 
@@ -36,8 +39,8 @@ pub trait Resolver {
         requires asked { ready self.old }
         requires rooted { is_relative (path_view path.now) ≡ false }
         ensures given { IfOk result (λ text. source self.old (path_view path.now) (string_bytes text)) }
-        ensures refused { IfErr result (OrMemory (refuses self.old (path_view path.now))) }
-        ensures same { MeansTheSame hands refuses source shown self.old self.new }
+        ensures refused { IfErr result (OrMemory (lacks self.old (path_view path.now))) }
+        ensures same { MeansTheSame hands refuses source lacks shown self.old self.new }
         ensures stays_ready { ready self.new };
 
     /// The unit of the module at a path. Refused where the resolver has no such module or cannot read it, and for
@@ -51,7 +54,7 @@ pub trait Resolver {
         requires rooted { is_relative (path_view path.now) ≡ false }
         ensures handed { IfOk result (λ u. hands self.old (path_view path.now) (spelled (unit_view u))) }
         ensures refused { IfErr result (OrMemory (refuses self.old (path_view path.now))) }
-        ensures same { MeansTheSame hands refuses source shown self.old self.new }
+        ensures same { MeansTheSame hands refuses source lacks shown self.old self.new }
         ensures stays_ready { ready self.new };
 
     /// The name by which the module at a path is shown, as a file's, if it has one. Refused for want of memory

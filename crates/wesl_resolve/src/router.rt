@@ -61,8 +61,8 @@ fn source_after<R: Resolver>(
     requires asked { R.ready resolver.old }
     requires within { count ≤ length (path_view path.now).components }
     ensures given { IfOk result (λ text. R.source resolver.old (suffix count (path_view path.now)) (string_bytes text)) }
-    ensures refused { IfErr result (OrMemory (R.refuses resolver.old (suffix count (path_view path.now)))) }
-    ensures same { MeansTheSame R.hands R.refuses R.source R.shown resolver.old resolver.new }
+    ensures refused { IfErr result (OrMemory (R.lacks resolver.old (suffix count (path_view path.now)))) }
+    ensures same { MeansTheSame R.hands R.refuses R.source R.lacks R.shown resolver.old resolver.new }
     ensures stays_ready { R.ready resolver.new }
 {
     match path_after(alloc, path, count) {
@@ -82,7 +82,7 @@ fn module_after<R: Resolver>(
     requires within { count ≤ length (path_view path.now).components }
     ensures handed { IfOk result (λ u. R.hands resolver.old (suffix count (path_view path.now)) (spelled (unit_view u))) }
     ensures refused { IfErr result (OrMemory (R.refuses resolver.old (suffix count (path_view path.now)))) }
-    ensures same { MeansTheSame R.hands R.refuses R.source R.shown resolver.old resolver.new }
+    ensures same { MeansTheSame R.hands R.refuses R.source R.lacks R.shown resolver.old resolver.new }
     ensures stays_ready { R.ready resolver.new }
 {
     match path_after(alloc, path, count) {
@@ -121,11 +121,13 @@ pub struct Router<B = Box<dyn Resolver + Drop>> {
 }
 
 impl<B: Resolver + Drop> Router<B> {
+    ghost use Rattle.wesl_resolve.specs.Held.{mounts_of, fallback_of};
+
     /// A router without mounts and without a fallback. It takes no memory.
     pub fn new(alloc: Global) -> Router<B>
-        ensures mounts { result.mount_points.items ≡ [] }
-        ensures fallback { result.fallback ≡ None }
-        ensures ready { AllReady B.ready result.mount_points.items result.fallback }
+        ensures mounts { mounts_of result ≡ [] }
+        ensures fallback { fallback_of result ≡ None }
+        ensures ready { AllReady B.ready (mounts_of result) (fallback_of result) }
     {
         Router {
             mount_points: Vec::new(alloc),
@@ -137,11 +139,11 @@ impl<B: Resolver + Drop> Router<B> {
     /// mounts as they were.
     pub fn mount_resolver(&mut self, prefix: ModulePath, resolver: B) -> Result<(), Error>
         requires { is_relative (path_view prefix) ≡ false }
-        ensures mounted { OnOk result (self.new.mount_points.items ≡ self.old.mount_points.items ++ (prefix, resolver) ∷ []) }
-        ensures kept { OnErr result (self.new.mount_points.items ≡ self.old.mount_points.items) }
-        ensures fallback { self.new.fallback ≡ self.old.fallback }
-        ensures ready { AllReady B.ready self.old.mount_points.items self.old.fallback → B.ready resolver
-            → AllReady B.ready self.new.mount_points.items self.new.fallback }
+        ensures mounted { OnOk result (mounts_of self.new ≡ mounts_of self.old ++ (prefix, resolver) ∷ []) }
+        ensures kept { OnErr result (mounts_of self.new ≡ mounts_of self.old) }
+        ensures fallback { fallback_of self.new ≡ fallback_of self.old }
+        ensures ready { AllReady B.ready (mounts_of self.old) (fallback_of self.old) → B.ready resolver
+            → AllReady B.ready (mounts_of self.new) (fallback_of self.new) }
         ensures refused { IfErr result (λ e. e ≡ error.Memory) }
     {
         self.mount_points.push((prefix, resolver))?;
@@ -150,10 +152,10 @@ impl<B: Resolver + Drop> Router<B> {
 
     /// Sets the resolver of the paths that no prefix begins, in place of an earlier one.
     pub fn mount_fallback_resolver(&mut self, resolver: B)
-        ensures mounts { self.new.mount_points.items ≡ self.old.mount_points.items }
-        ensures fallback { self.new.fallback ≡ Some resolver }
-        ensures ready { AllReady B.ready self.old.mount_points.items self.old.fallback → B.ready resolver
-            → AllReady B.ready self.new.mount_points.items self.new.fallback }
+        ensures mounts { mounts_of self.new ≡ mounts_of self.old }
+        ensures fallback { fallback_of self.new ≡ Some resolver }
+        ensures ready { AllReady B.ready (mounts_of self.old) (fallback_of self.old) → B.ready resolver
+            → AllReady B.ready (mounts_of self.new) (fallback_of self.new) }
     {
         self.fallback = Some(resolver);
     }
@@ -162,7 +164,7 @@ impl<B: Resolver + Drop> Router<B> {
 impl<B: Resolver> Resolver for Router<B> {
     ghost use Rattle.wesl_resolve.specs.Held.{mounts_of, fallback_of};
     ghost use Rattle.wesl_resolve.specs.Router.{AllReady};
-    ghost use Rattle.wesl_resolve.specs.RouterMeaning.{router_hands, router_refuses, router_source, router_shown, ReachesOne, RouterMeans};
+    ghost use Rattle.wesl_resolve.specs.RouterMeaning.{router_hands, router_refuses, router_source, router_lacks, router_shown, ReachesOne, RouterMeans};
 
     ghost ready = { λ r. AllReady B.ready (mounts_of r) (fallback_of r) };
 
@@ -172,6 +174,8 @@ impl<B: Resolver> Resolver for Router<B> {
 
     ghost source = { router_source B.source };
 
+    ghost lacks = { router_lacks B.lacks };
+
     ghost shown = { router_shown B.shown };
 
     /// The source that the resolver which the path goes to gives. No other resolver is asked.
@@ -179,8 +183,8 @@ impl<B: Resolver> Resolver for Router<B> {
         requires asked { AllReady B.ready (mounts_of self.old) (fallback_of self.old) }
         requires rooted { is_relative (path_view path.now) ≡ false }
         ensures given { IfOk result (λ text. router_source B.source self.old (path_view path.now) (string_bytes text)) }
-        ensures refused { IfErr result (OrMemory (router_refuses B.refuses self.old (path_view path.now))) }
-        ensures same { RouterMeans B.hands B.refuses B.source B.shown self.old self.new }
+        ensures refused { IfErr result (OrMemory (router_lacks B.lacks self.old (path_view path.now))) }
+        ensures same { RouterMeans B.hands B.refuses B.source B.lacks B.shown self.old self.new }
         ensures stays_ready { AllReady B.ready (mounts_of self.new) (fallback_of self.new) }
         ensures others { ReachesOne (path_view path.now) self.old self.new }
     {
@@ -207,7 +211,7 @@ impl<B: Resolver> Resolver for Router<B> {
         requires rooted { is_relative (path_view path.now) ≡ false }
         ensures handed { IfOk result (λ u. router_hands B.hands self.old (path_view path.now) (spelled (unit_view u))) }
         ensures refused { IfErr result (OrMemory (router_refuses B.refuses self.old (path_view path.now))) }
-        ensures same { RouterMeans B.hands B.refuses B.source B.shown self.old self.new }
+        ensures same { RouterMeans B.hands B.refuses B.source B.lacks B.shown self.old self.new }
         ensures stays_ready { AllReady B.ready (mounts_of self.new) (fallback_of self.new) }
         ensures others { ReachesOne (path_view path.now) self.old self.new }
     {

@@ -41,10 +41,12 @@ pub struct VirtualResolver<P> {
 }
 
 impl<P> VirtualResolver<P> {
+    ghost use Rattle.wesl_resolve.specs.Held.{modules_of, reader_of};
+
     /// A resolver without modules, which will read texts by `text`. It takes no memory.
     pub fn new(alloc: Global, text: P) -> VirtualResolver<P>
-        ensures text { result.text ≡ text }
-        ensures modules { texts_of result.modules.entries ≡ [] }
+        ensures text { reader_of result ≡ text }
+        ensures modules { modules_of result ≡ [] }
     {
         VirtualResolver {
             text,
@@ -56,10 +58,10 @@ impl<P> VirtualResolver<P> {
     /// takes the new text. Refused for want of memory alone, which leaves the modules as they were.
     pub fn add_module(&mut self, path: ModulePath, source: String) -> Result<(), Error>
         requires { is_relative (path_view path) ≡ false }
-        ensures added { OnOk result (texts_of self.new.modules.entries ≡ put (path_view path) (string_bytes source) (texts_of self.old.modules.entries)) }
-        ensures last { OnOk result (IsLast (path_view path) (string_bytes source) (texts_of self.old.modules.entries) (texts_of self.new.modules.entries)) }
-        ensures kept { OnErr result (texts_of self.new.modules.entries ≡ texts_of self.old.modules.entries) }
-        ensures text { self.new.text ≡ self.old.text }
+        ensures added { OnOk result (modules_of self.new ≡ put (path_view path) (string_bytes source) (modules_of self.old)) }
+        ensures last { OnOk result (IsLast (path_view path) (string_bytes source) (modules_of self.old) (modules_of self.new)) }
+        ensures kept { OnErr result (modules_of self.new ≡ modules_of self.old) }
+        ensures text { reader_of self.new ≡ reader_of self.old }
         ensures refused { IfErr result (λ e. e ≡ error.Memory) }
     {
         put(&mut self.modules, path, source)
@@ -67,8 +69,8 @@ impl<P> VirtualResolver<P> {
 
     /// The text of the module at a path. Refused where there is none, and for want of memory.
     pub fn get_module(&self, alloc: Global, path: &ModulePath) -> Result<&str, ResolveError>
-        ensures found { IfOk result (λ text. text_at (path_view path.now) (texts_of self.now.modules.entries) ≡ Some text.now) }
-        ensures missing { IfErr result (OrMemory (IsMissing (texts_of self.now.modules.entries) (path_view path.now))) }
+        ensures found { IfOk result (λ text. text_at (path_view path.now) (modules_of self.now) ≡ Some text.now) }
+        ensures missing { IfErr result (OrMemory (IsMissing (modules_of self.now) (path_view path.now))) }
     {
         match self.modules.get(path) {
             Some(source) => Ok(source.as_str()),
@@ -79,7 +81,7 @@ impl<P> VirtualResolver<P> {
     /// The paths and the texts of the modules, in the order in which the paths were first added. Refused for want
     /// of memory alone.
     pub fn modules(&self, alloc: Global) -> Result<Vec<(&ModulePath, &str)>, Error>
-        ensures listed { IfOk result (λ ms. map (λ m. (path_view m.0.now, m.1.now)) ms.items ≡ texts_of self.now.modules.entries) }
+        ensures listed { IfOk result (λ ms. map (λ m. (path_view m.0.now, m.1.now)) ms.items ≡ modules_of self.now) }
         ensures refused { IfErr result (λ e. e ≡ error.Memory) }
     {
         let mut modules = Vec::new(alloc);
@@ -91,6 +93,8 @@ impl<P> VirtualResolver<P> {
 }
 
 impl<P: UnitText> VirtualResolver<P> {
+    ghost use Rattle.wesl_resolve.specs.Held.{modules_of, reader_of};
+
     /// Adds a unit as the module at a path, which is not relative: the text that is printed of it. Refused for
     /// want of memory alone, which leaves the modules as they were.
     pub fn add_translation_unit(
@@ -100,11 +104,11 @@ impl<P: UnitText> VirtualResolver<P> {
         unit: TranslationUnit,
     ) -> Result<(), Error>
         requires { is_relative (path_view path) ≡ false }
-        ensures added { OnOk result ((text : Text) × P.prints self.old.text (spelled (unit_view unit)) text
-            × (texts_of self.new.modules.entries ≡ put (path_view path) text (texts_of self.old.modules.entries))
-            × IsLast (path_view path) text (texts_of self.old.modules.entries) (texts_of self.new.modules.entries)) }
-        ensures kept { OnErr result (texts_of self.new.modules.entries ≡ texts_of self.old.modules.entries) }
-        ensures text { self.new.text ≡ self.old.text }
+        ensures added { OnOk result ((text : Text) × P.prints (reader_of self.old) (spelled (unit_view unit)) text
+            × (modules_of self.new ≡ put (path_view path) text (modules_of self.old))
+            × IsLast (path_view path) text (modules_of self.old) (modules_of self.new)) }
+        ensures kept { OnErr result (modules_of self.new ≡ modules_of self.old) }
+        ensures text { reader_of self.new ≡ reader_of self.old }
         ensures refused { IfErr result (λ e. e ≡ error.Memory) }
     {
         let source = match self.text.print(alloc, &unit) {
@@ -116,8 +120,8 @@ impl<P: UnitText> VirtualResolver<P> {
 
     /// The unit of the module at a path.
     fn read_at(&self, alloc: Global, path: &ModulePath) -> Result<TranslationUnit, ResolveError>
-        ensures read { IfOk result (λ u. IsReadAt (P.reads self.now.text) (texts_of self.now.modules.entries) (path_view path.now) (spelled (unit_view u))) }
-        ensures refused { IfErr result (OrMemory (IsRefusedAt (P.unreadable self.now.text) (texts_of self.now.modules.entries) (path_view path.now))) }
+        ensures read { IfOk result (λ u. IsReadAt (P.reads (reader_of self.now)) (modules_of self.now) (path_view path.now) (spelled (unit_view u))) }
+        ensures refused { IfErr result (OrMemory (IsRefusedAt (P.unreadable (reader_of self.now)) (modules_of self.now) (path_view path.now))) }
     {
         let source = self.get_module(alloc, path)?;
         read_module(&self.text, alloc, path, source)
@@ -125,16 +129,18 @@ impl<P: UnitText> VirtualResolver<P> {
 }
 
 impl<P: UnitText> Resolver for VirtualResolver<P> {
-    ghost use Rattle.wesl_resolve.specs.Texts.{texts_of, text_at, IsReadAt, IsRefusedAt};
+    ghost use Rattle.wesl_resolve.specs.Texts.{text_at, IsMissing, IsReadAt, IsRefusedAt};
     ghost use Rattle.wesl_resolve.specs.Held.{modules_of, reader_of};
 
     ghost ready = { λ _. Unit {0} };
 
-    ghost hands = { λ s p u. IsReadAt (P.reads s.text) (texts_of s.modules.entries) p u };
+    ghost hands = { λ s p u. IsReadAt (P.reads (reader_of s)) (modules_of s) p u };
 
-    ghost refuses = { λ s p e. IsRefusedAt (P.unreadable s.text) (texts_of s.modules.entries) p e };
+    ghost refuses = { λ s p e. IsRefusedAt (P.unreadable (reader_of s)) (modules_of s) p e };
 
-    ghost source = { λ s p text. text_at p (texts_of s.modules.entries) ≡ Some text };
+    ghost source = { λ s p text. text_at p (modules_of s) ≡ Some text };
+
+    ghost lacks = { λ s p e. IsMissing (modules_of s) p e };
 
     ghost shown = { λ _ p name. name ≡ None };
 

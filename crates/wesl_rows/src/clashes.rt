@@ -12,6 +12,7 @@ pub fn answered(alloc: Global, call: &str, row: &Value) -> Result<Option<Value>,
     match call {
         "names_clash" => clash(alloc, row),
         "names_clash of many statements" => many_clash(alloc, row),
+        "names_clash, times" => clash_times(alloc, row),
         _ => Ok(None),
     }
 }
@@ -53,4 +54,22 @@ fn many_clash(alloc: Global, row: &Value) -> Result<Option<Value>, anyhow::Error
     };
     let unit = many_statements(alloc, count)?;
     Ok(Some(Value::from(names_clash(alloc, &unit)?)))
+}
+
+/// How often in so many `times` the names of the unit of the `tree`, numbered by what they mean, clash.
+fn clash_times(alloc: Global, row: &Value) -> Result<Option<Value>, anyhow::Error> {
+    let Some(mut unit) = unit(alloc, row, "tree")? else {
+        return Ok(None);
+    };
+    let Some(times) = number(row, "times") else {
+        return Ok(None);
+    };
+    unit.retarget_idents(alloc)?;
+    let mut clashes: usize = 0;
+    for _ in 0..times {
+        if names_clash(alloc, &unit)? {
+            clashes = clashes.wrapping_add(1);
+        }
+    }
+    Ok(Some(Value::from(clashes)))
 }

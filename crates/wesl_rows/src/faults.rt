@@ -33,6 +33,7 @@ pub fn of_error(alloc: Global, error: &Error) -> Result<Value, anyhow::Error> {
         Error::CondComp(inner) => of_condition(alloc, inner),
         Error::NotJson => fault(alloc, "NotJson", &[]),
         Error::BadTree(place) => fault(alloc, "BadTree", &[place.as_str()]),
+        Error::Memory => fault(alloc, "Memory", &[]),
         _ => fault(alloc, "another fault", &[]),
     }
 }

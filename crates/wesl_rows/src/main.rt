@@ -3,6 +3,7 @@
 //! count.
 #![tactic(auto)]
 
+mod builtins;
 mod clashes;
 mod conditions;
 mod faults;
@@ -47,6 +48,9 @@ fn answered(alloc: Global, call: &str, row: &Value) -> Result<Value, anyhow::Err
         return Ok(answer);
     }
     if let Some(answer) = manglers::answered(alloc, call, row)? {
+        return Ok(answer);
+    }
+    if let Some(answer) = builtins::answered(alloc, call, row)? {
         return Ok(answer);
     }
     if let Some(answer) = program::answered(alloc, call, row)? {

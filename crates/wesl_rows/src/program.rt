@@ -2,14 +2,16 @@
 use crate::{faults, inputs};
 use serde_json::Value;
 use std::alloc::Global;
-use wesl::{Outcome, run};
+use wesl::{Outcome, RunError, run};
 
 /// The line that a run over these bytes writes, where it is one compact line of the kind that its outcome tells.
 fn line_of(alloc: Global, bundle: &[u8]) -> Result<Option<Value>, anyhow::Error> {
     let mut reader = bundle;
     let mut written = Vec::new(alloc);
-    let Ok(outcome) = run(alloc, &mut reader, &mut written) else {
-        return Ok(None);
+    let outcome = match run(alloc, &mut reader, &mut written) {
+        Ok(outcome) => outcome,
+        Err(RunError::Output) => return Err(anyhow::anyhow!("no room for the line")),
+        Err(RunError::Input) => return Ok(None),
     };
     if written.pop() != Some(b'\n') {
         return Ok(None);

@@ -60,9 +60,8 @@ fn refused(alloc: Global, error: &ResolveError) -> Result<Value, anyhow::Error> 
             faults::fault(alloc, "ModuleNotFound", &[path.as_str(), reason.as_str()])
         }
         ResolveError::Error(diagnostic) => told(alloc, diagnostic),
-        ResolveError::FileNotFound(_, _) | ResolveError::Memory => {
-            faults::fault(alloc, "another fault", &[])
-        }
+        ResolveError::FileNotFound(_, _) => faults::fault(alloc, "another fault", &[]),
+        ResolveError::Memory => faults::fault(alloc, "Memory", &[]),
     }
 }
 

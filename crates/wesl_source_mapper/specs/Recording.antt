@@ -14,9 +14,9 @@ Records shows path text old new = (display : Option Text) × shows display × Te
 
 -- a source that is given is recorded; where the source is refused, and not for want of memory, nothing is
 abbrev pub RecordsIfGiven : (Text → Type 0) → (resolve_error.ResolveError → Type 0) → (Option Text → Type 0) → Path → Sources → Sources → Type 0
-RecordsIfGiven gives refuses shows path old new =
+RecordsIfGiven gives lacks shows path old new =
     ((text : Text) × gives text × Records shows path text old new)
-    ⊎ ((e : resolve_error.ResolveError) × refuses e × (e ≡ resolve_error.Memory → ⊥) × SameSources old new)
+    ⊎ ((e : resolve_error.ResolveError) × lacks e × (e ≡ resolve_error.Memory → ⊥) × SameSources old new)
 
 -- a question to the resolver leaves the mangler, the root's path, the names and the default source as they were
 pub record IsAskedAlone {M : Type 0} (mangler mangler' : M) (root root' : ModulePath) (old new : BasicSourceMap) : Type 0 where

@@ -143,6 +143,8 @@ impl<R: Resolver, M> Resolver for SourceMapper<R, M> {
 
     ghost source = { λ s. R.source s.resolver };
 
+    ghost lacks = { λ s. R.lacks s.resolver };
+
     ghost shown = { λ s. R.shown s.resolver };
 
     /// The source of the module at a path, which is recorded with the name by which the module is shown.
@@ -154,9 +156,9 @@ impl<R: Resolver, M> Resolver for SourceMapper<R, M> {
         ensures given { IfOk result (λ text. R.source self.old.resolver (path_view path.now) (string_bytes text)) }
         ensures recorded { IfOk result (λ text. Records (R.shown self.old.resolver (path_view path.now)) (path_view path.now) (string_bytes text)
             (sources self.old.sourcemap) (sources self.new.sourcemap)) }
-        ensures refused { IfErr result (OrMemory (R.refuses self.old.resolver (path_view path.now))) }
+        ensures refused { IfErr result (OrMemory (R.lacks self.old.resolver (path_view path.now))) }
         ensures kept { OnErr result (SameSources (sources self.old.sourcemap) (sources self.new.sourcemap)) }
-        ensures same { MeansTheSame R.hands R.refuses R.source R.shown self.old.resolver self.new.resolver }
+        ensures same { MeansTheSame R.hands R.refuses R.source R.lacks R.shown self.old.resolver self.new.resolver }
         ensures stays_ready { R.ready self.new.resolver }
         ensures beside { IsAskedAlone self.old.mangler self.new.mangler self.old.root self.new.root self.old.sourcemap self.new.sourcemap }
     {
@@ -178,11 +180,11 @@ impl<R: Resolver, M> Resolver for SourceMapper<R, M> {
         requires rooted { is_relative (path_view path.now) ≡ false }
         ensures handed { IfOk result (λ u. R.hands self.old.resolver (path_view path.now) (spelled (unit_view u))) }
         ensures recorded { OnOk result (RecordsIfGiven (R.source self.old.resolver (path_view path.now))
-            (R.refuses self.old.resolver (path_view path.now)) (R.shown self.old.resolver (path_view path.now)) (path_view path.now)
+            (R.lacks self.old.resolver (path_view path.now)) (R.shown self.old.resolver (path_view path.now)) (path_view path.now)
             (sources self.old.sourcemap) (sources self.new.sourcemap)) }
         ensures refused { IfErr result (OrMemory (R.refuses self.old.resolver (path_view path.now))) }
         ensures kept { OnErr result (SameSources (sources self.old.sourcemap) (sources self.new.sourcemap)) }
-        ensures same { MeansTheSame R.hands R.refuses R.source R.shown self.old.resolver self.new.resolver }
+        ensures same { MeansTheSame R.hands R.refuses R.source R.lacks R.shown self.old.resolver self.new.resolver }
         ensures stays_ready { R.ready self.new.resolver }
         ensures beside { IsAskedAlone self.old.mangler self.new.mangler self.old.root self.new.root self.old.sourcemap self.new.sourcemap }
     {

@@ -1,5 +1,6 @@
 //! The validator of what WESL asks.
-ghost use Rattle.std.specs.Prelude.{IfOk, IfErr};
+ghost use Rattle.std.specs.Prelude.{◌≡◌, None, IfOk, IfErr};
+ghost use Rattle.wesl_names.specs.declared.errors.Error as error;
 ghost use Rattle.wesl_tree.specs.Translation.{unit_view};
 ghost use Rattle.wesl_builtins.specs.Builtins.{builtins_view};
 ghost use Rattle.wesl_valid.specs.Valid.{IsValidWesl};
@@ -22,7 +23,7 @@ use wesl_tree::TranslationUnit;
 /// `Duplicate("k")`, and not where one of the two has a condition; `fn f() { f(); }` with `Cycle("f", "f")`.
 ///
 /// Refused with one fault that stands, and the name of the declaration that holds it (none for one in a `const_assert`;
-/// of `Duplicate` and `Cycle` the name that they carry first), or for want of memory.
+/// of `Duplicate` and `Cycle` the name that they carry first), or for want of memory, with no name.
 pub fn validate_wesl(
     alloc: Global,
     unit: &TranslationUnit,
@@ -30,6 +31,7 @@ pub fn validate_wesl(
 ) -> Result<(), Diagnostic>
     ensures valid { IfOk result (λ _. IsValidWesl (unit_view unit.now) (builtins_view builtins.now)) }
     ensures refused { IfErr result (RefusesWesl (unit_view unit.now) (builtins_view builtins.now)) }
+    ensures memory { IfErr result (λ d. d.error ≡ error.Memory → d.declaration ≡ None) }
 {
     match wesl_fault(alloc, unit, builtins)? {
         None => Ok(()),

@@ -1,5 +1,6 @@
 //! The validator of what WGSL asks.
-ghost use Rattle.std.specs.Prelude.{IfOk, IfErr};
+ghost use Rattle.std.specs.Prelude.{◌≡◌, None, IfOk, IfErr};
+ghost use Rattle.wesl_names.specs.declared.errors.Error as error;
 ghost use Rattle.wesl_tree.specs.Translation.{unit_view};
 ghost use Rattle.wesl_builtins.specs.Builtins.{builtins_view};
 ghost use Rattle.wesl_valid.specs.Valid.{IsValidWgsl};
@@ -19,7 +20,7 @@ use wesl_tree::TranslationUnit;
 /// with a path or with template arguments, and a name of no binder that the builtins call a function or a constructor.
 /// Of several declarations of one name one that fits is enough; a call whose aliases run in a ring is passed over.
 ///
-/// Refused with one fault that stands, and the name of the declaration that holds it, or for want of memory.
+/// Refused with one fault that stands, and the name of the declaration that holds it, or for want of memory, with no name.
 pub fn validate_wgsl(
     alloc: Global,
     unit: &TranslationUnit,
@@ -27,6 +28,7 @@ pub fn validate_wgsl(
 ) -> Result<(), Diagnostic>
     ensures valid { IfOk result (λ _. IsValidWgsl (unit_view unit.now) (builtins_view builtins.now)) }
     ensures refused { IfErr result (RefusesWgsl (unit_view unit.now) (builtins_view builtins.now)) }
+    ensures memory { IfErr result (λ d. d.error ≡ error.Memory → d.declaration ≡ None) }
 {
     validate_wesl(alloc, unit, builtins)?;
     match call_fault(alloc, unit, builtins)? {

@@ -10,7 +10,7 @@ returns-in-Ok-clause-line g c =
     let is = g.R.Read.remaining c.read_whole.new.reader in
     let made = c.line_of_bytes.result in
     let had = all_had was is c.in-Ok.bytes.items c.in-Ok.ensures.bytes c.in-Ok.ensures.end in
-    (c.in-Ok.bytes.items, had, subst (λ bytes. IsLine made.0 bytes (bytes_of made.1)) c.deref.ensures.value c.line_of_bytes.ensures)
+    (c.in-Ok.bytes.items, had, subst (λ bytes. IsLine made.0 bytes (bytes_of made.1)) c.deref.ensures.value c.line_of_bytes.ensures.line)
 
 pub returns-in-Err-Memory-clause-line : goal.returns-in-Err-Memory-clause-line
 returns-in-Err-Memory-clause-line g c =

@@ -7,6 +7,6 @@ ghosts-reach_modules g a = record {
   hands = g.R.Resolver.hands a.modules.now.resolver.now;
   refuses = g.R.Resolver.refuses a.modules.now.resolver.now;
   first = numbering a.modules.now.numbers.now;
-  these = λ x. MeansTheSame g.R.Resolver.hands g.R.Resolver.refuses g.R.Resolver.source g.R.Resolver.shown a.modules.now.resolver.now x;
+  these = λ x. MeansTheSame g.R.Resolver.hands g.R.Resolver.refuses g.R.Resolver.source g.R.Resolver.lacks g.R.Resolver.shown a.modules.now.resolver.now x;
   loan = a.modules.now.resolver.ghost_name;
 }

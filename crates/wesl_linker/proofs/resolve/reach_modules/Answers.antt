@@ -27,7 +27,7 @@ linked_by-requires-clause-ready g c =
     let first = numbering c.args.modules.now.numbers.now in
     let start : Keeps (g.R.Resolver.hands c.args.modules.now.resolver.now) (g.R.Resolver.refuses c.args.modules.now.resolver.now) g.S.Source.hands g.S.Source.refuses g.S.Source.first first c.args.modules.now.units.now.entries =
     keeps_nothing (g.R.Resolver.hands c.args.modules.now.resolver.now) g.S.Source.hands (g.R.Resolver.refuses c.args.modules.now.resolver.now) g.S.Source.refuses g.S.Source.first first c.args.modules.now.units.now.entries c.requires.follows c.requires.first c.requires.nothing in
-    ready_table ((g.R.Resolver.ready c.args.modules.now.resolver.now × StaysOne g.R.Resolver.hands g.R.Resolver.refuses g.R.Resolver.source g.R.Resolver.shown g.S.Source.these g.S.Source.loan c.args.modules.now.resolver.now c.args.modules.now.resolver.ghost_name) × Keeps (g.R.Resolver.hands c.args.modules.now.resolver.now) (g.R.Resolver.refuses c.args.modules.now.resolver.now) g.S.Source.hands g.S.Source.refuses g.S.Source.first first c.args.modules.now.units.now.entries) ((c.requires.ready, c.requires.stays), start) first c.args.table
+    ready_table ((g.R.Resolver.ready c.args.modules.now.resolver.now × StaysOne g.R.Resolver.hands g.R.Resolver.refuses g.R.Resolver.source g.R.Resolver.lacks g.R.Resolver.shown g.S.Source.these g.S.Source.loan c.args.modules.now.resolver.now c.args.modules.now.resolver.ghost_name) × Keeps (g.R.Resolver.hands c.args.modules.now.resolver.now) (g.R.Resolver.refuses c.args.modules.now.resolver.now) g.S.Source.hands g.S.Source.refuses g.S.Source.first first c.args.modules.now.units.now.entries) ((c.requires.ready, c.requires.stays), start) first c.args.table
     (table_at (path_view c.args.path) (spelled (unit_view c.args.unit))) c.requires.root
 
 pub linked_by-requires-clause-none_kept : goal.linked_by-requires-clause-none_kept

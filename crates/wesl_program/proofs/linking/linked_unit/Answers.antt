@@ -11,10 +11,6 @@ use Rattle.wesl_program.proofs.Faults.{bundle-fault}
 use Rattle.wesl_program.proofs.Answered.{links_to}
 use Rattle.wesl_program.proofs.linking.linked_unit.Goals as goal
 
-if-ok : {T E : Type 0} {P Q : T → Type 0} (r : Result T E) → ((t : T) → P t → Q t) → IfOk r P → IfOk r Q
-if-ok (Ok t) f h = f t h
-if-ok (Err e) f h = tt
-
 pub returns-in-Ok-clause-linked : goal.returns-in-Ok-clause-linked
 returns-in-Ok-clause-linked c =
     let sources = c.in_ok-sources.sources in
@@ -29,10 +25,9 @@ returns-in-Ok-clause-linked c =
     } in
     let keep : texts c.deref-2.result.now ≡ map string_bytes c.args.bundle.keep.items = ap texts c.deref-2.ensures.value ∙ c.in_ok-keep.ensures ∙ ap (map string_bytes) c.deref.ensures.value in
     let r = c.in-Ok.resolutions in
-    if-ok c.named_unit.result
-    (λ unit (q, mangled, assembled). links_to b kept (resolved r) (subst (λ ks. Links (handed_left b kept) (refused_left b kept) b.root ks b.options.eager b.options.max_modules (turns_of r) (modules_of r)) keep c.in-Ok.ensures.linked)
-    (c.in-Ok.ensures.kept ∙ ap (kept_names b.options.eager) keep) c.in-Ok.ensures.eager q mangled (unit_view unit) assembled)
-    c.named_unit.ensures.named
+    let (q, mangled, assembled) = c.in_ok-named_unit-in-Ok.ensures.named in
+    links_to b kept (resolved r) (subst (λ ks. Links (handed_left b kept) (refused_left b kept) b.root ks b.options.eager b.options.max_modules (turns_of r) (modules_of r)) keep c.in-Ok.ensures.linked)
+    (c.in-Ok.ensures.kept ∙ ap (kept_names b.options.eager) keep) c.in-Ok.ensures.eager q mangled _ assembled
 
 pub returns : goal.returns
 returns c =
@@ -49,6 +44,7 @@ returns c =
     let keep : texts c.deref-2.result.now ≡ map string_bytes c.args.bundle.keep.items = ap texts c.deref-2.ensures.value ∙ c.in_ok-keep.ensures ∙ ap (map string_bytes) c.deref.ensures.value in
     record {
       linked = tt;
+      builtins = tt;
       refused = bundle-fault b kept c.in-Err.diagnostic.error
           (subst (λ ks. RefusesLink (handed_left b kept) (refused_left b kept) b.root ks b.options.eager b.options.max_modules c.in-Err.diagnostic.error) keep c.in-Err.ensures.refused);
     }

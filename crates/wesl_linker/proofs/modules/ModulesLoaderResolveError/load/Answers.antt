@@ -33,14 +33,14 @@ returns-in-Some-clause-ready_paths g c =
     let keeps : Keeps hands refuses g.S.Source.hands g.S.Source.refuses g.S.Source.first b units =
     keeps_on hands hands g.S.Source.hands refuses refuses g.S.Source.refuses g.S.Source.first (numbering c.args.self.now.numbers.now) b units units c.requires.1.1 (itself hands) (itself refuses) c.read_again.ensures.grows refl in
     let u : Table Path Text = table_at q (spelled (unit_view c.in-Some.held.now.unit)) in
-    let K = (g.R.Resolver.ready c.args.self.now.resolver.now × StaysOne g.R.Resolver.hands g.R.Resolver.refuses g.R.Resolver.source g.R.Resolver.shown g.S.Source.these g.S.Source.loan c.args.self.now.resolver.now c.args.self.now.resolver.ghost_name) × Keeps hands refuses g.S.Source.hands g.S.Source.refuses g.S.Source.first b units in
+    let K = (g.R.Resolver.ready c.args.self.now.resolver.now × StaysOne g.R.Resolver.hands g.R.Resolver.refuses g.R.Resolver.source g.R.Resolver.lacks g.R.Resolver.shown g.S.Source.these g.S.Source.loan c.args.self.now.resolver.now c.args.self.now.resolver.ghost_name) × Keeps hands refuses g.S.Source.hands g.S.Source.refuses g.S.Source.first b units in
     in_ok (λ (t : Table PathId NameId). IsNumbered b t u) (IsReady (λ p. IsReadyPath b p × K)) c.read_again.result (λ t h. ready_table K (c.requires.1.0, keeps) b t u h) c.read_again.ensures.numbered
 
 pub returns-in-Some-clause-adds : goal.returns-in-Some-clause-adds
 returns-in-Some-clause-adds g c =
     let a = numbering c.args.self.now.numbers.now in
     let b = numbering c.read_again.new.numbers in
-    let ready = g.R.Resolver.ready c.args.self.now.resolver.now × StaysOne g.R.Resolver.hands g.R.Resolver.refuses g.R.Resolver.source g.R.Resolver.shown g.S.Source.these g.S.Source.loan c.args.self.now.resolver.now c.args.self.now.resolver.ghost_name in
+    let ready = g.R.Resolver.ready c.args.self.now.resolver.now × StaysOne g.R.Resolver.hands g.R.Resolver.refuses g.R.Resolver.source g.R.Resolver.lacks g.R.Resolver.shown g.S.Source.these g.S.Source.loan c.args.self.now.resolver.now c.args.self.now.resolver.ghost_name in
     let hands = g.R.Resolver.hands c.args.self.now.resolver.now in
     let refuses = g.R.Resolver.refuses c.args.self.now.resolver.now in
     let units = c.args.self.now.units.now.entries in
@@ -60,16 +60,16 @@ returns-clause-ready_paths g c =
     let hands = g.R.Resolver.hands c.fetch.new.self.resolver.now in
     let refuses = g.R.Resolver.refuses c.fetch.new.self.resolver.now in
     let units = c.fetch.new.self.units.now.entries in
-    let stays = stays_on g.R.Resolver.hands g.R.Resolver.refuses g.R.Resolver.source g.R.Resolver.shown g.S.Source.these g.S.Source.loan c.args.self.now.resolver.now c.fetch.new.self.resolver.now c.args.self.now.resolver.ghost_name c.fetch.new.self.resolver.ghost_name c.requires.1.0.1 c.fetch.ensures.same c.fetch.ensures.loan in
-    let K = (g.R.Resolver.ready c.fetch.new.self.resolver.now × StaysOne g.R.Resolver.hands g.R.Resolver.refuses g.R.Resolver.source g.R.Resolver.shown g.S.Source.these g.S.Source.loan c.fetch.new.self.resolver.now c.fetch.new.self.resolver.ghost_name) × Keeps hands refuses g.S.Source.hands g.S.Source.refuses g.S.Source.first b units in
+    let stays = stays_on g.R.Resolver.hands g.R.Resolver.refuses g.R.Resolver.source g.R.Resolver.lacks g.R.Resolver.shown g.S.Source.these g.S.Source.loan c.args.self.now.resolver.now c.fetch.new.self.resolver.now c.args.self.now.resolver.ghost_name c.fetch.new.self.resolver.ghost_name c.requires.1.0.1 c.fetch.ensures.same c.fetch.ensures.loan in
+    let K = (g.R.Resolver.ready c.fetch.new.self.resolver.now × StaysOne g.R.Resolver.hands g.R.Resolver.refuses g.R.Resolver.source g.R.Resolver.lacks g.R.Resolver.shown g.S.Source.these g.S.Source.loan c.fetch.new.self.resolver.now c.fetch.new.self.resolver.ghost_name) × Keeps hands refuses g.S.Source.hands g.S.Source.refuses g.S.Source.first b units in
     in_ok (λ (t : Table PathId NameId). (u : Table Path Text) × IsNumbered b t u) (IsReady (λ p. IsReadyPath b p × K)) c.fetch.result (λ t (u, h). ready_table K ((c.fetch.ensures.stays_ready, stays), c.fetch.ensures.keeps) b t u h) c.fetch.ensures.numbered
 
 pub returns-clause-adds : goal.returns-clause-adds
 returns-clause-adds g c =
     let a = numbering c.args.self.now.numbers.now in
     let b = numbering c.fetch.new.self.numbers.now in
-    let stays = stays_on g.R.Resolver.hands g.R.Resolver.refuses g.R.Resolver.source g.R.Resolver.shown g.S.Source.these g.S.Source.loan c.args.self.now.resolver.now c.fetch.new.self.resolver.now c.args.self.now.resolver.ghost_name c.fetch.new.self.resolver.ghost_name c.requires.1.0.1 c.fetch.ensures.same c.fetch.ensures.loan in
-    adds_more ((g.R.Resolver.ready c.args.self.now.resolver.now × StaysOne g.R.Resolver.hands g.R.Resolver.refuses g.R.Resolver.source g.R.Resolver.shown g.S.Source.these g.S.Source.loan c.args.self.now.resolver.now c.args.self.now.resolver.ghost_name) × Keeps (g.R.Resolver.hands c.args.self.now.resolver.now) (g.R.Resolver.refuses c.args.self.now.resolver.now) g.S.Source.hands g.S.Source.refuses g.S.Source.first a c.args.self.now.units.now.entries)
-    ((g.R.Resolver.ready c.fetch.new.self.resolver.now × StaysOne g.R.Resolver.hands g.R.Resolver.refuses g.R.Resolver.source g.R.Resolver.shown g.S.Source.these g.S.Source.loan c.fetch.new.self.resolver.now c.fetch.new.self.resolver.ghost_name) × Keeps (g.R.Resolver.hands c.fetch.new.self.resolver.now) (g.R.Resolver.refuses c.fetch.new.self.resolver.now) g.S.Source.hands g.S.Source.refuses g.S.Source.first b c.fetch.new.self.units.now.entries)
+    let stays = stays_on g.R.Resolver.hands g.R.Resolver.refuses g.R.Resolver.source g.R.Resolver.lacks g.R.Resolver.shown g.S.Source.these g.S.Source.loan c.args.self.now.resolver.now c.fetch.new.self.resolver.now c.args.self.now.resolver.ghost_name c.fetch.new.self.resolver.ghost_name c.requires.1.0.1 c.fetch.ensures.same c.fetch.ensures.loan in
+    adds_more ((g.R.Resolver.ready c.args.self.now.resolver.now × StaysOne g.R.Resolver.hands g.R.Resolver.refuses g.R.Resolver.source g.R.Resolver.lacks g.R.Resolver.shown g.S.Source.these g.S.Source.loan c.args.self.now.resolver.now c.args.self.now.resolver.ghost_name) × Keeps (g.R.Resolver.hands c.args.self.now.resolver.now) (g.R.Resolver.refuses c.args.self.now.resolver.now) g.S.Source.hands g.S.Source.refuses g.S.Source.first a c.args.self.now.units.now.entries)
+    ((g.R.Resolver.ready c.fetch.new.self.resolver.now × StaysOne g.R.Resolver.hands g.R.Resolver.refuses g.R.Resolver.source g.R.Resolver.lacks g.R.Resolver.shown g.S.Source.these g.S.Source.loan c.fetch.new.self.resolver.now c.fetch.new.self.resolver.ghost_name) × Keeps (g.R.Resolver.hands c.fetch.new.self.resolver.now) (g.R.Resolver.refuses c.fetch.new.self.resolver.now) g.S.Source.hands g.S.Source.refuses g.S.Source.first b c.fetch.new.self.units.now.entries)
     (λ k. ((c.fetch.ensures.stays_ready, stays), c.fetch.ensures.keeps)) g.S.Source.hands
     g.S.Source.refuses a b c.args.self.now.units.now.entries c.fetch.new.self.units.now.entries c.fetch.ensures.grows c.fetch.ensures.units

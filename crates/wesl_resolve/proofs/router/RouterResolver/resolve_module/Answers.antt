@@ -44,11 +44,11 @@ returns-in-Some-clause-same g c =
     let p = path_view c.args.path.now in
     let m = c.index_mut-mount.result.now in
     let taken = Takes-read c.deref.result.now mounts p c.in-Some.place m c.deref.ensures.value c.in-Some.ensures c.index_mut-mount.ensures.value in
-    RouterMeans-set g.B.Resolver.hands g.B.Resolver.refuses g.B.Resolver.source g.B.Resolver.shown c.args.self.now c.in-Some.place m c.module_after.new.resolver taken.there c.module_after.ensures.same
+    RouterMeans-set g.B.Resolver.hands g.B.Resolver.refuses g.B.Resolver.source g.B.Resolver.lacks g.B.Resolver.shown c.args.self.now c.in-Some.place m c.module_after.new.resolver taken.there c.module_after.ensures.same
 
 pub returns-in-Some-fallback-clause-same : goal.returns-in-Some-fallback-clause-same
 returns-in-Some-fallback-clause-same g c =
-    RouterMeans-fallback g.B.Resolver.hands g.B.Resolver.refuses g.B.Resolver.source g.B.Resolver.shown c.args.self.now _ c.module_after-in-Some-fallback.new.resolver c.in-Some-fallback.is c.module_after-in-Some-fallback.ensures.same
+    RouterMeans-fallback g.B.Resolver.hands g.B.Resolver.refuses g.B.Resolver.source g.B.Resolver.lacks g.B.Resolver.shown c.args.self.now _ c.module_after-in-Some-fallback.new.resolver c.in-Some-fallback.is c.module_after-in-Some-fallback.ensures.same
 
 pub returns-in-Some-clause-stays_ready : goal.returns-in-Some-clause-stays_ready
 returns-in-Some-clause-stays_ready g c =

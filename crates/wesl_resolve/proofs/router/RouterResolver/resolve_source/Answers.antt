@@ -33,7 +33,7 @@ returns-in-Some-clause-refused g c =
     let p = path_view c.args.path.now in
     let m = c.index_mut-mount.result.now in
     let taken = Takes-read c.deref.result.now mounts p c.in-Some.place m c.deref.ensures.value c.in-Some.ensures c.index_mut-mount.ensures.value in
-    refused-to _ _ (λ e h. inl (Routed-by (λ b q. g.B.Resolver.refuses b q e) mounts c.args.self.now.fallback p c.in-Some.place m _ taken c.depth-count.ensures h)) c.source_after.result c.source_after.ensures.refused
+    refused-to _ _ (λ e h. inl (Routed-by (λ b q. g.B.Resolver.lacks b q e) mounts c.args.self.now.fallback p c.in-Some.place m _ taken c.depth-count.ensures h)) c.source_after.result c.source_after.ensures.refused
 
 pub returns-in-Some-clause-same : goal.returns-in-Some-clause-same
 returns-in-Some-clause-same g c =
@@ -41,11 +41,11 @@ returns-in-Some-clause-same g c =
     let p = path_view c.args.path.now in
     let m = c.index_mut-mount.result.now in
     let taken = Takes-read c.deref.result.now mounts p c.in-Some.place m c.deref.ensures.value c.in-Some.ensures c.index_mut-mount.ensures.value in
-    RouterMeans-set g.B.Resolver.hands g.B.Resolver.refuses g.B.Resolver.source g.B.Resolver.shown c.args.self.now c.in-Some.place m c.source_after.new.resolver taken.there c.source_after.ensures.same
+    RouterMeans-set g.B.Resolver.hands g.B.Resolver.refuses g.B.Resolver.source g.B.Resolver.lacks g.B.Resolver.shown c.args.self.now c.in-Some.place m c.source_after.new.resolver taken.there c.source_after.ensures.same
 
 pub returns-in-Some-fallback-clause-same : goal.returns-in-Some-fallback-clause-same
 returns-in-Some-fallback-clause-same g c =
-    RouterMeans-fallback g.B.Resolver.hands g.B.Resolver.refuses g.B.Resolver.source g.B.Resolver.shown c.args.self.now _ c.source_after-in-Some-fallback.new.resolver c.in-Some-fallback.is c.source_after-in-Some-fallback.ensures.same
+    RouterMeans-fallback g.B.Resolver.hands g.B.Resolver.refuses g.B.Resolver.source g.B.Resolver.lacks g.B.Resolver.shown c.args.self.now _ c.source_after-in-Some-fallback.new.resolver c.in-Some-fallback.is c.source_after-in-Some-fallback.ensures.same
 
 pub returns-in-Some-clause-stays_ready : goal.returns-in-Some-clause-stays_ready
 returns-in-Some-clause-stays_ready g c =

@@ -1,0 +1,2 @@
+//! Conditional translation of whole modules.
+pub use wesl_cond::run;

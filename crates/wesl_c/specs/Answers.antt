@@ -1,0 +1,20 @@
+-- What a C caller is told of the bytes of a bundle.
+use Rattle.std.specs.Prelude.{◌≡◌, ◌++◌, ℕ, List, take, drop, length}
+use Rattle.wesl.specs.declared.program.Outcome.{Outcome}
+use Rattle.wesl.specs.declared.program.Outcome.TheVariants.{Linked, Refused}
+use Rattle.wesl.specs.Run.{IsLine}
+
+-- the status of an outcome
+abbrev pub status_of : Outcome → ℕ
+status_of Linked = 0
+status_of Refused = 1
+
+-- a line over the beginning of a buffer, as far as there is room; what lies behind it stays
+abbrev pub written_over : List ℕ → List ℕ → List ℕ
+written_over line buffer = take (length buffer) line ++ drop (length line) buffer
+
+-- of the line that the bytes have, the outcome's status, the length, and as much as the buffer has room for
+abbrev pub Answers : List ℕ → ℕ → ℕ → List ℕ → List ℕ → Type 0
+Answers bytes status needed old new =
+    (outcome : Outcome) × (line : List ℕ)
+    × IsLine outcome bytes line × (status ≡ status_of outcome) × (needed ≡ length line) × (new ≡ written_over line old)

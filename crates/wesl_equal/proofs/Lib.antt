@@ -1,0 +1,5 @@
+mod Trees
+mod OfLiterals
+mod OfExpressions
+mod OfAttributes
+mod OfDeclarations

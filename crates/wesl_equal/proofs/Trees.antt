@@ -1,0 +1,76 @@
+-- Tests that decide whether trees are one.
+use Rattle.std.proofs.Common.{◌≡◌, Bool, true, false, ◌&&◌, refl, ap}
+use Rattle.std.specs.Bool.{Decides}
+use Rattle.std.specs.Option.{option_eq}
+use Rattle.std.proofs.Common.{Option, Some, None}
+use Rattle.wesl_syntax.specs.View.{optional}
+use Rattle.wesl_syntax.specs.Tree.{Label, Forest, Tree, end, tree, before}
+use Rattle.wesl_equal.specs.Numbered.{numbered}
+
+-- a test of something equivalent
+pub along : {P Q : Type 0} {r : Bool} → Decides r P → (P → Q) → (Q → P) → Decides r Q
+along d there back = (λ e. there (d.0 e), λ q. d.1 (back q))
+
+-- a test of two things
+pub both : {P Q : Type 0} (r s : Bool) → Decides r P → Decides s Q → Decides (r && s) (P × Q)
+both true s d e = (λ h. (d.0 refl, e.0 h), λ pq. e.1 pq.1)
+both false s d e = (λ h. cc, λ pq. d.1 pq.0)
+
+-- a tree by its label and its children
+abbrev pub over : Label → Forest → Tree
+over l f = record { label = l; children = f }
+
+-- trees are one where their labels and their children are
+pub labelled : {l m : Label} {f g : Forest} {r : Bool} → Decides r ((l ≡ m) × (f ≡ g)) → Decides r (over l f ≡ over m g)
+labelled d = along d (λ h. rw (h.0, h.1) refl) (λ e. (ap (λ (t : Tree). t.label) e, ap (λ (t : Tree). t.children) e))
+
+-- trees of one label are one where their children are
+pub under : {l : Label} {f g : Forest} {r : Bool} → Decides r (f ≡ g) → Decides r (over l f ≡ over l g)
+under d = along d (λ h. rw h refl) (λ e. ap (λ (t : Tree). t.children) e)
+
+-- leaves are one where their labels are
+pub alone : {l m : Label} {r : Bool} → Decides r (l ≡ m) → Decides r (over l end ≡ over m end)
+alone d = along d (λ h. rw h refl) (λ e. ap (λ (t : Tree). t.label) e)
+
+-- a tree of another label is another one
+pub apart : {l m : Label} {f g : Forest} → (l ≡ m → ⊥) → Decides false (over l f ≡ over m g)
+apart h = (λ e. cc, λ e. absurd (h (ap (λ (t : Tree). t.label) e)))
+
+first_label : Forest → Label → Label
+first_label end l = l
+first_label (tree l c o) m = l
+
+first_children : Forest → Forest
+first_children end = end
+first_children (tree l c o) = c
+
+others : Forest → Forest
+others end = end
+others (tree l c o) = o
+
+one_tree : (s t : Tree) (f g : Forest) → before s f ≡ before t g → s ≡ t
+unfolding first_label first_children
+one_tree s t f g e = let p : s.label ≡ t.label = ap (λ h. first_label h s.label) e in let q : s.children ≡ t.children = ap first_children e in λ i. record { label = p i; children = q i }
+
+-- the last of the children
+pub last : {s t : Tree} {r : Bool} → Decides r (s ≡ t) → Decides r (before s end ≡ before t end)
+last {s} {t} d = along d (λ h. ap (λ u. before u end) h) (λ e. one_tree s t end end e)
+
+-- a child before others
+pub then : {s t : Tree} {f g : Forest} {r : Bool} → Decides r ((s ≡ t) × (f ≡ g)) → Decides r (before s f ≡ before t g)
+unfolding others
+then {s} {t} {f} {g} d = along d (λ h. λ i. before (h.0 i) (h.1 i)) (λ e. (one_tree s t f g e, ap others e))
+
+pub itself : {s : Tree} → Decides true (s ≡ s)
+itself = (λ e. refl, λ e. refl)
+
+-- optional parts
+pub one_optional : {A : Type 0} (view : A → Tree) (E : A → A → Bool) → ((a b : A) → Decides (E a b) (numbered (view a) ≡ numbered (view b))) → (p q : Option A) → Decides (option_eq E p q) (numbered (optional view p) ≡ numbered (optional view q))
+one_optional view E d None None = itself
+one_optional view E d None (Some b) = apart (λ e. cc)
+one_optional view E d (Some a) None = apart (λ e. cc)
+one_optional view E d (Some a) (Some b) = under (last (d a b))
+
+-- a test and trees that are equal to others
+pub settle : {b c : Bool} {s t u v : Tree} → b ≡ c → s ≡ u → t ≡ v → Decides c (numbered u ≡ numbered v) → Decides b (numbered s ≡ numbered t)
+settle e p q d = rw (e, p, q) d

@@ -1,0 +1,16 @@
+//! Equality of nodes: two nodes are equal where they say the same by the numbers of their identifiers, wherever each stands in
+//! its source.
+#![tactic(auto)]
+
+mod attributes;
+mod declarations;
+mod expressions;
+
+pub use attributes::equal_attributes;
+pub use declarations::{
+    equal_const_asserts, equal_declarations, equal_directives, equal_members, equal_parameters,
+    equal_structs, equal_type_aliases,
+};
+pub use expressions::{
+    equal_calls, equal_expressions, equal_literals, equal_template_arguments, equal_types,
+};

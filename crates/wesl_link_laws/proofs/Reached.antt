@@ -1,0 +1,38 @@
+-- What a held declaration refers to is reached.
+use Rattle.std.proofs.Common.{◌≡◌, List, [], ◌∷◌, ◌++◌, Option, Some, None, refl, sym, subst, ◌⊎◌, inl, inr, Contains}
+use Rattle.std.specs.Prelude.{flat_map}
+use Rattle.std.proofs.lemmas.List.Elements.{Contains-append_left, Contains-append_right}
+use Rattle.wesl_names.specs.Path.{Text, Path}
+use Rattle.wesl_syntax.specs.Tree.{TreeOf}
+use Rattle.wesl_world.specs.declared.symbols.Symbol.{Symbol}
+use Rattle.wesl_world.specs.declared.symbols.LookUp.{LookUp}
+use Rattle.wesl_world.specs.Tables.{Table}
+use Rattle.wesl_world.specs.World.{Task, AsksFrom, Entered, Reached, Followed, led_to, by_assert, by_symbol}
+use Rattle.wesl_world.proofs.Lists.{contains_nil, contains_cases, map_contains}
+use Rattle.wesl_table.specs.Uses.{Use, asked}
+use Rattle.wesl_table.specs.Tables.{name_of, reference_to, declaration_of}
+use Rattle.wesl_linker.specs.Linked.{Answers}
+
+in_flat_map : {X Y : Type 0} (f : X → List Y) (xs : List X) (x : X) (y : Y) → Contains xs x → Contains (f x) y → Contains (flat_map f xs) y
+in_flat_map f [] x y held there = absurd (contains_nil x held)
+in_flat_map {X = X} {Y = Y} f (z ∷ xs) x y held there = by (contains_cases z x xs held) (in_flat_map f xs x y)
+  where
+    by : (z ≡ x) ⊎ Contains xs x → (Contains xs x → Contains (f x) y → Contains (flat_map f xs) y) → Contains (f z ++ flat_map f xs) y
+    by (inl e) rest = Contains-append_left (f z) (flat_map f xs) y (subst (λ v. Contains (f v) y) (sym e) there)
+    by (inr h) rest = Contains-append_right (f z) (flat_map f xs) y (rest h there)
+
+module _ (w : List (Table Path Text)) (task : Task Path Text) (t : Table Path Text) (here : Contains w t) (entered : Entered w task t.path) where
+  asks_from : (d : TreeOf Text) (us : List (Use Path Text)) → Contains t.declarations (declaration_of d us) → (u : Use Path Text) → Contains us u → (a : Symbol Path Text) → Contains (asked u) a → AsksFrom t (name_of d) (record { asker = Some t.path; path = a.path; name = a.name })
+  asks_from d us held u in_uses a in_asked =
+      (reference_to a, (declaration_of d us, held, refl, map_contains reference_to (flat_map asked us) a (in_flat_map asked us u a in_uses in_asked)), refl)
+
+  followed : (name : Option Text) (l : LookUp Path Text) → ((n : Text) → name ≡ Some n → Reached w task (record { path = t.path; name = n })) → AsksFrom t name l → Followed w task l
+  followed None l h asks = by_assert t.path t l entered (here, refl) asks
+  followed (Some n) l h asks = by_symbol (record { path = t.path; name = n }) t l (h n refl) (here, refl) asks
+
+  -- of a declaration that is held: its symbol is reached, or it has no name
+  pub refers_to_reached : (d : TreeOf Text) (us : List (Use Path Text)) → Contains t.declarations (declaration_of d us) → ((n : Text) → name_of d ≡ Some n → Reached w task (record { path = t.path; name = n }))
+      → (u : Use Path Text) → Contains us u → (a : Symbol Path Text) → Contains (asked u) a → (s : Symbol Path Text) → Answers w t.path a s → Reached w task s
+  refers_to_reached d us held reached u in_uses a in_asked s answers =
+      let l : LookUp Path Text = record { asker = Some t.path; path = a.path; name = a.name } in
+      led_to l s (followed (name_of d) l reached (asks_from d us held u in_uses a in_asked)) answers

@@ -1,0 +1,25 @@
+-- Units in which no name of a function and no free name is spelled as a name of the module (WGSL, "Declaration and Scope").
+use Rattle.std.specs.Prelude.{◌≡◌, ◌≢◌, ℕ, true, false, List}
+use Rattle.std.specs.List.{All}
+use Rattle.wesl_names.specs.Path.{Text}
+use Rattle.wesl_syntax.specs.Unit.{UnitView, trees_of}
+use Rattle.wesl_occurrences.specs.Occurrences.{Occurrence, occurrences}
+use Rattle.wesl_faith.specs.Faithful.{is_binder, is_global, is_unqualified, name_of}
+use Rattle.wesl_faith.specs.Retargeted.{IsUnbound}
+
+module _ (names : List Text) (all : List (Occurrence ℕ)) where
+  -- the identifier is spelled as no binder of the module's block
+  abbrev pub SpellsNoGlobal : Occurrence ℕ → Type 0
+  SpellsNoGlobal o = All (λ b. is_global b ≡ true → name_of names all o ≢ name_of names all b) all
+
+  pub record SpellsNone : Type 0 where
+    -- binders of the module's block that are spelled alike have one number
+    pub globals_apart : All (λ a. is_global a ≡ true → All (λ b. is_global b ≡ true → name_of names all b ≡ name_of names all a → b.name ≡ a.name) all) all
+    -- no parameter and no local declaration is spelled as one of them
+    pub locals : All (λ o. is_binder o.role ≡ true → is_global o ≡ false → SpellsNoGlobal o) all
+    -- nor is a reference whose number no binder has
+    pub free_names : All (λ r. is_unqualified r.role ≡ true → IsUnbound names all r → SpellsNoGlobal r) all
+
+-- its names are apart
+abbrev pub NamesAreApart : UnitView → Type 0
+NamesAreApart u = SpellsNone u.names (occurrences (trees_of u))

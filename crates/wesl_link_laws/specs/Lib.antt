@@ -1,0 +1,3 @@
+pub mod Linked
+pub mod Apart
+pub mod Laws

@@ -1,0 +1,33 @@
+-- What the built-in names of a bundle ask of its linked unit (WGSL, "Declaration and Scope" and "Function Calls").
+use Rattle.std.specs.Prelude.{◌≡◌, ◌⊎◌, Option, Some, None}
+use Rattle.wesl_names.specs.declared.errors.Error as error
+use Rattle.wesl_names.specs.declared.errors.Diagnostic.{Diagnostic}
+use Rattle.wesl_syntax.specs.Unit.{UnitView}
+use Rattle.wesl_builtins.specs.Builtins.{BuiltinNames}
+use Rattle.wesl_bundle.specs.Builtins as said
+use Rattle.wesl_bundle.specs.Bundle.{Bundle}
+use Rattle.wesl_program.specs.Linking.{LinksTo, IsLinkRefused}
+use Rattle.wesl_valid.specs.Valid.{IsValidWgsl}
+use Rattle.wesl_valid.specs.Faults.{RefusesWgsl}
+
+-- the names that a bundle calls built in, as validation takes them
+abbrev pub built_in : said.Builtins → BuiltinNames
+built_in b = record { names = b.names; functions = b.functions; constructors = b.constructors }
+
+-- the unit is valid under the built-in names; where a bundle names none, nothing is asked
+abbrev pub IsValidUnder : Option said.Builtins → UnitView → Type 0
+IsValidUnder None u = Unit {0}
+IsValidUnder (Some b) u = IsValidWgsl u (built_in b)
+
+-- validation refuses the unit with this error; where a bundle names nothing built in, it refuses none
+abbrev pub RefusesUnit : Option said.Builtins → UnitView → error.Error → Type 0
+RefusesUnit None u e = ⊥
+RefusesUnit (Some b) u e = (d : Diagnostic) × RefusesWgsl u (built_in b) d × (d.error ≡ e)
+
+-- the unit is one to which the bundle links, and validation refuses it
+abbrev pub IsUnitRefused : Bundle → error.Error → Type 0
+IsUnitRefused b e = (u : UnitView) × LinksTo b u × RefusesUnit b.builtins u e
+
+-- the link of the bundle is refused with the error, or else its linked unit is
+abbrev pub RefusesBundle : Bundle → error.Error → Type 0
+RefusesBundle b e = IsLinkRefused b e ⊎ IsUnitRefused b e
