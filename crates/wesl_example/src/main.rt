@@ -105,7 +105,7 @@ fn main(rt: HostRuntime) -> Result<(), anyhow::Error> {
             println!(rt; "{}", value_of_unit(alloc, &unit)?.to_string(alloc)?)?;
             println!(rt; "names clash: {}", names_clash(alloc, &unit)?)?;
         }
-        Err(refusal) => println!(rt; "refused: {}", refusal.error)?,
+        Err(refusal) => println!(rt; "refused: {refusal}")?,
     }
     Ok(())
 }

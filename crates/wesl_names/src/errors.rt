@@ -8,6 +8,7 @@ ghost use Rattle.wesl_names.specs.Errors.{error_of_resolve, IsBare};
 use crate::path::ModulePath;
 use crate::span::Span;
 use std::alloc::{AllocError, AllocFailed};
+use std::fmt;
 use thiserror::Error;
 
 /// Why a conditional attribute is refused (WESL, "ConditionalTranslation").
@@ -78,10 +79,10 @@ pub enum ResolveError {
     #[error("file not found: `{0}` ({1})")]
     FileNotFound(String, String),
     /// The resolver has no module at a path. It carries the path and the reason.
-    #[error("module not found ({1})")]
+    #[error("module not found: `{0}` ({1})")]
     ModuleNotFound(ModulePath, String),
     /// The module is there, and cannot be read or is refused. It carries the diagnostic.
-    #[error("the module was refused")]
+    #[error("module refused: {0}")]
     Error(Box<Diagnostic>),
     /// Want of memory.
     #[error("out of memory")]
@@ -100,11 +101,11 @@ pub enum ImportError {
     #[error("{0}")]
     ResolveError(ResolveError),
     /// A module has no declaration of a name. It carries the module's path and the name.
-    #[error("no declaration `{1}`")]
+    #[error("no declaration `{1}` in `{0}`")]
     MissingDecl(ModulePath, String),
     /// A name is an import of a module that does not publish it. It carries the name and the path of the
     /// module.
-    #[error("`{0}` is private")]
+    #[error("`{0}` of `{1}` is private")]
     Private(String, ModulePath),
 }
 
@@ -143,6 +144,23 @@ pub enum Error {
     #[error("out of memory")]
     Memory,
 }
+
+/// The text of a diagnostic: the module's path, the declaration's name, and the error's text, as far as they
+/// are told.
+impl fmt::Display for Diagnostic {
+    #[cycle(errors)]
+    fn fmt<W: fmt::Write>(&self, f: &mut fmt::Formatter<W>) -> fmt::Result {
+        if let Some(module) = &self.module {
+            write!(f, "in `{module}`: ")?;
+        }
+        if let Some(declaration) = &self.declaration {
+            write!(f, "in `{declaration}`: ")?;
+        }
+        fmt::Display::fmt(&self.error, f)
+    }
+}
+
+impl std::error::Error for Diagnostic {}
 
 impl Error {
     /// The error of a link whose resolver refuses a module: want of memory stays that, and anything else

@@ -13,9 +13,14 @@ use std::marker::Model;
 pub struct Ident(pub usize);
 
 /// A table of names. Contracts see the list of the names' bytes, which may hold one name twice.
-#[derive(Drop)]
 pub struct Names {
     names: Vec<String>,
+}
+
+impl Drop for Names {
+    fn drop(self) {
+        let Names { names: _ } = self;
+    }
 }
 
 impl Model for Names {

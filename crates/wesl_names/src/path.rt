@@ -7,7 +7,7 @@ use crate::errors::Error;
 use std::alloc::{AllocError, Global};
 
 /// Where a path begins: at the root of the package, so many modules above its reader, or in a named package.
-#[derive(Debug, Drop, PartialEq, Eq, PartialOrd, Ord, Hash)]
+#[derive(Debug, PartialEq, Eq, PartialOrd, Ord, Hash)]
 pub enum PathOrigin {
     /// `package`
     Absolute,
@@ -21,12 +21,31 @@ pub enum PathOrigin {
 ///
 /// Paths are ordered by origin (absolute ones, then relative ones by their number, then packages by the
 /// bytes of their names), and then by components, by bytes and a beginning first.
-#[derive(Debug, Drop, PartialEq, Eq, PartialOrd, Ord, Hash)]
+#[derive(Debug, PartialEq, Eq, PartialOrd, Ord, Hash)]
 pub struct ModulePath {
     /// Where the path begins.
     pub origin: PathOrigin,
     /// The names of the modules on the way, each below the one before it.
     pub components: Vec<String>,
+}
+
+impl Drop for PathOrigin {
+    fn drop(self) {
+        match self {
+            PathOrigin::Absolute => {}
+            PathOrigin::Relative(_) => {}
+            PathOrigin::Package(_) => {}
+        }
+    }
+}
+
+impl Drop for ModulePath {
+    fn drop(self) {
+        let ModulePath {
+            origin: _,
+            components: _,
+        } = self;
+    }
 }
 
 impl PathOrigin {

@@ -1,7 +1,8 @@
 //! The texts of paths (WESL, "Imports").
-ghost use Rattle.std.specs.Prelude.{◌≡◌, ◌≤◌, ◌++◌, ◌∷◌, ◌==◌, [], IfOk, IfErr, map, string_bytes, take, length, codes, option_map, true, Some};
+ghost use Rattle.std.specs.Prelude.{◌≡◌, ◌≤◌, ◌<◌, ◌++◌, ◌∷◌, ◌==◌, [], IfOk, IfErr, map, string_bytes, take, length, codes, option_map, true, Some};
 ghost use Rattle.std.specs.List.{prefix_len};
 ghost use Rattle.std.specs.Str.{bytes_eq};
+ghost use Rattle.std.specs.Fmt.{DisplaysOnOk};
 ghost use Rattle.wesl_names.specs.declared.errors.Error as error;
 ghost use Rattle.wesl_names.specs.Path.{Path, path_view, origin_view, relative};
 ghost use Rattle.wesl_names.specs.PathText.{has, slash, is_keyword, parse, to_text, cut, colon, pieces, are_components, is_component, is_package_name, path_of_pieces, path_with, joined, origin_pieces};
@@ -11,6 +12,7 @@ ghost use Rattle.wesl_names.specs.Borrowed.{texts};
 use crate::errors::Error;
 use crate::path::{ModulePath, PathOrigin};
 use std::alloc::{AllocError, Global};
+use std::fmt;
 
 /// The texts between the colons.
 fn between_colons(alloc: Global, text: &str) -> Result<Vec<&str>, AllocError>
@@ -182,5 +184,44 @@ impl ModulePath {
             text.push_str(component.as_str())?;
         }
         Ok(text)
+    }
+}
+
+/// `super` so many times.
+fn write_supers<W: fmt::Write>(up: usize, f: &mut fmt::Formatter<W>) -> fmt::Result
+    requires { 0 < up }
+    ensures { DisplaysOnOk W.write_str_gives f.old result (Some (joined (origin_pieces (relative up)))) f.new }
+{
+    f.write_str("super")?;
+    for _done in 1..up {
+        f.write_str("::super")?;
+    }
+    Ok(())
+}
+
+impl fmt::Display for PathOrigin {
+    ghost output = { λ origin. Some (joined (origin_pieces (origin_view origin))) };
+
+    fn fmt<W: fmt::Write>(&self, f: &mut fmt::Formatter<W>) -> fmt::Result {
+        match self {
+            PathOrigin::Absolute => f.write_str("package"),
+            PathOrigin::Relative(0) => f.write_str("self"),
+            PathOrigin::Relative(up) => write_supers(*up, f),
+            PathOrigin::Package(name) => f.write_str(name.as_str()),
+        }
+    }
+}
+
+/// What is printed is the text of the path.
+impl fmt::Display for ModulePath {
+    ghost output = { λ path. Some (to_text (path_view path)) };
+
+    fn fmt<W: fmt::Write>(&self, f: &mut fmt::Formatter<W>) -> fmt::Result {
+        self.origin.fmt(f)?;
+        for component in &self.components {
+            f.write_str("::")?;
+            f.write_str(component.as_str())?;
+        }
+        Ok(())
     }
 }

@@ -441,7 +441,7 @@ opening_outer (suc (suc zero)) b s h =
     }
 opening_outer (suc (suc (suc n))) b s h = absurd (omega arith)
 
-opens_few : (sh : Shape) → opens sh ≤ 2
+pub opens_few : (sh : Shape) → opens sh ≤ 2
 opens_few of_function = omega arith
 opens_few of_parameter = omega arith
 opens_few of_body = omega arith

@@ -6,5 +6,6 @@ pub mod Joined
 pub mod Listed
 pub mod Names
 pub mod Nodes
+pub mod Outers
 pub mod Respelled
 pub mod Views

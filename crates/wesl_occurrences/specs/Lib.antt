@@ -5,3 +5,4 @@ pub mod Views
 pub mod Identified
 pub mod Pieces
 pub mod Laws
+pub mod Outer

@@ -10,6 +10,7 @@ ghost use Rattle.wesl_occurrences.specs.Occurrences.{occurrences};
 ghost use Rattle.wesl_occurrences.specs.Identified.{identified};
 ghost use Rattle.wesl_occurrences.specs.Pieces.{starts};
 ghost use Rattle.wesl_occurrences.specs.Ways.{AreNested};
+ghost use Rattle.wesl_occurrences.specs.Outer.{outers};
 
 use crate::occurrence::Occurrence;
 use crate::walk::{Here, Walk};
@@ -33,6 +34,7 @@ pub fn occurrences<'a>(alloc: Global, unit: &'a TranslationUnit) -> Result<Ident
     ensures all { IfOk result (λ found. identified found ≡ occurrences (trees_of (unit_view unit.now))) }
     ensures blocks { IfOk result (λ found. All (λ o. o.block < length found.outer.items) found.all.items) }
     ensures nested { IfOk result (λ found. AreNested found.outer.items) }
+    ensures outer { IfOk result (λ found. found.outer.items ≡ outers (trees_of (unit_view unit.now))) }
     ensures starts { IfOk result (λ found. found.starts.items ≡ starts (trees_of (unit_view unit.now))) }
     ensures names { IfOk result (λ found. All (λ o. o.ident.0 < length (unit_view unit.now).names) found.all.items) }
     ensures refused { IfErr result (λ e. e ≡ error.Memory) }

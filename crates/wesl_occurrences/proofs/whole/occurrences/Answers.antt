@@ -11,6 +11,7 @@ use Rattle.wesl_occurrences.specs.Ways.{AreNested, told, way}
 use Rattle.wesl_occurrences.proofs.Bounds.{NameBelow, names_below, names_there, unit_names, module_node}
 use Rattle.wesl_occurrences.proofs.Found.{walked_length}
 use Rattle.wesl_occurrences.proofs.Joined.{Each, InBlocks, whole_joined, whole_walked, blocks_there}
+use Rattle.wesl_occurrences.proofs.Outers.{walk_outers}
 use Rattle.wesl_occurrences.proofs.whole.occurrences.Goals as goal
 
 pub returns-clause-all : goal.returns-clause-all
@@ -43,6 +44,16 @@ returns-clause-nested c =
     c.outermost-here.ensures c.in_ok-walk.ensures
     c.in_ok-imports.ensures c.in_ok-directives.ensures c.in_ok-starts.ensures.found c.imports.ensures.imports c.global_directives.ensures.directives c.global_declarations.ensures.declarations in
     subst (λ s. AreNested s.outer) (sym e) (whole_joined (forest_of_unit (trees_of u))).nested
+
+pub returns-clause-outer : goal.returns-clause-outer
+returns-clause-outer c =
+    let u = unit_view c.args.unit.now in
+    let e : state_of c.globals.new.self ≡ walk (all_of outermost) start (forest_of_unit (trees_of u)) =
+    whole_walked _ _ (state_of c.imports-2.new.self) (state_of c.directives.new.self) (state_of c.globals.new.self)
+    (imports_tree c.imports.result.now) (directives_tree c.global_directives.result.now) (declarations_tree c.global_declarations.result.now) u.imports u.directives u.declarations
+    c.outermost-here.ensures c.in_ok-walk.ensures
+    c.in_ok-imports.ensures c.in_ok-directives.ensures c.in_ok-starts.ensures.found c.imports.ensures.imports c.global_directives.ensures.directives c.global_declarations.ensures.declarations in
+    ap (λ s. s.outer) e ∙ walk_outers (forest_of_unit (trees_of u)) (all_of outermost) start
 
 pub returns-clause-names : goal.returns-clause-names
 returns-clause-names c =
