@@ -1,0 +1,12 @@
+use Rattle.std.proofs.Common.{inl, inr}
+use Rattle.wesl_faults.proofs.endless.a_limit_ends_links_without_end_by_a_mount_in_a_box.OwnLists.{own-1}
+use Rattle.wesl_faults.proofs.endless.a_limit_ends_links_without_end_by_a_mount_in_a_box.Goals as goal
+
+-- whatever was boxed is always ready
+always : (i : (own-1).I) (y : ((own-1).entry i).0.Denot) → ((own-1).entry i).1.ready y
+always (inl i) y = tt
+always (inr j) y = absurd j
+
+pub ends_at_the_limit-requires : goal.ends_at_the_limit-requires
+ends_at_the_limit-requires g c =
+    c.mount_resolver.ensures.ready c.new-router.ensures.ready (always c.into_dyn_box.result.vtable c.into_dyn_box.result.value)
