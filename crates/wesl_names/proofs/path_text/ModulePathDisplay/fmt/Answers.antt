@@ -13,9 +13,9 @@ loop-component-preserved g c =
     let i = c.loop-component.component-index in
     let so_far = joined (origin_pieces o ++ map string_bytes (take i items)) in
     λ plain.
-        let written = c.loop-component.invariant plain in
-        let colons = c.write_str.ensures.writes written.plain (search rules) in
-        let name = c.write_str-in-loop-component.ensures.writes colons.plain (search rules) in
-        let longer = ap (λ (t : List ℕ). so_far ++ codes "::" ++ t) c.as_str.ensures.value
-        ∙ text-more string_bytes (origin_pieces o) items i c.component-item.result (origin-some o) c.loop-component-test.true c.component-item.is in
-        has_written_of_eq _ _ _ _ _ longer (has_written_append _ _ _ _ _ _ (has_written_append _ _ _ _ _ _ written colons) name)
+    let written = c.loop-component.invariant plain in
+    let colons = c.write_str.ensures.writes written.plain (search rules) in
+    let name = c.write_str-in-loop-component.ensures.writes colons.plain (search rules) in
+    let longer = ap (λ (t : List ℕ). so_far ++ codes "::" ++ t) c.as_str.ensures.value
+    ∙ text-more string_bytes (origin_pieces o) items i c.component-item.result (origin-some o) c.loop-component-test.true c.component-item.is in
+    has_written_of_eq _ _ _ _ _ longer (has_written_append _ _ _ _ _ _ (has_written_append _ _ _ _ _ _ written colons) name)
