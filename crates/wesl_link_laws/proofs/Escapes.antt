@@ -43,7 +43,10 @@ related_right {X = X} R (x ∷ xs) (z ∷ ys) h y held = by (contains_cases z y 
 
 keys_short : (keys : List (String Global)) (i : ℕ) (n : Text) → slice_get (map string_bytes keys) i ≡ Some n → IsShort n
 keys_short [] i n e = absurd (let z : ⊥ = cc in z)
-keys_short (k ∷ keys) zero n e = let same : string_bytes k ≡ n = cc in subst IsShort same (text_small k)
+keys_short (k ∷ keys) zero n e =
+    let whole : Some (string_bytes k) ≡ Some n = e in
+    let same : string_bytes k ≡ n = cc in
+    subst IsShort same (text_small k)
 keys_short (k ∷ keys) (suc i) n e = keys_short keys i n e
 
 module _ (nb : Numbering) (short : (i : ℕ) (n : Text) → slice_get nb.names i ≡ Some n → IsShort n) where
