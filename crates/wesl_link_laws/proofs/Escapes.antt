@@ -1,5 +1,5 @@
 -- Links whose symbols print under escape names.
-use Rattle.std.proofs.Common.{◌≡◌, ◌⊎◌, inl, inr, ◌<◌, ◌^◌, zero, suc, Bool, true, false, ◌&&◌, Option, Some, None, List, [], ◌∷◌, length, map, string_bytes, String, Contains, refl, sym, ap, ◌∙◌, subst}
+use Rattle.std.proofs.Common.{◌≡◌, ◌⊎◌, inl, inr, zero, suc, Bool, true, false, ◌&&◌, Option, Some, None, List, [], ◌∷◌, map, string_bytes, String, Contains, refl, sym, ap, ◌∙◌, subst}
 use Rattle.std.specs.Prelude.{ℕ, slice_get, if◌then◌else◌}
 use Rattle.std.specs.Global.{Global}
 use Rattle.wesl_names.specs.Path.{Text, Path}
@@ -7,7 +7,7 @@ use Rattle.wesl_names.specs.PathOrder.{same_path}
 use Rattle.wesl_syntax.specs.Unit.{UnitView}
 use Rattle.wesl_world.specs.declared.ids.PathId.{PathId}
 use Rattle.wesl_world.specs.declared.ids.NameId.{NameId}
-use Rattle.wesl_world.specs.Tables.{Declaration, Table}
+use Rattle.wesl_world.specs.Tables.{Table}
 use Rattle.wesl_world.specs.World.{Declares, Entered}
 use Rattle.wesl_world.proofs.Lists.{contains_nil, contains_first, contains_later, contains_cases, contains_map}
 use Rattle.wesl_occurrences.specs.Laws.{WaysLeadOutwards, OccurrencesAreIdentifiers}
@@ -22,7 +22,7 @@ use Rattle.wesl_naming.specs.Given.{Given}
 use Rattle.wesl_linker.specs.Worlds.{Module, table, tables, task_of}
 use Rattle.wesl_linker.specs.Linked.{Denotation}
 use Rattle.wesl_linker.specs.Resolved.{Resolved, AssemblesTo, IsMangled, first_path}
-use Rattle.wesl_linker.specs.Keeping.{module_of, all_loaded, modules_in, kept_texts, task_in, IsSoundLink, resolved_of, name_under}
+use Rattle.wesl_linker.specs.Keeping.{module_of, all_loaded, modules_in, task_in, IsSoundLink, resolved_of, name_under}
 use Rattle.wesl_linker.specs.declared.link.Link.{Link}
 use Rattle.wesl_link_laws.specs.Linked.{AreEntered, IsEntered}
 use Rattle.wesl_link_laws.specs.Escaped.{IsReversible, LeavesSymbolNames}
