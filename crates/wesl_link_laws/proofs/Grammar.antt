@@ -42,6 +42,15 @@ module _ {I : Type 0} where
   plainly end = true
   plainly (tree l c o) = (is_typed_at l c && sober c) && plainly o
 
+  -- fields none of which is a name, and fields of which one is at most
+  abbrev pub nameless : ForestOf I → Bool
+  nameless end = true
+  nameless (tree l c o) = not (is_name l) && nameless o
+
+  abbrev pub once_named : ForestOf I → Bool
+  once_named end = true
+  once_named (tree l c o) = if is_name l then nameless o else once_named o
+
   pub data Parameters : ForestOf I → Type 0 where
     no_parameter : Parameters end
     one_parameter : {l m : LabelOf I} {x : I} {c d o : ForestOf I} → sober (tree l c end) ≡ true → sober (tree m d end) ≡ true → Parameters o → Parameters (tree (kind parameter_kind) (tree l c (tree (ident binder x) end (tree m d end))) o)
@@ -53,7 +62,7 @@ module _ {I : Type 0} where
   pub data Globals : ForestOf I → Type 0 where
     no_more : Globals end
     a_function : {s t : ℕ} {f o : ForestOf I} → FunctionFields f → Globals o → Globals (tree (at declaration_node s t) (tree (kind function) f end) o)
-    another : {s t : ℕ} {l : LabelOf I} {f o : ForestOf I} → is_ident l ≡ false → is_type l ≡ false → is_simple (shape_in l) ≡ true → plainly f ≡ true → Globals o → Globals (tree (at declaration_node s t) (tree l f end) o)
+    another : {s t : ℕ} {l : LabelOf I} {f o : ForestOf I} → is_ident l ≡ false → is_type l ≡ false → is_simple (shape_in l) ≡ true → plainly f ≡ true → once_named f ≡ true → Globals o → Globals (tree (at declaration_node s t) (tree l f end) o)
 
 -- ---- identifiers that stand well: names of the module in its block, and others in blocks of functions
 abbrev pub IsInner : Block → Type 0
@@ -67,6 +76,21 @@ StandsWell (local e) b = IsInner b
 StandsWell (reference p) b = Unit {0}
 StandsWell word b = Unit {0}
 
+-- and the names of the module are such
+abbrev pub StandsAs : {I : Type 0} → (I → Type 0) → Standing → I → Block → Type 0
+StandsAs P module_name x b = (b ≡ []) × P x
+StandsAs P parameter x b = IsInner b
+StandsAs P (local e) x b = IsInner b
+StandsAs P (reference p) x b = Unit {0}
+StandsAs P word x b = Unit {0}
+
+pub well_as : {I : Type 0} (P : I → Type 0) (r : Standing) (x : I) (b : Block) → StandsAs P r x b → StandsWell r b
+well_as P module_name x b h = h.0
+well_as P parameter x b h = h
+well_as P (local e) x b h = h
+well_as P (reference p) x b h = tt
+well_as P word x b h = tt
+
 abbrev pub Every : {X : Type 0} → (X → Type 0) → List X → Type 0
 Every P [] = Unit {0}
 Every P (x ∷ xs) = P x × Every P xs
@@ -74,6 +98,10 @@ Every P (x ∷ xs) = P x × Every P xs
 pub every_append : {X : Type 0} (P : X → Type 0) (xs ys : List X) → Every P xs → Every P ys → Every P (xs ++ ys)
 every_append P [] ys h k = k
 every_append P (x ∷ xs) ys h k = (h.0, every_append P xs ys h.1 k)
+
+every_so : {X : Type 0} (P Q : X → Type 0) → ((x : X) → P x → Q x) → (xs : List X) → Every P xs → Every Q xs
+every_so P Q f [] h = tt
+every_so P Q f (x ∷ xs) h = (f x h.0, every_so P Q f xs h.1)
 
 and_left : (a b : Bool) → (a && b) ≡ true → a ≡ true
 and_left true b h = refl
@@ -83,27 +111,34 @@ and_right : (a b : Bool) → (a && b) ≡ true → b ≡ true
 and_right true b h = h
 and_right false b h = absurd (let z : ⊥ = cc in z)
 
-referring_well : (k : Bool) (p : Option Path) (b : Block) → StandsWell (referring k p) b
-referring_well true p b = tt
-referring_well false p b = tt
+pub not_so : (b : Bool) → not b ≡ true → b ≡ false
+not_so false h = refl
+not_so true h = sym h
 
-module _ {I : Type 0} where
-  abbrev pub Well : Occurrence I → Type 0
-  Well o = StandsWell o.role o.block
+abbrev pub Well : {I : Type 0} → Occurrence I → Type 0
+Well o = StandsWell o.role o.block
+
+module _ {I : Type 0} (P : I → Type 0) where
+  abbrev pub WellAs : Occurrence I → Type 0
+  WellAs o = StandsAs P o.role o.name o.block
+
+  referring_well : (k : Bool) (p : Option Path) (x : I) (b : Block) → StandsAs P (referring k p) x b
+  referring_well true p x b = tt
+  referring_well false p x b = tt
 
   abbrev AreWell : ForestOf I → Type 0
-  AreWell f = (node : Node Block) (p q : ℕ) → Every Well (occurrences_from node p q f)
+  AreWell f = (node : Node Block) (p q : ℕ) → Every WellAs (occurrences_from node p q f)
 
   split_every : (l : LabelOf I) (c o : ForestOf I) (node : Node Block) (p q : ℕ) → is_ident l ≡ false
-      → Every Well (occurrences_from (node_by (shape_in l) c (blocks_at q (here_in node).block) (here_in node)) p (q + opens (shape_in l)) c)
-      → Every Well (occurrences_from (after_field node) (p + count c) (q + opens (shape_in l) + blocks_in c) o)
-      → Every Well (occurrences_from node p q (tree l c o))
-  split_every l c o node p q n h k = subst (Every Well) (sym (occurrences_unfold l c o node p q n)) (every_append Well _ _ h k)
+      → Every WellAs (occurrences_from (node_by (shape_in l) c (blocks_at q (here_in node).block) (here_in node)) p (q + opens (shape_in l)) c)
+      → Every WellAs (occurrences_from (after_field node) (p + count c) (q + opens (shape_in l) + blocks_in c) o)
+      → Every WellAs (occurrences_from node p q (tree l c o))
+  split_every l c o node p q n h k = subst (Every WellAs) (sym (occurrences_unfold l c o node p q n)) (every_append WellAs _ _ h k)
 
   -- a tree in which no name is declared, before others
-  one_sober : (l : LabelOf I) → Seen l → (c o : ForestOf I) (node : Node Block) (p q : ℕ) → not (is_name l) ≡ true → AreWell c → ((p q : ℕ) → Every Well (occurrences_from (after_field node) p q o)) → Every Well (occurrences_from node p q (tree l c o))
+  one_sober : (l : LabelOf I) → Seen l → (c o : ForestOf I) (node : Node Block) (p q : ℕ) → not (is_name l) ≡ true → AreWell c → ((p q : ℕ) → Every WellAs (occurrences_from (after_field node) p q o)) → Every WellAs (occurrences_from node p q (tree l c o))
   one_sober _ (an_ident binder x) c o node p q h inner rest = absurd (let z : ⊥ = cc in z)
-  one_sober _ (an_ident reference_role x) c o node p q h inner rest = (referring_well (here_in node).words node.path (here_in node).block, rest (suc p) q)
+  one_sober _ (an_ident reference_role x) c o node p q h inner rest = (referring_well (here_in node).words node.path x (here_in node).block, rest (suc p) q)
   one_sober _ (an_ident word_role x) c o node p q h inner rest = (tt, rest (suc p) q)
   one_sober _ (no_ident l n) c o node p q h inner rest =
       split_every l c o node p q n (inner (node_by (shape_in l) c (blocks_at q (here_in node).block) (here_in node)) p (q + opens (shape_in l))) (rest (p + count c) (q + opens (shape_in l) + blocks_in c))
@@ -117,7 +152,7 @@ module _ {I : Type 0} where
       (sober_well o (and_right (((not (is_name l) && not (is_parameter l)) && is_typed_at l c) && sober c) (sober o) h) (after_field node))
 
   -- one such tree, before others
-  then_others : (l : LabelOf I) (c o : ForestOf I) (node : Node Block) → sober (tree l c end) ≡ true → ((p q : ℕ) → Every Well (occurrences_from (after_field node) p q o)) → (p q : ℕ) → Every Well (occurrences_from node p q (tree l c o))
+  then_others : (l : LabelOf I) (c o : ForestOf I) (node : Node Block) → sober (tree l c end) ≡ true → ((p q : ℕ) → Every WellAs (occurrences_from (after_field node) p q o)) → (p q : ℕ) → Every WellAs (occurrences_from node p q (tree l c o))
   then_others l c o node h rest p q =
       let h1 = and_left (((not (is_name l) && not (is_parameter l)) && is_typed_at l c) && sober c) true h in
       one_sober l (seen l) c o node p q (and_left (not (is_name l)) (not (is_parameter l)) (and_left (not (is_name l) && not (is_parameter l)) (is_typed_at l c) (and_left ((not (is_name l) && not (is_parameter l)) && is_typed_at l c) (sober c) h1)))
@@ -156,8 +191,8 @@ no_value h = absurd (let z : ⊥ = cc in z)
 other_shape : of_other ≡ of_parameter → ⊥
 other_shape h = let z : ⊥ = cc in z
 
-value_well : (s : Surroundings Block) (e : ℕ) → InnerHere s → StandsWell (declared a_value s e) s.block
-value_well s e h = subst (λ b. StandsWell (if b then local e else module_name) s.block) (sym h.2) h.0
+value_well : {I : Type 0} (P : I → Type 0) (x : I) (s : Surroundings Block) (e : ℕ) → InnerHere s → StandsAs P (declared a_value s e) x s.block
+value_well P x s e h = subst (λ b. StandsAs P (if b then local e else module_name) x s.block) (sym h.2) h.0
 
 own_value : (d : Bool) → (d || false) ≡ true → d ≡ true
 own_value true h = refl
@@ -191,10 +226,10 @@ outer_here node h = outer_numbered node.next_declaration (first_or node.others n
 pub outer_after : (node : Node Block) → OuterNode node → OuterNode (after_field node)
 outer_after node h = record { ahead = outer_later node.ahead h.ahead; others = h.others; declares = h.declares }
 
-pub outer_declared : (d : Declares) (s : Surroundings Block) (e : ℕ) → (d ≡ a_parameter → ⊥) → OuterHere s → StandsWell (declared d s e) s.block
-outer_declared globally s e n h = h.0
-outer_declared a_parameter s e n h = absurd (n refl)
-outer_declared a_value s e n h = subst (λ b. StandsWell (if b then local e else module_name) s.block) (sym h.1) h.0
+outer_declared : {I : Type 0} (P : I → Type 0) (x : I) → P x → (d : Declares) (s : Surroundings Block) (e : ℕ) → (d ≡ a_parameter → ⊥) → OuterHere s → StandsAs P (declared d s e) x s.block
+outer_declared P x so globally s e n h = (h.0, so)
+outer_declared P x so a_parameter s e n h = absurd (n refl)
+outer_declared P x so a_value s e n h = subst (λ b. StandsAs P (if b then local e else module_name) x s.block) (sym h.1) (h.0, so)
 
 module _ {I : Type 0} where
   inner_node : (d : Bool) (sh : Shape) (c : ForestOf I) (q : ℕ) (s : Surroundings Block) → (sh ≡ of_parameter → ⊥) → (d ≡ true → declares_in sh ≡ a_value) → InnerHere s → InnerNode d (node_by sh c (blocks_at q s.block) s)
@@ -223,18 +258,82 @@ module _ {I : Type 0} where
   declaration_value (kind declaration_kind) e = refl
   declaration_value _ e = absurd (let z : ⊥ = cc in z)
 
+  -- ---- the names among fields, and those that declarations bind
+  abbrev pub IsSoNamed : (I → Type 0) → LabelOf I → Type 0
+  IsSoNamed P (ident binder x) = P x
+  IsSoNamed P _ = Unit {0}
+
+  abbrev pub AreSoNamed : (I → Type 0) → ForestOf I → Type 0
+  AreSoNamed P end = Unit {0}
+  AreSoNamed P (tree l c o) = IsSoNamed P l × AreSoNamed P o
+
+  abbrev pub DeclareSo : (I → Type 0) → ForestOf I → Type 0
+  DeclareSo P end = Unit {0}
+  DeclareSo P (tree l end o) = DeclareSo P o
+  DeclareSo P (tree l (tree k f r) o) = AreSoNamed P f × DeclareSo P o
+
+  -- of the first of them
+  abbrev pub FirstSo : (I → Type 0) → ForestOf I → Type 0
+  FirstSo P (tree l (tree k f r) o) = AreSoNamed P f
+  FirstSo P _ = Unit {0}
+
+  pub not_named : (P : I → Type 0) (l : LabelOf I) → is_name l ≡ false → IsSoNamed P l
+  not_named P (ident binder x) h = absurd (let z : ⊥ = cc in z)
+  not_named P (ident reference_role x) h = tt
+  not_named P (ident word_role x) h = tt
+  not_named P _ h = tt
+
+  no_name : (l : LabelOf I) (c : ForestOf I) → sober (tree l c end) ≡ true → is_name l ≡ false
+  no_name l c h =
+      let h1 = and_left (((not (is_name l) && not (is_parameter l)) && is_typed_at l c) && sober c) true h in
+      not_so (is_name l) (and_left (not (is_name l)) (not (is_parameter l)) (and_left (not (is_name l) && not (is_parameter l)) (is_typed_at l c) (and_left ((not (is_name l) && not (is_parameter l)) && is_typed_at l c) (sober c) h1)))
+
+  pub nameless_so : (P : I → Type 0) (f : ForestOf I) → nameless f ≡ true → AreSoNamed P f
+  nameless_so P end h = tt
+  nameless_so P (tree l c o) h = (not_named P l (not_so (is_name l) (and_left (not (is_name l)) (nameless o) h)), nameless_so P o (and_right (not (is_name l)) (nameless o) h))
+
+  pub function_once : (f : ForestOf I) → FunctionFields f → once_named f ≡ true
+  function_once _ (fields_of {l = l} {m = m} {n = n} {c = c} {d = d} {e = e} hl hp hm hn ht hs) =
+      let a = no_name l c hl in
+      let b = no_name m d hm in
+      let k = no_name n e hn in
+      rw (a, b, k) refl
+
+  pub any_named : (f : ForestOf I) → AreSoNamed (λ x. Unit {0}) f
+  any_named end = tt
+  any_named (tree l c o) = (by l, any_named o)
+    where
+      by : (k : LabelOf I) → IsSoNamed (λ x. Unit {0}) k
+      by (ident binder x) = tt
+      by _ = tt
+
+  any_declared : (f : ForestOf I) → DeclareSo (λ x. Unit {0}) f
+  any_declared end = tt
+  any_declared (tree l end o) = any_declared o
+  any_declared (tree l (tree k f r) o) = (any_named f, any_declared o)
+
+  pub first_alone : (P : I → Type 0) (l : LabelOf I) (c : ForestOf I) → FirstSo P (tree l c end) → DeclareSo P (tree l c end)
+  first_alone P l end h = tt
+  first_alone P l (tree k f r) h = (h, tt)
+
+  pub simple_node : (sh : Shape) (c : ForestOf I) (q : ℕ) (s : Surroundings Block) → is_simple sh ≡ true → OuterHere s → OuterNode (node_by sh c (blocks_at q s.block) s)
+  simple_node of_value c q s h o = record { ahead = tt; others = o; declares = λ e. let z : ⊥ = cc in z }
+  simple_node of_other c q s h o = record { ahead = tt; others = o; declares = λ e. let z : ⊥ = cc in z }
+  simple_node _ c q s h o = absurd (let z : ⊥ = cc in z)
+
+module _ {I : Type 0} (P : I → Type 0) where
   abbrev AreQuietlyWell : Bool → ForestOf I → Type 0
-  AreQuietlyWell d f = (node : Node Block) → InnerNode d node → (p q : ℕ) → Every Well (occurrences_from node p q f)
+  AreQuietlyWell d f = (node : Node Block) → InnerNode d node → (p q : ℕ) → Every (WellAs P) (occurrences_from node p q f)
 
   one_quiet : (l : LabelOf I) → Seen l → (d : Bool) (c o : ForestOf I) → (d || not (is_name l)) ≡ true → not (is_parameter l) ≡ true → AreQuietlyWell (is_declaration l) c → AreQuietlyWell d o → AreQuietlyWell d (tree l c o)
   one_quiet _ (an_ident binder x) d c o h k inner rest node i p q = (
-    subst (λ v. StandsWell (declared v (here_in node) (suc p + count o)) (here_in node).block) (sym (i.declares (own_value d h))) (value_well (here_in node) (suc p + count o) (inner_here d node i)),
+    subst (λ v. StandsAs P (declared v (here_in node) (suc p + count o)) x (here_in node).block) (sym (i.declares (own_value d h))) (value_well P x (here_in node) (suc p + count o) (inner_here d node i)),
     rest (after_field node) (inner_after d node i) (suc p) q,
   )
-  one_quiet _ (an_ident reference_role x) d c o h k inner rest node i p q = (referring_well (here_in node).words node.path (here_in node).block, rest (after_field node) (inner_after d node i) (suc p) q)
+  one_quiet _ (an_ident reference_role x) d c o h k inner rest node i p q = (referring_well P (here_in node).words node.path x (here_in node).block, rest (after_field node) (inner_after d node i) (suc p) q)
   one_quiet _ (an_ident word_role x) d c o h k inner rest node i p q = (tt, rest (after_field node) (inner_after d node i) (suc p) q)
   one_quiet _ (no_ident l n) d c o h k inner rest node i p q =
-      split_every l c o node p q n
+      split_every P l c o node p q n
       (inner (node_by (shape_in l) c (blocks_at q (here_in node).block) (here_in node)) (inner_node (is_declaration l) (shape_in l) c q (here_in node) (not_parameter l k) (declaration_value l) (inner_here d node i)) p (q + opens (shape_in l)))
       (rest (after_field node) (inner_after d node i) (p + count c) (q + opens (shape_in l) + blocks_in c))
 
@@ -255,12 +354,12 @@ module _ {I : Type 0} where
   parameters_well _ (one_parameter {l = l} {m = m} {x = x} {c = c} {d = d} {o = o} h k rest) node i p q =
       let here = inner_here false node i in
       let inside = node_by of_parameter (tree l c (tree (ident binder x) end (tree m d end))) (blocks_at q (here_in node).block) (here_in node) in
-      split_every (kind parameter_kind) (tree l c (tree (ident binder x) end (tree m d end))) o node p q refl
-      (then_others l c (tree (ident binder x) end (tree m d end)) inside h (λ r s. (here.0, then_others m d end (after_field (after_field inside)) k (λ u v. tt) (suc r) s)) p (q + 0))
+      split_every P (kind parameter_kind) (tree l c (tree (ident binder x) end (tree m d end))) o node p q refl
+      (then_others P l c (tree (ident binder x) end (tree m d end)) inside h (λ r s. (here.0, then_others P m d end (after_field (after_field inside)) k (λ u v. tt) (suc r) s)) p (q + 0))
       (parameters_well o rest (after_field node) (inner_after false node i) (p + count (tree l c (tree (ident binder x) end (tree m d end)))) (q + 0 + blocks_in (tree l c (tree (ident binder x) end (tree m d end)))))
 
-  function_well : (f : ForestOf I) → FunctionFields f → (s : Surroundings Block) → OuterHere s → (p q r : ℕ) → Every Well (occurrences_from (node_by of_function f (blocks_at q s.block) s) p r f)
-  function_well _ (fields_of {l = l} {m = m} {n = n} {r = t} {x = x} {c = c} {d = d} {e = e} {g = g} {ps = ps} {ss = ss} hl hp hm hn ht hs) s o p q r =
+  function_well : (f : ForestOf I) → FunctionFields f → AreSoNamed P f → (s : Surroundings Block) → OuterHere s → (p q r : ℕ) → Every (WellAs P) (occurrences_from (node_by of_function f (blocks_at q s.block) s) p r f)
+  function_well _ (fields_of {l = l} {m = m} {n = n} {r = t} {x = x} {c = c} {d = d} {e = e} {g = g} {ps = ps} {ss = ss} hl hp hm hn ht hs) named s o p q r =
       let body = tree t g (tree (kind statements) ss end) in
       let f5 = tree (kind compound) body end in
       let f4 = tree n e f5 in
@@ -272,57 +371,58 @@ module _ {I : Type 0} where
       let n3 = after_field n2 in
       let n5 = after_field (after_field n3) in
       let own : InnerHere (here_in n2) = (tt, tt, refl) in
-      then_others l c f1 n0 hl
+      then_others P l c f1 n0 hl
       (λ p1 q1. (
-        o.0,
-        split_every (kind parameters) ps f3 n2 (suc p1) q1 refl
+        (o.0, named.1.0),
+        split_every P (kind parameters) ps f3 n2 (suc p1) q1 refl
             (parameters_well ps hp (node_by of_other ps (blocks_at q1 (here_in n2).block) (here_in n2)) (inner_node false of_other ps q1 (here_in n2) other_shape no_value own) (suc p1) (q1 + 0))
-            (then_others m d f4 n3 hm
-            (then_others n e f5 (after_field n3) hn
+            (then_others P m d f4 n3 hm
+            (then_others P n e f5 (after_field n3) hn
             (λ p5 q5.
-            split_every (kind compound) body end n5 p5 q5 refl
-            (then_others t g (tree (kind statements) ss end) (node_by of_body body (blocks_at q5 (here_in n5).block) (here_in n5)) ht
+            split_every P (kind compound) body end n5 p5 q5 refl
+            (then_others P t g (tree (kind statements) ss end) (node_by of_body body (blocks_at q5 (here_in n5).block) (here_in n5)) ht
             (λ p6 q6.
             let n6 = after_field (node_by of_body body (blocks_at q5 (here_in n5).block) (here_in n5)) in
             let held : InnerHere (here_in n6) = (tt, tt, refl) in
-            split_every (kind statements) ss end n6 p6 q6 refl
+            split_every P (kind statements) ss end n6 p6 q6 refl
             (quiet_well false ss hs (node_by of_other ss (blocks_at q6 (here_in n6).block) (here_in n6)) (inner_node false of_other ss q6 (here_in n6) other_shape no_value held) p6 (q6 + 0))
             tt) p5 (q5 + 0))
             tt))
             (suc p1 + count ps) (q1 + 0 + blocks_in ps)),
       )) p r
 
-  one_plainly : (l : LabelOf I) → Seen l → (c o : ForestOf I) (node : Node Block) → OuterNode node → (p q : ℕ) → AreWell c → ((p q : ℕ) → Every Well (occurrences_from (after_field node) p q o)) → Every Well (occurrences_from node p q (tree l c o))
-  one_plainly _ (an_ident binder x) c o node i p q inner rest = (outer_declared node.declares (here_in node) (suc p + count o) i.declares (outer_here node i), rest (suc p) q)
-  one_plainly _ (an_ident reference_role x) c o node i p q inner rest = (referring_well (here_in node).words node.path (here_in node).block, rest (suc p) q)
-  one_plainly _ (an_ident word_role x) c o node i p q inner rest = (tt, rest (suc p) q)
-  one_plainly _ (no_ident l n) c o node i p q inner rest =
-      split_every l c o node p q n (inner (node_by (shape_in l) c (blocks_at q (here_in node).block) (here_in node)) p (q + opens (shape_in l))) (rest (p + count c) (q + opens (shape_in l) + blocks_in c))
+  one_plainly : (l : LabelOf I) → Seen l → IsSoNamed P l → (c o : ForestOf I) (node : Node Block) → OuterNode node → (p q : ℕ) → AreWell P c → ((p q : ℕ) → Every (WellAs P) (occurrences_from (after_field node) p q o)) → Every (WellAs P) (occurrences_from node p q (tree l c o))
+  one_plainly _ (an_ident binder x) so c o node i p q inner rest = (outer_declared P x so node.declares (here_in node) (suc p + count o) i.declares (outer_here node i), rest (suc p) q)
+  one_plainly _ (an_ident reference_role x) so c o node i p q inner rest = (referring_well P (here_in node).words node.path x (here_in node).block, rest (suc p) q)
+  one_plainly _ (an_ident word_role x) so c o node i p q inner rest = (tt, rest (suc p) q)
+  one_plainly _ (no_ident l n) so c o node i p q inner rest =
+      split_every P l c o node p q n (inner (node_by (shape_in l) c (blocks_at q (here_in node).block) (here_in node)) p (q + opens (shape_in l))) (rest (p + count c) (q + opens (shape_in l) + blocks_in c))
 
-  plainly_well : (f : ForestOf I) → plainly f ≡ true → (node : Node Block) → OuterNode node → (p q : ℕ) → Every Well (occurrences_from node p q f)
-  plainly_well end h node i p q = tt
-  plainly_well (tree l c o) h node i p q =
-      one_plainly l (seen l) c o node i p q (sober_well c (and_right (is_typed_at l c) (sober c) (and_left (is_typed_at l c && sober c) (plainly o) h)))
-      (plainly_well o (and_right (is_typed_at l c && sober c) (plainly o) h) (after_field node) (outer_after node i))
-
-  pub simple_node : (sh : Shape) (c : ForestOf I) (q : ℕ) (s : Surroundings Block) → is_simple sh ≡ true → OuterHere s → OuterNode (node_by sh c (blocks_at q s.block) s)
-  simple_node of_value c q s h o = record { ahead = tt; others = o; declares = λ e. let z : ⊥ = cc in z }
-  simple_node of_other c q s h o = record { ahead = tt; others = o; declares = λ e. let z : ⊥ = cc in z }
-  simple_node _ c q s h o = absurd (let z : ⊥ = cc in z)
+  plainly_well : (f : ForestOf I) → plainly f ≡ true → AreSoNamed P f → (node : Node Block) → OuterNode node → (p q : ℕ) → Every (WellAs P) (occurrences_from node p q f)
+  plainly_well end h named node i p q = tt
+  plainly_well (tree l c o) h named node i p q =
+      one_plainly l (seen l) named.0 c o node i p q (sober_well P c (and_right (is_typed_at l c) (sober c) (and_left (is_typed_at l c && sober c) (plainly o) h)))
+      (plainly_well o (and_right (is_typed_at l c && sober c) (plainly o) h) named.1 (after_field node) (outer_after node i))
 
   -- ---- the global declarations
-  pub globals_well : (f : ForestOf I) → Globals f → (node : Node Block) → OuterNode node → (p q : ℕ) → Every Well (occurrences_from node p q f)
-  globals_well _ no_more node i p q = tt
-  globals_well _ (a_function {s = s} {t = t} {f = f} {o = o} h rest) node i p q =
+  pub globals_as : (f : ForestOf I) → Globals f → DeclareSo P f → (node : Node Block) → OuterNode node → (p q : ℕ) → Every (WellAs P) (occurrences_from node p q f)
+  globals_as _ no_more named node i p q = tt
+  globals_as _ (a_function {s = s} {t = t} {f = f} {o = o} h rest) named node i p q =
       let inside = node_by of_other (tree (kind function) f end) (blocks_at q (here_in node).block) (here_in node) in
-      split_every (at declaration_node s t) (tree (kind function) f end) o node p q refl
-      (split_every (kind function) f end inside p (q + 0) refl (function_well f h (here_in node) (outer_here node i) p (q + 0) (q + 0 + 1)) tt)
-      (globals_well o rest (after_field node) (outer_after node i) (p + count (tree (kind function) f end)) (q + 0 + blocks_in (tree (kind function) f end)))
-  globals_well _ (another {s = s} {t = t} {l = l} {f = f} {o = o} n y sh h rest) node i p q =
+      split_every P (at declaration_node s t) (tree (kind function) f end) o node p q refl
+      (split_every P (kind function) f end inside p (q + 0) refl (function_well f h named.0 (here_in node) (outer_here node i) p (q + 0) (q + 0 + 1)) tt)
+      (globals_as o rest named.1 (after_field node) (outer_after node i) (p + count (tree (kind function) f end)) (q + 0 + blocks_in (tree (kind function) f end)))
+  globals_as _ (another {s = s} {t = t} {l = l} {f = f} {o = o} n y sh h once rest) named node i p q =
       let inside = node_by of_other (tree l f end) (blocks_at q (here_in node).block) (here_in node) in
-      split_every (at declaration_node s t) (tree l f end) o node p q refl
-      (split_every l f end inside p (q + 0) n (plainly_well f h (node_by (shape_in l) f (blocks_at (q + 0) (here_in node).block) (here_in node)) (simple_node (shape_in l) f (q + 0) (here_in node) sh (outer_here node i)) p (q + 0 + opens (shape_in l))) tt)
-      (globals_well o rest (after_field node) (outer_after node i) (p + count (tree l f end)) (q + 0 + blocks_in (tree l f end)))
+      split_every P (at declaration_node s t) (tree l f end) o node p q refl
+      (split_every P l f end inside p (q + 0) n (plainly_well f h named.0 (node_by (shape_in l) f (blocks_at (q + 0) (here_in node).block) (here_in node)) (simple_node (shape_in l) f (q + 0) (here_in node) sh (outer_here node i)) p (q + 0 + opens (shape_in l))) tt)
+      (globals_as o rest named.1 (after_field node) (outer_after node i) (p + count (tree l f end)) (q + 0 + blocks_in (tree l f end)))
+
+module _ {I : Type 0} where
+  pub globals_well : (f : ForestOf I) → Globals f → (node : Node Block) → OuterNode node → (p q : ℕ) → Every Well (occurrences_from node p q f)
+  globals_well f h node i p q =
+      let any : I → Type 0 = λ x. Unit {0} in
+      every_so (WellAs any) Well (λ o k. well_as any o.role o.name o.block k) (occurrences_from node p q f) (globals_as any f h (any_declared f) node i p q)
 
   -- ---- and their type expressions begin with a path or none
   pub sober_typed : (f : ForestOf I) → sober f ≡ true → is_typed f ≡ true
@@ -397,7 +497,7 @@ module _ {I : Type 0} where
       let first = function_typed f h in
       let more = globals_typed o rest in
       rw (first, more) refl
-  globals_typed _ (another {l = l} {f = f} {o = o} n y sh h rest) =
+  globals_typed _ (another {l = l} {f = f} {o = o} n y sh h once rest) =
       let first = plainly_typed f h in
       let more = globals_typed o rest in
       rw (y, first, more) refl

@@ -27,3 +27,6 @@ pub mod Wordy
 pub mod Corresponding
 pub mod Picking
 pub mod Spelled
+pub mod Symbols
+pub mod Distinct
+pub mod Escapes

@@ -36,7 +36,7 @@ links_numbered lead identified None names unit sound entered a = subst IsNumbere
 links_numbered lead identified (Some l) names unit sound entered a =
     numbered_by_meaning lead identified (modules_in l) (task_in l) (name_under (numbering l.numbers) names) unit a (link_grammatical l) sound.once entered
 
-empty_faithful : IsFaithful empty_unit
+pub empty_faithful : IsFaithful empty_unit
 empty_faithful = record { module_names_apart = λ i d h. absurd (omega (arith, h)); references_read_right = λ i d h. absurd (omega (arith, h)) }
 
 pub links_faithful : WaysLeadOutwards → OccurrencesAreIdentifiers → (l : Option Link) (names : Given) (unit : UnitView) → IsSoundLink l → IsEntered (resolved_of l names) → AssemblesTo (resolved_of l names) unit → NamesAreApart unit → IsFaithful unit

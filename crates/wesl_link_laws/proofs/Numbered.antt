@@ -1,11 +1,12 @@
 -- The numbers of a linked unit follow meanings.
-use Rattle.std.proofs.Common.{◌≡◌, ℕ, List, [], ◌++◌, map, Contains, arith, refl, sym, ap, ◌∙◌, subst}
+use Rattle.std.proofs.Common.{◌≡◌, ◌≢◌, ℕ, List, [], ◌++◌, map, Contains, arith, refl, sym, ap, ◌∙◌, subst}
 use Rattle.std.specs.List.{All}
 use Rattle.wesl_names.specs.Path.{Text, Path}
 use Rattle.wesl_syntax.specs.Tree.{forest_of, identifiers}
 use Rattle.wesl_syntax.specs.Unit.{UnitView, trees_of, name_in, numbers}
 use Rattle.wesl_syntax.specs.Numbers.{AreNumbers}
-use Rattle.wesl_world.specs.World.{Task, Entered}
+use Rattle.wesl_world.specs.declared.symbols.Symbol.{Symbol}
+use Rattle.wesl_world.specs.World.{Task, Entered, Reached}
 use Rattle.wesl_world.specs.Faults.{AreDistinct}
 use Rattle.wesl_world.proofs.Lists.{contains_map, map_contains}
 use Rattle.wesl_occurrences.specs.Occurrences.{Occurrence, occurrences}
@@ -28,7 +29,9 @@ use Rattle.wesl_link_laws.proofs.Laid.{declarations_of, laid}
 use Rattle.wesl_link_laws.proofs.Blocks.{ways_of, block_known}
 use Rattle.wesl_link_laws.proofs.Directed.{directives_of_world}
 use Rattle.wesl_link_laws.proofs.Unit.{IsAssembledOf, assembled_of, two_parts, words_alone, means_cut}
-use Rattle.wesl_link_laws.specs.Apart.{NamesAreApart}
+use Rattle.wesl_link_laws.specs.Apart.{OfLocalsAndFree, NamesAreApart}
+use Rattle.wesl_link_laws.proofs.Symbols.{IsHeldSymbol, of_global}
+use Rattle.wesl_link_laws.proofs.Distinct.{names_apart}
 use Rattle.wesl_link_laws.proofs.Spelled.{reads_right}
 use Rattle.wesl_link_laws.proofs.Follow.{StandSo, follow}
 use Rattle.wesl_link_laws.proofs.Meant.{IsLaidOut, InUnit, stand_so}
@@ -117,3 +120,9 @@ module _ (lead : WaysLeadOutwards) (identified : OccurrencesAreIdentifiers) (w :
   pub faithful_where_apart : NamesAreApart u → IsFaithful u
   faithful_where_apart apart =
       reads_right w task a.held srcs gs entered means (ways_of (trees_of u)) all_in lay u.names (printed_as names) (λ p k n. refl) (λ n. refl) printed_so one_number apart
+
+  pub faithful_where_distinct : ((d e : Denotation) → IsHeldSymbol w task d → IsHeldSymbol w task e → printed_as names d ≡ printed_as names e → d ≡ e)
+      → OfLocalsAndFree u.names all_in (λ o. (s : Symbol Path Text) → Reached (tables w) task s → name_of u.names all_in o ≢ names s.path s.name) → IsFaithful u
+  faithful_where_distinct differ others =
+      faithful_where_apart
+      (names_apart w task means all_in (of_global w task a.held srcs gs entered means (ways_of (trees_of u)) all_in lay) u.names (printed_as names) printed_so one_number differ others)

@@ -6,12 +6,13 @@ use Rattle.wesl_syntax.specs.View.{placed as placed_view, directive_view}
 use Rattle.wesl_syntax.specs.declared.span.Spanned.{Spanned}
 use Rattle.wesl_syntax.specs.declared.declaration.GlobalDirective.{GlobalDirective}
 use Rattle.wesl_syntax.specs.declared.declaration.GlobalDirective.TheVariants as directives
+use Rattle.std.specs.Prelude.{if◌then◌else◌}
 use Rattle.wesl_names.specs.Path.{Text}
 use Rattle.wesl_tree.specs.Translation.{unit_view}
 use Rattle.wesl_tree.specs.declared.unit.TranslationUnit.{TranslationUnit}
 use Rattle.wesl_link_laws.proofs.Alike.{is_ident, shape_in}
 use Rattle.wesl_link_laws.proofs.Shaped.{typed_at_respelled, type_respelled}
-use Rattle.wesl_link_laws.proofs.Grammar.{is_name, is_parameter, is_declaration, is_simple, sober, quiet, plainly, Parameters, no_parameter, one_parameter, FunctionFields, fields_of, Globals, no_more, a_function, another}
+use Rattle.wesl_link_laws.proofs.Grammar.{is_name, is_parameter, is_declaration, is_simple, sober, quiet, plainly, nameless, once_named, Parameters, no_parameter, one_parameter, FunctionFields, fields_of, Globals, no_more, a_function, another}
 use Rattle.wesl_link_laws.proofs.Typed.{globals_there, attributes_sober}
 use Rattle.wesl_link_laws.proofs.Wordy.{Directives, no_directive, one_directive}
 use Rattle.wesl_link_laws.proofs.Parts.{AreNodes}
@@ -62,6 +63,16 @@ module _ {I J : Type 0} (g : I → J) where
   plainly_respelled end = refl
   plainly_respelled (tree l c o) = ap₂ (λ a b. a && b) (ap₂ (λ a b. a && b) (typed_at_respelled g l c) (sober_respelled c)) (plainly_respelled o)
 
+  nameless_respelled : (f : ForestOf I) → nameless (respell_forest g f) ≡ nameless f
+  nameless_respelled end = refl
+  nameless_respelled (tree l c o) = ap₂ (λ a b. not a && b) (name_respelled l) (nameless_respelled o)
+
+  once_respelled : (f : ForestOf I) → once_named (respell_forest g f) ≡ once_named f
+  once_respelled end = refl
+  once_respelled (tree l c o) =
+      ap (λ b. if b then nameless (respell_forest g o) else once_named (respell_forest g o)) (name_respelled l)
+      ∙ ap₂ (λ a b. if is_name l then a else b) (nameless_respelled o) (once_respelled o)
+
   parameters_respelled : (f : ForestOf I) → Parameters f → Parameters (respell_forest g f)
   parameters_respelled _ no_parameter = no_parameter
   parameters_respelled _ (one_parameter {l = l} {m = m} {x = x} {c = c} {d = d} {o = o} h k rest) =
@@ -74,8 +85,8 @@ module _ {I J : Type 0} (g : I → J) where
   pub globals_respelled : (f : ForestOf I) → Globals f → Globals (respell_forest g f)
   globals_respelled _ no_more = no_more
   globals_respelled _ (a_function {f = f} {o = o} h rest) = a_function (function_respelled f h) (globals_respelled o rest)
-  globals_respelled _ (another {l = l} {f = f} {o = o} n y sh h rest) =
-      another (ident_respelled l ∙ n) (type_respelled g l ∙ y) (ap is_simple (shape_respelled l) ∙ sh) (plainly_respelled f ∙ h) (globals_respelled o rest)
+  globals_respelled _ (another {l = l} {f = f} {o = o} n y sh h once rest) =
+      another (ident_respelled l ∙ n) (type_respelled g l ∙ y) (ap is_simple (shape_respelled l) ∙ sh) (plainly_respelled f ∙ h) (once_respelled f ∙ once) (globals_respelled o rest)
 
   directives_respelled : (f : ForestOf I) → Directives f → Directives (respell_forest g f)
   directives_respelled _ no_directive = no_directive
@@ -107,4 +118,4 @@ grammatical t = record {
 pub global_nodes : {I : Type 0} (f : ForestOf I) → Globals f → AreNodes (trees f)
 global_nodes _ no_more = tt
 global_nodes _ (a_function {o = o} h rest) = (refl, global_nodes o rest)
-global_nodes _ (another {o = o} n y sh h rest) = (refl, global_nodes o rest)
+global_nodes _ (another {o = o} n y sh h once rest) = (refl, global_nodes o rest)

@@ -111,9 +111,9 @@ global_trees _ no_more h = tt
 global_trees _ (a_function {s = s} {t = t} {f = f} {o = o} k rest) h =
     let both = typed_first (is_typed_at (at declaration_node s t) (tree (kind function) f end)) (is_typed (tree (kind function) f end)) (is_typed o) h in
     ((refl, both.0, a_function k no_more), global_trees o rest both.1)
-global_trees _ (another {s = s} {t = t} {l = l} {f = f} {o = o} n y sh k rest) h =
+global_trees _ (another {s = s} {t = t} {l = l} {f = f} {o = o} n y sh k once rest) h =
     let both = typed_first (is_typed_at (at declaration_node s t) (tree l f end)) (is_typed (tree l f end)) (is_typed o) h in
-    ((refl, both.0, another n y sh k no_more), global_trees o rest both.1)
+    ((refl, both.0, another n y sh k once no_more), global_trees o rest both.1)
 
 pub sources_are : (m : Module) → IsGrammatical m.unit → (s : Source) → Contains (sources_of m) s → IsSourceOf m s
 sources_are m g s c =

@@ -71,7 +71,7 @@ module _ (w : List Module) (task : Task Path Text) (held : List Placed) (srcs : 
       let so = bound_so (k ∷ outer) (name_of names all g) p (named_in names o) f.1 in
       not_so (name_of names all o) (name_of names all g)
       (All-contains (λ b. is_global b ≡ true → name_of names all o ≢ name_of names all b) all g
-      (All-contains (λ v. is_binder v.role ≡ true → is_global v ≡ false → SpellsNoGlobal names all v) all o sp.locals f.0 (visible_binds p o.role so.0) (not_global o k outer so.2)) g_in global)
+      (All-contains (λ v. is_binder v.role ≡ true → is_global v ≡ false → SpellsNoGlobal names all v) all o sp.others_apart.locals f.0 (visible_binds p o.role so.0) (not_global o k outer so.2)) g_in global)
       so.1)
 
   in_module_alone : (g : Occurrence ℕ) → Contains all g → is_global g ≡ true → (p : ℕ) (b : Block) → binders_of names all (name_of names all g) p b ≡ binders_in names all (name_of names all g) p []
@@ -139,7 +139,7 @@ module _ (w : List Module) (task : Task Path Text) (held : List Placed) (srcs : 
         let so = bound_so [] n r.place (named_in names o) f.1 in
         not_so (name_of names all r) (name_of names all o)
         (All-contains (λ v. is_global v ≡ true → name_of names all r ≢ name_of names all v) all o
-        (All-contains (λ v. is_unqualified v.role ≡ true → IsUnbound names all v → SpellsNoGlobal names all v) all r sp.free_names r_in unqualified unbound) f.0 (global_so o (visible_binds r.place o.role so.0) so.2))
+        (All-contains (λ v. is_unqualified v.role ≡ true → IsUnbound names all v → SpellsNoGlobal names all v) all r sp.others_apart.free_names r_in unqualified unbound) f.0 (global_so o (visible_binds r.place o.role so.0) so.2))
         (spelled ∙ sym so.1)) in
         subst (λ m. AgreeOn names all r.name (binders_of names all m r.place r.block)) (sym spelled) (subst (AgreeOn names all r.name) (sym (alone ∙ empty)) unbound)
 

@@ -37,7 +37,7 @@ use Rattle.wesl_syntax.specs.declared.statement.SwitchClause.{SwitchClause, map-
 use Rattle.wesl_syntax.specs.declared.statement.Statement.TheOpen.{Statement-F, CompoundStatement-F, ContinuingStatement-F, ElseClause-F, ElseIfClause-F, IfClause-F, SwitchClause-F}
 use Rattle.wesl_syntax.specs.declared.statement.Statement.TheFolds.{ind-CompoundStatement, fold-roll-Statement, fold-roll-CompoundStatement, fold-roll-ContinuingStatement, fold-roll-ElseClause, fold-roll-ElseIfClause, fold-roll-IfClause, fold-roll-SwitchClause}
 use Rattle.wesl_link_laws.proofs.Shaped.{is_typed_at}
-use Rattle.wesl_link_laws.proofs.Grammar.{is_name, is_parameter, is_declaration, sober, quiet, plainly, Parameters, no_parameter, one_parameter, FunctionFields, fields_of, Globals, no_more, a_function, another}
+use Rattle.wesl_link_laws.proofs.Grammar.{is_name, is_parameter, is_declaration, sober, quiet, plainly, once_named, Parameters, no_parameter, one_parameter, FunctionFields, fields_of, Globals, no_more, a_function, another, not_so}
 
 abbrev IsSober : Tree → Type 0
 IsSober t = (((not (is_name t.label) && not (is_parameter t.label)) && is_typed_at t.label t.children) && sober t.children) ≡ true
@@ -269,6 +269,27 @@ value_plain (Some e) = rw (expression_sober e.node) refl
 declaration_plainly : (d : Declaration) → plainly (declaration_view d).children ≡ true
 declaration_plainly d = rw (attributes_sober d.attributes.items, kind_plain d.kind, type_plain d.ty, value_plain d.initializer) refl
 
+-- the name that a declaration binds is the one name among its fields
+sober_unnamed : (t : Tree) → IsSober t → is_name t.label ≡ false
+sober_unnamed s h = not_so (is_name s.label) (and_left (not (is_name s.label)) (not (is_parameter s.label)) (and_left (not (is_name s.label) && not (is_parameter s.label)) (is_typed_at s.label s.children) (and_left ((not (is_name s.label) && not (is_parameter s.label)) && is_typed_at s.label s.children) (sober s.children) h)))
+
+kind_unnamed : (k : DeclarationKind) → is_name (kind_tree k).label ≡ false
+kind_unnamed kinds.Const = refl
+kind_unnamed kinds.Override = refl
+kind_unnamed kinds.Let = refl
+kind_unnamed (kinds.Var s) = refl
+
+type_unnamed : (o : Option TypeExpression) → is_name (optional type_view o).label ≡ false
+type_unnamed None = refl
+type_unnamed (Some t) = refl
+
+value_unnamed : (o : Option (Spanned Expression)) → is_name (optional expression_tree o).label ≡ false
+value_unnamed None = refl
+value_unnamed (Some e) = refl
+
+declaration_once : (d : Declaration) → once_named (declaration_view d).children ≡ true
+declaration_once d = rw (kind_unnamed d.kind, type_unnamed d.ty, value_unnamed d.initializer) refl
+
 sober_plain : (t : Tree) → IsSober t → plain_tree t ≡ true
 sober_plain s h =
     let n = not (is_name s.label) && not (is_parameter s.label) in
@@ -467,9 +488,9 @@ globals_there [] = no_more
 globals_there (x ∷ xs) = by x.node (globals_there xs)
   where
     by : (g : GlobalDeclaration) → Globals (forest_of (map (placed global_view declaration_node) xs)) → Globals (tree (at declaration_node x.span.start x.span.end) (forest_of (global_view g ∷ [])) (forest_of (map (placed global_view declaration_node) xs)))
-    by globals.Void rest = another refl refl refl refl rest
-    by (globals.Declaration d) rest = another refl refl refl (declaration_plainly d) rest
-    by (globals.TypeAlias a) rest = another refl refl refl (rw (attributes_sober a.attributes.items, sober_plain (type_view a.ty) (type_sober a.ty)) refl) rest
-    by (globals.Struct s) rest = another refl refl refl (rw (attributes_sober s.attributes.items, members_sober s.members.items) refl) rest
+    by globals.Void rest = another refl refl refl refl refl rest
+    by (globals.Declaration d) rest = another refl refl refl (declaration_plainly d) (declaration_once d) rest
+    by (globals.TypeAlias a) rest = another refl refl refl (rw (attributes_sober a.attributes.items, sober_plain (type_view a.ty) (type_sober a.ty)) refl) (rw (sober_unnamed (type_view a.ty) (type_sober a.ty)) refl) rest
+    by (globals.Struct s) rest = another refl refl refl (rw (attributes_sober s.attributes.items, members_sober s.members.items) refl) refl rest
     by (globals.Function f) rest = a_function (function_there f) rest
-    by (globals.ConstAssert c) rest = another refl refl refl (assert_plainly c) rest
+    by (globals.ConstAssert c) rest = another refl refl refl (assert_plainly c) refl rest

@@ -8,6 +8,11 @@ use Rattle.wesl_faith.specs.Faithful.{is_binder, is_global, is_unqualified, name
 use Rattle.wesl_faith.specs.Retargeted.{IsUnbound}
 
 module _ (names : List Text) (all : List (Occurrence ℕ)) where
+  -- parameters, local declarations and references whose number no binder has are so
+  pub record OfLocalsAndFree (P : Occurrence ℕ → Type 0) : Type 0 where
+    pub locals : All (λ o. is_binder o.role ≡ true → is_global o ≡ false → P o) all
+    pub free_names : All (λ r. is_unqualified r.role ≡ true → IsUnbound names all r → P r) all
+
   -- the identifier is spelled as no binder of the module's block
   abbrev pub SpellsNoGlobal : Occurrence ℕ → Type 0
   SpellsNoGlobal o = All (λ b. is_global b ≡ true → name_of names all o ≢ name_of names all b) all
@@ -15,10 +20,8 @@ module _ (names : List Text) (all : List (Occurrence ℕ)) where
   pub record SpellsNone : Type 0 where
     -- binders of the module's block that are spelled alike have one number
     pub globals_apart : All (λ a. is_global a ≡ true → All (λ b. is_global b ≡ true → name_of names all b ≡ name_of names all a → b.name ≡ a.name) all) all
-    -- no parameter and no local declaration is spelled as one of them
-    pub locals : All (λ o. is_binder o.role ≡ true → is_global o ≡ false → SpellsNoGlobal o) all
-    -- nor is a reference whose number no binder has
-    pub free_names : All (λ r. is_unqualified r.role ≡ true → IsUnbound names all r → SpellsNoGlobal r) all
+    -- no parameter, no local declaration and no free reference is spelled as one of them
+    pub others_apart : OfLocalsAndFree SpellsNoGlobal
 
 -- its names are apart
 abbrev pub NamesAreApart : UnitView → Type 0

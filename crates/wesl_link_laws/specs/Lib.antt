@@ -1,3 +1,4 @@
 pub mod Linked
 pub mod Apart
+pub mod Escaped
 pub mod Laws

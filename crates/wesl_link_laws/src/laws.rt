@@ -1,7 +1,8 @@
 //! Laws of linked units.
-ghost use Rattle.wesl_link_laws.specs.Laws.{LinkedIsCanonical, ApartIsFaithful};
+ghost use Rattle.wesl_link_laws.specs.Laws.{LinkedIsCanonical, ApartIsFaithful, EscapedIsFaithful};
 
 use wesl_faith::law_of_canonical_numbers;
+use wesl_mangle::escape_round_trip;
 use wesl_occurrences::{law_of_occurrences, law_of_ways};
 
 /// The unit of `Resolutions::assemble` is faithful exactly where its numbers are the canonical numbers of plain scoping on
@@ -23,4 +24,15 @@ pub fn law_of_apart_names()
 {
     law_of_ways();
     law_of_occurrences();
+}
+
+/// A unit linked under the names of `EscapeMangler`, those of the root too, is faithful where `EscapeMangler::is_reversible`
+/// holds of every held symbol, and no parameter, no local declaration and no free reference of it is spelled as the mangled
+/// name of one. `before` is what `resolve_lazy` or `resolve_eager` answers, `after` what `Resolutions::mangle` leaves of it.
+pub fn law_of_escape_names()
+    ensures { EscapedIsFaithful }
+{
+    law_of_ways();
+    law_of_occurrences();
+    escape_round_trip();
 }

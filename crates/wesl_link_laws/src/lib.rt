@@ -4,4 +4,4 @@
 
 mod laws;
 
-pub use laws::{law_of_apart_names, law_of_canonical_links};
+pub use laws::{law_of_apart_names, law_of_canonical_links, law_of_escape_names};
