@@ -3,3 +3,4 @@ mod OfLiterals
 mod OfExpressions
 mod OfAttributes
 mod OfDeclarations
+mod OfImports

@@ -84,7 +84,7 @@ one_binary x y = (λ e. ap (λ k. let l : Label = binary k in l) (same_true bina
 pub one_ident : (x y : ℕ) → Decides (nat_eq x y) ((let l : Label = ident reference x in l) ≡ ident reference y)
 one_ident x y = along (unsigned_Decides x y) (λ e. ap (λ k. let l : Label = ident reference k in l) e) (λ e. let p : x ≡ y = cc in p)
 
-one_path : (p q : ModulePath) → Decides (path_eq p q) (numbered (path_tree p) ≡ numbered (path_tree q))
+pub one_path : (p q : ModulePath) → Decides (path_eq p q) (numbered (path_tree p) ≡ numbered (path_tree q))
 one_path p q = alone (along (path_eq-decides p q) (λ e. ap (λ k. let l : Label = path k in l) e) (λ e. let h : path_view p ≡ path_view q = cc in h))
 
 module _ (F : Family) where

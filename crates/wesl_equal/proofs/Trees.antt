@@ -1,10 +1,10 @@
 -- Tests that decide whether trees are one.
-use Rattle.std.proofs.Common.{◌≡◌, Bool, true, false, ◌&&◌, refl, ap}
+use Rattle.std.proofs.Common.{◌≡◌, subst, Bool, true, false, ◌&&◌, refl, ap, List, [], ◌∷◌, map, Option, Some, None}
 use Rattle.std.specs.Bool.{Decides}
 use Rattle.std.specs.Option.{option_eq}
-use Rattle.std.proofs.Common.{Option, Some, None}
+use Rattle.std.specs.Cmp.Lexicographic.{pointwise}
 use Rattle.wesl_syntax.specs.View.{optional}
-use Rattle.wesl_syntax.specs.Tree.{Label, Forest, Tree, end, tree, before}
+use Rattle.wesl_syntax.specs.Tree.{Label, Forest, Tree, end, tree, before, forest_of, respell_forest}
 use Rattle.wesl_equal.specs.Numbered.{numbered}
 
 -- a test of something equivalent
@@ -74,3 +74,24 @@ one_optional view E d (Some a) (Some b) = under (last (d a b))
 -- a test and trees that are equal to others
 pub settle : {b c : Bool} {s t u v : Tree} → b ≡ c → s ≡ u → t ≡ v → Decides c (numbered u ≡ numbered v) → Decides b (numbered s ≡ numbered t)
 settle e p q d = rw (e, p, q) d
+
+-- a value that is decided wherever it is compared
+module _ {A : Type 0} (view : A → Tree) (E : A → A → Bool) where
+  abbrev pub Decided : A → Type 0
+  Decided x = (y : A) → Decides (E x y) (numbered (view x) ≡ numbered (view y))
+
+  -- a value of one level, where what it holds is decided
+  pub rolled : {L M : Type 0} (roll : L → A) (out : A → L) → ((z : A) → roll (out z) ≡ z) → (seen : L → Tree) → ((x : L) → view (roll x) ≡ seen x)
+      → (same : L → L → Bool) → ((x w : L) → E (roll x) (roll w) ≡ same x w) → (plain : M → L) → ((y : M) (w : L) → Decides (same (plain y) w) (numbered (seen (plain y)) ≡ numbered (seen w)))
+      → (x : L) (y : M) → plain y ≡ x → Decided (roll x)
+  rolled roll out roll_out seen seen_is same same_is plain each x y is z =
+      subst (λ e. Decides (E (roll x) e) (numbered (view (roll x)) ≡ numbered (view e))) (roll_out z)
+      (settle (same_is x (out z)) (seen_is x) (seen_is (out z)) (subst (λ e. Decides (same e (out z)) (numbered (seen e) ≡ numbered (seen (out z)))) is (each y (out z))))
+
+  -- lists of such values
+  pub parts_decided : (xs : List ((x : A) × Decided x)) (ys : List A)
+      → Decides (pointwise E (map (λ x. x.0) xs) ys) (respell_forest (λ i. i) (forest_of (map (λ t. t) (map view (map (λ x. x.0) xs)))) ≡ respell_forest (λ i. i) (forest_of (map (λ t. t) (map view ys))))
+  parts_decided [] [] = (λ e. refl, λ e. refl)
+  parts_decided [] (y ∷ ys) = (λ e. cc, λ e. cc)
+  parts_decided (x ∷ xs) [] = (λ e. cc, λ e. cc)
+  parts_decided (x ∷ xs) (y ∷ ys) = then (both _ _ (x.1 y) (parts_decided xs ys))

@@ -5,6 +5,7 @@
 mod attributes;
 mod declarations;
 mod expressions;
+mod imports;
 
 pub use attributes::equal_attributes;
 pub use declarations::{
@@ -13,4 +14,7 @@ pub use declarations::{
 };
 pub use expressions::{
     equal_calls, equal_expressions, equal_literals, equal_template_arguments, equal_types,
+};
+pub use imports::{
+    equal_import_contents, equal_import_items, equal_import_statements, equal_imports,
 };
