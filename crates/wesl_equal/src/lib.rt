@@ -6,6 +6,7 @@ mod attributes;
 mod declarations;
 mod expressions;
 mod imports;
+mod statements;
 
 pub use attributes::equal_attributes;
 pub use declarations::{
@@ -17,4 +18,9 @@ pub use expressions::{
 };
 pub use imports::{
     equal_import_contents, equal_import_items, equal_import_statements, equal_imports,
+};
+pub use statements::{
+    equal_break_if_statements, equal_case_selectors, equal_compound_statements,
+    equal_continuing_statements, equal_else_clauses, equal_else_if_clauses, equal_if_clauses,
+    equal_statements, equal_switch_clauses,
 };
