@@ -9,3 +9,4 @@ mod OfStatementLayers
 mod OfStatementCases
 mod OfStatementSteps
 mod OfStatements
+mod OfFunctions

@@ -5,6 +5,7 @@
 mod attributes;
 mod declarations;
 mod expressions;
+mod functions;
 mod imports;
 mod statements;
 
@@ -16,6 +17,7 @@ pub use declarations::{
 pub use expressions::{
     equal_calls, equal_expressions, equal_literals, equal_template_arguments, equal_types,
 };
+pub use functions::{equal_functions, equal_global_declarations};
 pub use imports::{
     equal_import_contents, equal_import_items, equal_import_statements, equal_imports,
 };
