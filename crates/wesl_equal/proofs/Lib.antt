@@ -4,3 +4,9 @@ mod OfExpressions
 mod OfAttributes
 mod OfDeclarations
 mod OfImports
+mod OfSelectors
+mod OfStatementLayers
+mod OfStatementCases
+mod OfStatementSteps
+mod OfStatements
+mod OfFunctions

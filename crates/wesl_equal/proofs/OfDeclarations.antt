@@ -36,7 +36,7 @@ use Rattle.wesl_equal.proofs.Trees.{along, both, labelled, under, alone, apart, 
 use Rattle.wesl_equal.proofs.OfExpressions.{types_decided}
 use Rattle.wesl_equal.proofs.OfAttributes.{attributes_decided, string_decided, strings_decided, node_decided, items_decided}
 
-one_binder : (x y : ℕ) → Decides (nat_eq x y) ((let l : Label = ident binder x in l) ≡ ident binder y)
+pub one_binder : (x y : ℕ) → Decides (nat_eq x y) ((let l : Label = ident binder x in l) ≡ ident binder y)
 one_binder x y = along (unsigned_Decides x y) (λ e. ap (λ k. let l : Label = ident binder k in l) e) (λ e. let p : x ≡ y = cc in p)
 
 one_access : (x y : AccessMode) → Decides (sameb access_mode.the_type x y) (numbered (access_tree x) ≡ numbered (access_tree y))

@@ -5,7 +5,9 @@
 mod attributes;
 mod declarations;
 mod expressions;
+mod functions;
 mod imports;
+mod statements;
 
 pub use attributes::equal_attributes;
 pub use declarations::{
@@ -15,6 +17,12 @@ pub use declarations::{
 pub use expressions::{
     equal_calls, equal_expressions, equal_literals, equal_template_arguments, equal_types,
 };
+pub use functions::{equal_functions, equal_global_declarations};
 pub use imports::{
     equal_import_contents, equal_import_items, equal_import_statements, equal_imports,
+};
+pub use statements::{
+    equal_break_if_statements, equal_case_selectors, equal_compound_statements,
+    equal_continuing_statements, equal_else_clauses, equal_else_if_clauses, equal_if_clauses,
+    equal_statements, equal_switch_clauses,
 };
