@@ -2,6 +2,11 @@
 #![tactic(auto)]
 
 mod collect;
-mod collectors;
 
-pub use collectors::Collect;
+pub use collect::attribute::in_attribute;
+pub use collect::declaration::{
+    in_alias, in_declarations, in_directives, in_function, in_global, in_imports, in_member,
+    in_struct,
+};
+pub use collect::expression::{in_expression, in_type};
+pub use collect::statement::{in_assert, in_declaration, in_else, in_statement};

@@ -10,8 +10,8 @@ ghost use Rattle.wesl_collect.specs.Lent.{views};
 ghost use Rattle.wesl_visit.specs.Run.{Begun, Run};
 ghost use Rattle.wesl_collect.specs.Seen.{below};
 
+use crate::collectors::Collect;
 use std::alloc::Global;
-use wesl_collect::Collect;
 use wesl_kinds::{Kind, Replace, Rewrite};
 use wesl_names::Error;
 use wesl_syntax::{

@@ -39,8 +39,9 @@ pub(crate) fn at_optional_type<'a, T: Kind>(
     }
 }
 
-/// The formulas of conditional attributes are passed over.
-pub(crate) fn in_attribute<'a, T: Kind>(
+/// Adds the nodes of a kind in an attribute, in document order. The formulas of conditional attributes are passed over.
+/// Refused for want of memory alone.
+pub fn in_attribute<'a, T: Kind>(
     attribute: &'a Attribute,
     deep: bool,
     nodes: &mut Vec<&'a T>,

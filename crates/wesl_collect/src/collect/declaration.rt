@@ -18,7 +18,8 @@ use wesl_syntax::{
     StructMember, StructMemberNode, TypeAlias,
 };
 
-pub(crate) fn in_alias<'a, T: Kind>(
+/// Adds the nodes of a kind in a type alias, in document order. Refused for want of memory alone.
+pub fn in_alias<'a, T: Kind>(
     alias: &'a TypeAlias,
     deep: bool,
     nodes: &mut Vec<&'a T>,
@@ -30,7 +31,8 @@ pub(crate) fn in_alias<'a, T: Kind>(
     at_type(&alias.ty, deep, nodes)
 }
 
-pub(crate) fn in_member<'a, T: Kind>(
+/// Adds those in a member of a structure.
+pub fn in_member<'a, T: Kind>(
     member: &'a StructMember,
     deep: bool,
     nodes: &mut Vec<&'a T>,
@@ -56,7 +58,8 @@ fn in_members<'a, T: Kind>(
     Ok(())
 }
 
-pub(crate) fn in_struct<'a, T: Kind>(
+/// Adds those in a structure.
+pub fn in_struct<'a, T: Kind>(
     structure: &'a Struct,
     deep: bool,
     nodes: &mut Vec<&'a T>,
@@ -94,7 +97,8 @@ fn in_parameters<'a, T: Kind>(
     Ok(())
 }
 
-pub(crate) fn in_function<'a, T: Kind>(
+/// Adds those in a function.
+pub fn in_function<'a, T: Kind>(
     function: &'a Function,
     deep: bool,
     nodes: &mut Vec<&'a T>,
@@ -109,7 +113,8 @@ pub(crate) fn in_function<'a, T: Kind>(
     in_compound(&function.body, deep, nodes)
 }
 
-pub(crate) fn in_global<'a, T: Kind>(
+/// Adds those in a global declaration.
+pub fn in_global<'a, T: Kind>(
     declaration: &'a GlobalDeclaration,
     deep: bool,
     nodes: &mut Vec<&'a T>,
@@ -127,7 +132,8 @@ pub(crate) fn in_global<'a, T: Kind>(
     }
 }
 
-pub(crate) fn in_declarations<'a, T: Kind>(
+/// Adds those in global declarations.
+pub fn in_declarations<'a, T: Kind>(
     declarations: &'a Vec<GlobalDeclarationNode>,
     deep: bool,
     nodes: &mut Vec<&'a T>,
@@ -166,7 +172,8 @@ fn in_import<'a, T: Kind>(
     at_words(&import.attributes, deep, nodes)
 }
 
-pub(crate) fn in_imports<'a, T: Kind>(
+/// Adds those in imports, whose words are passed over.
+pub fn in_imports<'a, T: Kind>(
     imports: &'a Vec<ImportStatementNode>,
     deep: bool,
     nodes: &mut Vec<&'a T>,
@@ -206,7 +213,8 @@ fn in_directive<'a, T: Kind>(
     }
 }
 
-pub(crate) fn in_directives<'a, T: Kind>(
+/// Adds those in directives, whose words are passed over.
+pub fn in_directives<'a, T: Kind>(
     directives: &'a Vec<GlobalDirectiveNode>,
     deep: bool,
     nodes: &mut Vec<&'a T>,

@@ -11,8 +11,9 @@ use wesl_kinds::{Kind, Node, law_of_expressions};
 use wesl_names::Error;
 use wesl_syntax::{Expression, ExpressionNode, FunctionCall, TemplateArg, TypeExpression};
 
+/// Adds the nodes of a kind in an expression, in document order. Refused for want of memory alone.
 #[cycle(collecting)]
-pub(crate) fn in_expression<'a, T: Kind>(
+pub fn in_expression<'a, T: Kind>(
     expression: &'a Expression,
     deep: bool,
     nodes: &mut Vec<&'a T>,
@@ -111,8 +112,9 @@ pub(crate) fn at_type<'a, T: Kind>(
     }
 }
 
+/// Adds those strictly below a type.
 #[cycle(collecting)]
-pub(crate) fn in_type<'a, T: Kind>(
+pub fn in_type<'a, T: Kind>(
     ty: &'a TypeExpression,
     deep: bool,
     nodes: &mut Vec<&'a T>,

@@ -17,7 +17,8 @@ use wesl_syntax::{
     Declaration, ElseClause, ElseIfClause, IfClause, Statement, StatementNode, SwitchClause,
 };
 
-pub(crate) fn in_declaration<'a, T: Kind>(
+/// Adds the nodes of a kind in a declaration, in document order. Refused for want of memory alone.
+pub fn in_declaration<'a, T: Kind>(
     declaration: &'a Declaration,
     deep: bool,
     nodes: &mut Vec<&'a T>,
@@ -30,7 +31,8 @@ pub(crate) fn in_declaration<'a, T: Kind>(
     at_optional_expression(&declaration.initializer, deep, nodes)
 }
 
-pub(crate) fn in_assert<'a, T: Kind>(
+/// Adds those in a `const_assert`.
+pub fn in_assert<'a, T: Kind>(
     assertion: &'a ConstAssert,
     deep: bool,
     nodes: &mut Vec<&'a T>,
@@ -82,8 +84,9 @@ fn in_break_if<'a, T: Kind>(
     at_expression(&break_if.expression, deep, nodes)
 }
 
+/// Adds those in a statement.
 #[cycle(collecting_statements)]
-pub(crate) fn in_statement<'a, T: Kind>(
+pub fn in_statement<'a, T: Kind>(
     statement: &'a Statement,
     deep: bool,
     nodes: &mut Vec<&'a T>,
@@ -280,8 +283,9 @@ fn in_else_ifs<'a, T: Kind>(
     Ok(())
 }
 
+/// Adds those in an `else` clause.
 #[cycle(collecting_statements)]
-fn in_else<'a, T: Kind>(
+pub fn in_else<'a, T: Kind>(
     clause: &'a ElseClause,
     deep: bool,
     nodes: &mut Vec<&'a T>,

@@ -1,0 +1,6 @@
+use Rattle.wesl_syntax.specs.View.{expression_view}
+use Rattle.wesl_collect.proofs.Walks.{found_alone, strict}
+use Rattle.wesl_visit.proofs.collectors.ExpressionCollect.collect.Goals as goal
+
+pub returns-clause-listed : goal.returns-clause-listed
+returns-clause-listed g c = found_alone g.T.Kind.view _ _ _ _ c.new-nodes.ensures.items c.in_ok-in_expression.ensures.added (strict g.T.Kind.sought c.args.deep (expression_view c.args.self.now) (c.law_of_variants.ensures.expressions g.T.Kind.sought c.args.self.now))

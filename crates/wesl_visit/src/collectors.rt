@@ -1,0 +1,137 @@
+//! What has nodes below it that can be collected.
+ghost use Rattle.std.specs.Prelude.{◌≡◌, IfErr, IfOk};
+ghost use Rattle.wesl_names.specs.declared.errors.Error as error;
+ghost use Rattle.wesl_collect.specs.Lent.{views};
+ghost use Rattle.wesl_collect.specs.Walk.{strictly};
+
+use std::alloc::Global;
+use wesl_collect::{
+    in_alias, in_assert, in_attribute, in_declaration, in_declarations, in_directives,
+    in_expression, in_function, in_global, in_imports, in_member, in_statement, in_struct, in_type,
+};
+use wesl_kinds::{Kind, law_of_variants};
+use wesl_names::Error;
+use wesl_rewrite::Holder;
+use wesl_syntax::{
+    Attribute, ConstAssert, Declaration, Expression, Function, GlobalDeclaration, Spanned,
+    Statement, Struct, StructMember, TypeAlias, TypeExpression,
+};
+use wesl_tree::TranslationUnit;
+
+/// A part of a tree from which the nodes below it can be collected.
+pub trait Collect: Holder {
+    /// The nodes of a kind that lie strictly below, in document order: the outermost ones, or with `deep` also those
+    /// inside them. Refused for want of memory alone.
+    fn collect<'a, T: Kind>(&'a self, alloc: Global, deep: bool) -> Result<Vec<&'a T>, Error>
+        ensures listed { IfOk result (λ nodes. views T.view nodes.items ≡ strictly T.sought deep (Self.tree self.now)) }
+        ensures refused { IfErr result (λ e. e ≡ error.Memory) };
+}
+
+impl Collect for Expression {
+    fn collect<'a, T: Kind>(&'a self, alloc: Global, deep: bool) -> Result<Vec<&'a T>, Error> {
+        law_of_variants();
+        let mut nodes = Vec::new(alloc);
+        in_expression(self, deep, &mut nodes)?;
+        Ok(nodes)
+    }
+}
+
+impl Collect for TypeExpression {
+    fn collect<'a, T: Kind>(&'a self, alloc: Global, deep: bool) -> Result<Vec<&'a T>, Error> {
+        let mut nodes = Vec::new(alloc);
+        in_type(self, deep, &mut nodes)?;
+        Ok(nodes)
+    }
+}
+
+impl Collect for Statement {
+    fn collect<'a, T: Kind>(&'a self, alloc: Global, deep: bool) -> Result<Vec<&'a T>, Error> {
+        law_of_variants();
+        let mut nodes = Vec::new(alloc);
+        in_statement(self, deep, &mut nodes)?;
+        Ok(nodes)
+    }
+}
+
+impl Collect for Attribute {
+    fn collect<'a, T: Kind>(&'a self, alloc: Global, deep: bool) -> Result<Vec<&'a T>, Error> {
+        law_of_variants();
+        let mut nodes = Vec::new(alloc);
+        in_attribute(self, deep, &mut nodes)?;
+        Ok(nodes)
+    }
+}
+
+impl Collect for GlobalDeclaration {
+    fn collect<'a, T: Kind>(&'a self, alloc: Global, deep: bool) -> Result<Vec<&'a T>, Error> {
+        law_of_variants();
+        let mut nodes = Vec::new(alloc);
+        in_global(self, deep, &mut nodes)?;
+        Ok(nodes)
+    }
+}
+
+impl Collect for Declaration {
+    fn collect<'a, T: Kind>(&'a self, alloc: Global, deep: bool) -> Result<Vec<&'a T>, Error> {
+        let mut nodes = Vec::new(alloc);
+        in_declaration(self, deep, &mut nodes)?;
+        Ok(nodes)
+    }
+}
+
+impl Collect for TypeAlias {
+    fn collect<'a, T: Kind>(&'a self, alloc: Global, deep: bool) -> Result<Vec<&'a T>, Error> {
+        let mut nodes = Vec::new(alloc);
+        in_alias(self, deep, &mut nodes)?;
+        Ok(nodes)
+    }
+}
+
+impl Collect for Struct {
+    fn collect<'a, T: Kind>(&'a self, alloc: Global, deep: bool) -> Result<Vec<&'a T>, Error> {
+        let mut nodes = Vec::new(alloc);
+        in_struct(self, deep, &mut nodes)?;
+        Ok(nodes)
+    }
+}
+
+impl Collect for StructMember {
+    fn collect<'a, T: Kind>(&'a self, alloc: Global, deep: bool) -> Result<Vec<&'a T>, Error> {
+        let mut nodes = Vec::new(alloc);
+        in_member(self, deep, &mut nodes)?;
+        Ok(nodes)
+    }
+}
+
+impl Collect for Function {
+    fn collect<'a, T: Kind>(&'a self, alloc: Global, deep: bool) -> Result<Vec<&'a T>, Error> {
+        let mut nodes = Vec::new(alloc);
+        in_function(self, deep, &mut nodes)?;
+        Ok(nodes)
+    }
+}
+
+impl Collect for ConstAssert {
+    fn collect<'a, T: Kind>(&'a self, alloc: Global, deep: bool) -> Result<Vec<&'a T>, Error> {
+        let mut nodes = Vec::new(alloc);
+        in_assert(self, deep, &mut nodes)?;
+        Ok(nodes)
+    }
+}
+
+/// A node with its span has what its plain node has.
+impl<N: Collect> Collect for Spanned<N> {
+    fn collect<'a, T: Kind>(&'a self, alloc: Global, deep: bool) -> Result<Vec<&'a T>, Error> {
+        self.node.collect(alloc, deep)
+    }
+}
+
+impl Collect for TranslationUnit {
+    fn collect<'a, T: Kind>(&'a self, alloc: Global, deep: bool) -> Result<Vec<&'a T>, Error> {
+        let mut nodes = Vec::new(alloc);
+        in_imports(self.imports(), deep, &mut nodes)?;
+        in_directives(self.global_directives(), deep, &mut nodes)?;
+        in_declarations(self.global_declarations(), deep, &mut nodes)?;
+        Ok(nodes)
+    }
+}
