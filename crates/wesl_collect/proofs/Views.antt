@@ -5,8 +5,8 @@ use Rattle.std.specs.Prelude.{Option}
 use Rattle.std.specs.Box.{box_value}
 use Rattle.std.specs.Global.{Box, Vec}
 use Rattle.wesl_syntax.specs.declared.span.Spanned.{Spanned}
-use Rattle.wesl_syntax.specs.Tree.{branch, call, call_statement, compound, for_loop, list, return, statements, Tree, while_loop}
-use Rattle.wesl_syntax.specs.View.{attribute_view, call_view, type_view, expression_view, expression_tree, listed, optional, attributes_tree, expression_step, call_step, argument_step, type_step, compound_view, statement_view, statement_tree, statement_step, compound_step, continuing_step, else_step, else_if_step, if_step, clause_step, global_view}
+use Rattle.wesl_syntax.specs.Tree.{assignment, branch, call, call_statement, clauses, compound, decrement, for_loop, forest_of, if_statement, increment, list, loop, return, statements, switch, Tree, while_loop}
+use Rattle.wesl_syntax.specs.View.{attribute_view, call_view, clause_view, continuing_view, else_if_view, else_view, if_view, type_view, expression_view, expression_tree, listed, optional, attributes_tree, expression_step, call_step, argument_step, type_step, compound_view, statement_view, statement_tree, statement_step, compound_step, continuing_step, else_step, else_if_step, if_step, clause_step, global_view}
 use Rattle.wesl_syntax.specs.declared.attribute.Attribute.{Attribute}
 use Rattle.wesl_syntax.specs.declared.attribute.Attribute.TheVariants as attr
 use Rattle.wesl_syntax.specs.declared.declaration.GlobalDeclaration.{GlobalDeclaration}
@@ -16,8 +16,14 @@ use Rattle.wesl_syntax.specs.declared.expression.Expression.TheFolds.{fold_out-F
 use Rattle.wesl_syntax.specs.declared.expression.Expression.TheOpen.{Expression-F}
 use Rattle.wesl_syntax.specs.declared.expression.Expression.TheViews as expressions
 use Rattle.wesl_syntax.specs.declared.expression.FunctionCall.{FunctionCall, out-FunctionCall}
+use Rattle.wesl_syntax.specs.declared.statement.AssignmentOperator.{AssignmentOperator}
+use Rattle.wesl_syntax.specs.declared.statement.ContinuingStatement.{ContinuingStatement}
+use Rattle.wesl_syntax.specs.declared.statement.ElseClause.{ElseClause}
+use Rattle.wesl_syntax.specs.declared.statement.ElseIfClause.{ElseIfClause}
+use Rattle.wesl_syntax.specs.declared.statement.IfClause.{IfClause}
+use Rattle.wesl_syntax.specs.declared.statement.SwitchClause.{SwitchClause}
 use Rattle.wesl_syntax.specs.declared.statement.CompoundStatement.{CompoundStatement, out-CompoundStatement}
-use Rattle.wesl_syntax.specs.declared.statement.Statement.{Statement, FunctionCall as CallStatement, Return as ReturnStatement, the_lemmas, out-Statement}
+use Rattle.wesl_syntax.specs.declared.statement.Statement.{Statement, Assignment as AssignmentStatement, Decrement as DecrementStatement, FunctionCall as CallStatement, Increment as IncrementStatement, Return as ReturnStatement, the_lemmas, out-Statement}
 use Rattle.wesl_syntax.specs.declared.statement.Statement.TheFolds.{fold_out-CompoundStatement, fold-roll-Statement}
 use Rattle.wesl_syntax.specs.declared.statement.Statement.TheOpen.{Statement-F}
 use Rattle.wesl_syntax.specs.declared.statement.Statement.TheViews as statement_views
@@ -29,6 +35,28 @@ view_call c = fold_out-FunctionCall Tree Tree Tree Tree expression_step call_ste
 
 pub view_compound : (b : CompoundStatement) → compound_view b ≡ branch compound (attributes_tree (out-CompoundStatement b).attributes ∷ listed statement_tree statements (out-CompoundStatement b).statements ∷ [])
 view_compound b = fold_out-CompoundStatement Tree Tree Tree Tree Tree Tree Tree statement_step compound_step continuing_step else_step else_if_step if_step clause_step b ∙ simp map-map
+
+pub view_if : (a : Vec (Spanned Attribute)) (i : IfClause) (es : Vec ElseIfClause) (e : Option ElseClause)
+    → statement_view (statement_views.If a i es e) ≡ branch if_statement (attributes_tree a ∷ if_view i ∷ listed else_if_view list es ∷ optional else_view e ∷ [])
+view_if a i es e = search (rules, the_lemmas, map-map)
+
+pub view_switch : (a : Vec (Spanned Attribute)) (e : Spanned Expression) (b : Vec (Spanned Attribute)) (cs : Vec SwitchClause)
+    → statement_view (statement_views.Switch a e b cs) ≡ branch switch (attributes_tree a ∷ expression_tree e ∷ attributes_tree b ∷ listed clause_view clauses cs ∷ [])
+view_switch a e b cs = search (rules, the_lemmas, map-map)
+
+pub view_loop : (a : Vec (Spanned Attribute)) (b : CompoundStatement) (c : Option ContinuingStatement)
+    → statement_view (statement_views.Loop a b c) ≡ branch loop (attributes_tree a ∷ compound_view b ∷ optional continuing_view c ∷ [])
+view_loop a b c = search (rules, the_lemmas)
+
+pub view_assignment : (a : Vec (Spanned Attribute)) (o : AssignmentOperator) (l r : Spanned Expression)
+    → statement_view (AssignmentStatement a o l r) ≡ record { label = assignment o; children = forest_of (attributes_tree a ∷ expression_tree l ∷ expression_tree r ∷ []) }
+view_assignment a o l r = search (rules, the_lemmas)
+
+pub view_increment : (a : Vec (Spanned Attribute)) (e : Spanned Expression) → statement_view (IncrementStatement a e) ≡ branch increment (attributes_tree a ∷ expression_tree e ∷ [])
+view_increment a e = search (rules, the_lemmas)
+
+pub view_decrement : (a : Vec (Spanned Attribute)) (e : Spanned Expression) → statement_view (DecrementStatement a e) ≡ branch decrement (attributes_tree a ∷ expression_tree e ∷ [])
+view_decrement a e = search (rules, the_lemmas)
 
 pub view_for : (a : Vec (Spanned Attribute)) (i : Option (Box (Spanned Statement))) (c : Option (Spanned Expression)) (u : Option (Box (Spanned Statement))) (b : CompoundStatement)
     → statement_view (statement_views.For a i c u b) ≡ branch for_loop (attributes_tree a ∷ optional (λ s. statement_tree (box_value s)) i ∷ optional expression_tree c ∷ optional (λ s. statement_tree (box_value s)) u ∷ compound_view b ∷ [])
