@@ -46,7 +46,7 @@ pub fn refused_beginnings(row: Row<'_>) -> Answer {
     let mut refused: usize = 0;
     for byte in row.text("text").as_bytes() {
         let (_, line) = written(row.alloc, &beginning)?;
-        if line.as_slice() == b"{\"args\":[],\"fault\":\"NotJson\"}\n" {
+        if line.as_slice() == b"{\"args\":[],\"fault\":\"NotJson\"}\n".as_slice() {
             refused = refused.wrapping_add(1);
         }
         beginning.push(*byte)?;
