@@ -1,80 +1,45 @@
-//! Rows of built-in names: those of types and address spaces, and those that are handed in.
-use crate::inputs::{number, text, texts};
-use serde_json::Value;
-use std::alloc::Global;
+//! Built-in names: those of types and address spaces, and those that are handed in.
 use wesl::{AddressSpace, BuiltinIdent, BuiltinType, Builtins, VecSize};
-
-/// What a call of built-in names answers.
-pub fn answered(alloc: Global, call: &str, row: &Value) -> Result<Option<Value>, anyhow::Error> {
-    match call {
-        "BuiltinType::Mat, builtin_ident" => of_matrix(alloc, row),
-        "AddressSpace::builtin_ident" => of_space(alloc, row),
-        "Builtins::builtin_ident" => handed_in(alloc, row),
-        _ => Ok(None),
-    }
-}
-
-/// A name, or null where there is none.
-fn value(alloc: Global, name: Option<&str>) -> Result<Option<Value>, anyhow::Error> {
-    match name {
-        Some(name) => Ok(Some(Value::try_from_str(alloc, name)?)),
-        None => Ok(Some(Value::Null)),
-    }
-}
+use wesl_row::{Answer, Row, text_value};
 
 /// The size of the number at a key.
-fn size(row: &Value, key: &str) -> Option<VecSize> {
-    match number(row, key) {
-        Some(2) => Some(VecSize::Two),
-        Some(3) => Some(VecSize::Three),
-        Some(4) => Some(VecSize::Four),
-        _ => None,
+fn size(row: Row<'_>, key: &str) -> VecSize {
+    match row.number(key, 0) {
+        2 => VecSize::Two,
+        3 => VecSize::Three,
+        _ => VecSize::Four,
     }
 }
 
 /// The name of the matrix type of so many `columns` and `rows`.
-fn of_matrix(alloc: Global, row: &Value) -> Result<Option<Value>, anyhow::Error> {
-    match (size(row, "columns"), size(row, "rows")) {
-        (Some(columns), Some(rows)) => {
-            value(alloc, BuiltinType::Mat(columns, rows).builtin_ident())
-        }
-        _ => Ok(None),
-    }
+pub fn of_matrix(row: Row<'_>) -> Answer {
+    let matrix = BuiltinType::Mat(size(row, "columns"), size(row, "rows"));
+    text_value(row.alloc, matrix.builtin_ident())
 }
 
 /// The address space of a word.
-fn space(word: &str) -> Option<AddressSpace> {
+fn space(word: &str) -> AddressSpace {
     match word {
-        "function" => Some(AddressSpace::Function),
-        "private" => Some(AddressSpace::Private),
-        "workgroup" => Some(AddressSpace::Workgroup),
-        "uniform" => Some(AddressSpace::Uniform),
-        "storage" => Some(AddressSpace::Storage),
-        "handle" => Some(AddressSpace::Handle),
-        _ => None,
+        "function" => AddressSpace::Function,
+        "private" => AddressSpace::Private,
+        "workgroup" => AddressSpace::Workgroup,
+        "uniform" => AddressSpace::Uniform,
+        "storage" => AddressSpace::Storage,
+        _ => AddressSpace::Handle,
     }
 }
 
 /// The name of the `space`.
-fn of_space(alloc: Global, row: &Value) -> Result<Option<Value>, anyhow::Error> {
-    let Some(word) = text(row, "space") else {
-        return Ok(None);
-    };
-    match space(word) {
-        Some(space) => value(alloc, space.builtin_ident()),
-        None => Ok(None),
-    }
+pub fn of_space(row: Row<'_>) -> Answer {
+    text_value(row.alloc, space(row.text("space")).builtin_ident())
 }
 
 /// The stored name where the `name` is among the `names`.
-fn handed_in(alloc: Global, row: &Value) -> Result<Option<Value>, anyhow::Error> {
-    let (Some(listed), Some(name)) = (texts(alloc, row, "names")?, text(row, "name")) else {
-        return Ok(None);
-    };
-    let mut names = Vec::new(alloc);
-    for text in &listed {
-        names.push(String::from_str(alloc, text)?)?;
+pub fn handed_in(row: Row<'_>) -> Answer {
+    let mut names = Vec::new(row.alloc);
+    for text in &row.texts("names")? {
+        names.push(String::from_str(row.alloc, text)?)?;
     }
-    let builtins = Builtins::new(names, Vec::new(alloc), Vec::new(alloc));
-    value(alloc, builtins.builtin_ident(name))
+    let builtins = Builtins::new(names, Vec::new(row.alloc), Vec::new(row.alloc));
+    text_value(row.alloc, builtins.builtin_ident(row.text("name")))
 }

@@ -1,72 +1,28 @@
-//! Rows of the public calls as data. Each line of standard input is a JSON object that names a row and a public call,
-//! and holds the call's inputs; the line that is written for it holds what the call answers. The last line is their
-//! count.
+//! Rows of whole bundles, conditions, paths and built-in names as data. Each line of standard input is a JSON object that names a row
+//! and a public call, and holds the call's inputs; the line that is written for it holds what the call answers. The last
+//! line is their count.
 #![tactic(auto)]
 
 mod builtins;
-mod clashes;
+mod calls;
 mod conditions;
-mod faults;
-mod inputs;
-mod manglers;
-mod names;
+mod features;
+mod paths;
 mod program;
-mod resolvers;
-mod scopes;
-mod trees;
-mod visits;
-mod worlds;
 
-use serde_json::{Value, json};
+use serde_json::Value;
 use std::alloc::Global;
 use std::io::{BufRead, BufReader};
-
-/// What the call of a row answers, by the module that has the call.
-fn answered(alloc: Global, call: &str, row: &Value) -> Result<Value, anyhow::Error> {
-    if let Some(answer) = names::answered(alloc, call, row)? {
-        return Ok(answer);
-    }
-    if let Some(answer) = trees::answered(alloc, call, row)? {
-        return Ok(answer);
-    }
-    if let Some(answer) = visits::answered(alloc, call, row)? {
-        return Ok(answer);
-    }
-    if let Some(answer) = conditions::answered(alloc, call, row)? {
-        return Ok(answer);
-    }
-    if let Some(answer) = scopes::answered(alloc, call, row)? {
-        return Ok(answer);
-    }
-    if let Some(answer) = clashes::answered(alloc, call, row)? {
-        return Ok(answer);
-    }
-    if let Some(answer) = worlds::answered(alloc, call, row)? {
-        return Ok(answer);
-    }
-    if let Some(answer) = resolvers::answered(alloc, call, row)? {
-        return Ok(answer);
-    }
-    if let Some(answer) = manglers::answered(alloc, call, row)? {
-        return Ok(answer);
-    }
-    if let Some(answer) = builtins::answered(alloc, call, row)? {
-        return Ok(answer);
-    }
-    if let Some(answer) = program::answered(alloc, call, row)? {
-        return Ok(answer);
-    }
-    Ok(Value::try_from_str(alloc, "no such row")?)
-}
+use wesl_row::{Row, line};
 
 /// The line that is written for the line of a row.
 fn line_of(alloc: Global, text: &str) -> Result<String, anyhow::Error> {
-    let row = Value::from_str(alloc, text)?;
-    let name = inputs::text(&row, "row").unwrap_or("");
-    let call = inputs::text(&row, "call").unwrap_or("");
-    let answer = answered(alloc, call, &row)?;
-    let line = json!(in alloc; {"answer": answer, "row": name})?;
-    Ok(line.to_string(alloc)?)
+    let value = Value::from_str(alloc, text)?;
+    let row = Row {
+        alloc,
+        value: &value,
+    };
+    line(row, calls::answered(row)?)
 }
 
 /// Writes a line for the line of each row, and then how many there were.

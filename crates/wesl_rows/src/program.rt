@@ -1,63 +1,55 @@
 //! The program as one call: bundles and their lines.
-use crate::{faults, inputs};
 use serde_json::Value;
 use std::alloc::Global;
 use wesl::{Outcome, RunError, run};
+use wesl_row::{Answer, Row};
 
-/// The line that a run over these bytes writes, where it is one compact line of the kind that its outcome tells.
-fn line_of(alloc: Global, bundle: &[u8]) -> Result<Option<Value>, anyhow::Error> {
+/// The line that a run over these bytes writes.
+fn written(alloc: Global, bundle: &[u8]) -> Result<(Outcome, Vec<u8>), anyhow::Error> {
     let mut reader = bundle;
     let mut written = Vec::new(alloc);
-    let outcome = match run(alloc, &mut reader, &mut written) {
-        Ok(outcome) => outcome,
-        Err(RunError::Output) => return Err(anyhow::anyhow!("no room for the line")),
-        Err(RunError::Input) => return Ok(None),
-    };
+    match run(alloc, &mut reader, &mut written) {
+        Ok(outcome) => Ok((outcome, written)),
+        Err(RunError::Output) => Err(anyhow::anyhow!("no room for the line")),
+        Err(RunError::Input) => Err(anyhow::anyhow!("a failed read")),
+    }
+}
+
+/// The line that a run over these bytes writes, null where it is no compact line of the kind that its outcome tells.
+fn line_of(alloc: Global, bundle: &[u8]) -> Answer {
+    let (outcome, mut written) = written(alloc, bundle)?;
     if written.pop() != Some(b'\n') {
-        return Ok(None);
+        return Ok(Value::Null);
     }
     let line = Value::from_slice(alloc, &written)?;
     let text = line.to_string(alloc)?;
-    let is_linked = outcome == Outcome::Linked;
-    if text.as_bytes() == written.as_slice() && is_linked == line.get("unit").is_some() {
-        Ok(Some(line))
+    let is_told = (outcome == Outcome::Linked) == line.get("unit").is_some();
+    if is_told && text.as_bytes() == written.as_slice() {
+        Ok(line)
     } else {
-        Ok(None)
+        Ok(Value::Null)
     }
 }
 
-/// Whether a run over these bytes tells that they are no JSON.
-fn is_no_json(alloc: Global, bundle: &[u8]) -> Result<bool, anyhow::Error> {
-    match line_of(alloc, bundle)? {
-        Some(line) => Ok(line == faults::fault(alloc, "NotJson", &[])?),
-        None => Ok(false),
+/// The line of the bundle of a row, or of its text.
+pub fn ran(row: Row<'_>) -> Answer {
+    if !row.has("bundle") {
+        return line_of(row.alloc, row.text("text").as_bytes());
     }
+    let text = row.part("bundle")?.value.to_string(row.alloc)?;
+    line_of(row.alloc, text.as_bytes())
 }
 
-/// How many beginnings of a text, the whole not among them, are told to be no JSON.
-fn refused_beginnings(alloc: Global, text: &str) -> Result<usize, anyhow::Error> {
-    let mut beginning = Vec::new(alloc);
+/// How many beginnings of the text of a row, the whole not among them, are told to be no JSON.
+pub fn refused_beginnings(row: Row<'_>) -> Answer {
+    let mut beginning = Vec::new(row.alloc);
     let mut refused: usize = 0;
-    for byte in text.as_bytes() {
-        if is_no_json(alloc, &beginning)? {
+    for byte in row.text("text").as_bytes() {
+        let (_, line) = written(row.alloc, &beginning)?;
+        if line.as_slice() == b"{\"args\":[],\"fault\":\"NotJson\"}\n".as_slice() {
             refused = refused.wrapping_add(1);
         }
         beginning.push(*byte)?;
     }
-    Ok(refused)
-}
-
-/// What the call of a row answers, if it is a call of the program.
-pub fn answered(alloc: Global, call: &str, row: &Value) -> Result<Option<Value>, anyhow::Error> {
-    match (call, row.get("bundle"), inputs::text(row, "text")) {
-        ("wesl::run", Some(bundle), None) => {
-            let text = bundle.to_string(alloc)?;
-            line_of(alloc, text.as_bytes())
-        }
-        ("wesl::run", None, Some(text)) => line_of(alloc, text.as_bytes()),
-        ("wesl::run on each beginning", None, Some(text)) => {
-            Ok(Some(refused_beginnings(alloc, text)?.into()))
-        }
-        _ => Ok(None),
-    }
+    Ok(Value::from(refused))
 }

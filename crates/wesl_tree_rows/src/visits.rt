@@ -4,30 +4,29 @@
 //! expressions, statements and lists of attributes. The answer lists the nodes that are met.
 ghost use Rattle.std.specs.Prelude.{◌≡◌};
 
-use crate::inputs;
-use serde_json::{Value, json};
+use serde_json::Value;
 use std::alloc::{AllocError, Global};
 use std::mem;
 use wesl_json::value_of_unit;
-use wesl_names::{Error, Ident, Names, Span};
-use wesl_syntax::{
-    Attributes, Declaration, Expression, ExpressionNode, Function, GlobalDeclaration,
-    GlobalDeclarationNode, Spanned, Statement, StatementNode, Struct, TemplateArg, TypeExpression,
+use wesl_row::{Answer, List, Object, Row, text_value};
+use wesl_tree::{
+    Attributes, Declaration, Error, Expression, ExpressionNode, Function, GlobalDeclaration,
+    GlobalDeclarationNode, Ident, Names, Span, Spanned, Statement, StatementNode, Struct,
+    TemplateArg, TranslationUnit, TypeExpression,
 };
-use wesl_tree::TranslationUnit;
 use wesl_visit::{Kind, Replace, Rewrite, Visit, Visitor};
 
 /// A node that is told in a few words.
 trait Shown {
     /// The words.
-    fn shown(&self, alloc: Global, names: &Names) -> Result<Value, AllocError>;
+    fn shown(&self, alloc: Global, names: &Names) -> Answer;
 }
 
 /// A type as its name.
 impl Shown for TypeExpression {
-    fn shown(&self, alloc: Global, names: &Names) -> Result<Value, AllocError> {
+    fn shown(&self, alloc: Global, names: &Names) -> Answer {
         if self.ident.0 < names.len() {
-            Value::try_from_str(alloc, names.name(self.ident))
+            text_value(alloc, Some(names.name(self.ident)))
         } else {
             Ok(Value::Null)
         }
@@ -36,10 +35,10 @@ impl Shown for TypeExpression {
 
 /// A name as itself, an element of an array as `[]`, and null for all else.
 impl Shown for ExpressionNode {
-    fn shown(&self, alloc: Global, names: &Names) -> Result<Value, AllocError> {
+    fn shown(&self, alloc: Global, names: &Names) -> Answer {
         match &self.node {
             Expression::TypeOrIdentifier(ty) => ty.shown(alloc, names),
-            Expression::Indexing { base: _, index: _ } => Value::try_from_str(alloc, "[]"),
+            Expression::Indexing { base: _, index: _ } => text_value(alloc, Some("[]")),
             _ => Ok(Value::Null),
         }
     }
@@ -47,7 +46,7 @@ impl Shown for ExpressionNode {
 
 /// An assignment as its two sides, and null for all else.
 impl Shown for StatementNode {
-    fn shown(&self, alloc: Global, names: &Names) -> Result<Value, AllocError> {
+    fn shown(&self, alloc: Global, names: &Names) -> Answer {
         match &self.node {
             Statement::Assignment {
                 attributes: _,
@@ -55,9 +54,10 @@ impl Shown for StatementNode {
                 lhs,
                 rhs,
             } => {
-                let left = lhs.shown(alloc, names)?;
-                let right = rhs.shown(alloc, names)?;
-                json!(in alloc; [left, right])
+                let mut sides = List::new(alloc);
+                sides.put(lhs.shown(alloc, names));
+                sides.put(rhs.shown(alloc, names));
+                sides.end()
             }
             _ => Ok(Value::Null),
         }
@@ -66,8 +66,8 @@ impl Shown for StatementNode {
 
 /// A list of attributes as its length.
 impl Shown for Attributes {
-    fn shown(&self, _: Global, _: &Names) -> Result<Value, AllocError> {
-        Ok(self.len().into())
+    fn shown(&self, _: Global, _: &Names) -> Answer {
+        Ok(Value::from(self.len()))
     }
 }
 
@@ -87,9 +87,10 @@ impl Met<'_> {
             return Err(AllocError);
         }
         self.left -= 1;
-        let shown = node.shown(self.alloc, self.names)?;
-        self.nodes.push(shown)?;
-        Ok(())
+        match node.shown(self.alloc, self.names) {
+            Ok(shown) => Ok(self.nodes.push(shown)?),
+            Err(_) => Err(AllocError),
+        }
     }
 }
 
@@ -374,95 +375,82 @@ fn wrapped(
 /// The answer of a call: what was met, and the unit afterwards.
 fn told(
     alloc: Global,
-    outcome: Result<(), Error>,
+    outcome: &Result<(), Error>,
     met: Vec<Value>,
     unit: &TranslationUnit,
-) -> Result<Option<Value>, anyhow::Error> {
-    let unit = value_of_unit(alloc, unit)?;
-    match outcome {
-        Ok(()) => Ok(Some(json!(in alloc; {"met": met, "unit": unit})?)),
-        Err(_) => Ok(Some(
-            json!(in alloc; {"args": [], "fault": "Memory", "met": met, "unit": unit})?,
-        )),
+) -> Answer {
+    let mut answer = Object::new(alloc);
+    answer.put("met", Ok(Value::Array(met)));
+    answer.put("unit", Ok(value_of_unit(alloc, unit)?));
+    if outcome.is_err() {
+        answer.put("args", Ok(Value::Array(Vec::new(alloc))));
+        answer.text("fault", Some("Memory"));
     }
+    answer.end()
 }
 
 /// What a call answers whose holder is a whole unit.
-fn in_unit(
-    alloc: Global,
-    call: &str,
-    row: &Value,
-    mut unit: TranslationUnit,
-) -> Result<Option<Value>, anyhow::Error> {
-    let names = unit.names().try_clone(alloc)?;
+fn in_unit(row: Row<'_>, call: &str, mut unit: TranslationUnit) -> Answer {
+    let names = unit.names().try_clone(row.alloc)?;
     let mut met = Met {
-        alloc,
+        alloc: row.alloc,
         names: &names,
-        nodes: Vec::new(alloc),
-        left: inputs::number(row, "at_most").unwrap_or(20),
+        nodes: Vec::new(row.alloc),
+        left: row.number("at_most", 20),
     };
-    let kind = inputs::text(row, "kind").unwrap_or("");
-    let outcome = walk_unit(alloc, call, kind, &mut unit, &mut met);
-    told(alloc, outcome, met.nodes, &unit)
+    let outcome = walk_unit(row.alloc, call, row.text("kind"), &mut unit, &mut met);
+    told(row.alloc, &outcome, met.nodes, &unit)
 }
 
 /// Meets or wraps the nodes of a kind below a global declaration or a part of it.
 fn walk_part(
-    alloc: Global,
+    row: Row<'_>,
     call: &str,
-    row: &Value,
     global: &mut GlobalDeclarationNode,
     met: &mut Met,
 ) -> Result<(), Error> {
-    let holder = inputs::text(row, "holder").unwrap_or("");
-    let kind = inputs::text(row, "kind").unwrap_or("");
-    match (kind, inputs::number(row, "wrap_at_most")) {
-        ("types", Some(left)) => {
-            let name = Ident(0);
-            wrapped(alloc, call, holder, global, &mut Wrap { alloc, name, left })
-        }
-        ("types", None) => walk_types(alloc, call, holder, global, met),
-        _ => walk_others(alloc, call, (holder, kind), global, met),
+    let holder = row.text("holder");
+    let kind = row.text("kind");
+    if kind != "types" {
+        return walk_others(row.alloc, call, (holder, kind), global, met);
     }
+    if !row.has("wrap_at_most") {
+        return walk_types(row.alloc, call, holder, global, met);
+    }
+    let mut wrap = Wrap {
+        alloc: row.alloc,
+        name: Ident(0),
+        left: row.number("wrap_at_most", 0),
+    };
+    wrapped(row.alloc, call, holder, global, &mut wrap)
 }
 
 /// What a call answers whose holder is the first global declaration of a unit or a part of it.
-fn in_part(
-    alloc: Global,
-    call: &str,
-    row: &Value,
-    unit: TranslationUnit,
-) -> Result<Option<Value>, anyhow::Error> {
+fn in_part(row: Row<'_>, call: &str, unit: TranslationUnit) -> Answer {
     let (names, imports, directives, mut declarations) = unit.into_parts();
     let mut met = Met {
-        alloc,
+        alloc: row.alloc,
         names: &names,
-        nodes: Vec::new(alloc),
-        left: inputs::number(row, "at_most").unwrap_or(20),
+        nodes: Vec::new(row.alloc),
+        left: row.number("at_most", 20),
     };
     let outcome = match declarations.first_mut() {
-        Some(global) => walk_part(alloc, call, row, global, &mut met),
+        Some(global) => walk_part(row, call, global, &mut met),
         None => Ok(()),
     };
     let nodes = met.nodes;
     match TranslationUnit::from_parts(names, imports, directives, declarations) {
-        Some(unit) => told(alloc, outcome, nodes, &unit),
-        None => Ok(None),
+        Some(unit) => told(row.alloc, &outcome, nodes, &unit),
+        None => Ok(Value::Null),
     }
 }
 
-/// What the call of a row answers, if it is a call of visits.
-pub fn answered(alloc: Global, call: &str, row: &Value) -> Result<Option<Value>, anyhow::Error> {
-    match call {
-        "Visit::visit" | "Visit::visit_rec" | "Visit::rewrite" | "Visit::rewrite_rec" => {}
-        _ => return Ok(None),
-    }
-    let Some(unit) = inputs::unit(alloc, row, "unit")? else {
-        return Ok(None);
-    };
-    match inputs::text(row, "holder") {
-        Some("unit") => in_unit(alloc, call, row, unit),
-        Some(_) => in_part(alloc, call, row, unit),
-        None => Ok(None),
+/// What a visit of a row answers.
+pub fn answered(row: Row<'_>, call: &str) -> Answer {
+    let unit = row.unit("unit")?;
+    if row.text("holder") == "unit" {
+        in_unit(row, call, unit)
+    } else {
+        in_part(row, call, unit)
     }
 }

@@ -1,0 +1,41 @@
+//! Rows of calls around links as data: links of units and of symbol tables, resolvers, manglers, maps, and what stands
+//! where memory was wanting. Each line of standard input is a JSON object that names a row and a public call, and holds the
+//! call's inputs; the line that is written for it holds what the call answers. The last line is their count.
+#![tactic(auto)]
+
+mod calls;
+mod chains;
+mod links;
+mod manglers;
+mod maps;
+mod names;
+mod packages;
+mod resolvers;
+mod tables;
+
+use serde_json::Value;
+use std::alloc::Global;
+use std::io::{BufRead, BufReader};
+use wesl_row::{Row, line};
+
+/// The line that is written for the line of a row.
+fn line_of(alloc: Global, text: &str) -> Result<String, anyhow::Error> {
+    let value = Value::from_str(alloc, text)?;
+    let row = Row {
+        alloc,
+        value: &value,
+    };
+    line(row, calls::answered(row)?)
+}
+
+/// Writes a line for the line of each row, and then how many there were.
+fn main(rt: HostRuntime) -> Result<(), anyhow::Error> {
+    let alloc = rt.alloc();
+    let mut rows: usize = 0;
+    for line in BufReader::new(alloc, rt.reader())?.lines(alloc) {
+        println!(rt; "{}", line_of(alloc, &line?)?)?;
+        rows = rows.wrapping_add(1);
+    }
+    println!(rt; "{rows} rows")?;
+    Ok(())
+}

@@ -1,0 +1,47 @@
+//! The calls by their names: what is not among the calls of one list is looked up in the next.
+use crate::{builtins, conditions, features, paths, program};
+use wesl_row::{Answer, Row, text_value};
+
+/// What the call of a row answers.
+pub fn answered(row: Row<'_>) -> Answer {
+    match row.text("call") {
+        "wesl::run" => program::ran(row),
+        "wesl::run on each beginning" => program::refused_beginnings(row),
+        "BuiltinType::Mat, builtin_ident" => builtins::of_matrix(row),
+        "AddressSpace::builtin_ident" => builtins::of_space(row),
+        "Builtins::builtin_ident" => builtins::handed_in(row),
+        call => of_conditions(row, call),
+    }
+}
+
+/// Calls of conditions and of features.
+fn of_conditions(row: Row<'_>, call: &str) -> Answer {
+    match call {
+        "wesl_cond::run" => conditions::left(row),
+        "wesl_cond::run in stages" => conditions::stages(row),
+        "eval_attr" => conditions::formulas_left(row),
+        "Feature::from" => features::switched(row),
+        "Feature::default" => features::usual(row.alloc),
+        "Features::answer" => features::answer(row),
+        "Features::then" => features::answers_then(row),
+        "Features::try_clone" => features::copied(row),
+        _ => of_paths(row, call),
+    }
+}
+
+/// Calls of paths and names.
+fn of_paths(row: Row<'_>, call: &str) -> Answer {
+    match call {
+        "ModulePath::parse" => paths::parsed(row),
+        "ModulePath::new_root" => paths::is_root(row),
+        "ModulePath::new" => paths::is_new(row),
+        "ModulePath::join" => paths::joined(row),
+        "ModulePath::join_path" => paths::path_joined(row),
+        "ModulePath::starts_with" => paths::starts_with(row),
+        "ModulePath::is_relative" => paths::is_relative(row),
+        "ModulePath::cmp" => paths::compared(row),
+        "ModulePath::try_clone" => paths::copied(row),
+        "Names::add" => paths::names_added(row),
+        _ => text_value(row.alloc, Some("no such row")),
+    }
+}

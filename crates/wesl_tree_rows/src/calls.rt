@@ -1,0 +1,69 @@
+//! The calls by their names: what is not among the calls of one list is looked up in the next.
+use crate::{copies, deep, scopes, units, validators, visits};
+use wesl_row::{Answer, Row, text_value};
+
+/// What the call of a row answers.
+pub fn answered(row: Row<'_>) -> Answer {
+    match row.text("call") {
+        "unit_of_value" => units::read(row),
+        "value_of_unit" => units::read_again(row),
+        "value_of_unit of an enable directive" => units::enabled_again(row),
+        "JsonText::read" => units::text_read(row),
+        "TranslationUnit::new" => units::new(row.alloc),
+        "TranslationUnit::names" => units::named(row),
+        "TranslationUnit::into_parts" => units::parted(row),
+        "TranslationUnit::from_parts" => units::made(row),
+        "TranslationUnit::remove_voids" => units::without_voids(row),
+        call => of_copies(row, call),
+    }
+}
+
+/// Calls of copies and of equality.
+fn of_copies(row: Row<'_>, call: &str) -> Answer {
+    match call {
+        "TranslationUnit::same_spelling" => copies::same_spelling(row),
+        "== of the lists of units" => copies::lists_compared(row),
+        "TranslationUnit::try_clone" => copies::unit_copied(row),
+        "copy_attributes and copy_statements" => copies::lists_copied(row),
+        "copy_expressions" => copies::arguments_copied(row),
+        "Visit::visit" | "Visit::visit_rec" | "Visit::rewrite" | "Visit::rewrite_rec" => {
+            visits::answered(row, call)
+        }
+        _ => of_scopes(row, call),
+    }
+}
+
+/// Calls of scopes and of names that clash.
+fn of_scopes(row: Row<'_>, call: &str) -> Answer {
+    match call {
+        "occurrences" => scopes::found(row),
+        "occurrences, their numbers" => scopes::numbers_found(row),
+        "SyntaxUtil::retarget_idents" => scopes::retargeted(row),
+        "SyntaxUtil::retarget_idents, or what stands" => scopes::numbered_or_left(row),
+        "SyntaxUtil::retarget_idents of many statements" => scopes::many_retargeted(row),
+        "SyntaxUtil::retarget_idents, times" => scopes::retargeted_times(row),
+        "SyntaxUtil::entry_points" => scopes::entry_points(row),
+        "strip_except" => scopes::stripped(row),
+        "strip_except, or what stands" => scopes::stripped_or_left(row),
+        "names_clash" => scopes::clash(row),
+        "names_clash of many statements" => scopes::many_clash(row),
+        "names_clash, times" => scopes::clash_times(row),
+        _ => of_others(row, call),
+    }
+}
+
+/// Calls of the validators, and calls on deep units.
+fn of_others(row: Row<'_>, call: &str) -> Answer {
+    match call {
+        "validate_wesl" => validators::wesl(row),
+        "validate_wgsl" => validators::wgsl(row),
+        "JsonText::print of parentheses" => deep::parentheses_printed(row),
+        "TryClone::try_clone of a deep unit" => deep::copied(row),
+        "SyntaxUtil::retarget_idents of a deep unit" => deep::retargeted(row),
+        "strip_except of a deep unit" => deep::stripped(row),
+        "names_clash of a deep unit" => deep::clashing(row),
+        "value_of_unit of a deep unit" => deep::written(row),
+        "wesl_cond::run of a deep unit" => deep::conditioned(row),
+        _ => text_value(row.alloc, Some("no such row")),
+    }
+}
