@@ -67,9 +67,9 @@ module _ (nb : Numbering) (hands : Path → UnitOf Text → Type 0) (units : Lis
   Told = TellsOf (IsRefused hands refuses rm (task_of rm keep is_eager) limit)
 
   resolve_told : (r : resolve_error.ResolveError) → IsRefused hands refuses rm (task_of rm keep is_eager) limit (refused r) → Told (error_of_resolve r)
-  resolve_told (resolve_error.FileNotFound f m) h = h
-  resolve_told (resolve_error.ModuleNotFound p m) h = h
-  resolve_told (resolve_error.Error' p i d m s x z) h = h
+  resolve_told (resolve_error.FileNotFound f m) h = (λ e. cc, h)
+  resolve_told (resolve_error.ModuleNotFound p m) h = (λ e. cc, h)
+  resolve_told (resolve_error.Error' p i d m s x z) h = (λ e. cc, h)
   resolve_told resolve_error.Memory h = tt
 
   pub refusal_told : (f : LinkError resolve_error.ResolveError) (e : error.Error) → IsExplained (IsHandedTable hands nb units) refuses_id rt (linking.task_of rt kept is_eager) limit f → Tells nb f e → Told e
