@@ -198,7 +198,7 @@ fn mark_unit(
 }
 
 /// The symbol table of the module at this path with these imports and declarations, and the marks.
-fn tabled(
+fn make_tabled(
     alloc: Global,
     id: PathId,
     numbered: UnitNumbers,
@@ -235,5 +235,5 @@ pub fn table_of(
     let imports = imports(alloc, path, unit.imports())?;
     let numbered = unit_numbers(alloc, numbers, unit, &imports)?;
     let found = mark_unit(alloc, numbers, id, path, unit, &imports, &numbered)?;
-    tabled(alloc, id, numbered, found)
+    make_tabled(alloc, id, numbered, found)
 }

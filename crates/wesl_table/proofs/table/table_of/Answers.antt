@@ -43,13 +43,13 @@ returns-clause-numbered c =
     let read : spelled_imports u.names c.deref.result.now ≡ imports own (spelled u) = ap (spelled_imports u.names) c.deref.ensures.value ∙ imports_are own u c.in_ok-imports.imports.items same in
     let is = c.in_ok-numbered.numbered.imports.items in
     let numbered : AreNumberedImports n1 is (imports own (spelled u)) = subst (λ js. AreNumberedImports n1 is js) read c.in_ok-numbered.ensures.imports in
-    IfOk-weaker c.tabled.result _ _ (λ t e. table_made n0 n1 n2 c.unit_numbers.ensures.grows c.mark_unit.ensures.grows c.args.id own is (imports own (spelled u)) c.in_ok-found.found.declarations.items _ t.table e c.requires.held numbered c.in_ok-found.ensures.declared) c.tabled.ensures.table
+    IfOk-weaker c.make_tabled.result _ _ (λ t e. table_made n0 n1 n2 c.unit_numbers.ensures.grows c.mark_unit.ensures.grows c.args.id own is (imports own (spelled u)) c.in_ok-found.found.declarations.items _ t.table e c.requires.held numbered c.in_ok-found.ensures.declared) c.make_tabled.ensures.table
 
 pub returns-clause-marked : goal.returns-clause-marked
 returns-clause-marked c =
     let n2 = numbering c.mark_unit.new.numbers in
     let all = uses (path_view c.args.path.now) (spelled (unit_view c.args.unit.now)) in
-    IfOk-weaker c.tabled.result _ _ (λ t e. subst (λ ms. AreMarked n2 ms.items all) (sym e) c.in_ok-found.ensures.marked) c.tabled.ensures.marks
+    IfOk-weaker c.make_tabled.result _ _ (λ t e. subst (λ ms. AreMarked n2 ms.items all) (sym e) c.in_ok-found.ensures.marked) c.make_tabled.ensures.marks
 
 pub returns-clause-path : goal.returns-clause-path
-returns-clause-path c = IfOk-weaker c.tabled.result _ _ (λ t e. ap (λ x. x.path) e) c.tabled.ensures.table
+returns-clause-path c = IfOk-weaker c.make_tabled.result _ _ (λ t e. ap (λ x. x.path) e) c.make_tabled.ensures.table
