@@ -1,10 +1,10 @@
-use Rattle.std.proofs.Common.{sym, subst, refl, map}
+use Rattle.std.proofs.Common.{sym, subst, refl}
 use Rattle.wesl_names.specs.Path.{path_view}
 use Rattle.wesl_syntax.specs.Unit.{spelled}
 use Rattle.wesl_tree.specs.Translation.{unit_view}
 use Rattle.wesl_occurrences.specs.Pieces.{declarations_in}
 use Rattle.wesl_table.specs.Imports.{imports}
-use Rattle.wesl_table.specs.Numbering.{AreRelated, IsRelatedOption, AreNumberedImports, NameAt}
+use Rattle.wesl_table.specs.Numbering.{AreRelated, AreNumberedImports, NameAt}
 use Rattle.wesl_table.specs.NumbersView.{numbering}
 use Rattle.wesl_table.specs.Tables.{name_of}
 use Rattle.wesl_table.proofs.Plain.{set_holds, set_has}

@@ -1,4 +1,4 @@
-use Rattle.std.proofs.Common.{List, Option, Some, map, ◌↔◌, ap, subst}
+use Rattle.std.proofs.Common.{List, Option, Some, ◌↔◌, ap, subst}
 use Rattle.std.specs.List.{Contains}
 use Rattle.wesl_tree.specs.Translation.{unit_view}
 use Rattle.wesl_world.specs.declared.ids.NameId.{NameId}
