@@ -146,4 +146,5 @@ module _ {K L : Type 0} (f : K → L) where
         meanings = retold_identifiers f plain (forest_of_unit s.linked) ∙ ap (map f) s.meanings;
         named = s.named ∙ one_unit (printed_unit print s.linked) (printed_unit reprint linked) (sym (retold_printed f plain print reprint (λ x. sym (itself (print x))) (forest_of_unit s.linked) alike));
         numbered = same_numbers ds (numbers unit) apart s.numbered;
+        table = s.table;
       }

@@ -1,8 +1,8 @@
 -- A whole unit whose identifiers stand for something.
-use Rattle.std.proofs.Common.{◌≡◌, ℕ, zero, suc, ◌<◌, Bool, true, false, ◌&&◌, Option, Some, None, List, [], ◌∷◌, ◌++◌, length, map, get_or, refl, sym, ◌∙◌, ap, subst, arith}
+use Rattle.std.proofs.Common.{◌≡◌, ℕ, zero, suc, ◌<◌, Bool, true, false, ◌&&◌, Option, Some, None, List, [], ◌∷◌, ◌++◌, length, map, get_or, refl, sym, ◌∙◌, ap, subst, arith, ◌↔◌}
 use Rattle.std.specs.Prelude.{MatchOption}
 use Rattle.std.specs.Option.{IsSome}
-use Rattle.std.specs.List.{All}
+use Rattle.std.specs.List.{All, Contains}
 use Rattle.std.proofs.lemmas.Grind.{get_or_default_zero}
 use Rattle.wesl_names.specs.Path.{Text}
 use Rattle.wesl_syntax.specs.Tree.{Tree, Forest, end, tree, branch, identifiers, respell, respell_forest, forest_below, tree_below, imports as imports_kind}
@@ -35,15 +35,29 @@ numbers_are f ns h =
     let none : after f ns ≡ [] = no_numbers (after f ns) (omega (arith, h, t.many)) in
     sym (no_more (identifiers (renumbered f ns))) ∙ (ap (λ xs. identifiers (renumbered f ns) ++ xs) (sym none) ∙ t.splits)
 
+pub same_length : {X Y : Type 0} (f : X → Y) (xs : List X) → length (map f xs) ≡ length xs
+same_length f [] = refl
+same_length f (x ∷ xs) = ap suc (same_length f xs)
+
+-- each number that is below the count stands among the numbers, and no other does
+abbrev pub AreAllUsed : ℕ → List ℕ → Type 0
+AreAllUsed count ns = (m : ℕ) → (m < count) ↔ Contains ns m
+
+same_use : (count other : ℕ) (ns others : List ℕ) → other ≡ count → others ≡ ns → AreAllUsed count ns → AreAllUsed other others
+same_use count other ns others e f used m = (
+  λ h. subst (λ xs. Contains xs m) (sym f) ((used m).0 (subst (λ k. m < k) e h)),
+  λ c. subst (λ k. m < k) (sym e) ((used m).1 (subst (λ xs. Contains xs m) f c)),
+)
+
 module _ {K : Type 0} (print : K → Text) (nothing : K) (silent : print nothing ≡ []) where
   name_of_number : (seen : List K) (n : ℕ) → name_in (map print seen) n ≡ print (at_number nothing seen n)
   name_of_number [] n = sym silent
   name_of_number (x ∷ xs) zero = refl
   name_of_number (x ∷ xs) (suc n) = name_of_number xs n
 
-  pub linked_as : (nodes : UnitOf ℕ) (seen ks : List K) (ns : List ℕ) (unit : UnitView) → AreNumbers ks ns → map (at_number nothing seen) ns ≡ ks → length ks ≡ length (identifiers (forest_of_unit nodes))
+  pub linked_as : (nodes : UnitOf ℕ) (seen ks : List K) (ns : List ℕ) (unit : UnitView) → AreNumbers ks ns → map (at_number nothing seen) ns ≡ ks → AreAllUsed (length seen) ns → length ks ≡ length (identifiers (forest_of_unit nodes))
       → unit.names ≡ map print seen → forest_of_unit (trees_of unit) ≡ without_paths (renumbered (forest_of_unit nodes) ns) → IsLinkedAs print nodes ks unit
-  linked_as nodes seen ks ns unit are leads all names trees =
+  linked_as nodes seen ks ns unit are leads used all names trees =
       let f = forest_of_unit nodes in
       let x = forest_of_unit (trees_of unit) in
       let h : ℕ → K = at_number nothing seen in
@@ -57,11 +71,8 @@ module _ {K : Type 0} (print : K → Text) (nothing : K) (silent : print nothing
         meanings = identifiers_replaced h x ∙ (ap (map h) numbers_is ∙ leads);
         named = one_unit (spelled unit) (printed_unit print linked) (replaced_twice h print (name_in unit.names) (λ n. ap (λ ns. name_in ns n) names ∙ name_of_number seen n) x);
         numbered = subst (AreNumbers ks) (sym numbers_is) are;
+        table = same_use (length seen) (length unit.names) ns (identifiers x) (ap length names ∙ same_length print seen) numbers_is used;
       }
-
-pub same_length : {X Y : Type 0} (f : X → Y) (xs : List X) → length (map f xs) ≡ length xs
-same_length f [] = refl
-same_length f (x ∷ xs) = ap suc (same_length f xs)
 
 -- what the code's numbers lead to
 module _ {K : Type 0} (nothing : K) where
@@ -89,6 +100,15 @@ module _ {K : Type 0} (nothing : K) where
   all_below seen ks ns s = λ i d l.
       let b = s.in_seen i (omega (arith, l, s.one_each)) in
       subst (λ n. n < length seen) (sym (get_or_default_zero ns i d l)) b
+
+  pub all_used : (seen ks : List K) (ns : List ℕ) → Numbered nothing ks ns seen → AreAllUsed (length seen) ns
+  all_used seen ks ns s m = (
+    λ h.
+        let u = s.used m h in
+        let inside : u.0 < length ns = omega (arith, u.1, s.one_each) in
+        (u.0, inside, get_or_default_zero ns u.0 m inside ∙ u.2),
+    λ c. subst (λ k. k < length seen) c.2 (all_below seen ks ns s c.0 m c.1),
+  )
 
 -- ---- a unit with other numbers
 

@@ -1,5 +1,5 @@
 -- Units whose identifiers stand for something, and how they are named and numbered.
-use Rattle.std.specs.Prelude.{◌≡◌, ℕ, List, [], map}
+use Rattle.std.specs.Prelude.{◌≡◌, ◌<◌, ◌↔◌, ℕ, List, [], Contains, length, map}
 use denote.Ref.{Bor}
 use Rattle.wesl_names.specs.Path.{Text}
 use Rattle.wesl_syntax.specs.Tree.{Tree, ForestOf, branch, identifiers, respell, respell_forest, directive_node, declaration_node, directive_list, imports as imports_kind, declarations as declarations_kind}
@@ -36,10 +36,11 @@ printed_unit print u = record { imports = respell print u.imports; directives = 
 
 -- The unit of the nodes whose identifiers stand for this, in document order: references lose their paths, each thing is
 -- named as it is printed, and two identifiers have one number exactly where they stand for one thing; numbers run
--- 0, 1, 2, .. by first occurrence.
+-- 0, 1, 2, .. by first occurrence. The table of names has one name for each number.
 pub record IsLinkedAs {I K : Type 0} (print : K → Text) (nodes : UnitOf I) (denotations : List K) (unit : UnitView) : Type 0 where
   pub linked : UnitOf K
   pub same_shape : shape (forest_of_unit linked) ≡ shape (without_paths (forest_of_unit nodes))
   pub meanings : identifiers (forest_of_unit linked) ≡ denotations
   pub named : spelled unit ≡ printed_unit print linked
   pub numbered : AreNumbers denotations (numbers unit)
+  pub table : (m : ℕ) → (m < length unit.names) ↔ Contains (numbers unit) m

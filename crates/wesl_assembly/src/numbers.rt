@@ -1,5 +1,5 @@
 //! Numbers for what identifiers stand for.
-ghost use Rattle.std.specs.Prelude.{◌≡◌, ◌<◌, [], length, map, slice_index_or, IfOk, IfErr};
+ghost use Rattle.std.specs.Prelude.{◌≡◌, ◌<◌, ◌↔◌, ℕ, [], Contains, length, map, slice_index_or, IfOk, IfErr};
 ghost use Rattle.std.specs.List.{All};
 ghost use Rattle.wesl_names.specs.declared.errors.Error as error;
 ghost use Rattle.wesl_syntax.specs.Numbers.{AreNumbers};
@@ -19,6 +19,7 @@ pub fn numbers<'a>(
     ensures numbers { IfOk result (λ r. AreNumbers (map denotation_view denotations.now) r.0.items) }
     ensures leads { IfOk result (λ r. map (λ n. slice_index_or (map denotation_view r.1.keys) n (free_name [])) r.0.items ≡ map denotation_view denotations.now) }
     ensures below { IfOk result (λ r. All (λ n. n < length (map denotation_view r.1.keys)) r.0.items) }
+    ensures used { IfOk result (λ r. (m : ℕ) → (m < length (map denotation_view r.1.keys)) ↔ Contains r.0.items m) }
     ensures refused { IfErr result (λ e. e ≡ error.Memory) }
 {
     let mut different = IndexSet::new(alloc);

@@ -77,7 +77,7 @@ fn renumbered(
 ///
 /// `denotations` says of each identifier, in document order, what it stands for, and `printing` names the symbols.
 /// Two identifiers have one number exactly where they stand for one thing, and numbers run 0, 1, 2, .. by first
-/// occurrence. Refused for want of memory alone.
+/// occurrence; the table of names has one name for each. Refused for want of memory alone.
 pub fn linked_unit<'a, P: Printing>(
     alloc: Global,
     directives: &[&GlobalDirectiveNode],

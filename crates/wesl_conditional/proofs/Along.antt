@@ -31,7 +31,7 @@ world-over hands others to root w h = record { root_in = h.root_in; handed = λ 
 
 tells-import : (P Q : Fault Path Text ResolveError → Type 0) → ((f : Fault Path Text ResolveError) → P f → Q f) → (e : import_error.ImportError) → TellsOfImport P e → TellsOfImport Q e
 tells-import P Q to (import_error.DuplicateSymbol n) h = to _ h
-tells-import P Q to (import_error.ResolveError e) h = to _ h
+tells-import P Q to (import_error.ResolveError e) (unwrapped, h) = (unwrapped, to _ h)
 tells-import P Q to (import_error.MissingDecl p n) h = to _ h
 tells-import P Q to (import_error.Private n p) h = to _ h
 

@@ -10,7 +10,7 @@ use Rattle.wesl_linker.specs.Refusal.{TellsOf, TellsOfImport}
 module _ (P : Fault Path Text ResolveError → Type 0) (none : (f : Fault Path Text ResolveError) → P f → ⊥) where
   no_import : (e : import_error.ImportError) → TellsOfImport P e → ⊥
   no_import (import_error.DuplicateSymbol n) h = none _ h
-  no_import (import_error.ResolveError e) h = none _ h
+  no_import (import_error.ResolveError e) (unwrapped, h) = none _ h
   no_import (import_error.MissingDecl p n) h = none _ h
   no_import (import_error.Private n p) h = none _ h
 

@@ -1,5 +1,5 @@
 -- What a refused link tells.
-use Rattle.std.proofs.Common.{◌≡◌, ℕ, Bool, List, All, false, sym, subst}
+use Rattle.std.proofs.Common.{◌≡◌, ◌⊎◌, inl, inr, ℕ, Bool, List, All, false, sym, subst}
 use Rattle.std.specs.Prelude.{string_bytes}
 use Rattle.wesl_names.specs.Path.{Text, Path, path_view, is_relative}
 use Rattle.wesl_names.specs.Errors.{error_of_resolve}
@@ -21,6 +21,11 @@ use Rattle.wesl_linker.specs.Refusal.{TellsOf, HasNumbers, Tells}
 use Rattle.wesl_linker.specs.declared.loaded.Held.{Held}
 use Rattle.wesl_linker.proofs.Carried.{SameFault}
 use Rattle.wesl_linker.proofs.Built.{modules, unit_world, refused_world, paths_one, names_one}
+
+-- an error that says what a fault tells, unless it is want of memory
+pub told_or_short : (P : Fault Path Text resolve_error.ResolveError → Type 0) (e : error.Error) (T : Type 0) → (e ≡ error.Memory) ⊎ T → (T → TellsOf P e) → TellsOf P e
+told_or_short P e T (inl short) to = subst (λ (x : error.Error). TellsOf P x) (sym short) tt
+told_or_short P e T (inr told) to = to told
 
 module _ (nb : Numbering) (hands : Path → UnitOf Text → Type 0) (units : List (PathId × Held)) (one : HaveOne units) (rt : Table PathId NameId) (rm : Module) (root_same : SameTable (PathAt nb) (NameAt nb) rt (table rm))
     (different_paths : AreDifferent nb.paths) (different_names : AreDifferent nb.names) (asked : All (λ p. is_relative p ≡ false) nb.paths)
@@ -67,9 +72,9 @@ module _ (nb : Numbering) (hands : Path → UnitOf Text → Type 0) (units : Lis
   Told = TellsOf (IsRefused hands refuses rm (task_of rm keep is_eager) limit)
 
   resolve_told : (r : resolve_error.ResolveError) → IsRefused hands refuses rm (task_of rm keep is_eager) limit (refused r) → Told (error_of_resolve r)
-  resolve_told (resolve_error.FileNotFound f m) h = h
-  resolve_told (resolve_error.ModuleNotFound p m) h = h
-  resolve_told (resolve_error.Error' p i d m s x z) h = h
+  resolve_told (resolve_error.FileNotFound f m) h = (λ e. cc, h)
+  resolve_told (resolve_error.ModuleNotFound p m) h = (λ e. cc, h)
+  resolve_told (resolve_error.Error' p i d m s x z) h = (λ e. cc, h)
   resolve_told resolve_error.Memory h = tt
 
   pub refusal_told : (f : LinkError resolve_error.ResolveError) (e : error.Error) → IsExplained (IsHandedTable hands nb units) refuses_id rt (linking.task_of rt kept is_eager) limit f → Tells nb f e → Told e

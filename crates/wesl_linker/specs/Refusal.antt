@@ -1,5 +1,5 @@
 -- Why a link is refused.
-use Rattle.std.specs.Prelude.{◌≡◌, string_bytes, String}
+use Rattle.std.specs.Prelude.{◌≡◌, ◌≢◌, string_bytes, String}
 use Rattle.std.specs.declared.alloc.Global.{Global}
 use Rattle.wesl_names.specs.Path.{Text, Path, path_view}
 use Rattle.wesl_names.specs.Errors.{error_of_resolve}
@@ -12,10 +12,10 @@ use Rattle.wesl_world.specs.declared.error.LinkError.TheVariants as faults
 use Rattle.wesl_world.specs.Faults.{Fault, duplicate, refused, missing, private, too_many}
 use Rattle.wesl_table.specs.Numbering.{Numbering, NameAt, PathAt}
 
--- the fault that an error of an import tells is one of which P holds
+-- the fault that an error of an import tells is one of which P holds; want of memory is no such error
 abbrev pub TellsOfImport : (Fault Path Text resolve_error.ResolveError → Type 0) → import_error.ImportError → Type 0
 TellsOfImport P (import_error.DuplicateSymbol n) = P (duplicate (string_bytes n))
-TellsOfImport P (import_error.ResolveError e) = P (refused e)
+TellsOfImport P (import_error.ResolveError e) = (e ≢ resolve_error.Memory) × P (refused e)
 TellsOfImport P (import_error.MissingDecl p n) = P (missing (path_view p) (string_bytes n))
 TellsOfImport P (import_error.Private n p) = P (private (string_bytes n) (path_view p))
 

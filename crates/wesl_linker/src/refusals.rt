@@ -1,5 +1,5 @@
 //! Why a link was refused, with the paths and names of its numbers.
-ghost use Rattle.std.specs.Prelude.{◌≡◌, IfOk, IfErr, string_bytes};
+ghost use Rattle.std.specs.Prelude.{◌≡◌, ◌⊎◌, IfOk, IfErr, string_bytes};
 ghost use Rattle.wesl_names.specs.declared.errors.Error as error;
 ghost use Rattle.wesl_names.specs.Path.{Text, Path, path_view};
 ghost use Rattle.wesl_table.specs.Numbering.{NameAt, PathAt};
@@ -37,11 +37,7 @@ fn name_of(alloc: Global, numbers: &Numbers, id: NameId) -> Result<String, Error
 }
 
 /// The error that tells why a link was refused.
-pub fn told(
-    alloc: Global,
-    numbers: &Numbers,
-    fault: LinkError<ResolveError>,
-) -> Result<Error, Error>
+fn told(alloc: Global, numbers: &Numbers, fault: LinkError<ResolveError>) -> Result<Error, Error>
     requires { HasNumbers (numbering numbers.now) fault }
     ensures told { IfOk result (Tells (numbering numbers.now) fault) }
     ensures refused { IfErr result (λ e. e ≡ error.Memory) }
@@ -64,5 +60,16 @@ pub fn told(
         }
         LinkError::ModuleLimit(limit) => Ok(Error::ModuleLimit(limit)),
         LinkError::Memory => Ok(Error::Memory),
+    }
+}
+
+/// The error of a refused link: it tells why, unless there is no memory to tell it.
+pub fn error_of(alloc: Global, numbers: &Numbers, fault: LinkError<ResolveError>) -> Error
+    requires { HasNumbers (numbering numbers.now) fault }
+    ensures { (result ≡ error.Memory) ⊎ Tells (numbering numbers.now) fault result }
+{
+    match told(alloc, numbers, fault) {
+        Ok(error) => error,
+        Err(error) => error,
     }
 }

@@ -28,7 +28,7 @@ ghost use Rattle.wesl_linker.specs.declared.loaded.Loaded as loaded;
 use crate::link::Link;
 use crate::loaded::{Held, Loaded, put_in_order, take_modules};
 use crate::modules::{Modules, Source};
-use crate::refusals::told;
+use crate::refusals::error_of;
 use crate::resolutions::Resolutions;
 use indexmap::IndexMap;
 use std::alloc::Global;
@@ -58,6 +58,71 @@ fn numbers_of(alloc: Global, numbers: &mut Numbers, keep: &[&str]) -> Result<Vec
     Ok(kept)
 }
 
+/// The root of a link: its path, its unit with what the identifiers of each declaration are, and the names that are kept
+/// or that all was asked for.
+#[derive(Drop)]
+struct Root {
+    path: ModulePath,
+    unit: TranslationUnit,
+    marks: Vec<Vec<Mark>>,
+    kept: Vec<NameId>,
+    is_eager: bool,
+}
+
+/// A root and its symbol table.
+#[derive(Drop)]
+struct TabledRoot {
+    root: Root,
+    table: Table,
+}
+
+/// The symbol table of a root.
+fn root_table(
+    alloc: Global,
+    numbers: &mut Numbers,
+    path: &ModulePath,
+    unit: &TranslationUnit,
+) -> Result<Tabled, Error>
+    requires { is_relative (path_view path.now) ≡ false }
+    ensures numbered { IfOk result (λ t. IsNumbered (numbering numbers.new) t.table (table_at (path_view path.now) (spelled (unit_view unit.now)))) }
+    ensures marked { IfOk result (λ t. AreMarked (numbering numbers.new) t.marks.items (uses (path_view path.now) (spelled (unit_view unit.now)))) }
+    ensures grows { Grows (numbering numbers.old) (numbering numbers.new) }
+{
+    let id = numbers.path(alloc, path)?;
+    table_of(alloc, numbers, id, path, unit)
+}
+
+/// The root that stands at a path, and its symbol table.
+fn root_of(
+    alloc: Global,
+    numbers: &mut Numbers,
+    keep: &[&str],
+    is_eager: bool,
+    unit: TranslationUnit,
+    path: &ModulePath,
+) -> Result<TabledRoot, Error>
+    requires { is_relative (path_view path.now) ≡ false }
+    ensures root { IfOk result (λ t. IsNumbered (numbering numbers.new) t.table (table_at (path_view t.root.path) (spelled (unit_view t.root.unit)))) }
+    ensures marked { IfOk result (λ t. AreMarked (numbering numbers.new) t.root.marks.items (uses (path_view t.root.path) (spelled (unit_view t.root.unit)))) }
+    ensures kept { IfOk result (λ t. AreRelated (NameAt (numbering numbers.new)) t.root.kept.items (texts keep.now)) }
+    ensures module { IfOk result (λ t. module_at t.root.path t.root.unit ≡ module_at path.now unit) }
+    ensures eager { IfOk result (λ t. t.root.is_eager ≡ is_eager) }
+{
+    let own = path.try_clone(alloc)?;
+    let kept = numbers_of(alloc, numbers, keep)?;
+    let tabled = root_table(alloc, numbers, path, &unit)?;
+    Ok(TabledRoot {
+        root: Root {
+            path: own,
+            unit,
+            marks: tabled.marks,
+            kept,
+            is_eager,
+        },
+        table: tabled.table,
+    })
+}
+
 /// The same numbers once more.
 fn copied(alloc: Global, ids: &Vec<NameId>) -> Result<Vec<NameId>, Error>
     ensures same { IfOk result (λ v. v.items ≡ ids.now.items) }
@@ -75,32 +140,28 @@ fn link_of(
     alloc: Global,
     numbers: Numbers,
     units: &mut IndexMap<PathId, Held>,
-    path: ModulePath,
-    unit: TranslationUnit,
-    marks: Vec<Vec<Mark>>,
-    kept: Vec<NameId>,
-    is_eager: bool,
+    root: Root,
     linked: Linked,
 ) -> Result<Link, Error>
     requires some { 0 < length linked.tables }
     requires left { AreKept (numbering numbers) units.old.entries (drop 1 linked.tables) }
     requires once { AreDistinct (paths (drop 1 linked.tables)) }
     ensures found { IfOk result (λ l. (ms : List loaded.Loaded) × AreRelated (IsTaken (numbering numbers) units.old.entries (drop 1 linked.tables)) (drop 1 linked.tables) ms × IsPermutation ms l.others.items × AreInOrder l.others.items) }
-    ensures rest { IfOk result (λ l. l ≡ record { root = record { path = path; place = 0; unit = unit; marks = marks }; others = l.others; kept = kept; is_eager = is_eager; numbers = numbers; linked = linked }) }
+    ensures rest { IfOk result (λ l. l ≡ record { root = record { path = root.path; place = 0; unit = root.unit; marks = root.marks }; others = l.others; kept = root.kept; is_eager = root.is_eager; numbers = numbers; linked = linked }) }
     ensures refused { IfErr result (λ e. e ≡ error.Memory) }
 {
     let mut others = take_modules(alloc, &numbers, &linked.tables()[1..], units)?;
     put_in_order(&mut others);
     Ok(Link {
         root: Loaded {
-            path,
+            path: root.path,
             place: 0,
-            unit,
-            marks,
+            unit: root.unit,
+            marks: root.marks,
         },
         others,
-        kept,
-        is_eager,
+        kept: root.kept,
+        is_eager: root.is_eager,
         numbers,
         linked,
     })
@@ -110,21 +171,24 @@ fn link_of(
 fn linked_by<E, L: Loader<E>>(
     alloc: Global,
     root: Table,
-    kept: Vec<NameId>,
+    kept: &Vec<NameId>,
     is_eager: bool,
     loader: &mut L,
     max_modules: usize,
 ) -> Result<Linked, LinkError<E>>
     requires ready { IsReady (L.ready loader.old) root }
-    requires none_kept { is_eager ≡ true → kept.items ≡ [] }
-    ensures linked { IfOk result (links.IsLinked (L.hands loader.new) (L.refuses loader.new) root (links.task_of root kept.items is_eager) max_modules) }
-    ensures refused { IfErr result (IsExplained (L.hands loader.new) (L.refuses loader.new) root (links.task_of root kept.items is_eager) max_modules) }
+    requires none_kept { is_eager ≡ true → kept.now.items ≡ [] }
+    ensures linked { IfOk result (links.IsLinked (L.hands loader.new) (L.refuses loader.new) root (links.task_of root kept.now.items is_eager) max_modules) }
+    ensures refused { IfErr result (IsExplained (L.hands loader.new) (L.refuses loader.new) root (links.task_of root kept.now.items is_eager) max_modules) }
     ensures adds { OnlyAdds (L.hands loader.old) (L.refuses loader.old) (L.ready loader.old) (L.hands loader.new) (L.refuses loader.new) (L.ready loader.new) }
 {
     if is_eager {
         return wesl_world::link::resolve_eager(alloc, root, loader, max_modules);
     }
-    wesl_world::link::resolve_lazy(alloc, root, kept, loader, max_modules)
+    match copied(alloc, kept) {
+        Ok(names) => wesl_world::link::resolve_lazy(alloc, root, names, loader, max_modules),
+        Err(_) => Err(LinkError::Memory),
+    }
 }
 
 /// Links a root with the modules of a resolver, whose relations are held fixed.
@@ -132,11 +196,7 @@ fn reach_modules<R: Resolver, S: Source<R>>(
     alloc: Global,
     modules: &mut Modules<'_, '_, R, S>,
     table: Table,
-    kept: Vec<NameId>,
-    is_eager: bool,
-    path: ModulePath,
-    unit: TranslationUnit,
-    marks: Vec<Vec<Mark>>,
+    root: Root,
     max_modules: usize,
 ) -> Result<Resolutions, Error>
     requires ready { R.ready modules.old.resolver.now }
@@ -144,43 +204,36 @@ fn reach_modules<R: Resolver, S: Source<R>>(
     requires follows { Follows (R.hands modules.old.resolver.now) (R.refuses modules.old.resolver.now) S.hands S.refuses }
     requires first { S.first ≡ numbering modules.old.numbers.now }
     requires nothing { modules.old.units.now.entries ≡ [] }
-    requires root { IsNumbered (numbering modules.old.numbers.now) table (table_at (path_view path) (spelled (unit_view unit))) }
-    requires marked { AreMarked (numbering modules.old.numbers.now) marks.items (uses (path_view path) (spelled (unit_view unit))) }
-    requires asked { is_relative (path_view path) ≡ false }
-    requires kept { (keep : List Text) × AreRelated (NameAt (numbering modules.old.numbers.now)) kept.items keep }
-    requires none_kept { is_eager ≡ true → kept.items ≡ [] }
-    ensures linked { (keep : List Text) → AreRelated (NameAt (numbering modules.old.numbers.now)) kept.items keep → IfOk result (λ r. worlds.IsLinked S.hands S.refuses (module_at path unit) (worlds.task_of (module_at path unit) keep is_eager) max_modules (turns_of r) (modules_of r)) }
-    ensures order { IfOk result (λ r. worlds.IsModuleOrder (module_at path unit) (modules_of r)) }
-    ensures kept { (keep : List Text) → AreRelated (NameAt (numbering modules.old.numbers.now)) kept.items keep → IfOk result (λ r. (resolved r).kept ≡ keep) }
-    ensures eager { IfOk result (λ r. (resolved r).is_eager ≡ is_eager) }
+    requires root { IsNumbered (numbering modules.old.numbers.now) table (table_at (path_view root.path) (spelled (unit_view root.unit))) }
+    requires marked { AreMarked (numbering modules.old.numbers.now) root.marks.items (uses (path_view root.path) (spelled (unit_view root.unit))) }
+    requires asked { is_relative (path_view root.path) ≡ false }
+    requires kept { (keep : List Text) × AreRelated (NameAt (numbering modules.old.numbers.now)) root.kept.items keep }
+    requires none_kept { root.is_eager ≡ true → root.kept.items ≡ [] }
+    ensures linked { (keep : List Text) → AreRelated (NameAt (numbering modules.old.numbers.now)) root.kept.items keep → IfOk result (λ r. worlds.IsLinked S.hands S.refuses (module_at root.path root.unit) (worlds.task_of (module_at root.path root.unit) keep root.is_eager) max_modules (turns_of r) (modules_of r)) }
+    ensures order { IfOk result (λ r. worlds.IsModuleOrder (module_at root.path root.unit) (modules_of r)) }
+    ensures kept { (keep : List Text) → AreRelated (NameAt (numbering modules.old.numbers.now)) root.kept.items keep → IfOk result (λ r. (resolved r).kept ≡ keep) }
+    ensures eager { IfOk result (λ r. (resolved r).is_eager ≡ root.is_eager) }
     ensures sound { IfOk result IsSound }
     ensures names { IfOk result (λ r. (p : Path) (n : Text) → (resolved r).names p n ≡ n) }
-    ensures refused { (keep : List Text) → AreRelated (NameAt (numbering modules.old.numbers.now)) kept.items keep → IfErr result (TellsOf (worlds.IsRefused S.hands S.refuses (module_at path unit) (worlds.task_of (module_at path unit) keep is_eager) max_modules)) }
+    ensures refused { (keep : List Text) → AreRelated (NameAt (numbering modules.old.numbers.now)) root.kept.items keep → IfErr result (TellsOf (worlds.IsRefused S.hands S.refuses (module_at root.path root.unit) (worlds.task_of (module_at root.path root.unit) keep root.is_eager) max_modules)) }
     ensures these { S.these modules.new.resolver.now }
     ensures stays_ready { R.ready modules.new.resolver.now }
     ensures loan { modules.new.resolver.ghost_name ≡ modules.old.resolver.ghost_name }
 {
-    let names = copied(alloc, &kept)?;
-    match linked_by(alloc, table, names, is_eager, modules, max_modules) {
+    match linked_by(
+        alloc,
+        table,
+        &root.kept,
+        root.is_eager,
+        modules,
+        max_modules,
+    ) {
         Ok(linked) => {
             let numbers = replace(modules.numbers, Numbers::new(alloc));
-            let link = link_of(
-                alloc,
-                numbers,
-                modules.units,
-                path,
-                unit,
-                marks,
-                kept,
-                is_eager,
-                linked,
-            )?;
+            let link = link_of(alloc, numbers, modules.units, root, linked)?;
             Ok(Resolutions::of_link(alloc, link))
         }
-        Err(fault) => {
-            let error = told(alloc, modules.numbers, fault)?;
-            Err(error)
-        }
+        Err(fault) => Err(error_of(alloc, modules.numbers, fault)),
     }
 }
 
@@ -188,28 +241,23 @@ fn reach_modules<R: Resolver, S: Source<R>>(
 fn reach<R: Resolver>(
     alloc: Global,
     numbers: Numbers,
-    table: Table,
-    kept: Vec<NameId>,
-    is_eager: bool,
-    path: ModulePath,
-    unit: TranslationUnit,
-    marks: Vec<Vec<Mark>>,
+    tabled: TabledRoot,
     resolver: &mut R,
     max_modules: usize,
 ) -> Result<Resolutions, Error>
     requires ready { R.ready resolver.old }
-    requires root { IsNumbered (numbering numbers) table (table_at (path_view path) (spelled (unit_view unit))) }
-    requires marked { AreMarked (numbering numbers) marks.items (uses (path_view path) (spelled (unit_view unit))) }
-    requires asked { is_relative (path_view path) ≡ false }
-    requires kept { (keep : List Text) × AreRelated (NameAt (numbering numbers)) kept.items keep }
-    requires none_kept { is_eager ≡ true → kept.items ≡ [] }
-    ensures linked { (keep : List Text) → AreRelated (NameAt (numbering numbers)) kept.items keep → IfOk result (λ r. worlds.IsLinked (R.hands resolver.old) (R.refuses resolver.old) (module_at path unit) (worlds.task_of (module_at path unit) keep is_eager) max_modules (turns_of r) (modules_of r)) }
-    ensures order { IfOk result (λ r. worlds.IsModuleOrder (module_at path unit) (modules_of r)) }
-    ensures kept { (keep : List Text) → AreRelated (NameAt (numbering numbers)) kept.items keep → IfOk result (λ r. (resolved r).kept ≡ keep) }
-    ensures eager { IfOk result (λ r. (resolved r).is_eager ≡ is_eager) }
+    requires root { IsNumbered (numbering numbers) tabled.table (table_at (path_view tabled.root.path) (spelled (unit_view tabled.root.unit))) }
+    requires marked { AreMarked (numbering numbers) tabled.root.marks.items (uses (path_view tabled.root.path) (spelled (unit_view tabled.root.unit))) }
+    requires asked { is_relative (path_view tabled.root.path) ≡ false }
+    requires kept { (keep : List Text) × AreRelated (NameAt (numbering numbers)) tabled.root.kept.items keep }
+    requires none_kept { tabled.root.is_eager ≡ true → tabled.root.kept.items ≡ [] }
+    ensures linked { (keep : List Text) → AreRelated (NameAt (numbering numbers)) tabled.root.kept.items keep → IfOk result (λ r. worlds.IsLinked (R.hands resolver.old) (R.refuses resolver.old) (module_at tabled.root.path tabled.root.unit) (worlds.task_of (module_at tabled.root.path tabled.root.unit) keep tabled.root.is_eager) max_modules (turns_of r) (modules_of r)) }
+    ensures order { IfOk result (λ r. worlds.IsModuleOrder (module_at tabled.root.path tabled.root.unit) (modules_of r)) }
+    ensures kept { (keep : List Text) → AreRelated (NameAt (numbering numbers)) tabled.root.kept.items keep → IfOk result (λ r. (resolved r).kept ≡ keep) }
+    ensures eager { IfOk result (λ r. (resolved r).is_eager ≡ tabled.root.is_eager) }
     ensures sound { IfOk result IsSound }
     ensures names { IfOk result (λ r. (p : Path) (n : Text) → (resolved r).names p n ≡ n) }
-    ensures refused { (keep : List Text) → AreRelated (NameAt (numbering numbers)) kept.items keep → IfErr result (TellsOf (worlds.IsRefused (R.hands resolver.old) (R.refuses resolver.old) (module_at path unit) (worlds.task_of (module_at path unit) keep is_eager) max_modules)) }
+    ensures refused { (keep : List Text) → AreRelated (NameAt (numbering numbers)) tabled.root.kept.items keep → IfErr result (TellsOf (worlds.IsRefused (R.hands resolver.old) (R.refuses resolver.old) (module_at tabled.root.path tabled.root.unit) (worlds.task_of (module_at tabled.root.path tabled.root.unit) keep tabled.root.is_eager) max_modules)) }
     ensures same { MeansTheSame R.hands R.refuses R.source R.lacks R.shown resolver.old resolver.new }
     ensures stays_ready { R.ready resolver.new }
 {
@@ -221,17 +269,7 @@ fn reach<R: Resolver>(
         units: &mut units,
         source: PhantomData,
     };
-    reach_modules::<R, Brand>(
-        alloc,
-        &mut modules,
-        table,
-        kept,
-        is_eager,
-        path,
-        unit,
-        marks,
-        max_modules,
-    )
+    reach_modules::<R, Brand>(alloc, &mut modules, tabled.table, tabled.root, max_modules)
 }
 
 /// Links a root with the modules of a resolver: what the names in `keep` reach, or all that is declared, and then none is
@@ -259,31 +297,10 @@ fn resolutions_of<R: Resolver>(
     ensures stays_ready { R.ready resolver.new }
 {
     let mut numbers = Numbers::new(alloc);
-    let Ok(kept) = numbers_of(alloc, &mut numbers, keep) else {
+    let Ok(tabled) = root_of(alloc, &mut numbers, keep, is_eager, unit, path) else {
         return Err(Diagnostic::of(Error::Memory));
     };
-    let Ok(id) = numbers.path(alloc, path) else {
-        return Err(Diagnostic::of(Error::Memory));
-    };
-    let Ok(tabled) = table_of(alloc, &mut numbers, id, path, &unit) else {
-        return Err(Diagnostic::of(Error::Memory));
-    };
-    let Tabled { table, marks } = tabled;
-    let Ok(root) = path.try_clone(alloc) else {
-        return Err(Diagnostic::of(Error::Memory));
-    };
-    match reach(
-        alloc,
-        numbers,
-        table,
-        kept,
-        is_eager,
-        root,
-        unit,
-        marks,
-        resolver,
-        max_modules,
-    ) {
+    match reach(alloc, numbers, tabled, resolver, max_modules) {
         Ok(resolutions) => Ok(resolutions),
         Err(error) => Err(Diagnostic::of(error)),
     }

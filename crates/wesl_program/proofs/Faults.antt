@@ -145,7 +145,7 @@ module _ (hands : Path → UnitOf Text → Type 0) (refuses : Path → resolve_e
 
   import-is-of-modules : (e : import_error.ImportError) → TellsOfImport IsStanding e → IsModuleFault (error.Import e)
   import-is-of-modules (import_error.DuplicateSymbol n) h = inr (of_modules (fault_of (error.Import (import_error.DuplicateSymbol n))) refl refl)
-  import-is-of-modules (import_error.ResolveError r) (w, is_world, (p, entered, absent, h)) = inr (of p r h)
+  import-is-of-modules (import_error.ResolveError r) (unwrapped, (w, is_world, (p, entered, absent, h))) = inr (of p r h)
   import-is-of-modules (import_error.MissingDecl p n) h = inr (of_modules (fault_of (error.Import (import_error.MissingDecl p n))) refl refl)
   import-is-of-modules (import_error.Private n p) h = inr (of_modules (fault_of (error.Import (import_error.Private n p))) refl refl)
 

@@ -1,5 +1,5 @@
 -- Numbers for names and paths, and symbol tables that are the same but for the numbers in place of names and paths.
-use Rattle.std.specs.Prelude.{◌≡◌, ◌⊎◌, ℕ, Bool, false, Option, Some, None, List, [], ◌∷◌, ◌++◌, slice_get}
+use Rattle.std.specs.Prelude.{◌≡◌, ◌⊎◌, Bool, false, Option, Some, None, List, [], ◌∷◌, ◌++◌, slice_get}
 use Rattle.std.specs.List.{list_any}
 use Rattle.wesl_names.specs.Path.{Text, Path}
 pub use Rattle.wesl_interner.specs.Different.{AreDifferent}

@@ -1,10 +1,12 @@
 //! The symbol table of a module.
-ghost use Rattle.std.specs.Prelude.{◌≡◌, ◌<◌, suc, false, All, IfOk, IfErr, length, get_or, map};
+ghost use Rattle.std.specs.Prelude.{◌≡◌, ◌<◌, ◌↔◌, Some, suc, false, All, Contains, IfOk, IfErr, length, get_or, map};
 ghost use Rattle.wesl_names.specs.Path.{path_view, is_relative};
 ghost use Rattle.wesl_names.specs.declared.errors.Error as error;
 ghost use Rattle.wesl_syntax.specs.Unit.{spelled};
 ghost use Rattle.wesl_tree.specs.Translation.{unit_view};
 ghost use Rattle.wesl_occurrences.specs.Pieces.{declarations_in};
+ghost use Rattle.wesl_world.specs.declared.ids.NameId.{NameId};
+ghost use Rattle.wesl_table.specs.Imports.{imports as imports_in};
 ghost use Rattle.wesl_table.specs.Marks.{AreMarked};
 ghost use Rattle.wesl_table.specs.Numbering.{AreRelated, IsRelatedOption, IsNumberedImport, AreNumberedImports, AreNumberedDeclarations, IsNumbered, Grows, NameAt, PathAt};
 ghost use Rattle.wesl_table.specs.NumbersView.{numbering};
@@ -16,6 +18,7 @@ use crate::imports::imports;
 use crate::marks::{Mark, mark_piece};
 use crate::numbers::{Numbers, spelling};
 use crate::reading::{Reading, name_ids, name_set, names_of};
+use indexmap::IndexSet;
 use std::alloc::Global;
 use wesl_meanings::meanings_of;
 use wesl_names::{Error, Ident, ModulePath, Names};
@@ -120,6 +123,97 @@ fn mark_declarations(
     })
 }
 
+/// The numbers of a unit's imports and names, of the name that each declaration binds, if it binds one, and of these each
+/// once.
+#[derive(Drop)]
+struct UnitNumbers {
+    imports: Vec<Import<PathId, NameId>>,
+    ids: Vec<NameId>,
+    names: Vec<Option<NameId>>,
+    declared: IndexSet<NameId>,
+}
+
+/// Numbers for a unit, which has these imports.
+fn unit_numbers(
+    alloc: Global,
+    numbers: &mut Numbers,
+    unit: &TranslationUnit,
+    imports: &[Import<ModulePath, Ident>],
+) -> Result<UnitNumbers, Error>
+    requires { All (λ i. is_relative (path_view i.path) ≡ false) imports.now }
+    ensures imports { IfOk result (λ n. AreNumberedImports (numbering numbers.new) n.imports.items (spelled_imports (unit_view unit.now).names imports.now)) }
+    ensures ids { IfOk result (λ n. AreRelated (NameAt (numbering numbers.new)) n.ids.items (unit_view unit.now).names) }
+    ensures names { IfOk result (λ n. AreRelated (IsRelatedOption (NameAt (numbering numbers.new))) n.names.items (map name_of (declarations_in (spelled (unit_view unit.now))))) }
+    ensures declared { IfOk result (λ n. (x : NameId) → Contains n.declared.keys x ↔ Contains n.names.items (Some x)) }
+    ensures grows { Grows (numbering numbers.old) (numbering numbers.new) }
+    ensures refused { IfErr result (λ e. e ≡ error.Memory) }
+{
+    let numbered = number_imports(alloc, numbers, unit.names(), imports)?;
+    let ids = name_ids(alloc, numbers, unit.names())?;
+    let names = names_of(alloc, numbers, unit.names(), unit.global_declarations())?;
+    let declared = name_set(alloc, &names)?;
+    Ok(UnitNumbers {
+        imports: numbered,
+        ids,
+        names,
+        declared,
+    })
+}
+
+/// The declarations of a unit that stands at a path, which has this number, and the marks of their identifiers.
+fn mark_unit(
+    alloc: Global,
+    numbers: &mut Numbers,
+    id: PathId,
+    path: &ModulePath,
+    unit: &TranslationUnit,
+    imports: &[Import<ModulePath, Ident>],
+    numbered: &UnitNumbers,
+) -> Result<Declared, Error>
+    requires asked { is_relative (path_view path.now) ≡ false }
+    requires held { PathAt (numbering numbers.old) id (path_view path.now) }
+    requires targets { All (λ i. is_relative (path_view i.path) ≡ false) imports.now }
+    requires imports { spelled_imports (unit_view unit.now).names imports.now ≡ imports_in (path_view path.now) (spelled (unit_view unit.now)) }
+    requires numbered { AreNumberedImports (numbering numbers.old) numbered.now.imports.items (imports_in (path_view path.now) (spelled (unit_view unit.now))) }
+    requires ids { AreRelated (NameAt (numbering numbers.old)) numbered.now.ids.items (unit_view unit.now).names }
+    requires names { AreRelated (IsRelatedOption (NameAt (numbering numbers.old))) numbered.now.names.items (map name_of (declarations_in (spelled (unit_view unit.now)))) }
+    requires declared { (x : NameId) → Contains numbered.now.declared.keys x ↔ Contains numbered.now.names.items (Some x) }
+    ensures declared { IfOk result (λ d. AreNumberedDeclarations (numbering numbers.new) d.declarations.items (paired declaration_of (declarations_in (spelled (unit_view unit.now))) (uses (path_view path.now) (spelled (unit_view unit.now))))) }
+    ensures marked { IfOk result (λ d. AreMarked (numbering numbers.new) d.marks.items (uses (path_view path.now) (spelled (unit_view unit.now)))) }
+    ensures grows { Grows (numbering numbers.old) (numbering numbers.new) }
+    ensures refused { IfErr result (λ e. e ≡ error.Memory) }
+{
+    let meanings = meanings_of(alloc, unit)?;
+    let reading = Reading {
+        path,
+        unit,
+        meanings: &meanings,
+        imports,
+        own: id,
+        numbered: &numbered.imports,
+        ids: &numbered.ids,
+        declared: &numbered.declared,
+    };
+    mark_declarations(alloc, numbers, reading, &numbered.names)
+}
+
+/// The symbol table of the module at this path with these imports and declarations, and the marks.
+fn make_tabled(
+    alloc: Global,
+    id: PathId,
+    numbered: UnitNumbers,
+    found: Declared,
+) -> Result<Tabled, Error>
+    ensures table { IfOk result (λ t. t.table ≡ record { path = id; imports = numbered.imports.items; declarations = found.declarations.items }) }
+    ensures marks { IfOk result (λ t. t.marks ≡ found.marks) }
+    ensures refused { IfErr result (λ e. e ≡ error.Memory) }
+{
+    Ok(Tabled {
+        table: Table::new(alloc, id, numbered.imports, found.declarations)?,
+        marks: found.marks,
+    })
+}
+
 /// The symbol table of a unit that stands at a path, which has this number, with numbers in place of names and paths;
 /// and of each global declaration what its identifiers are (WESL, "Imports"; WGSL, "Declaration and Scope"). Refused for
 /// want of memory alone.
@@ -139,24 +233,7 @@ pub fn table_of(
     ensures refused { IfErr result (λ e. e ≡ error.Memory) }
 {
     let imports = imports(alloc, path, unit.imports())?;
-    let numbered = number_imports(alloc, numbers, unit.names(), &imports)?;
-    let ids = name_ids(alloc, numbers, unit.names())?;
-    let names = names_of(alloc, numbers, unit.names(), unit.global_declarations())?;
-    let declared_names = name_set(alloc, &names)?;
-    let meanings = meanings_of(alloc, unit)?;
-    let reading = Reading {
-        path,
-        unit,
-        meanings: &meanings,
-        imports: &imports,
-        own: id,
-        numbered: &numbered,
-        ids: &ids,
-        declared: &declared_names,
-    };
-    let found = mark_declarations(alloc, numbers, reading, &names)?;
-    Ok(Tabled {
-        table: Table::new(alloc, id, numbered, found.declarations)?,
-        marks: found.marks,
-    })
+    let numbered = unit_numbers(alloc, numbers, unit, &imports)?;
+    let found = mark_unit(alloc, numbers, id, path, unit, &imports, &numbered)?;
+    make_tabled(alloc, id, numbered, found)
 }

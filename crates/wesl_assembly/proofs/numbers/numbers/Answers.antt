@@ -7,7 +7,7 @@ use Rattle.wesl_assembly.specs.declared.denotation.Denotation.TheVariants as mad
 use Rattle.wesl_assembly.proofs.Denoted.{denotation_eq, decides}
 use Rattle.wesl_assembly.proofs.Numbering.{Numbered, numbered}
 use Rattle.wesl_assembly.proofs.Given.{put, next_taken}
-use Rattle.wesl_assembly.proofs.Whole.{leads_to, all_below}
+use Rattle.wesl_assembly.proofs.Whole.{leads_to, all_below, all_used}
 use Rattle.wesl_assembly.proofs.numbers.numbers.Goals as goal
 
 abbrev none : Denotation
@@ -33,3 +33,6 @@ returns-clause-leads c = leads_to (free_name []) (map denotation_view c.loop-den
 
 pub returns-clause-below : goal.returns-clause-below
 returns-clause-below c = all_below (free_name []) (map denotation_view c.loop-denotation.different.keys) (map denotation_view c.args.denotations.now) c.loop-denotation.numbers.items (whole c.args.denotations.now c.loop-denotation.denotation-index c.loop-denotation.numbers.items (map denotation_view c.loop-denotation.different.keys) c.loop-denotation-test.false c.loop-denotation.invariant)
+
+pub returns-clause-used : goal.returns-clause-used
+returns-clause-used c = all_used (free_name []) (map denotation_view c.loop-denotation.different.keys) (map denotation_view c.args.denotations.now) c.loop-denotation.numbers.items (whole c.args.denotations.now c.loop-denotation.denotation-index c.loop-denotation.numbers.items (map denotation_view c.loop-denotation.different.keys) c.loop-denotation-test.false c.loop-denotation.invariant)

@@ -15,10 +15,14 @@ use Rattle.wesl_linker.specs.Resolved.{module_at}
 use Rattle.wesl_linker.specs.Keeping.{resolved, IsLinkOf, task_in}
 use Rattle.wesl_linker.specs.Holding.{IsFoundBy}
 use Rattle.wesl_linker.specs.declared.link.Link.{Link}
+use Rattle.wesl_linker.specs.Refusal.{Tells}
 use Rattle.wesl_linker.specs.Taking.{IsTaken}
+use Rattle.wesl_linker.specs.Worlds as worlds
+use Rattle.wesl_linker.specs.Worlds.{IsRefused}
 use Rattle.wesl_linker.proofs.Found.{kept_left, once_left, some_left}
 use Rattle.wesl_linker.proofs.Sound as sound
 use Rattle.wesl_linker.proofs.Reaching.{reach_numbers, reach_refused}
+use Rattle.wesl_linker.proofs.Refusing.{told_or_short}
 use Rattle.wesl_linker.proofs.Readying.{keeps_nothing, ready_table}
 use Rattle.wesl_linker.proofs.resolve.reach_modules.Goals as goal
 
@@ -28,11 +32,7 @@ linked_by-requires-clause-ready g c =
     let start : Keeps (g.R.Resolver.hands c.args.modules.now.resolver.now) (g.R.Resolver.refuses c.args.modules.now.resolver.now) g.S.Source.hands g.S.Source.refuses g.S.Source.first first c.args.modules.now.units.now.entries =
     keeps_nothing (g.R.Resolver.hands c.args.modules.now.resolver.now) g.S.Source.hands (g.R.Resolver.refuses c.args.modules.now.resolver.now) g.S.Source.refuses g.S.Source.first first c.args.modules.now.units.now.entries c.requires.follows c.requires.first c.requires.nothing in
     ready_table ((g.R.Resolver.ready c.args.modules.now.resolver.now × StaysOne g.R.Resolver.hands g.R.Resolver.refuses g.R.Resolver.source g.R.Resolver.lacks g.R.Resolver.shown g.S.Source.these g.S.Source.loan c.args.modules.now.resolver.now c.args.modules.now.resolver.ghost_name) × Keeps (g.R.Resolver.hands c.args.modules.now.resolver.now) (g.R.Resolver.refuses c.args.modules.now.resolver.now) g.S.Source.hands g.S.Source.refuses g.S.Source.first first c.args.modules.now.units.now.entries) ((c.requires.ready, c.requires.stays), start) first c.args.table
-    (table_at (path_view c.args.path) (spelled (unit_view c.args.unit))) c.requires.root
-
-pub linked_by-requires-clause-none_kept : goal.linked_by-requires-clause-none_kept
-linked_by-requires-clause-none_kept g c =
-    λ eager. subst (λ (ns : List NameId). ns ≡ []) (sym c.in_ok-names.ensures.same) (c.requires.none_kept eager)
+    (table_at (path_view c.args.root.path) (spelled (unit_view c.args.root.unit))) c.requires.root
 
 pub link_of-requires-clause-some : goal.link_of-requires-clause-some
 link_of-requires-clause-some g c =
@@ -40,19 +40,19 @@ link_of-requires-clause-some g c =
     let start : Keeps (g.R.Resolver.hands c.args.modules.now.resolver.now) (g.R.Resolver.refuses c.args.modules.now.resolver.now) g.S.Source.hands g.S.Source.refuses g.S.Source.first first c.args.modules.now.units.now.entries =
     keeps_nothing (g.R.Resolver.hands c.args.modules.now.resolver.now) g.S.Source.hands (g.R.Resolver.refuses c.args.modules.now.resolver.now) g.S.Source.refuses g.S.Source.first first c.args.modules.now.units.now.entries c.requires.follows c.requires.first c.requires.nothing in
     let end = c.linked_by.new.loader in
-    let there = (c.linked_by.ensures.adds.ready c.args.table.path ((path_view c.args.path, c.requires.root.path), ((c.requires.ready, c.requires.stays), start))).1 in
+    let there = (c.linked_by.ensures.adds.ready c.args.table.path ((path_view c.args.root.path, c.requires.root.path), ((c.requires.ready, c.requires.stays), start))).1 in
     let numbers = c.replace-numbers.result in
     let moved : end.numbers.now ≡ numbers = sym c.replace-numbers.ensures.value in
     let nb = numbering numbers in
     let kept : Keeps (g.R.Resolver.hands end.resolver.now) (g.R.Resolver.refuses end.resolver.now) g.S.Source.hands g.S.Source.refuses g.S.Source.first nb end.units.now.entries =
     subst (λ (n : Numbers). Keeps (g.R.Resolver.hands end.resolver.now) (g.R.Resolver.refuses end.resolver.now) g.S.Source.hands g.S.Source.refuses g.S.Source.first (numbering n) end.units.now.entries) moved there.1 in
     let grown : Grows first nb = subst (λ (x : Numbering). Grows x nb) c.requires.first kept.grows in
-    let rm = module_at c.args.path c.args.unit in
-    let named = subst (λ (ns : List NameId). IsLinked (IsHandedTable g.S.Source.hands (numbering end.numbers.now) end.units.now.entries) (IsRefusedPath g.S.Source.refuses (numbering end.numbers.now)) c.args.table (task_of c.args.table ns c.args.is_eager) c.args.max_modules c.in-Ok.linked) c.in_ok-names.ensures.same c.in-Ok.ensures.linked in
-    let linked = subst (λ (n : Numbers). IsLinked (IsHandedTable g.S.Source.hands (numbering n) end.units.now.entries) (IsRefusedPath g.S.Source.refuses (numbering n)) c.args.table (task_of c.args.table c.args.kept.items c.args.is_eager) c.args.max_modules c.in-Ok.linked) moved named in
+    let rm = module_at c.args.root.path c.args.root.unit in
+    let named = c.in-Ok.ensures.linked in
+    let linked = subst (λ (n : Numbers). IsLinked (IsHandedTable g.S.Source.hands (numbering n) end.units.now.entries) (IsRefusedPath g.S.Source.refuses (numbering n)) c.args.table (task_of c.args.table c.args.root.kept.items c.args.root.is_eager) c.args.max_modules c.in-Ok.linked) moved named in
     let ts = linked.root_first.0 in
     let is = linked.root_first.1 in
-    some_left first nb grown g.S.Source.hands g.S.Source.refuses end.units.now.entries kept.one_unit c.args.table rm c.requires.root numbers.paths.different numbers.names.different numbers.paths.asked c.args.kept.items c.requires.kept.0 c.requires.kept.1 c.args.is_eager c.args.max_modules c.in-Ok.linked linked ts is
+    some_left first nb grown g.S.Source.hands g.S.Source.refuses end.units.now.entries kept.one_unit c.args.table rm c.requires.root numbers.paths.different numbers.names.different numbers.paths.asked c.args.root.kept.items c.requires.kept.0 c.requires.kept.1 c.args.root.is_eager c.args.max_modules c.in-Ok.linked linked ts is
 
 pub link_of-requires-clause-left : goal.link_of-requires-clause-left
 link_of-requires-clause-left g c =
@@ -60,19 +60,19 @@ link_of-requires-clause-left g c =
     let start : Keeps (g.R.Resolver.hands c.args.modules.now.resolver.now) (g.R.Resolver.refuses c.args.modules.now.resolver.now) g.S.Source.hands g.S.Source.refuses g.S.Source.first first c.args.modules.now.units.now.entries =
     keeps_nothing (g.R.Resolver.hands c.args.modules.now.resolver.now) g.S.Source.hands (g.R.Resolver.refuses c.args.modules.now.resolver.now) g.S.Source.refuses g.S.Source.first first c.args.modules.now.units.now.entries c.requires.follows c.requires.first c.requires.nothing in
     let end = c.linked_by.new.loader in
-    let there = (c.linked_by.ensures.adds.ready c.args.table.path ((path_view c.args.path, c.requires.root.path), ((c.requires.ready, c.requires.stays), start))).1 in
+    let there = (c.linked_by.ensures.adds.ready c.args.table.path ((path_view c.args.root.path, c.requires.root.path), ((c.requires.ready, c.requires.stays), start))).1 in
     let numbers = c.replace-numbers.result in
     let moved : end.numbers.now ≡ numbers = sym c.replace-numbers.ensures.value in
     let nb = numbering numbers in
     let kept : Keeps (g.R.Resolver.hands end.resolver.now) (g.R.Resolver.refuses end.resolver.now) g.S.Source.hands g.S.Source.refuses g.S.Source.first nb end.units.now.entries =
     subst (λ (n : Numbers). Keeps (g.R.Resolver.hands end.resolver.now) (g.R.Resolver.refuses end.resolver.now) g.S.Source.hands g.S.Source.refuses g.S.Source.first (numbering n) end.units.now.entries) moved there.1 in
     let grown : Grows first nb = subst (λ (x : Numbering). Grows x nb) c.requires.first kept.grows in
-    let rm = module_at c.args.path c.args.unit in
-    let named = subst (λ (ns : List NameId). IsLinked (IsHandedTable g.S.Source.hands (numbering end.numbers.now) end.units.now.entries) (IsRefusedPath g.S.Source.refuses (numbering end.numbers.now)) c.args.table (task_of c.args.table ns c.args.is_eager) c.args.max_modules c.in-Ok.linked) c.in_ok-names.ensures.same c.in-Ok.ensures.linked in
-    let linked = subst (λ (n : Numbers). IsLinked (IsHandedTable g.S.Source.hands (numbering n) end.units.now.entries) (IsRefusedPath g.S.Source.refuses (numbering n)) c.args.table (task_of c.args.table c.args.kept.items c.args.is_eager) c.args.max_modules c.in-Ok.linked) moved named in
+    let rm = module_at c.args.root.path c.args.root.unit in
+    let named = c.in-Ok.ensures.linked in
+    let linked = subst (λ (n : Numbers). IsLinked (IsHandedTable g.S.Source.hands (numbering n) end.units.now.entries) (IsRefusedPath g.S.Source.refuses (numbering n)) c.args.table (task_of c.args.table c.args.root.kept.items c.args.root.is_eager) c.args.max_modules c.in-Ok.linked) moved named in
     let ts = linked.root_first.0 in
     let is = linked.root_first.1 in
-    kept_left first nb grown g.S.Source.hands g.S.Source.refuses end.units.now.entries kept.one_unit c.args.table rm c.requires.root numbers.paths.different numbers.names.different numbers.paths.asked c.args.kept.items c.requires.kept.0 c.requires.kept.1 c.args.is_eager c.args.max_modules c.in-Ok.linked linked ts is
+    kept_left first nb grown g.S.Source.hands g.S.Source.refuses end.units.now.entries kept.one_unit c.args.table rm c.requires.root numbers.paths.different numbers.names.different numbers.paths.asked c.args.root.kept.items c.requires.kept.0 c.requires.kept.1 c.args.root.is_eager c.args.max_modules c.in-Ok.linked linked ts is
 
 pub link_of-requires-clause-once : goal.link_of-requires-clause-once
 link_of-requires-clause-once g c =
@@ -80,19 +80,19 @@ link_of-requires-clause-once g c =
     let start : Keeps (g.R.Resolver.hands c.args.modules.now.resolver.now) (g.R.Resolver.refuses c.args.modules.now.resolver.now) g.S.Source.hands g.S.Source.refuses g.S.Source.first first c.args.modules.now.units.now.entries =
     keeps_nothing (g.R.Resolver.hands c.args.modules.now.resolver.now) g.S.Source.hands (g.R.Resolver.refuses c.args.modules.now.resolver.now) g.S.Source.refuses g.S.Source.first first c.args.modules.now.units.now.entries c.requires.follows c.requires.first c.requires.nothing in
     let end = c.linked_by.new.loader in
-    let there = (c.linked_by.ensures.adds.ready c.args.table.path ((path_view c.args.path, c.requires.root.path), ((c.requires.ready, c.requires.stays), start))).1 in
+    let there = (c.linked_by.ensures.adds.ready c.args.table.path ((path_view c.args.root.path, c.requires.root.path), ((c.requires.ready, c.requires.stays), start))).1 in
     let numbers = c.replace-numbers.result in
     let moved : end.numbers.now ≡ numbers = sym c.replace-numbers.ensures.value in
     let nb = numbering numbers in
     let kept : Keeps (g.R.Resolver.hands end.resolver.now) (g.R.Resolver.refuses end.resolver.now) g.S.Source.hands g.S.Source.refuses g.S.Source.first nb end.units.now.entries =
     subst (λ (n : Numbers). Keeps (g.R.Resolver.hands end.resolver.now) (g.R.Resolver.refuses end.resolver.now) g.S.Source.hands g.S.Source.refuses g.S.Source.first (numbering n) end.units.now.entries) moved there.1 in
     let grown : Grows first nb = subst (λ (x : Numbering). Grows x nb) c.requires.first kept.grows in
-    let rm = module_at c.args.path c.args.unit in
-    let named = subst (λ (ns : List NameId). IsLinked (IsHandedTable g.S.Source.hands (numbering end.numbers.now) end.units.now.entries) (IsRefusedPath g.S.Source.refuses (numbering end.numbers.now)) c.args.table (task_of c.args.table ns c.args.is_eager) c.args.max_modules c.in-Ok.linked) c.in_ok-names.ensures.same c.in-Ok.ensures.linked in
-    let linked = subst (λ (n : Numbers). IsLinked (IsHandedTable g.S.Source.hands (numbering n) end.units.now.entries) (IsRefusedPath g.S.Source.refuses (numbering n)) c.args.table (task_of c.args.table c.args.kept.items c.args.is_eager) c.args.max_modules c.in-Ok.linked) moved named in
+    let rm = module_at c.args.root.path c.args.root.unit in
+    let named = c.in-Ok.ensures.linked in
+    let linked = subst (λ (n : Numbers). IsLinked (IsHandedTable g.S.Source.hands (numbering n) end.units.now.entries) (IsRefusedPath g.S.Source.refuses (numbering n)) c.args.table (task_of c.args.table c.args.root.kept.items c.args.root.is_eager) c.args.max_modules c.in-Ok.linked) moved named in
     let ts = linked.root_first.0 in
     let is = linked.root_first.1 in
-    once_left first nb grown g.S.Source.hands g.S.Source.refuses end.units.now.entries kept.one_unit c.args.table rm c.requires.root numbers.paths.different numbers.names.different numbers.paths.asked c.args.kept.items c.requires.kept.0 c.requires.kept.1 c.args.is_eager c.args.max_modules c.in-Ok.linked linked ts is
+    once_left first nb grown g.S.Source.hands g.S.Source.refuses end.units.now.entries kept.one_unit c.args.table rm c.requires.root numbers.paths.different numbers.names.different numbers.paths.asked c.args.root.kept.items c.requires.kept.0 c.requires.kept.1 c.args.root.is_eager c.args.max_modules c.in-Ok.linked linked ts is
 
 pub of_link-requires : goal.of_link-requires
 of_link-requires g c =
@@ -100,36 +100,35 @@ of_link-requires g c =
     let start : Keeps (g.R.Resolver.hands c.args.modules.now.resolver.now) (g.R.Resolver.refuses c.args.modules.now.resolver.now) g.S.Source.hands g.S.Source.refuses g.S.Source.first first c.args.modules.now.units.now.entries =
     keeps_nothing (g.R.Resolver.hands c.args.modules.now.resolver.now) g.S.Source.hands (g.R.Resolver.refuses c.args.modules.now.resolver.now) g.S.Source.refuses g.S.Source.first first c.args.modules.now.units.now.entries c.requires.follows c.requires.first c.requires.nothing in
     let end = c.linked_by.new.loader in
-    let there = (c.linked_by.ensures.adds.ready c.args.table.path ((path_view c.args.path, c.requires.root.path), ((c.requires.ready, c.requires.stays), start))).1 in
+    let there = (c.linked_by.ensures.adds.ready c.args.table.path ((path_view c.args.root.path, c.requires.root.path), ((c.requires.ready, c.requires.stays), start))).1 in
     let numbers = c.replace-numbers.result in
     let moved : end.numbers.now ≡ numbers = sym c.replace-numbers.ensures.value in
     let nb = numbering numbers in
     let kept : Keeps (g.R.Resolver.hands end.resolver.now) (g.R.Resolver.refuses end.resolver.now) g.S.Source.hands g.S.Source.refuses g.S.Source.first nb end.units.now.entries =
     subst (λ (n : Numbers). Keeps (g.R.Resolver.hands end.resolver.now) (g.R.Resolver.refuses end.resolver.now) g.S.Source.hands g.S.Source.refuses g.S.Source.first (numbering n) end.units.now.entries) moved there.1 in
     let grown : Grows first nb = subst (λ (x : Numbering). Grows x nb) c.requires.first kept.grows in
-    let rm = module_at c.args.path c.args.unit in
-    let named = subst (λ (ns : List NameId). IsLinked (IsHandedTable g.S.Source.hands (numbering end.numbers.now) end.units.now.entries) (IsRefusedPath g.S.Source.refuses (numbering end.numbers.now)) c.args.table (task_of c.args.table ns c.args.is_eager) c.args.max_modules c.in-Ok.linked) c.in_ok-names.ensures.same c.in-Ok.ensures.linked in
-    let linked = subst (λ (n : Numbers). IsLinked (IsHandedTable g.S.Source.hands (numbering n) end.units.now.entries) (IsRefusedPath g.S.Source.refuses (numbering n)) c.args.table (task_of c.args.table c.args.kept.items c.args.is_eager) c.args.max_modules c.in-Ok.linked) moved named in
+    let rm = module_at c.args.root.path c.args.root.unit in
+    let named = c.in-Ok.ensures.linked in
+    let linked = subst (λ (n : Numbers). IsLinked (IsHandedTable g.S.Source.hands (numbering n) end.units.now.entries) (IsRefusedPath g.S.Source.refuses (numbering n)) c.args.table (task_of c.args.table c.args.root.kept.items c.args.root.is_eager) c.args.max_modules c.in-Ok.linked) moved named in
     let ts = linked.root_first.0 in
     let is = linked.root_first.1 in
     let l = c.in_ok-link-in-Ok.link in
     let (ms, rel, same, sorted) = c.in_ok-link-in-Ok.ensures.found in
     let taken : AreRelated (IsTaken nb end.units.now.entries ts) ts ms = subst (λ (xs : List (Table PathId NameId)). AreRelated (IsTaken nb end.units.now.entries (drop 1 xs)) (drop 1 xs) ms) is rel in
-    record { sound = subst (λ (x : Link). IsLinkOf (task_in x) x) (sym c.in_ok-link-in-Ok.ensures.rest) (sound.sound numbers first grown g.S.Source.hands g.S.Source.refuses end.units.now.entries kept.one_unit kept.handed_out c.args.table c.args.path c.args.unit c.args.marks c.requires.root c.requires.marked c.args.kept c.requires.kept.0 c.requires.kept.1 c.args.is_eager c.args.max_modules c.in-Ok.linked linked ts is ms l.others taken same) }
+    record { sound = subst (λ (x : Link). IsLinkOf (task_in x) x) (sym c.in_ok-link-in-Ok.ensures.rest) (sound.sound numbers first grown g.S.Source.hands g.S.Source.refuses end.units.now.entries kept.one_unit kept.handed_out c.args.table c.args.root.path c.args.root.unit c.args.root.marks c.requires.root c.requires.marked c.args.root.kept c.requires.kept.0 c.requires.kept.1 c.args.root.is_eager c.args.max_modules c.in-Ok.linked linked ts is ms l.others taken same) }
 
-pub told-requires : goal.told-requires
-told-requires g c =
+pub error_of-requires : goal.error_of-requires
+error_of-requires g c =
     let first = numbering c.args.modules.now.numbers.now in
     let start : Keeps (g.R.Resolver.hands c.args.modules.now.resolver.now) (g.R.Resolver.refuses c.args.modules.now.resolver.now) g.S.Source.hands g.S.Source.refuses g.S.Source.first first c.args.modules.now.units.now.entries =
     keeps_nothing (g.R.Resolver.hands c.args.modules.now.resolver.now) g.S.Source.hands (g.R.Resolver.refuses c.args.modules.now.resolver.now) g.S.Source.refuses g.S.Source.first first c.args.modules.now.units.now.entries c.requires.follows c.requires.first c.requires.nothing in
     let end = c.linked_by.new.loader in
-    let there = (c.linked_by.ensures.adds.ready c.args.table.path ((path_view c.args.path, c.requires.root.path), ((c.requires.ready, c.requires.stays), start))).1 in
+    let there = (c.linked_by.ensures.adds.ready c.args.table.path ((path_view c.args.root.path, c.requires.root.path), ((c.requires.ready, c.requires.stays), start))).1 in
     let nb = numbering end.numbers.now in
     let kept : Keeps (g.R.Resolver.hands end.resolver.now) (g.R.Resolver.refuses end.resolver.now) g.S.Source.hands g.S.Source.refuses g.S.Source.first nb end.units.now.entries = there.1 in
     let grown : Grows first nb = subst (λ (x : Numbering). Grows x nb) c.requires.first kept.grows in
-    let rm = module_at c.args.path c.args.unit in
-    let names : AreRelated (NameAt first) c.in_ok-names.names.items c.requires.kept.0 = subst (λ (ns : List NameId). AreRelated (NameAt first) ns c.requires.kept.0) (sym c.in_ok-names.ensures.same) c.requires.kept.1 in
-    reach_numbers first nb grown g.S.Source.hands g.S.Source.refuses end.units.now.entries kept.one_unit c.args.table rm c.requires.root end.numbers.now.paths.different end.numbers.now.names.different end.numbers.now.paths.asked c.in_ok-names.names.items c.requires.kept.0 names c.args.is_eager c.args.max_modules c.in-Err.fault c.in-Err.ensures.refused
+    let rm = module_at c.args.root.path c.args.root.unit in
+    reach_numbers first nb grown g.S.Source.hands g.S.Source.refuses end.units.now.entries kept.one_unit c.args.table rm c.requires.root end.numbers.now.paths.different end.numbers.now.names.different end.numbers.now.paths.asked c.args.root.kept.items c.requires.kept.0 c.requires.kept.1 c.args.root.is_eager c.args.max_modules c.in-Err.fault c.in-Err.ensures.refused
 
 pub returns-in_ok-link-in-Ok-clause-linked : goal.returns-in_ok-link-in-Ok-clause-linked
 returns-in_ok-link-in-Ok-clause-linked g c =
@@ -137,22 +136,22 @@ returns-in_ok-link-in-Ok-clause-linked g c =
     let start : Keeps (g.R.Resolver.hands c.args.modules.now.resolver.now) (g.R.Resolver.refuses c.args.modules.now.resolver.now) g.S.Source.hands g.S.Source.refuses g.S.Source.first first c.args.modules.now.units.now.entries =
     keeps_nothing (g.R.Resolver.hands c.args.modules.now.resolver.now) g.S.Source.hands (g.R.Resolver.refuses c.args.modules.now.resolver.now) g.S.Source.refuses g.S.Source.first first c.args.modules.now.units.now.entries c.requires.follows c.requires.first c.requires.nothing in
     let end = c.linked_by.new.loader in
-    let there = (c.linked_by.ensures.adds.ready c.args.table.path ((path_view c.args.path, c.requires.root.path), ((c.requires.ready, c.requires.stays), start))).1 in
+    let there = (c.linked_by.ensures.adds.ready c.args.table.path ((path_view c.args.root.path, c.requires.root.path), ((c.requires.ready, c.requires.stays), start))).1 in
     let numbers = c.replace-numbers.result in
     let moved : end.numbers.now ≡ numbers = sym c.replace-numbers.ensures.value in
     let nb = numbering numbers in
     let kept : Keeps (g.R.Resolver.hands end.resolver.now) (g.R.Resolver.refuses end.resolver.now) g.S.Source.hands g.S.Source.refuses g.S.Source.first nb end.units.now.entries =
     subst (λ (n : Numbers). Keeps (g.R.Resolver.hands end.resolver.now) (g.R.Resolver.refuses end.resolver.now) g.S.Source.hands g.S.Source.refuses g.S.Source.first (numbering n) end.units.now.entries) moved there.1 in
     let grown : Grows first nb = subst (λ (x : Numbering). Grows x nb) c.requires.first kept.grows in
-    let rm = module_at c.args.path c.args.unit in
-    let named = subst (λ (ns : List NameId). IsLinked (IsHandedTable g.S.Source.hands (numbering end.numbers.now) end.units.now.entries) (IsRefusedPath g.S.Source.refuses (numbering end.numbers.now)) c.args.table (task_of c.args.table ns c.args.is_eager) c.args.max_modules c.in-Ok.linked) c.in_ok-names.ensures.same c.in-Ok.ensures.linked in
-    let linked = subst (λ (n : Numbers). IsLinked (IsHandedTable g.S.Source.hands (numbering n) end.units.now.entries) (IsRefusedPath g.S.Source.refuses (numbering n)) c.args.table (task_of c.args.table c.args.kept.items c.args.is_eager) c.args.max_modules c.in-Ok.linked) moved named in
+    let rm = module_at c.args.root.path c.args.root.unit in
+    let named = c.in-Ok.ensures.linked in
+    let linked = subst (λ (n : Numbers). IsLinked (IsHandedTable g.S.Source.hands (numbering n) end.units.now.entries) (IsRefusedPath g.S.Source.refuses (numbering n)) c.args.table (task_of c.args.table c.args.root.kept.items c.args.root.is_eager) c.args.max_modules c.in-Ok.linked) moved named in
     let ts = linked.root_first.0 in
     let is = linked.root_first.1 in
     let l = c.in_ok-link-in-Ok.link in
     let (ms, rel, same, sorted) = c.in_ok-link-in-Ok.ensures.found in
     let taken : AreRelated (IsTaken nb end.units.now.entries ts) ts ms = subst (λ (xs : List (Table PathId NameId)). AreRelated (IsTaken nb end.units.now.entries (drop 1 xs)) (drop 1 xs) ms) is rel in
-    λ keep kept_so. sound.linked_told numbers first grown g.S.Source.hands g.S.Source.refuses end.units.now.entries kept.one_unit kept.handed_out c.args.table c.args.path c.args.unit c.args.marks c.requires.root c.requires.marked c.args.kept keep kept_so c.args.is_eager c.args.max_modules c.in-Ok.linked linked ts is ms l.others taken same (resolved c.of_link.result) (subst (λ (x : Link). IsFoundBy x (resolved c.of_link.result)) c.in_ok-link-in-Ok.ensures.rest c.of_link.ensures.found)
+    λ keep kept_so. sound.linked_told numbers first grown g.S.Source.hands g.S.Source.refuses end.units.now.entries kept.one_unit kept.handed_out c.args.table c.args.root.path c.args.root.unit c.args.root.marks c.requires.root c.requires.marked c.args.root.kept keep kept_so c.args.root.is_eager c.args.max_modules c.in-Ok.linked linked ts is ms l.others taken same (resolved c.of_link.result) (subst (λ (x : Link). IsFoundBy x (resolved c.of_link.result)) c.in_ok-link-in-Ok.ensures.rest c.of_link.ensures.found)
 
 pub returns-in_ok-link-in-Ok-clause-order : goal.returns-in_ok-link-in-Ok-clause-order
 returns-in_ok-link-in-Ok-clause-order g c =
@@ -160,22 +159,22 @@ returns-in_ok-link-in-Ok-clause-order g c =
     let start : Keeps (g.R.Resolver.hands c.args.modules.now.resolver.now) (g.R.Resolver.refuses c.args.modules.now.resolver.now) g.S.Source.hands g.S.Source.refuses g.S.Source.first first c.args.modules.now.units.now.entries =
     keeps_nothing (g.R.Resolver.hands c.args.modules.now.resolver.now) g.S.Source.hands (g.R.Resolver.refuses c.args.modules.now.resolver.now) g.S.Source.refuses g.S.Source.first first c.args.modules.now.units.now.entries c.requires.follows c.requires.first c.requires.nothing in
     let end = c.linked_by.new.loader in
-    let there = (c.linked_by.ensures.adds.ready c.args.table.path ((path_view c.args.path, c.requires.root.path), ((c.requires.ready, c.requires.stays), start))).1 in
+    let there = (c.linked_by.ensures.adds.ready c.args.table.path ((path_view c.args.root.path, c.requires.root.path), ((c.requires.ready, c.requires.stays), start))).1 in
     let numbers = c.replace-numbers.result in
     let moved : end.numbers.now ≡ numbers = sym c.replace-numbers.ensures.value in
     let nb = numbering numbers in
     let kept : Keeps (g.R.Resolver.hands end.resolver.now) (g.R.Resolver.refuses end.resolver.now) g.S.Source.hands g.S.Source.refuses g.S.Source.first nb end.units.now.entries =
     subst (λ (n : Numbers). Keeps (g.R.Resolver.hands end.resolver.now) (g.R.Resolver.refuses end.resolver.now) g.S.Source.hands g.S.Source.refuses g.S.Source.first (numbering n) end.units.now.entries) moved there.1 in
     let grown : Grows first nb = subst (λ (x : Numbering). Grows x nb) c.requires.first kept.grows in
-    let rm = module_at c.args.path c.args.unit in
-    let named = subst (λ (ns : List NameId). IsLinked (IsHandedTable g.S.Source.hands (numbering end.numbers.now) end.units.now.entries) (IsRefusedPath g.S.Source.refuses (numbering end.numbers.now)) c.args.table (task_of c.args.table ns c.args.is_eager) c.args.max_modules c.in-Ok.linked) c.in_ok-names.ensures.same c.in-Ok.ensures.linked in
-    let linked = subst (λ (n : Numbers). IsLinked (IsHandedTable g.S.Source.hands (numbering n) end.units.now.entries) (IsRefusedPath g.S.Source.refuses (numbering n)) c.args.table (task_of c.args.table c.args.kept.items c.args.is_eager) c.args.max_modules c.in-Ok.linked) moved named in
+    let rm = module_at c.args.root.path c.args.root.unit in
+    let named = c.in-Ok.ensures.linked in
+    let linked = subst (λ (n : Numbers). IsLinked (IsHandedTable g.S.Source.hands (numbering n) end.units.now.entries) (IsRefusedPath g.S.Source.refuses (numbering n)) c.args.table (task_of c.args.table c.args.root.kept.items c.args.root.is_eager) c.args.max_modules c.in-Ok.linked) moved named in
     let ts = linked.root_first.0 in
     let is = linked.root_first.1 in
     let l = c.in_ok-link-in-Ok.link in
     let (ms, rel, same, sorted) = c.in_ok-link-in-Ok.ensures.found in
     let taken : AreRelated (IsTaken nb end.units.now.entries ts) ts ms = subst (λ (xs : List (Table PathId NameId)). AreRelated (IsTaken nb end.units.now.entries (drop 1 xs)) (drop 1 xs) ms) is rel in
-    sound.order_told numbers first grown g.S.Source.hands g.S.Source.refuses end.units.now.entries kept.one_unit kept.handed_out c.args.table c.args.path c.args.unit c.args.marks c.requires.root c.requires.marked c.args.kept c.requires.kept.0 c.requires.kept.1 c.args.is_eager c.args.max_modules c.in-Ok.linked linked ts is ms l.others taken same (resolved c.of_link.result) (subst (λ (x : Link). IsFoundBy x (resolved c.of_link.result)) c.in_ok-link-in-Ok.ensures.rest c.of_link.ensures.found) sorted
+    sound.order_told numbers first grown g.S.Source.hands g.S.Source.refuses end.units.now.entries kept.one_unit kept.handed_out c.args.table c.args.root.path c.args.root.unit c.args.root.marks c.requires.root c.requires.marked c.args.root.kept c.requires.kept.0 c.requires.kept.1 c.args.root.is_eager c.args.max_modules c.in-Ok.linked linked ts is ms l.others taken same (resolved c.of_link.result) (subst (λ (x : Link). IsFoundBy x (resolved c.of_link.result)) c.in_ok-link-in-Ok.ensures.rest c.of_link.ensures.found) sorted
 
 pub returns-in_ok-link-in-Ok-clause-kept : goal.returns-in_ok-link-in-Ok-clause-kept
 returns-in_ok-link-in-Ok-clause-kept g c =
@@ -183,22 +182,22 @@ returns-in_ok-link-in-Ok-clause-kept g c =
     let start : Keeps (g.R.Resolver.hands c.args.modules.now.resolver.now) (g.R.Resolver.refuses c.args.modules.now.resolver.now) g.S.Source.hands g.S.Source.refuses g.S.Source.first first c.args.modules.now.units.now.entries =
     keeps_nothing (g.R.Resolver.hands c.args.modules.now.resolver.now) g.S.Source.hands (g.R.Resolver.refuses c.args.modules.now.resolver.now) g.S.Source.refuses g.S.Source.first first c.args.modules.now.units.now.entries c.requires.follows c.requires.first c.requires.nothing in
     let end = c.linked_by.new.loader in
-    let there = (c.linked_by.ensures.adds.ready c.args.table.path ((path_view c.args.path, c.requires.root.path), ((c.requires.ready, c.requires.stays), start))).1 in
+    let there = (c.linked_by.ensures.adds.ready c.args.table.path ((path_view c.args.root.path, c.requires.root.path), ((c.requires.ready, c.requires.stays), start))).1 in
     let numbers = c.replace-numbers.result in
     let moved : end.numbers.now ≡ numbers = sym c.replace-numbers.ensures.value in
     let nb = numbering numbers in
     let kept : Keeps (g.R.Resolver.hands end.resolver.now) (g.R.Resolver.refuses end.resolver.now) g.S.Source.hands g.S.Source.refuses g.S.Source.first nb end.units.now.entries =
     subst (λ (n : Numbers). Keeps (g.R.Resolver.hands end.resolver.now) (g.R.Resolver.refuses end.resolver.now) g.S.Source.hands g.S.Source.refuses g.S.Source.first (numbering n) end.units.now.entries) moved there.1 in
     let grown : Grows first nb = subst (λ (x : Numbering). Grows x nb) c.requires.first kept.grows in
-    let rm = module_at c.args.path c.args.unit in
-    let named = subst (λ (ns : List NameId). IsLinked (IsHandedTable g.S.Source.hands (numbering end.numbers.now) end.units.now.entries) (IsRefusedPath g.S.Source.refuses (numbering end.numbers.now)) c.args.table (task_of c.args.table ns c.args.is_eager) c.args.max_modules c.in-Ok.linked) c.in_ok-names.ensures.same c.in-Ok.ensures.linked in
-    let linked = subst (λ (n : Numbers). IsLinked (IsHandedTable g.S.Source.hands (numbering n) end.units.now.entries) (IsRefusedPath g.S.Source.refuses (numbering n)) c.args.table (task_of c.args.table c.args.kept.items c.args.is_eager) c.args.max_modules c.in-Ok.linked) moved named in
+    let rm = module_at c.args.root.path c.args.root.unit in
+    let named = c.in-Ok.ensures.linked in
+    let linked = subst (λ (n : Numbers). IsLinked (IsHandedTable g.S.Source.hands (numbering n) end.units.now.entries) (IsRefusedPath g.S.Source.refuses (numbering n)) c.args.table (task_of c.args.table c.args.root.kept.items c.args.root.is_eager) c.args.max_modules c.in-Ok.linked) moved named in
     let ts = linked.root_first.0 in
     let is = linked.root_first.1 in
     let l = c.in_ok-link-in-Ok.link in
     let (ms, rel, same, sorted) = c.in_ok-link-in-Ok.ensures.found in
     let taken : AreRelated (IsTaken nb end.units.now.entries ts) ts ms = subst (λ (xs : List (Table PathId NameId)). AreRelated (IsTaken nb end.units.now.entries (drop 1 xs)) (drop 1 xs) ms) is rel in
-    λ keep kept_so. sound.kept_told numbers first grown g.S.Source.hands g.S.Source.refuses end.units.now.entries kept.one_unit kept.handed_out c.args.table c.args.path c.args.unit c.args.marks c.requires.root c.requires.marked c.args.kept keep kept_so c.args.is_eager c.args.max_modules c.in-Ok.linked linked ts is ms l.others taken same (resolved c.of_link.result) (subst (λ (x : Link). IsFoundBy x (resolved c.of_link.result)) c.in_ok-link-in-Ok.ensures.rest c.of_link.ensures.found)
+    λ keep kept_so. sound.kept_told numbers first grown g.S.Source.hands g.S.Source.refuses end.units.now.entries kept.one_unit kept.handed_out c.args.table c.args.root.path c.args.root.unit c.args.root.marks c.requires.root c.requires.marked c.args.root.kept keep kept_so c.args.root.is_eager c.args.max_modules c.in-Ok.linked linked ts is ms l.others taken same (resolved c.of_link.result) (subst (λ (x : Link). IsFoundBy x (resolved c.of_link.result)) c.in_ok-link-in-Ok.ensures.rest c.of_link.ensures.found)
 
 pub returns-in_ok-link-in-Ok-clause-eager : goal.returns-in_ok-link-in-Ok-clause-eager
 returns-in_ok-link-in-Ok-clause-eager g c =
@@ -206,35 +205,35 @@ returns-in_ok-link-in-Ok-clause-eager g c =
     let start : Keeps (g.R.Resolver.hands c.args.modules.now.resolver.now) (g.R.Resolver.refuses c.args.modules.now.resolver.now) g.S.Source.hands g.S.Source.refuses g.S.Source.first first c.args.modules.now.units.now.entries =
     keeps_nothing (g.R.Resolver.hands c.args.modules.now.resolver.now) g.S.Source.hands (g.R.Resolver.refuses c.args.modules.now.resolver.now) g.S.Source.refuses g.S.Source.first first c.args.modules.now.units.now.entries c.requires.follows c.requires.first c.requires.nothing in
     let end = c.linked_by.new.loader in
-    let there = (c.linked_by.ensures.adds.ready c.args.table.path ((path_view c.args.path, c.requires.root.path), ((c.requires.ready, c.requires.stays), start))).1 in
+    let there = (c.linked_by.ensures.adds.ready c.args.table.path ((path_view c.args.root.path, c.requires.root.path), ((c.requires.ready, c.requires.stays), start))).1 in
     let numbers = c.replace-numbers.result in
     let moved : end.numbers.now ≡ numbers = sym c.replace-numbers.ensures.value in
     let nb = numbering numbers in
     let kept : Keeps (g.R.Resolver.hands end.resolver.now) (g.R.Resolver.refuses end.resolver.now) g.S.Source.hands g.S.Source.refuses g.S.Source.first nb end.units.now.entries =
     subst (λ (n : Numbers). Keeps (g.R.Resolver.hands end.resolver.now) (g.R.Resolver.refuses end.resolver.now) g.S.Source.hands g.S.Source.refuses g.S.Source.first (numbering n) end.units.now.entries) moved there.1 in
     let grown : Grows first nb = subst (λ (x : Numbering). Grows x nb) c.requires.first kept.grows in
-    let rm = module_at c.args.path c.args.unit in
-    let named = subst (λ (ns : List NameId). IsLinked (IsHandedTable g.S.Source.hands (numbering end.numbers.now) end.units.now.entries) (IsRefusedPath g.S.Source.refuses (numbering end.numbers.now)) c.args.table (task_of c.args.table ns c.args.is_eager) c.args.max_modules c.in-Ok.linked) c.in_ok-names.ensures.same c.in-Ok.ensures.linked in
-    let linked = subst (λ (n : Numbers). IsLinked (IsHandedTable g.S.Source.hands (numbering n) end.units.now.entries) (IsRefusedPath g.S.Source.refuses (numbering n)) c.args.table (task_of c.args.table c.args.kept.items c.args.is_eager) c.args.max_modules c.in-Ok.linked) moved named in
+    let rm = module_at c.args.root.path c.args.root.unit in
+    let named = c.in-Ok.ensures.linked in
+    let linked = subst (λ (n : Numbers). IsLinked (IsHandedTable g.S.Source.hands (numbering n) end.units.now.entries) (IsRefusedPath g.S.Source.refuses (numbering n)) c.args.table (task_of c.args.table c.args.root.kept.items c.args.root.is_eager) c.args.max_modules c.in-Ok.linked) moved named in
     let ts = linked.root_first.0 in
     let is = linked.root_first.1 in
     let l = c.in_ok-link-in-Ok.link in
     let (ms, rel, same, sorted) = c.in_ok-link-in-Ok.ensures.found in
     let taken : AreRelated (IsTaken nb end.units.now.entries ts) ts ms = subst (λ (xs : List (Table PathId NameId)). AreRelated (IsTaken nb end.units.now.entries (drop 1 xs)) (drop 1 xs) ms) is rel in
-    sound.eager_told numbers first grown g.S.Source.hands g.S.Source.refuses end.units.now.entries kept.one_unit kept.handed_out c.args.table c.args.path c.args.unit c.args.marks c.requires.root c.requires.marked c.args.kept c.requires.kept.0 c.requires.kept.1 c.args.is_eager c.args.max_modules c.in-Ok.linked linked ts is ms l.others taken same (resolved c.of_link.result) (subst (λ (x : Link). IsFoundBy x (resolved c.of_link.result)) c.in_ok-link-in-Ok.ensures.rest c.of_link.ensures.found)
+    sound.eager_told numbers first grown g.S.Source.hands g.S.Source.refuses end.units.now.entries kept.one_unit kept.handed_out c.args.table c.args.root.path c.args.root.unit c.args.root.marks c.requires.root c.requires.marked c.args.root.kept c.requires.kept.0 c.requires.kept.1 c.args.root.is_eager c.args.max_modules c.in-Ok.linked linked ts is ms l.others taken same (resolved c.of_link.result) (subst (λ (x : Link). IsFoundBy x (resolved c.of_link.result)) c.in_ok-link-in-Ok.ensures.rest c.of_link.ensures.found)
 
-pub returns-in_ok-error-in-Err-clause-refused : goal.returns-in_ok-error-in-Err-clause-refused
-returns-in_ok-error-in-Err-clause-refused g c =
+pub returns-in-Err-clause-refused : goal.returns-in-Err-clause-refused
+returns-in-Err-clause-refused g c =
     let first = numbering c.args.modules.now.numbers.now in
     let start : Keeps (g.R.Resolver.hands c.args.modules.now.resolver.now) (g.R.Resolver.refuses c.args.modules.now.resolver.now) g.S.Source.hands g.S.Source.refuses g.S.Source.first first c.args.modules.now.units.now.entries =
     keeps_nothing (g.R.Resolver.hands c.args.modules.now.resolver.now) g.S.Source.hands (g.R.Resolver.refuses c.args.modules.now.resolver.now) g.S.Source.refuses g.S.Source.first first c.args.modules.now.units.now.entries c.requires.follows c.requires.first c.requires.nothing in
     let end = c.linked_by.new.loader in
-    let there = (c.linked_by.ensures.adds.ready c.args.table.path ((path_view c.args.path, c.requires.root.path), ((c.requires.ready, c.requires.stays), start))).1 in
+    let there = (c.linked_by.ensures.adds.ready c.args.table.path ((path_view c.args.root.path, c.requires.root.path), ((c.requires.ready, c.requires.stays), start))).1 in
     let nb = numbering end.numbers.now in
     let kept : Keeps (g.R.Resolver.hands end.resolver.now) (g.R.Resolver.refuses end.resolver.now) g.S.Source.hands g.S.Source.refuses g.S.Source.first nb end.units.now.entries = there.1 in
     let grown : Grows first nb = subst (λ (x : Numbering). Grows x nb) c.requires.first kept.grows in
-    let rm = module_at c.args.path c.args.unit in
-    λ keep same. reach_refused first nb grown g.S.Source.hands g.S.Source.refuses end.units.now.entries kept.one_unit c.args.table rm c.requires.root end.numbers.now.paths.different end.numbers.now.names.different end.numbers.now.paths.asked c.in_ok-names.names.items keep (subst (λ (ns : List NameId). AreRelated (NameAt first) ns keep) (sym c.in_ok-names.ensures.same) same) c.args.is_eager c.args.max_modules c.in-Err.fault c.in_ok-error-in-Err.error c.in-Err.ensures.refused c.in_ok-error-in-Err.ensures.told
+    let rm = module_at c.args.root.path c.args.root.unit in
+    λ keep same. told_or_short (IsRefused g.S.Source.hands g.S.Source.refuses rm (worlds.task_of rm keep c.args.root.is_eager) c.args.max_modules) c.error_of.result (Tells nb c.in-Err.fault c.error_of.result) c.error_of.ensures (reach_refused first nb grown g.S.Source.hands g.S.Source.refuses end.units.now.entries kept.one_unit c.args.table rm c.requires.root end.numbers.now.paths.different end.numbers.now.names.different end.numbers.now.paths.asked c.args.root.kept.items keep same c.args.root.is_eager c.args.max_modules c.in-Err.fault c.error_of.result c.in-Err.ensures.refused)
 
 pub returns-in_err-link-in-Ok-clause-these : goal.returns-in_err-link-in-Ok-clause-these
 returns-in_err-link-in-Ok-clause-these g c =
@@ -242,7 +241,7 @@ returns-in_err-link-in-Ok-clause-these g c =
     let start : Keeps (g.R.Resolver.hands c.args.modules.now.resolver.now) (g.R.Resolver.refuses c.args.modules.now.resolver.now) g.S.Source.hands g.S.Source.refuses g.S.Source.first first c.args.modules.now.units.now.entries =
     keeps_nothing (g.R.Resolver.hands c.args.modules.now.resolver.now) g.S.Source.hands (g.R.Resolver.refuses c.args.modules.now.resolver.now) g.S.Source.refuses g.S.Source.first first c.args.modules.now.units.now.entries c.requires.follows c.requires.first c.requires.nothing in
     let end = c.linked_by.new.loader in
-    let there = (c.linked_by.ensures.adds.ready c.args.table.path ((path_view c.args.path, c.requires.root.path), ((c.requires.ready, c.requires.stays), start))).1 in
+    let there = (c.linked_by.ensures.adds.ready c.args.table.path ((path_view c.args.root.path, c.requires.root.path), ((c.requires.ready, c.requires.stays), start))).1 in
     there.0.1.here
 
 pub returns-in_err-link-in-Ok-clause-stays_ready : goal.returns-in_err-link-in-Ok-clause-stays_ready
@@ -251,7 +250,7 @@ returns-in_err-link-in-Ok-clause-stays_ready g c =
     let start : Keeps (g.R.Resolver.hands c.args.modules.now.resolver.now) (g.R.Resolver.refuses c.args.modules.now.resolver.now) g.S.Source.hands g.S.Source.refuses g.S.Source.first first c.args.modules.now.units.now.entries =
     keeps_nothing (g.R.Resolver.hands c.args.modules.now.resolver.now) g.S.Source.hands (g.R.Resolver.refuses c.args.modules.now.resolver.now) g.S.Source.refuses g.S.Source.first first c.args.modules.now.units.now.entries c.requires.follows c.requires.first c.requires.nothing in
     let end = c.linked_by.new.loader in
-    let there = (c.linked_by.ensures.adds.ready c.args.table.path ((path_view c.args.path, c.requires.root.path), ((c.requires.ready, c.requires.stays), start))).1 in
+    let there = (c.linked_by.ensures.adds.ready c.args.table.path ((path_view c.args.root.path, c.requires.root.path), ((c.requires.ready, c.requires.stays), start))).1 in
     there.0.0
 
 pub returns-in_err-link-in-Ok-clause-loan : goal.returns-in_err-link-in-Ok-clause-loan
@@ -260,7 +259,7 @@ returns-in_err-link-in-Ok-clause-loan g c =
     let start : Keeps (g.R.Resolver.hands c.args.modules.now.resolver.now) (g.R.Resolver.refuses c.args.modules.now.resolver.now) g.S.Source.hands g.S.Source.refuses g.S.Source.first first c.args.modules.now.units.now.entries =
     keeps_nothing (g.R.Resolver.hands c.args.modules.now.resolver.now) g.S.Source.hands (g.R.Resolver.refuses c.args.modules.now.resolver.now) g.S.Source.refuses g.S.Source.first first c.args.modules.now.units.now.entries c.requires.follows c.requires.first c.requires.nothing in
     let end = c.linked_by.new.loader in
-    let there = (c.linked_by.ensures.adds.ready c.args.table.path ((path_view c.args.path, c.requires.root.path), ((c.requires.ready, c.requires.stays), start))).1 in
+    let there = (c.linked_by.ensures.adds.ready c.args.table.path ((path_view c.args.root.path, c.requires.root.path), ((c.requires.ready, c.requires.stays), start))).1 in
     there.0.1.held ∙ sym c.requires.stays.held
 
 pub returns-in_ok-link-in-Ok-clause-these : goal.returns-in_ok-link-in-Ok-clause-these
@@ -269,7 +268,7 @@ returns-in_ok-link-in-Ok-clause-these g c =
     let start : Keeps (g.R.Resolver.hands c.args.modules.now.resolver.now) (g.R.Resolver.refuses c.args.modules.now.resolver.now) g.S.Source.hands g.S.Source.refuses g.S.Source.first first c.args.modules.now.units.now.entries =
     keeps_nothing (g.R.Resolver.hands c.args.modules.now.resolver.now) g.S.Source.hands (g.R.Resolver.refuses c.args.modules.now.resolver.now) g.S.Source.refuses g.S.Source.first first c.args.modules.now.units.now.entries c.requires.follows c.requires.first c.requires.nothing in
     let end = c.linked_by.new.loader in
-    let there = (c.linked_by.ensures.adds.ready c.args.table.path ((path_view c.args.path, c.requires.root.path), ((c.requires.ready, c.requires.stays), start))).1 in
+    let there = (c.linked_by.ensures.adds.ready c.args.table.path ((path_view c.args.root.path, c.requires.root.path), ((c.requires.ready, c.requires.stays), start))).1 in
     there.0.1.here
 
 pub returns-in_ok-link-in-Ok-clause-stays_ready : goal.returns-in_ok-link-in-Ok-clause-stays_ready
@@ -278,7 +277,7 @@ returns-in_ok-link-in-Ok-clause-stays_ready g c =
     let start : Keeps (g.R.Resolver.hands c.args.modules.now.resolver.now) (g.R.Resolver.refuses c.args.modules.now.resolver.now) g.S.Source.hands g.S.Source.refuses g.S.Source.first first c.args.modules.now.units.now.entries =
     keeps_nothing (g.R.Resolver.hands c.args.modules.now.resolver.now) g.S.Source.hands (g.R.Resolver.refuses c.args.modules.now.resolver.now) g.S.Source.refuses g.S.Source.first first c.args.modules.now.units.now.entries c.requires.follows c.requires.first c.requires.nothing in
     let end = c.linked_by.new.loader in
-    let there = (c.linked_by.ensures.adds.ready c.args.table.path ((path_view c.args.path, c.requires.root.path), ((c.requires.ready, c.requires.stays), start))).1 in
+    let there = (c.linked_by.ensures.adds.ready c.args.table.path ((path_view c.args.root.path, c.requires.root.path), ((c.requires.ready, c.requires.stays), start))).1 in
     there.0.0
 
 pub returns-in_ok-link-in-Ok-clause-loan : goal.returns-in_ok-link-in-Ok-clause-loan
@@ -287,59 +286,32 @@ returns-in_ok-link-in-Ok-clause-loan g c =
     let start : Keeps (g.R.Resolver.hands c.args.modules.now.resolver.now) (g.R.Resolver.refuses c.args.modules.now.resolver.now) g.S.Source.hands g.S.Source.refuses g.S.Source.first first c.args.modules.now.units.now.entries =
     keeps_nothing (g.R.Resolver.hands c.args.modules.now.resolver.now) g.S.Source.hands (g.R.Resolver.refuses c.args.modules.now.resolver.now) g.S.Source.refuses g.S.Source.first first c.args.modules.now.units.now.entries c.requires.follows c.requires.first c.requires.nothing in
     let end = c.linked_by.new.loader in
-    let there = (c.linked_by.ensures.adds.ready c.args.table.path ((path_view c.args.path, c.requires.root.path), ((c.requires.ready, c.requires.stays), start))).1 in
+    let there = (c.linked_by.ensures.adds.ready c.args.table.path ((path_view c.args.root.path, c.requires.root.path), ((c.requires.ready, c.requires.stays), start))).1 in
     there.0.1.held ∙ sym c.requires.stays.held
 
-pub returns-in_err-error-in-Err-clause-these : goal.returns-in_err-error-in-Err-clause-these
-returns-in_err-error-in-Err-clause-these g c =
+pub returns-in-Err-clause-these : goal.returns-in-Err-clause-these
+returns-in-Err-clause-these g c =
     let first = numbering c.args.modules.now.numbers.now in
     let start : Keeps (g.R.Resolver.hands c.args.modules.now.resolver.now) (g.R.Resolver.refuses c.args.modules.now.resolver.now) g.S.Source.hands g.S.Source.refuses g.S.Source.first first c.args.modules.now.units.now.entries =
     keeps_nothing (g.R.Resolver.hands c.args.modules.now.resolver.now) g.S.Source.hands (g.R.Resolver.refuses c.args.modules.now.resolver.now) g.S.Source.refuses g.S.Source.first first c.args.modules.now.units.now.entries c.requires.follows c.requires.first c.requires.nothing in
     let end = c.linked_by.new.loader in
-    let there = (c.linked_by.ensures.adds.ready c.args.table.path ((path_view c.args.path, c.requires.root.path), ((c.requires.ready, c.requires.stays), start))).1 in
+    let there = (c.linked_by.ensures.adds.ready c.args.table.path ((path_view c.args.root.path, c.requires.root.path), ((c.requires.ready, c.requires.stays), start))).1 in
     there.0.1.here
 
-pub returns-in_err-error-in-Err-clause-stays_ready : goal.returns-in_err-error-in-Err-clause-stays_ready
-returns-in_err-error-in-Err-clause-stays_ready g c =
+pub returns-in-Err-clause-stays_ready : goal.returns-in-Err-clause-stays_ready
+returns-in-Err-clause-stays_ready g c =
     let first = numbering c.args.modules.now.numbers.now in
     let start : Keeps (g.R.Resolver.hands c.args.modules.now.resolver.now) (g.R.Resolver.refuses c.args.modules.now.resolver.now) g.S.Source.hands g.S.Source.refuses g.S.Source.first first c.args.modules.now.units.now.entries =
     keeps_nothing (g.R.Resolver.hands c.args.modules.now.resolver.now) g.S.Source.hands (g.R.Resolver.refuses c.args.modules.now.resolver.now) g.S.Source.refuses g.S.Source.first first c.args.modules.now.units.now.entries c.requires.follows c.requires.first c.requires.nothing in
     let end = c.linked_by.new.loader in
-    let there = (c.linked_by.ensures.adds.ready c.args.table.path ((path_view c.args.path, c.requires.root.path), ((c.requires.ready, c.requires.stays), start))).1 in
+    let there = (c.linked_by.ensures.adds.ready c.args.table.path ((path_view c.args.root.path, c.requires.root.path), ((c.requires.ready, c.requires.stays), start))).1 in
     there.0.0
 
-pub returns-in_err-error-in-Err-clause-loan : goal.returns-in_err-error-in-Err-clause-loan
-returns-in_err-error-in-Err-clause-loan g c =
+pub returns-in-Err-clause-loan : goal.returns-in-Err-clause-loan
+returns-in-Err-clause-loan g c =
     let first = numbering c.args.modules.now.numbers.now in
     let start : Keeps (g.R.Resolver.hands c.args.modules.now.resolver.now) (g.R.Resolver.refuses c.args.modules.now.resolver.now) g.S.Source.hands g.S.Source.refuses g.S.Source.first first c.args.modules.now.units.now.entries =
     keeps_nothing (g.R.Resolver.hands c.args.modules.now.resolver.now) g.S.Source.hands (g.R.Resolver.refuses c.args.modules.now.resolver.now) g.S.Source.refuses g.S.Source.first first c.args.modules.now.units.now.entries c.requires.follows c.requires.first c.requires.nothing in
     let end = c.linked_by.new.loader in
-    let there = (c.linked_by.ensures.adds.ready c.args.table.path ((path_view c.args.path, c.requires.root.path), ((c.requires.ready, c.requires.stays), start))).1 in
-    there.0.1.held ∙ sym c.requires.stays.held
-
-pub returns-in_ok-error-in-Err-clause-these : goal.returns-in_ok-error-in-Err-clause-these
-returns-in_ok-error-in-Err-clause-these g c =
-    let first = numbering c.args.modules.now.numbers.now in
-    let start : Keeps (g.R.Resolver.hands c.args.modules.now.resolver.now) (g.R.Resolver.refuses c.args.modules.now.resolver.now) g.S.Source.hands g.S.Source.refuses g.S.Source.first first c.args.modules.now.units.now.entries =
-    keeps_nothing (g.R.Resolver.hands c.args.modules.now.resolver.now) g.S.Source.hands (g.R.Resolver.refuses c.args.modules.now.resolver.now) g.S.Source.refuses g.S.Source.first first c.args.modules.now.units.now.entries c.requires.follows c.requires.first c.requires.nothing in
-    let end = c.linked_by.new.loader in
-    let there = (c.linked_by.ensures.adds.ready c.args.table.path ((path_view c.args.path, c.requires.root.path), ((c.requires.ready, c.requires.stays), start))).1 in
-    there.0.1.here
-
-pub returns-in_ok-error-in-Err-clause-stays_ready : goal.returns-in_ok-error-in-Err-clause-stays_ready
-returns-in_ok-error-in-Err-clause-stays_ready g c =
-    let first = numbering c.args.modules.now.numbers.now in
-    let start : Keeps (g.R.Resolver.hands c.args.modules.now.resolver.now) (g.R.Resolver.refuses c.args.modules.now.resolver.now) g.S.Source.hands g.S.Source.refuses g.S.Source.first first c.args.modules.now.units.now.entries =
-    keeps_nothing (g.R.Resolver.hands c.args.modules.now.resolver.now) g.S.Source.hands (g.R.Resolver.refuses c.args.modules.now.resolver.now) g.S.Source.refuses g.S.Source.first first c.args.modules.now.units.now.entries c.requires.follows c.requires.first c.requires.nothing in
-    let end = c.linked_by.new.loader in
-    let there = (c.linked_by.ensures.adds.ready c.args.table.path ((path_view c.args.path, c.requires.root.path), ((c.requires.ready, c.requires.stays), start))).1 in
-    there.0.0
-
-pub returns-in_ok-error-in-Err-clause-loan : goal.returns-in_ok-error-in-Err-clause-loan
-returns-in_ok-error-in-Err-clause-loan g c =
-    let first = numbering c.args.modules.now.numbers.now in
-    let start : Keeps (g.R.Resolver.hands c.args.modules.now.resolver.now) (g.R.Resolver.refuses c.args.modules.now.resolver.now) g.S.Source.hands g.S.Source.refuses g.S.Source.first first c.args.modules.now.units.now.entries =
-    keeps_nothing (g.R.Resolver.hands c.args.modules.now.resolver.now) g.S.Source.hands (g.R.Resolver.refuses c.args.modules.now.resolver.now) g.S.Source.refuses g.S.Source.first first c.args.modules.now.units.now.entries c.requires.follows c.requires.first c.requires.nothing in
-    let end = c.linked_by.new.loader in
-    let there = (c.linked_by.ensures.adds.ready c.args.table.path ((path_view c.args.path, c.requires.root.path), ((c.requires.ready, c.requires.stays), start))).1 in
+    let there = (c.linked_by.ensures.adds.ready c.args.table.path ((path_view c.args.root.path, c.requires.root.path), ((c.requires.ready, c.requires.stays), start))).1 in
     there.0.1.held ∙ sym c.requires.stays.held
