@@ -12,18 +12,13 @@ ghost use Rattle.wesl_writing.specs.Values.{attribute_in, expression_in, items_i
 use crate::expression::{
     applied_object, expression_value, expression_values, with_optional_expression,
 };
-use crate::object::{Object, text_value};
-use serde_json::Value;
-use std::alloc::{AllocError, Global};
+use crate::object::{Object, Written, WrittenList, text_value};
+use std::alloc::Global;
 use wesl_names::Names;
 use wesl_syntax::{Attribute, Attributes, ExpressionNode};
 
 /// The values of attributes.
-pub(crate) fn attribute_values(
-    alloc: Global,
-    names: &Names,
-    attributes: &Attributes,
-) -> Result<Vec<Value>, AllocError>
+pub(crate) fn attribute_values(alloc: Global, names: &Names, attributes: &Attributes) -> WrittenList
     ensures { IfOk result (λ vs. items_view vs.items ≡ items_in names.now an_attribute (attributes_tree attributes.now).children) }
 {
     let mut values = Vec::with_capacity(alloc, attributes.len())?;
@@ -34,7 +29,7 @@ pub(crate) fn attribute_values(
 }
 
 #[tactic(auto, unfolding(crate::specs::Values::placed_in, crate::specs::Values::with_member, crate::specs::Values::with_list, crate::specs::Values::with_option))]
-fn attribute_value(alloc: Global, names: &Names, attribute: &Attribute) -> Result<Value, AllocError>
+fn attribute_value(alloc: Global, names: &Names, attribute: &Attribute) -> Written
     ensures { IfOk result (λ v. view v ≡ attribute_in names.now (attribute_view attribute.now)) }
 {
     match attribute {
@@ -44,7 +39,7 @@ fn attribute_value(alloc: Global, names: &Names, attribute: &Attribute) -> Resul
         Attribute::Builtin(name) => named_value(alloc, "builtin", name.as_str()),
         Attribute::Const => text_value(alloc, "const"),
         Attribute::Diagnostic { severity, rule } => {
-            severity_object(alloc, severity.as_str(), rule.as_str()).worded("diagnostic")
+            diagnostic_value(alloc, severity.as_str(), rule.as_str())
         }
         Attribute::Group(operand) => operand_value(alloc, names, "group", operand),
         Attribute::Id(operand) => operand_value(alloc, names, "id", operand),
@@ -67,22 +62,23 @@ fn attribute_value(alloc: Global, names: &Names, attribute: &Attribute) -> Resul
     }
 }
 
-fn operand_value(
-    alloc: Global,
-    names: &Names,
-    word: &str,
-    operand: &ExpressionNode,
-) -> Result<Value, AllocError>
+fn operand_value(alloc: Global, names: &Names, word: &str, operand: &ExpressionNode) -> Written
     ensures { IfOk result (λ v. view v ≡ worded word.now (with_member (codes "expr") (expression_in names.now (expression_view operand.now.node)) no_members)) }
 {
     let operand = expression_value(alloc, names, &operand.node);
     Object::new(alloc).value("expr", operand).worded(word)
 }
 
-fn named_value(alloc: Global, word: &str, name: &str) -> Result<Value, AllocError>
+fn named_value(alloc: Global, word: &str, name: &str) -> Written
     ensures { IfOk result (λ v. view v ≡ worded word.now (with_member (codes "name") (string name.now) no_members)) }
 {
     Object::new(alloc).text("name", name).worded(word)
+}
+
+fn diagnostic_value(alloc: Global, severity: &str, rule: &str) -> Written
+    ensures { IfOk result (λ v. view v ≡ worded (codes "diagnostic") (with_member (codes "severity") (string severity.now) (with_member (codes "rule") (string rule.now) no_members))) }
+{
+    severity_object(alloc, severity, rule).worded("diagnostic")
 }
 
 /// The severity and the rule of a diagnostic.
@@ -94,7 +90,7 @@ pub(crate) fn severity_object(alloc: Global, severity: &str, rule: &str) -> Obje
         .text("severity", severity)
 }
 
-fn interpolate_value(alloc: Global, texts: &Vec<String>) -> Result<Value, AllocError>
+fn interpolate_value(alloc: Global, texts: &Vec<String>) -> Written
     ensures { IfOk result (λ v. view v ≡ worded (codes "interpolate") (with_list (codes "names") (texts_value (texts_of texts.now)) no_members)) }
 {
     Object::new(alloc)
@@ -103,7 +99,7 @@ fn interpolate_value(alloc: Global, texts: &Vec<String>) -> Result<Value, AllocE
 }
 
 /// Texts as values.
-pub(crate) fn text_values(alloc: Global, texts: &Vec<String>) -> Result<Vec<Value>, AllocError>
+pub(crate) fn text_values(alloc: Global, texts: &Vec<String>) -> WrittenList
     ensures { IfOk result (λ vs. items_view vs.items ≡ texts_value (texts_of texts.now)) }
 {
     let mut values = Vec::with_capacity(alloc, texts.len())?;
@@ -119,7 +115,7 @@ fn workgroup_value(
     x: &ExpressionNode,
     y: &Option<ExpressionNode>,
     z: &Option<ExpressionNode>,
-) -> Result<Value, AllocError>
+) -> Written
     ensures { IfOk result (λ v. view v ≡ worded (codes "workgroup_size") (with_member (codes "x") (expression_in names.now (expression_view x.now.node)) (with_option (codes "y") names.now (node_form an_expression) (optional expression_tree y.now) (with_option (codes "z") names.now (node_form an_expression) (optional expression_tree z.now) no_members)))) }
 {
     let object = with_optional_expression(alloc, Object::new(alloc), names, "z", z);
@@ -133,7 +129,7 @@ fn custom_value(
     names: &Names,
     name: &str,
     arguments: &Option<Vec<ExpressionNode>>,
-) -> Result<Value, AllocError>
+) -> Written
     ensures { IfOk result (λ v. view v ≡ attribute_in names.now (branch custom (leaf (text_label name.now) ∷ optional (listed expression_tree list) arguments.now ∷ []))) }
 {
     match arguments {

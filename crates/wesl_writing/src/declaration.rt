@@ -14,11 +14,10 @@ use crate::attribute::attribute_values;
 use crate::expression::{
     expression_value, type_value, with_optional_expression, with_optional_type,
 };
-use crate::object::{Object, spelling};
+use crate::object::{Object, Written, WrittenList, spelling};
 use crate::statement::body_value;
 use crate::words::{access_word, space_word};
-use serde_json::Value;
-use std::alloc::{AllocError, Global};
+use std::alloc::Global;
 use wesl_names::Names;
 use wesl_syntax::{
     AccessMode, Attributes, ConstAssert, Declaration, DeclarationKind, FormalParameter, Function,
@@ -31,7 +30,7 @@ pub(crate) fn global_values(
     alloc: Global,
     names: &Names,
     declarations: &Vec<GlobalDeclarationNode>,
-) -> Result<Vec<Value>, AllocError>
+) -> WrittenList
     ensures { IfOk result (λ vs. items_view vs.items ≡ items_in names.now a_declaration (declarations_tree declarations.now).children) }
 {
     let mut values = Vec::with_capacity(alloc, declarations.len())?;
@@ -41,11 +40,7 @@ pub(crate) fn global_values(
     Ok(values)
 }
 
-fn global_value(
-    alloc: Global,
-    names: &Names,
-    declaration: &GlobalDeclaration,
-) -> Result<Value, AllocError>
+fn global_value(alloc: Global, names: &Names, declaration: &GlobalDeclaration) -> Written
     ensures { IfOk result (λ v. view v ≡ declaration_in names.now (global_view declaration.now)) }
 {
     match declaration {
@@ -59,8 +54,7 @@ fn global_value(
 }
 
 /// The value of a void declaration, which is also that of a void statement.
-#[tactic(auto, unfolding(crate::specs::Values::placed_in, crate::specs::Values::with_member))]
-pub(crate) fn void_value(alloc: Global, names: &Names) -> Result<Value, AllocError>
+pub(crate) fn void_value(alloc: Global, names: &Names) -> Written
     ensures global { IfOk result (λ v. view v ≡ declaration_in names.now (branch void [])) }
     ensures local { IfOk result (λ v. view v ≡ statement_in names.now (branch void [])) }
 {
@@ -68,11 +62,7 @@ pub(crate) fn void_value(alloc: Global, names: &Names) -> Result<Value, AllocErr
 }
 
 /// The value of a declaration, which is the same in a module and in a function.
-pub(crate) fn declaration_value(
-    alloc: Global,
-    names: &Names,
-    declaration: &Declaration,
-) -> Result<Value, AllocError>
+pub(crate) fn declaration_value(alloc: Global, names: &Names, declaration: &Declaration) -> Written
     ensures global { IfOk result (λ v. view v ≡ declaration_in names.now (declaration_view declaration.now)) }
     ensures local { IfOk result (λ v. view v ≡ statement_in names.now (declaration_view declaration.now)) }
 {
@@ -124,7 +114,7 @@ fn with_access(object: Object, names: &Names, mode: Option<AccessMode>) -> Objec
     }
 }
 
-fn alias_value(alloc: Global, names: &Names, alias: &TypeAlias) -> Result<Value, AllocError>
+fn alias_value(alloc: Global, names: &Names, alias: &TypeAlias) -> Written
     ensures { IfOk result (λ v. view v ≡ declaration_in names.now (alias_view alias.now)) }
 {
     let name = spelling(names, alias.ident);
@@ -147,7 +137,7 @@ fn typed_object(
         .list("attrs", attribute_values(alloc, names, attributes))
 }
 
-fn struct_value(alloc: Global, names: &Names, structure: &Struct) -> Result<Value, AllocError>
+fn struct_value(alloc: Global, names: &Names, structure: &Struct) -> Written
     ensures { IfOk result (λ v. view v ≡ declaration_in names.now (struct_view structure.now)) }
 {
     let attributes = attribute_values(alloc, names, &structure.attributes);
@@ -158,11 +148,7 @@ fn struct_value(alloc: Global, names: &Names, structure: &Struct) -> Result<Valu
         .worded("struct")
 }
 
-fn member_values(
-    alloc: Global,
-    names: &Names,
-    members: &Vec<StructMemberNode>,
-) -> Result<Vec<Value>, AllocError>
+fn member_values(alloc: Global, names: &Names, members: &Vec<StructMemberNode>) -> WrittenList
     ensures { IfOk result (λ vs. items_view vs.items ≡ items_in names.now a_member (listed (placed member_view member_node) members_kind members.now).children) }
 {
     let mut values = Vec::with_capacity(alloc, members.len())?;
@@ -172,14 +158,14 @@ fn member_values(
     Ok(values)
 }
 
-fn member_value(alloc: Global, names: &Names, member: &StructMember) -> Result<Value, AllocError>
+fn member_value(alloc: Global, names: &Names, member: &StructMember) -> Written
     ensures { IfOk result (λ v. view v ≡ placed_in names.now a_member member_node (member_view member.now)) }
 {
     let name = member.name.as_str();
     typed_object(alloc, names, &member.attributes, name, &member.ty).finish()
 }
 
-fn function_value(alloc: Global, names: &Names, function: &Function) -> Result<Value, AllocError>
+fn function_value(alloc: Global, names: &Names, function: &Function) -> Written
     ensures { IfOk result (λ v. view v ≡ declaration_in names.now (function_view function.now)) }
 {
     let object = Object::new(alloc).value("body", body_value(alloc, names, &function.body));
@@ -194,11 +180,7 @@ fn function_value(alloc: Global, names: &Names, function: &Function) -> Result<V
         .worded("fn")
 }
 
-fn parameter_values(
-    alloc: Global,
-    names: &Names,
-    parameters: &Vec<FormalParameter>,
-) -> Result<Vec<Value>, AllocError>
+fn parameter_values(alloc: Global, names: &Names, parameters: &Vec<FormalParameter>) -> WrittenList
     ensures { IfOk result (λ vs. items_view vs.items ≡ items_in names.now a_parameter (listed parameter_view parameters_kind parameters.now).children) }
 {
     let mut values = Vec::with_capacity(alloc, parameters.len())?;
@@ -208,11 +190,7 @@ fn parameter_values(
     Ok(values)
 }
 
-fn parameter_value(
-    alloc: Global,
-    names: &Names,
-    parameter: &FormalParameter,
-) -> Result<Value, AllocError>
+fn parameter_value(alloc: Global, names: &Names, parameter: &FormalParameter) -> Written
     ensures { IfOk result (λ v. view v ≡ value_in names.now (node_form a_parameter) (parameter_view parameter.now)) }
 {
     let name = spelling(names, parameter.ident);
@@ -220,11 +198,7 @@ fn parameter_value(
 }
 
 /// The value of an assertion, which is the same in a module and in a function.
-pub(crate) fn assert_value(
-    alloc: Global,
-    names: &Names,
-    assertion: &ConstAssert,
-) -> Result<Value, AllocError>
+pub(crate) fn assert_value(alloc: Global, names: &Names, assertion: &ConstAssert) -> Written
     ensures global { IfOk result (λ v. view v ≡ declaration_in names.now (assert_view assertion.now)) }
     ensures local { IfOk result (λ v. view v ≡ statement_in names.now (assert_view assertion.now)) }
 {

@@ -12,7 +12,7 @@ ghost use Rattle.wesl_form.specs.Words.{binary_words, unary_words};
 ghost use Rattle.wesl_writing.specs.Objects.{Holds};
 ghost use Rattle.wesl_writing.specs.Values.{bare, call_members, expression_in, items_in, value_in, with_member, with_option, word_value, worded};
 
-use crate::object::{Object, spelling, text_value};
+use crate::object::{Object, Written, WrittenList, spelling, text_value};
 use crate::words::{binary_word, unary_word};
 use serde_json::Value;
 use std::alloc::{AllocError, Global};
@@ -24,11 +24,7 @@ use wesl_syntax::{
 
 /// The value of an expression.
 #[cycle(writing)]
-pub(crate) fn expression_value(
-    alloc: Global,
-    names: &Names,
-    expression: &Expression,
-) -> Result<Value, AllocError>
+pub(crate) fn expression_value(alloc: Global, names: &Names, expression: &Expression) -> Written
     ensures { IfOk result (λ v. view v ≡ expression_in names.now (expression_view expression.now)) }
 {
     match expression {
@@ -66,7 +62,7 @@ pub(crate) fn expression_value(
     }
 }
 
-fn literal_value(alloc: Global, names: &Names, literal: &Literal) -> Result<Value, AllocError>
+fn literal_value(alloc: Global, names: &Names, literal: &Literal) -> Written
     ensures { IfOk result (λ v. view v ≡ expression_in names.now (branch literal_kind (literal_tree literal.now ∷ []))) }
 {
     match literal {
@@ -75,23 +71,14 @@ fn literal_value(alloc: Global, names: &Names, literal: &Literal) -> Result<Valu
     }
 }
 
-fn unary_value(
-    alloc: Global,
-    operator: UnaryOperator,
-    operand: Result<Value, AllocError>,
-) -> Result<Value, AllocError>
+fn unary_value(alloc: Global, operator: UnaryOperator, operand: Written) -> Written
     ensures { (d : Data) → IfOk operand (λ v. view v ≡ d) → IfOk result (λ v. view v ≡ worded (codes "unary") (with_member (codes "op") (word_value unary_words (unary operator)) (with_member (codes "expr") d no_members))) }
 {
     let object = Object::new(alloc).value("expr", operand);
     object.text("op", unary_word(operator)).worded("unary")
 }
 
-fn binary_value(
-    alloc: Global,
-    operator: BinaryOperator,
-    left: Result<Value, AllocError>,
-    right: Result<Value, AllocError>,
-) -> Result<Value, AllocError>
+fn binary_value(alloc: Global, operator: BinaryOperator, left: Written, right: Written) -> Written
     ensures { (d e : Data) → IfOk left (λ v. view v ≡ d) → IfOk right (λ v. view v ≡ e) → IfOk result (λ v. view v ≡ worded (codes "binary") (with_member (codes "op") (word_value binary_words (binary operator)) (with_member (codes "left") d (with_member (codes "right") e no_members)))) }
 {
     let object = Object::new(alloc).value("right", right).value("left", left);
@@ -114,7 +101,7 @@ pub(crate) fn expression_values(
     alloc: Global,
     names: &Names,
     nodes: &Vec<ExpressionNode>,
-) -> Result<Vec<Value>, AllocError>
+) -> WrittenList
     ensures { IfOk result (λ vs. items_view vs.items ≡ items_in names.now an_expression (listed expression_tree list nodes.now).children) }
 {
     let mut values = Vec::with_capacity(alloc, nodes.len())?;
@@ -126,11 +113,7 @@ pub(crate) fn expression_values(
 
 /// The value of a type: its name, where it has no path and no arguments.
 #[cycle(writing)]
-pub(crate) fn type_value(
-    alloc: Global,
-    names: &Names,
-    ty: &TypeExpression,
-) -> Result<Value, AllocError>
+pub(crate) fn type_value(alloc: Global, names: &Names, ty: &TypeExpression) -> Written
     ensures { IfOk result (λ v. view v ≡ value_in names.now (node_form a_type) (type_view ty.now)) }
 {
     match &ty.template_args {
@@ -148,7 +131,7 @@ fn plain_type_value(
     names: &Names,
     path: &Option<ModulePath>,
     ident: Ident,
-) -> Result<Value, AllocError>
+) -> Written
     ensures { IfOk result (λ v. view v ≡ value_in names.now (node_form a_type) (branch type_expression (optional path_tree path.now ∷ ident_tree reference ident ∷ leaf_tree (kind absent) ∷ []))) }
 {
     let name = spelling(names, ident);
@@ -162,7 +145,7 @@ fn plain_type_value(
 }
 
 // A path as a value.
-fn path_value(alloc: Global, path: &ModulePath) -> Result<Value, AllocError>
+fn path_value(alloc: Global, path: &ModulePath) -> Written
     ensures { IfOk result (λ v. view v ≡ string (to_text (path_view path.now))) }
 {
     match path.to_text(alloc) {
@@ -177,8 +160,8 @@ fn argued_type_value(
     names: &Names,
     path: &Option<ModulePath>,
     ident: Ident,
-    arguments: Result<Vec<Value>, AllocError>,
-) -> Result<Value, AllocError>
+    arguments: WrittenList,
+) -> Written
     ensures { (ds : Items) → IfOk arguments (λ vs. items_view vs.items ≡ ds) → IfOk result (λ v. view v ≡ bare (with_option (codes "path") names.now (leaf a_path) (optional path_tree path.now) (with_member (codes "name") (string (name_in names.now ident.0)) (with_member (codes "args") (array ds) no_members)))) }
 {
     let object = applied_object(alloc, spelling(names, ident), arguments);
@@ -186,11 +169,7 @@ fn argued_type_value(
 }
 
 /// A name with arguments, which are written also where there are none.
-pub(crate) fn applied_object(
-    alloc: Global,
-    name: &str,
-    arguments: Result<Vec<Value>, AllocError>,
-) -> Object
+pub(crate) fn applied_object(alloc: Global, name: &str, arguments: WrittenList) -> Object
     ensures { (t : Text) (ds : Items) → name.now ≡ t → IfOk arguments (λ vs. items_view vs.items ≡ ds) → Holds result (with_member (codes "name") (string t) (with_member (codes "args") (array ds) no_members)) }
 {
     Object::new(alloc)
@@ -214,11 +193,7 @@ pub(crate) fn with_optional_path(
 }
 
 #[cycle(writing)]
-fn argument_values(
-    alloc: Global,
-    names: &Names,
-    arguments: &Vec<TemplateArg>,
-) -> Result<Vec<Value>, AllocError>
+fn argument_values(alloc: Global, names: &Names, arguments: &Vec<TemplateArg>) -> WrittenList
     ensures { IfOk result (λ vs. items_view vs.items ≡ items_in names.now a_template_argument (listed argument_view list arguments.now).children) }
 {
     let mut values = Vec::with_capacity(alloc, arguments.len())?;

@@ -1,18 +1,17 @@
 //! Writing imports and directives.
 ghost use Rattle.std.specs.Prelude.{◌≡◌, IfOk, codes};
-ghost use Rattle.serde_json.specs.Data.{no_members};
+ghost use Rattle.serde_json.specs.Data.{no_members, string};
 ghost use Rattle.serde_json.specs.View.{items_view, view};
 ghost use Rattle.wesl_form.specs.Schema.{a_content, a_directive, an_attribute, an_entry, an_import, node as node_form};
 ghost use Rattle.wesl_form.specs.Writing.{texts_value};
 ghost use Rattle.wesl_syntax.specs.Tree.{directive_node, import_node, list};
 ghost use Rattle.wesl_syntax.specs.View.{attributes_tree, content_view, directive_view, directives_tree, entry_view, import_view, imports_tree, item_view, listed, texts_of};
-ghost use Rattle.wesl_writing.specs.Values.{items_in, placed_in, value_in, with_list, worded};
+ghost use Rattle.wesl_writing.specs.Values.{items_in, placed_in, value_in, with_list, with_member, worded};
 
 use crate::attribute::{attribute_values, severity_object, text_values};
 use crate::expression::with_optional_path;
-use crate::object::{Object, spelling};
-use serde_json::Value;
-use std::alloc::{AllocError, Global};
+use crate::object::{Object, Written, WrittenList, spelling};
+use std::alloc::Global;
 use wesl_names::Names;
 use wesl_syntax::{
     Attributes, GlobalDirective, GlobalDirectiveNode, Import, ImportContent, ImportItem,
@@ -24,7 +23,7 @@ pub(crate) fn import_values(
     alloc: Global,
     names: &Names,
     imports: &Vec<ImportStatementNode>,
-) -> Result<Vec<Value>, AllocError>
+) -> WrittenList
     ensures { IfOk result (λ vs. items_view vs.items ≡ items_in names.now an_import (imports_tree imports.now).children) }
 {
     let mut values = Vec::with_capacity(alloc, imports.len())?;
@@ -34,7 +33,7 @@ pub(crate) fn import_values(
     Ok(values)
 }
 
-fn import_value(alloc: Global, names: &Names, import: &ImportStatement) -> Result<Value, AllocError>
+fn import_value(alloc: Global, names: &Names, import: &ImportStatement) -> Written
     ensures { IfOk result (λ v. view v ≡ placed_in names.now an_import import_node (import_view import.now)) }
 {
     let content = content_value(alloc, names, &import.content);
@@ -45,7 +44,7 @@ fn import_value(alloc: Global, names: &Names, import: &ImportStatement) -> Resul
 }
 
 #[cycle(writing)]
-fn content_value(alloc: Global, names: &Names, content: &ImportContent) -> Result<Value, AllocError>
+fn content_value(alloc: Global, names: &Names, content: &ImportContent) -> Written
     ensures { IfOk result (λ v. view v ≡ value_in names.now (node_form a_content) (content_view content.now)) }
 {
     match content {
@@ -57,7 +56,7 @@ fn content_value(alloc: Global, names: &Names, content: &ImportContent) -> Resul
     }
 }
 
-fn item_value(alloc: Global, names: &Names, item: &ImportItem) -> Result<Value, AllocError>
+fn item_value(alloc: Global, names: &Names, item: &ImportItem) -> Written
     ensures { IfOk result (λ v. view v ≡ value_in names.now (node_form a_content) (item_view item.now)) }
 {
     let name = spelling(names, item.ident);
@@ -71,11 +70,7 @@ fn item_value(alloc: Global, names: &Names, item: &ImportItem) -> Result<Value, 
 }
 
 #[cycle(writing)]
-fn entry_values(
-    alloc: Global,
-    names: &Names,
-    entries: &Vec<Import>,
-) -> Result<Vec<Value>, AllocError>
+fn entry_values(alloc: Global, names: &Names, entries: &Vec<Import>) -> WrittenList
     ensures { IfOk result (λ vs. items_view vs.items ≡ items_in names.now an_entry (listed entry_view list entries.now).children) }
 {
     let mut values = Vec::with_capacity(alloc, entries.len())?;
@@ -86,7 +81,7 @@ fn entry_values(
 }
 
 #[cycle(writing)]
-fn entry_value(alloc: Global, names: &Names, entry: &Import) -> Result<Value, AllocError>
+fn entry_value(alloc: Global, names: &Names, entry: &Import) -> Written
     ensures { IfOk result (λ v. view v ≡ value_in names.now (node_form an_entry) (entry_view entry.now)) }
 {
     let content = content_value(alloc, names, &entry.content);
@@ -101,7 +96,7 @@ pub(crate) fn directive_values(
     alloc: Global,
     names: &Names,
     directives: &Vec<GlobalDirectiveNode>,
-) -> Result<Vec<Value>, AllocError>
+) -> WrittenList
     ensures { IfOk result (λ vs. items_view vs.items ≡ items_in names.now a_directive (directives_tree directives.now).children) }
 {
     let mut values = Vec::with_capacity(alloc, directives.len())?;
@@ -112,11 +107,7 @@ pub(crate) fn directive_values(
 }
 
 #[tactic(auto, unfolding(crate::specs::Values::placed_in, crate::specs::Values::with_member, crate::specs::Values::with_list, crate::specs::Values::items_in))]
-fn directive_value(
-    alloc: Global,
-    names: &Names,
-    directive: &GlobalDirective,
-) -> Result<Value, AllocError>
+fn directive_value(alloc: Global, names: &Names, directive: &GlobalDirective) -> Written
     ensures { IfOk result (λ v. view v ≡ placed_in names.now a_directive directive_node (directive_view directive.now)) }
 {
     match directive {
@@ -124,11 +115,7 @@ fn directive_value(
             attributes,
             severity,
             rule,
-        } => {
-            severity_object(alloc, severity.as_str(), rule.as_str())
-                .list("attrs", attribute_values(alloc, names, attributes))
-                .worded("diagnostic")
-        }
+        } => diagnostic_value(alloc, names, attributes, severity.as_str(), rule.as_str()),
         GlobalDirective::Enable {
             attributes,
             names: enabled,
@@ -140,13 +127,27 @@ fn directive_value(
     }
 }
 
+fn diagnostic_value(
+    alloc: Global,
+    names: &Names,
+    attributes: &Attributes,
+    severity: &str,
+    rule: &str,
+) -> Written
+    ensures { IfOk result (λ v. view v ≡ worded (codes "diagnostic") (with_list (codes "attrs") (items_in names.now an_attribute (attributes_tree attributes.now).children) (with_member (codes "severity") (string severity.now) (with_member (codes "rule") (string rule.now) no_members)))) }
+{
+    severity_object(alloc, severity, rule)
+        .list("attrs", attribute_values(alloc, names, attributes))
+        .worded("diagnostic")
+}
+
 fn extensions_value(
     alloc: Global,
     names: &Names,
     word: &str,
     attributes: &Attributes,
     extensions: &Vec<String>,
-) -> Result<Value, AllocError>
+) -> Written
     ensures { IfOk result (λ v. view v ≡ worded word.now (with_list (codes "attrs") (items_in names.now an_attribute (attributes_tree attributes.now).children) (with_list (codes "names") (texts_value (texts_of extensions.now)) no_members))) }
 {
     Object::new(alloc)

@@ -10,6 +10,12 @@ use serde_json::{Map, Value};
 use std::alloc::{AllocError, Global};
 use wesl_names::{Ident, Names};
 
+/// A value that is written, unless there is no memory for it.
+pub(crate) type Written = Result<Value, AllocError>;
+
+/// Values that are written, unless there is no memory for them.
+pub(crate) type WrittenList = Result<Vec<Value>, AllocError>;
+
 /// An object that is written, member by member. Its members stand in the order of their keys, whichever comes first here.
 ///
 /// What is written into it may be a refusal for want of memory. `finish` answers that, so that no member has to ask.
@@ -35,7 +41,7 @@ impl Object {
 
     /// The object with a value at `key`.
     #[tactic(auto, unfolding(crate::specs::Objects::Holds, crate::specs::Values::with_member))]
-    pub(crate) fn value(self, key: &str, value: Result<Value, AllocError>) -> Object
+    pub(crate) fn value(self, key: &str, value: Written) -> Object
         ensures { (ms : Members) (d : Data) → Holds self ms → IfOk value (λ v. view v ≡ d) → Holds result (with_member key.now d ms) }
     {
         let alloc = self.alloc;
@@ -60,7 +66,7 @@ impl Object {
     }
 
     /// The object with a list at `key`, which may be empty.
-    pub(crate) fn array(self, key: &str, list: Result<Vec<Value>, AllocError>) -> Object
+    pub(crate) fn array(self, key: &str, list: WrittenList) -> Object
         ensures { (ms : Members) (ds : Items) → Holds self ms → IfOk list (λ vs. items_view vs.items ≡ ds) → Holds result (with_member key.now (array ds) ms) }
     {
         match list {
@@ -71,7 +77,7 @@ impl Object {
 
     /// The object with a list at `key`, unless the list is empty.
     #[tactic(auto, unfolding(crate::specs::Objects::Holds))]
-    pub(crate) fn list(self, key: &str, list: Result<Vec<Value>, AllocError>) -> Object
+    pub(crate) fn list(self, key: &str, list: WrittenList) -> Object
         ensures { (ms : Members) (ds : Items) → Holds self ms → IfOk list (λ vs. items_view vs.items ≡ ds) → Holds result (with_list key.now ds ms) }
     {
         match list {
@@ -91,7 +97,7 @@ impl Object {
 
     /// The object as a value.
     #[tactic(auto, unfolding(crate::specs::Objects::Holds))]
-    pub(crate) fn finish(self) -> Result<Value, AllocError>
+    pub(crate) fn finish(self) -> Written
         ensures { (ms : Members) → Holds self ms → IfOk result (λ v. view v ≡ object ms) }
     {
         match self.members {
@@ -101,7 +107,7 @@ impl Object {
     }
 
     /// The object as a value, with its word.
-    pub(crate) fn worded(self, word: &str) -> Result<Value, AllocError>
+    pub(crate) fn worded(self, word: &str) -> Written
         ensures { (ms : Members) (w : Text) → Holds self ms → word.now ≡ w → IfOk result (λ v. view v ≡ worded w ms) }
     {
         self.text("k", word).finish()
@@ -120,7 +126,7 @@ pub(crate) fn spelling<'a>(names: &'a Names, ident: Ident) -> &'a str
 }
 
 /// A text as a value.
-pub(crate) fn text_value(alloc: Global, text: &str) -> Result<Value, AllocError>
+pub(crate) fn text_value(alloc: Global, text: &str) -> Written
     ensures { IfOk result (λ v. view v ≡ string text.now) }
 {
     Ok(Value::String(String::from_str(alloc, text)?))

@@ -1,7 +1,7 @@
 //! Writing statements.
 ghost use Rattle.std.specs.Prelude.{◌≡◌, IfOk, codes};
 ghost use Rattle.std.specs.Box.{box_value};
-ghost use Rattle.serde_json.specs.Data.{Members, no_members};
+ghost use Rattle.serde_json.specs.Data.{Data, Members, no_members};
 ghost use Rattle.serde_json.specs.View.{items_view, view};
 ghost use Rattle.wesl_form.specs.Schema.{a_body, a_break_if, a_case, a_clause, a_continuing, a_statement, an_attribute, an_elif, an_else, an_expression, node as node_form};
 ghost use Rattle.wesl_form.specs.Words.{assignment_words};
@@ -13,10 +13,9 @@ ghost use Rattle.wesl_writing.specs.Values.{bare, body_members, call_members, ex
 use crate::attribute::attribute_values;
 use crate::declaration::{assert_value, declaration_value, void_value};
 use crate::expression::{call_object, expression_value, with_optional_expression};
-use crate::object::Object;
+use crate::object::{Object, Written, WrittenList};
 use crate::words::assignment_word;
-use serde_json::Value;
-use std::alloc::{AllocError, Global};
+use std::alloc::Global;
 use wesl_names::Names;
 use wesl_syntax::{
     AssignmentOperator, Attributes, BreakIfStatement, CaseSelector, CompoundStatement,
@@ -26,11 +25,7 @@ use wesl_syntax::{
 
 /// The value of a statement.
 #[cycle(writing)]
-pub(crate) fn statement_value(
-    alloc: Global,
-    names: &Names,
-    statement: &Statement,
-) -> Result<Value, AllocError>
+pub(crate) fn statement_value(alloc: Global, names: &Names, statement: &Statement) -> Written
     ensures { IfOk result (λ v. view v ≡ statement_in names.now (statement_view statement.now)) }
 {
     match statement {
@@ -108,6 +103,7 @@ pub(crate) fn statement_value(
             condition,
             body,
         } => {
+            let body = body_value(alloc, names, body);
             with_condition(alloc, Object::new(alloc), names, condition, body)
                 .list("attrs", attribute_values(alloc, names, attributes))
                 .worded("while")
@@ -134,7 +130,7 @@ fn assignment_value(
     operator: AssignmentOperator,
     lhs: &ExpressionNode,
     rhs: &ExpressionNode,
-) -> Result<Value, AllocError>
+) -> Written
     ensures { IfOk result (λ v. view v ≡ worded (codes "assign") (with_member (codes "op") (word_value assignment_words (assignment operator)) (with_list (codes "attrs") (items_in names.now an_attribute (attributes_tree attributes.now).children) (with_member (codes "lhs") (expression_in names.now (expression_view lhs.now.node)) (with_member (codes "rhs") (expression_in names.now (expression_view rhs.now.node)) no_members))))) }
 {
     let lhs = expression_value(alloc, names, &lhs.node);
@@ -154,7 +150,7 @@ fn step_value(
     word: &str,
     attributes: &Attributes,
     expression: &ExpressionNode,
-) -> Result<Value, AllocError>
+) -> Written
     ensures { IfOk result (λ v. view v ≡ worded word.now (with_list (codes "attrs") (items_in names.now an_attribute (attributes_tree attributes.now).children) (with_member (codes "expr") (expression_in names.now (expression_view expression.now.node)) no_members))) }
 {
     let expression = expression_value(alloc, names, &expression.node);
@@ -165,12 +161,7 @@ fn step_value(
 }
 
 // A statement that is a word alone.
-fn jump_value(
-    alloc: Global,
-    names: &Names,
-    word: &str,
-    attributes: &Attributes,
-) -> Result<Value, AllocError>
+fn jump_value(alloc: Global, names: &Names, word: &str, attributes: &Attributes) -> Written
     ensures { IfOk result (λ v. view v ≡ worded word.now (with_list (codes "attrs") (items_in names.now an_attribute (attributes_tree attributes.now).children) no_members)) }
 {
     Object::new(alloc)
@@ -183,7 +174,7 @@ fn return_value(
     names: &Names,
     attributes: &Attributes,
     expression: &Option<ExpressionNode>,
-) -> Result<Value, AllocError>
+) -> Written
     ensures { IfOk result (λ v. view v ≡ worded (codes "return") (with_list (codes "attrs") (items_in names.now an_attribute (attributes_tree attributes.now).children) (with_option (codes "expr") names.now (node_form an_expression) (optional expression_tree expression.now) no_members))) }
 {
     with_optional_expression(alloc, Object::new(alloc), names, "expr", expression)
@@ -191,12 +182,7 @@ fn return_value(
         .worded("return")
 }
 
-fn call_value(
-    alloc: Global,
-    names: &Names,
-    attributes: &Attributes,
-    call: &FunctionCall,
-) -> Result<Value, AllocError>
+fn call_value(alloc: Global, names: &Names, attributes: &Attributes, call: &FunctionCall) -> Written
     ensures { IfOk result (λ v. view v ≡ worded (codes "call") (with_list (codes "attrs") (items_in names.now an_attribute (attributes_tree attributes.now).children) (with_member (codes "call") (bare (call_members names.now (call_view call.now))) no_members))) }
 {
     Object::new(alloc)
@@ -207,11 +193,7 @@ fn call_value(
 
 /// The value of a body.
 #[cycle(writing)]
-pub(crate) fn body_value(
-    alloc: Global,
-    names: &Names,
-    body: &CompoundStatement,
-) -> Result<Value, AllocError>
+pub(crate) fn body_value(alloc: Global, names: &Names, body: &CompoundStatement) -> Written
     ensures { IfOk result (λ v. view v ≡ value_in names.now (node_form a_body) (compound_view body.now)) }
 {
     body_object(alloc, names, body).finish()
@@ -227,11 +209,7 @@ fn body_object(alloc: Global, names: &Names, body: &CompoundStatement) -> Object
 }
 
 #[cycle(writing)]
-fn statement_values(
-    alloc: Global,
-    names: &Names,
-    nodes: &Vec<StatementNode>,
-) -> Result<Vec<Value>, AllocError>
+fn statement_values(alloc: Global, names: &Names, nodes: &Vec<StatementNode>) -> WrittenList
     ensures { IfOk result (λ vs. items_view vs.items ≡ items_in names.now a_statement (listed statement_tree statements_kind nodes.now).children) }
 {
     let mut values = Vec::with_capacity(alloc, nodes.len())?;
@@ -242,18 +220,17 @@ fn statement_values(
 }
 
 // The object with a condition and the body that it decides on.
-#[cycle(writing)]
 fn with_condition(
     alloc: Global,
     object: Object,
     names: &Names,
     condition: &ExpressionNode,
-    body: &CompoundStatement,
+    body: Written,
 ) -> Object
-    ensures { (ms : Members) → Holds object ms → Holds result (with_member (codes "cond") (expression_in names.now (expression_view condition.now.node)) (with_member (codes "body") (value_in names.now (node_form a_body) (compound_view body.now)) ms)) }
+    ensures { (ms : Members) (d : Data) → Holds object ms → IfOk body (λ v. view v ≡ d) → Holds result (with_member (codes "cond") (expression_in names.now (expression_view condition.now.node)) (with_member (codes "body") d ms)) }
 {
     object
-        .value("body", body_value(alloc, names, body))
+        .value("body", body)
         .value("cond", expression_value(alloc, names, &condition.node))
 }
 
@@ -261,15 +238,12 @@ fn with_condition(
 fn with_if_clause(alloc: Global, object: Object, names: &Names, clause: &IfClause) -> Object
     ensures { (ms : Members) → Holds object ms → Holds result (with_clause names.now (if_view clause.now) ms) }
 {
-    with_condition(alloc, object, names, &clause.expression, &clause.body)
+    let body = body_value(alloc, names, &clause.body);
+    with_condition(alloc, object, names, &clause.expression, body)
 }
 
 #[cycle(writing)]
-fn elif_values(
-    alloc: Global,
-    names: &Names,
-    clauses: &Vec<ElseIfClause>,
-) -> Result<Vec<Value>, AllocError>
+fn elif_values(alloc: Global, names: &Names, clauses: &Vec<ElseIfClause>) -> WrittenList
     ensures { IfOk result (λ vs. items_view vs.items ≡ items_in names.now an_elif (listed else_if_view list clauses.now).children) }
 {
     let mut values = Vec::with_capacity(alloc, clauses.len())?;
@@ -280,11 +254,11 @@ fn elif_values(
 }
 
 #[cycle(writing)]
-fn elif_value(alloc: Global, names: &Names, clause: &ElseIfClause) -> Result<Value, AllocError>
+fn elif_value(alloc: Global, names: &Names, clause: &ElseIfClause) -> Written
     ensures { IfOk result (λ v. view v ≡ value_in names.now (node_form an_elif) (else_if_view clause.now)) }
 {
-    let object = Object::new(alloc);
-    with_condition(alloc, object, names, &clause.expression, &clause.body)
+    let body = body_value(alloc, names, &clause.body);
+    with_condition(alloc, Object::new(alloc), names, &clause.expression, body)
         .list("attrs", attribute_values(alloc, names, &clause.attributes))
         .finish()
 }
@@ -305,7 +279,7 @@ fn with_optional_else(
 }
 
 #[cycle(writing)]
-fn else_value(alloc: Global, names: &Names, clause: &ElseClause) -> Result<Value, AllocError>
+fn else_value(alloc: Global, names: &Names, clause: &ElseClause) -> Written
     ensures { IfOk result (λ v. view v ≡ value_in names.now (node_form an_else) (else_view clause.now)) }
 {
     Object::new(alloc)
@@ -315,11 +289,7 @@ fn else_value(alloc: Global, names: &Names, clause: &ElseClause) -> Result<Value
 }
 
 #[cycle(writing)]
-fn clause_values(
-    alloc: Global,
-    names: &Names,
-    clauses: &Vec<SwitchClause>,
-) -> Result<Vec<Value>, AllocError>
+fn clause_values(alloc: Global, names: &Names, clauses: &Vec<SwitchClause>) -> WrittenList
     ensures { IfOk result (λ vs. items_view vs.items ≡ items_in names.now a_clause (listed clause_view clauses_kind clauses.now).children) }
 {
     let mut values = Vec::with_capacity(alloc, clauses.len())?;
@@ -330,7 +300,7 @@ fn clause_values(
 }
 
 #[cycle(writing)]
-fn clause_value(alloc: Global, names: &Names, clause: &SwitchClause) -> Result<Value, AllocError>
+fn clause_value(alloc: Global, names: &Names, clause: &SwitchClause) -> Written
     ensures { IfOk result (λ v. view v ≡ value_in names.now (node_form a_clause) (clause_view clause.now)) }
 {
     Object::new(alloc)
@@ -340,11 +310,7 @@ fn clause_value(alloc: Global, names: &Names, clause: &SwitchClause) -> Result<V
         .finish()
 }
 
-fn case_values(
-    alloc: Global,
-    names: &Names,
-    selectors: &Vec<CaseSelector>,
-) -> Result<Vec<Value>, AllocError>
+fn case_values(alloc: Global, names: &Names, selectors: &Vec<CaseSelector>) -> WrittenList
     ensures { IfOk result (λ vs. items_view vs.items ≡ items_in names.now a_case (listed selector_view list selectors.now).children) }
 {
     let mut values = Vec::with_capacity(alloc, selectors.len())?;
@@ -354,7 +320,7 @@ fn case_values(
     Ok(values)
 }
 
-fn case_value(alloc: Global, names: &Names, selector: &CaseSelector) -> Result<Value, AllocError>
+fn case_value(alloc: Global, names: &Names, selector: &CaseSelector) -> Written
     ensures { IfOk result (λ v. view v ≡ value_in names.now (node_form a_case) (selector_view selector.now)) }
 {
     match selector {
@@ -381,11 +347,7 @@ fn with_optional_continuing(
 }
 
 #[cycle(writing)]
-fn continuing_value(
-    alloc: Global,
-    names: &Names,
-    continuing: &ContinuingStatement,
-) -> Result<Value, AllocError>
+fn continuing_value(alloc: Global, names: &Names, continuing: &ContinuingStatement) -> Written
     ensures { IfOk result (λ v. view v ≡ value_in names.now (node_form a_continuing) (continuing_view continuing.now)) }
 {
     let attributes = attribute_values(alloc, names, &continuing.attributes);
@@ -409,11 +371,7 @@ fn with_optional_break_if(
     }
 }
 
-fn break_if_value(
-    alloc: Global,
-    names: &Names,
-    break_if: &BreakIfStatement,
-) -> Result<Value, AllocError>
+fn break_if_value(alloc: Global, names: &Names, break_if: &BreakIfStatement) -> Written
     ensures { IfOk result (λ v. view v ≡ value_in names.now (node_form a_break_if) (break_if_view break_if.now)) }
 {
     let expression = expression_value(alloc, names, &break_if.expression.node);

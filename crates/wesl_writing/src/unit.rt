@@ -7,7 +7,7 @@ ghost use Rattle.wesl_tree.specs.Translation.{unit_view};
 
 use crate::declaration::global_values;
 use crate::import::{directive_values, import_values};
-use crate::object::Object;
+use crate::object::{Object, Written};
 use serde_json::Value;
 use std::alloc::Global;
 use wesl_tree::{Error, TranslationUnit};
@@ -20,13 +20,19 @@ pub fn value_of_unit(alloc: Global, unit: &TranslationUnit) -> Result<Value, Err
     ensures written { IfOk result (λ v. view v ≡ unit_value (unit_view unit.now)) }
     ensures refused { IfErr result (λ e. e ≡ error.Memory) }
 {
+    Ok(written_unit(alloc, unit)?)
+}
+
+fn written_unit(alloc: Global, unit: &TranslationUnit) -> Written
+    ensures { IfOk result (λ v. view v ≡ unit_value (unit_view unit.now)) }
+{
     let names = unit.names();
     let imports = import_values(alloc, names, unit.imports());
     let directives = directive_values(alloc, names, unit.global_directives());
     let declarations = global_values(alloc, names, unit.global_declarations());
-    let object = Object::new(alloc)
+    Object::new(alloc)
         .list("declarations", declarations)
         .list("directives", directives)
-        .list("imports", imports);
-    Ok(object.finish()?)
+        .list("imports", imports)
+        .finish()
 }

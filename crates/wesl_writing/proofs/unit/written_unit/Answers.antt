@@ -1,0 +1,17 @@
+use Rattle.std.proofs.Common.{rules}
+use Rattle.std.proofs.lemmas.Result.{IfOk-weaker}
+use Rattle.serde_json.specs.View.{view}
+use Rattle.wesl_syntax.specs.View.{imports_tree, directives_tree, declarations_tree}
+use Rattle.wesl_tree.specs.Translation.{unit_view}
+use Rattle.wesl_form.specs.Schema.{a_declaration, a_directive, an_import}
+use Rattle.wesl_writing.specs.Values.{items_in}
+use Rattle.wesl_writing.proofs.Imports.{as-unit}
+use Rattle.wesl_writing.proofs.unit.written_unit.Goals as goal
+
+pub returns : goal.returns
+returns c =
+    let names = c.names-names.result.now in
+    let i = (imports_tree c.imports.result.now).children in
+    let d = (directives_tree c.global_directives.result.now).children in
+    let g = (declarations_tree c.global_declarations.result.now).children in
+    IfOk-weaker c.finish.result _ _ (λ v h. as-unit (unit_view c.args.unit.now) i d g (items_in names an_import i) (items_in names a_directive d) (items_in names a_declaration g) (view v) (search rules) (search rules) (search rules) (search rules) (search rules) (search rules) h) (search rules)
