@@ -3,7 +3,7 @@ use Rattle.std.proofs.Common.{◌≡◌, ℕ, List, [], ◌∷◌, Option, Some,
 use Rattle.serde_json.specs.Data.{Data, string, array, Items, Members, no_members}
 use Rattle.wesl_names.specs.Path.{Text}
 use Rattle.wesl_names.specs.declared.names.Ident.{Ident}
-use Rattle.wesl_syntax.specs.Tree.{Tree, Forest, Kind, kind, text, space, access, leaf as leaf_tree, forest_of, branch, binder, absent, present, declaration, type_alias, struct, member, function, parameter, const_assert, attributes, members, member_node, parameters}
+use Rattle.wesl_syntax.specs.Tree.{Tree, Forest, Kind, kind, text, space, access, leaf as leaf_tree, forest_of, branch, binder, absent, present, declaration, type_alias, struct, member, function, parameter, const_assert, void, attributes, members, member_node, parameters}
 use Rattle.wesl_syntax.specs.Unit.{name_in}
 use Rattle.wesl_syntax.specs.View.{access_tree, expression_tree, expression_view, type_view, optional, ident_tree, text_tree, attributes_tree, kind_tree, declaration_view, alias_view, struct_view, member_view, parameter_view, assert_view, function_view, compound_view, listed, placed}
 use Rattle.wesl_syntax.specs.declared.span.Spanned.{Spanned}
@@ -108,6 +108,14 @@ module _ (names : List Text) where
   pub written-global-assert : (a : Forest) (e : Spanned Expression) → declaration_in names (branch const_assert (record { label = kind attributes; children = a } ∷ expression_tree e ∷ [])) ≡ worded (codes "assert") (attributes_with a (with_member (codes "expr") (expression_in names (expression_view e.node)) no_members))
   unfolding placed_in with_member with_list items_in
   written-global-assert a e = refl
+
+  pub written-global-void : declaration_in names (branch void []) ≡ worded (codes "void") no_members
+  unfolding placed_in with_member
+  written-global-void = refl
+
+  pub written-local-void : statement_in names (branch void []) ≡ worded (codes "void") no_members
+  unfolding placed_in with_member
+  written-local-void = refl
 
   pub written-local-assert : (a : Forest) (e : Spanned Expression) → statement_in names (branch const_assert (record { label = kind attributes; children = a } ∷ expression_tree e ∷ [])) ≡ worded (codes "assert") (attributes_with a (with_member (codes "expr") (expression_in names (expression_view e.node)) no_members))
   unfolding placed_in with_member with_list items_in

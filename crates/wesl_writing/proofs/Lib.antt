@@ -1,4 +1,5 @@
 pub mod Lists
+pub mod Objects
 pub mod Expressions
 pub mod Within
 pub mod Declarations

@@ -1,26 +1,24 @@
 //! Writing declarations.
-ghost use Rattle.std.specs.Prelude.{◌≡◌, [], IfErr, IfOk, codes};
-ghost use Rattle.serde_json.specs.Data.{no_members, string};
+ghost use Rattle.std.specs.Prelude.{◌≡◌, [], IfOk, codes};
+ghost use Rattle.serde_json.specs.Data.{Members, no_members, string};
 ghost use Rattle.serde_json.specs.View.{items_view, view};
-ghost use Rattle.wesl_names.specs.declared.errors.Error as error;
-ghost use Rattle.wesl_form.specs.Schema.{a_declaration, an_attribute, a_member, a_parameter, a_statement, a_type, leaf, node as node_form, one_of};
+ghost use Rattle.wesl_names.specs.Path.{Text};
+ghost use Rattle.wesl_form.specs.Schema.{a_declaration, an_attribute, a_member, a_parameter, a_type, leaf, node as node_form, one_of};
 ghost use Rattle.wesl_form.specs.Words.{access_words};
 ghost use Rattle.wesl_syntax.specs.Tree.{branch, member_node, members as members_kind, parameters as parameters_kind, void};
-ghost use Rattle.wesl_syntax.specs.Unit.{name_in};
 ghost use Rattle.wesl_syntax.specs.View.{access_tree, alias_view, assert_view, attributes_tree, declaration_view, declarations_tree, function_view, global_view, kind_tree, listed, member_view, optional, parameter_view, placed, struct_view, type_view};
-ghost use Rattle.wesl_writing.specs.Objects.{members_in};
+ghost use Rattle.wesl_writing.specs.Objects.{Holds};
 ghost use Rattle.wesl_writing.specs.Values.{declaration_in, items_in, kind_text, placed_in, statement_in, value_in, with_list, with_member, with_option, with_space as with_space_of};
 
-use crate::attribute::with_attributes;
+use crate::attribute::attribute_values;
 use crate::expression::{
-    expression_value, type_value, with_optional_expression, with_optional_type, worded_value,
+    expression_value, type_value, with_optional_expression, with_optional_type,
 };
-use crate::object::{Object, spelling};
+use crate::object::{Object, Written, WrittenList, spelling};
 use crate::statement::body_value;
 use crate::words::{access_word, space_word};
-use serde_json::Value;
 use std::alloc::Global;
-use wesl_names::{Error, Names};
+use wesl_names::Names;
 use wesl_syntax::{
     AccessMode, Attributes, ConstAssert, Declaration, DeclarationKind, FormalParameter, Function,
     GlobalDeclaration, GlobalDeclarationNode, Struct, StructMember, StructMemberNode, TypeAlias,
@@ -32,9 +30,8 @@ pub(crate) fn global_values(
     alloc: Global,
     names: &Names,
     declarations: &Vec<GlobalDeclarationNode>,
-) -> Result<Vec<Value>, Error>
-    ensures written { IfOk result (λ vs. items_view vs.items ≡ items_in names.now a_declaration (declarations_tree declarations.now).children) }
-    ensures refused { IfErr result (λ e. e ≡ error.Memory) }
+) -> WrittenList
+    ensures { IfOk result (λ vs. items_view vs.items ≡ items_in names.now a_declaration (declarations_tree declarations.now).children) }
 {
     let mut values = Vec::with_capacity(alloc, declarations.len())?;
     for declaration in declarations {
@@ -43,13 +40,8 @@ pub(crate) fn global_values(
     Ok(values)
 }
 
-fn global_value(
-    alloc: Global,
-    names: &Names,
-    declaration: &GlobalDeclaration,
-) -> Result<Value, Error>
-    ensures written { IfOk result (λ v. view v ≡ declaration_in names.now (global_view declaration.now)) }
-    ensures refused { IfErr result (λ e. e ≡ error.Memory) }
+fn global_value(alloc: Global, names: &Names, declaration: &GlobalDeclaration) -> Written
+    ensures { IfOk result (λ v. view v ≡ declaration_in names.now (global_view declaration.now)) }
 {
     match declaration {
         GlobalDeclaration::Void => void_value(alloc, names),
@@ -62,32 +54,28 @@ fn global_value(
 }
 
 /// The value of a void declaration, which is also that of a void statement.
-#[tactic(auto, unfolding(crate::specs::Values::placed_in, crate::specs::Values::with_member))]
-pub(crate) fn void_value(alloc: Global, names: &Names) -> Result<Value, Error>
+pub(crate) fn void_value(alloc: Global, names: &Names) -> Written
     ensures global { IfOk result (λ v. view v ≡ declaration_in names.now (branch void [])) }
     ensures local { IfOk result (λ v. view v ≡ statement_in names.now (branch void [])) }
-    ensures refused { IfErr result (λ e. e ≡ error.Memory) }
 {
-    worded_value(alloc, Object::new(alloc), "void")
+    Object::new(alloc).worded("void")
 }
 
 /// The value of a declaration, which is the same in a module and in a function.
-pub(crate) fn declaration_value(
-    alloc: Global,
-    names: &Names,
-    declaration: &Declaration,
-) -> Result<Value, Error>
+pub(crate) fn declaration_value(alloc: Global, names: &Names, declaration: &Declaration) -> Written
     ensures global { IfOk result (λ v. view v ≡ declaration_in names.now (declaration_view declaration.now)) }
     ensures local { IfOk result (λ v. view v ≡ statement_in names.now (declaration_view declaration.now)) }
-    ensures refused { IfErr result (λ e. e ≡ error.Memory) }
 {
     let object = Object::new(alloc);
-    let object = with_optional_expression(alloc, object, names, "init", &declaration.initializer)?;
-    let object = with_optional_type(alloc, object, names, "ty", &declaration.ty)?;
-    let object = object.with_text(alloc, "name", spelling(names, declaration.ident))?;
-    let object = with_space(alloc, object, names, declaration.kind)?;
-    let object = with_attributes(alloc, object, names, "attrs", &declaration.attributes)?;
-    worded_value(alloc, object, kind_word(declaration.kind))
+    let object = with_optional_expression(alloc, object, names, "init", &declaration.initializer);
+    let object = with_optional_type(alloc, object, names, "ty", &declaration.ty).text(
+        "name",
+        spelling(names, declaration.ident),
+    );
+    let attributes = attribute_values(alloc, names, &declaration.attributes);
+    with_space(object, names, declaration.kind)
+        .list("attrs", attributes)
+        .worded(kind_word(declaration.kind))
 }
 
 fn kind_word(kind: DeclarationKind) -> &'static str
@@ -102,50 +90,35 @@ fn kind_word(kind: DeclarationKind) -> &'static str
 }
 
 // The object with the space and the access mode of a variable.
-fn with_space(
-    alloc: Global,
-    object: Object,
-    names: &Names,
-    kind: DeclarationKind,
-) -> Result<Object, Error>
-    ensures written { IfOk result (λ o. members_in o ≡ with_space_of names.now (kind_tree kind) (members_in object)) }
-    ensures refused { IfErr result (λ e. e ≡ error.Memory) }
+fn with_space(object: Object, names: &Names, kind: DeclarationKind) -> Object
+    ensures { (ms : Members) → Holds object ms → Holds result (with_space_of names.now (kind_tree kind) ms) }
 {
     match kind {
-        DeclarationKind::Const => Ok(object),
-        DeclarationKind::Override => Ok(object),
-        DeclarationKind::Let => Ok(object),
-        DeclarationKind::Var(None) => Ok(object),
+        DeclarationKind::Const => object,
+        DeclarationKind::Override => object,
+        DeclarationKind::Let => object,
+        DeclarationKind::Var(None) => object,
         DeclarationKind::Var(Some((space, mode))) => {
-            let object = with_access(alloc, object, names, mode)?;
-            object.with_text(alloc, "space", space_word(space))
+            with_access(object, names, mode).text("space", space_word(space))
         }
     }
 }
 
 // The object with an access mode, an option.
-fn with_access(
-    alloc: Global,
-    object: Object,
-    names: &Names,
-    mode: Option<AccessMode>,
-) -> Result<Object, Error>
-    ensures written { IfOk result (λ o. members_in o ≡ with_option (codes "access") names.now (leaf (one_of access_words)) (optional access_tree mode) (members_in object)) }
-    ensures refused { IfErr result (λ e. e ≡ error.Memory) }
+fn with_access(object: Object, names: &Names, mode: Option<AccessMode>) -> Object
+    ensures { (ms : Members) → Holds object ms → Holds result (with_option (codes "access") names.now (leaf (one_of access_words)) (optional access_tree mode) ms) }
 {
     match mode {
-        Some(mode) => object.with_text(alloc, "access", access_word(mode)),
-        None => Ok(object),
+        Some(mode) => object.text("access", access_word(mode)),
+        None => object,
     }
 }
 
-fn alias_value(alloc: Global, names: &Names, alias: &TypeAlias) -> Result<Value, Error>
-    ensures written { IfOk result (λ v. view v ≡ declaration_in names.now (alias_view alias.now)) }
-    ensures refused { IfErr result (λ e. e ≡ error.Memory) }
+fn alias_value(alloc: Global, names: &Names, alias: &TypeAlias) -> Written
+    ensures { IfOk result (λ v. view v ≡ declaration_in names.now (alias_view alias.now)) }
 {
     let name = spelling(names, alias.ident);
-    let object = typed_object(alloc, names, &alias.attributes, name, &alias.ty)?;
-    worded_value(alloc, object, "alias")
+    typed_object(alloc, names, &alias.attributes, name, &alias.ty).worded("alias")
 }
 
 // Attributes, a name and a type.
@@ -155,36 +128,28 @@ fn typed_object(
     attributes: &Attributes,
     name: &str,
     ty: &TypeExpression,
-) -> Result<Object, Error>
-    ensures written { IfOk result (λ o. members_in o ≡ with_list (codes "attrs") (items_in names.now an_attribute (attributes_tree attributes.now).children) (with_member (codes "name") (string name.now) (with_member (codes "ty") (value_in names.now (node_form a_type) (type_view ty.now)) no_members))) }
-    ensures refused { IfErr result (λ e. e ≡ error.Memory) }
+) -> Object
+    ensures { (t : Text) → name.now ≡ t → Holds result (with_list (codes "attrs") (items_in names.now an_attribute (attributes_tree attributes.now).children) (with_member (codes "name") (string t) (with_member (codes "ty") (value_in names.now (node_form a_type) (type_view ty.now)) no_members))) }
 {
-    let ty = type_value(alloc, names, ty)?;
-    let object = Object::new(alloc)
-        .with_value(alloc, "ty", ty)?
-        .with_text(alloc, "name", name)?;
-    with_attributes(alloc, object, names, "attrs", attributes)
+    Object::new(alloc)
+        .value("ty", type_value(alloc, names, ty))
+        .text("name", name)
+        .list("attrs", attribute_values(alloc, names, attributes))
 }
 
-fn struct_value(alloc: Global, names: &Names, structure: &Struct) -> Result<Value, Error>
-    ensures written { IfOk result (λ v. view v ≡ declaration_in names.now (struct_view structure.now)) }
-    ensures refused { IfErr result (λ e. e ≡ error.Memory) }
+fn struct_value(alloc: Global, names: &Names, structure: &Struct) -> Written
+    ensures { IfOk result (λ v. view v ≡ declaration_in names.now (struct_view structure.now)) }
 {
-    let members = member_values(alloc, names, &structure.members)?;
-    let object = Object::new(alloc)
-        .with_list(alloc, "members", members)?
-        .with_text(alloc, "name", spelling(names, structure.ident))?;
-    let object = with_attributes(alloc, object, names, "attrs", &structure.attributes)?;
-    worded_value(alloc, object, "struct")
+    let attributes = attribute_values(alloc, names, &structure.attributes);
+    Object::new(alloc)
+        .list("members", member_values(alloc, names, &structure.members))
+        .text("name", spelling(names, structure.ident))
+        .list("attrs", attributes)
+        .worded("struct")
 }
 
-fn member_values(
-    alloc: Global,
-    names: &Names,
-    members: &Vec<StructMemberNode>,
-) -> Result<Vec<Value>, Error>
-    ensures written { IfOk result (λ vs. items_view vs.items ≡ items_in names.now a_member (listed (placed member_view member_node) members_kind members.now).children) }
-    ensures refused { IfErr result (λ e. e ≡ error.Memory) }
+fn member_values(alloc: Global, names: &Names, members: &Vec<StructMemberNode>) -> WrittenList
+    ensures { IfOk result (λ vs. items_view vs.items ≡ items_in names.now a_member (listed (placed member_view member_node) members_kind members.now).children) }
 {
     let mut values = Vec::with_capacity(alloc, members.len())?;
     for member in members {
@@ -193,43 +158,30 @@ fn member_values(
     Ok(values)
 }
 
-fn member_value(alloc: Global, names: &Names, member: &StructMember) -> Result<Value, Error>
-    ensures written { IfOk result (λ v. view v ≡ placed_in names.now a_member member_node (member_view member.now)) }
-    ensures refused { IfErr result (λ e. e ≡ error.Memory) }
+fn member_value(alloc: Global, names: &Names, member: &StructMember) -> Written
+    ensures { IfOk result (λ v. view v ≡ placed_in names.now a_member member_node (member_view member.now)) }
 {
     let name = member.name.as_str();
-    Ok(typed_object(alloc, names, &member.attributes, name, &member.ty)?.into_value())
+    typed_object(alloc, names, &member.attributes, name, &member.ty).finish()
 }
 
-fn function_value(alloc: Global, names: &Names, function: &Function) -> Result<Value, Error>
-    ensures written { IfOk result (λ v. view v ≡ declaration_in names.now (function_view function.now)) }
-    ensures refused { IfErr result (λ e. e ≡ error.Memory) }
+fn function_value(alloc: Global, names: &Names, function: &Function) -> Written
+    ensures { IfOk result (λ v. view v ≡ declaration_in names.now (function_view function.now)) }
 {
-    let body = body_value(alloc, names, &function.body)?;
-    let parameters = parameter_values(alloc, names, &function.parameters)?;
-    let object = Object::new(alloc).with_value(alloc, "body", body)?;
-    let object = with_optional_type(alloc, object, names, "ret", &function.return_type)?;
-    let object = with_attributes(
-        alloc,
-        object,
-        names,
-        "ret_attrs",
-        &function.return_attributes,
-    )?;
-    let object = object
-        .with_list(alloc, "params", parameters)?
-        .with_text(alloc, "name", spelling(names, function.ident))?;
-    let object = with_attributes(alloc, object, names, "attrs", &function.attributes)?;
-    worded_value(alloc, object, "fn")
+    let object = Object::new(alloc).value("body", body_value(alloc, names, &function.body));
+    let return_attributes = attribute_values(alloc, names, &function.return_attributes);
+    let parameters = parameter_values(alloc, names, &function.parameters);
+    let attributes = attribute_values(alloc, names, &function.attributes);
+    with_optional_type(alloc, object, names, "ret", &function.return_type)
+        .list("ret_attrs", return_attributes)
+        .list("params", parameters)
+        .text("name", spelling(names, function.ident))
+        .list("attrs", attributes)
+        .worded("fn")
 }
 
-fn parameter_values(
-    alloc: Global,
-    names: &Names,
-    parameters: &Vec<FormalParameter>,
-) -> Result<Vec<Value>, Error>
-    ensures written { IfOk result (λ vs. items_view vs.items ≡ items_in names.now a_parameter (listed parameter_view parameters_kind parameters.now).children) }
-    ensures refused { IfErr result (λ e. e ≡ error.Memory) }
+fn parameter_values(alloc: Global, names: &Names, parameters: &Vec<FormalParameter>) -> WrittenList
+    ensures { IfOk result (λ vs. items_view vs.items ≡ items_in names.now a_parameter (listed parameter_view parameters_kind parameters.now).children) }
 {
     let mut values = Vec::with_capacity(alloc, parameters.len())?;
     for parameter in parameters {
@@ -238,30 +190,22 @@ fn parameter_values(
     Ok(values)
 }
 
-fn parameter_value(
-    alloc: Global,
-    names: &Names,
-    parameter: &FormalParameter,
-) -> Result<Value, Error>
-    ensures written { IfOk result (λ v. view v ≡ value_in names.now (node_form a_parameter) (parameter_view parameter.now)) }
-    ensures refused { IfErr result (λ e. e ≡ error.Memory) }
+fn parameter_value(alloc: Global, names: &Names, parameter: &FormalParameter) -> Written
+    ensures { IfOk result (λ v. view v ≡ value_in names.now (node_form a_parameter) (parameter_view parameter.now)) }
 {
     let name = spelling(names, parameter.ident);
-    Ok(typed_object(alloc, names, &parameter.attributes, name, &parameter.ty)?.into_value())
+    typed_object(alloc, names, &parameter.attributes, name, &parameter.ty).finish()
 }
 
 /// The value of an assertion, which is the same in a module and in a function.
-pub(crate) fn assert_value(
-    alloc: Global,
-    names: &Names,
-    assertion: &ConstAssert,
-) -> Result<Value, Error>
+pub(crate) fn assert_value(alloc: Global, names: &Names, assertion: &ConstAssert) -> Written
     ensures global { IfOk result (λ v. view v ≡ declaration_in names.now (assert_view assertion.now)) }
     ensures local { IfOk result (λ v. view v ≡ statement_in names.now (assert_view assertion.now)) }
-    ensures refused { IfErr result (λ e. e ≡ error.Memory) }
 {
-    let expression = expression_value(alloc, names, &assertion.expression.node)?;
-    let object = Object::new(alloc).with_value(alloc, "expr", expression)?;
-    let object = with_attributes(alloc, object, names, "attrs", &assertion.attributes)?;
-    worded_value(alloc, object, "assert")
+    let expression = expression_value(alloc, names, &assertion.expression.node);
+    let attributes = attribute_values(alloc, names, &assertion.attributes);
+    Object::new(alloc)
+        .value("expr", expression)
+        .list("attrs", attributes)
+        .worded("assert")
 }

@@ -1,21 +1,22 @@
 //! Writing expressions and types.
-ghost use Rattle.std.specs.Prelude.{◌≡◌, [], ◌∷◌, IfErr, IfOk, codes};
-ghost use Rattle.serde_json.specs.Data.{array, no_members, string};
+ghost use Rattle.std.specs.Prelude.{◌≡◌, [], ◌∷◌, IfOk, codes};
+ghost use Rattle.serde_json.specs.Data.{Data, Items, Members, array, no_members, string};
 ghost use Rattle.serde_json.specs.View.{items_view, view};
-ghost use Rattle.wesl_names.specs.declared.errors.Error as error;
-ghost use Rattle.wesl_form.specs.Schema.{a_path, a_template_argument, a_type, an_expression, leaf, list_of, node as node_form};
+ghost use Rattle.wesl_names.specs.Path.{Text, path_view};
+ghost use Rattle.wesl_names.specs.PathText.{to_text};
+ghost use Rattle.wesl_form.specs.Schema.{a_path, a_template_argument, a_type, an_expression, leaf, node as node_form};
 ghost use Rattle.wesl_syntax.specs.Tree.{absent, binary, branch, kind, leaf as leaf_tree, list, literal as literal_kind, reference, type_expression, unary};
 ghost use Rattle.wesl_syntax.specs.Unit.{name_in};
 ghost use Rattle.wesl_syntax.specs.View.{argument_view, call_view, expression_tree, expression_view, ident_tree, listed, literal_tree, optional, path_tree, type_view};
 ghost use Rattle.wesl_form.specs.Words.{binary_words, unary_words};
-ghost use Rattle.wesl_writing.specs.Objects.{members_in};
+ghost use Rattle.wesl_writing.specs.Objects.{Holds};
 ghost use Rattle.wesl_writing.specs.Values.{bare, call_members, expression_in, items_in, value_in, with_member, with_option, word_value, worded};
 
-use crate::object::{Object, spelling, text_value};
+use crate::object::{Object, Written, WrittenList, spelling, text_value};
 use crate::words::{binary_word, unary_word};
 use serde_json::Value;
-use std::alloc::Global;
-use wesl_names::{Error, Ident, ModulePath, Names};
+use std::alloc::{AllocError, Global};
+use wesl_names::{Ident, ModulePath, Names};
 use wesl_syntax::{
     BinaryOperator, Expression, ExpressionNode, FunctionCall, Literal, TemplateArg, TypeExpression,
     UnaryOperator,
@@ -23,31 +24,28 @@ use wesl_syntax::{
 
 /// The value of an expression.
 #[cycle(writing)]
-pub(crate) fn expression_value(
-    alloc: Global,
-    names: &Names,
-    expression: &Expression,
-) -> Result<Value, Error>
-    ensures written { IfOk result (λ v. view v ≡ expression_in names.now (expression_view expression.now)) }
-    ensures refused { IfErr result (λ e. e ≡ error.Memory) }
+pub(crate) fn expression_value(alloc: Global, names: &Names, expression: &Expression) -> Written
+    ensures { IfOk result (λ v. view v ≡ expression_in names.now (expression_view expression.now)) }
 {
     match expression {
         Expression::Literal(literal) => literal_value(alloc, names, literal),
         Expression::Parenthesized { expression } => {
-            let expression = expression_value(alloc, names, &expression.node)?;
-            parenthesized_value(alloc, expression)
+            let expression = expression_value(alloc, names, &expression.node);
+            Object::new(alloc).value("expr", expression).worded("paren")
         }
         Expression::NamedComponent { base, component } => {
-            let base = expression_value(alloc, names, &base.node)?;
-            component_value(alloc, base, component.as_str())
+            let base = expression_value(alloc, names, &base.node);
+            let object = Object::new(alloc).text("name", component.as_str());
+            object.value("base", base).worded("field")
         }
         Expression::Indexing { base, index } => {
-            let base = expression_value(alloc, names, &base.node)?;
-            let index = expression_value(alloc, names, &index.node)?;
-            index_value(alloc, base, index)
+            let base = expression_value(alloc, names, &base.node);
+            let index = expression_value(alloc, names, &index.node);
+            let object = Object::new(alloc).value("index", index);
+            object.value("base", base).worded("index")
         }
         Expression::Unary { operator, operand } => {
-            let operand = expression_value(alloc, names, &operand.node)?;
+            let operand = expression_value(alloc, names, &operand.node);
             unary_value(alloc, *operator, operand)
         }
         Expression::Binary {
@@ -55,108 +53,46 @@ pub(crate) fn expression_value(
             left,
             right,
         } => {
-            let left = expression_value(alloc, names, &left.node)?;
-            let right = expression_value(alloc, names, &right.node)?;
+            let left = expression_value(alloc, names, &left.node);
+            let right = expression_value(alloc, names, &right.node);
             binary_value(alloc, *operator, left, right)
         }
-        Expression::FunctionCall(call) => {
-            let object = call_object(alloc, names, call)?;
-            worded_value(alloc, object, "call")
-        }
+        Expression::FunctionCall(call) => call_object(alloc, names, call).worded("call"),
         Expression::TypeOrIdentifier(ty) => type_value(alloc, names, ty),
     }
 }
 
-fn literal_value(alloc: Global, names: &Names, literal: &Literal) -> Result<Value, Error>
-    ensures written { IfOk result (λ v. view v ≡ expression_in names.now (branch literal_kind (literal_tree literal.now ∷ []))) }
-    ensures refused { IfErr result (λ e. e ≡ error.Memory) }
+fn literal_value(alloc: Global, names: &Names, literal: &Literal) -> Written
+    ensures { IfOk result (λ v. view v ≡ expression_in names.now (branch literal_kind (literal_tree literal.now ∷ []))) }
 {
     match literal {
         Literal::Bool(truth) => Ok(Value::Bool(*truth)),
-        Literal::Text(text) => {
-            let object = Object::new(alloc).with_text(alloc, "text", text.as_str())?;
-            worded_value(alloc, object, "lit")
-        }
+        Literal::Text(text) => { Object::new(alloc).text("text", text.as_str()).worded("lit") }
     }
 }
 
-/// The object with its word.
-pub(crate) fn worded_value(alloc: Global, object: Object, word: &str) -> Result<Value, Error>
-    ensures written { IfOk result (λ v. view v ≡ worded word.now (members_in object)) }
-    ensures refused { IfErr result (λ e. e ≡ error.Memory) }
+fn unary_value(alloc: Global, operator: UnaryOperator, operand: Written) -> Written
+    ensures { (d : Data) → IfOk operand (λ v. view v ≡ d) → IfOk result (λ v. view v ≡ worded (codes "unary") (with_member (codes "op") (word_value unary_words (unary operator)) (with_member (codes "expr") d no_members))) }
 {
-    Ok(object.with_text(alloc, "k", word)?.into_value())
+    let object = Object::new(alloc).value("expr", operand);
+    object.text("op", unary_word(operator)).worded("unary")
 }
 
-fn parenthesized_value(alloc: Global, expression: Value) -> Result<Value, Error>
-    ensures written { IfOk result (λ v. view v ≡ worded (codes "paren") (with_member (codes "expr") (view expression) no_members)) }
-    ensures refused { IfErr result (λ e. e ≡ error.Memory) }
+fn binary_value(alloc: Global, operator: BinaryOperator, left: Written, right: Written) -> Written
+    ensures { (d e : Data) → IfOk left (λ v. view v ≡ d) → IfOk right (λ v. view v ≡ e) → IfOk result (λ v. view v ≡ worded (codes "binary") (with_member (codes "op") (word_value binary_words (binary operator)) (with_member (codes "left") d (with_member (codes "right") e no_members)))) }
 {
-    let object = Object::new(alloc).with_value(alloc, "expr", expression)?;
-    worded_value(alloc, object, "paren")
-}
-
-fn component_value(alloc: Global, base: Value, component: &str) -> Result<Value, Error>
-    ensures written { IfOk result (λ v. view v ≡ worded (codes "field") (with_member (codes "base") (view base) (with_member (codes "name") (string component.now) no_members))) }
-    ensures refused { IfErr result (λ e. e ≡ error.Memory) }
-{
-    let object = Object::new(alloc)
-        .with_text(alloc, "name", component)?
-        .with_value(alloc, "base", base)?;
-    worded_value(alloc, object, "field")
-}
-
-fn index_value(alloc: Global, base: Value, index: Value) -> Result<Value, Error>
-    ensures written { IfOk result (λ v. view v ≡ worded (codes "index") (with_member (codes "base") (view base) (with_member (codes "index") (view index) no_members))) }
-    ensures refused { IfErr result (λ e. e ≡ error.Memory) }
-{
-    let object = Object::new(alloc)
-        .with_value(alloc, "index", index)?
-        .with_value(alloc, "base", base)?;
-    worded_value(alloc, object, "index")
-}
-
-fn unary_value(alloc: Global, operator: UnaryOperator, operand: Value) -> Result<Value, Error>
-    ensures written { IfOk result (λ v. view v ≡ worded (codes "unary") (with_member (codes "op") (word_value unary_words (unary operator)) (with_member (codes "expr") (view operand) no_members))) }
-    ensures refused { IfErr result (λ e. e ≡ error.Memory) }
-{
-    let object = Object::new(alloc)
-        .with_value(alloc, "expr", operand)?
-        .with_text(alloc, "op", unary_word(operator))?;
-    worded_value(alloc, object, "unary")
-}
-
-fn binary_value(
-    alloc: Global,
-    operator: BinaryOperator,
-    left: Value,
-    right: Value,
-) -> Result<Value, Error>
-    ensures written { IfOk result (λ v. view v ≡ worded (codes "binary") (with_member (codes "op") (word_value binary_words (binary operator)) (with_member (codes "left") (view left) (with_member (codes "right") (view right) no_members)))) }
-    ensures refused { IfErr result (λ e. e ≡ error.Memory) }
-{
-    let object = Object::new(alloc)
-        .with_value(alloc, "right", right)?
-        .with_value(alloc, "left", left)?
-        .with_text(alloc, "op", binary_word(operator))?;
-    worded_value(alloc, object, "binary")
+    let object = Object::new(alloc).value("right", right).value("left", left);
+    object.text("op", binary_word(operator)).worded("binary")
 }
 
 /// The members of a call.
 #[cycle(writing)]
-pub(crate) fn call_object(
-    alloc: Global,
-    names: &Names,
-    call: &FunctionCall,
-) -> Result<Object, Error>
-    ensures written { IfOk result (λ o. members_in o ≡ call_members names.now (call_view call.now)) }
-    ensures refused { IfErr result (λ e. e ≡ error.Memory) }
+pub(crate) fn call_object(alloc: Global, names: &Names, call: &FunctionCall) -> Object
+    ensures { Holds result (call_members names.now (call_view call.now)) }
 {
-    let arguments = expression_values(alloc, names, &call.arguments)?;
-    let ty = type_value(alloc, names, &call.ty)?;
-    Object::new(alloc)
-        .with_list(alloc, "args", arguments)?
-        .with_value(alloc, "ty", ty)
+    let arguments = expression_values(alloc, names, &call.arguments);
+    let ty = type_value(alloc, names, &call.ty);
+    Object::new(alloc).list("args", arguments).value("ty", ty)
 }
 
 /// The values of expressions.
@@ -165,9 +101,8 @@ pub(crate) fn expression_values(
     alloc: Global,
     names: &Names,
     nodes: &Vec<ExpressionNode>,
-) -> Result<Vec<Value>, Error>
-    ensures written { IfOk result (λ vs. items_view vs.items ≡ items_in names.now an_expression (listed expression_tree list nodes.now).children) }
-    ensures refused { IfErr result (λ e. e ≡ error.Memory) }
+) -> WrittenList
+    ensures { IfOk result (λ vs. items_view vs.items ≡ items_in names.now an_expression (listed expression_tree list nodes.now).children) }
 {
     let mut values = Vec::with_capacity(alloc, nodes.len())?;
     for node in nodes {
@@ -178,14 +113,13 @@ pub(crate) fn expression_values(
 
 /// The value of a type: its name, where it has no path and no arguments.
 #[cycle(writing)]
-pub(crate) fn type_value(alloc: Global, names: &Names, ty: &TypeExpression) -> Result<Value, Error>
-    ensures written { IfOk result (λ v. view v ≡ value_in names.now (node_form a_type) (type_view ty.now)) }
-    ensures refused { IfErr result (λ e. e ≡ error.Memory) }
+pub(crate) fn type_value(alloc: Global, names: &Names, ty: &TypeExpression) -> Written
+    ensures { IfOk result (λ v. view v ≡ value_in names.now (node_form a_type) (type_view ty.now)) }
 {
     match &ty.template_args {
         None => plain_type_value(alloc, names, &ty.path, ty.ident),
         Some(arguments) => {
-            let arguments = argument_values(alloc, names, arguments)?;
+            let arguments = argument_values(alloc, names, arguments);
             argued_type_value(alloc, names, &ty.path, ty.ident, arguments)
         }
     }
@@ -197,18 +131,26 @@ fn plain_type_value(
     names: &Names,
     path: &Option<ModulePath>,
     ident: Ident,
-) -> Result<Value, Error>
-    ensures written { IfOk result (λ v. view v ≡ value_in names.now (node_form a_type) (branch type_expression (optional path_tree path.now ∷ ident_tree reference ident ∷ leaf_tree (kind absent) ∷ []))) }
-    ensures refused { IfErr result (λ e. e ≡ error.Memory) }
+) -> Written
+    ensures { IfOk result (λ v. view v ≡ value_in names.now (node_form a_type) (branch type_expression (optional path_tree path.now ∷ ident_tree reference ident ∷ leaf_tree (kind absent) ∷ []))) }
 {
     let name = spelling(names, ident);
     match path {
         None => text_value(alloc, name),
         Some(path) => {
-            let object = Object::new(alloc).with_text(alloc, "name", name)?;
-            let text = path.to_text(alloc)?;
-            Ok(object.with_text(alloc, "path", text.as_str())?.into_value())
+            let object = Object::new(alloc).text("name", name);
+            object.value("path", path_value(alloc, path)).finish()
         }
+    }
+}
+
+// A path as a value.
+fn path_value(alloc: Global, path: &ModulePath) -> Written
+    ensures { IfOk result (λ v. view v ≡ string (to_text (path_view path.now))) }
+{
+    match path.to_text(alloc) {
+        Ok(text) => Ok(Value::String(text)),
+        Err(_) => Err(AllocError),
     }
 }
 
@@ -218,27 +160,21 @@ fn argued_type_value(
     names: &Names,
     path: &Option<ModulePath>,
     ident: Ident,
-    arguments: Vec<Value>,
-) -> Result<Value, Error>
-    ensures written { IfOk result (λ v. view v ≡ bare (with_option (codes "path") names.now (leaf a_path) (optional path_tree path.now) (with_member (codes "name") (string (name_in names.now ident.0)) (with_member (codes "args") (array (items_view arguments.items)) no_members)))) }
-    ensures refused { IfErr result (λ e. e ≡ error.Memory) }
+    arguments: WrittenList,
+) -> Written
+    ensures { (ds : Items) → IfOk arguments (λ vs. items_view vs.items ≡ ds) → IfOk result (λ v. view v ≡ bare (with_option (codes "path") names.now (leaf a_path) (optional path_tree path.now) (with_member (codes "name") (string (name_in names.now ident.0)) (with_member (codes "args") (array ds) no_members)))) }
 {
-    let object = applied_object(alloc, spelling(names, ident), arguments)?;
-    Ok(with_optional_path(alloc, object, names, path)?.into_value())
+    let object = applied_object(alloc, spelling(names, ident), arguments);
+    with_optional_path(alloc, object, names, path).finish()
 }
 
 /// A name with arguments, which are written also where there are none.
-pub(crate) fn applied_object(
-    alloc: Global,
-    name: &str,
-    arguments: Vec<Value>,
-) -> Result<Object, Error>
-    ensures written { IfOk result (λ o. members_in o ≡ with_member (codes "name") (string name.now) (with_member (codes "args") (array (items_view arguments.items)) no_members)) }
-    ensures refused { IfErr result (λ e. e ≡ error.Memory) }
+pub(crate) fn applied_object(alloc: Global, name: &str, arguments: WrittenList) -> Object
+    ensures { (t : Text) (ds : Items) → name.now ≡ t → IfOk arguments (λ vs. items_view vs.items ≡ ds) → Holds result (with_member (codes "name") (string t) (with_member (codes "args") (array ds) no_members)) }
 {
     Object::new(alloc)
-        .with_value(alloc, "args", Value::Array(arguments))?
-        .with_text(alloc, "name", name)
+        .array("args", arguments)
+        .text("name", name)
 }
 
 /// The object with the path at `path`, an option.
@@ -247,27 +183,18 @@ pub(crate) fn with_optional_path(
     object: Object,
     names: &Names,
     path: &Option<ModulePath>,
-) -> Result<Object, Error>
-    ensures written { IfOk result (λ o. members_in o ≡ with_option (codes "path") names.now (leaf a_path) (optional path_tree path.now) (members_in object)) }
-    ensures refused { IfErr result (λ e. e ≡ error.Memory) }
+) -> Object
+    ensures { (ms : Members) → Holds object ms → Holds result (with_option (codes "path") names.now (leaf a_path) (optional path_tree path.now) ms) }
 {
     match path {
-        Some(path) => {
-            let text = path.to_text(alloc)?;
-            object.with_text(alloc, "path", text.as_str())
-        }
-        None => Ok(object),
+        Some(path) => object.value("path", path_value(alloc, path)),
+        None => object,
     }
 }
 
 #[cycle(writing)]
-fn argument_values(
-    alloc: Global,
-    names: &Names,
-    arguments: &Vec<TemplateArg>,
-) -> Result<Vec<Value>, Error>
-    ensures written { IfOk result (λ vs. items_view vs.items ≡ items_in names.now a_template_argument (listed argument_view list arguments.now).children) }
-    ensures refused { IfErr result (λ e. e ≡ error.Memory) }
+fn argument_values(alloc: Global, names: &Names, arguments: &Vec<TemplateArg>) -> WrittenList
+    ensures { IfOk result (λ vs. items_view vs.items ≡ items_in names.now a_template_argument (listed argument_view list arguments.now).children) }
 {
     let mut values = Vec::with_capacity(alloc, arguments.len())?;
     for argument in arguments {
@@ -283,13 +210,12 @@ pub(crate) fn with_optional_type(
     names: &Names,
     key: &str,
     ty: &Option<TypeExpression>,
-) -> Result<Object, Error>
-    ensures written { IfOk result (λ o. members_in o ≡ with_option key.now names.now (node_form a_type) (optional type_view ty.now) (members_in object)) }
-    ensures refused { IfErr result (λ e. e ≡ error.Memory) }
+) -> Object
+    ensures { (ms : Members) → Holds object ms → Holds result (with_option key.now names.now (node_form a_type) (optional type_view ty.now) ms) }
 {
     match ty {
-        Some(ty) => object.with_value(alloc, key, type_value(alloc, names, ty)?),
-        None => Ok(object),
+        Some(ty) => object.value(key, type_value(alloc, names, ty)),
+        None => object,
     }
 }
 
@@ -300,18 +226,11 @@ pub(crate) fn with_optional_expression(
     names: &Names,
     key: &str,
     expression: &Option<ExpressionNode>,
-) -> Result<Object, Error>
-    ensures written { IfOk result (λ o. members_in o ≡ with_option key.now names.now (node_form an_expression) (optional expression_tree expression.now) (members_in object)) }
-    ensures refused { IfErr result (λ e. e ≡ error.Memory) }
+) -> Object
+    ensures { (ms : Members) → Holds object ms → Holds result (with_option key.now names.now (node_form an_expression) (optional expression_tree expression.now) ms) }
 {
     match expression {
-        Some(expression) => {
-            object.with_value(
-                alloc,
-                key,
-                expression_value(alloc, names, &expression.node)?,
-            )
-        }
-        None => Ok(object),
+        Some(expression) => object.value(key, expression_value(alloc, names, &expression.node)),
+        None => object,
     }
 }

@@ -1,79 +1,116 @@
-//! Objects that are written, member by member.
-ghost use Rattle.std.specs.Prelude.{◌≡◌, IfErr, IfOk};
-ghost use Rattle.serde_json.specs.Data.{no_members, object, string};
+//! Objects that are written.
+ghost use Rattle.std.specs.Prelude.{◌≡◌, IfOk};
+ghost use Rattle.serde_json.specs.Data.{Data, Items, Members, array, no_members, object, string};
 ghost use Rattle.serde_json.specs.View.{items_view, view};
-ghost use Rattle.wesl_names.specs.declared.errors.Error as error;
+ghost use Rattle.wesl_names.specs.Path.{Text};
 ghost use Rattle.wesl_syntax.specs.Unit.{name_in};
-ghost use Rattle.wesl_writing.specs.Values.{with_list, with_member};
+ghost use Rattle.wesl_writing.specs.Values.{with_list, with_member, worded};
 
 use serde_json::{Map, Value};
-use std::alloc::Global;
-use wesl_names::{Error, Ident, Names};
+use std::alloc::{AllocError, Global};
+use wesl_names::{Ident, Names};
 
-/// An object that is written. Its members stand in the order of their keys, whichever comes first here.
+/// A value that is written, unless there is no memory for it.
+pub(crate) type Written = Result<Value, AllocError>;
+
+/// Values that are written, unless there is no memory for them.
+pub(crate) type WrittenList = Result<Vec<Value>, AllocError>;
+
+/// An object that is written, member by member. Its members stand in the order of their keys, whichever comes first here.
+///
+/// What is written into it may be a refusal for want of memory. `finish` answers that, so that no member has to ask.
 #[derive(Drop)]
 pub(crate) struct Object {
-    members: Map<String, Value>,
+    alloc: Global,
+    members: Option<Map<String, Value>>,
 }
 
 impl Object {
-    ghost use Rattle.wesl_writing.specs.Objects.{members_in};
+    ghost use Rattle.wesl_writing.specs.Objects.{Holds};
 
     /// An object without members. It takes no memory.
-    #[tactic(auto, unfolding(crate::specs::Objects::members_in))]
+    #[tactic(auto, unfolding(crate::specs::Objects::Holds))]
     pub(crate) fn new(alloc: Global) -> Object
-        ensures { members_in result ≡ no_members }
+        ensures { Holds result no_members }
     {
         Object {
-            members: Map::new(alloc),
+            alloc,
+            members: Some(Map::new(alloc)),
         }
     }
 
     /// The object with a value at `key`.
-    #[tactic(auto, unfolding(crate::specs::Objects::members_in, crate::specs::Values::with_member))]
-    pub(crate) fn with_value(
-        mut self,
-        alloc: Global,
-        key: &str,
-        value: Value,
-    ) -> Result<Object, Error>
-        ensures with { IfOk result (λ o. members_in o ≡ with_member key.now (view value) (members_in self)) }
-        ensures refused { IfErr result (λ e. e ≡ error.Memory) }
+    #[tactic(auto, unfolding(crate::specs::Objects::Holds, crate::specs::Values::with_member))]
+    pub(crate) fn value(self, key: &str, value: Written) -> Object
+        ensures { (ms : Members) (d : Data) → Holds self ms → IfOk value (λ v. view v ≡ d) → Holds result (with_member key.now d ms) }
     {
-        serde_json::put(&mut self.members, alloc, key, value)?;
-        Ok(self)
+        let alloc = self.alloc;
+        let members = match (self.members, value) {
+            (Some(mut members), Ok(value)) => {
+                match serde_json::put(&mut members, alloc, key, value) {
+                    Ok(()) => Some(members),
+                    Err(_) => None,
+                }
+            }
+            _ => None,
+        };
+        Object { alloc, members }
     }
 
     /// The object with a text at `key`.
-    pub(crate) fn with_text(self, alloc: Global, key: &str, text: &str) -> Result<Object, Error>
-        ensures with { IfOk result (λ o. members_in o ≡ with_member key.now (string text.now) (members_in self)) }
-        ensures refused { IfErr result (λ e. e ≡ error.Memory) }
+    pub(crate) fn text(self, key: &str, text: &str) -> Object
+        ensures { (ms : Members) (t : Text) → Holds self ms → text.now ≡ t → Holds result (with_member key.now (string t) ms) }
     {
-        self.with_value(alloc, key, text_value(alloc, text)?)
+        let alloc = self.alloc;
+        self.value(key, text_value(alloc, text))
+    }
+
+    /// The object with a list at `key`, which may be empty.
+    pub(crate) fn array(self, key: &str, list: WrittenList) -> Object
+        ensures { (ms : Members) (ds : Items) → Holds self ms → IfOk list (λ vs. items_view vs.items ≡ ds) → Holds result (with_member key.now (array ds) ms) }
+    {
+        match list {
+            Ok(list) => self.value(key, Ok(Value::Array(list))),
+            Err(error) => self.value(key, Err(error)),
+        }
     }
 
     /// The object with a list at `key`, unless the list is empty.
-    pub(crate) fn with_list(
-        self,
-        alloc: Global,
-        key: &str,
-        list: Vec<Value>,
-    ) -> Result<Object, Error>
-        ensures with { IfOk result (λ o. members_in o ≡ with_list key.now (items_view list.items) (members_in self)) }
-        ensures refused { IfErr result (λ e. e ≡ error.Memory) }
+    #[tactic(auto, unfolding(crate::specs::Objects::Holds))]
+    pub(crate) fn list(self, key: &str, list: WrittenList) -> Object
+        ensures { (ms : Members) (ds : Items) → Holds self ms → IfOk list (λ vs. items_view vs.items ≡ ds) → Holds result (with_list key.now ds ms) }
     {
-        if list.is_empty() {
-            return Ok(self);
+        match list {
+            Ok(list) => {
+                if list.is_empty() {
+                    self
+                } else {
+                    self.value(key, Ok(Value::Array(list)))
+                }
+            }
+            Err(_) => Object {
+                alloc: self.alloc,
+                members: None,
+            },
         }
-        self.with_value(alloc, key, Value::Array(list))
     }
 
     /// The object as a value.
-    #[tactic(auto, unfolding(crate::specs::Objects::members_in))]
-    pub(crate) fn into_value(self) -> Value
-        ensures { view result ≡ object (members_in self) }
+    #[tactic(auto, unfolding(crate::specs::Objects::Holds))]
+    pub(crate) fn finish(self) -> Written
+        ensures { (ms : Members) → Holds self ms → IfOk result (λ v. view v ≡ object ms) }
     {
-        Value::Object(self.members)
+        match self.members {
+            Some(members) => Ok(Value::Object(members)),
+            None => Err(AllocError),
+        }
+    }
+
+    /// The object as a value, with its word.
+    pub(crate) fn worded(self, word: &str) -> Written
+        ensures { (ms : Members) (w : Text) → Holds self ms → word.now ≡ w → IfOk result (λ v. view v ≡ worded w ms) }
+    {
+        self.text("k", word).finish()
     }
 }
 
@@ -89,9 +126,8 @@ pub(crate) fn spelling<'a>(names: &'a Names, ident: Ident) -> &'a str
 }
 
 /// A text as a value.
-pub(crate) fn text_value(alloc: Global, text: &str) -> Result<Value, Error>
-    ensures text { IfOk result (λ v. view v ≡ string text.now) }
-    ensures refused { IfErr result (λ e. e ≡ error.Memory) }
+pub(crate) fn text_value(alloc: Global, text: &str) -> Written
+    ensures { IfOk result (λ v. view v ≡ string text.now) }
 {
     Ok(Value::String(String::from_str(alloc, text)?))
 }

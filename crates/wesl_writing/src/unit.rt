@@ -1,15 +1,13 @@
 //! Writing units.
-ghost use Rattle.std.specs.Prelude.{◌≡◌, IfErr, IfOk, codes};
-ghost use Rattle.serde_json.specs.Data.{no_members};
-ghost use Rattle.serde_json.specs.View.{items_view, view};
+ghost use Rattle.std.specs.Prelude.{◌≡◌, IfErr, IfOk};
+ghost use Rattle.serde_json.specs.View.{view};
 ghost use Rattle.wesl_names.specs.declared.errors.Error as error;
 ghost use Rattle.wesl_form.specs.Units.{unit_value};
 ghost use Rattle.wesl_tree.specs.Translation.{unit_view};
-ghost use Rattle.wesl_writing.specs.Values.{bare, with_list};
 
 use crate::declaration::global_values;
 use crate::import::{directive_values, import_values};
-use crate::object::Object;
+use crate::object::{Object, Written};
 use serde_json::Value;
 use std::alloc::Global;
 use wesl_tree::{Error, TranslationUnit};
@@ -22,26 +20,19 @@ pub fn value_of_unit(alloc: Global, unit: &TranslationUnit) -> Result<Value, Err
     ensures written { IfOk result (λ v. view v ≡ unit_value (unit_view unit.now)) }
     ensures refused { IfErr result (λ e. e ≡ error.Memory) }
 {
-    let names = unit.names();
-    let imports = import_values(alloc, names, unit.imports())?;
-    let directives = directive_values(alloc, names, unit.global_directives())?;
-    let declarations = global_values(alloc, names, unit.global_declarations())?;
-    lists_value(alloc, imports, directives, declarations)
+    Ok(written_unit(alloc, unit)?)
 }
 
-// The object of a unit's lists.
-fn lists_value(
-    alloc: Global,
-    imports: Vec<Value>,
-    directives: Vec<Value>,
-    declarations: Vec<Value>,
-) -> Result<Value, Error>
-    ensures written { IfOk result (λ v. view v ≡ bare (with_list (codes "imports") (items_view imports.items) (with_list (codes "directives") (items_view directives.items) (with_list (codes "declarations") (items_view declarations.items) no_members)))) }
-    ensures refused { IfErr result (λ e. e ≡ error.Memory) }
+fn written_unit(alloc: Global, unit: &TranslationUnit) -> Written
+    ensures { IfOk result (λ v. view v ≡ unit_value (unit_view unit.now)) }
 {
-    let object = Object::new(alloc)
-        .with_list(alloc, "declarations", declarations)?
-        .with_list(alloc, "directives", directives)?
-        .with_list(alloc, "imports", imports)?;
-    Ok(object.into_value())
+    let names = unit.names();
+    let imports = import_values(alloc, names, unit.imports());
+    let directives = directive_values(alloc, names, unit.global_directives());
+    let declarations = global_values(alloc, names, unit.global_declarations());
+    Object::new(alloc)
+        .list("declarations", declarations)
+        .list("directives", directives)
+        .list("imports", imports)
+        .finish()
 }

@@ -8,10 +8,10 @@ use Rattle.wesl_writing.proofs.attribute.attribute_values.Goals as goal
 
 pub loop-attribute-preserved : goal.loop-attribute-preserved
 loop-attribute-preserved c =
-    items-turn c.args.names.now an_attribute (placed attribute_view attribute_node) c.deref-attribute-items.result.now c.loop-attribute.attribute-index c.attribute-item.result c.loop-attribute.values.items c.push.new.self.items c.in_ok-attribute_value.field-0 (search rules) (search rules) (search rules) c.loop-attribute.invariant (c.in_ok-attribute_value.ensures.written ∙ sym (placed-value c.args.names.now an_attribute attribute_view attribute_node c.attribute-item.result))
+    items-turn c.args.names.now an_attribute (placed attribute_view attribute_node) c.deref-attribute-items.result.now c.loop-attribute.attribute-index c.attribute-item.result c.loop-attribute.values.items c.push.new.self.items c.in_ok-attribute_value.field-0 (search rules) (search rules) (search rules) c.loop-attribute.invariant (c.in_ok-attribute_value.ensures ∙ sym (placed-value c.args.names.now an_attribute attribute_view attribute_node c.attribute-item.result))
 
-pub returns-clause-written : goal.returns-clause-written
-returns-clause-written c =
+pub returns : goal.returns
+returns c =
     items-whole c.args.names.now an_attribute (placed attribute_view attribute_node) c.deref-attribute-items.result.now c.args.attributes.now.items c.loop-attribute.attribute-index (items_view c.loop-attribute.values.items) (search rules) (search rules) c.loop-attribute.invariant
 
 pub loop-attribute-init : goal.loop-attribute-init

@@ -4,5 +4,5 @@ use Rattle.serde_json.specs.View.{view}
 use Rattle.wesl_writing.proofs.Declarations.{as-function}
 use Rattle.wesl_writing.proofs.declaration.function_value.Goals as goal
 
-pub returns-clause-written : goal.returns-clause-written
-returns-clause-written c = IfOk-weaker c.worded_value.result _ _ (λ v h. as-function c.args.names.now c.args.function.now (view v) (search rules)) c.worded_value.ensures.written
+pub returns : goal.returns
+returns c = IfOk-weaker c.worded.result _ _ (λ v h. as-function c.args.names.now c.args.function.now (view v) h) (search rules)

@@ -8,10 +8,10 @@ use Rattle.wesl_writing.proofs.declaration.member_values.Goals as goal
 
 pub loop-member-preserved : goal.loop-member-preserved
 loop-member-preserved c =
-    items-turn c.args.names.now a_member (placed member_view member_node) c.deref-member-items.result.now c.loop-member.member-index c.member-item.result c.loop-member.values.items c.push.new.self.items c.in_ok-member_value.field-0 (search rules) (search rules) (search rules) c.loop-member.invariant (c.in_ok-member_value.ensures.written ∙ sym (placed-value c.args.names.now a_member member_view member_node c.member-item.result))
+    items-turn c.args.names.now a_member (placed member_view member_node) c.deref-member-items.result.now c.loop-member.member-index c.member-item.result c.loop-member.values.items c.push.new.self.items c.in_ok-member_value.field-0 (search rules) (search rules) (search rules) c.loop-member.invariant (c.in_ok-member_value.ensures ∙ sym (placed-value c.args.names.now a_member member_view member_node c.member-item.result))
 
-pub returns-clause-written : goal.returns-clause-written
-returns-clause-written c =
+pub returns : goal.returns
+returns c =
     items-whole c.args.names.now a_member (placed member_view member_node) c.deref-member-items.result.now c.args.members.now.items c.loop-member.member-index (items_view c.loop-member.values.items) (search rules) (search rules) c.loop-member.invariant
 
 pub loop-member-init : goal.loop-member-init

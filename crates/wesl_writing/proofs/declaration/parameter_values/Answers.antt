@@ -7,10 +7,10 @@ use Rattle.wesl_writing.proofs.declaration.parameter_values.Goals as goal
 
 pub loop-parameter-preserved : goal.loop-parameter-preserved
 loop-parameter-preserved c =
-    items-turn c.args.names.now a_parameter parameter_view c.deref-parameter-items.result.now c.loop-parameter.parameter-index c.parameter-item.result c.loop-parameter.values.items c.push.new.self.items c.in_ok-parameter_value.field-0 (search rules) (search rules) (search rules) c.loop-parameter.invariant (c.in_ok-parameter_value.ensures.written)
+    items-turn c.args.names.now a_parameter parameter_view c.deref-parameter-items.result.now c.loop-parameter.parameter-index c.parameter-item.result c.loop-parameter.values.items c.push.new.self.items c.in_ok-parameter_value.field-0 (search rules) (search rules) (search rules) c.loop-parameter.invariant (c.in_ok-parameter_value.ensures)
 
-pub returns-clause-written : goal.returns-clause-written
-returns-clause-written c =
+pub returns : goal.returns
+returns c =
     items-whole c.args.names.now a_parameter parameter_view c.deref-parameter-items.result.now c.args.parameters.now.items c.loop-parameter.parameter-index (items_view c.loop-parameter.values.items) (search rules) (search rules) c.loop-parameter.invariant
 
 pub loop-parameter-init : goal.loop-parameter-init

@@ -1,21 +1,22 @@
-use Rattle.std.proofs.Common.{rules}
-use Rattle.std.proofs.lemmas.Result.{IfOk-weaker}
-use Rattle.wesl_writing.specs.Objects.{members_in}
+use Rattle.std.proofs.Common.{refl, rules}
 use Rattle.wesl_writing.proofs.Declarations.{space-const, space-override, space-let, space-none, space-some}
+use Rattle.wesl_writing.proofs.Objects.{holds-as}
 use Rattle.wesl_writing.proofs.declaration.with_space.Goals as goal
 
-pub returns-in-Const-clause-written : goal.returns-in-Const-clause-written
-returns-in-Const-clause-written c = space-const c.args.names.now c.args.kind (members_in c.args.object) (search rules)
+pub returns-in-Const : goal.returns-in-Const
+returns-in-Const c = λ ms held. holds-as c.args.object _ _ (space-const c.args.names.now c.args.kind ms (search rules)) held
 
-pub returns-in-Override-clause-written : goal.returns-in-Override-clause-written
-returns-in-Override-clause-written c = space-override c.args.names.now c.args.kind (members_in c.args.object) (search rules)
+pub returns-in-Override : goal.returns-in-Override
+returns-in-Override c = λ ms held. holds-as c.args.object _ _ (space-override c.args.names.now c.args.kind ms (search rules)) held
 
-pub returns-in-Let-clause-written : goal.returns-in-Let-clause-written
-returns-in-Let-clause-written c = space-let c.args.names.now c.args.kind (members_in c.args.object) (search rules)
+pub returns-in-Let : goal.returns-in-Let
+returns-in-Let c = λ ms held. holds-as c.args.object _ _ (space-let c.args.names.now c.args.kind ms (search rules)) held
 
-pub returns-in-Var-None-clause-written : goal.returns-in-Var-None-clause-written
-returns-in-Var-None-clause-written c = space-none c.args.names.now c.args.kind (members_in c.args.object) (search rules)
+pub returns-in-Var-None : goal.returns-in-Var-None
+returns-in-Var-None c = λ ms held. holds-as c.args.object _ _ (space-none c.args.names.now c.args.kind ms (search rules)) held
 
-pub returns-in_ok-object-in-Var-Some-clause-written : goal.returns-in_ok-object-in-Var-Some-clause-written
-returns-in_ok-object-in-Var-Some-clause-written c =
-    IfOk-weaker c.with_text.result _ _ (λ o h. space-some c.args.names.now c.args.kind c.in-Var-Some.space c.in-Var-Some.mode c.space_word.result.now (members_in c.args.object) (members_in c.in_ok-object-in-Var-Some.object) (members_in o) (search rules) c.space_word.ensures (search rules) h) c.with_text.ensures.with
+pub returns-in-Var-Some : goal.returns-in-Var-Some
+returns-in-Var-Some c = λ ms held.
+    let inside = c.with_access.ensures ms held in
+    let written = c.text.ensures _ c.space_word.result.now inside refl in
+    holds-as c.text.result _ _ (space-some c.args.names.now c.args.kind c.in-Var-Some.space c.in-Var-Some.mode c.space_word.result.now ms _ _ (search rules) c.space_word.ensures refl refl) written

@@ -5,9 +5,9 @@ use Rattle.serde_json.specs.declared.value.Value.{the_lemmas}
 use Rattle.wesl_writing.proofs.Expressions.{as-truth, as-literal}
 use Rattle.wesl_writing.proofs.expression.literal_value.Goals as goal
 
-pub returns-in-Bool-clause-written : goal.returns-in-Bool-clause-written
-returns-in-Bool-clause-written c = search (rules, the_lemmas) ∙ as-truth c.args.names.now c.args.literal.now c.in-Bool.truth c.in-Bool.is
+pub returns-in-Bool : goal.returns-in-Bool
+returns-in-Bool c = search (rules, the_lemmas) ∙ as-truth c.args.names.now c.args.literal.now c.in-Bool.truth c.in-Bool.is
 
-pub returns-in_ok-object-in-Text-clause-written : goal.returns-in_ok-object-in-Text-clause-written
-returns-in_ok-object-in-Text-clause-written c =
-    IfOk-weaker c.worded_value.result _ _ (λ v h. as-literal c.args.names.now c.args.literal.now c.in-Text.text (view v) c.in-Text.is (search rules)) c.worded_value.ensures.written
+pub returns-in-Text : goal.returns-in-Text
+returns-in-Text c =
+    IfOk-weaker c.worded.result _ _ (λ v h. as-literal c.args.names.now c.args.literal.now c.in-Text.text (view v) c.in-Text.is h) (search rules)

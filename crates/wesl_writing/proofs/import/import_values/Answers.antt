@@ -8,10 +8,10 @@ use Rattle.wesl_writing.proofs.import.import_values.Goals as goal
 
 pub loop-import-preserved : goal.loop-import-preserved
 loop-import-preserved c =
-    items-turn c.args.names.now an_import (placed import_view import_node) c.deref-import-items.result.now c.loop-import.import-index c.import-item.result c.loop-import.values.items c.push.new.self.items c.in_ok-import_value.field-0 (search rules) (search rules) (search rules) c.loop-import.invariant (c.in_ok-import_value.ensures.written ∙ sym (placed-value c.args.names.now an_import import_view import_node c.import-item.result))
+    items-turn c.args.names.now an_import (placed import_view import_node) c.deref-import-items.result.now c.loop-import.import-index c.import-item.result c.loop-import.values.items c.push.new.self.items c.in_ok-import_value.field-0 (search rules) (search rules) (search rules) c.loop-import.invariant (c.in_ok-import_value.ensures ∙ sym (placed-value c.args.names.now an_import import_view import_node c.import-item.result))
 
-pub returns-clause-written : goal.returns-clause-written
-returns-clause-written c =
+pub returns : goal.returns
+returns c =
     items-whole c.args.names.now an_import (placed import_view import_node) c.deref-import-items.result.now c.args.imports.now.items c.loop-import.import-index (items_view c.loop-import.values.items) (search rules) (search rules) c.loop-import.invariant
 
 pub loop-import-init : goal.loop-import-init

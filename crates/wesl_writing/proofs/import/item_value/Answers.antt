@@ -1,10 +1,11 @@
 use Rattle.std.proofs.Common.{rules}
+use Rattle.std.proofs.lemmas.Result.{IfOk-weaker}
 use Rattle.serde_json.specs.View.{view}
 use Rattle.wesl_writing.proofs.Imports.{as-item, as-renamed}
 use Rattle.wesl_writing.proofs.import.item_value.Goals as goal
 
-pub returns-in_ok-with_text-in-None-clause-written : goal.returns-in_ok-with_text-in-None-clause-written
-returns-in_ok-with_text-in-None-clause-written c = as-item c.args.names.now c.args.item.now (view c.into_value.result) (search rules) (search rules)
+pub returns-in-None : goal.returns-in-None
+returns-in-None c = IfOk-weaker c.finish.result _ _ (λ v h. as-item c.args.names.now c.args.item.now (view v) (search rules) h) (search rules)
 
-pub returns-in_ok-with_text-in-Some-clause-written : goal.returns-in_ok-with_text-in-Some-clause-written
-returns-in_ok-with_text-in-Some-clause-written c = as-renamed c.args.names.now c.args.item.now c.in-Some.rename (view c.into_value-in-Some.result) (search rules) (search rules)
+pub returns-in-Some : goal.returns-in-Some
+returns-in-Some c = IfOk-weaker c.finish-in-Some.result _ _ (λ v h. as-renamed c.args.names.now c.args.item.now c.in-Some.rename (view v) (search rules) h) (search rules)
