@@ -124,13 +124,7 @@ pub fn held(row: Row<'_>) -> Answer {
 pub fn added_or_left(row: Row<'_>) -> Answer {
     let then = row.part("then")?;
     let mut modules = row.modules("modules")?;
-    let path = then.rooted("path")?;
-    let outcome = if then.has("unit") {
-        modules.add_translation_unit(row.alloc, path, then.unit("unit")?)
-    } else {
-        modules.add_module(path, then.owned("source")?)
-    };
-    match outcome {
+    match then.add_to(&mut modules) {
         Ok(()) => listed(row.alloc, &modules),
         Err(_) => refused(row.alloc, listed(row.alloc, &modules)),
     }

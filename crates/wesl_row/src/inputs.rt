@@ -122,8 +122,8 @@ impl<'a> Row<'a> {
         Ok(modules)
     }
 
-    /// Adds the module that this is.
-    fn add_to(self, modules: &mut VirtualResolver<JsonText>) -> Result<(), anyhow::Error> {
+    /// Adds the module that this is, at its `path`, with its `unit` or its `source`.
+    pub fn add_to(self, modules: &mut VirtualResolver<JsonText>) -> Result<(), anyhow::Error> {
         let path = self.rooted("path")?;
         if self.has("unit") {
             Ok(modules.add_translation_unit(self.alloc, path, self.unit("unit")?)?)
