@@ -8,11 +8,11 @@ ghost use Rattle.wesl_valid.specs.Calls.{call_by, called_in, calls_in};
 ghost use Rattle.wesl_fitting.specs.Made.{call_told, one_told};
 
 use std::alloc::Global;
-use wesl_visit::Collect;
 use wesl_names::Error;
 use wesl_syntax::{
     Expression, ExpressionNode, FunctionCall, GlobalDeclaration, Statement, StatementNode,
 };
+use wesl_visit::Collect;
 
 /// A call of a name without a path.
 #[derive(Clone, Copy)]
