@@ -56,7 +56,15 @@ pub fn name<R: Resolver>(row: Row<'_>, resolver: &mut R) -> Answer
     }
 }
 
-/// The source that a resolver gives for a path, null where it has none; want of memory is none.
+/// Null for a module that is not there; want of memory is none.
+fn none_of(error: &ResolveError) -> Answer {
+    match error {
+        ResolveError::Memory => Err(anyhow::anyhow!("want of memory")),
+        _ => Ok(Value::Null),
+    }
+}
+
+/// The source that a resolver gives for a path, null where it has none.
 fn given<R: Resolver>(alloc: Global, resolver: &mut R, text: &str) -> Answer
     requires { R.ready resolver.old }
     ensures { R.ready resolver.new }
@@ -64,8 +72,7 @@ fn given<R: Resolver>(alloc: Global, resolver: &mut R, text: &str) -> Answer
     let path = rooted(alloc, text)?;
     match resolver.resolve_source(alloc, &path) {
         Ok(source) => Ok(Value::String(source)),
-        Err(ResolveError::Memory) => Err(anyhow::anyhow!("want of memory")),
-        Err(_) => Ok(Value::Null),
+        Err(error) => none_of(&error),
     }
 }
 
