@@ -1,11 +1,11 @@
-use Rattle.std.proofs.Common.{◌≡◌, List, [], drop, subst, sym, ◌∙◌}
+use Rattle.std.proofs.Common.{◌≡◌, List, drop, subst, sym, ◌∙◌}
 use Rattle.wesl_names.specs.Path.{path_view}
 use Rattle.wesl_syntax.specs.Unit.{spelled}
 use Rattle.wesl_tree.specs.Translation.{unit_view}
 use Rattle.wesl_world.specs.declared.ids.NameId.{NameId}
 use Rattle.wesl_world.specs.Tables.{Table}
 use Rattle.wesl_table.specs.Tables.{table_at}
-use Rattle.wesl_table.specs.Numbering.{Numbering, Grows, AreRelated, NameAt}
+use Rattle.wesl_table.specs.Numbering.{Numbering, Grows, AreRelated}
 use Rattle.wesl_table.specs.NumbersView.{numbering}
 use Rattle.wesl_table.specs.declared.numbers.Numbers.{Numbers}
 use Rattle.wesl_world.specs.declared.ids.PathId.{PathId}

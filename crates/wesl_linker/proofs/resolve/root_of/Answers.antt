@@ -1,6 +1,6 @@
-use Rattle.std.proofs.Common.{◌≡◌, sym, subst, ap}
+use Rattle.std.proofs.Common.{sym, subst, ap}
 use Rattle.wesl_names.specs.Borrowed.{texts}
-use Rattle.wesl_names.specs.Path.{Path, path_view}
+use Rattle.wesl_names.specs.Path.{Path}
 use Rattle.wesl_syntax.specs.Unit.{spelled}
 use Rattle.wesl_tree.specs.Translation.{unit_view}
 use Rattle.wesl_table.specs.Marks.{AreMarked}
