@@ -80,17 +80,22 @@ pub fn numbered_or_left(row: Row<'_>) -> Answer {
     }
 }
 
+/// The statement `let name = init;`.
+fn statement(alloc: Global, name: &str, init: &str) -> Answer {
+    let mut statement = Object::new(alloc);
+    statement.text("k", Some("let"));
+    statement.text("name", Some(name));
+    statement.text("init", Some(init));
+    statement.end()
+}
+
 /// `let v1 = v0; let v2 = v1; let v3 = v2; ..`, so many statements.
 fn statements(alloc: Global, count: usize) -> Answer {
     let mut statements = List::new(alloc);
     let mut last = String::from_str(alloc, "v0")?;
     for number in 1..=count {
         let name = format!(in alloc; "v{number}")?;
-        let mut statement = Object::new(alloc);
-        statement.text("k", Some("let"));
-        statement.text("name", Some(name.as_str()));
-        statement.text("init", Some(last.as_str()));
-        statements.put(statement.end());
+        statements.put(statement(alloc, &name, &last));
         last = name;
     }
     statements.end()
