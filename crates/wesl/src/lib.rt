@@ -37,6 +37,8 @@ pub use wesl_mangle::Mangler;
 pub use wesl_mangle::NoMangler;
 pub use wesl_mangle::PathHash;
 pub use wesl_mangle::UnicodeMangler;
+pub use wesl_mapped_link::Mapped;
+pub use wesl_mapped_link::link_mapped;
 pub use wesl_program::Failures;
 pub use wesl_program::Line;
 pub use wesl_resolve::CodegenModule;

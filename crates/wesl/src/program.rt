@@ -13,7 +13,7 @@ use wesl_program::{
 };
 use wesl_tree::Error;
 
-/// What a line says: the linked unit and whether its names clash, or why there is none.
+/// What a line says: the linked unit, whether its names clash and what they stand for, or why there is none.
 #[derive(Clone, Copy, Debug, PartialEq, Eq)]
 pub enum Outcome {
     Linked,
@@ -29,9 +29,10 @@ pub enum RunError {
 
 /// Reads a bundle whole, links it, and writes its line.
 ///
-/// The line is the answer (`Linked`), which has the linked unit as a tree and says whether its names clash, or a fault
-/// (`Refused`). With `RunError::Input`, which comes only where a read failed, nothing was written; with
-/// `RunError::Output`, which comes only where a write failed or took no byte, a beginning of the line was.
+/// The line is the answer (`Linked`), which has the linked unit as a tree, says whether its names clash, and maps each
+/// mangled name to its module and item, or a fault (`Refused`). With `RunError::Input`, which comes only where a read
+/// failed, nothing was written; with `RunError::Output`, which comes only where a write failed or took no byte, a beginning
+/// of the line was.
 pub fn run<R: Read, W: Write>(
     alloc: Global,
     reader: &mut R,

@@ -4,5 +4,5 @@
 mod linking;
 mod units;
 
-pub use linking::link_under;
+pub use linking::{link_at, link_under};
 pub use units::condition;

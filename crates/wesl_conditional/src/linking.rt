@@ -5,6 +5,7 @@ ghost use Rattle.wesl_tree.specs.declared.unit.TranslationUnit.{TranslationUnit}
 ghost use Rattle.wesl_names.specs.Borrowed.{texts};
 ghost use Rattle.wesl_names.specs.Path.{Text, Path, path_view, is_relative};
 ghost use Rattle.wesl_names.specs.declared.errors.Diagnostic.{out-Diagnostic};
+ghost use Rattle.wesl_resolve.specs.Resolver.{MeansTheSame};
 ghost use Rattle.wesl_conditional.specs.Conditions.{IsConditioned};
 ghost use Rattle.wesl_conditional.specs.Linking.{Links, RefusesLink, kept_names, hands_left, refuses_left};
 ghost use Rattle.wesl_linker.specs.Refusal.{TellsOf};
@@ -80,29 +81,34 @@ fn link_judged<R: Resolver + Drop, F: Fn(TranslationUnit) -> Result<TranslationU
     ensures sound { IfOk result IsSound }
     ensures refused { IfErr result (λ d. RefusesLink (hands_left (λ p u. R.hands resolver p u) (λ p e. R.refuses resolver p e) features.now) (refuses_left (λ p u. R.hands resolver p u) (λ p e. R.refuses resolver p e) features.now) (path_view path.now) (texts keep.now) is_eager max_modules (out-Diagnostic d).error) }
 {
-    let judged = Preprocessor::new(resolver, judge);
-    link_from(alloc, keep, is_eager, path, judged, max_modules)
+    let mut judged = Preprocessor::new(resolver, judge);
+    link_at(alloc, keep, is_eager, path, &mut judged, max_modules)
 }
 
-// Links the module at a path, which the resolver hands out as every other.
-fn link_from<R: Resolver + Drop>(
+/// Links the module at `path` as `link_under` does, with the units as the resolver hands them out, the root's too: no
+/// condition is judged.
+///
+/// The resolver means afterwards what it meant, whether the link is refused or not. Refused where the resolver refuses a
+/// path, where a link is refused, and for want of memory.
+pub fn link_at<R: Resolver>(
     alloc: Global,
     keep: &[&str],
     is_eager: bool,
     path: &ModulePath,
-    resolver: R,
+    resolver: &mut R,
     max_modules: usize,
 ) -> Result<Resolutions, Diagnostic>
-    requires ready { R.ready resolver }
+    requires ready { R.ready resolver.old }
     requires asked { is_relative (path_view path.now) ≡ false }
-    ensures linked { IfOk result (λ r. Links (λ p u. R.hands resolver p u) (λ p e. R.refuses resolver p e) (path_view path.now) (texts keep.now) is_eager max_modules (turns_of r) (modules_of r)) }
+    ensures linked { IfOk result (λ r. Links (λ p u. R.hands resolver.old p u) (λ p e. R.refuses resolver.old p e) (path_view path.now) (texts keep.now) is_eager max_modules (turns_of r) (modules_of r)) }
     ensures kept { IfOk result (λ r. (resolved r).kept ≡ kept_names is_eager (texts keep.now)) }
     ensures eager { IfOk result (λ r. (resolved r).is_eager ≡ is_eager) }
     ensures names { IfOk result (λ r. (p : Path) (n : Text) → (resolved r).names p n ≡ n) }
     ensures sound { IfOk result IsSound }
-    ensures refused { IfErr result (λ d. RefusesLink (λ p u. R.hands resolver p u) (λ p e. R.refuses resolver p e) (path_view path.now) (texts keep.now) is_eager max_modules (out-Diagnostic d).error) }
+    ensures refused { IfErr result (λ d. RefusesLink (λ p u. R.hands resolver.old p u) (λ p e. R.refuses resolver.old p e) (path_view path.now) (texts keep.now) is_eager max_modules (out-Diagnostic d).error) }
+    ensures same { MeansTheSame R.hands R.refuses R.source R.lacks R.shown resolver.old resolver.new }
+    ensures stays_ready { R.ready resolver.new }
 {
-    let mut resolver = resolver;
     match resolver.resolve_module(alloc, path) {
         Ok(unit) => link_unit(alloc, keep, is_eager, unit, path, resolver, max_modules),
         Err(fault) => Err(Diagnostic::of(Error::of_resolve(fault))),
@@ -110,28 +116,29 @@ fn link_from<R: Resolver + Drop>(
 }
 
 // Links a root: what its kept names reach, or all that is declared.
-fn link_unit<R: Resolver + Drop>(
+fn link_unit<R: Resolver>(
     alloc: Global,
     keep: &[&str],
     is_eager: bool,
     unit: TranslationUnit,
     path: &ModulePath,
-    resolver: R,
+    resolver: &mut R,
     max_modules: usize,
 ) -> Result<Resolutions, Diagnostic>
-    requires ready { R.ready resolver }
+    requires ready { R.ready resolver.old }
     requires asked { is_relative (path_view path.now) ≡ false }
-    ensures linked { let root = module_at path.now unit in IfOk result (λ r. worlds.IsLinked (R.hands resolver) (R.refuses resolver) root (worlds.task_of root (kept_names is_eager (texts keep.now)) is_eager) max_modules (turns_of r) (modules_of r)) }
+    ensures linked { let root = module_at path.now unit in IfOk result (λ r. worlds.IsLinked (R.hands resolver.old) (R.refuses resolver.old) root (worlds.task_of root (kept_names is_eager (texts keep.now)) is_eager) max_modules (turns_of r) (modules_of r)) }
     ensures order { IfOk result (λ r. worlds.IsModuleOrder (module_at path.now unit) (modules_of r)) }
     ensures kept { IfOk result (λ r. (resolved r).kept ≡ kept_names is_eager (texts keep.now)) }
     ensures eager { IfOk result (λ r. (resolved r).is_eager ≡ is_eager) }
     ensures names { IfOk result (λ r. (p : Path) (n : Text) → (resolved r).names p n ≡ n) }
     ensures sound { IfOk result IsSound }
-    ensures refused { let root = module_at path.now unit in IfErr result (λ d. TellsOf (worlds.IsRefused (R.hands resolver) (R.refuses resolver) root (worlds.task_of root (kept_names is_eager (texts keep.now)) is_eager) max_modules) (out-Diagnostic d).error) }
+    ensures refused { let root = module_at path.now unit in IfErr result (λ d. TellsOf (worlds.IsRefused (R.hands resolver.old) (R.refuses resolver.old) root (worlds.task_of root (kept_names is_eager (texts keep.now)) is_eager) max_modules) (out-Diagnostic d).error) }
+    ensures same { MeansTheSame R.hands R.refuses R.source R.lacks R.shown resolver.old resolver.new }
+    ensures stays_ready { R.ready resolver.new }
 {
-    let mut resolver = resolver;
     if is_eager {
-        return resolve_eager(alloc, unit, path, &mut resolver, max_modules);
+        return resolve_eager(alloc, unit, path, resolver, max_modules);
     }
-    resolve_lazy(alloc, keep, unit, path, &mut resolver, max_modules)
+    resolve_lazy(alloc, keep, unit, path, resolver, max_modules)
 }

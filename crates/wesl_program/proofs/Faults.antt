@@ -205,9 +205,13 @@ refused-unit None u e h = absurd h
 refused-unit (Some b) u e (d, r, is) = subst IsModuleFault is (tells-validation (valid.IsWgslFault u (built_in b)) (option_map string_bytes d.declaration) d.error r.tells)
 
 -- a fault of the unit to which a bundle links
-pub unit-fault : (b : Bundle) (u : UnitView) (e : error.Error) → LinksTo b u → RefusesUnit b.builtins u e → IsLinkFault b e
-unit-fault b u e links h = by (refused-unit b.builtins u e h)
+pub unit-fault : (b : Bundle) (w : List worlds.Module) (u : UnitView) (e : error.Error) → LinksTo b w u → RefusesUnit b.builtins u e → IsLinkFault b e
+unit-fault b w u e links h = by (refused-unit b.builtins u e h)
   where
     by : IsModuleFault e → IsLinkFault b e
     by (inl is) = inl is
-    by (inr of) = inr (of, (e, inr (u, links, h), refl))
+    by (inr of) = inr (of, (e, inr (w, u, links, h), refl))
+
+-- the same, of one of the worlds that a link may find
+pub found-fault : (b : Bundle) (same : List worlds.Module → Type 0) (u : UnitView) (e : error.Error) → (w : List worlds.Module) × LinksTo b w u × same w → RefusesUnit b.builtins u e → IsLinkFault b e
+found-fault b same u e (w, links, is) h = unit-fault b w u e links h

@@ -2,7 +2,8 @@ pub mod Bytes
 pub mod Texts
 pub mod Units
 pub mod Faults
-pub mod Answered
+pub mod Mapped
+pub mod Maps
 pub mod PackageTexts
 pub mod StoredTexts
 pub mod TreeFaults

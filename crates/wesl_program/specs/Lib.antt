@@ -10,3 +10,4 @@ pub mod Validity
 pub mod Line
 pub mod Made
 pub mod Refused
+pub mod Naming

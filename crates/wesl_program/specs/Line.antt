@@ -1,9 +1,10 @@
 -- The line for the bytes of a bundle: an answer or a fault.
 use Rattle.std.specs.Prelude.{◌≡◌, ◌≢◌, ◌⊎◌, ◌↔◌, ℕ, List, [], ◌∷◌, ◌++◌, Bool, false, Option, Some, None, codes, IsUtf8}
-use Rattle.serde_json.specs.Data.{Data, boolean, string, array, object, item, no_items, member, no_members, Items}
+use Rattle.serde_json.specs.Data.{Data, boolean, string, array, object, item, no_items, member, no_members, Items, Members}
 use Rattle.serde_json.specs.Read.{read}
 use Rattle.serde_json.specs.Written.{compact_text}
 use Rattle.wesl_names.specs.Path.{Text}
+use Rattle.wesl_names.specs.PathText.{to_text}
 use Rattle.wesl_syntax.specs.Unit.{UnitView}
 use Rattle.wesl_form.specs.Units.{unit_value}
 use Rattle.wesl_faith.specs.Faithful.{IsFaithful}
@@ -11,7 +12,11 @@ use Rattle.wesl_bundle.specs.Bundle.{Bundle, bundle_of}
 use Rattle.wesl_bundle.specs.Forms.{IsBrokenBundle}
 use Rattle.wesl_names.specs.declared.errors.Error as error
 use Rattle.wesl_program.specs.Fault.{Fault, fault, fault_of}
-use Rattle.wesl_program.specs.Linking.{LinksTo}
+use Rattle.wesl_source_map.specs.Records.{Item}
+use Rattle.wesl_source_map.specs.Listed.{IsListing}
+use Rattle.wesl_naming.specs.Recorded.{Record}
+use Rattle.wesl_linker.specs.Worlds.{Module}
+use Rattle.wesl_program.specs.Linking.{LinksTo, recorded_for}
 use Rattle.wesl_program.specs.Validity.{IsValidUnder, RefusesBundle}
 
 -- a value as compact JSON, and a line feed
@@ -75,20 +80,35 @@ IsFaultLine bytes line = (line ≡ fault_line memory) ⊎ ((f : Fault) × Stands
 
 -- ---- answers
 
-abbrev pub answer_value : Bool → Data → Data
-answer_value clash unit = object (member (codes "clash") (boolean clash) (member (codes "unit") unit no_members))
+-- the path of a module and an item of it
+abbrev pub item_value : Item → Data
+item_value i = array (texts_value (to_text i.0 ∷ i.1 ∷ []))
+
+abbrev pub map_members : List (Text × Item) → Members
+map_members [] = no_members
+map_members (e ∷ es) = member e.0 (item_value e.1) (map_members es)
+
+-- each name that stands for an item, with that item
+abbrev pub IsMapOf : Record → Data → Type 0
+IsMapOf recorded map = (listing : List (Text × Item)) × IsListing recorded listing × (map ≡ object (map_members listing))
+
+abbrev pub answer_value : Bool → Data → Data → Data
+answer_value clash map unit = object (member (codes "clash") (boolean clash) (member (codes "map") map (member (codes "unit") unit no_members)))
 
 -- there is no clash exactly where plain scoping of the names of the unit reads each reference as its number says
 abbrev pub SaysClash : Bool → UnitView → Type 0
 SaysClash clash u = (clash ≡ false) ↔ IsFaithful u
 
--- the value of a unit to which the bundle's modules link, which is valid under its built-in names, and whether its names clash
-abbrev pub IsAnswerOf : Bundle → Bool → Data → Type 0
-IsAnswerOf b clash unit = (u : UnitView) × LinksTo b u × IsValidUnder b.builtins u × SaysClash clash u × (unit ≡ unit_value u)
+-- the value of a unit to which the bundle's modules link, which is valid under its built-in names, whether its names clash, and
+-- the value of what is recorded of them
+abbrev pub IsAnswerOf : Bundle → Bool → Data → Data → Type 0
+IsAnswerOf b clash map unit =
+    (w : List Module) × (u : UnitView) × LinksTo b w u × IsValidUnder b.builtins u
+    × SaysClash clash u × IsMapOf (recorded_for b w) map × (unit ≡ unit_value u)
 
--- the bytes are a bundle's that is linked, and the line says whether the names of its linked unit clash, and has the written
--- form of this unit, which is valid where the bundle has built-in names
+-- the bytes are a bundle's that is linked, and the line says whether the names of its linked unit clash, what these stand for,
+-- and has the written form of this unit, which is valid where the bundle has built-in names
 abbrev pub IsAnswerLine : List ℕ → Text → Type 0
 IsAnswerLine bytes line =
-    (d : Data) × (b : Bundle) × (clash : Bool) × (unit : Data)
-    × IsJsonOf bytes d × (bundle_of d ≡ Some b) × IsAnswerOf b clash unit × (line ≡ line_of (answer_value clash unit))
+    (d : Data) × (b : Bundle) × (clash : Bool) × (map unit : Data)
+    × IsJsonOf bytes d × (bundle_of d ≡ Some b) × IsAnswerOf b clash map unit × (line ≡ line_of (answer_value clash map unit))

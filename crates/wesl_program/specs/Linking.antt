@@ -1,5 +1,5 @@
 -- What is linked of a bundle.
-use Rattle.std.specs.Prelude.{◌≡◌, ℕ, List, Option, option_map}
+use Rattle.std.specs.Prelude.{◌≡◌, ℕ, List, Option, None, true, option_map}
 use Rattle.serde_json.specs.Data.{Data}
 use Rattle.wesl_names.specs.Path.{Text, Path}
 use Rattle.wesl_names.specs.declared.errors.Error as error
@@ -7,22 +7,21 @@ use Rattle.wesl_names.specs.declared.errors.ResolveError.{ResolveError}
 use Rattle.wesl_syntax.specs.Unit.{UnitOf, UnitView}
 use Rattle.wesl_formula.specs.declared.features.Features.{Features}
 use Rattle.wesl_bundle.specs.Bundle.{Bundle}
-use Rattle.wesl_bundle.specs.declared.options.Naming.{Naming}
-use Rattle.wesl_bundle.specs.declared.options.Naming.TheVariants as naming
 use Rattle.wesl_bundle.specs.Views.{features_view}
 use Rattle.wesl_resolve.specs.ByOrigin.{ByOrigin}
 use Rattle.wesl_resolve.specs.Packages.{IsReadIn, IsRefusedIn}
 use Rattle.wesl_resolve.specs.declared.packages.CodegenPkg.{CodegenPkg}
 use Rattle.wesl_json.specs.UnitTexts.{ReadsAs}
-use Rattle.wesl_conditional.specs.Linking.{Links, RefusesLink, kept_names, hands_left, refuses_left}
+use Rattle.wesl_conditional.specs.Linking.{Links, RefusesLink, hands_left, refuses_left}
+use Rattle.wesl_mapped_link.specs.Mapping.{task_at}
+use Rattle.wesl_naming.specs.Recorded.{Record, all_written}
 use Rattle.wesl_linker.specs.Worlds as worlds
 use Rattle.wesl_linker.specs.Linked.{IsAssembled}
-use Rattle.wesl_linker.specs.Resolved.{mangled, NamesAgree}
-use Rattle.wesl_mangle.specs.Escape.{escape}
-use Rattle.wesl_mangle.specs.Unicode.{unicode}
+use Rattle.wesl_linker.specs.Resolved.{mangled, NamesAgree, writes}
 use Rattle.wesl_world.specs.World.{Task}
 use Rattle.wesl_program.specs.Bundle.{unit_at}
 use Rattle.wesl_program.specs.Hands.{IsHandedAt, IsRefusedAt}
+use Rattle.wesl_program.specs.Naming.{named_by}
 use Rattle.wesl_program.specs.PackageTexts.{ArePackagesOf}
 use Rattle.wesl_program.specs.StoredTexts.{IsUnreadable}
 
@@ -52,28 +51,28 @@ module _ (b : Bundle) (k : Kept b) where
   abbrev pub refused_left : Path → ResolveError → Type 0
   refused_left = refuses_left handed refused k.features
 
--- how the items of modules are named
-abbrev pub named_by : Naming → Path → Text → Text
-named_by naming.Escape p n = escape p n
-named_by naming.Unicode p n = unicode p n
-named_by naming.Own p n = n
-
 -- the names that are printed for what a bundle declares: those of its mangler, and the root's own unless it says otherwise
 abbrev pub names_for : Bundle → Path → Text → Text
 names_for b = mangled b.root b.options.mangle_root (named_by b.options.mangler)
 
 -- the names that are kept of the root, or all that is declared
 abbrev pub task_for : Bundle → Task Path Text
-task_for b = record { root = b.root; kept = kept_names b.options.eager b.keep; is_eager = b.options.eager }
+task_for b = task_at b.root b.keep b.options.eager
 
 -- A link of the bundle's modules and packages, each as the features leave it, from the root and the names that are kept, or all
--- that is declared, with no more modules than are allowed; and the unit is its linked form, under the names that the bundle asks for.
-abbrev pub LinksTo : Bundle → UnitView → Type 0
-LinksTo b u =
-    (k : Kept b) × (turns : ℕ) × (w : List worlds.Module) × (names : Path → Text → Text)
+-- that is declared, with no more modules than are allowed, finds these modules; and the unit is their linked form, under the
+-- names that the bundle asks for.
+abbrev pub LinksTo : Bundle → List worlds.Module → UnitView → Type 0
+LinksTo b w u =
+    (k : Kept b) × (turns : ℕ) × (names : Path → Text → Text)
     × Links (handed_left b k) (refused_left b k) b.root b.keep b.options.eager b.options.max_modules turns w
     × NamesAgree w names (names_for b)
     × IsAssembled w (task_for b) names u
+
+-- What is recorded of a link of these modules: the item that each name was last given for, of each name that they declare in
+-- module order, those of the root only where it is to be mangled.
+abbrev pub recorded_for : Bundle → List worlds.Module → Record
+recorded_for b w = all_written true (writes (named_by b.options.mangler) b.options.mangle_root w) (λ name. None)
 
 -- such a link is refused with the error, which stands
 abbrev pub IsLinkRefused : Bundle → error.Error → Type 0

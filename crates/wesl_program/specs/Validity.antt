@@ -1,9 +1,10 @@
 -- What the built-in names of a bundle ask of its linked unit (WGSL, "Declaration and Scope" and "Function Calls").
-use Rattle.std.specs.Prelude.{◌≡◌, ◌⊎◌, Option, Some, None}
+use Rattle.std.specs.Prelude.{◌≡◌, ◌⊎◌, List, Option, Some, None}
 use Rattle.wesl_names.specs.declared.errors.Error as error
 use Rattle.wesl_names.specs.declared.errors.Diagnostic.{Diagnostic}
 use Rattle.wesl_syntax.specs.Unit.{UnitView}
 use Rattle.wesl_builtins.specs.Builtins.{BuiltinNames}
+use Rattle.wesl_linker.specs.Worlds.{Module}
 use Rattle.wesl_bundle.specs.Builtins as said
 use Rattle.wesl_bundle.specs.Bundle.{Bundle}
 use Rattle.wesl_program.specs.Linking.{LinksTo, IsLinkRefused}
@@ -26,7 +27,7 @@ RefusesUnit (Some b) u e = (d : Diagnostic) × RefusesWgsl u (built_in b) d × (
 
 -- the unit is one to which the bundle links, and validation refuses it
 abbrev pub IsUnitRefused : Bundle → error.Error → Type 0
-IsUnitRefused b e = (u : UnitView) × LinksTo b u × RefusesUnit b.builtins u e
+IsUnitRefused b e = (w : List Module) × (u : UnitView) × LinksTo b w u × RefusesUnit b.builtins u e
 
 -- the link of the bundle is refused with the error, or else its linked unit is
 abbrev pub RefusesBundle : Bundle → error.Error → Type 0

@@ -1,5 +1,5 @@
 //! From a bundle to what is answered of its linked unit.
-ghost use Rattle.std.specs.Prelude.{◌≡◌, map, false, string_bytes, IfOk, IfErr, OnOk};
+ghost use Rattle.std.specs.Prelude.{◌≡◌, List, map, None, false, string_bytes, IfOk, IfErr};
 ghost use Rattle.wesl_names.specs.Borrowed.{texts};
 ghost use Rattle.serde_json.specs.View.{view};
 ghost use Rattle.serde_json.specs.Written.{has_float};
@@ -8,60 +8,66 @@ ghost use Rattle.wesl_names.specs.declared.errors.Error as error;
 ghost use Rattle.wesl_tree.specs.Translation.{unit_view};
 ghost use Rattle.wesl_bundle.specs.PackageViews.{packages_view};
 ghost use Rattle.wesl_bundle.specs.Views.{bundle_view, module_view};
-ghost use Rattle.wesl_link.specs.Keeping.{IsSound, resolved};
-ghost use Rattle.wesl_linker.specs.Resolved.{IsMangled, AssemblesTo, Resolved};
+ghost use Rattle.wesl_linker.specs.Worlds.{Module};
+ghost use Rattle.wesl_source_map.specs.Records.{SameItems};
+ghost use Rattle.wesl_source_map.specs.BasicView.{items};
+ghost use Rattle.wesl_conditional.specs.Linking.{RefusesLink, hands_left, refuses_left};
+ghost use Rattle.wesl_mapped_link.specs.Mapping.{MapsLink};
 ghost use Rattle.wesl_program.specs.Line.{IsAnswerOf};
-ghost use Rattle.wesl_program.specs.Linking.{LinksTo, named_by};
+ghost use Rattle.wesl_program.specs.Linking.{LinksTo, recorded_for};
+ghost use Rattle.wesl_program.specs.Naming.{named_by};
 ghost use Rattle.wesl_program.specs.PackageTexts.{ArePackagesOf};
 ghost use Rattle.wesl_program.specs.Holds.{Holds};
 ghost use Rattle.wesl_program.specs.Refused.{IsLinkFault};
 
 use crate::answer::Answer;
 use crate::bundle_resolver::BundleResolver;
+use crate::map_value::map_value;
 use crate::modules::Modules;
+use crate::naming::BundleMangler;
 use crate::packages::package_of;
 use crate::stored_text::StoredText;
 use crate::validity::check_valid;
 use std::alloc::{AllocError, Global};
-use wesl_bundle::{BuiltinNames, Bundle, BundleModule, Naming, Options, Package};
+use wesl_bundle::{BuiltinNames, Bundle, BundleModule, Options, Package};
 use wesl_clash::names_clash;
-use wesl_conditional::link_under;
+use wesl_formula::Features;
 use wesl_json::value_of_unit;
-use wesl_link::Resolutions;
-use wesl_mangle::{EscapeMangler, NoMangler, UnicodeMangler};
-use wesl_resolve::StandardResolver;
-use wesl_tree::{Error, TranslationUnit};
+use wesl_mapped_link::{Mapped, link_mapped};
+use wesl_resolve::{Resolver, StandardResolver};
+use wesl_source_mapper::SourceMapper;
+use wesl_tree::{Error, ModulePath};
 
 // The modules of a bundle, and its packages.
 type Sources<'b, 'v> = StandardResolver<BundleResolver<'b, 'v>, StoredText>;
 
-/// The value of the unit that is linked of a bundle's modules, and whether its names clash. Where the bundle has built-in
-/// names, the unit is validated by them, and refused with the validator's fault.
+/// The value of the unit that is linked of a bundle's modules, whether its names clash, and what they stand for. Where the
+/// bundle has built-in names, the unit is validated by them, and refused with the validator's fault.
 pub fn linked(alloc: Global, bundle: Bundle) -> Result<Answer, Error>
     requires fixed { is_relative (path_view bundle.root) ≡ false }
-    ensures linked { IfOk result (λ a. IsAnswerOf (bundle_view bundle.entry) a.clash (view a.unit)) }
+    ensures linked { IfOk result (λ a. IsAnswerOf (bundle_view bundle.entry) a.clash (view a.map) (view a.unit)) }
+    ensures map_whole { IfOk result (λ a. has_float (view a.map) ≡ false) }
     ensures whole { IfOk result (λ a. has_float (view a.unit) ≡ false) }
     ensures refused { IfErr result (IsLinkFault (bundle_view bundle.entry)) }
 {
-    let (unit, builtins) = linked_unit(alloc, bundle)?;
-    if let Err(error) = check_valid(alloc, &unit, builtins) {
+    let (made, builtins) = linked_unit(alloc, bundle)?;
+    if let Err(error) = check_valid(alloc, &made.unit, builtins) {
         return Err(error);
     }
-    let clash = names_clash(alloc, &unit)?;
-    let value = value_of_unit(alloc, &unit)?;
-    Ok(Answer { clash, unit: value })
+    let clash = names_clash(alloc, &made.unit)?;
+    let map = map_value(alloc, &made.map)?;
+    let unit = value_of_unit(alloc, &made.unit)?;
+    Ok(Answer { clash, map, unit })
 }
 
 /// The root is handed out as each other module is, and each is linked as the bundle's features leave it. Of the other
 /// modules those are loaded that are reached from the names that are kept, or from all that is declared, and no more than
 /// the bundle allows; the names of their items are as its mangler gives them, and those of the root's stay where it says
-/// nothing else. The bundle's built-in names are handed back.
-fn linked_unit(
-    alloc: Global,
-    bundle: Bundle,
-) -> Result<(TranslationUnit, Option<BuiltinNames>), Error>
+/// nothing else. What is recorded of these names comes with the unit, and the bundle's built-in names are handed back.
+fn linked_unit(alloc: Global, bundle: Bundle) -> Result<(Mapped, Option<BuiltinNames>), Error>
     requires fixed { is_relative (path_view bundle.root) ≡ false }
-    ensures linked { IfOk result (λ made. LinksTo (bundle_view bundle.entry) (unit_view made.0)) }
+    ensures linked { IfOk result (λ made. (w : List Module) × LinksTo (bundle_view bundle.entry) w (unit_view made.0.unit)
+        × SameItems (recorded_for (bundle_view bundle.entry) w) (items made.0.map)) }
     ensures builtins { IfOk result (λ made. made.1 ≡ bundle.entry.builtins) }
     ensures refused { IfErr result (IsLinkFault (bundle_view bundle.entry)) }
 {
@@ -77,12 +83,38 @@ fn linked_unit(
     let units = modules_of(alloc, modules)?;
     let sources = sources_of(alloc, &units, packages)?;
     let keep = names(alloc, &keep)?;
-    let eager = options.eager;
-    let limit = options.max_modules;
-    match link_under(alloc, &keep, eager, &root, sources, &features, limit) {
-        Ok(resolutions) => Ok((named_unit(alloc, resolutions, options)?, builtins)),
-        Err(diagnostic) => Err(diagnostic.error),
+    match link_recorded(alloc, &keep, root, sources, &features, options) {
+        Ok(made) => Ok((made, builtins)),
+        Err(error) => Err(error),
     }
+}
+
+// Links what a resolver hands out, with nothing recorded before.
+fn link_recorded<R: Resolver + Drop>(
+    alloc: Global,
+    keep: &[&str],
+    root: ModulePath,
+    resolver: R,
+    features: &Option<Features>,
+    options: Options,
+) -> Result<Mapped, Error>
+    requires ready { R.ready resolver }
+    requires asked { is_relative (path_view root) ≡ false }
+    ensures mapped { IfOk result (λ made. MapsLink (hands_left (λ p u. R.hands resolver p u) (λ p e. R.refuses resolver p e) features.now) (refuses_left (λ p u. R.hands resolver p u) (λ p e. R.refuses resolver p e) features.now) (named_by options.mangler) (path_view root) (texts keep.now) options.eager options.mangle_root options.max_modules (λ name. None) (items made.map) (unit_view made.unit)) }
+    ensures refused { IfErr result (RefusesLink (hands_left (λ p u. R.hands resolver p u) (λ p e. R.refuses resolver p e) features.now) (refuses_left (λ p u. R.hands resolver p u) (λ p e. R.refuses resolver p e) features.now) (path_view root) (texts keep.now) options.eager options.max_modules) }
+{
+    let naming = BundleMangler {
+        naming: options.mangler,
+    };
+    link_mapped(
+        alloc,
+        keep,
+        options.eager,
+        SourceMapper::new(alloc, root, resolver, naming),
+        options.mangle_root,
+        features,
+        options.max_modules,
+    )
 }
 
 // The units of the modules, by their paths.
@@ -113,36 +145,6 @@ fn sources_of<'b, 'v>(
         sources.add_package(package_of(alloc, package)?)?;
     }
     Ok(sources)
-}
-
-// The unit of a link, its names as the options say.
-fn named_unit(
-    alloc: Global,
-    resolutions: Resolutions,
-    options: Options,
-) -> Result<TranslationUnit, Error>
-    requires sound { IsSound resolutions }
-    ensures named { IfOk result (λ unit. (r : Resolved) × IsMangled (named_by options.mangler) options.mangle_root (resolved resolutions) r × AssemblesTo r (unit_view unit)) }
-    ensures refused { IfErr result (λ e. e ≡ error.Memory) }
-{
-    let mut resolutions = resolutions;
-    mangle(alloc, &mut resolutions, options)?;
-    Ok(resolutions.assemble(alloc, true)?)
-}
-
-// The names of the modules' items become those of the mangler, the root's where the options say so.
-fn mangle(alloc: Global, resolutions: &mut Resolutions, options: Options) -> Result<(), Error>
-    requires sound { IsSound resolutions.old }
-    ensures sound { IsSound resolutions.new }
-    ensures mangled { OnOk result (IsMangled (named_by options.mangler) options.mangle_root (resolved resolutions.old) (resolved resolutions.new)) }
-    ensures refused { IfErr result (λ e. e ≡ error.Memory) }
-{
-    let root = options.mangle_root;
-    match options.mangler {
-        Naming::Escape => resolutions.mangle(alloc, &mut EscapeMangler, root),
-        Naming::Unicode => resolutions.mangle(alloc, &mut UnicodeMangler, root),
-        Naming::Own => resolutions.mangle(alloc, &mut NoMangler, root),
-    }
 }
 
 fn names<'b>(alloc: Global, keep: &'b [String]) -> Result<Vec<&'b str>, AllocError>

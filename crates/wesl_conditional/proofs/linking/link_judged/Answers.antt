@@ -18,9 +18,9 @@ returns-clause-linked g c =
     (λ p e. (subst (λ s. g.R.Resolver.refuses s p e) same, subst (λ s. g.R.Resolver.refuses s p e) (sym same)))
     c.args.features.now (λ given answer. g.F.Fn.post c.new-judged.result.preprocess (given, tt) answer)
     (λ given answer. subst (λ f. g.F.Fn.post f (given, tt) answer ↔ IsConditioned c.args.features.now given answer) (sym stored) (c.requires.judges given answer)) in
-    IfOk-weaker c.link_from.result _ _
+    IfOk-weaker c.link_at.result _ _
     (λ r h. links-over _ _ _ _ alike (path_view c.args.path.now) (texts c.args.keep.now) c.args.is_eager c.args.max_modules (turns_of r) (modules_of r) h)
-    c.link_from.ensures.linked
+    c.link_at.ensures.linked
 
 pub returns-clause-refused : goal.returns-clause-refused
 returns-clause-refused g c =
@@ -33,6 +33,6 @@ returns-clause-refused g c =
     (λ p e. (subst (λ s. g.R.Resolver.refuses s p e) same, subst (λ s. g.R.Resolver.refuses s p e) (sym same)))
     c.args.features.now (λ given answer. g.F.Fn.post c.new-judged.result.preprocess (given, tt) answer)
     (λ given answer. subst (λ f. g.F.Fn.post f (given, tt) answer ↔ IsConditioned c.args.features.now given answer) (sym stored) (c.requires.judges given answer)) in
-    IfErr-weaker c.link_from.result _ _
+    IfErr-weaker c.link_at.result _ _
     (λ d h. refuses-over _ _ _ _ alike (path_view c.args.path.now) (texts c.args.keep.now) c.args.is_eager c.args.max_modules d.error h)
-    c.link_from.ensures.refused
+    c.link_at.ensures.refused

@@ -11,7 +11,7 @@ pub returns-then-is_eager-clause-linked : goal.returns-then-is_eager-clause-link
 returns-then-is_eager-clause-linked g c =
     let is : c.args.is_eager ≡ true = search rules in
     let root = module_at c.args.path.now c.args.unit in
-    subst (λ (b : Bool). IfOk c.resolve_eager.result (λ r. IsLinked (g.R.Resolver.hands c.args.resolver) (g.R.Resolver.refuses c.args.resolver) root (task_of root (kept_names b (texts c.args.keep.now)) b) c.args.max_modules (turns_of r) (modules_of r))) (sym is) c.resolve_eager.ensures.linked
+    subst (λ (b : Bool). IfOk c.resolve_eager.result (λ r. IsLinked (g.R.Resolver.hands c.args.resolver.now) (g.R.Resolver.refuses c.args.resolver.now) root (task_of root (kept_names b (texts c.args.keep.now)) b) c.args.max_modules (turns_of r) (modules_of r))) (sym is) c.resolve_eager.ensures.linked
 
 pub returns-then-is_eager-clause-kept : goal.returns-then-is_eager-clause-kept
 returns-then-is_eager-clause-kept g c =
@@ -29,13 +29,13 @@ pub returns-then-is_eager-clause-refused : goal.returns-then-is_eager-clause-ref
 returns-then-is_eager-clause-refused g c =
     let is : c.args.is_eager ≡ true = search rules in
     let root = module_at c.args.path.now c.args.unit in
-    subst (λ (b : Bool). IfErr c.resolve_eager.result (λ d. TellsOf (IsRefused (g.R.Resolver.hands c.args.resolver) (g.R.Resolver.refuses c.args.resolver) root (task_of root (kept_names b (texts c.args.keep.now)) b) c.args.max_modules) d.error)) (sym is) c.resolve_eager.ensures.refused
+    subst (λ (b : Bool). IfErr c.resolve_eager.result (λ d. TellsOf (IsRefused (g.R.Resolver.hands c.args.resolver.now) (g.R.Resolver.refuses c.args.resolver.now) root (task_of root (kept_names b (texts c.args.keep.now)) b) c.args.max_modules) d.error)) (sym is) c.resolve_eager.ensures.refused
 
 pub returns-clause-linked : goal.returns-clause-linked
 returns-clause-linked g c =
     let is : c.args.is_eager ≡ false = search rules in
     let root = module_at c.args.path.now c.args.unit in
-    subst (λ (b : Bool). IfOk c.resolve_lazy.result (λ r. IsLinked (g.R.Resolver.hands c.args.resolver) (g.R.Resolver.refuses c.args.resolver) root (task_of root (kept_names b (texts c.args.keep.now)) b) c.args.max_modules (turns_of r) (modules_of r))) (sym is) c.resolve_lazy.ensures.linked
+    subst (λ (b : Bool). IfOk c.resolve_lazy.result (λ r. IsLinked (g.R.Resolver.hands c.args.resolver.now) (g.R.Resolver.refuses c.args.resolver.now) root (task_of root (kept_names b (texts c.args.keep.now)) b) c.args.max_modules (turns_of r) (modules_of r))) (sym is) c.resolve_lazy.ensures.linked
 
 pub returns-clause-kept : goal.returns-clause-kept
 returns-clause-kept g c =
@@ -53,4 +53,4 @@ pub returns-clause-refused : goal.returns-clause-refused
 returns-clause-refused g c =
     let is : c.args.is_eager ≡ false = search rules in
     let root = module_at c.args.path.now c.args.unit in
-    subst (λ (b : Bool). IfErr c.resolve_lazy.result (λ d. TellsOf (IsRefused (g.R.Resolver.hands c.args.resolver) (g.R.Resolver.refuses c.args.resolver) root (task_of root (kept_names b (texts c.args.keep.now)) b) c.args.max_modules) d.error)) (sym is) c.resolve_lazy.ensures.refused
+    subst (λ (b : Bool). IfErr c.resolve_lazy.result (λ d. TellsOf (IsRefused (g.R.Resolver.hands c.args.resolver.now) (g.R.Resolver.refuses c.args.resolver.now) root (task_of root (kept_names b (texts c.args.keep.now)) b) c.args.max_modules) d.error)) (sym is) c.resolve_lazy.ensures.refused

@@ -1,13 +1,27 @@
-use Rattle.std.proofs.Common.{subst}
+use Rattle.std.proofs.Common.{subst, rules}
 use Rattle.std.specs.Prelude.{option_map}
+use Rattle.serde_json.specs.View.{view}
 use Rattle.wesl_tree.specs.Translation.{unit_view}
 use Rattle.wesl_bundle.specs.Views.{builtins_view, bundle_view}
-use Rattle.wesl_program.specs.Validity.{RefusesUnit}
-use Rattle.wesl_program.proofs.Faults.{unit-fault}
+use Rattle.wesl_source_map.specs.Records.{SameItems}
+use Rattle.wesl_source_map.specs.BasicView.{items}
+use Rattle.wesl_program.specs.Linking.{recorded_for}
+use Rattle.wesl_program.specs.Validity.{IsValidUnder, RefusesUnit}
+use Rattle.wesl_program.proofs.Faults.{found-fault}
+use Rattle.wesl_program.proofs.Maps.{answer-of}
 use Rattle.wesl_program.proofs.linking.linked.Goals as goal
 
 pub returns-in-Err-clause-refused : goal.returns-in-Err-clause-refused
 returns-in-Err-clause-refused c =
-    let made = c.in_ok-unit in
-    unit-fault (bundle_view c.args.bundle) (unit_view made.unit) c.in-Err.error made.ensures.linked
-    (subst (λ o. RefusesUnit (option_map builtins_view o) (unit_view made.unit) c.in-Err.error) made.ensures.builtins c.in-Err.ensures.refused)
+    let made = c.in_ok-made in
+    let b = bundle_view c.args.bundle in
+    found-fault b (λ w. SameItems (recorded_for b w) (items made.made.map)) (unit_view made.made.unit) c.in-Err.error made.ensures.linked
+    (subst (λ o. RefusesUnit (option_map builtins_view o) (unit_view made.made.unit) c.in-Err.error) made.ensures.builtins c.in-Err.ensures.refused)
+
+pub returns-clause-linked : goal.returns-clause-linked
+returns-clause-linked c =
+    let made = c.in_ok-made in
+    let b = bundle_view c.args.bundle in
+    let u = unit_view made.made.unit in
+    let valid : IsValidUnder b.builtins u = search rules in
+    answer-of b u (items made.made.map) c.in_ok-clash.clash (view c.in_ok-map.map) (view c.in_ok-unit.unit) made.ensures.linked valid c.in_ok-clash.ensures.exact c.in_ok-map.ensures.map c.in_ok-unit.ensures.written

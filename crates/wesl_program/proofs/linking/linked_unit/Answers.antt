@@ -1,14 +1,11 @@
-use Rattle.std.proofs.Common.{Result, Ok, Err, IfOk, map, false, refl, sym, ap, ◌∙◌, subst, string_bytes, ◌≡◌, inl}
-use Rattle.std.proofs.lemmas.Result.{IfErr-weaker}
+use Rattle.std.proofs.Common.{◌≡◌, map, refl, ap, ◌∙◌, string_bytes}
 use Rattle.wesl_names.specs.Borrowed.{texts}
 use Rattle.wesl_tree.specs.Translation.{unit_view}
 use Rattle.wesl_bundle.specs.Views.{bundle_view}
+use Rattle.wesl_source_map.specs.BasicView.{items}
 use Rattle.wesl_program.specs.Hands.{unit_in}
-use Rattle.wesl_conditional.specs.Linking.{Links, RefusesLink, kept_names}
-use Rattle.wesl_link.specs.Keeping.{resolved, modules_of, turns_of}
-use Rattle.wesl_program.specs.Linking.{Kept, handed_left, refused_left}
-use Rattle.wesl_program.proofs.Faults.{bundle-fault}
-use Rattle.wesl_program.proofs.Answered.{links_to}
+use Rattle.wesl_program.specs.Linking.{Kept}
+use Rattle.wesl_program.proofs.Mapped.{fault-from, linked-from}
 use Rattle.wesl_program.proofs.linking.linked_unit.Goals as goal
 
 pub returns-in-Ok-clause-linked : goal.returns-in-Ok-clause-linked
@@ -24,13 +21,11 @@ returns-in-Ok-clause-linked c =
       are_features = refl;
     } in
     let keep : texts c.deref-2.result.now ≡ map string_bytes c.args.bundle.keep.items = ap texts c.deref-2.ensures.value ∙ c.in_ok-keep.ensures ∙ ap (map string_bytes) c.deref.ensures.value in
-    let r = c.in-Ok.resolutions in
-    let (q, mangled, assembled) = c.in_ok-named_unit-in-Ok.ensures.named in
-    links_to b kept (resolved r) (subst (λ ks. Links (handed_left b kept) (refused_left b kept) b.root ks b.options.eager b.options.max_modules (turns_of r) (modules_of r)) keep c.in-Ok.ensures.linked)
-    (c.in-Ok.ensures.kept ∙ ap (kept_names b.options.eager) keep) c.in-Ok.ensures.eager q mangled _ assembled
+    let made = c.in-Ok.made in
+    linked-from b kept (texts c.deref-2.result.now) keep (items made.map) (unit_view made.unit) c.in-Ok.ensures.mapped
 
-pub returns : goal.returns
-returns c =
+pub returns-clause-refused : goal.returns-clause-refused
+returns-clause-refused c =
     let sources = c.in_ok-sources.sources in
     let b = bundle_view c.args.bundle in
     let kept : Kept b = record {
@@ -42,9 +37,4 @@ returns c =
       are_features = refl;
     } in
     let keep : texts c.deref-2.result.now ≡ map string_bytes c.args.bundle.keep.items = ap texts c.deref-2.ensures.value ∙ c.in_ok-keep.ensures ∙ ap (map string_bytes) c.deref.ensures.value in
-    record {
-      linked = tt;
-      builtins = tt;
-      refused = bundle-fault b kept c.in-Err.diagnostic.error
-          (subst (λ ks. RefusesLink (handed_left b kept) (refused_left b kept) b.root ks b.options.eager b.options.max_modules c.in-Err.diagnostic.error) keep c.in-Err.ensures.refused);
-    }
+    fault-from b kept (texts c.deref-2.result.now) keep c.in-Err.error c.in-Err.ensures.refused

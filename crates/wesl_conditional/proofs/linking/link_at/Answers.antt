@@ -8,13 +8,13 @@ use Rattle.wesl_link.specs.Keeping.{modules_of, turns_of}
 use Rattle.wesl_linker.specs.Worlds.{task_of}
 use Rattle.wesl_conditional.specs.Linking.{kept_names}
 use Rattle.wesl_conditional.proofs.Along.{AreAlike, linked-over, refused-over, both-ok}
-use Rattle.wesl_conditional.proofs.linking.link_from.Goals as goal
+use Rattle.wesl_conditional.proofs.linking.link_at.Goals as goal
 
 pub returns-in-Ok-clause-linked : goal.returns-in-Ok-clause-linked
 returns-in-Ok-clause-linked g c =
     let new = c.resolve_module.new.self in
     let root = module_at c.args.path.now c.in-Ok.unit in
-    let alike : AreAlike (g.R.Resolver.hands new) (g.R.Resolver.hands c.args.resolver) (g.R.Resolver.refuses new) (g.R.Resolver.refuses c.args.resolver) =
+    let alike : AreAlike (g.R.Resolver.hands new) (g.R.Resolver.hands c.args.resolver.now) (g.R.Resolver.refuses new) (g.R.Resolver.refuses c.args.resolver.now) =
     record { to = λ p u. (c.resolve_module.ensures.same.units p u).0; on = λ p e. (c.resolve_module.ensures.same.faults p e).0; back = λ p e. (c.resolve_module.ensures.same.faults p e).1 } in
     both-ok c.link_unit.result _ _ _
     (λ r linked order. (root, (refl, c.in-Ok.ensures.handed), linked-over _ _ _ _ alike root (task_of root (kept_names c.args.is_eager (texts c.args.keep.now)) c.args.is_eager) c.args.max_modules (turns_of r) (modules_of r) linked, order))
@@ -24,7 +24,7 @@ pub returns-in-Ok-clause-refused : goal.returns-in-Ok-clause-refused
 returns-in-Ok-clause-refused g c =
     let new = c.resolve_module.new.self in
     let root = module_at c.args.path.now c.in-Ok.unit in
-    let alike : AreAlike (g.R.Resolver.hands new) (g.R.Resolver.hands c.args.resolver) (g.R.Resolver.refuses new) (g.R.Resolver.refuses c.args.resolver) =
+    let alike : AreAlike (g.R.Resolver.hands new) (g.R.Resolver.hands c.args.resolver.now) (g.R.Resolver.refuses new) (g.R.Resolver.refuses c.args.resolver.now) =
     record { to = λ p u. (c.resolve_module.ensures.same.units p u).0; on = λ p e. (c.resolve_module.ensures.same.faults p e).0; back = λ p e. (c.resolve_module.ensures.same.faults p e).1 } in
     IfErr-weaker c.link_unit.result _ _
     (λ d h. inr (root, (refl, c.in-Ok.ensures.handed), refused-over _ _ _ _ alike root (task_of root (kept_names c.args.is_eager (texts c.args.keep.now)) c.args.is_eager) c.args.max_modules d.error h))

@@ -1,0 +1,26 @@
+-- A link whose printed names are recorded.
+use Rattle.std.specs.Prelude.{◌≡◌, ℕ, Bool, true, List}
+use Rattle.wesl_names.specs.Path.{Text, Path}
+use Rattle.wesl_names.specs.declared.errors.ResolveError.{ResolveError}
+use Rattle.wesl_syntax.specs.Unit.{UnitOf, UnitView}
+use Rattle.wesl_world.specs.World.{Task}
+use Rattle.wesl_naming.specs.Recorded.{Record, IsRecordedBy}
+use Rattle.wesl_linker.specs.Worlds.{Module}
+use Rattle.wesl_linker.specs.Linked.{IsAssembled}
+use Rattle.wesl_linker.specs.Resolved.{mangled, NamesAgree, writes}
+use Rattle.wesl_conditional.specs.Linking.{Links, kept_names}
+
+-- the names that are kept of the root, or all that is declared
+abbrev pub task_at : Path → List Text → Bool → Task Path Text
+task_at root keep is_eager = record { root = root; kept = kept_names is_eager keep; is_eager = is_eager }
+
+-- The modules are linked from the root, and the unit is their linked form under the names of the mangler, the root's own
+-- unless it is mangled. The record is what it was before with a write for each name that they declare, in module order, those
+-- of the root only where it is mangled: of several for one name the last counts.
+abbrev pub MapsLink : (Path → UnitOf Text → Type 0) → (Path → ResolveError → Type 0) → (Path → Text → Text) → Path → List Text → Bool → Bool → ℕ → Record → Record → UnitView → Type 0
+MapsLink hands refuses name_of root keep is_eager mangle_root limit before after unit =
+    (turns : ℕ) × (w : List Module) × (names : Path → Text → Text)
+    × Links hands refuses root keep is_eager limit turns w
+    × NamesAgree w names (mangled root mangle_root name_of)
+    × IsAssembled w (task_at root keep is_eager) names unit
+    × IsRecordedBy true (writes name_of mangle_root w) before after

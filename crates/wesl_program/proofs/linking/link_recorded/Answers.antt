@@ -1,0 +1,28 @@
+use Rattle.std.proofs.Common.{ap}
+use Rattle.std.proofs.lemmas.Result.{IfOk-weaker, IfErr-weaker}
+use Rattle.wesl_names.specs.Borrowed.{texts}
+use Rattle.wesl_names.specs.Path.{path_view}
+use Rattle.wesl_tree.specs.Translation.{unit_view}
+use Rattle.wesl_source_map.specs.BasicView.{items}
+use Rattle.wesl_program.specs.Naming.{named_by}
+use Rattle.wesl_program.specs.declared.naming.BundleMangler.{BundleMangler}
+use Rattle.wesl_program.proofs.Mapped.{maps-from, refuses-from}
+use Rattle.wesl_program.proofs.linking.link_recorded.Goals as goal
+
+pub returns-clause-mapped : goal.returns-clause-mapped
+returns-clause-mapped g c =
+    let a = c.args in
+    let mapper = c.new.result in
+    let naming : BundleMangler = record { naming = a.options.mangler } in
+    IfOk-weaker c.link_mapped.result _ _
+    (λ made h. maps-from g.R.Resolver.hands g.R.Resolver.refuses a.features.now mapper.resolver a.resolver c.new.ensures.resolver (path_view mapper.root) (path_view a.root) (ap path_view c.new.ensures.root) (texts a.keep.now) a.options.eager a.options.max_modules
+    (λ (m : BundleMangler). named_by m.naming) mapper.mangler naming c.new.ensures.mangler a.options.mangle_root (items mapper.sourcemap) (items made.map) (unit_view made.unit) c.new.ensures.decls h)
+    c.link_mapped.ensures.mapped
+
+pub returns-clause-refused : goal.returns-clause-refused
+returns-clause-refused g c =
+    let a = c.args in
+    let mapper = c.new.result in
+    IfErr-weaker c.link_mapped.result _ _
+    (λ e h. refuses-from g.R.Resolver.hands g.R.Resolver.refuses a.features.now mapper.resolver a.resolver c.new.ensures.resolver (path_view mapper.root) (path_view a.root) (ap path_view c.new.ensures.root) (texts a.keep.now) a.options.eager a.options.max_modules e h)
+    c.link_mapped.ensures.refused

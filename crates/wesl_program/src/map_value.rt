@@ -1,0 +1,36 @@
+//! The value of a source map: what each name stands for.
+ghost use Rattle.std.specs.Prelude.{◌≡◌, IfOk, IfErr, false, string_bytes};
+ghost use Rattle.serde_json.specs.View.{view};
+ghost use Rattle.serde_json.specs.Written.{has_float};
+ghost use Rattle.wesl_names.specs.declared.errors.Error as error;
+ghost use Rattle.wesl_names.specs.Path.{path_view};
+ghost use Rattle.wesl_source_map.specs.BasicView.{items};
+ghost use Rattle.wesl_program.specs.Line.{IsMapOf, item_value};
+
+use serde_json::{Map, Value, json};
+use std::alloc::Global;
+use wesl_source_map::BasicSourceMap;
+use wesl_tree::{Error, ModulePath};
+
+/// The object of the names that are recorded, each with the path of its module and its item. Refused for want of memory
+/// alone.
+pub(crate) fn map_value(alloc: Global, map: &BasicSourceMap) -> Result<Value, Error>
+    ensures map { IfOk result (λ v. IsMapOf (items map.now) (view v)) }
+    ensures whole { IfOk result (λ v. has_float (view v) ≡ false) }
+    ensures refused { IfErr result (λ e. e ≡ error.Memory) }
+{
+    let mut members = Map::new(alloc);
+    for (name, path, item) in map.decls(alloc)? {
+        serde_json::put(&mut members, alloc, name, item_value(alloc, path, item)?)?;
+    }
+    Ok(Value::Object(members))
+}
+
+// The path of a module and an item of it.
+fn item_value(alloc: Global, path: &ModulePath, item: &str) -> Result<Value, Error>
+    ensures value { IfOk result (λ v. view v ≡ item_value (path_view path.now, item.now)) }
+    ensures refused { IfErr result (λ e. e ≡ error.Memory) }
+{
+    let path = path.to_text(alloc)?;
+    Ok(json!(in alloc; [path, item])?)
+}
