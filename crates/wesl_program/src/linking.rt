@@ -23,7 +23,7 @@ ghost use Rattle.wesl_program.specs.Refused.{IsLinkFault};
 use crate::answer::Answer;
 use crate::bundle_resolver::BundleResolver;
 use crate::map_value::map_value;
-use crate::modules::Modules;
+use crate::modules::BundleUnits;
 use crate::naming::BundleMangler;
 use crate::packages::package_of;
 use crate::stored_text::StoredText;
@@ -118,11 +118,11 @@ fn link_recorded<R: Resolver + Drop>(
 }
 
 // The units of the modules, by their paths.
-fn modules_of<'v>(alloc: Global, listed: Vec<BundleModule<'v>>) -> Result<Modules<'v>, Error>
+fn modules_of<'v>(alloc: Global, listed: Vec<BundleModule<'v>>) -> Result<BundleUnits<'v>, Error>
     ensures held { IfOk result (λ m. Holds (map module_view listed.entry.items) m) }
     ensures refused { IfErr result (λ e. e ≡ error.Memory) }
 {
-    let mut modules = Modules::new(alloc);
+    let mut modules = BundleUnits::new(alloc);
     for module in listed {
         modules.add(module.path, module.unit)?;
     }
@@ -133,7 +133,7 @@ fn modules_of<'v>(alloc: Global, listed: Vec<BundleModule<'v>>) -> Result<Module
 // first counts.
 fn sources_of<'b, 'v>(
     alloc: Global,
-    modules: &'b Modules<'v>,
+    modules: &'b BundleUnits<'v>,
     packages: Vec<Package<'v>>,
 ) -> Result<Sources<'b, 'v>, Error>
     ensures local { IfOk result (λ s. s.local.modules.now ≡ modules.now) }

@@ -2,7 +2,7 @@ use Rattle.std.proofs.Common.{◌≡◌, length, ◌<◌, refl, true, sym, ◌�
 use Rattle.std.proofs.lemmas.Option.{slice_get_within}
 use Rattle.wesl_world.proofs.Indexing.{read_at}
 use Rattle.wesl_world.proofs.Placing.{placed_at, unplaced}
-use Rattle.wesl_world.proofs.request.table_of.Goals as goal
+use Rattle.wesl_world.proofs.request.loaded_table.Goals as goal
 
 pub index-requires : goal.index-requires
 index-requires c =

@@ -5,7 +5,7 @@ use Rattle.wesl_tree.specs.Translation.{unit_view}
 use Rattle.wesl_table.specs.NumbersView.{numbering}
 use Rattle.wesl_table.proofs.Related.{path_later}
 use Rattle.wesl_linker.proofs.Readying.{keeps_on, keeps_put, put_keeps}
-use Rattle.wesl_linker.proofs.modules.Modules.fetch.Goals as goal
+use Rattle.wesl_linker.proofs.modules.ModuleLoader.fetch.Goals as goal
 
 pub returns-in_err-table-clause-keeps : goal.returns-in_err-table-clause-keeps
 returns-in_err-table-clause-keeps g c =

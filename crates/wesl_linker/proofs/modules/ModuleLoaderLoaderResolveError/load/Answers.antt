@@ -12,7 +12,7 @@ use Rattle.wesl_table.specs.NumbersView.{numbering}
 use Rattle.wesl_linker.specs.Handing.{Keeps, StaysOne, IsReadyPath, IsHandedTable}
 use Rattle.wesl_linker.proofs.Built.{path_asked}
 use Rattle.wesl_linker.proofs.Readying.{keeps_on, stays_on, adds_more, ready_table, handed_again, in_ok, itself}
-use Rattle.wesl_linker.proofs.modules.ModulesLoaderResolveError.load.Goals as goal
+use Rattle.wesl_linker.proofs.modules.ModuleLoaderLoaderResolveError.load.Goals as goal
 
 pub returns-in-Some-clause-handed : goal.returns-in-Some-clause-handed
 returns-in-Some-clause-handed g c =

@@ -1,4 +1,4 @@
-use Rattle.wesl_world.proofs.link.resolve_eager.Goals as goal
+use Rattle.wesl_world.proofs.link.link_eagerly.Goals as goal
 
 pub returns-clause-linked : goal.returns-clause-linked
 returns-clause-linked g c = rw c.new-kept.ensures.items at c.resolve.ensures.linked
