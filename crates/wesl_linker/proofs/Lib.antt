@@ -1,3 +1,5 @@
+pub mod Given
+pub mod Recording
 pub mod Lists
 pub mod Marked
 pub mod Carried

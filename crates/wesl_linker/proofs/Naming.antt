@@ -14,7 +14,7 @@ use Rattle.wesl_world.specs.Faults.AreDistinct.{one_more as one_distinct}
 use Rattle.wesl_world.proofs.Lists.{contains_nil, contains_one, contains_first, contains_later, contains_cases, contains_map, map_contains}
 use Rattle.wesl_table.specs.Numbering.{Numbering, NameAt, PathAt, AreDifferent, IsNumbered, SameDeclaration}
 use Rattle.wesl_table.specs.NumbersView.{numbering}
-use Rattle.wesl_naming.specs.Given.{Given, AreNamed, GivesNames, KeepsOthers, Keeps}
+use Rattle.wesl_linker.specs.Given.{Given, AreNamed, GivesNames, KeepsOthers, Keeps}
 use Rattle.wesl_linker.specs.Worlds.{Module, table}
 use Rattle.wesl_linker.specs.Resolved.{mangled, paths_of, IsMangled}
 use Rattle.wesl_linker.specs.Keeping.{IsSoundLink, IsSound, resolved, resolved_of, or_own, name_text, name_under, module_of, loaded_modules, all_loaded, modules_in, IsLinkOf, task_in}
@@ -22,8 +22,8 @@ use Rattle.wesl_linker.specs.Holding.{printed_by, GivesTo, IsGivenAll, IsFreshAf
 use Rattle.wesl_linker.specs.declared.loaded.LoadedModule.{LoadedModule}
 use Rattle.wesl_linker.specs.declared.link.Link.{Link}
 use Rattle.wesl_linker.specs.declared.resolutions.Resolutions.{Resolutions}
-use Rattle.wesl_naming.specs.GivenView.{given}
-use Rattle.wesl_naming.specs.declared.given.GivenNames.{GivenNames}
+use Rattle.wesl_linker.specs.GivenView.{given}
+use Rattle.wesl_linker.specs.declared.given.GivenNames.{GivenNames}
 use Rattle.wesl_linker.proofs.Carried.{related_in, related_back, option_of, option_back, declares_from, IsOneToOne}
 use Rattle.wesl_linker.proofs.Built.{paths_one, names_one}
 use Rattle.wesl_linker.proofs.Texts.{name_is, name_by}

@@ -9,9 +9,9 @@ use Rattle.wesl_world.specs.declared.ids.NameId.{NameId}
 use Rattle.wesl_world.specs.Tables.{Declaration, Table}
 use Rattle.wesl_table.specs.Numbering.{Numbering, NameAt, PathAt, AreRelated, AreDifferent, IsNumbered, SameDeclaration, IsRelatedOption}
 use Rattle.wesl_table.proofs.Lists.{take_next}
-use Rattle.wesl_naming.specs.Given.{Given}
-use Rattle.wesl_naming.specs.Recorded.{Record, Write, IsRecordedBy, all_written, firsts, writes_of, declared_texts, text_of, HasNone}
-use Rattle.wesl_naming.proofs.Recording.{written_more}
+use Rattle.wesl_linker.specs.Given.{Given}
+use Rattle.wesl_linker.specs.Recorded.{Record, Write, IsRecordedBy, all_written, firsts, writes_of, declared_texts, text_of, HasNone}
+use Rattle.wesl_linker.proofs.Recording.{written_more}
 use Rattle.wesl_linker.specs.Worlds.{Module, table}
 use Rattle.wesl_linker.specs.Resolved.{declared_names, writes_from, writes}
 use Rattle.wesl_linker.specs.Keeping.{module_of, loaded_modules, modules_in, modules_of, resolved_of}
@@ -19,7 +19,7 @@ use Rattle.wesl_linker.specs.Holding.{GivesTo, IsFreshAfter}
 use Rattle.wesl_linker.specs.declared.loaded.LoadedModule.{LoadedModule}
 use Rattle.wesl_linker.specs.declared.link.Link.{Link}
 use Rattle.wesl_linker.specs.declared.resolutions.Resolutions.{Resolutions}
-use Rattle.wesl_naming.specs.GivenView.{given}
+use Rattle.wesl_linker.specs.GivenView.{given}
 use Rattle.wesl_linker.proofs.Built.{paths_one}
 
 text_is : (nb : Numbering) (n : NameId) (x : Text) → NameAt nb n x → text_of nb n ≡ x

@@ -12,8 +12,8 @@ use Rattle.wesl_table.specs.Numbering.{Numbering, NameAt, PathAt, IsNumbered}
 use Rattle.wesl_table.specs.NumbersView.{numbering}
 use Rattle.wesl_assembly.specs.Denotations.{symbol, local, free_name}
 use Rattle.wesl_assembly.specs.Views.{Meaning}
-use Rattle.wesl_naming.specs.Given.{Given}
-use Rattle.wesl_naming.specs.GivenView.{given}
+use Rattle.wesl_linker.specs.Given.{Given}
+use Rattle.wesl_linker.specs.GivenView.{given}
 use Rattle.wesl_linker.specs.Linked.{Denotation}
 use Rattle.wesl_linker.specs.Worlds.{Module, table, tables, task_of}
 use Rattle.wesl_linker.specs.Resolved.{Resolved, paths_of}

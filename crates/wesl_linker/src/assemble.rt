@@ -12,12 +12,13 @@ ghost use Rattle.wesl_table.specs.NumbersView.{numbering};
 ghost use Rattle.wesl_table.specs.Tables.{reference_to};
 ghost use Rattle.wesl_table.specs.declared.marks.Mark as marked;
 ghost use Rattle.wesl_assembly.specs.Views.{Meaning, denotation_view};
-ghost use Rattle.wesl_naming.specs.GivenView.{given as given_names};
+ghost use Rattle.wesl_linker.specs.GivenView.{given as given_names};
 ghost use Rattle.wesl_linker.specs.Linked as linked;
 ghost use Rattle.wesl_linker.specs.Linked.{IsAssembled};
 ghost use Rattle.wesl_linker.specs.Keeping.{all_loaded, modules_in, name_text, name_under, IsLinkOf, task_in};
 ghost use Rattle.wesl_linker.specs.Holding as holding;
 
+use crate::given::GivenNames;
 use crate::link::{Link, module_table};
 use crate::loaded::LoadedModule;
 use std::alloc::Global;
@@ -25,7 +26,6 @@ use wesl_assembly::{
     Denotation, Directives, Printing, law_of_meanings, linked_unit, thinned_directives,
 };
 use wesl_names::Error;
-use wesl_naming::GivenNames;
 use wesl_occurrences::law_of_pieces;
 use wesl_syntax::{GlobalDeclaration, GlobalDeclarationNode};
 use wesl_table::marks::Mark;

@@ -4,20 +4,20 @@ ghost use Rattle.wesl_names.specs.declared.errors.Error as error;
 ghost use Rattle.wesl_names.specs.Path.{Text, Path, path_view};
 ghost use Rattle.wesl_tree.specs.Translation.{unit_view};
 ghost use Rattle.wesl_table.specs.NumbersView.{numbering};
-ghost use Rattle.wesl_naming.specs.GivenView.{given as given_names};
+ghost use Rattle.wesl_linker.specs.GivenView.{given as given_names};
 ghost use Rattle.wesl_linker.specs.Resolved.{paths_of, paths_told, first_path, IsNothing, IsMangled, AssemblesTo, declared_names, writes_from, writes};
-ghost use Rattle.wesl_naming.specs.Recorded.{IsRecordedBy, writes_of};
+ghost use Rattle.wesl_linker.specs.Recorded.{IsRecordedBy, writes_of};
 ghost use Rattle.wesl_linker.specs.Keeping.{all_loaded, loaded_modules, modules_in, module_of, IsLinkOf, task_in, IsSound, resolved, modules_of, turns_of};
 ghost use Rattle.wesl_linker.specs.Holding.{IsFoundBy, IsGivenAll, GivesTo, IsFreshAfter, AreOnlyRoot};
 ghost use Rattle.wesl_linker.specs.declared.loaded.LoadedModule as loaded;
 
 use crate::assemble::assembled;
+use crate::given::GivenNames;
 use crate::link::{Link, module_table};
 use crate::loaded::LoadedModule;
 use std::alloc::Global;
 use wesl_mangle::Mangler;
 use wesl_names::{Error, ModulePath};
-use wesl_naming::GivenNames;
 use wesl_tree::TranslationUnit;
 
 /// What a link found, and the names that its symbols print as: their own before any mangling.

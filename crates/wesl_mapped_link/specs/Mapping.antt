@@ -4,7 +4,7 @@ use Rattle.wesl_names.specs.Path.{Text, Path}
 use Rattle.wesl_names.specs.declared.errors.ResolveError.{ResolveError}
 use Rattle.wesl_syntax.specs.Unit.{UnitOf, UnitView}
 use Rattle.wesl_world.specs.World.{Task}
-use Rattle.wesl_naming.specs.Recorded.{Record, IsRecordedBy}
+use Rattle.wesl_linker.specs.Recorded.{Record, IsRecordedBy}
 use Rattle.wesl_linker.specs.Worlds.{Module}
 use Rattle.wesl_linker.specs.Linked.{IsAssembled}
 use Rattle.wesl_linker.specs.Resolved.{mangled, NamesAgree, writes}

@@ -10,7 +10,7 @@ ghost use Rattle.wesl_conditional.specs.Conditions.{IsConditioned};
 ghost use Rattle.wesl_conditional.specs.Linking.{Links, RefusesLink, kept_names, hands_left, refuses_left};
 ghost use Rattle.wesl_link.specs.Keeping.{IsSound, resolved, modules_of, turns_of};
 ghost use Rattle.wesl_linker.specs.Resolved.{Resolved, IsMangled, AssemblesTo, writes};
-ghost use Rattle.wesl_naming.specs.Recorded.{IsRecordedBy};
+ghost use Rattle.wesl_linker.specs.Recorded.{IsRecordedBy};
 ghost use Rattle.wesl_source_map.specs.Records.{SameItems};
 ghost use Rattle.wesl_source_map.specs.BasicView.{items};
 ghost use Rattle.wesl_mapped_link.specs.Mapping.{MapsLink};

@@ -14,7 +14,7 @@ use Rattle.wesl_names.specs.declared.errors.Error as error
 use Rattle.wesl_program.specs.Fault.{Fault, fault, fault_of}
 use Rattle.wesl_source_map.specs.Records.{Item}
 use Rattle.wesl_source_map.specs.Listed.{IsListing}
-use Rattle.wesl_naming.specs.Recorded.{Record}
+use Rattle.wesl_linker.specs.Recorded.{Record}
 use Rattle.wesl_linker.specs.Worlds.{Module}
 use Rattle.wesl_program.specs.Linking.{LinksTo, recorded_for}
 use Rattle.wesl_program.specs.Validity.{IsValidUnder, RefusesBundle}

@@ -1,6 +1,6 @@
 use Rattle.std.specs.Prelude.{OnOk, Result, Ok, Err}
 use Rattle.wesl_table.specs.NumbersView.{numbering}
-use Rattle.wesl_naming.specs.GivenView.{given}
+use Rattle.wesl_linker.specs.GivenView.{given}
 use Rattle.wesl_linker.specs.Keeping.{module_of}
 use Rattle.wesl_linker.proofs.Naming.{all_named, gives_more}
 use Rattle.wesl_linker.proofs.Recorded.{module_recorded}

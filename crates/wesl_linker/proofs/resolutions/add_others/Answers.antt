@@ -3,11 +3,11 @@ use Rattle.std.proofs.lemmas.List.{take_all}
 use Rattle.wesl_world.proofs.Lists.{contains_later}
 use Rattle.wesl_table.specs.NumbersView.{numbering}
 use Rattle.wesl_table.proofs.Lists.{take_next}
-use Rattle.wesl_naming.specs.GivenView.{given}
+use Rattle.wesl_linker.specs.GivenView.{given}
 use Rattle.wesl_linker.specs.Holding.{GivesTo, IsFreshAfter}
 use Rattle.wesl_linker.specs.declared.loaded.LoadedModule.{LoadedModule}
 use Rattle.wesl_linker.proofs.Lists.{item_held}
-use Rattle.wesl_naming.specs.Recorded.{IsRecordedBy}
+use Rattle.wesl_linker.specs.Recorded.{IsRecordedBy}
 use Rattle.wesl_linker.specs.Resolved.{writes_from}
 use Rattle.wesl_linker.specs.Keeping.{loaded_modules}
 use Rattle.wesl_linker.proofs.Naming.{fresh_other}

@@ -1,8 +1,8 @@
 use Rattle.std.proofs.Common.{◌≡◌, List, ◌++◌, take}
 use Rattle.wesl_names.specs.Path.{Text, Path}
 use Rattle.wesl_table.specs.NumbersView.{numbering}
-use Rattle.wesl_naming.specs.GivenView.{given as given_names}
-use Rattle.wesl_naming.specs.Recorded.{IsRecordedBy}
+use Rattle.wesl_linker.specs.GivenView.{given as given_names}
+use Rattle.wesl_linker.specs.Recorded.{IsRecordedBy}
 use Rattle.wesl_linker.specs.Resolved.{writes_from}
 use Rattle.wesl_linker.specs.Keeping.{loaded_modules}
 use Rattle.wesl_linker.specs.Holding.{GivesTo, AreOnlyRoot}

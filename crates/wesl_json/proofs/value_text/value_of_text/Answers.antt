@@ -1,5 +1,5 @@
 use Rattle.std.proofs.Common.{rules}
-use Rattle.wesl_json_text.proofs.text.value_of_text.Goals as goal
+use Rattle.wesl_json.proofs.value_text.value_of_text.Goals as goal
 
 pub returns-in-Err-clause-value : goal.returns-in-Err-clause-value
 returns-in-Err-clause-value c = search rules

@@ -13,9 +13,9 @@ use Rattle.wesl_world.specs.declared.ids.NameId.{NameId}
 use Rattle.wesl_world.specs.Tables.{Declaration, Table}
 use Rattle.wesl_world.proofs.Lists.{contains_nil, contains_first, contains_later, contains_cases, contains_map, map_contains}
 use Rattle.wesl_table.specs.Numbering.{Numbering, NameAt, AreDifferent}
-use Rattle.wesl_naming.specs.Given.{Given, AreNamed}
-use Rattle.wesl_naming.specs.Recorded.{Record, Write, all_written, firsts, writes_of, text_of, declared_texts, HasNone, written_unless}
-use Rattle.wesl_naming.proofs.Naming.{Names}
+use Rattle.wesl_linker.specs.Given.{Given, AreNamed}
+use Rattle.wesl_linker.specs.Recorded.{Record, Write, all_written, firsts, writes_of, text_of, declared_texts, HasNone, written_unless}
+use Rattle.wesl_linker.proofs.Given.{Names}
 
 -- ---- each once
 

@@ -4,8 +4,8 @@ use Rattle.std.specs.Map.{lookup}
 use Rattle.wesl_world.specs.declared.ids.PathId.{PathId}
 use Rattle.wesl_world.specs.declared.ids.NameId.{NameId}
 use Rattle.wesl_world.specs.declared.symbols.Symbol.{Symbol}
-use Rattle.wesl_naming.specs.Given.{Given}
-use Rattle.wesl_naming.specs.declared.given.GivenNames.{GivenNames}
+use Rattle.wesl_linker.specs.Given.{Given}
+use Rattle.wesl_linker.specs.declared.given.GivenNames.{GivenNames}
 
 -- whether both are the same name of the same module
 abbrev pub same_symbol : Symbol PathId NameId → Symbol PathId NameId → Bool

@@ -1,10 +1,10 @@
 use Rattle.std.proofs.Common.{◌≡◌, true, false, Option, Some, None, is_some, refl, ap, sym, subst, ◌∙◌, option_map, string_bytes}
 use Rattle.wesl_names.specs.Path.{path_view}
-use Rattle.wesl_naming.specs.GivenView.{given}
-use Rattle.wesl_naming.specs.Recorded.{written_unless}
-use Rattle.wesl_naming.proofs.Recording.{unless_some}
-use Rattle.wesl_naming.proofs.Naming.{others_stay, names_stay}
-use Rattle.wesl_naming.proofs.given.GivenNames.add_name.Goals as goal
+use Rattle.wesl_linker.specs.GivenView.{given}
+use Rattle.wesl_linker.specs.Recorded.{written_unless}
+use Rattle.wesl_linker.proofs.Recording.{unless_some}
+use Rattle.wesl_linker.proofs.Given.{others_stay, names_stay}
+use Rattle.wesl_linker.proofs.given.GivenNames.add_name.Goals as goal
 
 none_of : {X Y : Type 0} (f : X → Y) (o : Option X) → false ≡ is_some o → option_map f o ≡ None
 none_of f None e = refl

@@ -1,13 +1,13 @@
 use Rattle.std.proofs.Common.{◌≡◌, Some, None, sym, ap, ◌∙◌}
-use Rattle.wesl_naming.proofs.Naming.{more_named, more_unnamed, gives_all, declared}
+use Rattle.wesl_linker.proofs.Given.{more_named, more_unnamed, gives_all, declared}
 use Rattle.std.proofs.lemmas.List.{take_all}
 use Rattle.wesl_names.specs.Path.{path_view}
 use Rattle.wesl_table.specs.NumbersView.{numbering}
-use Rattle.wesl_naming.specs.GivenView.{given}
-use Rattle.wesl_naming.specs.Recorded.{all_written, writes_of, firsts, declared_texts}
-use Rattle.wesl_naming.proofs.Recording as recording
-use Rattle.wesl_naming.proofs.given.GivenNames.add_table.Goals as goal
-use Rattle.wesl_naming.proofs.given.GivenNames.add_table.Goals.{in-Some+in-Some-name+in_ok-add_name, in_default}
+use Rattle.wesl_linker.specs.GivenView.{given}
+use Rattle.wesl_linker.specs.Recorded.{all_written, writes_of, firsts, declared_texts}
+use Rattle.wesl_linker.proofs.Recording as recording
+use Rattle.wesl_linker.proofs.given.GivenNames.add_table.Goals as goal
+use Rattle.wesl_linker.proofs.given.GivenNames.add_table.Goals.{in-Some+in-Some-name+in_ok-add_name, in_default}
 
 pub unreachable-requires : goal.unreachable-requires
 unreachable-requires g c =

@@ -4,7 +4,7 @@ ghost use Rattle.serde_json.specs.Data.{depth};
 ghost use Rattle.serde_json.specs.Read.{max_depth, read};
 ghost use Rattle.serde_json.specs.View.{view};
 ghost use Rattle.wesl_names.specs.declared.errors.Error as error;
-ghost use Rattle.wesl_json_text.specs.Texts.{IsNoJson, IsTextOf};
+ghost use Rattle.wesl_json.specs.Texts.{IsNoJson, IsTextOf};
 
 use serde_json::Value;
 use std::alloc::Global;

@@ -11,8 +11,8 @@ use Rattle.wesl_world.specs.declared.symbols.Symbol.{Symbol}
 use Rattle.wesl_world.specs.Tables.{Declaration, Table}
 use Rattle.wesl_world.specs.World.{Declares}
 use Rattle.wesl_table.specs.Numbering.{Numbering, NameAt}
-use Rattle.wesl_naming.specs.Given.{Given, GivesName, GivesNames, Keeps, KeepsOthers}
-use Rattle.wesl_naming.specs.GivenView.{same_symbol}
+use Rattle.wesl_linker.specs.Given.{Given, GivesName, GivesNames, Keeps, KeepsOthers}
+use Rattle.wesl_linker.specs.GivenView.{same_symbol}
 
 -- a symbol is told by its numbers
 same : (s t : Symbol PathId NameId) → same_symbol s t ≡ true → s ≡ t

@@ -6,8 +6,8 @@ ghost use Rattle.wesl_world.specs.declared.ids.PathId.{PathId};
 ghost use Rattle.wesl_world.specs.declared.ids.NameId.{NameId};
 ghost use Rattle.wesl_world.specs.declared.symbols.Symbol as symbols;
 ghost use Rattle.wesl_table.specs.NumbersView.{numbering};
-ghost use Rattle.wesl_naming.specs.Given.{AreNamed, GivesName, GivesNames, Keeps, KeepsOthers, KeepsUndeclared};
-ghost use Rattle.wesl_naming.specs.Recorded.{HasNone, IsRecordedBy, writes_of, firsts, declared_texts, written_unless};
+ghost use Rattle.wesl_linker.specs.Given.{AreNamed, GivesName, GivesNames, Keeps, KeepsOthers, KeepsUndeclared};
+ghost use Rattle.wesl_linker.specs.Recorded.{HasNone, IsRecordedBy, writes_of, firsts, declared_texts, written_unless};
 
 use indexmap::IndexMap;
 use std::alloc::Global;
@@ -20,15 +20,15 @@ use wesl_world::table::Table;
 
 /// The names that a mangler gave to symbols (WESL, "NameMangling").
 #[derive(Drop)]
-pub struct GivenNames {
+pub(crate) struct GivenNames {
     names: IndexMap<Symbol<PathId, NameId>, String>,
 }
 
 impl GivenNames {
-    ghost use Rattle.wesl_naming.specs.GivenView.{given};
+    ghost use Rattle.wesl_linker.specs.GivenView.{given};
 
     /// No names. It takes no memory.
-    pub fn new(alloc: Global) -> GivenNames
+    pub(crate) fn new(alloc: Global) -> GivenNames
         ensures { (s : symbols.Symbol PathId NameId) → given result s ≡ None }
     {
         GivenNames {
@@ -37,7 +37,7 @@ impl GivenNames {
     }
 
     /// The name that was given to a symbol.
-    pub fn get(&self, symbol: Symbol<PathId, NameId>) -> Option<&str>
+    pub(crate) fn get(&self, symbol: Symbol<PathId, NameId>) -> Option<&str>
         ensures { option_map (λ x. x.now) result ≡ given self.now symbol }
     {
         match self.names.get(&symbol) {
@@ -76,7 +76,7 @@ impl GivenNames {
     /// `numbers` are those of the table's names, and `path` is the module's. Refused for want of memory alone; the names
     /// that were given until then stay. Of a module none of whose names was given, the mangler writes each declared name
     /// once, in the order in which they stand first.
-    pub fn add_table<M: Mangler>(
+    pub(crate) fn add_table<M: Mangler>(
         &mut self,
         alloc: Global,
         mangler: &mut M,

@@ -6,7 +6,7 @@ use Rattle.wesl_world.specs.declared.ids.PathId.{PathId}
 use Rattle.wesl_world.specs.declared.ids.NameId.{NameId}
 use Rattle.wesl_world.specs.Tables.{Declaration}
 use Rattle.wesl_table.specs.Numbering.{Numbering}
-use Rattle.wesl_naming.specs.Given.{Given}
+use Rattle.wesl_linker.specs.Given.{Given}
 
 -- the item that each name was last given for
 abbrev pub Record : Type 0

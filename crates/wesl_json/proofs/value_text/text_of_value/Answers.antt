@@ -1,7 +1,7 @@
 use Rattle.std.proofs.Common.{string_bytes}
 use Rattle.serde_json.specs.View.{view}
-use Rattle.wesl_json_text.proofs.Depths.{read_as_written}
-use Rattle.wesl_json_text.proofs.text.text_of_value.Goals as goal
+use Rattle.wesl_json.proofs.Depths.{read_as_written}
+use Rattle.wesl_json.proofs.value_text.text_of_value.Goals as goal
 
 pub returns-clause-text : goal.returns-clause-text
 returns-clause-text c =
