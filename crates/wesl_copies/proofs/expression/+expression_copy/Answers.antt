@@ -1,8 +1,9 @@
 use Rattle.std.proofs.Common.{ap, refl, sym, ◌≡◌, ◌∙◌}
 use Rattle.wesl_copies.proofs.Copies.{boxed, copied_argument, copied_binary, copied_call, copied_indexing, copied_named, copied_parenthesized, copied_present, copied_type, copied_unary}
+use Rattle.wesl_copies.proofs.Listed.{all_copied, next_copied, placed_copied}
 use Rattle.wesl_syntax.specs.declared.expression.TypeExpression.{out-TypeExpression}
-use Rattle.wesl_syntax.specs.Tree.{list}
-use Rattle.wesl_syntax.specs.View.{argument_view, expression_view, listed, optional}
+use Rattle.wesl_syntax.specs.Tree.{expression_node, list}
+use Rattle.wesl_syntax.specs.View.{argument_view, expression_tree, expression_view, listed, optional}
 use Rattle.wesl_copies.proofs.expression.+expression_copy.Goals as goal
 use Rattle.wesl_copies.proofs.expression.+expression_copy.Goals.{copy_type_expression-in-None, copy_type_expression-in-Some+in_ok-copy_template_args-in-Some}
 
@@ -53,3 +54,21 @@ copy_expression-returns-in_ok-new-in-Binary-2-clause-equal t c =
     (boxed c.in_ok-new-in-Binary.field-0 c.in-Binary.left _ _ c.in_ok-new-in-Binary.ensures.ok c.deref-in-Binary.ensures c.in_ok-copy_expression_node-in-Binary.ensures.equal)
     (boxed c.in_ok-new-in-Binary-2.field-0 c.in-Binary.right _ _ c.in_ok-new-in-Binary-2.ensures.ok c.deref-in-Binary-2.ensures c.in_ok-copy_expression_node-in-Binary-2.ensures.equal)
     ∙ ap expression_view (sym c.in-Binary.is)
+
+pub copy_expressions-loop-node-preserved : goal.copy_expressions-loop-node-preserved
+copy_expressions-loop-node-preserved t c =
+    next_copied expression_tree c.loop-node.copies.items c.push.new.self.items c.deref-node-items.result.now c.loop-node.node-index c.node-item.result (record { node = c.in_ok-copy_expression.field-0; span = c.node-item.result.span })
+    c.loop-node-test.true c.node-item.is c.in_ok-push.ensures.items (placed_copied expression_view expression_node c.in_ok-copy_expression.field-0 c.node-item.result c.in_ok-copy_expression.ensures.equal) c.loop-node.invariant
+
+pub copy_expressions-returns-clause-equal : goal.copy_expressions-returns-clause-equal
+copy_expressions-returns-clause-equal t c =
+    all_copied expression_tree list c.loop-node.copies c.args.nodes.now c.deref-node-items.result.now c.loop-node.node-index c.deref-node-items.ensures.value c.loop-node-test.false c.loop-node.invariant
+
+pub copy_template_args-loop-argument-preserved : goal.copy_template_args-loop-argument-preserved
+copy_template_args-loop-argument-preserved t c =
+    next_copied argument_view c.loop-argument.copies.items c.push.new.self.items c.deref-argument-items.result.now c.loop-argument.argument-index c.argument-item.result c.in_ok-copy_template_arg.field-0
+    c.loop-argument-test.true c.argument-item.is c.in_ok-push.ensures.items c.in_ok-copy_template_arg.ensures.equal c.loop-argument.invariant
+
+pub copy_template_args-returns-clause-equal : goal.copy_template_args-returns-clause-equal
+copy_template_args-returns-clause-equal t c =
+    all_copied argument_view list c.loop-argument.copies c.args.arguments.now c.deref-argument-items.result.now c.loop-argument.argument-index c.deref-argument-items.ensures.value c.loop-argument-test.false c.loop-argument.invariant

@@ -1,6 +1,8 @@
 use Rattle.std.proofs.Common.{ap, sym, ◌∙◌}
 use Rattle.wesl_copies.proofs.Copies.{copied_assignment, copied_block, copied_break, copied_call_statement, copied_clause, copied_compound, copied_const_assert, copied_continue, copied_continuing, copied_decrement, copied_discard, copied_else, copied_else_if, copied_for, copied_if, copied_if_clause, copied_increment, copied_local, copied_loop, copied_return, copied_switch, copied_while}
-use Rattle.wesl_syntax.specs.View.{statement_view}
+use Rattle.wesl_copies.proofs.Listed.{all_copied, next_copied, placed_copied}
+use Rattle.wesl_syntax.specs.Tree.{clauses, list, statement_node, statements}
+use Rattle.wesl_syntax.specs.View.{clause_view, else_if_view, statement_tree, statement_view}
 use Rattle.wesl_copies.proofs.statement.+statement_copy.Goals as goal
 
 pub copy_compound_statement-returns-clause-equal : goal.copy_compound_statement-returns-clause-equal
@@ -121,3 +123,30 @@ copy_statement-returns-in_ok-copy_declaration-in-Declaration-clause-equal t c =
     copied_local c.in_ok-copy_declaration-in-Declaration.field-0 c.in-Declaration.declaration
     c.in_ok-copy_declaration-in-Declaration.ensures.equal
     ∙ ap statement_view (sym c.in-Declaration.is)
+
+pub copy_statements-loop-node-preserved : goal.copy_statements-loop-node-preserved
+copy_statements-loop-node-preserved t c =
+    next_copied statement_tree c.loop-node.copies.items c.push.new.self.items c.deref-node-items.result.now c.loop-node.node-index c.node-item.result (record { node = c.in_ok-copy_statement.field-0; span = c.node-item.result.span })
+    c.loop-node-test.true c.node-item.is c.in_ok-push.ensures.items (placed_copied statement_view statement_node c.in_ok-copy_statement.field-0 c.node-item.result c.in_ok-copy_statement.ensures.equal) c.loop-node.invariant
+
+pub copy_statements-returns-clause-equal : goal.copy_statements-returns-clause-equal
+copy_statements-returns-clause-equal t c =
+    all_copied statement_tree statements c.loop-node.copies c.args.nodes.now c.deref-node-items.result.now c.loop-node.node-index c.deref-node-items.ensures.value c.loop-node-test.false c.loop-node.invariant
+
+pub copy_else_if_clauses-loop-clause-preserved : goal.copy_else_if_clauses-loop-clause-preserved
+copy_else_if_clauses-loop-clause-preserved t c =
+    next_copied else_if_view c.loop-clause.copies.items c.push.new.self.items c.deref-clause-items.result.now c.loop-clause.clause-index c.clause-item.result c.in_ok-copy_else_if_clause.field-0
+    c.loop-clause-test.true c.clause-item.is c.in_ok-push.ensures.items c.in_ok-copy_else_if_clause.ensures.equal c.loop-clause.invariant
+
+pub copy_else_if_clauses-returns-clause-equal : goal.copy_else_if_clauses-returns-clause-equal
+copy_else_if_clauses-returns-clause-equal t c =
+    all_copied else_if_view list c.loop-clause.copies c.args.branches.now c.deref-clause-items.result.now c.loop-clause.clause-index c.deref-clause-items.ensures.value c.loop-clause-test.false c.loop-clause.invariant
+
+pub copy_switch_clauses-loop-clause-preserved : goal.copy_switch_clauses-loop-clause-preserved
+copy_switch_clauses-loop-clause-preserved t c =
+    next_copied clause_view c.loop-clause.copies.items c.push.new.self.items c.deref-clause-items.result.now c.loop-clause.clause-index c.clause-item.result c.in_ok-copy_switch_clause.field-0
+    c.loop-clause-test.true c.clause-item.is c.in_ok-push.ensures.items c.in_ok-copy_switch_clause.ensures.equal c.loop-clause.invariant
+
+pub copy_switch_clauses-returns-clause-equal : goal.copy_switch_clauses-returns-clause-equal
+copy_switch_clauses-returns-clause-equal t c =
+    all_copied clause_view clauses c.loop-clause.copies c.args.arms.now c.deref-clause-items.result.now c.loop-clause.clause-index c.deref-clause-items.ensures.value c.loop-clause-test.false c.loop-clause.invariant
