@@ -1,4 +1,4 @@
-use Rattle.std.proofs.Common.{◌≡◌, ap, refl, ◌∙◌}
+use Rattle.std.proofs.Common.{ap, refl, ◌∙◌}
 use Rattle.wesl_syntax.specs.declared.expression.FunctionCall.{out-FunctionCall}
 use Rattle.wesl_syntax.specs.declared.expression.TemplateArg.{out-TemplateArg}
 use Rattle.wesl_syntax.specs.declared.expression.TypeExpression.{out-TypeExpression}

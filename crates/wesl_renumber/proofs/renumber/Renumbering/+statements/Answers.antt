@@ -8,7 +8,6 @@ use Rattle.wesl_syntax.specs.declared.statement.ElseIfClause.{out-ElseIfClause}
 use Rattle.wesl_syntax.specs.declared.statement.IfClause.{out-IfClause}
 use Rattle.wesl_syntax.specs.declared.statement.SwitchClause.{out-SwitchClause}
 use Rattle.wesl_renumber.proofs.Listed.{all_left, all_listed, next_copied, next_left, placed_renumbered}
-use Rattle.wesl_renumber.specs.Renumbered.{renumbered_tree, after_tree}
 use Rattle.wesl_renumber.proofs.Views.{assigned, boxed_statement, five_parts, four_parts, inner_statement, one_part, part, seen, three_parts, two_parts, view_assignment, view_block, view_break, view_call_statement, view_clause, view_clause_of, view_compound, view_compound_of, view_const_assert, view_continue, view_continuing, view_continuing_of, view_decrement, view_discard, view_else, view_else_if, view_else_if_of, view_else_of, view_for, view_if, view_if_clause, view_if_clause_of, view_increment, view_local, view_loop, view_return, view_switch, view_while}
 use Rattle.wesl_renumber.proofs.renumber.Renumbering.+statements.Goals as goal
 
