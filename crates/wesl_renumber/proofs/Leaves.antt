@@ -1,13 +1,11 @@
 -- Identifiers have nothing below them, in the trees of all nodes.
-use Rattle.std.proofs.Common.{◌≡◌, Bool, true, ◌&&◌, List, [], ◌∷◌, map, refl, sym, subst, rules}
+use Rattle.std.proofs.Common.{◌≡◌, Bool, true, ◌&&◌, List, [], ◌∷◌, map, refl, sym, subst}
 use Rattle.std.specs.Prelude.{Option, Some, None, Vec}
-use Rattle.std.specs.Box.{box_value}
-use Rattle.std.specs.Global.{Box}
 use Rattle.std.specs.declared.alloc.Global.{Global}
 use Rattle.wesl_names.specs.declared.path.ModulePath.{ModulePath}
 use Rattle.wesl_names.specs.declared.names.Ident.{Ident}
-use Rattle.wesl_syntax.specs.Tree.{Kind, Tree, Forest, end, forest_of, expression_node, statement_node, attribute_node, member_node, import_node, directive_node, declaration_node}
-use Rattle.wesl_syntax.specs.View.{expression_view, expression_tree, statement_tree, attributes_tree, call_view, argument_view, type_view, expression_step, call_step, argument_step, type_step, placed, optional, listed, literal_tree, attribute_view, item_view, content_step, entry_step, content_view, entry_view, import_view, directive_view, kind_tree, space_tree, access_tree, declaration_view, alias_view, member_view, struct_view, parameter_view, assert_view, selector_view, break_if_view, statement_step, compound_step, continuing_step, else_step, else_if_step, if_step, clause_step, statement_view, compound_view, continuing_view, else_view, else_if_view, if_view, clause_view, function_view, global_view, imports_tree, directives_tree, declarations_tree}
+use Rattle.wesl_syntax.specs.Tree.{Kind, Tree, forest_of, expression_node, statement_node, attribute_node, member_node, import_node, directive_node, declaration_node}
+use Rattle.wesl_syntax.specs.View.{expression_view, expression_tree, attributes_tree, call_view, argument_view, type_view, expression_step, call_step, argument_step, type_step, placed, optional, literal_tree, attribute_view, item_view, content_step, entry_step, content_view, entry_view, import_view, directive_view, kind_tree, space_tree, declaration_view, alias_view, member_view, struct_view, parameter_view, assert_view, selector_view, break_if_view, statement_step, compound_step, continuing_step, else_step, else_if_step, if_step, clause_step, statement_view, compound_view, continuing_view, else_view, else_if_view, if_view, clause_view, function_view, global_view, imports_tree, directives_tree, declarations_tree}
 use Rattle.wesl_syntax.specs.declared.span.Spanned.{Spanned}
 use Rattle.wesl_syntax.specs.declared.expression.Literal.{Literal}
 use Rattle.wesl_syntax.specs.declared.expression.Literal.TheVariants as literals
@@ -19,7 +17,6 @@ use Rattle.wesl_syntax.specs.declared.expression.Expression.TheOpen.{Expression-
 use Rattle.wesl_syntax.specs.declared.expression.Expression.TheFolds.{ind-Expression, ind-FunctionCall, ind-TypeExpression, fold-roll-Expression, fold-roll-FunctionCall, fold-roll-TemplateArg, fold-roll-TypeExpression}
 use Rattle.wesl_syntax.specs.declared.attribute.Attribute.{Attribute}
 use Rattle.wesl_syntax.specs.declared.attribute.Attribute.TheVariants as attr
-use Rattle.wesl_syntax.specs.declared.import.ImportItem.{ImportItem}
 use Rattle.wesl_syntax.specs.declared.import.ImportContent.{ImportContent, map-ImportContent}
 use Rattle.wesl_syntax.specs.declared.import.Import.{Import, map-Import}
 use Rattle.wesl_syntax.specs.declared.import.ImportContent.TheOpen.{ImportContent-F, Import-F}

@@ -1,5 +1,5 @@
 -- A list of nodes, one node after the other.
-use Rattle.std.proofs.Common.{◌≡◌, ℕ, ◌+◌, ◌<◌, ◌≤◌, List, [], ◌∷◌, ◌++◌, length, get_or, map, drop, refl, sym, ◌∙◌, ap, subst, arith, add-one, drop-cons}
+use Rattle.std.proofs.Common.{◌≡◌, ℕ, ◌+◌, ◌<◌, ◌≤◌, List, [], ◌∷◌, ◌++◌, length, get_or, map, drop, refl, sym, ◌∙◌, ap, arith, add-one, drop-cons}
 use Rattle.std.proofs.lemmas.List.{map-append}
 use Rattle.std.proofs.lemmas.Grind.{common_steps}
 use Rattle.std.specs.Prelude.{Vec}
@@ -58,6 +58,10 @@ module _ {A : Type 0} (view : A → Tree) where
   all_listed k cs xs ys i ns r is past inv =
       ap (λ f. record { label = kind k; children = f })
       (sym (joined_end (map view cs.items)) ∙ (ap (λ zs. joined (map view cs.items) (all_renumbered r zs)) (sym (drop_past ys i past)) ∙ (inv ∙ ap (all_renumbered ns) is)))
+
+  -- and the numbers that they leave
+  pub all_left : (k : Kind) (xs : Vec A Global) (ys : List A) (i : ℕ) (ns r : List ℕ) → ys ≡ xs.items → length ys ≤ i → all_after r (drop i ys) ≡ all_after ns ys → r ≡ after_tree (listed view k xs) ns
+  all_left k xs ys i ns r is past inv = ap (all_after r) (sym (drop_past ys i past)) ∙ (inv ∙ ap (all_after ns) is)
 
 -- a node with its span
 pub placed_renumbered : {A : Type 0} (view : A → Tree) (k : Kind) (n : A) (x : Spanned A) (r : List ℕ) → view n ≡ renumbered_tree (view x.node) r → placed view k (record { node = n; span = x.span }) ≡ renumbered_tree (placed view k x) r

@@ -1,11 +1,10 @@
 -- What trees with other numbers say.
-use Rattle.std.proofs.Common.{◌≡◌, ℕ, zero, suc, ◌+◌, ◌<◌, ◌≤◌, Bool, true, false, ◌&&◌, List, [], ◌∷◌, ◌++◌, length, map, refl, sym, ◌∙◌, ap, subst, arith, append_assoc, length-append}
+use Rattle.std.proofs.Common.{◌≡◌, ℕ, ◌+◌, ◌≤◌, Bool, true, false, ◌&&◌, List, [], ◌∷◌, ◌++◌, length, map, refl, sym, ◌∙◌, ap, arith, append_assoc, length-append}
 use Rattle.std.specs.Prelude.{nat_lt}
 use Rattle.std.proofs.lemmas.List.{map-append}
-use Rattle.wesl_names.specs.Path.{Text}
-use Rattle.wesl_syntax.specs.Tree.{Kind, Label, LabelOf, Forest, ForestOf, Tree, TreeOf, end, tree, kind, at, ident, text, texts, truth, unary, binary, assignment, space, access, path, identifiers, respell_label, respell_forest, label_below, forest_below}
+use Rattle.wesl_syntax.specs.Tree.{Label, LabelOf, Forest, ForestOf, end, tree, kind, at, ident, text, texts, truth, unary, binary, assignment, space, access, path, identifiers, respell_forest, forest_below}
 use Rattle.wesl_syntax.specs.Unit.{UnitOf, forest_of_unit}
-use Rattle.wesl_renumber.specs.Leaves.{is_leaf, are_leaves, KeepsSpelling}
+use Rattle.wesl_renumber.specs.Leaves.{are_leaves, KeepsSpelling}
 use Rattle.wesl_renumber.specs.Renumbered.{renumbered, after}
 
 pub both : (a b : Bool) → (a && b) ≡ true → (a ≡ true) × (b ≡ true)

@@ -1,17 +1,17 @@
 -- A unit with other numbers.
 use Rattle.std.proofs.Common.{◌≡◌, ℕ, suc, ◌<◌, Bool, true, false, ◌&&◌, List, [], ◌∷◌, ◌++◌, length, map, refl, sym, ◌∙◌, ap, subst, arith}
-use Rattle.std.specs.Prelude.{nat_lt, Option, Some, None, MatchOption, IsTrue}
+use Rattle.std.specs.Prelude.{nat_lt, Option, Some, None, MatchOption}
 use Rattle.std.specs.Option.{IsSome}
 use Rattle.std.specs.List.{All}
 use Rattle.std.proofs.lemmas.Bool.Decides.{Decides-ltb}
 use Rattle.wesl_names.specs.Path.{Text}
-use Rattle.wesl_syntax.specs.Tree.{Tree, Forest, end, tree, identifiers, label_below, forest_below, tree_below, respell, respell_forest}
-use Rattle.wesl_syntax.specs.Unit.{UnitView, UnitOf, forest_of_unit, trees_of, numbers, name_in, spelled, unit_below}
+use Rattle.wesl_syntax.specs.Tree.{Tree, end, tree, identifiers, forest_below, tree_below, respell_forest}
+use Rattle.wesl_syntax.specs.Unit.{UnitView, forest_of_unit, trees_of, numbers, name_in, spelled, unit_below}
 use Rattle.wesl_tree.specs.Translation.{unit_view}
 use Rattle.wesl_tree.specs.declared.unit.TranslationUnit.{TranslationUnit}
 use Rattle.wesl_renumber.specs.Renumbered.{renumbered, renumbered_tree, after_tree, HasSameNodes}
 use Rattle.wesl_renumber.specs.Leaves.{are_leaves}
-use Rattle.wesl_renumber.proofs.Taken.{both, all_below, taken, numbers_are, respelled, one_unit}
+use Rattle.wesl_renumber.proofs.Taken.{all_below, taken, numbers_are, respelled, one_unit}
 use Rattle.wesl_renumber.proofs.Leaves.{imports_leafy, directives_leafy, declarations_leafy}
 
 pub leafy : (u : TranslationUnit) → are_leaves (forest_of_unit (trees_of (unit_view u))) ≡ true

@@ -1,29 +1,84 @@
 -- The trees of the nodes that hold lists or optional nodes of their own cycle, by the trees of their parts.
-use Rattle.std.proofs.Common.{◌≡◌, ℕ, List, [], ◌∷◌, rules, ◌∙◌, ap, sym, refl}
+use Rattle.std.proofs.Common.{◌≡◌, ℕ, List, [], ◌∷◌, rules, ◌∙◌, ap, sym, refl, Global, None, Option, Some, String}
 use mathlib.Core.List.{map-map}
-use Rattle.std.specs.Prelude.{Option}
+use Rattle.std.specs.Prelude.{string_bytes}
 use Rattle.std.specs.Box.{box_value}
 use Rattle.std.specs.Global.{Box, Vec}
-use Rattle.wesl_renumber.specs.Renumbered.{renumbered_tree, after_tree}
-use Rattle.wesl_syntax.specs.Tree.{Kind, branch, call, clauses, compound, for_loop, if_statement, list, statements, switch, Tree}
-use Rattle.wesl_syntax.specs.View.{argument_step, attributes_tree, call_step, call_view, clause_step, clause_view, compound_step, compound_view, continuing_step, else_if_step, else_if_view, else_step, else_view, expression_step, expression_tree, if_step, if_view, listed, optional, statement_step, statement_tree, statement_view, type_step, type_view}
+use Rattle.wesl_names.specs.declared.names.Ident.{Ident}
+use Rattle.wesl_names.specs.declared.path.ModulePath.{ModulePath}
+use Rattle.wesl_renumber.specs.Renumbered.{after_tree, first_number, other_numbers, renumbered_tree}
+use Rattle.wesl_names.specs.declared.span.Span.{Span}
+use Rattle.wesl_syntax.specs.Tree.{assignment, at, before, binary, branch, break, call, call_expression, call_statement, clauses, compound, compound_statement, continue, continuing, decrement, discard, else_clause, else_if_clause, end, for_loop, forest_of, if_clause, if_statement, increment, indexing, Kind, Label, list, loop, named_component, parenthesized, reference, return, statement_node, statements, switch, switch_clause, template_argument, Tree, type_expression, type_or_identifier, unary, while_loop}
+use Rattle.wesl_syntax.specs.View.{argument_step, argument_view, assert_view, attributes_tree, break_if_view, call_step, call_view, clause_step, clause_view, compound_step, compound_view, continuing_step, continuing_view, declaration_view, else_if_step, else_if_view, else_step, else_view, expression_step, expression_tree, expression_view, ident_tree, if_step, if_view, listed, optional, path_tree, selector_view, statement_step, statement_tree, statement_view, text_tree, type_step, type_view}
 use Rattle.wesl_syntax.specs.declared.attribute.Attribute.{Attribute}
+use Rattle.wesl_syntax.specs.declared.declaration.ConstAssert.{ConstAssert}
+use Rattle.wesl_syntax.specs.declared.declaration.Declaration.{Declaration}
+use Rattle.wesl_syntax.specs.declared.expression.BinaryOperator.{BinaryOperator}
 use Rattle.wesl_syntax.specs.declared.expression.Expression.{Expression}
-use Rattle.wesl_syntax.specs.declared.expression.Expression.TheFolds.{fold_out-FunctionCall}
-use Rattle.wesl_syntax.specs.declared.expression.FunctionCall.{FunctionCall, out-FunctionCall}
-use Rattle.wesl_syntax.specs.declared.expression.TypeExpression.{TypeExpression}
+use Rattle.wesl_syntax.specs.declared.expression.Expression as expressions
+use Rattle.wesl_syntax.specs.declared.expression.Expression.TheFolds.{fold_out-FunctionCall, fold_out-TemplateArg, fold-roll-FunctionCall, fold-roll-TemplateArg, fold-roll-TypeExpression}
+use Rattle.wesl_syntax.specs.declared.expression.Expression.TheViews.{roll-out-TypeExpression}
+use Rattle.wesl_syntax.specs.declared.expression.FunctionCall.{FunctionCall, out-FunctionCall, roll-FunctionCall}
+use Rattle.wesl_syntax.specs.declared.expression.TemplateArg.{out-TemplateArg, roll-TemplateArg, TemplateArg}
+use Rattle.wesl_syntax.specs.declared.expression.TypeExpression.{out-TypeExpression, roll-TypeExpression, TypeExpression}
+use Rattle.wesl_syntax.specs.declared.expression.UnaryOperator.{UnaryOperator}
 use Rattle.wesl_syntax.specs.declared.span.Spanned.{Spanned}
-use Rattle.wesl_syntax.specs.declared.statement.CompoundStatement.{CompoundStatement, out-CompoundStatement}
-use Rattle.wesl_syntax.specs.declared.statement.ElseClause.{ElseClause}
-use Rattle.wesl_syntax.specs.declared.statement.ElseIfClause.{ElseIfClause}
-use Rattle.wesl_syntax.specs.declared.statement.IfClause.{IfClause}
+use Rattle.wesl_syntax.specs.declared.statement.AssignmentOperator.{AssignmentOperator}
+use Rattle.wesl_syntax.specs.declared.statement.BreakIfStatement.{BreakIfStatement}
+use Rattle.wesl_syntax.specs.declared.statement.CaseSelector.{CaseSelector}
+use Rattle.wesl_syntax.specs.declared.statement.CompoundStatement.{CompoundStatement, out-CompoundStatement, roll-CompoundStatement}
+use Rattle.wesl_syntax.specs.declared.statement.ContinuingStatement.{ContinuingStatement, out-ContinuingStatement, roll-ContinuingStatement}
+use Rattle.wesl_syntax.specs.declared.statement.ElseClause.{ElseClause, out-ElseClause, roll-ElseClause}
+use Rattle.wesl_syntax.specs.declared.statement.ElseIfClause.{ElseIfClause, out-ElseIfClause, roll-ElseIfClause}
+use Rattle.wesl_syntax.specs.declared.statement.IfClause.{IfClause, out-IfClause, roll-IfClause}
 use Rattle.wesl_syntax.specs.declared.statement.Statement.{Statement, the_lemmas}
-use Rattle.wesl_syntax.specs.declared.statement.Statement.TheFolds.{fold_out-CompoundStatement}
-use Rattle.wesl_syntax.specs.declared.statement.Statement.TheViews as made
-use Rattle.wesl_syntax.specs.declared.statement.SwitchClause.{SwitchClause}
+use Rattle.wesl_syntax.specs.declared.statement.Statement.TheFolds.{fold_out-CompoundStatement, fold_out-ContinuingStatement, fold_out-ElseClause, fold_out-ElseIfClause, fold_out-IfClause, fold_out-SwitchClause, fold-roll-CompoundStatement, fold-roll-ContinuingStatement, fold-roll-ElseClause, fold-roll-ElseIfClause, fold-roll-IfClause, fold-roll-SwitchClause}
+use Rattle.wesl_syntax.specs.declared.statement.Statement as made
+use Rattle.wesl_syntax.specs.declared.statement.SwitchClause.{SwitchClause, out-SwitchClause, roll-SwitchClause}
 
 pub view_call : (c : FunctionCall) → call_view c ≡ branch call (type_view (out-FunctionCall c).ty ∷ listed expression_tree list (out-FunctionCall c).arguments ∷ [])
 view_call c = fold_out-FunctionCall Tree Tree Tree Tree expression_step call_step argument_step type_step c ∙ simp map-map
+
+pub view_call_of : (t : TypeExpression) (v : Vec (Spanned Expression)) → call_view (roll-FunctionCall (record { ty = t; arguments = v })) ≡ branch call (type_view t ∷ listed expression_tree list v ∷ [])
+view_call_of t v = fold-roll-FunctionCall Tree Tree Tree Tree expression_step call_step argument_step type_step (record { ty = t; arguments = v }) ∙ simp map-map
+
+abbrev pub labelled : Label → List Tree → Tree
+labelled l ts = record { label = l; children = forest_of ts }
+
+pub view_parenthesized : (e : Box (Spanned Expression)) → expression_view (expressions.Parenthesized e) ≡ branch parenthesized (expression_tree (box_value e) ∷ [])
+view_parenthesized e = search (rules, expressions.the_lemmas)
+
+pub view_named : (b : Box (Spanned Expression)) (n : String Global) → expression_view (expressions.NamedComponent b n) ≡ branch named_component (expression_tree (box_value b) ∷ text_tree n ∷ [])
+view_named b n = search (rules, expressions.the_lemmas)
+
+pub view_indexing : (b i : Box (Spanned Expression)) → expression_view (expressions.Indexing b i) ≡ branch indexing (expression_tree (box_value b) ∷ expression_tree (box_value i) ∷ [])
+view_indexing b i = search (rules, expressions.the_lemmas)
+
+pub view_unary : (o : UnaryOperator) (e : Box (Spanned Expression)) → expression_view (expressions.Unary o e) ≡ labelled (unary o) (expression_tree (box_value e) ∷ [])
+view_unary o e = search (rules, expressions.the_lemmas)
+
+pub view_binary : (o : BinaryOperator) (l r : Box (Spanned Expression)) → expression_view (expressions.Binary o l r) ≡ labelled (binary o) (expression_tree (box_value l) ∷ expression_tree (box_value r) ∷ [])
+view_binary o l r = search (rules, expressions.the_lemmas)
+
+pub view_call_expression : (c : FunctionCall) → expression_view (expressions.FunctionCall c) ≡ branch call_expression (call_view c ∷ [])
+view_call_expression c = search (rules, expressions.the_lemmas)
+
+pub view_name : (t : TypeExpression) → expression_view (expressions.TypeOrIdentifier t) ≡ branch type_or_identifier (type_view t ∷ [])
+view_name t = search (rules, expressions.the_lemmas)
+
+pub view_argument : (a : TemplateArg) → argument_view a ≡ branch template_argument (expression_tree (out-TemplateArg a).expression ∷ [])
+view_argument a = fold_out-TemplateArg Tree Tree Tree Tree expression_step call_step argument_step type_step a
+
+pub view_argument_of : (e : Spanned Expression) → argument_view (roll-TemplateArg (record { expression = e })) ≡ branch template_argument (expression_tree e ∷ [])
+view_argument_of e = fold-roll-TemplateArg Tree Tree Tree Tree expression_step call_step argument_step type_step (record { expression = e })
+
+pub view_type_of : (p : Option ModulePath) (i : Ident) (o : Option (Vec TemplateArg)) → type_view (roll-TypeExpression (record { path = p; ident = i; template_args = o }))
+    ≡ branch type_expression (optional path_tree p ∷ ident_tree reference i ∷ optional (listed argument_view list) o ∷ [])
+view_type_of p i None = fold-roll-TypeExpression Tree Tree Tree Tree expression_step call_step argument_step type_step (record { path = p; ident = i; template_args = None })
+view_type_of p i (Some v) = fold-roll-TypeExpression Tree Tree Tree Tree expression_step call_step argument_step type_step (record { path = p; ident = i; template_args = Some v }) ∙ simp map-map
+
+pub view_type : (t : TypeExpression) → type_view t ≡ branch type_expression (optional path_tree (out-TypeExpression t).path ∷ ident_tree reference (out-TypeExpression t).ident ∷ optional (listed argument_view list) (out-TypeExpression t).template_args ∷ [])
+view_type t = ap type_view (sym (roll-out-TypeExpression t)) ∙ view_type_of (out-TypeExpression t).path (out-TypeExpression t).ident (out-TypeExpression t).template_args
 
 pub view_compound : (b : CompoundStatement) → compound_view b ≡ branch compound (attributes_tree (out-CompoundStatement b).attributes ∷ listed statement_tree statements (out-CompoundStatement b).statements ∷ [])
 view_compound b = fold_out-CompoundStatement Tree Tree Tree Tree Tree Tree Tree statement_step compound_step continuing_step else_step else_if_step if_step clause_step b ∙ simp map-map
@@ -40,57 +95,149 @@ pub view_for : (a : Vec (Spanned Attribute)) (i : Option (Box (Spanned Statement
     → statement_view (made.For a i c u b) ≡ branch for_loop (attributes_tree a ∷ optional (λ s. statement_tree (box_value s)) i ∷ optional expression_tree c ∷ optional (λ s. statement_tree (box_value s)) u ∷ compound_view b ∷ [])
 view_for a i c u b = search (rules, the_lemmas)
 
+pub view_compound_of : (a : Vec (Spanned Attribute)) (b : Vec (Spanned Statement)) → compound_view (roll-CompoundStatement (record { attributes = a; statements = b })) ≡ branch compound (attributes_tree a ∷ listed statement_tree statements b ∷ [])
+view_compound_of a b = fold-roll-CompoundStatement Tree Tree Tree Tree Tree Tree Tree statement_step compound_step continuing_step else_step else_if_step if_step clause_step (record { attributes = a; statements = b }) ∙ simp map-map
+
+pub view_if_clause : (c : IfClause) → if_view c ≡ branch if_clause (expression_tree (out-IfClause c).expression ∷ compound_view (out-IfClause c).body ∷ [])
+view_if_clause c = fold_out-IfClause Tree Tree Tree Tree Tree Tree Tree statement_step compound_step continuing_step else_step else_if_step if_step clause_step c
+
+pub view_if_clause_of : (a : Spanned Expression) (b : CompoundStatement) → if_view (roll-IfClause (record { expression = a; body = b })) ≡ branch if_clause (expression_tree a ∷ compound_view b ∷ [])
+view_if_clause_of a b = fold-roll-IfClause Tree Tree Tree Tree Tree Tree Tree statement_step compound_step continuing_step else_step else_if_step if_step clause_step (record { expression = a; body = b })
+
+pub view_else_if : (c : ElseIfClause) → else_if_view c ≡ branch else_if_clause (attributes_tree (out-ElseIfClause c).attributes ∷ expression_tree (out-ElseIfClause c).expression ∷ compound_view (out-ElseIfClause c).body ∷ [])
+view_else_if c = fold_out-ElseIfClause Tree Tree Tree Tree Tree Tree Tree statement_step compound_step continuing_step else_step else_if_step if_step clause_step c
+
+pub view_else_if_of : (a : Vec (Spanned Attribute)) (b : Spanned Expression) (c : CompoundStatement) → else_if_view (roll-ElseIfClause (record { attributes = a; expression = b; body = c })) ≡ branch else_if_clause (attributes_tree a ∷ expression_tree b ∷ compound_view c ∷ [])
+view_else_if_of a b c = fold-roll-ElseIfClause Tree Tree Tree Tree Tree Tree Tree statement_step compound_step continuing_step else_step else_if_step if_step clause_step (record { attributes = a; expression = b; body = c })
+
+pub view_else : (c : ElseClause) → else_view c ≡ branch else_clause (attributes_tree (out-ElseClause c).attributes ∷ compound_view (out-ElseClause c).body ∷ [])
+view_else c = fold_out-ElseClause Tree Tree Tree Tree Tree Tree Tree statement_step compound_step continuing_step else_step else_if_step if_step clause_step c
+
+pub view_else_of : (a : Vec (Spanned Attribute)) (b : CompoundStatement) → else_view (roll-ElseClause (record { attributes = a; body = b })) ≡ branch else_clause (attributes_tree a ∷ compound_view b ∷ [])
+view_else_of a b = fold-roll-ElseClause Tree Tree Tree Tree Tree Tree Tree statement_step compound_step continuing_step else_step else_if_step if_step clause_step (record { attributes = a; body = b })
+
+pub view_clause : (c : SwitchClause) → clause_view c ≡ branch switch_clause (attributes_tree (out-SwitchClause c).attributes ∷ listed selector_view list (out-SwitchClause c).case_selectors ∷ compound_view (out-SwitchClause c).body ∷ [])
+view_clause c = fold_out-SwitchClause Tree Tree Tree Tree Tree Tree Tree statement_step compound_step continuing_step else_step else_if_step if_step clause_step c
+
+pub view_clause_of : (a : Vec (Spanned Attribute)) (b : Vec CaseSelector) (c : CompoundStatement) → clause_view (roll-SwitchClause (record { attributes = a; case_selectors = b; body = c })) ≡ branch switch_clause (attributes_tree a ∷ listed selector_view list b ∷ compound_view c ∷ [])
+view_clause_of a b c = fold-roll-SwitchClause Tree Tree Tree Tree Tree Tree Tree statement_step compound_step continuing_step else_step else_if_step if_step clause_step (record { attributes = a; case_selectors = b; body = c })
+
+pub view_continuing : (c : ContinuingStatement) → continuing_view c ≡ branch continuing (attributes_tree (out-ContinuingStatement c).attributes ∷ compound_view (out-ContinuingStatement c).body ∷ optional break_if_view (out-ContinuingStatement c).break_if ∷ [])
+view_continuing c = fold_out-ContinuingStatement Tree Tree Tree Tree Tree Tree Tree statement_step compound_step continuing_step else_step else_if_step if_step clause_step c
+
+pub view_continuing_of : (a : Vec (Spanned Attribute)) (b : CompoundStatement) (c : Option BreakIfStatement) → continuing_view (roll-ContinuingStatement (record { attributes = a; body = b; break_if = c })) ≡ branch continuing (attributes_tree a ∷ compound_view b ∷ optional break_if_view c ∷ [])
+view_continuing_of a b c = fold-roll-ContinuingStatement Tree Tree Tree Tree Tree Tree Tree statement_step compound_step continuing_step else_step else_if_step if_step clause_step (record { attributes = a; body = b; break_if = c })
+
+pub view_block : (b : CompoundStatement) → statement_view (made.Compound b) ≡ branch compound_statement (compound_view b ∷ [])
+view_block b = search (rules, the_lemmas)
+
+pub view_assignment : (a : Vec (Spanned Attribute)) (o : AssignmentOperator) (l r : Spanned Expression) → statement_view (made.Assignment a o l r) ≡ labelled (assignment o) (attributes_tree a ∷ expression_tree l ∷ expression_tree r ∷ [])
+view_assignment a o l r = search (rules, the_lemmas)
+
+pub view_increment : (a : Vec (Spanned Attribute)) (e : Spanned Expression) → statement_view (made.Increment a e) ≡ branch increment (attributes_tree a ∷ expression_tree e ∷ [])
+view_increment a e = search (rules, the_lemmas)
+
+pub view_decrement : (a : Vec (Spanned Attribute)) (e : Spanned Expression) → statement_view (made.Decrement a e) ≡ branch decrement (attributes_tree a ∷ expression_tree e ∷ [])
+view_decrement a e = search (rules, the_lemmas)
+
+pub view_loop : (a : Vec (Spanned Attribute)) (b : CompoundStatement) (c : Option ContinuingStatement) → statement_view (made.Loop a b c) ≡ branch loop (attributes_tree a ∷ compound_view b ∷ optional continuing_view c ∷ [])
+view_loop a b c = search (rules, the_lemmas)
+
+pub view_while : (a : Vec (Spanned Attribute)) (e : Spanned Expression) (b : CompoundStatement) → statement_view (made.While a e b) ≡ branch while_loop (attributes_tree a ∷ expression_tree e ∷ compound_view b ∷ [])
+view_while a e b = search (rules, the_lemmas)
+
+pub view_break : (a : Vec (Spanned Attribute)) → statement_view (made.Break a) ≡ branch break (attributes_tree a ∷ [])
+view_break a = search (rules, the_lemmas)
+
+pub view_continue : (a : Vec (Spanned Attribute)) → statement_view (made.Continue a) ≡ branch continue (attributes_tree a ∷ [])
+view_continue a = search (rules, the_lemmas)
+
+pub view_discard : (a : Vec (Spanned Attribute)) → statement_view (made.Discard a) ≡ branch discard (attributes_tree a ∷ [])
+view_discard a = search (rules, the_lemmas)
+
+pub view_return : (a : Vec (Spanned Attribute)) (e : Option (Spanned Expression)) → statement_view (made.Return a e) ≡ branch return (attributes_tree a ∷ optional expression_tree e ∷ [])
+view_return a e = search (rules, the_lemmas)
+
+pub view_call_statement : (a : Vec (Spanned Attribute)) (c : FunctionCall) → statement_view (made.FunctionCall a c) ≡ branch call_statement (attributes_tree a ∷ call_view c ∷ [])
+view_call_statement a c = search (rules, the_lemmas)
+
+pub view_const_assert : (c : ConstAssert) → statement_view (made.ConstAssert c) ≡ assert_view c
+view_const_assert c = search (rules, the_lemmas)
+
+pub view_local : (d : Declaration) → statement_view (made.Declaration d) ≡ declaration_view d
+view_local d = search (rules, the_lemmas)
+
+-- a node that takes numbers, and what it leaves
+pub record Took (old new : Tree) (before after : List ℕ) : Type 0 where
+  pub tree : new ≡ renumbered_tree old before
+  pub rest : after ≡ after_tree old before
+
+pub part : {A : Type 0} (view : A → Tree) (x y : A) (s r : List ℕ) → view y ≡ renumbered_tree (view x) s → r ≡ after_tree (view x) s → Took (view x) (view y) s r
+part view x y s r p q = record { tree = p; rest = q }
+
+-- as seen by its parts
+pub seen : {x y x' y' : Tree} {s r : List ℕ} → x ≡ y → x' ≡ y' → Took y y' s r → Took x x' s r
+seen {x} {y} {x'} {y'} {s} {r} e f t = record { tree = f ∙ (t.tree ∙ ap (λ z. renumbered_tree z s) (sym e)); rest = t.rest ∙ ap (λ z. after_tree z s) (sym e) }
+
+-- a node in a box
+pub boxed_part : (b d : Box (Spanned Expression)) (x y : Spanned Expression) (s r : List ℕ) → box_value d ≡ y → x ≡ box_value b → expression_tree y ≡ renumbered_tree (expression_tree x) s → r ≡ after_tree (expression_tree x) s
+    → Took (expression_tree (box_value b)) (expression_tree (box_value d)) s r
+boxed_part b d x y s r made is p q = record { tree = ap expression_tree made ∙ (p ∙ ap (λ z. renumbered_tree (expression_tree z) s) is); rest = q ∙ ap (λ z. after_tree (expression_tree z) s) is }
+
+-- what has no identifier takes no number
+pub text_part : (n m : String Global) (s : List ℕ) → string_bytes m ≡ string_bytes n → Took (text_tree n) (text_tree m) s s
+text_part n m s e = record { tree = rw e refl; rest = refl }
+
+path_part : (p : Option ModulePath) (s : List ℕ) → Took (optional path_tree p) (optional path_tree p) s s
+path_part None s = record { tree = refl; rest = refl }
+path_part (Some p) s = record { tree = refl; rest = refl }
+
+pub same_path : (p q : Option ModulePath) (s : List ℕ) → optional path_tree q ≡ optional path_tree p → Took (optional path_tree p) (optional path_tree q) s s
+same_path p q s e = record { tree = e ∙ (path_part p s).tree; rest = (path_part p s).rest }
+
+-- and an identifier takes one
+pub ident_part : (i j : Ident) (s r : List ℕ) → j.0 ≡ first_number s → r ≡ other_numbers s → Took (ident_tree reference i) (ident_tree reference j) s r
+ident_part i j s r e f = record { tree = rw e refl; rest = f }
+
+pub unary_part : (o : UnaryOperator) {a a' : Tree} {s s1 : List ℕ} → Took a a' s s1 → Took (labelled (unary o) (a ∷ [])) (labelled (unary o) (a' ∷ [])) s s1
+unary_part o p = record { tree = rw p.tree refl; rest = p.rest }
+
+pub binary_parts : (o : BinaryOperator) {a b a' b' : Tree} {s s1 s2 : List ℕ} → Took a a' s s1 → Took b b' s1 s2 → Took (labelled (binary o) (a ∷ b ∷ [])) (labelled (binary o) (a' ∷ b' ∷ [])) s s2
+binary_parts o p q = record { tree = rw (p.tree, q.tree, p.rest) refl; rest = rw (q.rest, p.rest) refl }
+
 -- nodes whose parts take their numbers one after the other
-two_parts : (k : Kind) (a b a' b' : Tree) (s s1 : List ℕ) → a' ≡ renumbered_tree a s → s1 ≡ after_tree a s → b' ≡ renumbered_tree b s1 → branch k (a' ∷ b' ∷ []) ≡ renumbered_tree (branch k (a ∷ b ∷ [])) s
-two_parts k a b a' b' s s1 p e q = rw (p, q, e) refl
+pub one_part : (k : Kind) {a a' : Tree} {s s1 : List ℕ} → Took a a' s s1 → Took (branch k (a ∷ [])) (branch k (a' ∷ [])) s s1
+one_part k p = record { tree = rw p.tree refl; rest = p.rest }
 
-four_parts : (k : Kind) (a b c d a' b' c' d' : Tree) (s s1 s2 s3 s4 : List ℕ) → a' ≡ renumbered_tree a s → s1 ≡ after_tree a s → b' ≡ renumbered_tree b s1 → s2 ≡ after_tree b s1 → c' ≡ renumbered_tree c s2 → s3 ≡ after_tree c s2 → d' ≡ renumbered_tree d s3 → s4 ≡ after_tree d s3
-    → (branch k (a' ∷ b' ∷ c' ∷ d' ∷ []) ≡ renumbered_tree (branch k (a ∷ b ∷ c ∷ d ∷ [])) s) × (s4 ≡ after_tree (branch k (a ∷ b ∷ c ∷ d ∷ [])) s)
-four_parts k a b c d a' b' c' d' s s1 s2 s3 s4 p e q f r g t h = (rw (p, q, r, t, g, f, e) refl, rw (h, g, f, e) refl)
+pub two_parts : (k : Kind) {a b a' b' : Tree} {s s1 s2 : List ℕ} → Took a a' s s1 → Took b b' s1 s2 → Took (branch k (a ∷ b ∷ [])) (branch k (a' ∷ b' ∷ [])) s s2
+two_parts k p q = record { tree = rw (p.tree, q.tree, p.rest) refl; rest = rw (q.rest, p.rest) refl }
 
-five_parts : (k : Kind) (a b c d i a' b' c' d' i' : Tree) (s s1 s2 s3 s4 s5 : List ℕ) → a' ≡ renumbered_tree a s → s1 ≡ after_tree a s → b' ≡ renumbered_tree b s1 → s2 ≡ after_tree b s1 → c' ≡ renumbered_tree c s2 → s3 ≡ after_tree c s2 → d' ≡ renumbered_tree d s3 → s4 ≡ after_tree d s3 → i' ≡ renumbered_tree i s4 → s5 ≡ after_tree i s4
-    → (branch k (a' ∷ b' ∷ c' ∷ d' ∷ i' ∷ []) ≡ renumbered_tree (branch k (a ∷ b ∷ c ∷ d ∷ i ∷ [])) s) × (s5 ≡ after_tree (branch k (a ∷ b ∷ c ∷ d ∷ i ∷ [])) s)
-five_parts k a b c d i a' b' c' d' i' s s1 s2 s3 s4 s5 p e q f r g t h u j = (rw (p, q, r, t, u, h, g, f, e) refl, rw (j, h, g, f, e) refl)
+pub three_parts : (k : Kind) {a b c a' b' c' : Tree} {s s1 s2 s3 : List ℕ} → Took a a' s s1 → Took b b' s1 s2 → Took c c' s2 s3 → Took (branch k (a ∷ b ∷ c ∷ [])) (branch k (a' ∷ b' ∷ c' ∷ [])) s s3
+three_parts k p q r = record { tree = rw (p.tree, q.tree, r.tree, q.rest, p.rest) refl; rest = rw (r.rest, q.rest, p.rest) refl }
 
-pub renumbered_call : (c d : FunctionCall) (t : TypeExpression) (v : Vec (Spanned Expression)) (s s1 : List ℕ) → out-FunctionCall c ≡ record { ty = t; arguments = v }
-    → type_view t ≡ renumbered_tree (type_view (out-FunctionCall d).ty) s → s1 ≡ after_tree (type_view (out-FunctionCall d).ty) s → listed expression_tree list v ≡ renumbered_tree (listed expression_tree list (out-FunctionCall d).arguments) s1
-    → call_view c ≡ renumbered_tree (call_view d) s
-renumbered_call c d t v s s1 is p e q =
-    view_call c
-    ∙ (two_parts call (type_view (out-FunctionCall d).ty) (listed expression_tree list (out-FunctionCall d).arguments) _ _ s s1 (ap (λ r. type_view r.ty) is ∙ p) e (ap (λ r. listed expression_tree list r.arguments) is ∙ q)
-    ∙ ap (λ x. renumbered_tree x s) (sym (view_call d)))
+pub assigned : (o : AssignmentOperator) {a b c a' b' c' : Tree} {s s1 s2 s3 : List ℕ} → Took a a' s s1 → Took b b' s1 s2 → Took c c' s2 s3
+    → Took (labelled (assignment o) (a ∷ b ∷ c ∷ [])) (labelled (assignment o) (a' ∷ b' ∷ c' ∷ [])) s s3
+assigned o p q r = record { tree = rw (p.tree, q.tree, r.tree, q.rest, p.rest) refl; rest = rw (r.rest, q.rest, p.rest) refl }
 
-module _ (a : Vec (Spanned Attribute)) (i : IfClause) (es : Vec ElseIfClause) (e : Option ElseClause) (a' : Vec (Spanned Attribute)) (i' : IfClause) (es' : Vec ElseIfClause) (e' : Option ElseClause) (s s1 s2 s3 s4 : List ℕ)
-    (p : attributes_tree a' ≡ renumbered_tree (attributes_tree a) s) (p' : s1 ≡ after_tree (attributes_tree a) s)
-    (q : if_view i' ≡ renumbered_tree (if_view i) s1) (q' : s2 ≡ after_tree (if_view i) s1)
-    (r : listed else_if_view list es' ≡ renumbered_tree (listed else_if_view list es) s2) (r' : s3 ≡ after_tree (listed else_if_view list es) s2)
-    (t : optional else_view e' ≡ renumbered_tree (optional else_view e) s3) (t' : s4 ≡ after_tree (optional else_view e) s3) where
-  if_parts : (branch if_statement (attributes_tree a' ∷ if_view i' ∷ listed else_if_view list es' ∷ optional else_view e' ∷ []) ≡ renumbered_tree (branch if_statement (attributes_tree a ∷ if_view i ∷ listed else_if_view list es ∷ optional else_view e ∷ [])) s)
-      × (s4 ≡ after_tree (branch if_statement (attributes_tree a ∷ if_view i ∷ listed else_if_view list es ∷ optional else_view e ∷ [])) s)
-  if_parts = four_parts if_statement (attributes_tree a) (if_view i) (listed else_if_view list es) (optional else_view e) (attributes_tree a') (if_view i') (listed else_if_view list es') (optional else_view e') s s1 s2 s3 s4 p p' q q' r r' t t'
+pub four_parts : (k : Kind) {a b c d a' b' c' d' : Tree} {s s1 s2 s3 s4 : List ℕ} → Took a a' s s1 → Took b b' s1 s2 → Took c c' s2 s3 → Took d d' s3 s4
+    → Took (branch k (a ∷ b ∷ c ∷ d ∷ [])) (branch k (a' ∷ b' ∷ c' ∷ d' ∷ [])) s s4
+four_parts k p q r t = record { tree = rw (p.tree, q.tree, r.tree, t.tree, r.rest, q.rest, p.rest) refl; rest = rw (t.rest, r.rest, q.rest, p.rest) refl }
 
-  pub renumbered_if : statement_view (made.If a' i' es' e') ≡ renumbered_tree (statement_view (made.If a i es e)) s
-  renumbered_if = view_if a' i' es' e' ∙ (if_parts.0 ∙ ap (λ x. renumbered_tree x s) (sym (view_if a i es e)))
+pub five_parts : (k : Kind) {a b c d i a' b' c' d' i' : Tree} {s s1 s2 s3 s4 s5 : List ℕ} → Took a a' s s1 → Took b b' s1 s2 → Took c c' s2 s3 → Took d d' s3 s4 → Took i i' s4 s5
+    → Took (branch k (a ∷ b ∷ c ∷ d ∷ i ∷ [])) (branch k (a' ∷ b' ∷ c' ∷ d' ∷ i' ∷ [])) s s5
+five_parts k p q r t u = record { tree = rw (p.tree, q.tree, r.tree, t.tree, u.tree, t.rest, r.rest, q.rest, p.rest) refl; rest = rw (u.rest, t.rest, r.rest, q.rest, p.rest) refl }
 
-  pub after_if : s4 ≡ after_tree (statement_view (made.If a i es e)) s
-  after_if = if_parts.1 ∙ ap (λ x. after_tree x s) (sym (view_if a i es e))
+abbrev placed_as : Span → Tree → Tree
+placed_as p t = record { label = at statement_node p.start p.end; children = before t end }
 
-abbrev inner_statement : Box (Spanned Statement) → Tree
+abbrev pub inner_statement : Box (Spanned Statement) → Tree
 inner_statement s = statement_tree (box_value s)
 
-module _ (a : Vec (Spanned Attribute)) (i : Option (Box (Spanned Statement))) (c : Option (Spanned Expression)) (u : Option (Box (Spanned Statement))) (b : CompoundStatement)
-    (a' : Vec (Spanned Attribute)) (i' : Option (Box (Spanned Statement))) (c' : Option (Spanned Expression)) (u' : Option (Box (Spanned Statement))) (b' : CompoundStatement) (s s1 s2 s3 s4 s5 : List ℕ)
-    (p : attributes_tree a' ≡ renumbered_tree (attributes_tree a) s) (p' : s1 ≡ after_tree (attributes_tree a) s)
-    (q : optional inner_statement i' ≡ renumbered_tree (optional inner_statement i) s1) (q' : s2 ≡ after_tree (optional inner_statement i) s1)
-    (r : optional expression_tree c' ≡ renumbered_tree (optional expression_tree c) s2) (r' : s3 ≡ after_tree (optional expression_tree c) s2)
-    (t : optional inner_statement u' ≡ renumbered_tree (optional inner_statement u) s3) (t' : s4 ≡ after_tree (optional inner_statement u) s3)
-    (w : compound_view b' ≡ renumbered_tree (compound_view b) s4) (w' : s5 ≡ after_tree (compound_view b) s4) where
-  for_parts : (branch for_loop (attributes_tree a' ∷ optional inner_statement i' ∷ optional expression_tree c' ∷ optional inner_statement u' ∷ compound_view b' ∷ []) ≡ renumbered_tree (branch for_loop (attributes_tree a ∷ optional inner_statement i ∷ optional expression_tree c ∷ optional inner_statement u ∷ compound_view b ∷ [])) s)
-      × (s5 ≡ after_tree (branch for_loop (attributes_tree a ∷ optional inner_statement i ∷ optional expression_tree c ∷ optional inner_statement u ∷ compound_view b ∷ [])) s)
-  for_parts = five_parts for_loop (attributes_tree a) (optional inner_statement i) (optional expression_tree c) (optional inner_statement u) (compound_view b) (attributes_tree a') (optional inner_statement i') (optional expression_tree c') (optional inner_statement u') (compound_view b') s s1 s2 s3 s4 s5 p p' q q' r r' t t' w w'
-
-  pub renumbered_for : statement_view (made.For a' i' c' u' b') ≡ renumbered_tree (statement_view (made.For a i c u b)) s
-  renumbered_for = view_for a' i' c' u' b' ∙ (for_parts.0 ∙ ap (λ x. renumbered_tree x s) (sym (view_for a i c u b)))
-
-  pub after_for : s5 ≡ after_tree (statement_view (made.For a i c u b)) s
-  after_for = for_parts.1 ∙ ap (λ x. after_tree x s) (sym (view_for a i c u b))
+-- a statement in a box
+pub boxed_statement : (b d : Box (Spanned Statement)) (n m : Statement) (p : Span) (s r : List ℕ) → box_value d ≡ record { node = n; span = p } → m ≡ (box_value b).node → p ≡ (box_value b).span
+    → statement_view n ≡ renumbered_tree (statement_view m) s → r ≡ after_tree (statement_view m) s → Took (inner_statement b) (inner_statement d) s r
+boxed_statement b d n m p s r made is place e f =
+    record {
+      tree = ap statement_tree made ∙ (ap (λ z. placed_as z (statement_view n)) place ∙ (ap (placed_as (box_value b).span) e ∙ ap (λ z. placed_as (box_value b).span (renumbered_tree (statement_view z) s)) is));
+      rest = f ∙ ap (λ z. after_tree (statement_view z) s) is;
+    }

@@ -84,7 +84,6 @@ impl<'a> Renumbering<'a> {
     }
 
     #[cycle(expressions)]
-    #[tactic(auto, using(crate::proofs::Views::view_call))]
     pub(crate) fn call(&mut self, call: &FunctionCall) -> Result<FunctionCall, Error>
         ensures tree { IfOk result (λ copy. call_view copy ≡ renumbered_tree (call_view call.now) self.old.rest.now) }
         ensures rest { OnOk result (self.new.rest.now ≡ after_tree (call_view call.now) self.old.rest.now) }

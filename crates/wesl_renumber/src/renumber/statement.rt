@@ -65,7 +65,6 @@ impl<'a> Renumbering<'a> {
     }
 
     #[cycle(statements)]
-    #[tactic(auto, using(crate::proofs::Views::view_if, crate::proofs::Views::view_switch, crate::proofs::Views::view_for))]
     fn statement(&mut self, statement: &Statement) -> Result<Statement, Error>
         ensures tree { IfOk result (λ copy. statement_view copy ≡ renumbered_tree (statement_view statement.now) self.old.rest.now) }
         ensures rest { OnOk result (self.new.rest.now ≡ after_tree (statement_view statement.now) self.old.rest.now) }
@@ -219,7 +218,6 @@ impl<'a> Renumbering<'a> {
     }
 
     #[cycle(statements)]
-    #[tactic(auto, using(crate::proofs::Views::view_compound))]
     pub(crate) fn compound(&mut self, body: &CompoundStatement) -> Result<CompoundStatement, Error>
         ensures tree { IfOk result (λ copy. compound_view copy ≡ renumbered_tree (compound_view body.now) self.old.rest.now) }
         ensures rest { OnOk result (self.new.rest.now ≡ after_tree (compound_view body.now) self.old.rest.now) }

@@ -1,4 +1,4 @@
-use Rattle.std.proofs.Common.{◌≡◌, ◌∙◌, ap, sym}
+use Rattle.std.proofs.Common.{◌≡◌, ◌∙◌, ap}
 use Rattle.wesl_syntax.specs.Unit.{numbers, spelled}
 use Rattle.wesl_syntax.specs.View.{imports_tree, directives_tree, declarations_tree}
 use Rattle.wesl_tree.specs.Parts.{parts_view}

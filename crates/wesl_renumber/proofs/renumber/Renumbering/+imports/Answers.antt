@@ -1,6 +1,6 @@
 use Rattle.wesl_syntax.specs.Tree.{list}
 use Rattle.wesl_syntax.specs.View.{entry_view}
-use Rattle.wesl_renumber.proofs.Listed.{next_copied, next_left, all_listed}
+use Rattle.wesl_renumber.proofs.Listed.{all_left, all_listed, next_copied, next_left}
 use Rattle.wesl_renumber.proofs.renumber.Renumbering.+imports.Goals as goal
 
 pub entries-loop-entry-preserved : goal.entries-loop-entry-preserved
@@ -16,3 +16,7 @@ entries-loop-entry-preserved t c =
 pub entries-returns-clause-tree : goal.entries-returns-clause-tree
 entries-returns-clause-tree t c =
     all_listed entry_view list c.loop-entry.copies c.args.entries.now c.deref-entry-items.result.now c.loop-entry.entry-index c.args.self.now.rest.now c.loop-entry.self.rest.now c.deref-entry-items.ensures.value c.loop-entry-test.false c.loop-entry.invariant.copied
+
+pub entries-returns-clause-rest : goal.entries-returns-clause-rest
+entries-returns-clause-rest t c =
+    all_left entry_view list c.args.entries.now c.deref-entry-items.result.now c.loop-entry.entry-index c.args.self.now.rest.now c.loop-entry.self.rest.now c.deref-entry-items.ensures.value c.loop-entry-test.false c.loop-entry.invariant.left

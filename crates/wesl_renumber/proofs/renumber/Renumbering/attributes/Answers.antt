@@ -1,6 +1,6 @@
 use Rattle.wesl_syntax.specs.Tree.{attribute_node, attributes}
 use Rattle.wesl_syntax.specs.View.{attribute_view, placed}
-use Rattle.wesl_renumber.proofs.Listed.{next_copied, next_left, all_listed}
+use Rattle.wesl_renumber.proofs.Listed.{all_left, all_listed, next_copied, next_left}
 use Rattle.wesl_renumber.proofs.renumber.Renumbering.attributes.Goals as goal
 
 pub loop-attribute-preserved : goal.loop-attribute-preserved
@@ -16,3 +16,7 @@ loop-attribute-preserved c =
 pub returns-clause-tree : goal.returns-clause-tree
 returns-clause-tree c =
     all_listed (placed attribute_view attribute_node) attributes c.loop-attribute.copies c.args.attributes.now c.deref-attribute-items.result.now c.loop-attribute.attribute-index c.args.self.now.rest.now c.loop-attribute.self.rest.now c.deref-attribute-items.ensures.value c.loop-attribute-test.false c.loop-attribute.invariant.copied
+
+pub returns-clause-rest : goal.returns-clause-rest
+returns-clause-rest c =
+    all_left (placed attribute_view attribute_node) attributes c.args.attributes.now c.deref-attribute-items.result.now c.loop-attribute.attribute-index c.args.self.now.rest.now c.loop-attribute.self.rest.now c.deref-attribute-items.ensures.value c.loop-attribute-test.false c.loop-attribute.invariant.left

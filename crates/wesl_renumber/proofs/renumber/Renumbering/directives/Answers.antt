@@ -1,6 +1,6 @@
 use Rattle.wesl_syntax.specs.Tree.{directive_list, directive_node}
 use Rattle.wesl_syntax.specs.View.{directive_view, placed}
-use Rattle.wesl_renumber.proofs.Listed.{next_copied, next_left, all_listed}
+use Rattle.wesl_renumber.proofs.Listed.{all_left, all_listed, next_copied, next_left}
 use Rattle.wesl_renumber.proofs.renumber.Renumbering.directives.Goals as goal
 
 pub loop-directive-preserved : goal.loop-directive-preserved
@@ -16,3 +16,7 @@ loop-directive-preserved c =
 pub returns-clause-tree : goal.returns-clause-tree
 returns-clause-tree c =
     all_listed (placed directive_view directive_node) directive_list c.loop-directive.copies c.args.directives.now c.deref-directive-items.result.now c.loop-directive.directive-index c.args.self.now.rest.now c.loop-directive.self.rest.now c.deref-directive-items.ensures.value c.loop-directive-test.false c.loop-directive.invariant.copied
+
+pub returns-clause-rest : goal.returns-clause-rest
+returns-clause-rest c =
+    all_left (placed directive_view directive_node) directive_list c.args.directives.now c.deref-directive-items.result.now c.loop-directive.directive-index c.args.self.now.rest.now c.loop-directive.self.rest.now c.deref-directive-items.ensures.value c.loop-directive-test.false c.loop-directive.invariant.left

@@ -1,6 +1,6 @@
 use Rattle.wesl_syntax.specs.Tree.{declaration_node, declarations}
 use Rattle.wesl_syntax.specs.View.{global_view, placed}
-use Rattle.wesl_renumber.proofs.Listed.{next_copied, next_left, all_listed}
+use Rattle.wesl_renumber.proofs.Listed.{all_left, all_listed, next_copied, next_left}
 use Rattle.wesl_renumber.proofs.renumber.Renumbering.globals.Goals as goal
 
 pub loop-declaration-preserved : goal.loop-declaration-preserved
@@ -16,3 +16,7 @@ loop-declaration-preserved c =
 pub returns-clause-tree : goal.returns-clause-tree
 returns-clause-tree c =
     all_listed (placed global_view declaration_node) declarations c.loop-declaration.copies c.args.declarations.now c.deref-declaration-items.result.now c.loop-declaration.declaration-index c.args.self.now.rest.now c.loop-declaration.self.rest.now c.deref-declaration-items.ensures.value c.loop-declaration-test.false c.loop-declaration.invariant.copied
+
+pub returns-clause-rest : goal.returns-clause-rest
+returns-clause-rest c =
+    all_left (placed global_view declaration_node) declarations c.args.declarations.now c.deref-declaration-items.result.now c.loop-declaration.declaration-index c.args.self.now.rest.now c.loop-declaration.self.rest.now c.deref-declaration-items.ensures.value c.loop-declaration-test.false c.loop-declaration.invariant.left

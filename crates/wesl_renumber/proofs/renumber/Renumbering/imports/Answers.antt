@@ -1,6 +1,6 @@
 use Rattle.wesl_syntax.specs.Tree.{import_node, imports}
 use Rattle.wesl_syntax.specs.View.{import_view, placed}
-use Rattle.wesl_renumber.proofs.Listed.{next_copied, next_left, all_listed}
+use Rattle.wesl_renumber.proofs.Listed.{all_left, all_listed, next_copied, next_left}
 use Rattle.wesl_renumber.proofs.renumber.Renumbering.imports.Goals as goal
 
 pub loop-import-preserved : goal.loop-import-preserved
@@ -16,3 +16,7 @@ loop-import-preserved c =
 pub returns-clause-tree : goal.returns-clause-tree
 returns-clause-tree c =
     all_listed (placed import_view import_node) imports c.loop-import.copies c.args.imports.now c.deref-import-items.result.now c.loop-import.import-index c.args.self.now.rest.now c.loop-import.self.rest.now c.deref-import-items.ensures.value c.loop-import-test.false c.loop-import.invariant.copied
+
+pub returns-clause-rest : goal.returns-clause-rest
+returns-clause-rest c =
+    all_left (placed import_view import_node) imports c.args.imports.now c.deref-import-items.result.now c.loop-import.import-index c.args.self.now.rest.now c.loop-import.self.rest.now c.deref-import-items.ensures.value c.loop-import-test.false c.loop-import.invariant.left

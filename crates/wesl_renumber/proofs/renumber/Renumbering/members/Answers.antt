@@ -1,6 +1,6 @@
 use Rattle.wesl_syntax.specs.Tree.{member_node, members}
 use Rattle.wesl_syntax.specs.View.{member_view, placed}
-use Rattle.wesl_renumber.proofs.Listed.{next_copied, next_left, all_listed}
+use Rattle.wesl_renumber.proofs.Listed.{all_left, all_listed, next_copied, next_left}
 use Rattle.wesl_renumber.proofs.renumber.Renumbering.members.Goals as goal
 
 pub loop-member-preserved : goal.loop-member-preserved
@@ -16,3 +16,7 @@ loop-member-preserved c =
 pub returns-clause-tree : goal.returns-clause-tree
 returns-clause-tree c =
     all_listed (placed member_view member_node) members c.loop-member.copies c.args.all.now c.deref-member-items.result.now c.loop-member.member-index c.args.self.now.rest.now c.loop-member.self.rest.now c.deref-member-items.ensures.value c.loop-member-test.false c.loop-member.invariant.copied
+
+pub returns-clause-rest : goal.returns-clause-rest
+returns-clause-rest c =
+    all_left (placed member_view member_node) members c.args.all.now c.deref-member-items.result.now c.loop-member.member-index c.args.self.now.rest.now c.loop-member.self.rest.now c.deref-member-items.ensures.value c.loop-member-test.false c.loop-member.invariant.left

@@ -1,6 +1,6 @@
 use Rattle.wesl_syntax.specs.Tree.{parameters}
 use Rattle.wesl_syntax.specs.View.{parameter_view}
-use Rattle.wesl_renumber.proofs.Listed.{next_copied, next_left, all_listed}
+use Rattle.wesl_renumber.proofs.Listed.{all_left, all_listed, next_copied, next_left}
 use Rattle.wesl_renumber.proofs.renumber.Renumbering.parameters.Goals as goal
 
 pub loop-parameter-preserved : goal.loop-parameter-preserved
@@ -16,3 +16,7 @@ loop-parameter-preserved c =
 pub returns-clause-tree : goal.returns-clause-tree
 returns-clause-tree c =
     all_listed parameter_view parameters c.loop-parameter.copies c.args.all.now c.deref-parameter-items.result.now c.loop-parameter.parameter-index c.args.self.now.rest.now c.loop-parameter.self.rest.now c.deref-parameter-items.ensures.value c.loop-parameter-test.false c.loop-parameter.invariant.copied
+
+pub returns-clause-rest : goal.returns-clause-rest
+returns-clause-rest c =
+    all_left parameter_view parameters c.args.all.now c.deref-parameter-items.result.now c.loop-parameter.parameter-index c.args.self.now.rest.now c.loop-parameter.self.rest.now c.deref-parameter-items.ensures.value c.loop-parameter-test.false c.loop-parameter.invariant.left

@@ -1,6 +1,6 @@
 use Rattle.wesl_syntax.specs.Tree.{list}
 use Rattle.wesl_syntax.specs.View.{selector_view}
-use Rattle.wesl_renumber.proofs.Listed.{next_copied, next_left, all_listed}
+use Rattle.wesl_renumber.proofs.Listed.{all_left, all_listed, next_copied, next_left}
 use Rattle.wesl_renumber.proofs.renumber.Renumbering.selectors.Goals as goal
 
 pub loop-selector-preserved : goal.loop-selector-preserved
@@ -16,3 +16,7 @@ loop-selector-preserved c =
 pub returns-clause-tree : goal.returns-clause-tree
 returns-clause-tree c =
     all_listed selector_view list c.loop-selector.copies c.args.selectors.now c.deref-selector-items.result.now c.loop-selector.selector-index c.args.self.now.rest.now c.loop-selector.self.rest.now c.deref-selector-items.ensures.value c.loop-selector-test.false c.loop-selector.invariant.copied
+
+pub returns-clause-rest : goal.returns-clause-rest
+returns-clause-rest c =
+    all_left selector_view list c.args.selectors.now c.deref-selector-items.result.now c.loop-selector.selector-index c.args.self.now.rest.now c.loop-selector.self.rest.now c.deref-selector-items.ensures.value c.loop-selector-test.false c.loop-selector.invariant.left
