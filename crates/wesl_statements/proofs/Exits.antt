@@ -1,5 +1,5 @@
 -- What is left to show where a `?` ends a function, where a list begins, and where a function of the cycle calls another.
-use Rattle.std.proofs.Common.{◌≡◌, ℕ, ◌+◌, ◌*◌, ◌<◌, List, [], Result, Ok, Err, Vec, Global, map, sym, ap, subst, refl, arith}
+use Rattle.std.proofs.Common.{◌≡◌, ℕ, ◌+◌, ◌*◌, ◌<◌, List, [], Result, Ok, Err, Vec, Global, map, sym, subst, refl, arith}
 use Rattle.std.specs.Prelude.{IfOk, IfErr, IsErrAnd, ltb, take, true, None}
 use borrow.Author.Tests.{ltb-true}
 use Rattle.serde_json.specs.Data.{Data, depth}
