@@ -1,4 +1,4 @@
-use Rattle.std.proofs.Common.{sym, ◌∙◌, ◌≡◌, true, false, codes, string_bytes, option_map, refl, ap, rules}
+use Rattle.std.proofs.Common.{◌≡◌, true, false, codes, string_bytes, option_map, refl, ap, rules}
 use Rattle.serde_json.specs.View.{view}
 use Rattle.wesl_syntax.specs.Tree.{list, text}
 use Rattle.wesl_form.specs.Schema.{node, list_of, an_attribute, an_expression, a_name}

@@ -1,4 +1,4 @@
-use Rattle.std.proofs.Common.{sym, ◌∙◌, ◌≡◌, true, false, codes, string_bytes, option_map, refl, ap, rules}
+use Rattle.std.proofs.Common.{◌≡◌, true, false, codes, string_bytes, option_map, refl, ap, rules}
 use Rattle.serde_json.specs.Find.{as_str}
 use Rattle.serde_json.specs.View.{view}
 use Rattle.wesl_syntax.specs.Tree.{text}

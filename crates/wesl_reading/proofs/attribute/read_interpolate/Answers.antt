@@ -1,4 +1,4 @@
-use Rattle.std.proofs.Common.{sym, ap, ◌∙◌, ◌≡◌, true, false, codes, refl, rules}
+use Rattle.std.proofs.Common.{◌≡◌, true, false, codes, refl, rules}
 use Rattle.serde_json.specs.View.{view}
 use Rattle.wesl_form.specs.Schema.{node, leaf, an_attribute, some_names}
 use Rattle.wesl_form.specs.Reading.{known_keys}

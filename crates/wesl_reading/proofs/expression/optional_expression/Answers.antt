@@ -1,4 +1,4 @@
-use Rattle.std.proofs.Common.{sym, ap, ◌∙◌, ◌≡◌, Some, rules}
+use Rattle.std.proofs.Common.{sym, ◌≡◌, Some}
 use Rattle.serde_json.specs.Find.{get}
 use Rattle.serde_json.specs.View.{view}
 use Rattle.wesl_form.specs.Schema.{node, an_expression}

@@ -1,4 +1,4 @@
-use Rattle.std.proofs.Common.{sym, ◌∙◌, ◌≡◌, Some, codes, ap, option_map, refl, rules}
+use Rattle.std.proofs.Common.{sym, ◌≡◌, Some, codes, ap, option_map, refl}
 use Rattle.serde_json.specs.Find.{get}
 use Rattle.serde_json.specs.View.{view}
 use Rattle.wesl_names.specs.Path.{path_view}

@@ -1,4 +1,4 @@
-use Rattle.std.proofs.Common.{ap, ◌∙◌, ◌≡◌, true, false, codes, refl, sym, rules}
+use Rattle.std.proofs.Common.{◌≡◌, true, false, codes, refl, sym}
 use Rattle.serde_json.specs.View.{view}
 use Rattle.wesl_syntax.specs.Tree.{list}
 use Rattle.wesl_form.specs.Schema.{node, list_of, a_call, a_type, an_expression}

@@ -1,4 +1,4 @@
-use Rattle.std.proofs.Common.{◌∙◌, ◌≡◌, Some, true, false, codes, string_bytes, option_map, option_and_then, refl, ap, sym, rules}
+use Rattle.std.proofs.Common.{◌≡◌, Some, true, false, codes, string_bytes, option_map, option_and_then, refl, ap, sym, rules}
 use Rattle.serde_json.specs.Find.{get}
 use Rattle.serde_json.specs.View.{view}
 use Rattle.wesl_syntax.specs.Tree.{text}

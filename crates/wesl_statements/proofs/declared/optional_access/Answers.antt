@@ -1,6 +1,6 @@
 use Rattle.serde_json.specs.Find.{get}
 use Rattle.serde_json.specs.View.{view}
-use Rattle.std.proofs.Common.{sym, ap, ◌∙◌, Some, codes, rules, ◌≡◌}
+use Rattle.std.proofs.Common.{sym, Some, codes, ◌≡◌}
 use Rattle.wesl_form.specs.Reading.{word_in}
 use Rattle.wesl_form.specs.Schema.{leaf, one_of}
 use Rattle.wesl_form.specs.Words.{access_words}

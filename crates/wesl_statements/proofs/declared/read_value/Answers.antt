@@ -1,5 +1,5 @@
 use Rattle.serde_json.specs.View.{view}
-use Rattle.std.proofs.Common.{sym, ap, ◌∙◌, codes, false, refl, rules, true, ◌≡◌}
+use Rattle.std.proofs.Common.{codes, false, refl, rules, true, ◌≡◌}
 use Rattle.wesl_form.specs.Reading.{known_keys}
 use Rattle.wesl_pointer.specs.Keys.{has_only}
 use Rattle.wesl_form.specs.Schema.{a_type, an_attribute, an_expression, an_ident, leaf, list_of, node}

@@ -1,5 +1,5 @@
 use Rattle.serde_json.specs.View.{view}
-use Rattle.std.proofs.Common.{sym, ap, ◌∙◌, false, refl, rules, true, ◌≡◌}
+use Rattle.std.proofs.Common.{false, refl, true, ◌≡◌}
 use Rattle.wesl_form.specs.Reading.{known_keys}
 use Rattle.wesl_pointer.specs.Keys.{has_only}
 use Rattle.wesl_reading.proofs.Places.{row-keys}

@@ -1,5 +1,5 @@
 use Rattle.serde_json.specs.View.{view}
-use Rattle.std.proofs.Common.{sym, ◌∙◌, ap, codes, option_map, rules}
+use Rattle.std.proofs.Common.{ap, codes, option_map}
 use Rattle.wesl_form.specs.Reading.{name_in}
 use Rattle.wesl_form.specs.Schema.{an_ident, leaf}
 use Rattle.wesl_reading.proofs.Steps.{ident-member}

@@ -1,5 +1,5 @@
 use Rattle.serde_json.specs.View.{view}
-use Rattle.std.proofs.Common.{sym, ◌∙◌, ap, option_map, refl, rules, string_bytes}
+use Rattle.std.proofs.Common.{ap, option_map, refl, rules, string_bytes}
 use Rattle.wesl_form.specs.Reading.{name_in}
 use Rattle.wesl_form.specs.Schema.{a_name, leaf}
 use Rattle.wesl_reading.proofs.Rows.{plain-text}

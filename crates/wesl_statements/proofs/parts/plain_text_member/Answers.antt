@@ -1,6 +1,6 @@
 use Rattle.serde_json.specs.Find.{as_str}
 use Rattle.serde_json.specs.View.{view}
-use Rattle.std.proofs.Common.{sym, ◌∙◌, ap, option_map, refl, rules, string_bytes}
+use Rattle.std.proofs.Common.{ap, option_map, refl, rules, string_bytes}
 use Rattle.wesl_form.specs.Schema.{a_text, leaf}
 use Rattle.wesl_reading.proofs.Rows.{plain-text}
 use Rattle.wesl_reading.proofs.Steps.{text-member}

@@ -1,6 +1,6 @@
 use Rattle.serde_json.specs.Find.{get}
 use Rattle.serde_json.specs.View.{view}
-use Rattle.std.proofs.Common.{sym, ap, ◌∙◌, Some, codes, rules, ◌≡◌}
+use Rattle.std.proofs.Common.{sym, Some, codes, ◌≡◌}
 use Rattle.wesl_form.specs.Schema.{a_break_if, node}
 use Rattle.wesl_reading.proofs.Places.{inside-under}
 use Rattle.wesl_reading.proofs.Steps.{may-there}

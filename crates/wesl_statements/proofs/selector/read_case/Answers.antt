@@ -1,5 +1,5 @@
 use Rattle.serde_json.specs.View.{view}
-use Rattle.std.proofs.Common.{sym, ap, ◌∙◌, false, rules, ◌≡◌}
+use Rattle.std.proofs.Common.{false, rules, ◌≡◌}
 use Rattle.wesl_form.specs.Schema.{a_case, node}
 use Rattle.wesl_reading.specs.Faults.{Locates}
 use Rattle.wesl_statements.proofs.Cases.{case-form, case-place}

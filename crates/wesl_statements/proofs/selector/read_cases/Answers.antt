@@ -1,7 +1,7 @@
 use Rattle.serde_json.specs.Data.{depth, items_depth}
 use Rattle.serde_json.specs.Find.{as_array}
 use Rattle.serde_json.specs.View.{items_view, view}
-use Rattle.std.proofs.Common.{sym, ap, ◌∙◌, Some, arith, rules, ◌<◌, ◌≡◌, ◌≤◌}
+use Rattle.std.proofs.Common.{sym, ap, ◌∙◌, Some, arith, ◌<◌, ◌≡◌, ◌≤◌}
 use Rattle.wesl_form.specs.Schema.{a_case}
 use Rattle.wesl_reading.proofs.Depths.{array-depth, item-at, item-depth}
 use Rattle.wesl_reading.proofs.Lists.{items-turn, items-whole}

@@ -1,5 +1,5 @@
 use Rattle.serde_json.specs.View.{view}
-use Rattle.std.proofs.Common.{ap, ◌∙◌, codes, false, refl, rules, sym, true, ◌≡◌}
+use Rattle.std.proofs.Common.{codes, false, refl, sym, true, ◌≡◌}
 use Rattle.wesl_form.specs.Reading.{known_keys}
 use Rattle.wesl_pointer.specs.Keys.{has_only}
 use Rattle.wesl_form.specs.Schema.{an_attribute, list_of}

@@ -1,6 +1,6 @@
 use Rattle.serde_json.specs.Find.{as_str, get}
 use Rattle.serde_json.specs.View.{view}
-use Rattle.std.proofs.Common.{sym, ap, ◌∙◌, None, Some, codes, option_and_then, refl, rules, ◌≡◌}
+use Rattle.std.proofs.Common.{None, Some, codes, option_and_then, refl, rules, ◌≡◌}
 use Rattle.wesl_form.specs.Schema.{a_statement, node}
 use Rattle.wesl_reading.specs.Faults.{Locates}
 use Rattle.wesl_statements.proofs.Worded.{no-word, wrong-word}
