@@ -5,6 +5,7 @@ pub mod Spellings
 pub mod Lists
 pub mod Members
 pub mod Steps
+pub mod Exits
 pub mod Expressions
 pub mod Arguments
 pub mod Trees

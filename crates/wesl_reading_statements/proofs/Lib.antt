@@ -1,5 +1,6 @@
 pub mod Named
 pub mod Worded
+pub mod Exits
 pub mod Members
 pub mod Cases
 pub mod Views

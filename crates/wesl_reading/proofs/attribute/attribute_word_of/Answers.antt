@@ -6,13 +6,14 @@ use Rattle.wesl_form.specs.Nodes.{nodes_of}
 use Rattle.wesl_reading.specs.Faults.{Locates}
 use Rattle.wesl_reading.proofs.Attributes.{no-attribute, no-word}
 use Rattle.wesl_reading.proofs.Places.{unknown-word}
+use Rattle.wesl_reading.proofs.Exits.{exit}
 use Rattle.wesl_reading.proofs.attribute.attribute_word_of.Goals as goal
 
 pub returns-in_err-word-clause-place : goal.returns-in_err-word-clause-place
 returns-in_err-word-clause-place c =
     let lacks : get (codes "k") (view c.args.value.now) ≡ None = search rules in
-    let located : Locates (node an_attribute) (view c.args.value.now) c.in_err-word.field-0.0 = no-word (view c.args.value.now) c.in_err-word.field-0.0 c.requires lacks c.in_err-word.ensures.place in
-    search rules
+    exit (Locates (node an_attribute) (view c.args.value.now)) c.from_residual.result c.in_err-word.field-0.0 c.from_residual.ensures.1
+    (no-word (view c.args.value.now) c.in_err-word.field-0.0 c.requires lacks c.in_err-word.ensures.place)
 
 pub returns-in-None-clause-place : goal.returns-in-None-clause-place
 returns-in-None-clause-place c =

@@ -11,27 +11,28 @@ use Rattle.wesl_reading.specs.declared.words.AttributeWord.TheVariants as attrib
 use Rattle.wesl_reading.proofs.Attributes.{attribute-keys, attribute-reads, attribute-text}
 use Rattle.wesl_reading.proofs.Rows.{plain-text}
 use Rattle.wesl_reading.proofs.Steps.{needs-then, none-then, same-reads, text-member}
+use Rattle.wesl_reading.proofs.Exits.{exit}
 use Rattle.wesl_reading.proofs.attribute.read_diagnostic.Goals as goal
 
 pub returns-in_err-check_keys-clause-place : goal.returns-in_err-check_keys-clause-place
 returns-in_err-check_keys-clause-place c =
-    let wrong : has_only (known_keys (attribute_of attribs.Diagnostic).row (view c.args.value.now)) (view c.args.value.now) ≡ false = search rules in
-    let located : Locates (node an_attribute) (view c.args.value.now) c.in_err-check_keys.field-0.0 = attribute-keys attribs.Diagnostic (view c.args.value.now) c.requires c.in_err-check_keys.field-0.0 wrong c.in_err-check_keys.ensures.place in
-    search rules
+    let wrong : has_only (known_keys (attribute_of attribs.Diagnostic).row (view c.args.value.now)) (view c.args.value.now) ≡ false = c.in_err-check_keys.ensures.err in
+    exit (Locates (node an_attribute) (view c.args.value.now)) c.from_residual.result c.in_err-check_keys.field-0.0 c.from_residual.ensures.1
+    (attribute-keys attribs.Diagnostic (view c.args.value.now) c.requires c.in_err-check_keys.field-0.0 wrong c.in_err-check_keys.ensures.place)
 
 pub returns-in_err-text_member-clause-place : goal.returns-in_err-text_member-clause-place
 returns-in_err-text_member-clause-place c =
-    let located : Locates (node an_attribute) (view c.args.value.now) c.in_err-text_member.field-0.0 = attribute-text attribs.Diagnostic (view c.args.value.now) c.requires as_str (codes "severity") a_text c.in_err-text_member.field-0.0 refl (λ v h. ap (option_map text) h) c.in_err-text_member.ensures.place in
-    search rules
+    exit (Locates (node an_attribute) (view c.args.value.now)) c.from_residual-in_err-text_member.result c.in_err-text_member.field-0.0 c.from_residual-in_err-text_member.ensures.1
+    (attribute-text attribs.Diagnostic (view c.args.value.now) c.requires as_str (codes "severity") a_text c.in_err-text_member.field-0.0 refl (λ v h. ap (option_map text) h) c.in_err-text_member.ensures.place)
 
 pub returns-in_err-text_member-2-clause-place : goal.returns-in_err-text_member-2-clause-place
 returns-in_err-text_member-2-clause-place c =
-    let located : Locates (node an_attribute) (view c.args.value.now) c.in_err-text_member-2.field-0.0 = attribute-text attribs.Diagnostic (view c.args.value.now) c.requires as_str (codes "rule") a_text c.in_err-text_member-2.field-0.0 refl (λ v h. ap (option_map text) h) c.in_err-text_member-2.ensures.place in
-    search rules
+    exit (Locates (node an_attribute) (view c.args.value.now)) c.from_residual-in_err-text_member-2.result c.in_err-text_member-2.field-0.0 c.from_residual-in_err-text_member-2.ensures.1
+    (attribute-text attribs.Diagnostic (view c.args.value.now) c.requires as_str (codes "rule") a_text c.in_err-text_member-2.field-0.0 refl (λ v h. ap (option_map text) h) c.in_err-text_member-2.ensures.place)
 
 pub returns-clause-ok : goal.returns-clause-ok
 returns-clause-ok c = λ names.
-    let known : has_only (known_keys (attribute_of attribs.Diagnostic).row (view c.args.value.now)) (view c.args.value.now) ≡ true = search rules in
+    let known : has_only (known_keys (attribute_of attribs.Diagnostic).row (view c.args.value.now)) (view c.args.value.now) ≡ true = c.in_ok-check_keys.ensures.ok in
     let severity = text-member as_str a_text text (codes "severity") (view c.args.value.now) (string_bytes c.in_ok-severity.severity) (text (string_bytes c.in_ok-severity.severity)) names (λ v. refl) (plain-text (string_bytes c.in_ok-severity.severity)) (search rules) in
     let rule = text-member as_str a_text text (codes "rule") (view c.args.value.now) (string_bytes c.in_ok-rule.rule) (text (string_bytes c.in_ok-rule.rule)) names (λ v. refl) (plain-text (string_bytes c.in_ok-rule.rule)) (search rules) in
     let read = attribute-reads attribs.Diagnostic (view c.args.value.now) c.requires _ names names known (needs-then severity (needs-then rule (none-then (view c.args.value.now) names))) in

@@ -6,6 +6,7 @@ use Rattle.wesl_reading.specs.Faults.{Locates}
 use Rattle.wesl_reading_statements.proofs.Worded.{no-word, wrong-word}
 use Rattle.wesl_form.specs.Schema.{look}
 use Rattle.wesl_form.specs.Nodes.{statement_words}
+use Rattle.wesl_reading_statements.proofs.Exits.{exit}
 use Rattle.wesl_reading_statements.proofs.statement.statement_word_of.Goals as goal
 
 pub returns-in_err-word-clause-place : goal.returns-in_err-word-clause-place
@@ -13,8 +14,8 @@ returns-in_err-word-clause-place c =
     let d = view c.args.value.now in
     let e = c.in_err-word.field-0.0 in
     let lacks : get (codes "k") d ≡ None = search rules in
-    let located : Locates (node a_statement) d e = no-word a_statement statement_words d refl refl e lacks c.in_err-word.ensures.place in
-    search rules
+    exit (Locates (node a_statement) d) c.from_residual.result e c.from_residual.ensures.1
+    (no-word a_statement statement_words d refl refl e lacks c.in_err-word.ensures.place)
 
 pub returns-in-None-clause-place : goal.returns-in-None-clause-place
 returns-in-None-clause-place c =
