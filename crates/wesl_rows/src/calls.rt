@@ -66,6 +66,7 @@ fn of_mappers(row: Row<'_>, call: &str) -> Answer {
         "SourceMapper::new, then finish and get_default_source" => {
             mappers::resolved(row, "new", "get_default_source")
         }
+        "SourceMapper::finish, or what stands" => mappers::finished_or_left(row),
         _ => of_maps(row, call),
     }
 }
@@ -75,6 +76,8 @@ fn of_maps(row: Row<'_>, call: &str) -> Answer {
     match call {
         "BasicSourceMap::decls" => maps::names(row),
         "BasicSourceMap::try_clone" => maps::copied(row),
+        "BasicSourceMap::add_decl, or what stands" => maps::added_or_left(row),
+        "BasicSourceMap::add_source, or what stands" => maps::added_or_left(row),
         _ => match call.split_once("::") {
             Some((map, look)) => maps::looked_up(row, map, look),
             None => text_value(row.alloc, Some("no such row")),

@@ -1,13 +1,17 @@
 //! Mappers: the names that they give as manglers, the modules that they pass on as resolvers, and the record of both.
+ghost use Rattle.std.specs.Prelude.{◌≡◌, false};
+ghost use Rattle.wesl_names.specs.Path.{path_view, is_relative};
+
 use crate::maps;
 use serde_json::Value;
 use std::alloc::Global;
 use wesl::condcomp::run;
 use wesl::{
-    Error, EscapeMangler, Feature, Features, Mangler, ModulePath, Names, NoMangler, NoResolver,
-    Preprocessor, ResolveError, Resolver, SourceMap, SourceMapper, TranslationUnit, value_of_unit,
+    Error, EscapeMangler, Feature, Features, JsonText, Mangler, ModulePath, Names, NoMangler,
+    NoResolver, Preprocessor, ResolveError, Resolver, SourceMap, SourceMapper, TranslationUnit,
+    VirtualResolver, value_of_unit,
 };
-use wesl_row::{Answer, Row, fault, item_value, text_value};
+use wesl_row::{Answer, Row, fault, item_value, refused, text_value};
 
 /// The name that a mangler gives to the item of a row.
 fn named<M: Mangler>(row: Row<'_>, mangler: &mut M) -> Answer {
@@ -165,4 +169,35 @@ pub fn resolved(row: Row<'_>, question: &str, look: &str) -> Answer {
     let modules = row.modules("modules")?;
     let left = Preprocessor::new(modules, |unit: TranslationUnit| without_x(alloc, unit));
     passed_on(row, question, look, root, left)
+}
+
+type Recorder = SourceMapper<VirtualResolver<JsonText>, EscapeMangler>;
+
+/// Asks a mapper for the source of an entry's module, and for the name of an item of it.
+fn entry_asked(entry: Row<'_>, mapper: &mut Recorder) -> Result<(), anyhow::Error> {
+    let path = entry.rooted("path")?;
+    if mapper.resolve_source(entry.alloc, &path).is_err() {
+        return Err(anyhow::anyhow!("want of memory"));
+    }
+    let _ = mapper.mangle(entry.alloc, &path, "item")?;
+    Ok(())
+}
+
+/// A mapper that was asked for the sources of the `modules`, and for the name of an item of each.
+fn mapper(row: Row<'_>) -> Result<Recorder, anyhow::Error> {
+    let root = row.rooted("root")?;
+    let modules = row.modules("modules")?;
+    let mut mapper = SourceMapper::new(row.alloc, root, modules, EscapeMangler);
+    for entry in row.list("modules") {
+        entry_asked(row.of(entry), &mut mapper)?;
+    }
+    Ok(mapper)
+}
+
+/// What the map of a mapper knows when the mapper is done, or, where that is refused, what it knows then.
+pub fn finished_or_left(row: Row<'_>) -> Answer {
+    match mapper(row)?.finish(row.alloc) {
+        Ok(map) => maps::known(row, &map),
+        Err(map) => refused(row.alloc, maps::known(row, &map)),
+    }
 }

@@ -1,8 +1,8 @@
-//! Source maps: what is recorded, and what is looked up.
+//! Source maps: what is recorded, what is looked up, and what a map knows after a record that was refused.
 use serde_json::Value;
 use std::alloc::Global;
-use wesl::{BasicSourceMap, ModulePath, NoSourceMap, SourceMap};
-use wesl_row::{Answer, List, Object, Row, item_value, text_value};
+use wesl::{BasicSourceMap, Error, ModulePath, NoSourceMap, SourceMap};
+use wesl_row::{Answer, List, Object, Row, item_value, refused, text_value};
 
 /// The name by which a module is shown, if it has one.
 fn shown(entry: Row<'_>) -> Result<Option<String>, anyhow::Error> {
@@ -13,26 +13,29 @@ fn shown(entry: Row<'_>) -> Result<Option<String>, anyhow::Error> {
 }
 
 /// Records a module's source, with the name by which it is shown.
-fn source_added(entry: Row<'_>, map: &mut BasicSourceMap) -> Result<(), anyhow::Error> {
-    let shown = shown(entry)?;
+fn source_added(
+    entry: Row<'_>,
+    map: &mut BasicSourceMap,
+) -> Result<Result<(), Error>, anyhow::Error> {
     let path = entry.path("path")?;
-    Ok(map.add_source(path, shown, entry.owned("source")?)?)
+    let shown = shown(entry)?;
+    Ok(map.add_source(path, shown, entry.owned("source")?))
 }
 
 /// Records an entry: a module's source where it has one, else the item of a name.
-fn added(entry: Row<'_>, map: &mut BasicSourceMap) -> Result<(), anyhow::Error> {
+fn added(entry: Row<'_>, map: &mut BasicSourceMap) -> Result<Result<(), Error>, anyhow::Error> {
     if entry.has("source") {
         return source_added(entry, map);
     }
-    let name = entry.owned("name")?;
     let path = entry.path("path")?;
-    Ok(map.add_decl(name, path, entry.owned("item")?)?)
+    let name = entry.owned("name")?;
+    Ok(map.add_decl(name, path, entry.owned("item")?))
 }
 
 /// Records the entries that are listed at a key.
 fn entries_added(row: Row<'_>, key: &str, map: &mut BasicSourceMap) -> Result<(), anyhow::Error> {
     for entry in row.list(key) {
-        added(row.of(entry), map)?;
+        added(row.of(entry), map)??;
     }
     Ok(())
 }
@@ -132,4 +135,25 @@ pub fn copied(row: Row<'_>) -> Answer {
 /// Every name of the map of a row.
 pub fn names(row: Row<'_>) -> Answer {
     listed(row.alloc, &recorded(row)?)
+}
+
+/// What a map knows: every name, what it says of the module `asked`, and its default source.
+pub fn known(row: Row<'_>, map: &BasicSourceMap) -> Answer {
+    let asked = row.path("asked")?;
+    let mut answer = Object::new(row.alloc);
+    answer.put("names", listed(row.alloc, map));
+    answer.text("source", map.get_source(&asked));
+    answer.text("shown", map.get_display_name(&asked));
+    answer.text("default", map.get_default_source());
+    answer.end()
+}
+
+/// What the map of a row knows when it records the entry `then` too, or, where that is refused, what it knows then.
+pub fn added_or_left(row: Row<'_>) -> Answer {
+    let then = row.part("then")?;
+    let mut map = recorded(row)?;
+    match added(then, &mut map)? {
+        Ok(()) => known(row, &map),
+        Err(_) => refused(row.alloc, known(row, &map)),
+    }
 }
