@@ -23,10 +23,16 @@ fn put(names: &mut IndexSet<String>, name: String) -> Result<usize, Error>
 }
 
 /// Numbers for names: equal texts have one number, and numbers run 0, 1, 2, .. by first occurrence.
-#[derive(Drop)]
 pub struct Interner {
     names: IndexSet<String>,
     pub ghost different: { AreDifferent (map string_bytes names.keys) },
+}
+
+// By hand, so that it is proved once: a derived one is proved in each crate that lets go of a value.
+impl Drop for Interner {
+    fn drop(self) {
+        let Interner { names: _ } = self;
+    }
 }
 
 impl Interner {

@@ -1,5 +1,5 @@
 //! The calls by their names: what is not among the calls of one list is looked up in the next.
-use crate::{chains, links, manglers, maps, names, packages, resolvers, tables};
+use crate::{chains, links, manglers, names, packages, resolvers, tables};
 use wesl_mangle::{EscapeMangler, UnicodeMangler};
 use wesl_row::{Answer, Row, text_value};
 
@@ -58,16 +58,13 @@ fn of_manglers(row: Row<'_>, call: &str) -> Answer {
         "NoMangler::mangle_types" => manglers::numbered_variant(row),
         "CacheMangler::unmangle" => manglers::remembered(row),
         "CacheMangler::mangle, or what stands" => manglers::remembered_or_left(row),
-        _ => of_maps(row, call),
+        _ => of_names(row, call),
     }
 }
 
-/// Calls of maps and of tables of names.
-fn of_maps(row: Row<'_>, call: &str) -> Answer {
+/// Calls of tables of names.
+fn of_names(row: Row<'_>, call: &str) -> Answer {
     match call {
-        "BasicSourceMap::add_decl, or what stands" => maps::recorded_or_left(row),
-        "BasicSourceMap::add_source, or what stands" => maps::recorded_or_left(row),
-        "SourceMapper::finish, or what stands" => maps::finished_or_left(row),
         "Interner::intern, or what stands" => names::interned_or_left(row),
         "Names::add, or what stands" => names::added_or_left(row),
         _ => text_value(row.alloc, Some("no such row")),

@@ -1,13 +1,12 @@
-//! Rows of calls around links as data: links of units and of symbol tables, resolvers, manglers, maps, and what stands
-//! where memory was wanting. Each line of standard input is a JSON object that names a row and a public call, and holds the
-//! call's inputs; the line that is written for it holds what the call answers. The last line is their count.
+//! Rows of calls around links as data: links of units and of symbol tables, resolvers, manglers, tables of names, and what
+//! stands where memory was wanting. Each line of standard input is a JSON object that names a row and a public call, and
+//! holds the call's inputs; the line that is written for it holds what the call answers. The last line is their count.
 #![tactic(auto)]
 
 mod calls;
 mod chains;
 mod links;
 mod manglers;
-mod maps;
 mod names;
 mod packages;
 mod resolvers;

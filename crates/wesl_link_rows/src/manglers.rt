@@ -60,16 +60,29 @@ pub fn remembered(row: Row<'_>) -> Answer {
     read(row, &mangler)
 }
 
+/// Names the item of a row at the path that a text says, if it says one.
+fn name_at<M: Mangler>(row: Row<'_>, text: &str, mangler: &mut M) -> Result<(), anyhow::Error> {
+    if let Some(path) = ModulePath::parse(row.alloc, text)? {
+        let _ = mangler.mangle(row.alloc, &path, row.text("item"))?;
+    }
+    Ok(())
+}
+
+/// A mangler with a record that named the item of a row at the paths `given`.
+fn remembering(row: Row<'_>) -> Result<CacheMangler<NoMangler>, anyhow::Error> {
+    let given = row.texts("given")?;
+    let mut mangler = CacheMangler::new(row.alloc, NoMangler);
+    for text in &given {
+        name_at(row, text, &mut mangler)?;
+    }
+    Ok(mangler)
+}
+
 /// What a mangler with a record reads the `item` as, when it named the item of the paths `given`, and `then` of one more.
 pub fn remembered_or_left(row: Row<'_>) -> Answer {
     let item = row.text("item");
-    let mut mangler = CacheMangler::new(row.alloc, NoMangler);
-    for text in &row.texts("given")? {
-        if let Some(path) = ModulePath::parse(row.alloc, text)? {
-            let _ = mangler.mangle(row.alloc, &path, item)?;
-        }
-    }
     let last = row.path("then")?;
+    let mut mangler = remembering(row)?;
     match mangler.mangle(row.alloc, &last, item) {
         Ok(_) => read_as(row.alloc, &mangler, item),
         Err(_) => refused(row.alloc, read_as(row.alloc, &mangler, item)),

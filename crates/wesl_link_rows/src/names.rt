@@ -16,8 +16,9 @@ fn listed(row: Row<'_>, interner: &Interner) -> Answer {
 /// The names of an interner that was given the texts `given`, and `then` one more, or, where that is refused, those that
 /// it has then.
 pub fn interned_or_left(row: Row<'_>) -> Answer {
+    let given = row.texts("given")?;
     let mut interner = Interner::new(row.alloc);
-    for name in &row.texts("given")? {
+    for name in &given {
         interner.intern(name)?;
     }
     match interner.intern(row.text("then")) {
@@ -29,8 +30,9 @@ pub fn interned_or_left(row: Row<'_>) -> Answer {
 /// The names of a table to which the texts `given` were added, and `then` one more, or, where that is refused, those that
 /// it has then.
 pub fn added_or_left(row: Row<'_>) -> Answer {
+    let given = row.texts("given")?;
     let mut names = Names::new(row.alloc);
-    for text in &row.texts("given")? {
+    for text in &given {
         names.add(text)?;
     }
     match names.add(row.text("then")) {

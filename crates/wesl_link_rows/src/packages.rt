@@ -23,22 +23,39 @@ fn package_of(alloc: Global, name: &str) -> Result<CodegenPkg, anyhow::Error> {
     })
 }
 
+/// The modules of the names that a row lists.
+fn submodules(row: Row<'_>) -> Result<Vec<CodegenModule>, anyhow::Error> {
+    let names = row.texts("submodules")?;
+    let mut modules = Vec::new(row.alloc);
+    for name in &names {
+        modules.push(module_of(row.alloc, name)?)?;
+    }
+    Ok(modules)
+}
+
+/// The packages of the names that a row lists at a key.
+fn packages_at(row: Row<'_>, key: &str) -> Result<Vec<CodegenPkg>, anyhow::Error> {
+    let names = row.texts(key)?;
+    let mut packages = Vec::new(row.alloc);
+    for name in &names {
+        packages.push(package_of(row.alloc, name)?)?;
+    }
+    Ok(packages)
+}
+
 /// The package that a row names, with its `submodules` and its `dependencies`.
 fn package(row: Row<'_>) -> Result<CodegenPkg, anyhow::Error> {
     let mut package = package_of(row.alloc, row.text("package"))?;
-    for name in &row.texts("submodules")? {
-        package.root.submodules.push(module_of(row.alloc, name)?)?;
-    }
-    for name in &row.texts("dependencies")? {
-        package.dependencies.push(package_of(row.alloc, name)?)?;
-    }
+    package.root.submodules = submodules(row)?;
+    package.dependencies = packages_at(row, "dependencies")?;
     Ok(package)
 }
 
 /// A resolver of the package of a row.
 fn packages(row: Row<'_>) -> Result<PkgResolver<JsonText>, anyhow::Error> {
+    let package = package(row)?;
     let mut packages = PkgResolver::new(row.alloc, JsonText);
-    packages.add_package(package(row)?)?;
+    packages.add_package(package)?;
     Ok(packages)
 }
 
@@ -46,8 +63,9 @@ fn packages(row: Row<'_>) -> Result<PkgResolver<JsonText>, anyhow::Error> {
 fn standard(
     row: Row<'_>,
 ) -> Result<StandardResolver<VirtualResolver<JsonText>, JsonText>, anyhow::Error> {
+    let package = package(row)?;
     let mut standard = StandardResolver::new(row.alloc, row.modules("modules")?, JsonText);
-    standard.add_package(package(row)?)?;
+    standard.add_package(package)?;
     Ok(standard)
 }
 
@@ -71,14 +89,22 @@ pub fn standard_name(row: Row<'_>) -> Answer {
     resolvers::name(row, &mut standard(row)?)
 }
 
+/// A resolver of the packages `given`.
+fn holding(row: Row<'_>) -> Result<PkgResolver<JsonText>, anyhow::Error> {
+    let given = packages_at(row, "given")?;
+    let mut packages = PkgResolver::new(row.alloc, JsonText);
+    for package in given {
+        packages.add_package(package)?;
+    }
+    Ok(packages)
+}
+
 /// What a resolver of the packages `given` gives, to which the one `then` is added, or, where that is refused, what it
 /// gives then.
 pub fn added_or_left(row: Row<'_>) -> Answer {
-    let mut packages = PkgResolver::new(row.alloc, JsonText);
-    for name in &row.texts("given")? {
-        packages.add_package(package_of(row.alloc, name)?)?;
-    }
-    let outcome = packages.add_package(package_of(row.alloc, row.text("then"))?);
+    let then = package_of(row.alloc, row.text("then"))?;
+    let mut packages = holding(row)?;
+    let outcome = packages.add_package(then);
     let sources = resolvers::sources(row, &mut packages);
     match outcome {
         Ok(()) => sources,

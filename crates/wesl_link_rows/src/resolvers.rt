@@ -80,8 +80,9 @@ fn given<R: Resolver>(alloc: Global, resolver: &mut R, text: &str) -> Answer
 pub fn sources<R: Resolver>(row: Row<'_>, resolver: &mut R) -> Answer
     requires { R.ready resolver.old }
 {
+    let asked = row.texts("asked")?;
     let mut sources = List::new(row.alloc);
-    for text in &row.texts("asked")? {
+    for text in &asked {
         sources.put(given(row.alloc, resolver, text));
     }
     sources.end()
@@ -89,20 +90,27 @@ pub fn sources<R: Resolver>(row: Row<'_>, resolver: &mut R) -> Answer
 
 /// The paths and the sources of a resolver's modules.
 fn listed(alloc: Global, modules: &VirtualResolver<JsonText>) -> Answer {
+    let held = modules.modules(alloc)?;
     let mut pairs = List::new(alloc);
-    for (path, source) in &modules.modules(alloc)? {
+    for (path, source) in &held {
         pairs.put(item_value(alloc, Some((path, source))));
     }
     pairs.end()
 }
 
-/// A resolver of `modules`, to which the `unit` of the row was added, if it has one (at `unit_at`).
-fn holding(row: Row<'_>) -> Result<VirtualResolver<JsonText>, anyhow::Error> {
-    let mut modules = row.modules("modules")?;
+/// Adds the `unit` of the row to a resolver, if it has one (at `unit_at`).
+fn unit_added(row: Row<'_>, modules: &mut VirtualResolver<JsonText>) -> Result<(), anyhow::Error> {
     if row.has("unit") {
         let path = row.rooted("unit_at")?;
         modules.add_translation_unit(row.alloc, path, row.unit("unit")?)?;
     }
+    Ok(())
+}
+
+/// A resolver of `modules`, to which the `unit` of the row was added.
+fn holding(row: Row<'_>) -> Result<VirtualResolver<JsonText>, anyhow::Error> {
+    let mut modules = row.modules("modules")?;
+    unit_added(row, &mut modules)?;
     Ok(modules)
 }
 
@@ -113,8 +121,8 @@ pub fn all(row: Row<'_>) -> Answer {
 
 /// The stored text of the module at the path of a row.
 pub fn stored(row: Row<'_>) -> Answer {
-    let modules = holding(row)?;
     let path = row.rooted("path")?;
+    let modules = holding(row)?;
     match modules.get_module(row.alloc, &path) {
         Ok(source) => text_value(row.alloc, Some(source)),
         Err(error) => refusal(row.alloc, &error),
@@ -137,28 +145,40 @@ pub fn added_or_left(row: Row<'_>) -> Answer {
     }
 }
 
+/// Mounts the modules at a key of a row at the path of another key.
+fn mounted(
+    row: Row<'_>,
+    at: &str,
+    key: &str,
+    router: &mut Router<VirtualResolver<JsonText>>,
+) -> Result<(), anyhow::Error> {
+    let path = row.rooted(at)?;
+    Ok(router.mount_resolver(path, row.modules(key)?)?)
+}
+
 /// A router with the modules `first` mounted at `first_at`.
 fn router(row: Row<'_>) -> Result<Router<VirtualResolver<JsonText>>, anyhow::Error> {
     let mut router: Router<VirtualResolver<JsonText>> = Router::new(row.alloc);
-    router.mount_resolver(row.rooted("first_at")?, row.modules("first")?)?;
+    mounted(row, "first_at", "first", &mut router)?;
     Ok(router)
 }
 
 /// The source that a router gives with two mounts and a fallback, or after a third mount, if the row has one.
 pub fn routed(row: Row<'_>) -> Answer {
     let mut router = router(row)?;
-    router.mount_resolver(row.rooted("second_at")?, row.modules("second")?)?;
+    mounted(row, "second_at", "second", &mut router)?;
     router.mount_fallback_resolver(row.modules("fallback")?);
     if row.has("third") {
-        router.mount_resolver(row.rooted("third_at")?, row.modules("third")?)?;
+        mounted(row, "third_at", "third", &mut router)?;
     }
     source(row, &mut router)
 }
 
 /// A router that has one mount, of a resolver without modules, and no fallback.
 fn unrouting(row: Row<'_>) -> Result<Router<NoResolver>, anyhow::Error> {
+    let path = row.rooted("no_resolver_at")?;
     let mut router: Router<NoResolver> = Router::new(row.alloc);
-    router.mount_resolver(row.rooted("no_resolver_at")?, NoResolver)?;
+    router.mount_resolver(path, NoResolver)?;
     Ok(router)
 }
 
@@ -175,9 +195,10 @@ pub fn unrouted_name(row: Row<'_>) -> Answer {
 /// What a router gives with the modules `first` mounted at `first_at`, to which those of `then` are mounted at `then_at`,
 /// or, where that is refused, what it gives then.
 pub fn mounted_or_left(row: Row<'_>) -> Answer {
-    let mut router = router(row)?;
+    let path = row.rooted("then_at")?;
     let then = row.modules("then")?;
-    let outcome = router.mount_resolver(row.rooted("then_at")?, then);
+    let mut router = router(row)?;
+    let outcome = router.mount_resolver(path, then);
     let sources = sources(row, &mut router);
     match outcome {
         Ok(()) => sources,

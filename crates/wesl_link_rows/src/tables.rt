@@ -228,12 +228,12 @@ pub fn eager(row: Row<'_>) -> Answer {
 
 /// What a lazy link answers over the tables of a row, with the kept names.
 pub fn lazy(row: Row<'_>) -> Answer {
+    let keep = kept(row)?;
     let root = table(row.alloc, PathId(0), row)?;
     let mut shelf = Shelf {
         row,
         asked: Vec::new(row.alloc),
     };
-    let keep = kept(row)?;
     let found = resolve_lazy(row.alloc, root, keep, &mut shelf, row.number("limit", 0));
     told(row.alloc, &found, &shelf.asked)
 }

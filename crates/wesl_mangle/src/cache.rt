@@ -12,10 +12,19 @@ use wesl_names::{Error, ModulePath, Names};
 use wesl_syntax::TypeExpression;
 
 /// Gives the names of another mangler, and remembers the item that each name was last given for.
-#[derive(Drop)]
 pub struct CacheMangler<M> {
     mangler: M,
     items: BTreeMap<String, (ModulePath, String)>,
+}
+
+// By hand, so that it is proved once: a derived one is proved in each crate that lets go of a value.
+impl<M: Drop> Drop for CacheMangler<M> {
+    fn drop(self) {
+        let CacheMangler {
+            mangler: _,
+            items: _,
+        } = self;
+    }
 }
 
 impl<M> CacheMangler<M> {

@@ -14,7 +14,7 @@ use std::alloc::{AllocError, Global};
 use wesl_names::{ModulePath, PathOrigin, ResolveError};
 
 /// A module of a package, with the modules below it.
-#[derive(Debug, Drop, PartialEq, Eq)]
+#[derive(Debug, PartialEq, Eq)]
 pub struct CodegenModule {
     /// The name by which paths lead to it.
     pub name: String,
@@ -24,8 +24,19 @@ pub struct CodegenModule {
     pub submodules: Vec<CodegenModule>,
 }
 
+// By hand, so that it is proved once: a derived one is proved in each crate that lets go of a value.
+impl Drop for CodegenModule {
+    fn drop(self) {
+        let CodegenModule {
+            name: _,
+            source: _,
+            submodules: _,
+        } = self;
+    }
+}
+
 /// A package: its root module, and the packages that it depends on.
-#[derive(Debug, Drop, PartialEq, Eq)]
+#[derive(Debug, PartialEq, Eq)]
 pub struct CodegenPkg {
     /// The name of the crate that ships the package. No path leads by it.
     pub crate_name: String,
@@ -33,6 +44,16 @@ pub struct CodegenPkg {
     pub root: CodegenModule,
     /// The packages that it depends on. Of those with one name the first counts.
     pub dependencies: Vec<CodegenPkg>,
+}
+
+impl Drop for CodegenPkg {
+    fn drop(self) {
+        let CodegenPkg {
+            crate_name: _,
+            root: _,
+            dependencies: _,
+        } = self;
+    }
 }
 
 /// The first submodule of a name.

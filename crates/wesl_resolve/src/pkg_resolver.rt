@@ -20,10 +20,19 @@ use wesl_tree::TranslationUnit;
 /// then by its components, each a submodule of the one before. Of several with one name the first counts. A source
 /// that cannot be read is refused with the error of its reading, the path and the source. No module has a display
 /// name.
-#[derive(Drop)]
 pub struct PkgResolver<P> {
     text: P,
     packages: Vec<CodegenPkg>,
+}
+
+// By hand, so that it is proved once: a derived one is proved in each crate that lets go of a value.
+impl<P: Drop> Drop for PkgResolver<P> {
+    fn drop(self) {
+        let PkgResolver {
+            text: _,
+            packages: _,
+        } = self;
+    }
 }
 
 impl<P> PkgResolver<P> {

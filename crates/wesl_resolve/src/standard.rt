@@ -17,10 +17,19 @@ use wesl_names::{Error, ModulePath, PathOrigin, ResolveError};
 use wesl_tree::TranslationUnit;
 
 /// Looks up a path that begins in a named package among packages, and every other in a resolver of the caller's.
-#[derive(Drop)]
 pub struct StandardResolver<R, P> {
     local: R,
     packages: PkgResolver<P>,
+}
+
+// By hand, so that it is proved once: a derived one is proved in each crate that lets go of a value.
+impl<R: Drop, P: Drop> Drop for StandardResolver<R, P> {
+    fn drop(self) {
+        let StandardResolver {
+            local: _,
+            packages: _,
+        } = self;
+    }
 }
 
 impl<R, P> StandardResolver<R, P> {

@@ -11,11 +11,21 @@ use wesl_tree::{Ident, ModulePath, Names};
 pub type Answer = Result<Value, anyhow::Error>;
 
 /// A list that is put together item by item.
-#[derive(Drop)]
 pub struct List {
     alloc: Global,
     items: Vec<Value>,
     is_refused: bool,
+}
+
+// By hand, so that it is proved once: a derived one is proved in each crate that lets go of a value.
+impl Drop for List {
+    fn drop(self) {
+        let List {
+            alloc: _,
+            items: _,
+            is_refused: _,
+        } = self;
+    }
 }
 
 impl List {
@@ -48,19 +58,33 @@ impl List {
 
     /// The list as a value. Refused where memory was wanting.
     pub fn end(self) -> Answer {
-        if self.is_refused {
+        let List {
+            alloc: _,
+            items,
+            is_refused,
+        } = self;
+        if is_refused {
             return Err(AllocError.into());
         }
-        Ok(Value::Array(self.items))
+        Ok(Value::Array(items))
     }
 }
 
 /// An object that is put together member by member.
-#[derive(Drop)]
 pub struct Object {
     alloc: Global,
     members: Map<String, Value>,
     is_refused: bool,
+}
+
+impl Drop for Object {
+    fn drop(self) {
+        let Object {
+            alloc: _,
+            members: _,
+            is_refused: _,
+        } = self;
+    }
 }
 
 impl Object {
@@ -100,10 +124,15 @@ impl Object {
 
     /// The object as a value. Refused where memory was wanting.
     pub fn end(self) -> Answer {
-        if self.is_refused {
+        let Object {
+            alloc: _,
+            members,
+            is_refused,
+        } = self;
+        if is_refused {
             return Err(AllocError.into());
         }
-        Ok(Value::Object(self.members))
+        Ok(Value::Object(members))
     }
 }
 

@@ -1,5 +1,5 @@
 //! The calls by their names: what is not among the calls of one list is looked up in the next.
-use crate::{builtins, conditions, features, paths, program};
+use crate::{builtins, conditions, features, mappers, maps, paths, program};
 use wesl_row::{Answer, Row, text_value};
 
 /// What the call of a row answers.
@@ -42,6 +42,45 @@ fn of_paths(row: Row<'_>, call: &str) -> Answer {
         "ModulePath::cmp" => paths::compared(row),
         "ModulePath::try_clone" => paths::copied(row),
         "Names::add" => paths::names_added(row),
-        _ => text_value(row.alloc, Some("no such row")),
+        _ => of_mappers(row, call),
+    }
+}
+
+/// Calls of mappers, and what is then asked of what they recorded.
+fn of_mappers(row: Row<'_>, call: &str) -> Answer {
+    match call {
+        "SourceMapper::mangle" => mappers::mangled(row, "mangle"),
+        "SourceMapper::mangle, then finish and decls" => mappers::mangled(row, "decls"),
+        "SourceMapper::unmangle" => mappers::mangled(row, "unmangle"),
+        "SourceMapper::mangle_types" => mappers::mangled(row, "mangle_types"),
+        "SourceMapper::resolve_module" => mappers::resolved(row, "resolve_module", ""),
+        "SourceMapper::resolve_module, then get_source" => {
+            mappers::resolved(row, "resolve_module", "get_source")
+        }
+        "SourceMapper::resolve_module, then finish and get_default_source" => {
+            mappers::resolved(row, "resolve_module", "get_default_source")
+        }
+        "SourceMapper::resolve_source, then get_source" => {
+            mappers::resolved(row, "resolve_source", "get_source")
+        }
+        "SourceMapper::new, then finish and get_default_source" => {
+            mappers::resolved(row, "new", "get_default_source")
+        }
+        "SourceMapper::finish, or what stands" => mappers::finished_or_left(row),
+        _ => of_maps(row, call),
+    }
+}
+
+/// Calls of source maps.
+fn of_maps(row: Row<'_>, call: &str) -> Answer {
+    match call {
+        "BasicSourceMap::decls" => maps::names(row),
+        "BasicSourceMap::try_clone" => maps::copied(row),
+        "BasicSourceMap::add_decl, or what stands" => maps::added_or_left(row),
+        "BasicSourceMap::add_source, or what stands" => maps::added_or_left(row),
+        _ => match call.split_once("::") {
+            Some((map, look)) => maps::looked_up(row, map, look),
+            None => text_value(row.alloc, Some("no such row")),
+        },
     }
 }

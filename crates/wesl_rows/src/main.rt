@@ -1,12 +1,14 @@
-//! Rows of whole bundles, conditions, paths and built-in names as data. Each line of standard input is a JSON object that names a row
-//! and a public call, and holds the call's inputs; the line that is written for it holds what the call answers. The last
-//! line is their count.
+//! Rows of whole bundles, conditions, paths, source maps and built-in names as data. Each line of standard input is a JSON
+//! object that names a row and a public call, and holds the call's inputs; the line that is written for it holds what the
+//! call answers. The last line is their count.
 #![tactic(auto)]
 
 mod builtins;
 mod calls;
 mod conditions;
 mod features;
+mod mappers;
+mod maps;
 mod paths;
 mod program;
 

@@ -20,11 +20,22 @@ use wesl_names::{Error, ModulePath};
 /// map.add_decl(name, ModulePath::new_root(alloc), item)?;
 /// map.set_default_source(text);
 /// ```
-#[derive(Debug, Drop)]
+#[derive(Debug)]
 pub struct BasicSourceMap {
     decls: BTreeMap<String, (ModulePath, String)>,
     sources: HashMap<ModulePath, (Option<String>, String)>,
     default_source: Option<String>,
+}
+
+// By hand, so that it is proved once: a derived one is proved in each crate that lets go of a value.
+impl Drop for BasicSourceMap {
+    fn drop(self) {
+        let BasicSourceMap {
+            decls: _,
+            sources: _,
+            default_source: _,
+        } = self;
+    }
 }
 
 /// Puts an item at a name, in place of the one that is there.

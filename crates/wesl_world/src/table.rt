@@ -14,10 +14,20 @@ use std::alloc::{AllocError, Global};
 use std::marker::Model;
 
 /// A declaration, and the names that it uses.
-#[derive(Debug, Drop)]
+#[derive(Debug)]
 pub struct Declaration {
     name: Option<NameId>,
     references: Vec<Reference<PathId, NameId>>,
+}
+
+// By hand, so that it is proved once: a derived one is proved in each crate that lets go of a value.
+impl Drop for Declaration {
+    fn drop(self) {
+        let Declaration {
+            name: _,
+            references: _,
+        } = self;
+    }
 }
 
 impl Model for Declaration {
@@ -54,7 +64,7 @@ impl Declaration {
 }
 
 /// The symbol table of the module at a path.
-#[derive(Debug, Drop)]
+#[derive(Debug)]
 pub struct Table {
     path: PathId,
     imports: Vec<Import<PathId, NameId>>,
@@ -65,6 +75,20 @@ pub struct Table {
     // Of each name its last declaration, and of each declaration the one of its name before it.
     latest: IndexMap<Option<NameId>, usize>,
     earlier: Vec<Option<usize>>,
+}
+
+impl Drop for Table {
+    fn drop(self) {
+        let Table {
+            path: _,
+            imports: _,
+            declarations: _,
+            bound: _,
+            published: _,
+            latest: _,
+            earlier: _,
+        } = self;
+    }
 }
 
 impl Model for Table {
