@@ -2,7 +2,7 @@
 use wesl_interner::Interner;
 use wesl_row::{Answer, List, Row, names_value, refused, text_value};
 use wesl_tree::Names;
-use wesl_world::ids::NameId;
+use wesl_symbols::ids::NameId;
 
 /// The names of an interner.
 fn listed(row: Row<'_>, interner: &Interner) -> Answer {

@@ -41,10 +41,10 @@ use wesl_table::numbers::Numbers;
 use wesl_table::table::{Tabled, table_of};
 use wesl_tree::TranslationUnit;
 use wesl_world::error::LinkError;
-use wesl_world::ids::{NameId, PathId};
+use wesl_symbols::ids::{NameId, PathId};
 use wesl_world::link::Linked;
 use wesl_world::loader::Loader;
-use wesl_world::table::Table;
+use wesl_symbols::table::Table;
 
 /// The numbers of the kept names.
 fn numbers_of(alloc: Global, numbers: &mut Numbers, keep: &[&str]) -> Result<Vec<NameId>, Error>

@@ -13,7 +13,7 @@ use wesl_names::{Error, Ident, ModulePath, PathOrigin};
 use wesl_syntax::{
     Attribute, Attributes, ImportContent, ImportItem, ImportStatement, ImportStatementNode,
 };
-use wesl_world::symbols::Import;
+use wesl_symbols::symbols::Import;
 
 /// Where the parts of an import statement lead.
 #[derive(Drop)]
