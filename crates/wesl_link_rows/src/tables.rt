@@ -2,12 +2,12 @@
 use serde_json::Value;
 use std::alloc::{AllocError, Global};
 use wesl_row::{Answer, List, Object, Row, numbers_value};
-use wesl_world::error::LinkError;
 use wesl_symbols::ids::{NameId, PathId};
-use wesl_world::link::{Linked, resolve_eager, resolve_lazy};
-use wesl_world::loader::{LoadError, Loader};
 use wesl_symbols::symbols::{Import, Reference, Symbol};
 use wesl_symbols::table::{Declaration, Table};
+use wesl_world::error::LinkError;
+use wesl_world::link::{Linked, resolve_eager, resolve_lazy};
+use wesl_world::loader::{LoadError, Loader};
 
 /// Hands out the modules that a row lists, refuses every other path, and keeps the paths that it was asked for.
 #[derive(Drop)]

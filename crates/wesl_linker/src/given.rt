@@ -13,10 +13,10 @@ use indexmap::IndexMap;
 use std::alloc::Global;
 use wesl_mangle::Mangler;
 use wesl_names::{Error, ModulePath};
-use wesl_table::numbers::Numbers;
 use wesl_symbols::ids::{NameId, PathId};
 use wesl_symbols::symbols::Symbol;
 use wesl_symbols::table::Table;
+use wesl_table::numbers::Numbers;
 
 /// The names that a mangler gave to symbols (WESL, "NameMangling").
 #[derive(Drop)]

@@ -15,11 +15,11 @@ use crate::refusals::path_of;
 use indexmap::IndexMap;
 use std::alloc::Global;
 use wesl_names::{Error, ModulePath, law_of_order};
+use wesl_symbols::ids::PathId;
+use wesl_symbols::table::Table;
 use wesl_table::marks::Mark;
 use wesl_table::numbers::Numbers;
 use wesl_tree::TranslationUnit;
-use wesl_symbols::ids::PathId;
-use wesl_symbols::table::Table;
 
 /// A unit that is held for a path, and of each of its declarations what the identifiers are.
 #[derive(Drop)]

@@ -23,12 +23,12 @@ use std::alloc::Global;
 use std::marker::{Brand, PhantomData};
 use wesl_names::{ModulePath, ResolveError};
 use wesl_resolve::Resolver;
+use wesl_symbols::ids::PathId;
+use wesl_symbols::table::Table;
 use wesl_table::numbers::Numbers;
 use wesl_table::table::{Tabled, table_of};
 use wesl_tree::TranslationUnit;
-use wesl_symbols::ids::PathId;
 use wesl_world::loader::{LoadError, Loader};
-use wesl_symbols::table::Table;
 
 /// What a resolver hands out and refuses, held fixed for one link.
 pub trait Source<R> {

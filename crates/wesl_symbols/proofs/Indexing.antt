@@ -1,5 +1,5 @@
 -- How the indexes of a module are kept as its lists are gone over.
-use Rattle.std.proofs.Common.{◌≡◌, ◌⊎◌, ◌↔◌, inl, inr, ℕ, ◌<◌, ◌≤◌, ◌+◌, Bool, true, List, [], ◌∷◌, ◌++◌, length, length-append, take, below_more, slice_get, slice_index_or, Option, Some, None, IfSome, IfNone, IsTrue, is_some, false, Contains, arith, subst, sym, refl, ap, ◌∙◌}
+use Rattle.std.proofs.Common.{◌≡◌, ◌↔◌, inl, inr, ℕ, ◌<◌, ◌≤◌, ◌+◌, Bool, true, List, [], ◌∷◌, ◌++◌, length, length-append, take, below_more, slice_get, slice_index_or, Option, Some, None, IfSome, IfNone, IsTrue, is_some, false, Contains, arith, subst, sym, refl, ap, ◌∙◌}
 use Rattle.std.proofs.lemmas.List.Elements.{Contains-push_cases, Contains-append_left, Contains-push}
 use Rattle.std.proofs.lemmas.List.{take_more, take_all}
 use Rattle.std.proofs.lemmas.Option.{slice_get_within}
@@ -7,7 +7,7 @@ use Rattle.wesl_symbols.specs.Keyed.{Puts}
 use Rattle.wesl_symbols.specs.Tables.{Import, Declaration, Table}
 use Rattle.wesl_symbols.specs.Names.{Declares, Imports, Shows}
 use Rattle.wesl_symbols.specs.Index.{Binds, Publishes, Indexes, IsNamed, HasAt, IsLast, Chains}
-use Rattle.wesl_symbols.proofs.Lists.{contains_nil}
+use Rattle.wesl_symbols.proofs.Lists.{contains_nil, at_contains, contains_at, one_at, at_push}
 
 -- ---- imports
 

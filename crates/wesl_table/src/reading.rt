@@ -14,10 +14,10 @@ use indexmap::IndexSet;
 use std::alloc::Global;
 use wesl_meanings::Meanings;
 use wesl_names::{Error, Ident, ModulePath, Names};
-use wesl_syntax::{GlobalDeclaration, GlobalDeclarationNode};
-use wesl_tree::TranslationUnit;
 use wesl_symbols::ids::{NameId, PathId};
 use wesl_symbols::symbols::Import;
+use wesl_syntax::{GlobalDeclaration, GlobalDeclarationNode};
+use wesl_tree::TranslationUnit;
 
 /// A module as its identifiers are marked.
 #[derive(Clone, Copy)]

@@ -22,10 +22,10 @@ use indexmap::IndexSet;
 use std::alloc::Global;
 use wesl_meanings::meanings_of;
 use wesl_names::{Error, Ident, ModulePath, Names};
-use wesl_tree::TranslationUnit;
 use wesl_symbols::ids::{NameId, PathId};
 use wesl_symbols::symbols::Import;
 use wesl_symbols::table::{Declaration, Table};
+use wesl_tree::TranslationUnit;
 
 /// A symbol table, and of each global declaration what its identifiers are, in document order.
 #[derive(Drop)]
