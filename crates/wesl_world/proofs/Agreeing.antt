@@ -3,7 +3,8 @@ use Rattle.std.proofs.Common.{◌≡◌, ◌⊎◌, inl, inr, ℕ, ◌<◌, ◌�
 use Rattle.std.proofs.lemmas.List.Elements.{Contains-get_or, Contains-push_cases}
 use Rattle.std.proofs.lemmas.List.{take_more, take_all}
 use Rattle.wesl_symbols.specs.Keyed.{Puts}
-use Rattle.wesl_symbols.specs.Tables.{Import, Table}
+use Rattle.wesl_symbols.specs.declared.symbols.Import.{Import}
+use Rattle.wesl_symbols.specs.Tables.{Table}
 use Rattle.wesl_symbols.specs.Names.{Declares}
 use Rattle.wesl_world.specs.Faults.{SameTarget, IsOwn, Clashes, Agrees}
 use Rattle.wesl_world.specs.Agreement.{AgreeSoFar}

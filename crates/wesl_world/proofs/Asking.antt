@@ -5,7 +5,10 @@ use Rattle.std.proofs.lemmas.List.{take_more, take_all}
 use Rattle.std.proofs.lemmas.Option.{slice_get_within}
 use Rattle.std.proofs.lemmas.Bool.{cases_lt}
 use Rattle.std.proofs.Math.Nat.{eq-or-lt_of_le}
-use Rattle.wesl_symbols.specs.Tables.{Import, LookUp, Reference, Declaration, Table}
+use Rattle.wesl_symbols.specs.declared.symbols.Import.{Import}
+use Rattle.wesl_symbols.specs.declared.symbols.LookUp.{LookUp}
+use Rattle.wesl_symbols.specs.declared.symbols.Reference.{Reference}
+use Rattle.wesl_symbols.specs.Tables.{Declaration, Table}
 use Rattle.wesl_symbols.specs.Names.{Declares, Imports, Asks, AsksUnder, AsksFrom}
 use Rattle.wesl_world.specs.Faults.{Agrees}
 use Rattle.wesl_symbols.specs.Index.{IsLast, IsNamed}

@@ -1,6 +1,9 @@
 -- What a link is refused with before it begins, and what a name stands for when it has ended.
 use Rattle.std.proofs.Common.{◌≡◌, ℕ, Option, Some, None, IfSome, IfNone, List, [], ◌∷◌, Contains, arith, subst, sym, refl, ap}
-use Rattle.wesl_symbols.specs.Tables.{LookUp, Reference, Symbol, Table}
+use Rattle.wesl_symbols.specs.declared.symbols.LookUp.{LookUp}
+use Rattle.wesl_symbols.specs.declared.symbols.Reference.{Reference}
+use Rattle.wesl_symbols.specs.declared.symbols.Symbol.{Symbol}
+use Rattle.wesl_symbols.specs.Tables.{Table}
 use Rattle.wesl_symbols.specs.Names.{Asks, RefersFrom}
 use Rattle.wesl_world.specs.World.{LeadsTo, Task, Entered}
 use Rattle.wesl_world.specs.World.Entered.{root as root_entered}

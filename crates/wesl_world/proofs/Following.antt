@@ -7,7 +7,9 @@ use Rattle.wesl_world.specs.declared.names.Answer.TheVariants.{Next, Missing, Pr
 use Rattle.wesl_world.specs.declared.request.Request.{Request}
 use Rattle.wesl_world.specs.declared.request.Loaded.{Loaded}
 use Rattle.wesl_symbols.specs.Keyed.{Puts, PutsKey}
-use Rattle.wesl_symbols.specs.Tables.{LookUp, Symbol, Table}
+use Rattle.wesl_symbols.specs.declared.symbols.LookUp.{LookUp}
+use Rattle.wesl_symbols.specs.declared.symbols.Symbol.{Symbol}
+use Rattle.wesl_symbols.specs.Tables.{Table}
 use Rattle.wesl_symbols.specs.Names.{Declares}
 use Rattle.wesl_world.specs.World.{IsAt, Hops, HasMet, Finds, LeadsTo, Walk, Task, Entered, Reached, Followed}
 use Rattle.wesl_world.specs.World.LeadsTo.{here, through}

@@ -2,7 +2,9 @@
 use Rattle.std.proofs.Common.{◌≡◌, ◌⊎◌, inl, inr, ℕ, ◌<◌, ◌≤◌, ◌+◌, List, [], ◌∷◌, ◌++◌, length, length-append, map, slice_get, Some, Contains, arith, subst, sym, refl, ap, ◌∙◌}
 use Rattle.std.proofs.lemmas.List.Elements.{Contains-append_left, Contains-push, Contains-push_cases}
 use Rattle.wesl_symbols.specs.Keyed.{Puts, PutsKey}
-use Rattle.wesl_symbols.specs.Tables.{LookUp, Symbol, Table}
+use Rattle.wesl_symbols.specs.declared.symbols.LookUp.{LookUp}
+use Rattle.wesl_symbols.specs.declared.symbols.Symbol.{Symbol}
+use Rattle.wesl_symbols.specs.Tables.{Table}
 use Rattle.wesl_world.specs.World.{IsAt, IsWorld, LeadsTo, Task, Entered, Reached}
 use Rattle.wesl_world.specs.World.Entered.{root as root_entered}
 use Rattle.wesl_world.specs.Faults.{AreDistinct, Agrees, Clashes, duplicate, refused, too_many, Explained}

@@ -5,7 +5,9 @@ use Rattle.wesl_symbols.specs.declared.ids.PathId.{PathId}
 use Rattle.wesl_symbols.specs.declared.ids.NameId.{NameId}
 use Rattle.wesl_world.specs.declared.request.Request.{Request}
 use Rattle.wesl_world.specs.declared.request.Loaded.{Loaded}
-use Rattle.wesl_symbols.specs.Tables.{LookUp, Symbol, Table}
+use Rattle.wesl_symbols.specs.declared.symbols.LookUp.{LookUp}
+use Rattle.wesl_symbols.specs.declared.symbols.Symbol.{Symbol}
+use Rattle.wesl_symbols.specs.Tables.{Table}
 use Rattle.wesl_symbols.specs.Names.{AsksUnder, AsksFrom}
 use Rattle.wesl_world.specs.World.{IsAt, Task, Entered, Followed}
 use Rattle.wesl_world.specs.World.Followed.{by_assert, by_symbol}

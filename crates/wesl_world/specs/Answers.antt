@@ -4,7 +4,9 @@ use Rattle.wesl_symbols.specs.declared.ids.PathId.{PathId}
 use Rattle.wesl_symbols.specs.declared.ids.NameId.{NameId}
 use Rattle.wesl_world.specs.declared.names.Answer.{Answer}
 use Rattle.wesl_world.specs.declared.names.Answer.TheVariants.{Declared, Next, Missing, Private}
-use Rattle.wesl_symbols.specs.Tables.{Import, LookUp, Table}
+use Rattle.wesl_symbols.specs.declared.symbols.Import.{Import}
+use Rattle.wesl_symbols.specs.declared.symbols.LookUp.{LookUp}
+use Rattle.wesl_symbols.specs.Tables.{Table}
 use Rattle.wesl_symbols.specs.Names.{Declares, Imports, Shows}
 
 abbrev pub IsAnswer : Table PathId NameId → LookUp PathId NameId → Answer → Type 0

@@ -1,6 +1,8 @@
 -- What lists of references and of declarations ask for.
 use Rattle.std.specs.Prelude.{◌≡◌, ◌⊎◌, ℕ, ◌+◌, ◌≤◌, slice_get, Option, Some, None, List, Contains}
-use Rattle.wesl_symbols.specs.Tables.{LookUp, Reference, Declaration, Table}
+use Rattle.wesl_symbols.specs.declared.symbols.LookUp.{LookUp}
+use Rattle.wesl_symbols.specs.declared.symbols.Reference.{Reference}
+use Rattle.wesl_symbols.specs.Tables.{Declaration, Table}
 use Rattle.wesl_symbols.specs.Names.{Asks}
 
 -- the list gains what Q says, and nothing else

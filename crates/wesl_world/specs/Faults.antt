@@ -1,6 +1,8 @@
 -- The faults that stand in a world.
 use Rattle.std.specs.Prelude.{◌≡◌, ◌⊎◌, ℕ, ◌<◌, length, List, [], ◌∷◌, Contains, All}
-use Rattle.wesl_symbols.specs.Tables.{Import, LookUp, Table}
+use Rattle.wesl_symbols.specs.declared.symbols.Import.{Import}
+use Rattle.wesl_symbols.specs.declared.symbols.LookUp.{LookUp}
+use Rattle.wesl_symbols.specs.Tables.{Table}
 use Rattle.wesl_symbols.specs.Names.{Declares, Imports}
 use Rattle.wesl_world.specs.World.{IsAt, IsWorld, IsMissingAt, IsPrivateAt, Task, Entered, Followed}
 

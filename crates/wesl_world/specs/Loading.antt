@@ -4,7 +4,10 @@ use Rattle.wesl_symbols.specs.declared.ids.PathId.{PathId}
 use Rattle.wesl_symbols.specs.declared.ids.NameId.{NameId}
 use Rattle.wesl_world.specs.declared.request.Request.{Request}
 use Rattle.wesl_world.specs.declared.request.Loaded.{Loaded}
-use Rattle.wesl_symbols.specs.Tables.{Import, LookUp, Symbol, Table}
+use Rattle.wesl_symbols.specs.declared.symbols.Import.{Import}
+use Rattle.wesl_symbols.specs.declared.symbols.LookUp.{LookUp}
+use Rattle.wesl_symbols.specs.declared.symbols.Symbol.{Symbol}
+use Rattle.wesl_symbols.specs.Tables.{Table}
 use Rattle.wesl_symbols.specs.Names.{Declares, AsksFrom}
 use Rattle.wesl_world.specs.World.{IsAt, IsWorld, Finds, LeadsTo, Walk, Task, Entered, Reached, Followed}
 use Rattle.wesl_world.specs.Faults.{Agrees, AreDistinct}

@@ -1,6 +1,9 @@
 -- Look-ups between modules, and what they reach (WESL, "Imports" and "Visibility").
 use Rattle.std.specs.Prelude.{◌≡◌, ◌⊎◌, Bool, true, Some, None, List, [], ◌∷◌, Contains}
-use Rattle.wesl_symbols.specs.Tables.{Import, Symbol, LookUp, Table}
+use Rattle.wesl_symbols.specs.declared.symbols.Import.{Import}
+use Rattle.wesl_symbols.specs.declared.symbols.Symbol.{Symbol}
+use Rattle.wesl_symbols.specs.declared.symbols.LookUp.{LookUp}
+use Rattle.wesl_symbols.specs.Tables.{Table}
 use Rattle.wesl_symbols.specs.Names.{Declares, Imports, AsksFrom, Shows}
 
 -- ---- between modules: a world is a list of modules

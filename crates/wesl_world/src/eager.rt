@@ -3,7 +3,7 @@ ghost use Rattle.std.specs.Prelude.{◌≡◌, ◌↔◌, ◌<◌, length, map, 
 ghost use Rattle.wesl_symbols.specs.declared.ids.PathId.{PathId};
 ghost use Rattle.wesl_symbols.specs.declared.ids.NameId.{NameId};
 ghost use Rattle.wesl_symbols.specs.Tables as tables;
-ghost use Rattle.wesl_symbols.specs.Tables.{Import};
+ghost use Rattle.wesl_symbols.specs.declared.symbols.Import.{Import};
 ghost use Rattle.wesl_symbols.specs.Names.{Declares};
 ghost use Rattle.wesl_world.specs.World.{IsAt, Entered, Reached};
 ghost use Rattle.wesl_world.specs.Asked.{Gains};

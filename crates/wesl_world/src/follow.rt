@@ -3,7 +3,7 @@ ghost use Rattle.std.specs.Prelude.{◌≡◌, ◌↔◌, Some, IsTrue, IfSome, 
 ghost use Rattle.wesl_symbols.specs.declared.ids.PathId.{PathId};
 ghost use Rattle.wesl_symbols.specs.declared.ids.NameId.{NameId};
 ghost use Rattle.wesl_symbols.specs.Tables as tables;
-ghost use Rattle.wesl_symbols.specs.Tables.{LookUp};
+ghost use Rattle.wesl_symbols.specs.declared.symbols.LookUp.{LookUp};
 ghost use Rattle.wesl_world.specs.World.{IsAt, Hops, HasMet, Followed};
 ghost use Rattle.wesl_world.specs.Answers.{IsAnswer};
 ghost use Rattle.wesl_world.specs.Loader.{OnlyAdds};

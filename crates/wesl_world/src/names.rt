@@ -2,7 +2,8 @@
 ghost use Rattle.std.specs.Prelude.{◌≡◌, ◌↔◌, Some, None, IsTrue, IsFalse, IfSome, IfNone, IfOk, OnOk, Contains};
 ghost use Rattle.wesl_symbols.specs.declared.ids.PathId.{PathId};
 ghost use Rattle.wesl_symbols.specs.declared.ids.NameId.{NameId};
-ghost use Rattle.wesl_symbols.specs.Tables.{Import, LookUp};
+ghost use Rattle.wesl_symbols.specs.declared.symbols.Import.{Import};
+ghost use Rattle.wesl_symbols.specs.declared.symbols.LookUp.{LookUp};
 ghost use Rattle.wesl_symbols.specs.Names.{Declares, Asks, AsksUnder, AsksFrom};
 ghost use Rattle.wesl_world.specs.Faults.{Agrees, Clashes, SameTarget, IsOwn};
 ghost use Rattle.wesl_world.specs.Asked.{Gains, AsksIn};

@@ -3,7 +3,7 @@ ghost use Rattle.std.specs.Prelude.{◌≡◌, ◌↔◌, ◌≤◌, ◌<◌, �
 ghost use Rattle.wesl_symbols.specs.declared.ids.PathId.{PathId};
 ghost use Rattle.wesl_symbols.specs.declared.ids.NameId.{NameId};
 ghost use Rattle.wesl_symbols.specs.Tables as tables;
-ghost use Rattle.wesl_symbols.specs.Tables.{LookUp};
+ghost use Rattle.wesl_symbols.specs.declared.symbols.LookUp.{LookUp};
 ghost use Rattle.wesl_symbols.specs.Names.{AsksFrom};
 ghost use Rattle.wesl_world.specs.World.{IsAt};
 ghost use Rattle.wesl_world.specs.Faults.{Agrees};
