@@ -3,6 +3,7 @@ ghost use Rattle.std.specs.Prelude.{◌≡◌, ◌↔◌, ◌<◌, length, map, 
 ghost use Rattle.wesl_symbols.specs.declared.ids.PathId.{PathId};
 ghost use Rattle.wesl_symbols.specs.declared.ids.NameId.{NameId};
 ghost use Rattle.wesl_symbols.specs.Tables as tables;
+ghost use Rattle.wesl_symbols.specs.declared.symbols.Symbol.{Symbol};
 ghost use Rattle.wesl_symbols.specs.declared.symbols.Import.{Import};
 ghost use Rattle.wesl_symbols.specs.Names.{Declares};
 ghost use Rattle.wesl_world.specs.World.{IsAt, Entered, Reached};
@@ -104,11 +105,11 @@ fn hold_all<E, L: Loader<E>>(
     symbols: &[Symbol<PathId, NameId>],
 ) -> Result<(), LinkError<E>>
     requires sound { IsSound (L.hands loader.now) (L.ready loader.now) request.now loaded.old }
-    requires reached { (s : tables.Symbol PathId NameId) → Contains symbols.now s → Reached (world_of request.now loaded.old) (task_at request.now) s }
-    requires placed { (s : tables.Symbol PathId NameId) → Contains symbols.now s → (t : tables.Table PathId NameId) × IsAt (world_of request.now loaded.old) s.path t }
+    requires reached { (s : Symbol PathId NameId) → Contains symbols.now s → Reached (world_of request.now loaded.old) (task_at request.now) s }
+    requires placed { (s : Symbol PathId NameId) → Contains symbols.now s → (t : tables.Table PathId NameId) × IsAt (world_of request.now loaded.old) s.path t }
     ensures sound { OnOk result (IsSound (L.hands loader.now) (L.ready loader.now) request.now loaded.new) }
     ensures grows { OnOk result (Grows loaded.old loaded.new) }
-    ensures held { OnOk result ((s : tables.Symbol PathId NameId) → Contains symbols.now s → Contains loaded.new.symbols.keys s) }
+    ensures held { OnOk result ((s : Symbol PathId NameId) → Contains symbols.now s → Contains loaded.new.symbols.keys s) }
     ensures refused { IfErr result (IsExplained (L.hands loader.now) (L.refuses loader.now) request.now.root (task_at request.now) request.now.max_modules) }
 {
     for symbol in symbols {

@@ -3,6 +3,7 @@ ghost use Rattle.std.specs.Prelude.{◌≡◌, ◌↔◌, ◌<◌, Some, None, [
 ghost use Rattle.wesl_symbols.specs.declared.ids.PathId.{PathId};
 ghost use Rattle.wesl_symbols.specs.declared.ids.NameId.{NameId};
 ghost use Rattle.wesl_symbols.specs.Tables as tables;
+ghost use Rattle.wesl_symbols.specs.declared.symbols.Symbol.{Symbol};
 ghost use Rattle.wesl_symbols.specs.declared.symbols.LookUp.{LookUp};
 ghost use Rattle.wesl_symbols.specs.Names.{Asks};
 ghost use Rattle.wesl_world.specs.World.{LeadsTo};
@@ -86,7 +87,7 @@ impl Linked {
         requires loaded { Contains self.now.tables table.now }
         requires held { StandsHeld self.now table.now reference.now }
         ensures found { IfSome result (λ s. (l : LookUp PathId NameId) × Asks table.now reference.now l × LeadsTo self.now.tables l s) }
-        ensures every { (l : LookUp PathId NameId) (s : tables.Symbol PathId NameId) → Asks table.now reference.now l → LeadsTo self.now.tables l s → result ≡ Some s }
+        ensures every { (l : LookUp PathId NameId) (s : Symbol PathId NameId) → Asks table.now reference.now l → LeadsTo self.now.tables l s → result ≡ Some s }
         ensures free { IfNone result ((l : LookUp PathId NameId) → Asks table.now reference.now l → ⊥) }
     {
         let answers = &self.answers;
