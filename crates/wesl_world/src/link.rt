@@ -2,7 +2,6 @@
 ghost use Rattle.std.specs.Prelude.{◌≡◌, ◌↔◌, ◌<◌, Some, None, [], true, false, IsTrue, IfSome, IfNone, IfOk, IfErr, Contains};
 ghost use Rattle.wesl_symbols.specs.declared.ids.PathId.{PathId};
 ghost use Rattle.wesl_symbols.specs.declared.ids.NameId.{NameId};
-ghost use Rattle.wesl_symbols.specs.Tables as tables;
 ghost use Rattle.wesl_symbols.specs.declared.symbols.Symbol.{Symbol};
 ghost use Rattle.wesl_symbols.specs.declared.symbols.LookUp.{LookUp};
 ghost use Rattle.wesl_symbols.specs.Names.{Asks};
