@@ -1,4 +1,4 @@
-pub mod Given
+pub mod Giving
 pub mod Recording
 pub mod Lists
 pub mod Marked

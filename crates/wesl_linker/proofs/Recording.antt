@@ -16,7 +16,7 @@ use Rattle.wesl_world.proofs.Lists.{contains_map, map_contains}
 use Rattle.wesl_table.specs.Numbering.{Numbering, NameAt, AreDifferent}
 use Rattle.wesl_linker.specs.Given.{Given, AreNamed}
 use Rattle.wesl_linker.specs.Recorded.{Record, Write, all_written, firsts, writes_of, text_of, declared_texts, HasNone, written_unless}
-use Rattle.wesl_linker.proofs.Given.{Names}
+use Rattle.wesl_linker.proofs.Giving.{Names}
 
 -- ---- each once
 

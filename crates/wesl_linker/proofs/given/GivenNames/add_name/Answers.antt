@@ -3,7 +3,7 @@ use Rattle.wesl_names.specs.Path.{path_view}
 use Rattle.wesl_linker.specs.GivenView.{given}
 use Rattle.wesl_linker.specs.Recorded.{written_unless}
 use Rattle.wesl_linker.proofs.Recording.{unless_some}
-use Rattle.wesl_linker.proofs.Given.{others_stay, names_stay}
+use Rattle.wesl_linker.proofs.Giving.{others_stay, names_stay}
 use Rattle.wesl_linker.proofs.given.GivenNames.add_name.Goals as goal
 
 none_of : {X Y : Type 0} (f : X → Y) (o : Option X) → false ≡ is_some o → option_map f o ≡ None

@@ -1,5 +1,5 @@
 use Rattle.std.proofs.Common.{◌≡◌, Some, None, sym, ap, ◌∙◌}
-use Rattle.wesl_linker.proofs.Given.{more_named, more_unnamed, gives_all, declared}
+use Rattle.wesl_linker.proofs.Giving.{more_named, more_unnamed, gives_all, declared}
 use Rattle.std.proofs.lemmas.List.{take_all}
 use Rattle.wesl_names.specs.Path.{path_view}
 use Rattle.wesl_table.specs.NumbersView.{numbering}

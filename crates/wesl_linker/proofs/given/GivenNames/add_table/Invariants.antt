@@ -3,7 +3,7 @@ use Rattle.wesl_names.specs.Path.{Text, Path, path_view}
 use Rattle.wesl_table.specs.NumbersView.{numbering}
 use Rattle.wesl_linker.specs.GivenView.{given}
 use Rattle.wesl_linker.specs.Recorded.{HasNone, all_written, writes_of, firsts, declared_texts}
-use Rattle.wesl_linker.proofs.Given.{Names}
+use Rattle.wesl_linker.proofs.Giving.{Names}
 use Rattle.wesl_linker.proofs.given.GivenNames.add_table.Given as goal
 
 abbrev pub invariant-loop-declaration : goal.invariant-loop-declaration
