@@ -1,7 +1,7 @@
 -- What the values of the code stand for.
 use Rattle.std.specs.Prelude.{ℕ}
-use Rattle.wesl_world.specs.declared.ids.PathId.{PathId}
-use Rattle.wesl_world.specs.declared.ids.NameId.{NameId}
+use Rattle.wesl_symbols.specs.declared.ids.PathId.{PathId}
+use Rattle.wesl_symbols.specs.declared.ids.NameId.{NameId}
 use Rattle.wesl_assembly.specs.Denotations.{DenotationOf, symbol, local, free_name}
 use Rattle.wesl_assembly.specs.declared.denotation.Denotation.{Denotation}
 use Rattle.wesl_assembly.specs.declared.denotation.Denotation.TheVariants as made

@@ -1,11 +1,11 @@
 //! What identifiers stand for in a linked unit.
 ghost use Rattle.std.specs.Prelude.{◌≡◌};
 ghost use Rattle.wesl_names.specs.Path.{Text};
-ghost use Rattle.wesl_world.specs.declared.ids.PathId as path_id;
-ghost use Rattle.wesl_world.specs.declared.ids.NameId as name_id;
+ghost use Rattle.wesl_symbols.specs.declared.ids.PathId as path_id;
+ghost use Rattle.wesl_symbols.specs.declared.ids.NameId as name_id;
 
-use wesl_world::ids::{NameId, PathId};
-use wesl_world::symbols::Symbol;
+use wesl_symbols::ids::{NameId, PathId};
+use wesl_symbols::symbols::Symbol;
 
 /// What an identifier stands for.
 #[derive(Clone, Copy, Debug, PartialEq, Eq, Hash)]

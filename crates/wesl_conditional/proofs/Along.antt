@@ -11,7 +11,7 @@ use Rattle.wesl_resolve.specs.Refusals.{IsRefusedFor}
 use Rattle.wesl_resolve.specs.Preprocessor.{IsMade, IsMadeFault}
 use Rattle.wesl_conditional.specs.Conditions.{IsConditioned}
 use Rattle.wesl_syntax.specs.Unit.{UnitOf}
-use Rattle.wesl_world.specs.Tables.{Table}
+use Rattle.wesl_symbols.specs.Tables.{Table}
 use Rattle.wesl_world.specs.World.{Task}
 use Rattle.wesl_world.specs.Faults.{Fault, duplicate, refused, missing, private, too_many, Stands}
 use Rattle.wesl_names.specs.Errors.{OrMemory}

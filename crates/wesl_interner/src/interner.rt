@@ -8,7 +8,7 @@ ghost use Rattle.wesl_interner.specs.Different.{AreDifferent, PutsOrKeeps};
 use indexmap::IndexSet;
 use std::alloc::Global;
 use wesl_names::Error;
-use wesl_world::ids::NameId;
+use wesl_symbols::ids::NameId;
 
 /// The index of a name, which goes last unless it is there.
 fn put(names: &mut IndexSet<String>, name: String) -> Result<usize, Error>

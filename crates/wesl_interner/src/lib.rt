@@ -6,4 +6,4 @@ mod laws;
 
 pub use interner::Interner;
 pub use laws::law_of_ids;
-pub use wesl_world::ids::NameId;
+pub use wesl_symbols::ids::NameId;

@@ -1,10 +1,10 @@
 -- What identifiers of a module denote, by how they stand in it.
 use Rattle.std.proofs.Common.{◌≡◌, ℕ, List, [], ◌∷◌, map, Option, Some, None, refl, ap, Contains}
 use Rattle.wesl_names.specs.Path.{Text, Path}
-use Rattle.wesl_world.specs.declared.symbols.Import.{Import}
-use Rattle.wesl_world.specs.declared.symbols.Symbol.{Symbol}
-use Rattle.wesl_world.specs.Tables.{Table}
-use Rattle.wesl_world.proofs.Lists.{contains_nil}
+use Rattle.wesl_symbols.specs.declared.symbols.Import.{Import}
+use Rattle.wesl_symbols.specs.declared.symbols.Symbol.{Symbol}
+use Rattle.wesl_symbols.specs.Tables.{Table}
+use Rattle.wesl_symbols.proofs.Lists.{contains_nil}
 use Rattle.wesl_occurrences.specs.Occurrences.{Block, Standing, module_name, parameter, local as local_name, reference, word, Occurrence}
 use Rattle.wesl_meanings.specs.Scopes.{Key, bound, binder_of, meaning, key_as}
 use Rattle.wesl_table.specs.Uses.{Use, refers, asked, asked_plain, meant, use_as, under, aims}

@@ -3,7 +3,7 @@ use Rattle.std.proofs.Common.{◌≡◌, ℕ, true, false, List, [], ◌∷◌, 
 use Rattle.wesl_names.specs.Path.{Text}
 use Rattle.wesl_syntax.specs.Tree.{ForestOf, TreeOf, end, tree, before, forest_of, trees, kind}
 use Rattle.wesl_syntax.specs.Nodes.{is_type}
-use Rattle.wesl_world.proofs.Lists.{contains_first, contains_later}
+use Rattle.wesl_symbols.proofs.Lists.{contains_first, contains_later}
 use Rattle.wesl_occurrences.specs.Occurrences.{Standing, word, Occurrence, blocks_in, occurrences_from}
 use Rattle.wesl_assembly.specs.Directives.{Thins}
 use Rattle.wesl_assembly.specs.Directives.{Thins as thins}

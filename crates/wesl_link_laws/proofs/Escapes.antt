@@ -5,11 +5,13 @@ use Rattle.std.specs.Global.{Global}
 use Rattle.wesl_names.specs.Path.{Text, Path}
 use Rattle.wesl_names.specs.PathOrder.{same_path}
 use Rattle.wesl_syntax.specs.Unit.{UnitView}
-use Rattle.wesl_world.specs.declared.ids.PathId.{PathId}
-use Rattle.wesl_world.specs.declared.ids.NameId.{NameId}
-use Rattle.wesl_world.specs.Tables.{Table}
-use Rattle.wesl_world.specs.World.{Declares, Entered}
-use Rattle.wesl_world.proofs.Lists.{contains_nil, contains_first, contains_later, contains_cases, contains_map}
+use Rattle.wesl_symbols.specs.declared.ids.PathId.{PathId}
+use Rattle.wesl_symbols.specs.declared.ids.NameId.{NameId}
+use Rattle.wesl_symbols.specs.Tables.{Table}
+use Rattle.wesl_symbols.specs.Names.{Declares}
+use Rattle.wesl_world.specs.World.{Entered}
+use Rattle.wesl_symbols.proofs.Lists.{contains_nil, contains_first, contains_later, contains_cases}
+use Rattle.wesl_world.proofs.Lists.{contains_map}
 use Rattle.wesl_occurrences.specs.Laws.{WaysLeadOutwards, OccurrencesAreIdentifiers}
 use Rattle.wesl_faith.specs.Faithful.{IsFaithful}
 use Rattle.wesl_table.specs.Numbering.{Numbering, NameAt, PathAt, AreRelated, IsRelatedOption, SameDeclaration, IsNumbered}

@@ -4,8 +4,8 @@ use Rattle.std.proofs.lemmas.List.{map-append}
 use Rattle.std.proofs.lemmas.List.Elements.{Contains-append_cases, Contains-append_left, Contains-append_right}
 use Rattle.wesl_names.specs.Path.{Text, Path}
 use Rattle.wesl_syntax.specs.Tree.{LabelOf, ForestOf, end, tree, before, forest_of}
-use Rattle.wesl_world.specs.Tables.{Table}
-use Rattle.wesl_world.proofs.Lists.{contains_nil, contains_first, contains_later, contains_cases}
+use Rattle.wesl_symbols.specs.Tables.{Table}
+use Rattle.wesl_symbols.proofs.Lists.{contains_nil, contains_first, contains_later, contains_cases}
 use Rattle.wesl_occurrences.specs.Occurrences.{Block, Occurrence, Surroundings, Node, after_field, count, blocks_in, opens, occurrences_from}
 use Rattle.wesl_table.specs.Numbering.{AreRelated}
 use Rattle.wesl_assembly.specs.Pathless.{without_paths}

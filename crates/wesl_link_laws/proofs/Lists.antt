@@ -2,7 +2,8 @@
 use Rattle.std.proofs.Common.{◌≡◌, ◌⊎◌, inl, inr, suc, List, [], ◌∷◌, ◌++◌, length, map, Contains, arith, refl, sym, subst, ap, ap₂, ◌∙◌}
 use Rattle.std.proofs.lemmas.List.Elements.{Contains-append_cases, Contains-append_left, Contains-append_right}
 use Rattle.std.proofs.lemmas.List.{map-append}
-use Rattle.wesl_world.proofs.Lists.{contains_nil, contains_first, contains_later, contains_cases, map_contains}
+use Rattle.wesl_symbols.proofs.Lists.{contains_nil, contains_first, contains_later, contains_cases}
+use Rattle.wesl_world.proofs.Lists.{map_contains}
 use Rattle.wesl_world.specs.Faults.{AreDistinct}
 use Rattle.wesl_world.specs.Faults.AreDistinct.{one_more as one_distinct}
 use Rattle.wesl_table.specs.Numbering.{AreRelated}

@@ -4,12 +4,12 @@ use Rattle.std.specs.List.{All}
 use Rattle.std.proofs.lemmas.List.Elements.{All-contains_itself, Contains-append_cases, Contains-append_right}
 use Rattle.wesl_names.specs.Path.{Text, Path}
 use Rattle.wesl_syntax.specs.Tree.{before, end}
-use Rattle.wesl_world.specs.declared.symbols.Symbol.{Symbol}
-use Rattle.wesl_world.specs.declared.symbols.LookUp.{LookUp}
-use Rattle.wesl_world.specs.Tables.{Declaration, Table}
-use Rattle.wesl_world.specs.declared.symbols.Import.{Import}
-use Rattle.wesl_world.specs.World.{Task, Declares, LeadsTo, Entered, Reached}
-use Rattle.wesl_world.specs.World.{LeadsTo as leads}
+use Rattle.wesl_symbols.specs.declared.symbols.Symbol.{Symbol}
+use Rattle.wesl_symbols.specs.declared.symbols.LookUp.{LookUp}
+use Rattle.wesl_symbols.specs.Tables.{Declaration, Table}
+use Rattle.wesl_symbols.specs.declared.symbols.Import.{Import}
+use Rattle.wesl_symbols.specs.Names.{Declares}
+use Rattle.wesl_world.specs.World.{Task, LeadsTo, Entered, Reached, LeadsTo as leads}
 use Rattle.wesl_world.proofs.Lists.{map_contains, contains_map}
 use Rattle.wesl_occurrences.specs.Occurrences.{Block, Standing, module_name, parameter, local as local_name, reference, word, Occurrence, occurrences, is_binder}
 use Rattle.wesl_occurrences.specs.Pieces.{declarations_in}

@@ -4,7 +4,7 @@ use Rattle.std.specs.Prelude.{if◌then◌else◌}
 use Rattle.std.proofs.lemmas.List.Elements.{Contains-append_left, Contains-append_right}
 use Rattle.wesl_names.specs.Path.{Text}
 use Rattle.wesl_syntax.specs.Tree.{LabelOf, ForestOf, TreeOf, end, tree, before, kind, at, ident, binder, reference as reference_role, word as word_role, text, texts, truth, unary, binary, assignment, space, access, path, function, declaration_node}
-use Rattle.wesl_world.proofs.Lists.{contains_first, contains_later}
+use Rattle.wesl_symbols.proofs.Lists.{contains_first, contains_later}
 use Rattle.wesl_occurrences.specs.Occurrences.{Block, module_name, Occurrence, Surroundings, Node, of_other, of_function, Declares, globally, a_parameter, a_value, declared, opens, node_by, here_in, after_field, count, blocks_in, blocks_at, occurrences_from}
 use Rattle.wesl_table.specs.Imports.{below}
 use Rattle.wesl_table.specs.Tables.{bound_name, or_later, declared_name, name_of}

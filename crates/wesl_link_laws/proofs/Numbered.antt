@@ -5,7 +5,7 @@ use Rattle.wesl_names.specs.Path.{Text, Path}
 use Rattle.wesl_syntax.specs.Tree.{forest_of, identifiers}
 use Rattle.wesl_syntax.specs.Unit.{UnitView, trees_of, name_in, numbers}
 use Rattle.wesl_syntax.specs.Numbers.{AreNumbers}
-use Rattle.wesl_world.specs.declared.symbols.Symbol.{Symbol}
+use Rattle.wesl_symbols.specs.declared.symbols.Symbol.{Symbol}
 use Rattle.wesl_world.specs.World.{Task, Entered, Reached}
 use Rattle.wesl_world.specs.Faults.{AreDistinct}
 use Rattle.wesl_world.proofs.Lists.{contains_map, map_contains}

@@ -5,7 +5,7 @@ use Rattle.std.specs.Option.{option_or}
 use Rattle.std.proofs.lemmas.List.Elements.{All-contains, Contains-append_cases, Contains-append_right}
 use Rattle.wesl_names.specs.Path.{Text, Path}
 use Rattle.wesl_world.specs.World.{Task, Entered}
-use Rattle.wesl_world.proofs.Lists.{contains_nil, contains_first, contains_later, contains_cases}
+use Rattle.wesl_symbols.proofs.Lists.{contains_nil, contains_first, contains_later, contains_cases}
 use Rattle.wesl_occurrences.specs.Occurrences.{Block, Standing, module_name, parameter, local as local_name, reference, word, Occurrence, occurrences, is_binder}
 use Rattle.wesl_meanings.specs.Keys.{named as named_in}
 use Rattle.wesl_meanings.specs.Scopes.{is_visible, binds, binder_of}

@@ -4,11 +4,13 @@ use Rattle.std.specs.Prelude.{flat_map}
 use Rattle.std.proofs.lemmas.List.Elements.{Contains-append_left, Contains-append_right}
 use Rattle.wesl_names.specs.Path.{Text, Path}
 use Rattle.wesl_syntax.specs.Tree.{TreeOf}
-use Rattle.wesl_world.specs.declared.symbols.Symbol.{Symbol}
-use Rattle.wesl_world.specs.declared.symbols.LookUp.{LookUp}
-use Rattle.wesl_world.specs.Tables.{Table}
-use Rattle.wesl_world.specs.World.{Task, AsksFrom, Entered, Reached, Followed, led_to, by_assert, by_symbol}
-use Rattle.wesl_world.proofs.Lists.{contains_nil, contains_cases, map_contains}
+use Rattle.wesl_symbols.specs.declared.symbols.Symbol.{Symbol}
+use Rattle.wesl_symbols.specs.declared.symbols.LookUp.{LookUp}
+use Rattle.wesl_symbols.specs.Tables.{Table}
+use Rattle.wesl_symbols.specs.Names.{AsksFrom}
+use Rattle.wesl_world.specs.World.{Task, Entered, Reached, Followed, led_to, by_assert, by_symbol}
+use Rattle.wesl_symbols.proofs.Lists.{contains_nil, contains_cases}
+use Rattle.wesl_world.proofs.Lists.{map_contains}
 use Rattle.wesl_table.specs.Uses.{Use, asked}
 use Rattle.wesl_table.specs.Tables.{name_of, reference_to, declaration_of}
 use Rattle.wesl_linker.specs.Linked.{AskedLeadsTo}

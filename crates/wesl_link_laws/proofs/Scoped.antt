@@ -7,7 +7,7 @@ use Rattle.std.proofs.lemmas.Slice.Eq.{bytes_eq-Decides}
 use Rattle.wesl_names.specs.Path.{Text}
 use Rattle.wesl_occurrences.specs.Occurrences.{Block, Occurrence}
 use Rattle.wesl_meanings.specs.Scopes.{is_visible, binds, binder_of}
-use Rattle.wesl_world.proofs.Lists.{contains_first, contains_later}
+use Rattle.wesl_symbols.proofs.Lists.{contains_first, contains_later}
 
 -- the first that passes a test is one of the list, and passes it
 module _ {X : Type 0} (test : X → Bool) where

@@ -2,10 +2,10 @@
 use Rattle.std.proofs.Common.{◌≡◌, ◌⊎◌, inl, inr, ℕ, ◌+◌, ◌≤◌, List, [], ◌∷◌, map, Contains, arith, refl, sym, ap, ◌∙◌, subst, Bool, true, false, ◌&&◌}
 use Rattle.wesl_names.specs.Path.{Text, Path}
 use Rattle.wesl_syntax.specs.Tree.{ForestOf, TreeOf, end, tree, trees, before, kind, at, function, declaration_node}
-use Rattle.wesl_world.specs.Tables.{Table}
+use Rattle.wesl_symbols.specs.Tables.{Table}
 use Rattle.wesl_world.specs.World.{Task}
 use Rattle.wesl_world.specs.Faults.{AreDistinct}
-use Rattle.wesl_world.proofs.Lists.{contains_nil, contains_cases}
+use Rattle.wesl_symbols.proofs.Lists.{contains_nil, contains_cases}
 use Rattle.wesl_occurrences.specs.Occurrences.{Block, Occurrence, Node, after_field, count, occurrences}
 use Rattle.wesl_occurrences.specs.Pieces.{declarations_in}
 use Rattle.wesl_table.specs.Imports.{imports}

@@ -4,9 +4,9 @@ use Rattle.std.specs.Prelude.{bytes_eq}
 use Rattle.std.specs.List.{All, filter, find}
 use Rattle.std.proofs.lemmas.List.Elements.{All-contains, All-contains_itself, Contains-append_cases}
 use Rattle.wesl_names.specs.Path.{Text, Path}
-use Rattle.wesl_world.specs.declared.symbols.Symbol.{Symbol}
+use Rattle.wesl_symbols.specs.declared.symbols.Symbol.{Symbol}
 use Rattle.wesl_world.specs.World.{Task, Entered}
-use Rattle.wesl_world.proofs.Lists.{contains_nil}
+use Rattle.wesl_symbols.proofs.Lists.{contains_nil}
 use Rattle.wesl_occurrences.specs.Occurrences.{Block, Standing, module_name, parameter, local as local_name, reference, word, Occurrence, occurrences, is_binder, is_unqualified}
 use Rattle.wesl_meanings.specs.Keys.{named as named_in}
 use Rattle.wesl_meanings.specs.Scopes.{bound, is_visible, binds, binder_of, meaning, key_as}

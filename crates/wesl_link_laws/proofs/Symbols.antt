@@ -4,7 +4,8 @@ use Rattle.std.specs.Prelude.{bytes_eq}
 use Rattle.std.proofs.lemmas.List.Elements.{Contains-append_cases}
 use Rattle.std.proofs.lemmas.Slice.Eq.{bytes_eq-Decides}
 use Rattle.wesl_names.specs.Path.{Text, Path}
-use Rattle.wesl_world.specs.World.{Task, Declares, Entered, Reached}
+use Rattle.wesl_symbols.specs.Names.{Declares}
+use Rattle.wesl_world.specs.World.{Task, Entered, Reached}
 use Rattle.wesl_world.proofs.Lists.{map_contains}
 use Rattle.wesl_occurrences.specs.Occurrences.{Block, Standing, module_name, parameter, local as local_name, reference, word, Occurrence, is_binder}
 use Rattle.wesl_faith.specs.Faithful.{is_global}

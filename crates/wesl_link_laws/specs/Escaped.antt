@@ -4,7 +4,7 @@ use Rattle.wesl_names.specs.Path.{Text, Path}
 use Rattle.wesl_syntax.specs.Unit.{UnitView, trees_of}
 use Rattle.wesl_occurrences.specs.Occurrences.{Occurrence, occurrences}
 use Rattle.wesl_faith.specs.Faithful.{name_of}
-use Rattle.wesl_world.specs.declared.symbols.Symbol.{Symbol}
+use Rattle.wesl_symbols.specs.declared.symbols.Symbol.{Symbol}
 use Rattle.wesl_world.specs.World.{Reached}
 use Rattle.wesl_mangle.specs.Escape.{is_reversible}
 use Rattle.wesl_linker.specs.Worlds.{Module, tables, task_of}

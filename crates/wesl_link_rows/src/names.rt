@@ -1,8 +1,8 @@
 //! Tables of names: what they hold after a call that adds to them, and after one that was refused.
 use wesl_interner::Interner;
 use wesl_row::{Answer, List, Row, names_value, refused, text_value};
+use wesl_symbols::ids::NameId;
 use wesl_tree::Names;
-use wesl_world::ids::NameId;
 
 /// The names of an interner.
 fn listed(row: Row<'_>, interner: &Interner) -> Answer {

@@ -2,12 +2,12 @@
 use serde_json::Value;
 use std::alloc::{AllocError, Global};
 use wesl_row::{Answer, List, Object, Row, numbers_value};
+use wesl_symbols::ids::{NameId, PathId};
+use wesl_symbols::symbols::{Import, Reference, Symbol};
+use wesl_symbols::table::{Declaration, Table};
 use wesl_world::error::LinkError;
-use wesl_world::ids::{NameId, PathId};
-use wesl_world::link::{Linked, resolve_eager, resolve_lazy};
+use wesl_world::link::{Linked, link_eagerly, link_lazily};
 use wesl_world::loader::{LoadError, Loader};
-use wesl_world::symbols::{Import, Reference, Symbol};
-use wesl_world::table::{Declaration, Table};
 
 /// Hands out the modules that a row lists, refuses every other path, and keeps the paths that it was asked for.
 #[derive(Drop)]
@@ -222,7 +222,7 @@ pub fn eager(row: Row<'_>) -> Answer {
         row,
         asked: Vec::new(row.alloc),
     };
-    let found = resolve_eager(row.alloc, root, &mut shelf, row.number("limit", 0));
+    let found = link_eagerly(row.alloc, root, &mut shelf, row.number("limit", 0));
     told(row.alloc, &found, &shelf.asked)
 }
 
@@ -234,6 +234,6 @@ pub fn lazy(row: Row<'_>) -> Answer {
         row,
         asked: Vec::new(row.alloc),
     };
-    let found = resolve_lazy(row.alloc, root, keep, &mut shelf, row.number("limit", 0));
+    let found = link_lazily(row.alloc, root, keep, &mut shelf, row.number("limit", 0));
     told(row.alloc, &found, &shelf.asked)
 }

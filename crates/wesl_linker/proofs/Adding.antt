@@ -12,9 +12,9 @@ use Rattle.wesl_syntax.specs.View.{global_view, placed as placed_tree, declarati
 use Rattle.wesl_syntax.specs.declared.span.Spanned.{Spanned}
 use Rattle.wesl_syntax.specs.declared.declaration.GlobalDeclaration.{GlobalDeclaration}
 use Rattle.wesl_tree.specs.Translation.{unit_view}
-use Rattle.wesl_world.specs.declared.ids.PathId.{PathId}
-use Rattle.wesl_world.specs.declared.ids.NameId.{NameId}
-use Rattle.wesl_world.specs.Tables.{Declaration, Table}
+use Rattle.wesl_symbols.specs.declared.ids.PathId.{PathId}
+use Rattle.wesl_symbols.specs.declared.ids.NameId.{NameId}
+use Rattle.wesl_symbols.specs.Tables.{Declaration, Table}
 use Rattle.wesl_world.specs.Linking.{Linking}
 use Rattle.wesl_world.proofs.Lists.{map_contains}
 use Rattle.wesl_occurrences.specs.Occurrences.{occurrences}

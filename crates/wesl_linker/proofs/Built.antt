@@ -5,16 +5,17 @@ use Rattle.std.proofs.lemmas.Option.{slice_get_within, get_or_from_slice_get}
 use Rattle.wesl_names.specs.Path.{Text, Path, is_relative}
 use Rattle.wesl_syntax.specs.Unit.{UnitOf, spelled}
 use Rattle.wesl_tree.specs.Translation.{unit_view}
-use Rattle.wesl_world.specs.declared.ids.PathId.{PathId}
-use Rattle.wesl_world.specs.declared.ids.NameId.{NameId}
-use Rattle.wesl_world.specs.declared.symbols.Symbol.{Symbol}
-use Rattle.wesl_world.specs.Tables.{Table}
+use Rattle.wesl_symbols.specs.declared.ids.PathId.{PathId}
+use Rattle.wesl_symbols.specs.declared.ids.NameId.{NameId}
+use Rattle.wesl_symbols.specs.declared.symbols.Symbol.{Symbol}
+use Rattle.wesl_symbols.specs.Tables.{Table}
 use Rattle.wesl_world.specs.World as world
 use Rattle.wesl_world.specs.World.{Task, IsAt, Entered, Reached}
 use Rattle.wesl_world.specs.Faults.{Fault, Stands, AreDistinct}
 use Rattle.wesl_world.specs.Faults.AreDistinct.{none as none_distinct, one_more as one_distinct}
 use Rattle.wesl_world.specs.Linking as linking
-use Rattle.wesl_world.proofs.Lists.{contains_later, contains_first, contains_map, map_contains}
+use Rattle.wesl_symbols.proofs.Lists.{contains_later, contains_first}
+use Rattle.wesl_world.proofs.Lists.{contains_map, map_contains}
 use Rattle.wesl_table.specs.Numbering.{AreRelated, SameTable, Numbering, NameAt, PathAt, AreDifferent}
 use Rattle.wesl_linker.specs.Handing.{HaveOne, IsHandedTable}
 use Rattle.wesl_linker.specs.Worlds.{Module, table, tables, IsWorld, task_of, IsLinked}

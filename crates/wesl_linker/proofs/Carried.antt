@@ -1,12 +1,13 @@
 -- What leads, enters, reaches and stands in a world of tables does so in one that says the same in other paths and names,
 -- where these correspond one to one.
 use Rattle.std.proofs.Common.{◌≡◌, ◌⊎◌, inl, inr, ℕ, zero, suc, ◌<◌, Option, Some, None, List, [], ◌∷◌, length, Contains, All, refl, sym, subst, ap, ◌∙◌, arith}
-use Rattle.wesl_world.specs.declared.symbols.Import.{Import}
-use Rattle.wesl_world.specs.declared.symbols.Reference.{Reference}
-use Rattle.wesl_world.specs.declared.symbols.Symbol.{Symbol}
-use Rattle.wesl_world.specs.declared.symbols.LookUp.{LookUp}
-use Rattle.wesl_world.specs.Tables.{Declaration, Table}
-use Rattle.wesl_world.specs.World.{Declares, Imports, Asks, AsksUnder, AsksFrom, IsAt, Shows, Finds, Hops, LeadsTo, ComesTo, HasMet, Walk, IsMissingAt, IsPrivateAt, Task, IsKept, Entered, Reached, Followed}
+use Rattle.wesl_symbols.specs.declared.symbols.Import.{Import}
+use Rattle.wesl_symbols.specs.declared.symbols.Reference.{Reference}
+use Rattle.wesl_symbols.specs.declared.symbols.Symbol.{Symbol}
+use Rattle.wesl_symbols.specs.declared.symbols.LookUp.{LookUp}
+use Rattle.wesl_symbols.specs.Tables.{Declaration, Table}
+use Rattle.wesl_symbols.specs.Names.{Declares, Imports, Asks, AsksUnder, AsksFrom, Shows}
+use Rattle.wesl_world.specs.World.{IsAt, Finds, Hops, LeadsTo, ComesTo, HasMet, Walk, IsMissingAt, IsPrivateAt, Task, IsKept, Entered, Reached, Followed}
 use Rattle.wesl_world.specs.World.LeadsTo.{here, through}
 use Rattle.wesl_world.specs.World.ComesTo.{stays, hops}
 use Rattle.wesl_world.specs.World.Walk.{begin, step}
@@ -15,7 +16,7 @@ use Rattle.wesl_world.specs.World.Reached.{led_to, declared}
 use Rattle.wesl_world.specs.World.Followed.{kept, by_assert, by_symbol}
 use Rattle.wesl_world.specs.Faults.{Fault, duplicate, refused, missing, private, too_many, SameTarget, IsOwn, Clashes, AreDistinct, Stands}
 use Rattle.wesl_world.specs.Faults.AreDistinct.{none as none_distinct, one_more as one_distinct}
-use Rattle.wesl_world.proofs.Lists.{contains_nil, contains_later, contains_first, contains_cases}
+use Rattle.wesl_symbols.proofs.Lists.{contains_nil, contains_later, contains_first, contains_cases}
 use Rattle.wesl_table.specs.Numbering.{AreRelated, IsRelatedOption, SameImport, SameReference, SameDeclaration, SameTable}
 
 -- ---- lists and options

@@ -9,14 +9,15 @@ use Rattle.wesl_names.specs.declared.errors.ResolveError as resolve_error
 use Rattle.wesl_names.proofs.Order.{before-total}
 use Rattle.wesl_syntax.specs.Unit.{UnitOf, spelled}
 use Rattle.wesl_tree.specs.Translation.{unit_view}
-use Rattle.wesl_world.specs.declared.ids.PathId.{PathId}
-use Rattle.wesl_world.specs.declared.ids.NameId.{NameId}
-use Rattle.wesl_world.specs.Tables.{Table}
+use Rattle.wesl_symbols.specs.declared.ids.PathId.{PathId}
+use Rattle.wesl_symbols.specs.declared.ids.NameId.{NameId}
+use Rattle.wesl_symbols.specs.Tables.{Table}
 use Rattle.wesl_world.specs.Linking as linking
 use Rattle.wesl_world.specs.Faults.{AreDistinct}
 use Rattle.wesl_world.specs.Faults.AreDistinct.{one_more as one_distinct}
-use Rattle.wesl_world.proofs.Entries.{found_at, none_at}
-use Rattle.wesl_world.proofs.Lists.{contains_first, contains_later, map_contains}
+use Rattle.wesl_symbols.proofs.Entries.{found_at, none_at}
+use Rattle.wesl_symbols.proofs.Lists.{contains_first, contains_later}
+use Rattle.wesl_world.proofs.Lists.{map_contains}
 use Rattle.wesl_table.specs.Tables.{table_at}
 use Rattle.wesl_table.specs.Numbering.{AreRelated, Numbering, Grows, NameAt, PathAt, AreDifferent, SameTable, IsNumbered}
 use Rattle.wesl_table.proofs.Lists.{related_more}

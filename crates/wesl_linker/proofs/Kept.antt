@@ -1,6 +1,6 @@
 -- What a map from paths to units keeps.
 use Rattle.std.proofs.Common.{◌≡◌, true, rules}
-use Rattle.wesl_world.specs.declared.ids.PathId.{PathId}
+use Rattle.wesl_symbols.specs.declared.ids.PathId.{PathId}
 use Rattle.wesl_linker.specs.Taking.{path_eq}
 
 pub path_same : (p q : PathId) → path_eq p q ≡ true → p ≡ q

@@ -3,7 +3,7 @@ use Rattle.std.proofs.Common.{◌≡◌, ◌⊎◌, inl, inr, ℕ, zero, suc, �
 use Rattle.std.specs.Prelude.{slice_get, flat_map}
 use Rattle.std.proofs.lemmas.List.Elements.{Contains-append_cases, Contains-append_left, Contains-append_right}
 use Rattle.wesl_syntax.specs.Tree.{TreeOf, trees, forest_of}
-use Rattle.wesl_world.proofs.Lists.{contains_nil, contains_first, contains_later, contains_cases}
+use Rattle.wesl_symbols.proofs.Lists.{contains_nil, contains_first, contains_later, contains_cases}
 use Rattle.wesl_occurrences.specs.Pieces.{size, cut}
 use Rattle.wesl_table.specs.Numbering.{AreRelated}
 use Rattle.wesl_table.specs.Tables.{paired}

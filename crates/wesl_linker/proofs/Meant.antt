@@ -4,16 +4,17 @@ use Rattle.std.specs.Prelude.{flat_map}
 use Rattle.wesl_names.specs.Path.{Text, Path}
 use Rattle.wesl_syntax.specs.Tree.{TreeOf}
 use Rattle.wesl_syntax.specs.declared.declaration.GlobalDeclaration.{GlobalDeclaration}
-use Rattle.wesl_world.specs.declared.ids.PathId.{PathId}
-use Rattle.wesl_world.specs.declared.ids.NameId.{NameId}
-use Rattle.wesl_world.specs.declared.symbols.Reference.{Reference}
-use Rattle.wesl_world.specs.declared.symbols.LookUp.{LookUp}
-use Rattle.wesl_world.specs.declared.symbols.Symbol.{Symbol}
-use Rattle.wesl_world.specs.Tables.{Declaration, Table}
+use Rattle.wesl_symbols.specs.declared.ids.PathId.{PathId}
+use Rattle.wesl_symbols.specs.declared.ids.NameId.{NameId}
+use Rattle.wesl_symbols.specs.declared.symbols.Reference.{Reference}
+use Rattle.wesl_symbols.specs.declared.symbols.LookUp.{LookUp}
+use Rattle.wesl_symbols.specs.declared.symbols.Symbol.{Symbol}
+use Rattle.wesl_symbols.specs.Tables.{Declaration, Table}
 use Rattle.wesl_world.specs.World.{LeadsTo}
 use Rattle.wesl_world.specs.Linking.{Linking}
 use Rattle.wesl_world.specs.Keeping.{IsHeld}
-use Rattle.wesl_world.proofs.Lists.{contains_nil, contains_cases, map_contains}
+use Rattle.wesl_symbols.proofs.Lists.{contains_nil, contains_cases}
+use Rattle.wesl_world.proofs.Lists.{map_contains}
 use Rattle.wesl_table.specs.Marks.{IsMark}
 use Rattle.wesl_table.specs.Numbering.{Numbering, NameAt, PathAt, AreRelated, AreDifferent, SameReference, SameDeclaration, IsRelatedOption}
 use Rattle.wesl_table.specs.Tables.{declaration_of, reference_to}

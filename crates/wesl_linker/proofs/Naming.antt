@@ -5,13 +5,14 @@ use Rattle.std.proofs.lemmas.List.Elements.{Contains-append_cases, Contains-appe
 use Rattle.wesl_names.specs.Path.{Text, Path, path_view}
 use Rattle.wesl_names.specs.PathOrder.{same_path}
 use Rattle.wesl_names.proofs.Order.{same_path-decides}
-use Rattle.wesl_world.specs.declared.ids.PathId.{PathId}
-use Rattle.wesl_world.specs.declared.ids.NameId.{NameId}
-use Rattle.wesl_world.specs.Tables.{Table}
-use Rattle.wesl_world.specs.World.{Declares}
+use Rattle.wesl_symbols.specs.declared.ids.PathId.{PathId}
+use Rattle.wesl_symbols.specs.declared.ids.NameId.{NameId}
+use Rattle.wesl_symbols.specs.Tables.{Table}
+use Rattle.wesl_symbols.specs.Names.{Declares}
 use Rattle.wesl_world.specs.Faults.{AreDistinct}
 use Rattle.wesl_world.specs.Faults.AreDistinct.{one_more as one_distinct}
-use Rattle.wesl_world.proofs.Lists.{contains_nil, contains_one, contains_first, contains_later, contains_cases, contains_map, map_contains}
+use Rattle.wesl_symbols.proofs.Lists.{contains_nil, contains_first, contains_later, contains_cases}
+use Rattle.wesl_world.proofs.Lists.{contains_one, contains_map, map_contains}
 use Rattle.wesl_table.specs.Numbering.{Numbering, NameAt, PathAt, AreDifferent, IsNumbered, SameDeclaration}
 use Rattle.wesl_table.specs.NumbersView.{numbering}
 use Rattle.wesl_linker.specs.Given.{Given, AreNamed, GivesNames, KeepsOthers, Keeps}

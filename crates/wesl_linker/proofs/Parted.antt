@@ -6,7 +6,7 @@ use Rattle.std.proofs.lemmas.List.Elements.{Contains-append_cases}
 use Rattle.wesl_syntax.specs.Tree.{TreeOf, ForestOf, forest_of, identifiers, respell_forest}
 use Rattle.wesl_syntax.specs.declared.span.Spanned.{Spanned}
 use Rattle.wesl_syntax.specs.declared.declaration.GlobalDeclaration.{GlobalDeclaration}
-use Rattle.wesl_world.proofs.Lists.{contains_nil}
+use Rattle.wesl_symbols.proofs.Lists.{contains_nil}
 use Rattle.wesl_table.specs.NumbersView.{numbering}
 use Rattle.wesl_assembly.specs.Linked.{shape, declaration_ref_tree}
 use Rattle.wesl_assembly.specs.Views.{Meaning, denotation_view}

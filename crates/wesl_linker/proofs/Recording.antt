@@ -8,10 +8,11 @@ use Rattle.std.proofs.lemmas.List.{map-append, take_more}
 use Rattle.std.proofs.lemmas.List.Elements.{filter-append, filter_map-append}
 use Rattle.wesl_names.specs.Path.{Text, Path}
 use Rattle.wesl_mangle.specs.Mangler.{written_if}
-use Rattle.wesl_world.specs.declared.ids.PathId.{PathId}
-use Rattle.wesl_world.specs.declared.ids.NameId.{NameId}
-use Rattle.wesl_world.specs.Tables.{Declaration, Table}
-use Rattle.wesl_world.proofs.Lists.{contains_nil, contains_first, contains_later, contains_cases, contains_map, map_contains}
+use Rattle.wesl_symbols.specs.declared.ids.PathId.{PathId}
+use Rattle.wesl_symbols.specs.declared.ids.NameId.{NameId}
+use Rattle.wesl_symbols.specs.Tables.{Declaration, Table}
+use Rattle.wesl_symbols.proofs.Lists.{contains_nil, contains_first, contains_later, contains_cases}
+use Rattle.wesl_world.proofs.Lists.{contains_map, map_contains}
 use Rattle.wesl_table.specs.Numbering.{Numbering, NameAt, AreDifferent}
 use Rattle.wesl_linker.specs.Given.{Given, AreNamed}
 use Rattle.wesl_linker.specs.Recorded.{Record, Write, all_written, firsts, writes_of, text_of, declared_texts, HasNone, written_unless}

@@ -5,12 +5,13 @@ use Rattle.std.proofs.lemmas.List.Elements.{Contains-append_cases, Contains-appe
 use Rattle.std.proofs.lemmas.List.Sorted.{Contains-permutation, IsPermutation-sym, IsPermutation-map, length_permutation}
 use Rattle.wesl_names.specs.Path.{Text, Path}
 use Rattle.wesl_syntax.specs.Unit.{UnitOf}
-use Rattle.wesl_world.specs.declared.symbols.Symbol.{Symbol}
-use Rattle.wesl_world.specs.Tables.{Table}
+use Rattle.wesl_symbols.specs.declared.symbols.Symbol.{Symbol}
+use Rattle.wesl_symbols.specs.Tables.{Table}
 use Rattle.wesl_world.specs.World.{Task, Entered, Reached}
 use Rattle.wesl_world.specs.Faults.{Fault, Stands, AreDistinct}
 use Rattle.wesl_world.specs.Faults.AreDistinct.{none as none_distinct, one_more as one_distinct}
-use Rattle.wesl_world.proofs.Lists.{contains_nil, contains_later, contains_first, contains_cases, contains_map, map_contains, distinct_length}
+use Rattle.wesl_symbols.proofs.Lists.{contains_nil, contains_later, contains_first, contains_cases}
+use Rattle.wesl_world.proofs.Lists.{contains_map, map_contains, distinct_length}
 use Rattle.wesl_table.specs.Numbering.{AreRelated, IsRelatedOption, SameImport, SameReference, SameDeclaration, SameTable}
 use Rattle.wesl_linker.specs.Worlds.{Module, table, tables, IsLinked}
 use Rattle.wesl_linker.proofs.Carried.{IsOneToOne, Back, SameTask, SameFault, Covers, entered_to, reached_to, stands_to}

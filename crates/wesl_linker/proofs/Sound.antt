@@ -10,14 +10,15 @@ use Rattle.wesl_names.specs.declared.errors.ResolveError as resolve_error
 use Rattle.wesl_syntax.specs.Unit.{UnitOf, spelled}
 use Rattle.wesl_tree.specs.Translation.{unit_view}
 use Rattle.wesl_tree.specs.declared.unit.TranslationUnit.{TranslationUnit}
-use Rattle.wesl_world.specs.declared.ids.PathId.{PathId}
-use Rattle.wesl_world.specs.declared.ids.NameId.{NameId}
-use Rattle.wesl_world.specs.declared.symbols.Symbol.{Symbol}
-use Rattle.wesl_world.specs.Tables.{Table}
+use Rattle.wesl_symbols.specs.declared.ids.PathId.{PathId}
+use Rattle.wesl_symbols.specs.declared.ids.NameId.{NameId}
+use Rattle.wesl_symbols.specs.declared.symbols.Symbol.{Symbol}
+use Rattle.wesl_symbols.specs.Tables.{Table}
 use Rattle.wesl_world.specs.World.{Task, Reached}
 use Rattle.wesl_world.specs.Linking as linking
-use Rattle.wesl_world.proofs.Entries.{found_at}
-use Rattle.wesl_world.proofs.Lists.{contains_cases, contains_first, contains_later, contains_map, map_contains}
+use Rattle.wesl_symbols.proofs.Entries.{found_at}
+use Rattle.wesl_symbols.proofs.Lists.{contains_cases, contains_first, contains_later}
+use Rattle.wesl_world.proofs.Lists.{contains_map, map_contains}
 use Rattle.wesl_table.specs.Numbering.{Numbering, AreRelated, Grows, NameAt, PathAt, AreDifferent, IsNumbered, SameTable}
 use Rattle.wesl_table.specs.NumbersView.{numbering}
 use Rattle.wesl_table.specs.Marks.{AreMarked}

@@ -1,13 +1,14 @@
 -- Units are taken one at a time: what is taken, and what is left.
 use Rattle.std.proofs.Common.{◌≡◌, ℕ, zero, suc, ◌<◌, ◌+◌, Some, List, [], ◌∷◌, ◌++◌, length, take, drop, get_or, Contains, sym, subst, ap, ◌∙◌, arith}
 use Rattle.std.specs.Prelude.{slice_get}
-use Rattle.wesl_world.specs.declared.ids.PathId.{PathId}
-use Rattle.wesl_world.specs.declared.ids.NameId.{NameId}
-use Rattle.wesl_world.specs.Tables.{Table}
+use Rattle.wesl_symbols.specs.declared.ids.PathId.{PathId}
+use Rattle.wesl_symbols.specs.declared.ids.NameId.{NameId}
+use Rattle.wesl_symbols.specs.Tables.{Table}
 use Rattle.wesl_world.specs.Linking.{paths}
 use Rattle.wesl_world.specs.Faults.{AreDistinct}
 use Rattle.wesl_world.specs.Faults.AreDistinct.{one_more as one_distinct}
-use Rattle.wesl_world.proofs.Lists.{contains_nil, contains_first, contains_later, map_contains}
+use Rattle.wesl_symbols.proofs.Lists.{contains_nil, contains_first, contains_later}
+use Rattle.wesl_world.proofs.Lists.{map_contains}
 use Rattle.wesl_table.specs.Numbering.{Numbering, AreRelated}
 use Rattle.wesl_table.proofs.Lists.{related_append, take_next}
 use Rattle.wesl_linker.specs.Taking.{unit_at, AreKept, IsTaken}

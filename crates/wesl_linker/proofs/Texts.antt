@@ -6,8 +6,8 @@ use Rattle.std.proofs.lemmas.Slice.Eq.{bytes_eq-Decides}
 use Rattle.wesl_names.specs.Path.{Text, Path, root_path}
 use Rattle.wesl_names.specs.PathOrder.{same_path}
 use Rattle.wesl_names.proofs.Order.{same_path-decides}
-use Rattle.wesl_world.specs.declared.ids.PathId.{PathId}
-use Rattle.wesl_world.specs.declared.ids.NameId.{NameId}
+use Rattle.wesl_symbols.specs.declared.ids.PathId.{PathId}
+use Rattle.wesl_symbols.specs.declared.ids.NameId.{NameId}
 use Rattle.wesl_table.specs.Numbering.{Numbering, NameAt, PathAt, AreDifferent}
 use Rattle.wesl_linker.specs.Given.{Given}
 use Rattle.wesl_assembly.specs.Denotations.{symbol, local, free_name}

@@ -10,8 +10,9 @@ use Rattle.wesl_syntax.specs.declared.span.Spanned.{Spanned}
 use Rattle.wesl_syntax.specs.declared.declaration.GlobalDirective.{GlobalDirective}
 use Rattle.wesl_syntax.specs.declared.declaration.GlobalDeclaration.{GlobalDeclaration}
 use Rattle.wesl_tree.specs.Translation.{unit_view}
-use Rattle.wesl_world.specs.Tables.{Table}
-use Rattle.wesl_world.proofs.Lists.{contains_nil, contains_first, contains_later, contains_cases, contains_map}
+use Rattle.wesl_symbols.specs.Tables.{Table}
+use Rattle.wesl_symbols.proofs.Lists.{contains_nil, contains_first, contains_later, contains_cases}
+use Rattle.wesl_world.proofs.Lists.{contains_map}
 use Rattle.wesl_occurrences.specs.Laws.{PiecesAreDeclarations}
 use Rattle.wesl_occurrences.specs.Occurrences.{Occurrence, occurrences}
 use Rattle.wesl_occurrences.specs.Pieces.{declarations_in, pieces}

@@ -1,11 +1,11 @@
 -- Names that are given to symbols (WESL, "NameMangling").
 use Rattle.std.specs.Prelude.{◌≡◌, Option, Some, None}
 use Rattle.wesl_names.specs.Path.{Text}
-use Rattle.wesl_world.specs.declared.ids.PathId.{PathId}
-use Rattle.wesl_world.specs.declared.ids.NameId.{NameId}
-use Rattle.wesl_world.specs.declared.symbols.Symbol.{Symbol}
-use Rattle.wesl_world.specs.Tables.{Table}
-use Rattle.wesl_world.specs.World.{Declares}
+use Rattle.wesl_symbols.specs.declared.ids.PathId.{PathId}
+use Rattle.wesl_symbols.specs.declared.ids.NameId.{NameId}
+use Rattle.wesl_symbols.specs.declared.symbols.Symbol.{Symbol}
+use Rattle.wesl_symbols.specs.Tables.{Table}
+use Rattle.wesl_symbols.specs.Names.{Declares}
 use Rattle.wesl_table.specs.Numbering.{Numbering, NameAt}
 
 -- the name of each symbol that was given one

@@ -1,9 +1,9 @@
 -- The names that a value of the code holds.
 use Rattle.std.specs.Prelude.{Bool, ◌&&◌, nat_eq, option_map, string_bytes}
 use Rattle.std.specs.Map.{lookup}
-use Rattle.wesl_world.specs.declared.ids.PathId.{PathId}
-use Rattle.wesl_world.specs.declared.ids.NameId.{NameId}
-use Rattle.wesl_world.specs.declared.symbols.Symbol.{Symbol}
+use Rattle.wesl_symbols.specs.declared.ids.PathId.{PathId}
+use Rattle.wesl_symbols.specs.declared.ids.NameId.{NameId}
+use Rattle.wesl_symbols.specs.declared.symbols.Symbol.{Symbol}
 use Rattle.wesl_linker.specs.Given.{Given}
 use Rattle.wesl_linker.specs.declared.given.GivenNames.{GivenNames}
 

@@ -5,10 +5,10 @@ use Rattle.wesl_names.specs.declared.errors.ResolveError.{ResolveError}
 use Rattle.wesl_syntax.specs.Unit.{UnitOf, spelled}
 use Rattle.wesl_tree.specs.Translation.{unit_view}
 use Rattle.wesl_resolve.specs.Resolver.{MeansTheSame}
-use Rattle.wesl_world.specs.declared.ids.PathId.{PathId}
-use Rattle.wesl_world.specs.declared.ids.NameId.{NameId}
-use Rattle.wesl_world.specs.Tables.{Table}
-use Rattle.wesl_world.specs.Keyed.{Puts}
+use Rattle.wesl_symbols.specs.declared.ids.PathId.{PathId}
+use Rattle.wesl_symbols.specs.declared.ids.NameId.{NameId}
+use Rattle.wesl_symbols.specs.Tables.{Table}
+use Rattle.wesl_symbols.specs.Keyed.{Puts}
 use Rattle.wesl_table.specs.Marks.{AreMarked}
 use Rattle.wesl_table.specs.Tables.{table_at, uses}
 use Rattle.wesl_table.specs.Numbering.{Numbering, Grows, PathAt, IsNumbered}

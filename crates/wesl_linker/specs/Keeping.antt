@@ -2,10 +2,10 @@
 use Rattle.std.specs.Prelude.{◌≡◌, ◌↔◌, ℕ, suc, Bool, false, if◌then◌else◌, Option, Some, None, option_map, List, [], ◌∷◌, Contains, map, get_or, bytes_eq}
 use Rattle.wesl_names.specs.Path.{Text, Path, root_path, path_view, is_relative}
 use Rattle.wesl_names.specs.PathOrder.{same_path}
-use Rattle.wesl_world.specs.declared.ids.PathId.{PathId}
-use Rattle.wesl_world.specs.declared.ids.NameId.{NameId}
-use Rattle.wesl_world.specs.declared.symbols.Symbol.{Symbol}
-use Rattle.wesl_world.specs.Tables.{Table}
+use Rattle.wesl_symbols.specs.declared.ids.PathId.{PathId}
+use Rattle.wesl_symbols.specs.declared.ids.NameId.{NameId}
+use Rattle.wesl_symbols.specs.declared.symbols.Symbol.{Symbol}
+use Rattle.wesl_symbols.specs.Tables.{Table}
 use Rattle.wesl_world.specs.World.{Task, Reached}
 use Rattle.wesl_world.specs.Faults.{AreDistinct}
 use Rattle.wesl_table.specs.Numbering.{Numbering, NameAt, PathAt, IsNumbered}

@@ -2,7 +2,8 @@
 use Rattle.std.specs.Prelude.{◌≡◌, ℕ, true, List, [], Contains}
 use Rattle.wesl_names.specs.Path.{Text, Path}
 use Rattle.wesl_syntax.specs.Unit.{UnitOf}
-use Rattle.wesl_world.specs.World.{Task, Declares, Reached}
+use Rattle.wesl_symbols.specs.Names.{Declares}
+use Rattle.wesl_world.specs.World.{Task, Reached}
 use Rattle.wesl_world.specs.Faults.{Fault}
 use Rattle.wesl_linker.specs.Worlds.{Module, table, tables, task_of, IsLinked, IsRefused}
 

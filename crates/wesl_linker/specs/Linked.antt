@@ -3,8 +3,8 @@ use Rattle.std.specs.Prelude.{◌≡◌, ◌++◌, ℕ, Bool, true, false, Optio
 use Rattle.wesl_names.specs.Path.{Text, Path}
 use Rattle.wesl_syntax.specs.Tree.{LabelOf, kind, const_assert, TreeOf, trees, branch, forest_of, identifiers, imports as imports_kind, directive_list, declarations as declarations_kind}
 use Rattle.wesl_syntax.specs.Unit.{UnitOf, UnitView}
-use Rattle.wesl_world.specs.declared.symbols.Symbol.{Symbol}
-use Rattle.wesl_world.specs.Tables.{Table}
+use Rattle.wesl_symbols.specs.declared.symbols.Symbol.{Symbol}
+use Rattle.wesl_symbols.specs.Tables.{Table}
 use Rattle.wesl_world.specs.World.{Task, LeadsTo, Reached}
 use Rattle.wesl_occurrences.specs.Pieces.{declarations_in}
 use Rattle.wesl_table.specs.Imports.{first_label}

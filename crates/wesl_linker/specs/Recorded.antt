@@ -2,9 +2,9 @@
 use Rattle.std.specs.Prelude.{◌≡◌, Bool, not, Option, Some, None, List, [], ◌∷◌, map, filter, filter_map, get_or, bytes_eq}
 use Rattle.wesl_names.specs.Path.{Text, Path}
 use Rattle.wesl_mangle.specs.Mangler.{written_if}
-use Rattle.wesl_world.specs.declared.ids.PathId.{PathId}
-use Rattle.wesl_world.specs.declared.ids.NameId.{NameId}
-use Rattle.wesl_world.specs.Tables.{Declaration}
+use Rattle.wesl_symbols.specs.declared.ids.PathId.{PathId}
+use Rattle.wesl_symbols.specs.declared.ids.NameId.{NameId}
+use Rattle.wesl_symbols.specs.Tables.{Declaration}
 use Rattle.wesl_table.specs.Numbering.{Numbering}
 use Rattle.wesl_linker.specs.Given.{Given}
 

@@ -1,8 +1,8 @@
 -- Modules that were loaded, and where their symbol tables stand.
 use Rattle.std.specs.Prelude.{◌≡◌, Some, List, slice_get}
-use Rattle.wesl_world.specs.declared.ids.PathId.{PathId}
-use Rattle.wesl_world.specs.declared.ids.NameId.{NameId}
-use Rattle.wesl_world.specs.Tables.{Table}
+use Rattle.wesl_symbols.specs.declared.ids.PathId.{PathId}
+use Rattle.wesl_symbols.specs.declared.ids.NameId.{NameId}
+use Rattle.wesl_symbols.specs.Tables.{Table}
 use Rattle.wesl_table.specs.Marks.{AreMarked}
 use Rattle.wesl_table.specs.Numbering.{Numbering, IsNumbered}
 use Rattle.wesl_table.specs.Tables.{uses}

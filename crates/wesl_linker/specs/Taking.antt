@@ -4,10 +4,10 @@ use Rattle.std.specs.List.{AllAdjacentBelow}
 use Rattle.std.specs.Map.{lookup}
 use Rattle.wesl_names.specs.Path.{Path, path_view}
 use Rattle.wesl_names.specs.PathOrder.{path_before}
-use Rattle.wesl_world.specs.declared.ids.PathId.{PathId}
-use Rattle.wesl_world.specs.declared.ids.NameId.{NameId}
-use Rattle.wesl_world.specs.contracts.ids.PathIdPartialEq.TheImpl as equality
-use Rattle.wesl_world.specs.Tables.{Table}
+use Rattle.wesl_symbols.specs.declared.ids.PathId.{PathId}
+use Rattle.wesl_symbols.specs.declared.ids.NameId.{NameId}
+use Rattle.wesl_symbols.specs.contracts.ids.PathIdPartialEq.TheImpl as equality
+use Rattle.wesl_symbols.specs.Tables.{Table}
 use Rattle.wesl_table.specs.Numbering.{Numbering, PathAt}
 use Rattle.wesl_linker.specs.declared.loaded.Held.{Held}
 use Rattle.wesl_linker.specs.declared.loaded.LoadedModule.{LoadedModule}

@@ -4,8 +4,8 @@ use Rattle.std.specs.List.{AllAdjacentBelow}
 use Rattle.wesl_names.specs.Path.{Text, Path, is_relative}
 use Rattle.wesl_names.specs.PathOrder.{path_before}
 use Rattle.wesl_syntax.specs.Unit.{UnitOf}
-use Rattle.wesl_world.specs.declared.symbols.Symbol.{Symbol}
-use Rattle.wesl_world.specs.Tables.{Table}
+use Rattle.wesl_symbols.specs.declared.symbols.Symbol.{Symbol}
+use Rattle.wesl_symbols.specs.Tables.{Table}
 use Rattle.wesl_world.specs.World.{Task, Entered, Reached}
 use Rattle.wesl_world.specs.Faults.{Fault, Stands, AreDistinct}
 use Rattle.wesl_table.specs.Tables.{table_at}

@@ -27,13 +27,13 @@ use wesl_assembly::{
 };
 use wesl_names::Error;
 use wesl_occurrences::law_of_pieces;
+use wesl_symbols::ids::{NameId, PathId};
+use wesl_symbols::symbols::{Reference, Symbol};
+use wesl_symbols::table::{Declaration, Table};
 use wesl_syntax::{GlobalDeclaration, GlobalDeclarationNode};
 use wesl_table::marks::Mark;
 use wesl_table::numbers::Numbers;
 use wesl_tree::TranslationUnit;
-use wesl_world::ids::{NameId, PathId};
-use wesl_world::symbols::{Reference, Symbol};
-use wesl_world::table::{Declaration, Table};
 
 /// The declarations that are held, and what the identifiers of directives and of these stand for, in document order.
 #[derive(Drop)]

@@ -2,9 +2,9 @@
 ghost use Rattle.std.specs.Prelude.{◌≡◌, Some, None, OnOk, IfErr, option_map, string_bytes};
 ghost use Rattle.wesl_names.specs.Path.{Text, Path, path_view};
 ghost use Rattle.wesl_names.specs.declared.errors.Error as error;
-ghost use Rattle.wesl_world.specs.declared.ids.PathId.{PathId};
-ghost use Rattle.wesl_world.specs.declared.ids.NameId.{NameId};
-ghost use Rattle.wesl_world.specs.declared.symbols.Symbol as symbols;
+ghost use Rattle.wesl_symbols.specs.declared.ids.PathId.{PathId};
+ghost use Rattle.wesl_symbols.specs.declared.ids.NameId.{NameId};
+ghost use Rattle.wesl_symbols.specs.declared.symbols.Symbol as symbols;
 ghost use Rattle.wesl_table.specs.NumbersView.{numbering};
 ghost use Rattle.wesl_linker.specs.Given.{AreNamed, GivesName, GivesNames, Keeps, KeepsOthers, KeepsUndeclared};
 ghost use Rattle.wesl_linker.specs.Recorded.{HasNone, IsRecordedBy, writes_of, firsts, declared_texts, written_unless};
@@ -13,10 +13,10 @@ use indexmap::IndexMap;
 use std::alloc::Global;
 use wesl_mangle::Mangler;
 use wesl_names::{Error, ModulePath};
+use wesl_symbols::ids::{NameId, PathId};
+use wesl_symbols::symbols::Symbol;
+use wesl_symbols::table::Table;
 use wesl_table::numbers::Numbers;
-use wesl_world::ids::{NameId, PathId};
-use wesl_world::symbols::Symbol;
-use wesl_world::table::Table;
 
 /// The names that a mangler gave to symbols (WESL, "NameMangling").
 #[derive(Drop)]

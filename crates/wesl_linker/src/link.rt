@@ -6,10 +6,10 @@ ghost use Rattle.wesl_linker.specs.Worlds as worlds;
 ghost use Rattle.wesl_linker.specs.Tabled.{IsMarked, IsTabled, module_of};
 
 use crate::loaded::LoadedModule;
+use wesl_symbols::ids::NameId;
+use wesl_symbols::table::Table;
 use wesl_table::numbers::Numbers;
-use wesl_world::ids::NameId;
 use wesl_world::link::Linked;
-use wesl_world::table::Table;
 
 /// A link that succeeded: its root, its other modules in path order, the names that were kept or that all was asked for,
 /// and what is reached.

@@ -5,7 +5,7 @@ ghost use Rattle.wesl_names.specs.Path.{Path, path_view};
 ghost use Rattle.wesl_names.specs.declared.errors.Error as error;
 ghost use Rattle.wesl_world.specs.Faults.{AreDistinct};
 ghost use Rattle.wesl_world.specs.Linking.{paths};
-ghost use Rattle.wesl_world.specs.declared.ids.PathId as path_id;
+ghost use Rattle.wesl_symbols.specs.declared.ids.PathId as path_id;
 ghost use Rattle.wesl_table.specs.Numbering.{AreRelated};
 ghost use Rattle.wesl_table.specs.NumbersView.{numbering};
 ghost use Rattle.wesl_linker.specs.Taking.{AreKept, AreInOrder, IsTaken, unit_at};
@@ -15,11 +15,11 @@ use crate::refusals::path_of;
 use indexmap::IndexMap;
 use std::alloc::Global;
 use wesl_names::{Error, ModulePath, law_of_order};
+use wesl_symbols::ids::PathId;
+use wesl_symbols::table::Table;
 use wesl_table::marks::Mark;
 use wesl_table::numbers::Numbers;
 use wesl_tree::TranslationUnit;
-use wesl_world::ids::PathId;
-use wesl_world::table::Table;
 
 /// A unit that is held for a path, and of each of its declarations what the identifiers are.
 #[derive(Drop)]

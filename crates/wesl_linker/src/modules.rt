@@ -5,9 +5,9 @@ ghost use Rattle.wesl_names.specs.declared.errors.ResolveError.{ResolveError};
 ghost use Rattle.wesl_syntax.specs.Unit.{UnitOf, spelled};
 ghost use Rattle.wesl_tree.specs.Translation.{unit_view};
 ghost use Rattle.wesl_resolve.specs.Resolver.{MeansTheSame};
-ghost use Rattle.wesl_world.specs.declared.ids.PathId as path_id;
+ghost use Rattle.wesl_symbols.specs.declared.ids.PathId as path_id;
 ghost use Rattle.wesl_world.specs.Loader.{Explains};
-ghost use Rattle.wesl_world.specs.Tables as tables;
+ghost use Rattle.wesl_symbols.specs.Tables as tables;
 ghost use Rattle.wesl_world.specs.declared.loader.LoadError.TheVariants as load_error;
 ghost use Rattle.wesl_table.specs.Marks.{AreMarked};
 ghost use Rattle.wesl_table.specs.Tables.{table_at, uses};
@@ -23,12 +23,12 @@ use std::alloc::Global;
 use std::marker::{Brand, PhantomData};
 use wesl_names::{ModulePath, ResolveError};
 use wesl_resolve::Resolver;
+use wesl_symbols::ids::PathId;
+use wesl_symbols::table::Table;
 use wesl_table::numbers::Numbers;
 use wesl_table::table::{Tabled, table_of};
 use wesl_tree::TranslationUnit;
-use wesl_world::ids::PathId;
 use wesl_world::loader::{LoadError, Loader};
-use wesl_world::table::Table;
 
 /// What a resolver hands out and refuses, held fixed for one link.
 pub trait Source<R> {

@@ -8,9 +8,9 @@ ghost use Rattle.wesl_linker.specs.Refusal.{HasNumbers, Tells};
 
 use std::alloc::Global;
 use wesl_names::{Error, ImportError, ModulePath, ResolveError};
+use wesl_symbols::ids::{NameId, PathId};
 use wesl_table::numbers::Numbers;
 use wesl_world::error::LinkError;
-use wesl_world::ids::{NameId, PathId};
 
 /// The path of a number.
 pub fn path_of(alloc: Global, numbers: &Numbers, id: PathId) -> Result<ModulePath, Error>

@@ -36,15 +36,15 @@ use std::marker::{Brand, PhantomData};
 use std::mem::replace;
 use wesl_names::{Diagnostic, Error, ModulePath};
 use wesl_resolve::Resolver;
+use wesl_symbols::ids::{NameId, PathId};
+use wesl_symbols::table::Table;
 use wesl_table::marks::Mark;
 use wesl_table::numbers::Numbers;
 use wesl_table::table::{Tabled, table_of};
 use wesl_tree::TranslationUnit;
 use wesl_world::error::LinkError;
-use wesl_world::ids::{NameId, PathId};
 use wesl_world::link::Linked;
 use wesl_world::loader::Loader;
-use wesl_world::table::Table;
 
 /// The numbers of the kept names.
 fn numbers_of(alloc: Global, numbers: &mut Numbers, keep: &[&str]) -> Result<Vec<NameId>, Error>

@@ -6,7 +6,7 @@ use Rattle.wesl_names.specs.Path.{Text, Origin, absolute, relative, from_package
 use Rattle.wesl_names.specs.declared.names.Ident.{Ident}
 use Rattle.wesl_names.specs.declared.path.ModulePath.{ModulePath}
 use Rattle.wesl_syntax.specs.Tree.{ForestOf, TreeOf, end, tree, trees, identifiers}
-use Rattle.wesl_world.specs.declared.symbols.Import.{Import}
+use Rattle.wesl_symbols.specs.declared.symbols.Import.{Import}
 use Rattle.wesl_table.specs.Imports as imports
 use Rattle.wesl_table.specs.Uses.{is_package, module_in_place, or_else, aims}
 use Rattle.wesl_table.specs.Spelling.{spelled_import}

@@ -8,7 +8,7 @@ use Rattle.wesl_names.specs.declared.names.Ident.{Ident}
 use Rattle.wesl_names.specs.declared.path.ModulePath.{ModulePath}
 use Rattle.wesl_syntax.specs.Tree.{LabelOf, kind, at, ident, text, texts, truth, unary, binary, assignment, space, access, path, binder, reference, word, ForestOf, TreeOf, end, tree, trees, identifiers, respell_label, respell_forest, respell}
 use Rattle.wesl_syntax.specs.Unit.{name_in, UnitView, spelled}
-use Rattle.wesl_world.specs.declared.symbols.Import.{Import}
+use Rattle.wesl_symbols.specs.declared.symbols.Import.{Import}
 use Rattle.wesl_table.specs.Imports as imports
 use Rattle.wesl_table.specs.Tables.{bound_name, or_later, declared_name}
 use Rattle.wesl_table.specs.Spelling.{respell_import, spelled_imports}

@@ -8,7 +8,7 @@ use Rattle.wesl_syntax.specs.declared.span.Spanned.{Spanned}
 use Rattle.wesl_syntax.specs.declared.import.ImportStatement.{ImportStatement}
 use Rattle.wesl_syntax.specs.declared.import.Import.{Import, out-Import}
 use Rattle.wesl_syntax.specs.declared.import.ImportContent.TheFolds.{fold_out-Import}
-use Rattle.wesl_world.specs.declared.symbols.Import as world
+use Rattle.wesl_symbols.specs.declared.symbols.Import as world
 use Rattle.wesl_table.specs.Imports.{statement_imports, all_imports, below}
 
 pub view_entry : (i : Import) → entry_view i ≡ branch import_entry (names_tree (out-Import i).path ∷ content_view (out-Import i).content ∷ [])

@@ -5,9 +5,9 @@ use denote.Ref.{Bor}
 use Rattle.wesl_names.specs.Path.{Text, Path, path_view}
 use Rattle.wesl_names.specs.declared.path.ModulePath.{ModulePath}
 use Rattle.wesl_syntax.specs.Unit.{name_in}
-use Rattle.wesl_world.specs.declared.symbols.Reference.{Reference}
-use Rattle.wesl_world.specs.declared.ids.PathId.{PathId}
-use Rattle.wesl_world.specs.declared.ids.NameId.{NameId}
+use Rattle.wesl_symbols.specs.declared.symbols.Reference.{Reference}
+use Rattle.wesl_symbols.specs.declared.ids.PathId.{PathId}
+use Rattle.wesl_symbols.specs.declared.ids.NameId.{NameId}
 use Rattle.wesl_occurrences.specs.Laws.{renamed, SpellingKeepsOccurrences}
 use Rattle.wesl_occurrences.specs.Occurrences as spec
 use Rattle.wesl_occurrences.specs.Occurrences.{occurrences}

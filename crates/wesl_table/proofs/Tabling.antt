@@ -6,10 +6,10 @@ use Rattle.std.proofs.lemmas.List.{length-map}
 use Rattle.wesl_names.specs.Path.{Text, Path}
 use Rattle.wesl_syntax.specs.Tree.{TreeOf, end, kind, void, declarations, respell_label}
 use Rattle.wesl_syntax.specs.Unit.{name_in}
-use Rattle.wesl_world.specs.declared.ids.PathId.{PathId}
-use Rattle.wesl_world.specs.declared.ids.NameId.{NameId}
-use Rattle.wesl_world.specs.declared.symbols.Reference.{Reference}
-use Rattle.wesl_world.specs.Tables.{Declaration}
+use Rattle.wesl_symbols.specs.declared.ids.PathId.{PathId}
+use Rattle.wesl_symbols.specs.declared.ids.NameId.{NameId}
+use Rattle.wesl_symbols.specs.declared.symbols.Reference.{Reference}
+use Rattle.wesl_symbols.specs.Tables.{Declaration}
 use Rattle.wesl_occurrences.specs.Laws.{SpellingKeepsOccurrences}
 use Rattle.wesl_occurrences.specs.Occurrences.{occurrences}
 use Rattle.wesl_occurrences.specs.Pieces.{declarations_in, starts_from}

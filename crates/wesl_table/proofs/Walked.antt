@@ -8,7 +8,7 @@ use Rattle.wesl_syntax.specs.View.{kind_tree, optional, path_tree, content_view,
 use Rattle.wesl_syntax.specs.declared.import.ImportStatement.{ImportStatement}
 use Rattle.wesl_syntax.specs.declared.declaration.DeclarationKind.{DeclarationKind}
 use Rattle.wesl_syntax.specs.declared.declaration.DeclarationKind.TheVariants as kinds
-use Rattle.wesl_world.specs.declared.symbols.Import.{Import}
+use Rattle.wesl_symbols.specs.declared.symbols.Import.{Import}
 use Rattle.wesl_table.specs.Imports as imports
 use Rattle.wesl_table.specs.Tables.{declared_name}
 use Rattle.wesl_table.specs.Walks.{imported}

@@ -2,7 +2,7 @@
 use Rattle.std.specs.Prelude.{◌≡◌, List, [], Contains}
 use Rattle.std.specs.Global.{Vec}
 use Rattle.wesl_names.specs.Path.{Text, Path}
-use Rattle.wesl_world.specs.declared.symbols.Symbol.{Symbol}
+use Rattle.wesl_symbols.specs.declared.symbols.Symbol.{Symbol}
 use Rattle.wesl_table.specs.Numbering.{Numbering, AreRelated, NameAt, PathAt}
 use Rattle.wesl_table.specs.Uses.{Use, declares, refers, local}
 use Rattle.wesl_table.specs.declared.marks.Mark.{Mark}

@@ -3,11 +3,11 @@ use Rattle.std.specs.Prelude.{◌≡◌, ◌⊎◌, Bool, false, Option, Some, N
 use Rattle.std.specs.List.{list_any}
 use Rattle.wesl_names.specs.Path.{Text, Path}
 pub use Rattle.wesl_interner.specs.Different.{AreDifferent}
-use Rattle.wesl_world.specs.declared.ids.PathId.{PathId}
-use Rattle.wesl_world.specs.declared.ids.NameId.{NameId}
-use Rattle.wesl_world.specs.declared.symbols.Import.{Import}
-use Rattle.wesl_world.specs.declared.symbols.Reference.{Reference}
-use Rattle.wesl_world.specs.Tables.{Declaration, Table}
+use Rattle.wesl_symbols.specs.declared.ids.PathId.{PathId}
+use Rattle.wesl_symbols.specs.declared.ids.NameId.{NameId}
+use Rattle.wesl_symbols.specs.declared.symbols.Import.{Import}
+use Rattle.wesl_symbols.specs.declared.symbols.Reference.{Reference}
+use Rattle.wesl_symbols.specs.Tables.{Declaration, Table}
 
 -- ---- tables over paths `P` and names `N`, and over `Q` and `M`, that say the same
 

@@ -2,8 +2,8 @@
 use Rattle.std.specs.Prelude.{ℕ, Bool, false, List, [], ◌∷◌, map, flat_map, bytes_eq, if◌then◌else◌}
 use Rattle.std.specs.List.{list_any}
 use Rattle.wesl_names.specs.Path.{Text, Origin, from_package, Path, push, extend, join}
-use Rattle.wesl_world.specs.declared.symbols.Import.{Import}
-use Rattle.wesl_world.specs.declared.symbols.Symbol.{Symbol}
+use Rattle.wesl_symbols.specs.declared.symbols.Import.{Import}
+use Rattle.wesl_symbols.specs.declared.symbols.Symbol.{Symbol}
 use Rattle.wesl_occurrences.specs.Occurrences.{Standing, module_name, word, Occurrence}
 use Rattle.wesl_meanings.specs.Scopes.{Key, bound, free, qualified, key_of}
 

@@ -4,7 +4,7 @@ use Rattle.wesl_names.specs.Path.{Path, path_view}
 use Rattle.wesl_names.specs.declared.names.Ident.{Ident}
 use Rattle.wesl_names.specs.declared.path.ModulePath.{ModulePath}
 use Rattle.wesl_syntax.specs.Tree.{Forest, end, tree, identifiers}
-use Rattle.wesl_world.specs.declared.symbols.Import.{Import}
+use Rattle.wesl_symbols.specs.declared.symbols.Import.{Import}
 use Rattle.wesl_table.specs.Imports as imports
 
 -- an import, as the code keeps it before it is numbered

@@ -8,7 +8,7 @@ ghost use Rattle.wesl_table.specs.Spelling.{spelled_import, spelled_imports};
 use crate::numbers::spelling;
 use std::alloc::Global;
 use wesl_names::{Error, Ident, ModulePath, Names, PathOrigin};
-use wesl_world::symbols::Import;
+use wesl_symbols::symbols::Import;
 
 /// A module as its names are read: where it stands, its table of names, and its imports.
 #[derive(Clone, Copy)]

@@ -10,10 +10,10 @@ ghost use Rattle.wesl_table.specs.Walks.{import_view, imported};
 
 use std::alloc::Global;
 use wesl_names::{Error, Ident, ModulePath, PathOrigin};
+use wesl_symbols::symbols::Import;
 use wesl_syntax::{
     Attribute, Attributes, ImportContent, ImportItem, ImportStatement, ImportStatementNode,
 };
-use wesl_world::symbols::Import;
 
 /// Where the parts of an import statement lead.
 #[derive(Drop)]

@@ -18,8 +18,8 @@ use std::alloc::Global;
 use wesl_meanings::Key;
 use wesl_names::{Error, Ident, ModulePath};
 use wesl_occurrences::{Standing, law_of_ways};
-use wesl_world::ids::{NameId, PathId};
-use wesl_world::symbols::{Reference, Symbol};
+use wesl_symbols::ids::{NameId, PathId};
+use wesl_symbols::symbols::{Reference, Symbol};
 
 /// What an identifier of a declaration is to a link, by numbers.
 #[derive(Clone, Copy)]

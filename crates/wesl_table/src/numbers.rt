@@ -11,7 +11,7 @@ use std::alloc::Global;
 use std::hash::Hash;
 use wesl_interner::Interner;
 use wesl_names::{Error, Ident, ModulePath, Names, law_of_equality};
-use wesl_world::ids::{NameId, PathId};
+use wesl_symbols::ids::{NameId, PathId};
 
 /// The index of a key, which goes last unless one equal to it is there.
 fn put<K: Eq + Hash + Drop>(keys: &mut IndexSet<K>, key: K) -> Result<usize, Error>

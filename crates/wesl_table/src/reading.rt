@@ -4,7 +4,7 @@ ghost use Rattle.wesl_names.specs.declared.errors.Error as error;
 ghost use Rattle.wesl_syntax.specs.Tree.{trees, respell};
 ghost use Rattle.wesl_syntax.specs.Unit.{name_in};
 ghost use Rattle.wesl_syntax.specs.View.{global_view, declarations_tree};
-ghost use Rattle.wesl_world.specs.declared.ids.NameId.{NameId};
+ghost use Rattle.wesl_symbols.specs.declared.ids.NameId.{NameId};
 ghost use Rattle.wesl_table.specs.Tables.{declared_name, name_of};
 ghost use Rattle.wesl_table.specs.Numbering.{AreRelated, IsRelatedOption, Grows, NameAt};
 ghost use Rattle.wesl_table.specs.NumbersView.{numbering};
@@ -14,10 +14,10 @@ use indexmap::IndexSet;
 use std::alloc::Global;
 use wesl_meanings::Meanings;
 use wesl_names::{Error, Ident, ModulePath, Names};
+use wesl_symbols::ids::{NameId, PathId};
+use wesl_symbols::symbols::Import;
 use wesl_syntax::{GlobalDeclaration, GlobalDeclarationNode};
 use wesl_tree::TranslationUnit;
-use wesl_world::ids::{NameId, PathId};
-use wesl_world::symbols::Import;
 
 /// A module as its identifiers are marked.
 #[derive(Clone, Copy)]

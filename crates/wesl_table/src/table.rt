@@ -5,7 +5,7 @@ ghost use Rattle.wesl_names.specs.declared.errors.Error as error;
 ghost use Rattle.wesl_syntax.specs.Unit.{spelled};
 ghost use Rattle.wesl_tree.specs.Translation.{unit_view};
 ghost use Rattle.wesl_occurrences.specs.Pieces.{declarations_in};
-ghost use Rattle.wesl_world.specs.declared.ids.NameId.{NameId};
+ghost use Rattle.wesl_symbols.specs.declared.ids.NameId.{NameId};
 ghost use Rattle.wesl_table.specs.Imports.{imports as imports_in};
 ghost use Rattle.wesl_table.specs.Marks.{AreMarked};
 ghost use Rattle.wesl_table.specs.Numbering.{AreRelated, IsRelatedOption, IsNumberedImport, AreNumberedImports, AreNumberedDeclarations, IsNumbered, Grows, NameAt, PathAt};
@@ -22,10 +22,10 @@ use indexmap::IndexSet;
 use std::alloc::Global;
 use wesl_meanings::meanings_of;
 use wesl_names::{Error, Ident, ModulePath, Names};
+use wesl_symbols::ids::{NameId, PathId};
+use wesl_symbols::symbols::Import;
+use wesl_symbols::table::{Declaration, Table};
 use wesl_tree::TranslationUnit;
-use wesl_world::ids::{NameId, PathId};
-use wesl_world::symbols::Import;
-use wesl_world::table::{Declaration, Table};
 
 /// A symbol table, and of each global declaration what its identifiers are, in document order.
 #[derive(Drop)]

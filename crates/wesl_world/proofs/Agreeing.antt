@@ -2,12 +2,13 @@
 use Rattle.std.proofs.Common.{◌≡◌, ◌⊎◌, inl, inr, ℕ, ◌<◌, ◌≤◌, ◌+◌, List, [], ◌∷◌, ◌++◌, length, take, slice_index_or, Contains, subst, sym, refl, ap, ◌∙◌}
 use Rattle.std.proofs.lemmas.List.Elements.{Contains-get_or, Contains-push_cases}
 use Rattle.std.proofs.lemmas.List.{take_more, take_all}
-use Rattle.wesl_world.specs.Keyed.{Puts}
-use Rattle.wesl_world.specs.Tables.{Import, Table}
-use Rattle.wesl_world.specs.World.{Declares}
+use Rattle.wesl_symbols.specs.Keyed.{Puts}
+use Rattle.wesl_symbols.specs.declared.symbols.Import.{Import}
+use Rattle.wesl_symbols.specs.Tables.{Table}
+use Rattle.wesl_symbols.specs.Names.{Declares}
 use Rattle.wesl_world.specs.Faults.{SameTarget, IsOwn, Clashes, Agrees}
 use Rattle.wesl_world.specs.Agreement.{AgreeSoFar}
-use Rattle.wesl_world.proofs.Lists.{contains_nil}
+use Rattle.wesl_symbols.proofs.Lists.{contains_nil}
 
 module _ {P N : Type 0} (t : Table P N) where
   pub agree_start : (is : List (Import P N)) (kept : List (N × Import P N)) → kept ≡ [] → AgreeSoFar t (take 0 is) kept

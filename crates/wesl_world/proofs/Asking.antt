@@ -5,13 +5,16 @@ use Rattle.std.proofs.lemmas.List.{take_more, take_all}
 use Rattle.std.proofs.lemmas.Option.{slice_get_within}
 use Rattle.std.proofs.lemmas.Bool.{cases_lt}
 use Rattle.std.proofs.Math.Nat.{eq-or-lt_of_le}
-use Rattle.wesl_world.specs.Tables.{Import, LookUp, Reference, Declaration, Table}
-use Rattle.wesl_world.specs.World.{Declares, Imports, Asks, AsksUnder, AsksFrom}
+use Rattle.wesl_symbols.specs.declared.symbols.Import.{Import}
+use Rattle.wesl_symbols.specs.declared.symbols.LookUp.{LookUp}
+use Rattle.wesl_symbols.specs.declared.symbols.Reference.{Reference}
+use Rattle.wesl_symbols.specs.Tables.{Declaration, Table}
+use Rattle.wesl_symbols.specs.Names.{Declares, Imports, Asks, AsksUnder, AsksFrom}
 use Rattle.wesl_world.specs.Faults.{Agrees}
-use Rattle.wesl_world.specs.Index.{IsLast, IsNamed, Gains, AsksIn, AsksBehind}
-use Rattle.wesl_world.proofs.Lists.{contains_nil}
+use Rattle.wesl_symbols.specs.Index.{IsLast, IsNamed}
+use Rattle.wesl_world.specs.Asked.{Gains, AsksIn, AsksBehind}
+use Rattle.wesl_symbols.proofs.Lists.{contains_nil, one_at, at_contains, contains_at}
 use Rattle.wesl_world.proofs.Least.{asks_for_one}
-use Rattle.wesl_world.proofs.Indexing.{one_at, at_contains, contains_at}
 
 module _ {P N : Type 0} where
   pub free_name : (t : Table P N) (n : N) → (Declares t n → ⊥) → ((i : Import P N) → Imports t n i → ⊥) → (l : LookUp P N) → AsksUnder t None n l → ⊥

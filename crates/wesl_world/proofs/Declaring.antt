@@ -2,14 +2,19 @@
 use Rattle.std.proofs.Common.{◌≡◌, inl, inr, ℕ, zero, suc, ◌<◌, ◌≤◌, ◌+◌, true, List, [], ◌∷◌, ◌++◌, length, map, take, slice_get, slice_index_or, Some, None, Contains, subst, sym, refl, ap, ◌∙◌}
 use Rattle.std.proofs.lemmas.List.Elements.{Contains-push_cases, Contains-append_left, Contains-push}
 use Rattle.std.proofs.lemmas.List.{take_more, take_all}
-use Rattle.wesl_world.specs.Tables.{Import, LookUp, Declaration, Symbol, Table}
-use Rattle.wesl_world.specs.World.{Declares, IsAt, Task, Entered, Reached}
+use Rattle.wesl_symbols.specs.declared.symbols.Import.{Import}
+use Rattle.wesl_symbols.specs.declared.symbols.LookUp.{LookUp}
+use Rattle.wesl_symbols.specs.declared.symbols.Symbol.{Symbol}
+use Rattle.wesl_symbols.specs.Tables.{Declaration, Table}
+use Rattle.wesl_symbols.specs.Names.{Declares}
+use Rattle.wesl_world.specs.World.{IsAt, Task, Entered, Reached}
 use Rattle.wesl_world.specs.World.Entered.{imported}
 use Rattle.wesl_world.specs.World.Reached.{declared}
-use Rattle.wesl_world.specs.Index.{Gains}
+use Rattle.wesl_world.specs.Asked.{Gains}
 use Rattle.wesl_world.specs.Eager.{IsDeclaredAmong}
 use Rattle.wesl_world.specs.Loading.{GoesOn, IsSoundIn, CanEnter}
-use Rattle.wesl_world.proofs.Lists.{contains_nil, contains_map, map_contains}
+use Rattle.wesl_symbols.proofs.Lists.{contains_nil}
+use Rattle.wesl_world.proofs.Lists.{contains_map, map_contains}
 
 pub place_on : {X : Type 0} (xs ys : List X) (k : ℕ) (x : X) → GoesOn xs ys → slice_get xs k ≡ Some x → slice_get ys k ≡ Some x
 place_on {X} xs ys k x (more, e) at = subst (λ (zs : List X). slice_get zs k ≡ Some x) (sym e) (before xs more k at)

@@ -1,14 +1,18 @@
 -- What a link is refused with before it begins, and what a name stands for when it has ended.
 use Rattle.std.proofs.Common.{◌≡◌, ℕ, Option, Some, None, IfSome, IfNone, List, [], ◌∷◌, Contains, arith, subst, sym, refl, ap}
-use Rattle.wesl_world.specs.Tables.{LookUp, Reference, Symbol, Table}
-use Rattle.wesl_world.specs.World.{Asks, RefersFrom, LeadsTo, Task, Entered}
+use Rattle.wesl_symbols.specs.declared.symbols.LookUp.{LookUp}
+use Rattle.wesl_symbols.specs.declared.symbols.Reference.{Reference}
+use Rattle.wesl_symbols.specs.declared.symbols.Symbol.{Symbol}
+use Rattle.wesl_symbols.specs.Tables.{Table}
+use Rattle.wesl_symbols.specs.Names.{Asks, RefersFrom}
+use Rattle.wesl_world.specs.World.{LeadsTo, Task, Entered}
 use Rattle.wesl_world.specs.World.Entered.{root as root_entered}
 use Rattle.wesl_world.specs.Faults.{Clashes, duplicate, too_many, Explained}
 use Rattle.wesl_world.specs.Faults.AreDistinct.{none, one_more as one_distinct}
 use Rattle.wesl_world.specs.Linking.{Linking}
 use Rattle.wesl_world.specs.Loading.{IsAnswered}
 use Rattle.wesl_world.specs.Keeping.{IsKept, IsHeld, StandsHeld}
-use Rattle.wesl_world.proofs.Lists.{contains_nil, contains_first}
+use Rattle.wesl_symbols.proofs.Lists.{contains_nil, contains_first}
 use Rattle.wesl_world.proofs.Growing.{all_of}
 use Rattle.wesl_world.proofs.Steps.{world_alone}
 use Rattle.wesl_world.proofs.Asking.{asks_one}

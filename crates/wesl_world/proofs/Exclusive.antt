@@ -1,6 +1,8 @@
 -- Success and refusal exclude each other.
 use Rattle.std.proofs.Common.{◌≡◌, ◌⊎◌, inl, inr, ℕ, List, Contains, subst, sym, refl, ap, ◌∙◌}
-use Rattle.wesl_world.specs.Tables.{LookUp, Symbol, Table}
+use Rattle.wesl_symbols.specs.declared.symbols.LookUp.{LookUp}
+use Rattle.wesl_symbols.specs.declared.symbols.Symbol.{Symbol}
+use Rattle.wesl_symbols.specs.Tables.{Table}
 use Rattle.wesl_world.specs.World.{Task, IsAt, IsWorld, Hops, LeadsTo, ComesTo, Walk, IsMissingAt, IsPrivateAt, Entered, Reached, Followed}
 use Rattle.wesl_world.specs.World.LeadsTo.{here, through}
 use Rattle.wesl_world.specs.World.ComesTo.{stays, hops}

@@ -1,14 +1,17 @@
 -- What following a look-up keeps, and what its refusals mean.
 use Rattle.std.proofs.Common.{◌≡◌, ◌⊎◌, inl, inr, ℕ, true, Some, List, [], ◌∷◌, ◌++◌, Contains, subst, sym, refl, ◌∙◌}
 use Rattle.std.proofs.lemmas.List.Elements.{Contains-push_cases, Contains-append_left, Contains-push}
-use Rattle.wesl_world.specs.declared.ids.PathId.{PathId}
-use Rattle.wesl_world.specs.declared.ids.NameId.{NameId}
+use Rattle.wesl_symbols.specs.declared.ids.PathId.{PathId}
+use Rattle.wesl_symbols.specs.declared.ids.NameId.{NameId}
 use Rattle.wesl_world.specs.declared.names.Answer.TheVariants.{Next, Missing, Private as Hidden}
 use Rattle.wesl_world.specs.declared.request.Request.{Request}
 use Rattle.wesl_world.specs.declared.request.Loaded.{Loaded}
-use Rattle.wesl_world.specs.Keyed.{Puts, PutsKey}
-use Rattle.wesl_world.specs.Tables.{LookUp, Symbol, Table}
-use Rattle.wesl_world.specs.World.{Declares, IsAt, Hops, HasMet, Finds, LeadsTo, Walk, Task, Entered, Reached, Followed}
+use Rattle.wesl_symbols.specs.Keyed.{Puts, PutsKey}
+use Rattle.wesl_symbols.specs.declared.symbols.LookUp.{LookUp}
+use Rattle.wesl_symbols.specs.declared.symbols.Symbol.{Symbol}
+use Rattle.wesl_symbols.specs.Tables.{Table}
+use Rattle.wesl_symbols.specs.Names.{Declares}
+use Rattle.wesl_world.specs.World.{IsAt, Hops, HasMet, Finds, LeadsTo, Walk, Task, Entered, Reached, Followed}
 use Rattle.wesl_world.specs.World.LeadsTo.{here, through}
 use Rattle.wesl_world.specs.World.Walk.{begin, step}
 use Rattle.wesl_world.specs.World.Entered.{asked}
@@ -19,7 +22,7 @@ use Rattle.wesl_world.specs.Loader.{OnlyAdds}
 use Rattle.wesl_world.specs.Laws.{Within}
 use Rattle.std.proofs.lemmas.List.{append-nil}
 use Rattle.wesl_world.specs.Loading.{GoesOn, IsSoundIn, CanEnter, IsAnswered, IsWalked, IsTrail, HasFound, symbol_of, Grows, world_of}
-use Rattle.wesl_world.proofs.Lists.{contains_first, contains_later, contains_cases}
+use Rattle.wesl_symbols.proofs.Lists.{contains_first, contains_later, contains_cases}
 use Rattle.wesl_world.proofs.Growth.{walk_more, followed_more, at_more}
 use Rattle.wesl_world.proofs.Exclusive.{walk_comes}
 use Rattle.wesl_world.proofs.Growing.{within_on, within_cons, goes_on_itself, goes_on_trans}

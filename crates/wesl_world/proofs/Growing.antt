@@ -7,7 +7,8 @@ use Rattle.wesl_world.specs.Faults.{AreDistinct}
 use Rattle.wesl_world.specs.Faults.AreDistinct.{none, one_more as one_distinct}
 use Rattle.wesl_world.specs.Laws.{Within}
 use Rattle.wesl_world.specs.Loading.{GoesOn}
-use Rattle.wesl_world.proofs.Lists.{contains_first, contains_later, contains_cases, contains_one}
+use Rattle.wesl_symbols.proofs.Lists.{contains_first, contains_later, contains_cases}
+use Rattle.wesl_world.proofs.Lists.{contains_one}
 
 pub within_itself : {X : Type 0} (xs : List X) → Within xs xs
 within_itself xs = record { held = λ x h. h }

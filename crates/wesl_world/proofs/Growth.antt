@@ -1,6 +1,8 @@
 -- More modules: all that was followed, entered and reached still is.
 use Rattle.std.proofs.Common.{List}
-use Rattle.wesl_world.specs.Tables.{LookUp, Symbol, Table}
+use Rattle.wesl_symbols.specs.declared.symbols.LookUp.{LookUp}
+use Rattle.wesl_symbols.specs.declared.symbols.Symbol.{Symbol}
+use Rattle.wesl_symbols.specs.Tables.{Table}
 use Rattle.wesl_world.specs.World.{Task, IsAt, Finds, Hops, LeadsTo, ComesTo, Walk, Entered, Reached, Followed}
 use Rattle.wesl_world.specs.World.LeadsTo.{here, through}
 use Rattle.wesl_world.specs.World.ComesTo.{stays, hops}

@@ -1,7 +1,10 @@
 -- The entered paths and the reached symbols are least sets.
 use Rattle.std.proofs.Common.{◌≡◌, inl, inr, Some, None, List, Contains, subst, sym, ap, ◌∙◌}
-use Rattle.wesl_world.specs.Tables.{LookUp, Symbol, Table}
-use Rattle.wesl_world.specs.World.{Task, IsAt, Declares, Imports, Finds, Hops, LeadsTo, Entered, Reached, Followed}
+use Rattle.wesl_symbols.specs.declared.symbols.LookUp.{LookUp}
+use Rattle.wesl_symbols.specs.declared.symbols.Symbol.{Symbol}
+use Rattle.wesl_symbols.specs.Tables.{Table}
+use Rattle.wesl_symbols.specs.Names.{Declares, Imports}
+use Rattle.wesl_world.specs.World.{Task, IsAt, Finds, Hops, LeadsTo, Entered, Reached, Followed}
 use Rattle.wesl_world.specs.World.LeadsTo.{here, through}
 use Rattle.wesl_world.specs.World.Entered.{root, asked, imported}
 use Rattle.wesl_world.specs.World.Reached.{led_to, declared}

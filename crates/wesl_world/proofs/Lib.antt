@@ -1,10 +1,8 @@
 pub mod Lists
-pub mod Entries
 pub mod Growth
 pub mod Least
 pub mod Exclusive
 pub mod Settled
-pub mod Indexing
 pub mod Asking
 pub mod Agreeing
 pub mod Growing

@@ -1,21 +1,10 @@
--- Lemmas on lists.
-use Rattle.std.proofs.Common.{◌≡◌, ◌⊎◌, inl, inr, zero, suc, ◌≤◌, ◌+◌, List, [], ◌∷◌, ◌++◌, length, map, slice_index_or, length-append, Contains, All, arith, refl, subst, sym, ap}
+-- Lemmas on lists and their places.
+use Rattle.std.proofs.Common.{◌≡◌, ◌⊎◌, inl, inr, ℕ, zero, suc, ◌<◌, ◌≤◌, ◌+◌, Some, List, [], ◌∷◌, ◌++◌, length, map, slice_get, slice_index_or, length-append, Contains, All, arith, refl, subst, sym, ap, ◌∙◌}
 use Rattle.std.proofs.lemmas.List.Elements.{Contains-append_cases, Contains-append_left, Contains-append_right}
+use Rattle.std.proofs.lemmas.Option.{slice_get_read}
+use Rattle.wesl_symbols.proofs.Lists.{contains_nil, contains_first, contains_later, contains_cases}
 use Rattle.wesl_world.specs.Faults.{AreDistinct}
 use Rattle.wesl_world.specs.Faults.AreDistinct.{one_more as one_distinct}
-
-pub contains_nil : {X : Type 0} (x : X) → Contains [] x → ⊥
-contains_nil x (k, b, e) = absurd (omega arith)
-
-pub contains_later : {X : Type 0} (x y : X) (xs : List X) → Contains xs y → Contains (x ∷ xs) y
-contains_later x y xs (k, b, e) = (suc k, omega arith, e)
-
-pub contains_first : {X : Type 0} (x : X) (xs : List X) → Contains (x ∷ xs) x
-contains_first x xs = (0, omega arith, refl)
-
-pub contains_cases : {X : Type 0} (x y : X) (xs : List X) → Contains (x ∷ xs) y → (x ≡ y) ⊎ Contains xs y
-contains_cases x y xs (zero, b, e) = inl e
-contains_cases x y xs (suc k, b, e) = inr (k, omega arith, e)
 
 pub contains_one : {X : Type 0} (x y : X) → Contains (x ∷ []) y → x ≡ y
 contains_one x y h = elim (contains_cases x y [] h) [ inl e ↦ e | inr t ↦ absurd (contains_nil y t) ]
@@ -68,3 +57,22 @@ distinct_length {X} (x ∷ xs) ys (one_distinct _ _ fresh d) h =
 pub length_map : {X Y : Type 0} (h : X → Y) (xs : List X) → length (map h xs) ≡ length xs
 length_map h [] = refl
 length_map h (x ∷ xs) = ap suc (length_map h xs)
+
+-- ---- places of a list
+
+pub contains_at_place : {X : Type 0} (xs : List X) (i : ℕ) → i < length xs → (x : X) × (i < length xs) × (slice_get xs i ≡ Some x)
+contains_at_place [] i b = absurd (omega arith)
+contains_at_place (x ∷ xs) zero b = (x, b, refl)
+contains_at_place (x ∷ xs) (suc i) b = let (y, c, at) = contains_at_place xs i (omega arith) in (y, b, at)
+
+pub read_at : {X : Type 0} (xs ys : List X) (i : ℕ) (x : X) → xs ≡ ys → i < length ys → x ≡ slice_index_or xs i x → slice_get ys i ≡ Some x
+read_at {X} xs ys i x e b is = slice_get_read ys (length ys) i x refl b (is ∙ ap (λ (zs : List X). slice_index_or zs i x) e)
+
+pub last_place : {X : Type 0} (xs : List X) (x : X) → slice_get (xs ++ x ∷ []) (length xs) ≡ Some x
+last_place [] x = refl
+last_place (y ∷ xs) x = last_place xs x
+
+pub place_kept : {X : Type 0} (xs : List X) (x : X) (i : ℕ) (y : X) → slice_get xs i ≡ Some y → slice_get (xs ++ x ∷ []) i ≡ Some y
+place_kept [] x i y e = cc
+place_kept (z ∷ xs) x zero y e = e
+place_kept (z ∷ xs) x (suc i) y e = place_kept xs x i y e

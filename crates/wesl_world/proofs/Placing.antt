@@ -1,10 +1,9 @@
 -- Where the module of a path stands.
 use Rattle.std.proofs.Common.{◌≡◌, inl, inr, ℕ, List, ◌∷◌, slice_get, Some, Contains, subst, ap, ◌∙◌}
-use Rattle.wesl_world.specs.Tables.{Table}
+use Rattle.wesl_symbols.specs.Tables.{Table}
 use Rattle.wesl_world.specs.World.{IsAt}
 use Rattle.wesl_world.specs.Loading.{ArePlaced}
-use Rattle.wesl_world.proofs.Lists.{contains_later, contains_cases}
-use Rattle.wesl_world.proofs.Indexing.{at_contains, one_at}
+use Rattle.wesl_symbols.proofs.Lists.{contains_later, contains_cases, at_contains, one_at}
 
 module _ {P N : Type 0} (root : Table P N) (others : List (Table P N)) (places : List (P × ℕ)) (p : P) where
   pub placed_at : (k : ℕ) (x : Table P N) → ArePlaced others places → Contains places (p, k) → slice_get others k ≡ Some x → IsAt (root ∷ others) p x

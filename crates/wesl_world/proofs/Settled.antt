@@ -1,8 +1,12 @@
 -- In a settled list no fault stands.
 use Rattle.std.proofs.Common.{◌≡◌, ◌⊎◌, inl, inr, ℕ, ◌≤◌, Some, List, map, length, Contains, arith, subst, sym, refl, ap, ◌∙◌}
 use Rattle.std.proofs.lemmas.List.Elements.{All-contains}
-use Rattle.wesl_world.specs.Tables.{Import, LookUp, Symbol, Table}
-use Rattle.wesl_world.specs.World.{Task, IsAt, Declares, Imports, Shows, Hops, LeadsTo, ComesTo, Walk, SameQuestion, IsMissingAt, IsPrivateAt, Entered, Reached, Followed}
+use Rattle.wesl_symbols.specs.declared.symbols.Import.{Import}
+use Rattle.wesl_symbols.specs.declared.symbols.LookUp.{LookUp}
+use Rattle.wesl_symbols.specs.declared.symbols.Symbol.{Symbol}
+use Rattle.wesl_symbols.specs.Tables.{Table}
+use Rattle.wesl_symbols.specs.Names.{Declares, Imports, Shows}
+use Rattle.wesl_world.specs.World.{Task, IsAt, Hops, LeadsTo, ComesTo, Walk, SameQuestion, IsMissingAt, IsPrivateAt, Entered, Reached, Followed}
 use Rattle.wesl_world.specs.World.LeadsTo.{here, through}
 use Rattle.wesl_world.specs.World.ComesTo.{stays, hops}
 use Rattle.wesl_world.specs.World.Walk.{begin, step}
@@ -11,7 +15,8 @@ use Rattle.wesl_world.specs.World.Reached.{led_to, declared}
 use Rattle.wesl_world.specs.World.Followed.{kept, by_assert, by_symbol}
 use Rattle.wesl_world.specs.Faults.{Fault, duplicate, refused, missing, private, too_many, Agrees, SameTarget, Clashes, Stands}
 use Rattle.wesl_world.specs.Laws.{IsClear, Settles, IsSettled, WorklistIsEnough}
-use Rattle.wesl_world.proofs.Lists.{contains_nil, contains_cases, distinct_length, length_map, map_contains}
+use Rattle.wesl_symbols.proofs.Lists.{contains_nil, contains_cases}
+use Rattle.wesl_world.proofs.Lists.{distinct_length, length_map, map_contains}
 use Rattle.wesl_world.proofs.Least.{hops_agree, found_no_hop, leads_to_one}
 use Rattle.wesl_world.proofs.Exclusive.{comes_on, walk_comes}
 

@@ -1,8 +1,10 @@
 -- What each step of the loading keeps, and what its refusals mean.
 use Rattle.std.proofs.Common.{◌≡◌, ◌⊎◌, inl, inr, ℕ, ◌<◌, ◌≤◌, ◌+◌, List, [], ◌∷◌, ◌++◌, length, length-append, map, slice_get, Some, Contains, arith, subst, sym, refl, ap, ◌∙◌}
 use Rattle.std.proofs.lemmas.List.Elements.{Contains-append_left, Contains-push, Contains-push_cases}
-use Rattle.wesl_world.specs.Keyed.{Puts, PutsKey}
-use Rattle.wesl_world.specs.Tables.{LookUp, Symbol, Table}
+use Rattle.wesl_symbols.specs.Keyed.{Puts, PutsKey}
+use Rattle.wesl_symbols.specs.declared.symbols.LookUp.{LookUp}
+use Rattle.wesl_symbols.specs.declared.symbols.Symbol.{Symbol}
+use Rattle.wesl_symbols.specs.Tables.{Table}
 use Rattle.wesl_world.specs.World.{IsAt, IsWorld, LeadsTo, Task, Entered, Reached}
 use Rattle.wesl_world.specs.World.Entered.{root as root_entered}
 use Rattle.wesl_world.specs.Faults.{AreDistinct, Agrees, Clashes, duplicate, refused, too_many, Explained}
@@ -11,10 +13,10 @@ use Rattle.wesl_world.specs.Linking.{paths}
 use Rattle.wesl_world.specs.Loader.{IsReady, OnlyAdds}
 use Rattle.wesl_world.specs.Laws.{Within}
 use Rattle.wesl_world.specs.Loading.{ArePlaced, IsSoundIn}
-use Rattle.wesl_world.proofs.Lists.{contains_nil, contains_first, contains_later, contains_one, contains_map, length_map}
+use Rattle.wesl_symbols.proofs.Lists.{contains_nil, contains_first, contains_later}
+use Rattle.wesl_world.proofs.Lists.{contains_one, contains_map, length_map, last_place, place_kept}
 use Rattle.wesl_world.proofs.Growth.{at_more, leads_more, entered_more, reached_more}
 use Rattle.wesl_world.proofs.Growing.{within_push, distinct_push, all_of}
-use Rattle.wesl_world.proofs.Indexing.{last_place, place_kept}
 
 map_append : {X Y : Type 0} (h : X → Y) (xs ys : List X) → map h (xs ++ ys) ≡ map h xs ++ map h ys
 map_append h [] ys = refl

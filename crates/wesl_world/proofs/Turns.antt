@@ -1,12 +1,15 @@
 -- What the worklist keeps as it goes on, and what it has when it ends.
 use Rattle.std.proofs.Common.{◌≡◌, ◌↔◌, inl, inr, ℕ, false, true≢false, ◌≤◌, ◌+◌, Option, Some, None, List, ◌∷◌, length, take, slice_get, Contains, arith, subst, sym, refl, ap, ◌∙◌}
 use Rattle.std.proofs.lemmas.List.{take_all}
-use Rattle.wesl_world.specs.declared.ids.PathId.{PathId}
-use Rattle.wesl_world.specs.declared.ids.NameId.{NameId}
+use Rattle.wesl_symbols.specs.declared.ids.PathId.{PathId}
+use Rattle.wesl_symbols.specs.declared.ids.NameId.{NameId}
 use Rattle.wesl_world.specs.declared.request.Request.{Request}
 use Rattle.wesl_world.specs.declared.request.Loaded.{Loaded}
-use Rattle.wesl_world.specs.Tables.{LookUp, Symbol, Table}
-use Rattle.wesl_world.specs.World.{AsksUnder, AsksFrom, IsAt, Task, Entered, Followed}
+use Rattle.wesl_symbols.specs.declared.symbols.LookUp.{LookUp}
+use Rattle.wesl_symbols.specs.declared.symbols.Symbol.{Symbol}
+use Rattle.wesl_symbols.specs.Tables.{Table}
+use Rattle.wesl_symbols.specs.Names.{AsksUnder, AsksFrom}
+use Rattle.wesl_world.specs.World.{IsAt, Task, Entered, Followed}
 use Rattle.wesl_world.specs.World.Followed.{by_assert, by_symbol}
 use Rattle.wesl_world.specs.Laws.{Within, IsSettled, Settles}
 use Rattle.wesl_world.specs.Linking.{Linking, IsLinked}

@@ -1,7 +1,8 @@
 -- What is known of the binders of a module as its imports are gone over.
 use Rattle.std.specs.Prelude.{◌≡◌, List, Contains}
-use Rattle.wesl_world.specs.Tables.{Import, Table}
-use Rattle.wesl_world.specs.World.{Declares}
+use Rattle.wesl_symbols.specs.declared.symbols.Import.{Import}
+use Rattle.wesl_symbols.specs.Tables.{Table}
+use Rattle.wesl_symbols.specs.Names.{Declares}
 use Rattle.wesl_world.specs.Faults.{SameTarget, IsOwn}
 
 -- each import that was gone over has the target kept for its name, one for a name

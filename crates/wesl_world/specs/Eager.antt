@@ -1,6 +1,7 @@
 -- What a module declares, as its declarations are gone over.
 use Rattle.std.specs.Prelude.{◌≡◌, Some, List, Contains}
-use Rattle.wesl_world.specs.Tables.{Declaration, Symbol, Table}
+use Rattle.wesl_symbols.specs.declared.symbols.Symbol.{Symbol}
+use Rattle.wesl_symbols.specs.Tables.{Declaration, Table}
 
 -- the symbol is that of one of the declarations
 abbrev pub IsDeclaredAmong : {P N : Type 0} → Table P N → List (Declaration P N) → Symbol P N → Type 0

@@ -1,7 +1,10 @@
 -- The faults that stand in a world.
 use Rattle.std.specs.Prelude.{◌≡◌, ◌⊎◌, ℕ, ◌<◌, length, List, [], ◌∷◌, Contains, All}
-use Rattle.wesl_world.specs.Tables.{Import, LookUp, Table}
-use Rattle.wesl_world.specs.World.{Declares, Imports, IsAt, IsWorld, IsMissingAt, IsPrivateAt, Task, Entered, Followed}
+use Rattle.wesl_symbols.specs.declared.symbols.Import.{Import}
+use Rattle.wesl_symbols.specs.declared.symbols.LookUp.{LookUp}
+use Rattle.wesl_symbols.specs.Tables.{Table}
+use Rattle.wesl_symbols.specs.Names.{Declares, Imports}
+use Rattle.wesl_world.specs.World.{IsAt, IsWorld, IsMissingAt, IsPrivateAt, Task, Entered, Followed}
 
 -- why a link is refused, where a loader refuses with an `E`
 pub data Fault (P N E : Type 0) : Type 0 where

@@ -1,7 +1,11 @@
 -- What a link keeps of its look-ups.
 use Rattle.std.specs.Prelude.{Option, Some, None, List, Contains}
-use Rattle.wesl_world.specs.Tables.{LookUp, Reference, Symbol, Table}
-use Rattle.wesl_world.specs.World.{IsAt, RefersFrom, AsksFrom, LeadsTo}
+use Rattle.wesl_symbols.specs.declared.symbols.LookUp.{LookUp}
+use Rattle.wesl_symbols.specs.declared.symbols.Reference.{Reference}
+use Rattle.wesl_symbols.specs.declared.symbols.Symbol.{Symbol}
+use Rattle.wesl_symbols.specs.Tables.{Table}
+use Rattle.wesl_symbols.specs.Names.{RefersFrom, AsksFrom}
+use Rattle.wesl_world.specs.World.{IsAt, LeadsTo}
 use Rattle.wesl_world.specs.Laws.{IsClear}
 use Rattle.wesl_world.specs.Linking.{Linking}
 use Rattle.wesl_world.specs.Loading.{IsAnswered}

@@ -1,7 +1,11 @@
 -- Laws of worlds.
 use Rattle.std.specs.Prelude.{◌≡◌, ◌⊎◌, ℕ, ◌≤◌, length, true, Some, None, List, Contains}
-use Rattle.wesl_world.specs.Tables.{Import, LookUp, Symbol, Table}
-use Rattle.wesl_world.specs.World.{Task, IsAt, Declares, Asks, AsksFrom, IsKept, LeadsTo, ComesTo, Entered, Reached, Followed}
+use Rattle.wesl_symbols.specs.declared.symbols.Import.{Import}
+use Rattle.wesl_symbols.specs.declared.symbols.LookUp.{LookUp}
+use Rattle.wesl_symbols.specs.declared.symbols.Symbol.{Symbol}
+use Rattle.wesl_symbols.specs.Tables.{Table}
+use Rattle.wesl_symbols.specs.Names.{Declares, Asks, AsksFrom}
+use Rattle.wesl_world.specs.World.{Task, IsAt, IsKept, LeadsTo, ComesTo, Entered, Reached, Followed}
 use Rattle.wesl_world.specs.Faults.{Agrees, Fault, Stands, Explained}
 use Rattle.wesl_world.specs.Linking.{Linking, IsLinked}
 

@@ -1,7 +1,5 @@
-pub mod Keyed
-pub mod Tables
 pub mod World
-pub mod Index
+pub mod Asked
 pub mod Answers
 pub mod Agreement
 pub mod Loader

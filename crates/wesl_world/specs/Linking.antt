@@ -1,6 +1,7 @@
 -- What a link promises.
 use Rattle.std.specs.Prelude.{◌≡◌, ◌↔◌, ℕ, ◌+◌, length, Bool, List, ◌∷◌, Contains, map}
-use Rattle.wesl_world.specs.Tables.{Symbol, Table}
+use Rattle.wesl_symbols.specs.declared.symbols.Symbol.{Symbol}
+use Rattle.wesl_symbols.specs.Tables.{Table}
 use Rattle.wesl_world.specs.World.{IsAt, IsWorld, Task, Entered, Reached}
 use Rattle.wesl_world.specs.Faults.{Fault, Stands, AreDistinct}
 

@@ -2,7 +2,9 @@
 use Rattle.std.specs.Prelude.{◌≡◌, Some, Contains}
 use Rattle.wesl_world.specs.declared.loader.LoadError.{LoadError}
 use Rattle.wesl_world.specs.declared.loader.LoadError.TheVariants.{Refused, Memory}
-use Rattle.wesl_world.specs.Tables.{Import, Reference, Declaration, Table}
+use Rattle.wesl_symbols.specs.declared.symbols.Import.{Import}
+use Rattle.wesl_symbols.specs.declared.symbols.Reference.{Reference}
+use Rattle.wesl_symbols.specs.Tables.{Declaration, Table}
 
 -- the error is one that the path may be refused with, or want of memory
 abbrev pub Explains : {E : Type 0} → (E → Type 0) → LoadError E → Type 0

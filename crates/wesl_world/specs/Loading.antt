@@ -1,11 +1,15 @@
 -- What stands while modules are loaded.
 use Rattle.std.specs.Prelude.{◌≡◌, ◌⊎◌, ◌↔◌, ℕ, ◌≤◌, length, take, slice_get, true, Some, None, List, ◌∷◌, ◌++◌, Contains}
-use Rattle.wesl_world.specs.declared.ids.PathId.{PathId}
-use Rattle.wesl_world.specs.declared.ids.NameId.{NameId}
+use Rattle.wesl_symbols.specs.declared.ids.PathId.{PathId}
+use Rattle.wesl_symbols.specs.declared.ids.NameId.{NameId}
 use Rattle.wesl_world.specs.declared.request.Request.{Request}
 use Rattle.wesl_world.specs.declared.request.Loaded.{Loaded}
-use Rattle.wesl_world.specs.Tables.{Import, LookUp, Symbol, Table}
-use Rattle.wesl_world.specs.World.{Declares, AsksFrom, IsAt, IsWorld, Finds, LeadsTo, Walk, Task, Entered, Reached, Followed}
+use Rattle.wesl_symbols.specs.declared.symbols.Import.{Import}
+use Rattle.wesl_symbols.specs.declared.symbols.LookUp.{LookUp}
+use Rattle.wesl_symbols.specs.declared.symbols.Symbol.{Symbol}
+use Rattle.wesl_symbols.specs.Tables.{Table}
+use Rattle.wesl_symbols.specs.Names.{Declares, AsksFrom}
+use Rattle.wesl_world.specs.World.{IsAt, IsWorld, Finds, LeadsTo, Walk, Task, Entered, Reached, Followed}
 use Rattle.wesl_world.specs.Faults.{Agrees, AreDistinct}
 use Rattle.wesl_world.specs.Linking.{task_of, paths}
 use Rattle.wesl_world.specs.Loader.{IsReady}

@@ -1,10 +1,10 @@
 -- What an error of a link says.
 use Rattle.std.specs.Prelude.{ℕ}
-use Rattle.wesl_world.specs.declared.ids.PathId.{PathId}
-use Rattle.wesl_world.specs.declared.ids.NameId.{NameId}
+use Rattle.wesl_symbols.specs.declared.ids.PathId.{PathId}
+use Rattle.wesl_symbols.specs.declared.ids.NameId.{NameId}
 use Rattle.wesl_world.specs.declared.error.LinkError.{LinkError}
 use Rattle.wesl_world.specs.declared.error.LinkError.TheVariants.{DuplicateSymbol, Refused, MissingDecl, Private, ModuleLimit, Memory}
-use Rattle.wesl_world.specs.Tables.{Table}
+use Rattle.wesl_symbols.specs.Tables.{Table}
 use Rattle.wesl_world.specs.World.{Task}
 use Rattle.wesl_world.specs.Faults.{duplicate, refused, missing, private, too_many, Explained}
 

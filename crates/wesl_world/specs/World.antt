@@ -1,37 +1,14 @@
 -- Look-ups between modules, and what they reach (WESL, "Imports" and "Visibility").
-use Rattle.std.specs.Prelude.{◌≡◌, ◌⊎◌, Bool, true, Option, Some, None, List, [], ◌∷◌, Contains}
-use Rattle.wesl_world.specs.Tables.{Import, Reference, Symbol, LookUp, Declaration, Table}
+use Rattle.std.specs.Prelude.{◌≡◌, ◌⊎◌, Bool, true, Some, None, List, [], ◌∷◌, Contains}
+use Rattle.wesl_symbols.specs.declared.symbols.Import.{Import}
+use Rattle.wesl_symbols.specs.declared.symbols.Symbol.{Symbol}
+use Rattle.wesl_symbols.specs.declared.symbols.LookUp.{LookUp}
+use Rattle.wesl_symbols.specs.Tables.{Table}
+use Rattle.wesl_symbols.specs.Names.{Declares, Imports, AsksFrom, Shows}
 
--- ---- one module
+-- ---- between modules: a world is a list of modules
 
 module _ {P N : Type 0} where
-  abbrev pub Declares : Table P N → N → Type 0
-  Declares t n = (d : Declaration P N) × Contains t.declarations d × (d.name ≡ Some n)
-
-  abbrev pub Imports : Table P N → N → Import P N → Type 0
-  Imports t n i = Contains t.imports i × (i.bound ≡ n)
-
-  -- A reference under a path asks for the name there. One without a path asks for the module's own declaration,
-  -- else for what an import of the name aims at, else for nothing.
-  abbrev pub AsksUnder : Table P N → Option P → N → LookUp P N → Type 0
-  AsksUnder t (Some q) n l = l ≡ record { asker = Some t.path; path = q; name = n }
-  AsksUnder t None n l =
-      (Declares t n × (l ≡ record { asker = Some t.path; path = t.path; name = n }))
-      ⊎ ((Declares t n → ⊥) × (i : Import P N) × Imports t n i × (l ≡ record { asker = Some t.path; path = i.path; name = i.item }))
-
-  abbrev pub Asks : Table P N → Reference P N → LookUp P N → Type 0
-  Asks t r l = AsksUnder t r.path r.name l
-
-  -- the reference stands in a declaration of that name, or where there is none in a const_assert
-  abbrev pub RefersFrom : Table P N → Option N → Reference P N → Type 0
-  RefersFrom t name r = (d : Declaration P N) × Contains t.declarations d × (d.name ≡ name) × Contains d.references r
-
-  -- such a reference asks for it
-  abbrev pub AsksFrom : Table P N → Option N → LookUp P N → Type 0
-  AsksFrom t name l = (r : Reference P N) × RefersFrom t name r × Asks t r l
-
-  -- ---- between modules: a world is a list of modules
-
   abbrev pub IsAt : List (Table P N) → P → Table P N → Type 0
   IsAt w p t = Contains w t × (t.path ≡ p)
 
@@ -42,10 +19,6 @@ pub record IsWorld {P N : Type 0} (hands : P → Table P N → Type 0) (root : T
   pub one_table : (t u : Table P N) → Contains w t → Contains w u → t.path ≡ u.path → t ≡ u
 
 module _ {P N : Type 0} where
-  -- from another module an import must be published
-  abbrev pub Shows : Option P → P → Import P N → Type 0
-  Shows asker p i = (i.published ≡ true) ⊎ (asker ≡ Some p)
-
   abbrev pub Finds : List (Table P N) → LookUp P N → Symbol P N → Type 0
   Finds w l s = (t : Table P N) × IsAt w l.path t × Declares t l.name × (s ≡ record { path = l.path; name = l.name })
 

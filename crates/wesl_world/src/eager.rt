@@ -1,25 +1,27 @@
 //! What an eager link takes of each module besides: the modules that it imports from, and all that it declares.
 ghost use Rattle.std.specs.Prelude.{◌≡◌, ◌↔◌, ◌<◌, length, map, slice_get, Some, IfOk, OnOk, IfErr, Contains, true, []};
-ghost use Rattle.wesl_world.specs.declared.ids.PathId.{PathId};
-ghost use Rattle.wesl_world.specs.declared.ids.NameId.{NameId};
-ghost use Rattle.wesl_world.specs.Tables as tables;
-ghost use Rattle.wesl_world.specs.Tables.{Import};
-ghost use Rattle.wesl_world.specs.World.{Declares, IsAt, Entered, Reached};
-ghost use Rattle.wesl_world.specs.Index.{Gains};
+ghost use Rattle.wesl_symbols.specs.declared.ids.PathId.{PathId};
+ghost use Rattle.wesl_symbols.specs.declared.ids.NameId.{NameId};
+ghost use Rattle.wesl_symbols.specs.Tables as tables;
+ghost use Rattle.wesl_symbols.specs.declared.symbols.Symbol.{Symbol};
+ghost use Rattle.wesl_symbols.specs.declared.symbols.Import.{Import};
+ghost use Rattle.wesl_symbols.specs.Names.{Declares};
+ghost use Rattle.wesl_world.specs.World.{IsAt, Entered, Reached};
+ghost use Rattle.wesl_world.specs.Asked.{Gains};
 ghost use Rattle.wesl_world.specs.Eager.{IsDeclaredAmong};
 ghost use Rattle.wesl_world.specs.Loader.{OnlyAdds};
 ghost use Rattle.wesl_world.specs.Refusal.{IsExplained};
 ghost use Rattle.wesl_world.specs.Loading.{IsSound, Grows, CanEnter, world_of, task_at};
 
 use crate::error::LinkError;
-use crate::ids::{NameId, PathId};
-use crate::keyed;
 use crate::load::load;
 use crate::loader::Loader;
 use crate::request::{Loaded, Request, table_at};
-use crate::symbols::Symbol;
-use crate::table::Table;
 use std::alloc::{AllocError, Global};
+use wesl_symbols::ids::{NameId, PathId};
+use wesl_symbols::keyed;
+use wesl_symbols::symbols::Symbol;
+use wesl_symbols::table::Table;
 
 /// The paths that a module imports from.
 fn imported_paths(alloc: Global, table: &Table) -> Result<Vec<PathId>, AllocError>
@@ -103,11 +105,11 @@ fn hold_all<E, L: Loader<E>>(
     symbols: &[Symbol<PathId, NameId>],
 ) -> Result<(), LinkError<E>>
     requires sound { IsSound (L.hands loader.now) (L.ready loader.now) request.now loaded.old }
-    requires reached { (s : tables.Symbol PathId NameId) → Contains symbols.now s → Reached (world_of request.now loaded.old) (task_at request.now) s }
-    requires placed { (s : tables.Symbol PathId NameId) → Contains symbols.now s → (t : tables.Table PathId NameId) × IsAt (world_of request.now loaded.old) s.path t }
+    requires reached { (s : Symbol PathId NameId) → Contains symbols.now s → Reached (world_of request.now loaded.old) (task_at request.now) s }
+    requires placed { (s : Symbol PathId NameId) → Contains symbols.now s → (t : tables.Table PathId NameId) × IsAt (world_of request.now loaded.old) s.path t }
     ensures sound { OnOk result (IsSound (L.hands loader.now) (L.ready loader.now) request.now loaded.new) }
     ensures grows { OnOk result (Grows loaded.old loaded.new) }
-    ensures held { OnOk result ((s : tables.Symbol PathId NameId) → Contains symbols.now s → Contains loaded.new.symbols.keys s) }
+    ensures held { OnOk result ((s : Symbol PathId NameId) → Contains symbols.now s → Contains loaded.new.symbols.keys s) }
     ensures refused { IfErr result (IsExplained (L.hands loader.now) (L.refuses loader.now) request.now.root (task_at request.now) request.now.max_modules) }
 {
     for symbol in symbols {

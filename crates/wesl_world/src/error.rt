@@ -1,6 +1,6 @@
 //! Why a link is refused.
-use crate::ids::{NameId, PathId};
 use std::alloc::{AllocError, AllocFailed};
+use wesl_symbols::ids::{NameId, PathId};
 
 /// Why a link is refused, where the loader refuses with an `E`.
 #[derive(Debug, Drop)]

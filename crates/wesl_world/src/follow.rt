@@ -1,9 +1,9 @@
 //! Following look-ups from module to module.
 ghost use Rattle.std.specs.Prelude.{◌≡◌, ◌↔◌, Some, IsTrue, IfSome, IfNone, IfOk, OnOk, IfErr, Contains};
-ghost use Rattle.wesl_world.specs.declared.ids.PathId.{PathId};
-ghost use Rattle.wesl_world.specs.declared.ids.NameId.{NameId};
-ghost use Rattle.wesl_world.specs.Tables as tables;
-ghost use Rattle.wesl_world.specs.Tables.{LookUp};
+ghost use Rattle.wesl_symbols.specs.declared.ids.PathId.{PathId};
+ghost use Rattle.wesl_symbols.specs.declared.ids.NameId.{NameId};
+ghost use Rattle.wesl_symbols.specs.Tables as tables;
+ghost use Rattle.wesl_symbols.specs.declared.symbols.LookUp.{LookUp};
 ghost use Rattle.wesl_world.specs.World.{IsAt, Hops, HasMet, Followed};
 ghost use Rattle.wesl_world.specs.Answers.{IsAnswer};
 ghost use Rattle.wesl_world.specs.Loader.{OnlyAdds};
@@ -11,14 +11,14 @@ ghost use Rattle.wesl_world.specs.Refusal.{IsExplained};
 ghost use Rattle.wesl_world.specs.Loading.{IsSound, Grows, ArePlaced, CanEnter, IsAnswered, IsWalked, HasFound, world_of, task_at};
 
 use crate::error::LinkError;
-use crate::ids::{NameId, PathId};
-use crate::keyed;
 use crate::load::load;
 use crate::loader::Loader;
 use crate::names::{self, Answer};
 use crate::request::{Loaded, Request, loaded_table};
-use crate::symbols::{LookUp, Symbol};
 use std::alloc::Global;
+use wesl_symbols::ids::{NameId, PathId};
+use wesl_symbols::keyed;
+use wesl_symbols::symbols::{LookUp, Symbol};
 
 /// The answer of the loaded module that is asked.
 fn answer_at(request: &Request, loaded: &Loaded, look_up: LookUp<PathId, NameId>) -> Answer

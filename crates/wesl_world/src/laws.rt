@@ -1,5 +1,5 @@
 //! Laws of worlds, of any kind of paths and names.
-ghost use Rattle.wesl_world.specs.declared.ids.NameId.{NameId};
+ghost use Rattle.wesl_symbols.specs.declared.ids.NameId.{NameId};
 ghost use Rattle.wesl_world.specs.Laws.{OnlyGrows, LeadsToOne, AsksForOne, AreLeast, AreExclusive, WorklistIsEnough};
 
 use crate::loader::Loader;

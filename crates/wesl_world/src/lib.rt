@@ -1,11 +1,9 @@
-//! Symbol tables of modules, and what a link of them reaches.
+//! What a link of symbol tables reaches.
 #![tactic(auto)]
 
 mod eager;
 pub mod error;
 mod follow;
-pub mod ids;
-mod keyed;
 pub mod laws;
 pub mod link;
 mod load;
@@ -13,5 +11,3 @@ pub mod loader;
 mod names;
 mod request;
 mod run;
-pub mod symbols;
-pub mod table;

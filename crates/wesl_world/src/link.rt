@@ -1,10 +1,11 @@
 //! Linking: what a root module reaches.
 ghost use Rattle.std.specs.Prelude.{◌≡◌, ◌↔◌, ◌<◌, Some, None, [], true, false, IsTrue, IfSome, IfNone, IfOk, IfErr, Contains};
-ghost use Rattle.wesl_world.specs.declared.ids.PathId.{PathId};
-ghost use Rattle.wesl_world.specs.declared.ids.NameId.{NameId};
-ghost use Rattle.wesl_world.specs.Tables as tables;
-ghost use Rattle.wesl_world.specs.Tables.{LookUp};
-ghost use Rattle.wesl_world.specs.World.{Asks, LeadsTo};
+ghost use Rattle.wesl_symbols.specs.declared.ids.PathId.{PathId};
+ghost use Rattle.wesl_symbols.specs.declared.ids.NameId.{NameId};
+ghost use Rattle.wesl_symbols.specs.declared.symbols.Symbol.{Symbol};
+ghost use Rattle.wesl_symbols.specs.declared.symbols.LookUp.{LookUp};
+ghost use Rattle.wesl_symbols.specs.Names.{Asks};
+ghost use Rattle.wesl_world.specs.World.{LeadsTo};
 ghost use Rattle.wesl_world.specs.Faults.{Agrees};
 ghost use Rattle.wesl_world.specs.Linking.{IsLinked, task_of};
 ghost use Rattle.wesl_world.specs.Loader.{IsReady, OnlyAdds};
@@ -12,16 +13,17 @@ ghost use Rattle.wesl_world.specs.Refusal.{IsExplained};
 ghost use Rattle.wesl_world.specs.Keeping.{StandsHeld};
 
 use crate::error::LinkError;
-use crate::ids::{NameId, PathId};
 use crate::loader::Loader;
+use crate::names;
 use crate::request::{Loaded, Request};
 use crate::run::{self, Reach};
-use crate::symbols::{LookUp, Reference, Symbol};
-use crate::table::Table;
-use crate::{keyed, names};
 use indexmap::{IndexMap, IndexSet};
 use std::alloc::Global;
 use std::marker::Model;
+use wesl_symbols::ids::{NameId, PathId};
+use wesl_symbols::keyed;
+use wesl_symbols::symbols::{LookUp, Reference, Symbol};
+use wesl_symbols::table::Table;
 
 /// The modules that a link loaded, the symbols that it reached, and what each name used in them stands for.
 pub struct Linked {
@@ -46,8 +48,8 @@ impl Drop for Linked {
 impl Model for Linked {
     ghost use Rattle.wesl_world.specs.Linking.{Linking};
     ghost use Rattle.wesl_world.specs.Keeping.{IsKept};
-    ghost use Rattle.wesl_world.specs.declared.ids.PathId.{PathId};
-    ghost use Rattle.wesl_world.specs.declared.ids.NameId.{NameId};
+    ghost use Rattle.wesl_symbols.specs.declared.ids.PathId.{PathId};
+    ghost use Rattle.wesl_symbols.specs.declared.ids.NameId.{NameId};
 
     ghost Value = { Linking PathId NameId };
 
@@ -95,7 +97,7 @@ impl Linked {
         requires loaded { Contains self.now.tables table.now }
         requires held { StandsHeld self.now table.now reference.now }
         ensures found { IfSome result (λ s. (l : LookUp PathId NameId) × Asks table.now reference.now l × LeadsTo self.now.tables l s) }
-        ensures every { (l : LookUp PathId NameId) (s : tables.Symbol PathId NameId) → Asks table.now reference.now l → LeadsTo self.now.tables l s → result ≡ Some s }
+        ensures every { (l : LookUp PathId NameId) (s : Symbol PathId NameId) → Asks table.now reference.now l → LeadsTo self.now.tables l s → result ≡ Some s }
         ensures free { IfNone result ((l : LookUp PathId NameId) → Asks table.now reference.now l → ⊥) }
     {
         let answers = &self.answers;

@@ -1,20 +1,21 @@
 //! Loading the modules of entered paths.
 ghost use Rattle.std.specs.Prelude.{◌≡◌, ◌<◌, length, IfSome, IfNone, OnOk, IfErr};
-ghost use Rattle.wesl_world.specs.declared.ids.PathId.{PathId};
-ghost use Rattle.wesl_world.specs.declared.ids.NameId.{NameId};
-ghost use Rattle.wesl_world.specs.Tables as tables;
+ghost use Rattle.wesl_symbols.specs.declared.ids.PathId.{PathId};
+ghost use Rattle.wesl_symbols.specs.declared.ids.NameId.{NameId};
+ghost use Rattle.wesl_symbols.specs.Tables as tables;
 ghost use Rattle.wesl_world.specs.World.{IsAt, Entered};
 ghost use Rattle.wesl_world.specs.Loader.{IsReady, OnlyAdds};
 ghost use Rattle.wesl_world.specs.Refusal.{IsExplained};
 ghost use Rattle.wesl_world.specs.Loading.{IsSound, Grows, CanEnter, world_of, task_at};
 
 use crate::error::LinkError;
-use crate::ids::PathId;
 use crate::loader::{LoadError, Loader};
+use crate::names;
 use crate::request::{Loaded, Request, loaded_table};
-use crate::table::Table;
-use crate::{keyed, names};
 use std::alloc::Global;
+use wesl_symbols::ids::PathId;
+use wesl_symbols::keyed;
+use wesl_symbols::table::Table;
 
 /// Adds a module that was handed out at an entered path where none is.
 fn add<E, L: Loader<E>>(

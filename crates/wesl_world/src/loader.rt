@@ -1,13 +1,13 @@
 //! Where the tables of modules come from.
 ghost use Rattle.std.specs.Prelude.{◌≡◌, IfOk, IfErr};
-ghost use Rattle.wesl_world.specs.declared.ids.PathId.{PathId};
-ghost use Rattle.wesl_world.specs.declared.ids.NameId.{NameId};
-ghost use Rattle.wesl_world.specs.Tables as tables;
+ghost use Rattle.wesl_symbols.specs.declared.ids.PathId.{PathId};
+ghost use Rattle.wesl_symbols.specs.declared.ids.NameId.{NameId};
+ghost use Rattle.wesl_symbols.specs.Tables as tables;
 ghost use Rattle.wesl_world.specs.Loader.{Explains, IsReady, OnlyAdds};
 
-use crate::ids::PathId;
-use crate::table::Table;
 use std::alloc::Global;
+use wesl_symbols::ids::PathId;
+use wesl_symbols::table::Table;
 
 /// Why a loader hands out no table.
 #[derive(Debug, Drop)]

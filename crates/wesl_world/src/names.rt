@@ -1,19 +1,20 @@
 //! What a name means inside one module.
 ghost use Rattle.std.specs.Prelude.{◌≡◌, ◌↔◌, Some, None, IsTrue, IsFalse, IfSome, IfNone, IfOk, OnOk, Contains};
-ghost use Rattle.wesl_world.specs.declared.ids.PathId.{PathId};
-ghost use Rattle.wesl_world.specs.declared.ids.NameId.{NameId};
-ghost use Rattle.wesl_world.specs.Tables.{Import, LookUp};
-ghost use Rattle.wesl_world.specs.World.{Declares, Asks, AsksUnder, AsksFrom};
+ghost use Rattle.wesl_symbols.specs.declared.ids.PathId.{PathId};
+ghost use Rattle.wesl_symbols.specs.declared.ids.NameId.{NameId};
+ghost use Rattle.wesl_symbols.specs.declared.symbols.Import.{Import};
+ghost use Rattle.wesl_symbols.specs.declared.symbols.LookUp.{LookUp};
+ghost use Rattle.wesl_symbols.specs.Names.{Declares, Asks, AsksUnder, AsksFrom};
 ghost use Rattle.wesl_world.specs.Faults.{Agrees, Clashes, SameTarget, IsOwn};
-ghost use Rattle.wesl_world.specs.Index.{Gains, AsksIn};
+ghost use Rattle.wesl_world.specs.Asked.{Gains, AsksIn};
 ghost use Rattle.wesl_world.specs.Answers.{IsAnswer};
 
-use crate::ids::{NameId, PathId};
-use crate::keyed;
-use crate::symbols::{Import, LookUp, Reference};
-use crate::table::{Declaration, Table};
 use indexmap::IndexMap;
 use std::alloc::{AllocError, Global};
+use wesl_symbols::ids::{NameId, PathId};
+use wesl_symbols::keyed;
+use wesl_symbols::symbols::{Import, LookUp, Reference};
+use wesl_symbols::table::{Declaration, Table};
 
 /// What a module answers to a look-up.
 #[derive(Clone, Copy, Debug, Drop)]

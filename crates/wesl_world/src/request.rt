@@ -1,17 +1,17 @@
 //! What is to be linked, and what is loaded so far.
 ghost use Rattle.std.specs.Prelude.{◌≡◌, ◌<◌, length, slice_get, Some, IfSome, IfNone, [], ◌∷◌};
-ghost use Rattle.wesl_world.specs.declared.ids.PathId.{PathId};
-ghost use Rattle.wesl_world.specs.declared.ids.NameId.{NameId};
-ghost use Rattle.wesl_world.specs.Tables as tables;
+ghost use Rattle.wesl_symbols.specs.declared.ids.PathId.{PathId};
+ghost use Rattle.wesl_symbols.specs.declared.ids.NameId.{NameId};
+ghost use Rattle.wesl_symbols.specs.Tables as tables;
 ghost use Rattle.wesl_world.specs.World.{IsAt};
 ghost use Rattle.wesl_world.specs.Loading.{ArePlaced, world_of};
 
-use crate::ids::{NameId, PathId};
-use crate::keyed;
-use crate::symbols::{LookUp, Symbol};
-use crate::table::Table;
 use indexmap::{IndexMap, IndexSet};
 use std::alloc::Global;
+use wesl_symbols::ids::{NameId, PathId};
+use wesl_symbols::keyed;
+use wesl_symbols::symbols::{LookUp, Symbol};
+use wesl_symbols::table::Table;
 
 /// What to link: the root, the names of it that are kept, whether all that is declared is held, and how many modules there may be.
 #[derive(Drop)]

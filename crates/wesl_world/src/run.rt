@@ -1,10 +1,11 @@
 //! The worklist: each module and each reached symbol is taken once.
 ghost use Rattle.std.specs.Prelude.{◌≡◌, ◌↔◌, ◌≤◌, ◌<◌, ◌+◌, length, slice_get, Some, None, IfOk, OnOk, IfErr, Contains, false};
-ghost use Rattle.wesl_world.specs.declared.ids.PathId.{PathId};
-ghost use Rattle.wesl_world.specs.declared.ids.NameId.{NameId};
-ghost use Rattle.wesl_world.specs.Tables as tables;
-ghost use Rattle.wesl_world.specs.Tables.{LookUp};
-ghost use Rattle.wesl_world.specs.World.{IsAt, AsksFrom};
+ghost use Rattle.wesl_symbols.specs.declared.ids.PathId.{PathId};
+ghost use Rattle.wesl_symbols.specs.declared.ids.NameId.{NameId};
+ghost use Rattle.wesl_symbols.specs.Tables as tables;
+ghost use Rattle.wesl_symbols.specs.declared.symbols.LookUp.{LookUp};
+ghost use Rattle.wesl_symbols.specs.Names.{AsksFrom};
+ghost use Rattle.wesl_world.specs.World.{IsAt};
 ghost use Rattle.wesl_world.specs.Faults.{Agrees};
 ghost use Rattle.wesl_world.specs.Loader.{IsReady, OnlyAdds};
 ghost use Rattle.wesl_world.specs.Refusal.{IsExplained};
@@ -13,12 +14,12 @@ ghost use Rattle.wesl_world.specs.Loading.{IsSound, Grows, ArePlaced, IsAnswered
 use crate::eager::{enter_imports, hold_declared};
 use crate::error::LinkError;
 use crate::follow::{follow, follow_all};
-use crate::ids::{NameId, PathId};
 use crate::loader::Loader;
 use crate::names;
 use crate::request::{self, Loaded, Request, loaded_table, table_at};
-use crate::symbols::{LookUp, Symbol};
 use std::alloc::{AllocError, Global};
+use wesl_symbols::ids::{NameId, PathId};
+use wesl_symbols::symbols::{LookUp, Symbol};
 
 /// What the const_asserts of the module at a place ask for.
 fn asked_by_module(

@@ -1,6 +1,6 @@
 use Rattle.std.proofs.Common.{List, [], ◌∷◌, sym, subst, ◌∙◌, take, Contains}
 use Rattle.std.proofs.lemmas.List.{take_all}
-use Rattle.wesl_world.proofs.Lists.{contains_first, contains_later}
+use Rattle.wesl_symbols.proofs.Lists.{contains_first, contains_later}
 use Rattle.wesl_table.proofs.Lists.{take_next}
 use Rattle.wesl_linker.specs.Holding.{AreParts}
 use Rattle.wesl_linker.specs.declared.loaded.LoadedModule.{LoadedModule}

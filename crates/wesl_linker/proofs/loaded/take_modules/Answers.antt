@@ -2,7 +2,7 @@ use Rattle.std.proofs.Common.{◌≡◌, ◌+◌, Some, sym, refl, subst, ◌∙
 use Rattle.std.specs.Prelude.{slice_get}
 use Rattle.std.proofs.lemmas.Option.{slice_get_read}
 use Rattle.wesl_names.specs.Path.{path_view}
-use Rattle.wesl_world.specs.declared.ids.PathId.{PathId}
+use Rattle.wesl_symbols.specs.declared.ids.PathId.{PathId}
 use Rattle.wesl_table.specs.Numbering.{PathAt}
 use Rattle.wesl_table.specs.NumbersView.{numbering}
 use Rattle.wesl_linker.specs.Taking.{unit_at}

@@ -1,4 +1,4 @@
-use Rattle.wesl_world.proofs.Entries.{puts}
+use Rattle.wesl_symbols.proofs.Entries.{puts}
 use Rattle.wesl_linker.specs.Taking.{path_eq}
 use Rattle.wesl_linker.proofs.Kept.{path_same, path_own}
 use Rattle.wesl_linker.proofs.modules.put.Goals as goal

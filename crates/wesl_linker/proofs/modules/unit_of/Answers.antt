@@ -1,5 +1,5 @@
 use Rattle.std.proofs.Common.{sym}
-use Rattle.wesl_world.proofs.Entries.{found_at, none_at}
+use Rattle.wesl_symbols.proofs.Entries.{found_at, none_at}
 use Rattle.wesl_linker.specs.Taking.{path_eq}
 use Rattle.wesl_linker.proofs.Kept.{path_same, path_own}
 use Rattle.wesl_linker.proofs.modules.unit_of.Goals as goal

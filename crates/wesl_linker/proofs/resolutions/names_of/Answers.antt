@@ -1,5 +1,6 @@
 use Rattle.std.proofs.Common.{◌≡◌, [], ◌∷◌, Bool, true, false, refl, subst, sym, ◌∙◌, rules}
-use Rattle.wesl_world.proofs.Lists.{contains_nil, contains_one}
+use Rattle.wesl_symbols.proofs.Lists.{contains_nil}
+use Rattle.wesl_world.proofs.Lists.{contains_one}
 use Rattle.wesl_table.specs.NumbersView.{numbering}
 use Rattle.wesl_linker.specs.GivenView.{given}
 use Rattle.wesl_linker.specs.Holding.{GivesTo, IsGivenAll}

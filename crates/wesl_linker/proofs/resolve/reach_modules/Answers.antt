@@ -2,13 +2,13 @@ use Rattle.std.proofs.Common.{◌≡◌, List, drop, subst, sym, ◌∙◌}
 use Rattle.wesl_names.specs.Path.{path_view}
 use Rattle.wesl_syntax.specs.Unit.{spelled}
 use Rattle.wesl_tree.specs.Translation.{unit_view}
-use Rattle.wesl_world.specs.declared.ids.NameId.{NameId}
-use Rattle.wesl_world.specs.Tables.{Table}
+use Rattle.wesl_symbols.specs.declared.ids.NameId.{NameId}
+use Rattle.wesl_symbols.specs.Tables.{Table}
 use Rattle.wesl_table.specs.Tables.{table_at}
 use Rattle.wesl_table.specs.Numbering.{Numbering, Grows, AreRelated}
 use Rattle.wesl_table.specs.NumbersView.{numbering}
 use Rattle.wesl_table.specs.declared.numbers.Numbers.{Numbers}
-use Rattle.wesl_world.specs.declared.ids.PathId.{PathId}
+use Rattle.wesl_symbols.specs.declared.ids.PathId.{PathId}
 use Rattle.wesl_world.specs.Linking.{IsLinked, task_of}
 use Rattle.wesl_linker.specs.Handing.{Keeps, StaysOne, IsHandedTable, IsRefusedPath}
 use Rattle.wesl_linker.specs.Resolved.{module_at}

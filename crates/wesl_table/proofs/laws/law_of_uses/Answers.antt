@@ -1,6 +1,6 @@
 use Rattle.std.proofs.Common.{◌≡◌, List, [], ◌∷◌, map, refl, ap, ◌∙◌}
 use Rattle.wesl_names.specs.Path.{Text, Path}
-use Rattle.wesl_world.specs.declared.symbols.Import.{Import}
+use Rattle.wesl_symbols.specs.declared.symbols.Import.{Import}
 use Rattle.wesl_occurrences.specs.Occurrences.{Standing, module_name, parameter, local as local_name, reference, word, Occurrence, occurrences}
 use Rattle.wesl_occurrences.specs.Pieces.{pieces}
 use Rattle.wesl_occurrences.proofs.Cutting.{pieces_are}

@@ -1,6 +1,6 @@
 use Rattle.std.proofs.Common.{◌≡◌, ℕ, true, ap}
 use Rattle.std.proofs.lemmas.Bool.Decides.{Decides-eqb}
-use Rattle.wesl_world.specs.declared.ids.NameId.{NameId}
+use Rattle.wesl_symbols.specs.declared.ids.NameId.{NameId}
 use Rattle.wesl_table.specs.Reading.{same_id}
 use Rattle.wesl_table.proofs.Holding.{held_put, put_some, put_none}
 use Rattle.wesl_table.proofs.reading.add_name.Goals as goal

@@ -1,6 +1,6 @@
 use Rattle.std.proofs.Common.{Some, take, ◌↔◌}
 use Rattle.std.specs.Prelude.{Contains}
-use Rattle.wesl_world.specs.declared.ids.NameId.{NameId}
+use Rattle.wesl_symbols.specs.declared.ids.NameId.{NameId}
 use Rattle.wesl_table.proofs.reading.name_set.Given as goal
 
 abbrev pub invariant-loop-name : goal.invariant-loop-name

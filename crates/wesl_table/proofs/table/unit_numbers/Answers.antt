@@ -1,7 +1,7 @@
 use Rattle.std.proofs.Common.{List, Option, Some, ◌↔◌, ap, subst}
 use Rattle.std.specs.List.{Contains}
 use Rattle.wesl_tree.specs.Translation.{unit_view}
-use Rattle.wesl_world.specs.declared.ids.NameId.{NameId}
+use Rattle.wesl_symbols.specs.declared.ids.NameId.{NameId}
 use Rattle.wesl_table.specs.Numbering.{AreRelated, IsRelatedOption, AreNumberedImports, NameAt}
 use Rattle.wesl_table.specs.NumbersView.{numbering}
 use Rattle.wesl_table.specs.Spelling.{spelled_imports}

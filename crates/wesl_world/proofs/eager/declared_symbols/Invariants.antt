@@ -1,5 +1,5 @@
 use Rattle.std.proofs.Common.{take, []}
-use Rattle.wesl_world.specs.Index.{Gains}
+use Rattle.wesl_world.specs.Asked.{Gains}
 use Rattle.wesl_world.specs.Eager.{IsDeclaredAmong}
 use Rattle.wesl_world.proofs.eager.declared_symbols.Given as goal
 

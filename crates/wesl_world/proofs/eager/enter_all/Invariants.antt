@@ -1,7 +1,7 @@
 use Rattle.std.proofs.Common.{take, Contains}
-use Rattle.wesl_world.specs.declared.ids.PathId.{PathId}
-use Rattle.wesl_world.specs.declared.ids.NameId.{NameId}
-use Rattle.wesl_world.specs.Tables.{Table}
+use Rattle.wesl_symbols.specs.declared.ids.PathId.{PathId}
+use Rattle.wesl_symbols.specs.declared.ids.NameId.{NameId}
+use Rattle.wesl_symbols.specs.Tables.{Table}
 use Rattle.wesl_world.specs.World.{IsAt}
 use Rattle.wesl_world.specs.Loader.{OnlyAdds}
 use Rattle.wesl_world.specs.Loading.{IsSound, Grows, world_of}

@@ -1,9 +1,9 @@
 use Rattle.std.proofs.Common.{Contains, subst}
-use Rattle.wesl_world.specs.declared.ids.PathId.{PathId}
-use Rattle.wesl_world.specs.declared.ids.NameId.{NameId}
-use Rattle.wesl_world.specs.Tables.{Table}
+use Rattle.wesl_symbols.specs.declared.ids.PathId.{PathId}
+use Rattle.wesl_symbols.specs.declared.ids.NameId.{NameId}
+use Rattle.wesl_symbols.specs.Tables.{Table}
 use Rattle.wesl_world.specs.Loading.{world_of}
-use Rattle.wesl_world.proofs.Indexing.{at_contains, one_at}
+use Rattle.wesl_symbols.proofs.Lists.{at_contains, one_at}
 use Rattle.wesl_world.proofs.Declaring.{import_entered, import_can, import_path}
 use Rattle.wesl_world.proofs.eager.enter_imports.Goals as goal
 

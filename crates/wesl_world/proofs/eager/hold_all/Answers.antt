@@ -1,8 +1,8 @@
 use Rattle.std.proofs.Common.{Contains, refl}
 use Rattle.std.proofs.lemmas.List.{take_all}
-use Rattle.wesl_world.specs.declared.ids.PathId.{PathId}
-use Rattle.wesl_world.specs.declared.ids.NameId.{NameId}
-use Rattle.wesl_world.specs.Tables.{Symbol}
+use Rattle.wesl_symbols.specs.declared.ids.PathId.{PathId}
+use Rattle.wesl_symbols.specs.declared.ids.NameId.{NameId}
+use Rattle.wesl_symbols.specs.declared.symbols.Symbol.{Symbol}
 use Rattle.wesl_world.proofs.Growth.{reached_more, at_more}
 use Rattle.wesl_world.proofs.Growing.{first_more, element_of, within_on, goes_on_itself}
 use Rattle.wesl_world.proofs.Steps.{sound_symbol}

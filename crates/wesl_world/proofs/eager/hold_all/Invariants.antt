@@ -1,7 +1,7 @@
 use Rattle.std.proofs.Common.{take, Contains}
-use Rattle.wesl_world.specs.declared.ids.PathId.{PathId}
-use Rattle.wesl_world.specs.declared.ids.NameId.{NameId}
-use Rattle.wesl_world.specs.Tables.{Symbol}
+use Rattle.wesl_symbols.specs.declared.ids.PathId.{PathId}
+use Rattle.wesl_symbols.specs.declared.ids.NameId.{NameId}
+use Rattle.wesl_symbols.specs.declared.symbols.Symbol.{Symbol}
 use Rattle.wesl_world.specs.Loading.{IsSound, Grows}
 use Rattle.wesl_world.proofs.eager.hold_all.Given as goal
 

@@ -1,10 +1,10 @@
 use Rattle.std.proofs.Common.{Contains, subst, sym}
-use Rattle.wesl_world.specs.declared.ids.PathId.{PathId}
-use Rattle.wesl_world.specs.declared.ids.NameId.{NameId}
-use Rattle.wesl_world.specs.Tables.{Table}
-use Rattle.wesl_world.specs.World.{Declares}
+use Rattle.wesl_symbols.specs.declared.ids.PathId.{PathId}
+use Rattle.wesl_symbols.specs.declared.ids.NameId.{NameId}
+use Rattle.wesl_symbols.specs.Tables.{Table}
+use Rattle.wesl_symbols.specs.Names.{Declares}
 use Rattle.wesl_world.specs.Loading.{world_of}
-use Rattle.wesl_world.proofs.Indexing.{at_contains, one_at}
+use Rattle.wesl_symbols.proofs.Lists.{at_contains, one_at}
 use Rattle.wesl_world.proofs.Declaring.{symbol_reached, symbol_placed, symbol_gained}
 use Rattle.wesl_world.proofs.eager.hold_declared.Goals as goal
 

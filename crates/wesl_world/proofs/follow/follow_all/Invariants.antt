@@ -1,7 +1,7 @@
 use Rattle.std.proofs.Common.{take, Contains}
-use Rattle.wesl_world.specs.declared.ids.PathId.{PathId}
-use Rattle.wesl_world.specs.declared.ids.NameId.{NameId}
-use Rattle.wesl_world.specs.Tables.{LookUp}
+use Rattle.wesl_symbols.specs.declared.ids.PathId.{PathId}
+use Rattle.wesl_symbols.specs.declared.ids.NameId.{NameId}
+use Rattle.wesl_symbols.specs.declared.symbols.LookUp.{LookUp}
 use Rattle.wesl_world.specs.Loader.{OnlyAdds}
 use Rattle.wesl_world.specs.Loading.{IsSound, Grows, IsAnswered}
 use Rattle.wesl_world.proofs.follow.follow_all.Given as goal

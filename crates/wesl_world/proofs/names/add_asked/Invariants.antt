@@ -1,5 +1,5 @@
 use Rattle.std.proofs.Common.{take}
-use Rattle.wesl_world.specs.Index.{Gains, AsksIn}
+use Rattle.wesl_world.specs.Asked.{Gains, AsksIn}
 use Rattle.wesl_world.proofs.names.add_asked.Given as goal
 
 abbrev pub invariant-loop-reference : goal.invariant-loop-reference

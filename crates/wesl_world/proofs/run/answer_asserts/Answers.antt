@@ -1,10 +1,10 @@
 use Rattle.std.proofs.Common.{None, subst}
-use Rattle.wesl_world.specs.declared.ids.PathId.{PathId}
-use Rattle.wesl_world.specs.declared.ids.NameId.{NameId}
-use Rattle.wesl_world.specs.Tables.{Table}
-use Rattle.wesl_world.specs.World.{AsksFrom}
+use Rattle.wesl_symbols.specs.declared.ids.PathId.{PathId}
+use Rattle.wesl_symbols.specs.declared.ids.NameId.{NameId}
+use Rattle.wesl_symbols.specs.Tables.{Table}
+use Rattle.wesl_symbols.specs.Names.{AsksFrom}
 use Rattle.wesl_world.specs.Loading.{world_of}
-use Rattle.wesl_world.proofs.Indexing.{at_contains, one_at}
+use Rattle.wesl_symbols.proofs.Lists.{at_contains, one_at}
 use Rattle.wesl_world.proofs.Turns.{asked_can, module_followed}
 use Rattle.wesl_world.proofs.run.answer_asserts.Goals as goal
 

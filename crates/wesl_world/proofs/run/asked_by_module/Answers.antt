@@ -1,5 +1,5 @@
 use Rattle.wesl_world.specs.Loading.{world_of}
-use Rattle.wesl_world.proofs.Indexing.{at_contains}
+use Rattle.wesl_symbols.proofs.Lists.{at_contains}
 use Rattle.wesl_world.proofs.run.asked_by_module.Goals as goal
 
 pub asked_from-requires : goal.asked_from-requires

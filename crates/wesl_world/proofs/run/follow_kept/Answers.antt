@@ -1,9 +1,9 @@
 use Rattle.std.proofs.Common.{refl, inr, sym}
 use Rattle.std.proofs.lemmas.List.{take_all}
-use Rattle.wesl_world.specs.declared.ids.NameId.{NameId}
+use Rattle.wesl_symbols.specs.declared.ids.NameId.{NameId}
 use Rattle.wesl_world.specs.World.Followed.{kept}
 use Rattle.wesl_world.specs.Loading.{IsAnswered, kept_look_up}
-use Rattle.wesl_world.proofs.Lists.{contains_first, contains_nil}
+use Rattle.wesl_symbols.proofs.Lists.{contains_first, contains_nil}
 use Rattle.wesl_world.proofs.Growing.{first_more, element_of}
 use Rattle.wesl_world.proofs.Following.{grows_itself, grows_trans, adds_itself, adds_trans}
 use Rattle.wesl_world.proofs.run.follow_kept.Goals as goal

@@ -1,6 +1,6 @@
 use Rattle.std.proofs.Common.{◌≡◌, ◌≤◌, ◌<◌, ℕ, subst, length, arith}
 use Rattle.wesl_world.specs.Loading.{ModulesDone, SymbolsDone, world_of}
-use Rattle.wesl_world.proofs.Lists.{contains_nil}
+use Rattle.wesl_symbols.proofs.Lists.{contains_nil}
 use Rattle.wesl_world.proofs.Growing.{goes_on_length, index_at}
 use Rattle.wesl_world.proofs.Following.{grows_itself, grows_trans, adds_itself, adds_trans}
 use Rattle.wesl_world.proofs.Turns.{modules_on, symbols_on, symbols_next}

@@ -2,7 +2,7 @@ use Rattle.std.proofs.Common.{◌≤◌, ◌<◌, length, arith, rules}
 use Rattle.wesl_world.specs.Loading.{world_of}
 use Rattle.wesl_world.proofs.Growing.{goes_on_length}
 use Rattle.wesl_world.proofs.Following.{grows_itself, grows_trans, adds_itself, adds_trans}
-use Rattle.wesl_world.proofs.Indexing.{contains_at_place}
+use Rattle.wesl_world.proofs.Lists.{contains_at_place}
 use Rattle.wesl_world.proofs.Turns.{modules_next}
 use Rattle.wesl_world.proofs.run.take_modules.Goals as goal
 

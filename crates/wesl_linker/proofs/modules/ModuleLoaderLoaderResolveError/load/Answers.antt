@@ -2,9 +2,9 @@ use Rattle.std.proofs.Common.{refl}
 use Rattle.wesl_names.specs.Path.{Text, Path, path_view}
 use Rattle.wesl_syntax.specs.Unit.{spelled}
 use Rattle.wesl_tree.specs.Translation.{unit_view}
-use Rattle.wesl_world.specs.declared.ids.PathId.{PathId}
-use Rattle.wesl_world.specs.declared.ids.NameId.{NameId}
-use Rattle.wesl_world.specs.Tables.{Table}
+use Rattle.wesl_symbols.specs.declared.ids.PathId.{PathId}
+use Rattle.wesl_symbols.specs.declared.ids.NameId.{NameId}
+use Rattle.wesl_symbols.specs.Tables.{Table}
 use Rattle.wesl_world.specs.Loader.{IsReady}
 use Rattle.wesl_table.specs.Tables.{table_at}
 use Rattle.wesl_table.specs.Numbering.{PathAt, IsNumbered}

@@ -1,0 +1,4 @@
+pub mod Keyed
+pub mod Tables
+pub mod Names
+pub mod Index

@@ -1,0 +1,7 @@
+//! Symbol tables of modules: paths and names as numbers, imports, references, declarations, and look-ups in one table.
+#![tactic(auto)]
+
+pub mod ids;
+pub mod keyed;
+pub mod symbols;
+pub mod table;

@@ -1,5 +1,0 @@
-use Rattle.wesl_world.proofs.Entries.{has_key_is}
-use Rattle.wesl_world.proofs.keyed.has_key.Goals as goal
-
-pub returns : goal.returns
-returns g c = has_key_is g.K.PartialEq.eq g.met.K.Identity.same g.met.K.Eq.laws.refl c.args.key c.args.set.now.keys c.contains.result c.contains.ensures

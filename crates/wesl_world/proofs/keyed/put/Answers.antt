@@ -1,6 +1,0 @@
-use Rattle.wesl_world.proofs.Entries.{puts}
-use Rattle.wesl_world.proofs.keyed.put.Goals as goal
-
-pub returns : goal.returns
-returns g c =
-    puts g.K.PartialEq.eq g.met.K.Identity.same c.args.key c.args.value g.met.K.Eq.laws.refl c.args.map.now.entries c.insert.new.self.entries c.in_ok-insert.ensures.entries c.insert.ensures.unique

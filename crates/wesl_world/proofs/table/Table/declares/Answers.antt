@@ -1,5 +1,0 @@
-use Rattle.wesl_world.proofs.Indexing.{declares_is}
-use Rattle.wesl_world.proofs.table.Table.declares.Goals as goal
-
-pub returns : goal.returns
-returns c = declares_is c.args.self.now c.args.name c.latest_of.result c.is_some.result c.latest_of.ensures c.is_some.ensures

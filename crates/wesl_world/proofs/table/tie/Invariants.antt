@@ -1,5 +1,0 @@
-use Rattle.wesl_world.specs.Index.{Chains}
-use Rattle.wesl_world.proofs.table.tie.Given as goal
-
-abbrev pub invariant-loop-index : goal.invariant-loop-index
-invariant-loop-index l = Chains l.declarations l.index l.latest.entries l.earlier.items

@@ -1,0 +1,25 @@
+-- What lists of references and of declarations ask for.
+use Rattle.std.specs.Prelude.{◌≡◌, ◌⊎◌, ℕ, ◌+◌, ◌≤◌, slice_get, Option, Some, None, List, Contains}
+use Rattle.wesl_symbols.specs.declared.symbols.LookUp.{LookUp}
+use Rattle.wesl_symbols.specs.declared.symbols.Reference.{Reference}
+use Rattle.wesl_symbols.specs.Tables.{Declaration, Table}
+use Rattle.wesl_symbols.specs.Names.{Asks}
+
+-- the list gains what Q says, and nothing else
+pub record Gains {X : Type 0} (from to : List X) (Q : X → Type 0) : Type 0 where
+  pub kept : (x : X) → Contains from x → Contains to x
+  pub only : (x : X) → Contains to x → Contains from x ⊎ Q x
+  pub all : (x : X) → Q x → Contains to x
+
+-- some reference of the list asks for it
+abbrev pub AsksIn : {P N : Type 0} → Table P N → List (Reference P N) → LookUp P N → Type 0
+AsksIn {P} {N} t rs l = (r : Reference P N) × Contains rs r × Asks t r l
+
+-- some reference in a declaration of that name at n or behind asks for it
+abbrev pub AsksBehind : {P N : Type 0} → Table P N → Option N → ℕ → LookUp P N → Type 0
+AsksBehind {P} {N} t name n l = (i : ℕ) × (n ≤ i) × (d : Declaration P N) × (slice_get t.declarations i ≡ Some d) × (d.name ≡ name) × AsksIn t d.references l
+
+-- how many declarations at most are still to be gone over
+abbrev pub steps : Option ℕ → ℕ
+steps None = 0
+steps (Some i) = i + 1
