@@ -12,8 +12,8 @@ pub fn answered(row: Row<'_>) -> Answer {
         "Resolutions::mangle, or what stands" => links::mangled_or_left(row),
         "resolve_lazy of a chain" => chains::lazy(row),
         "resolve_eager of a chain" => chains::eager(row),
-        "wesl_world::resolve_eager" => tables::eager(row),
-        "wesl_world::resolve_lazy" => tables::lazy(row),
+        "wesl_world::link_eagerly" => tables::eager(row),
+        "wesl_world::link_lazily" => tables::lazy(row),
         call => of_resolvers(row, call),
     }
 }
