@@ -1,10 +1,11 @@
 -- The text of a unit's value, list by list.
-use Rattle.std.proofs.Common.{◌≡◌, ℕ, zero, suc, ◌+◌, ◌<◌, ◌≤◌, List, [], ◌∷◌, ◌++◌, length, get_or, map, take, Bool, true, false, not, ◌||◌, ◌==◌, codes, refl, sym, ap, ◌∙◌, append_assoc, append-nil, arith}
-use Rattle.std.proofs.lemmas.List.{take_all}
-use Rattle.serde_json.specs.Data.{Data, string, array, object, Items, no_items, item, Members, no_members, member}
+use Rattle.std.proofs.Common.{◌≡◌, ℕ, suc, ◌+◌, ◌<◌, List, [], ◌∷◌, ◌++◌, length, get_or, map, take, Bool, true, false, not, ◌||◌, ◌==◌, codes, refl, sym, ap, ◌∙◌, append_assoc, append-nil, arith}
+use Rattle.std.proofs.lemmas.Bool.{ne_eqb}
+use Rattle.serde_json.specs.Data.{Data, string, array, Items, no_items, item, Members, no_members, member}
 use Rattle.serde_json.specs.View.{items_view}
 use Rattle.serde_json.specs.declared.value.Value.{Value}
 use Rattle.serde_json.specs.Written.{comma_if, compact_text, items_text, members_text, has_float, items_have_float}
+use Rattle.serde_json.proofs.OnLiterals.{serde_json_on_literals}
 use Rattle.wesl_names.specs.Path.{Text}
 use Rattle.wesl_syntax.specs.Tree.{Kind, Tree, Forest, at, before, end, forest_of, respell, respell_forest}
 use Rattle.wesl_syntax.specs.Unit.{name_in}
@@ -13,6 +14,20 @@ use Rattle.wesl_form_laws.proofs.Whole.{written_whole, items_whole}
 use Rattle.wesl_writing.specs.Values.{bare, value_in, placed_in, items_in, with_list}
 use Rattle.wesl_writing.proofs.Lists.{items_then, items_in-then, map-then, take-then}
 use Rattle.wesl_printing.specs.Printing.{has_items, bare_items, list_text}
+
+-- ---- the keys
+
+pub declarations-key : codes "\"declarations\":[" ≡ compact_text (string (codes "declarations")) ++ 58 ∷ 91 ∷ []
+unfolding serde_json_on_literals
+declarations-key = refl
+
+pub directives-key : codes "\"directives\":" ≡ compact_text (string (codes "directives")) ++ 58 ∷ []
+unfolding serde_json_on_literals
+directives-key = refl
+
+pub imports-key : codes "\"imports\":" ≡ compact_text (string (codes "imports")) ++ 58 ∷ []
+unfolding serde_json_on_literals
+imports-key = refl
 
 -- ---- no floats
 
@@ -81,16 +96,12 @@ module _ (names : List Text) (m : Name) {A : Type 0} (f : A → Tree) where
   pub turn-later : (xs : List A) (i : ℕ) (x : A) → i < length xs → x ≡ get_or xs i x → true ≡ has_items (until (i + 1) xs)
   turn-later xs i x within here = sym (ap has_items (until-then xs i x within here) ∙ has-then (until i xs) (value_in names (node m) (f x)))
 
-  -- after the last turn
-  pub all-printed : (xs ys : List A) (i : ℕ) (old now : Text) → xs ≡ ys → length xs ≤ i → now ≡ old ++ bare_items false (until i xs) → now ≡ old ++ bare_items false (items_in names m (forest_of (map f ys)))
-  all-printed xs ys i old now same all h = h ∙ ap (λ zs. old ++ bare_items false (items_in names m (forest_of (map f zs)))) (take_all i xs all ∙ same)
-
   -- ---- whether there is one
 
   pub has-listed : (xs : List A) (n : ℕ) → n ≡ length xs → not (n == 0) ≡ has_items (items_in names m (forest_of (map f xs)))
   unfolding items_in
   has-listed [] n is = rw is refl
-  has-listed (x ∷ xs) n is = rw is refl
+  has-listed (x ∷ xs) n is = rw is (ap not (ne_eqb (suc (length xs)) 0 (λ e. omega (arith, e))))
 
   -- the member of a list without items
   pub none-member : (xs : List A) (later : Bool) (k old : Text) → xs ≡ [] → old ≡ old ++ list_text later k (items_in names m (forest_of (map f xs)))
@@ -128,6 +139,14 @@ full-list (x ∷ vs) ds later k key v old first second third some is whole spell
     ∙ append_assoc old (comma_if later) ((q ++ 58 ∷ []) ++ text)
     ∙ ap (λ r. old ++ (comma_if later ++ r)) (append_assoc q (58 ∷ []) text)
     ∙ ap (λ es. old ++ list_text later k es) is
+
+-- ---- whether a member stands before
+
+pub either-then : (one two : Bool) (gs ds : Items) → one ≡ has_items gs → one ≡ true → two ≡ one → two ≡ (has_items gs || has_items ds)
+either-then one two gs ds is so same = same ∙ so ∙ ap (λ b. b || has_items ds) (sym so ∙ is)
+
+pub either-else : (one two : Bool) (gs ds : Items) → one ≡ has_items gs → one ≡ false → two ≡ has_items ds → two ≡ (has_items gs || has_items ds)
+either-else one two gs ds is so same = same ∙ ap (λ b. b || has_items ds) (sym so ∙ is)
 
 -- ---- the object of the lists
 

@@ -18,19 +18,17 @@ use wesl_writing::{directive_values, global_value, import_values};
 /// The text, and behind it the value that a unit is written as, as compact JSON, its keys in the order of their bytes.
 ///
 /// It is the text of what `value_of_unit` gives, of which there is no more at a time than the value of one declaration.
-pub fn print_unit(
-    alloc: Global,
-    text: String,
-    unit: &TranslationUnit,
-) -> Result<String, AllocError>
+pub fn print_unit(alloc: Global, text: String, unit: &TranslationUnit) -> Result<String, AllocError>
     ensures { IfOk result (λ s. string_bytes s ≡ string_bytes text ++ compact_text (unit_value (unit_view unit.now))) }
 {
     let names = unit.names();
-    let declared = !unit.global_declarations().is_empty();
-    let directed = declared || !unit.global_directives().is_empty();
+    let declarations = unit.global_declarations();
+    let directives = unit.global_directives();
+    let declared = !declarations.is_empty();
+    let directed = declared || !directives.is_empty();
     let text = print_text(text, "{")?;
-    let text = print_declarations(alloc, text, names, unit.global_declarations())?;
-    let directives = directive_values(alloc, names, unit.global_directives());
+    let text = print_declarations(alloc, text, names, declarations)?;
+    let directives = directive_values(alloc, names, directives);
     let text = print_list(alloc, text, declared, "\"directives\":", directives)?;
     let imports = import_values(alloc, names, unit.imports());
     let text = print_list(alloc, text, directed, "\"imports\":", imports)?;
