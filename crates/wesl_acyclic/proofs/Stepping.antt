@@ -6,10 +6,10 @@ use Rattle.std.proofs.lemmas.Bool.Decides.{Decides-eqb}
 use Rattle.std.proofs.lemmas.List.{append-nil}
 use Rattle.std.proofs.lemmas.List.Elements.{Contains-append_cases, Contains-append_left, Contains-append_right}
 use Rattle.wesl_syntax.specs.Unit.{UnitView, trees_of}
-use Rattle.wesl_occurrences.specs.Occurrences.{Block, Occurrence, occurrences}
+use Rattle.wesl_occurrences.specs.Occurrences.{Block, Occurrence, occurrences, is_module_name, is_reference}
 use Rattle.wesl_occurrences.specs.Walk.{Found}
 use Rattle.wesl_occurrences.specs.Ways.{told}
-use Rattle.wesl_kept.specs.Declarations.{is_module_name, is_reference, lies_in, declared_in, referred_in}
+use Rattle.wesl_kept.specs.Declarations.{lies_in, declared_in, referred_in}
 use Rattle.wesl_rings.specs.Graphs.{Graph, edges_at, Leads}
 use Rattle.wesl_valid.specs.Valid.{LeadsTo}
 use Rattle.wesl_acyclic.specs.Steps.{referred_here, referred, used_by, steps_here, used_in, steps}

@@ -1,7 +1,7 @@
 -- The steps of a module's numbers, as they are listed: from the number of a declaration to those to which it refers.
 use Rattle.std.specs.Prelude.{ℕ, ◌&&◌, ◌==◌, Option, Some, None, List, [], ◌∷◌, flat_map, if◌then◌else◌}
-use Rattle.wesl_occurrences.specs.Occurrences.{OccurrenceIn}
-use Rattle.wesl_kept.specs.Declarations.{is_module_name, is_reference, lies_in}
+use Rattle.wesl_occurrences.specs.Occurrences.{OccurrenceIn, is_module_name, is_reference}
+use Rattle.wesl_kept.specs.Declarations.{lies_in}
 use Rattle.wesl_rings.specs.Graphs.{Graph, edges_at}
 
 -- those to which a declaration refers, by a list of what each refers to

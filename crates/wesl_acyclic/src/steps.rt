@@ -2,34 +2,13 @@
 ghost use Rattle.std.specs.Prelude.{◌≡◌, ◌++◌, ◌==◌, ℕ, [], map, if◌then◌else◌, IfOk, IfErr};
 ghost use Rattle.wesl_names.specs.declared.errors.Error as error;
 ghost use Rattle.wesl_occurrences.specs.Views.{occurrence_view};
-ghost use Rattle.wesl_kept.specs.Declarations.{is_module_name, is_reference};
 ghost use Rattle.wesl_rings.specs.Graphs.{graph_view, edges_at, IsClosed};
 ghost use Rattle.wesl_acyclic.specs.Steps.{referred_here, referred, used_by, steps_here, steps};
 
 use std::alloc::Global;
 use wesl_names::Error;
-use wesl_occurrences::{Identifiers, Occurrence, Standing};
+use wesl_occurrences::{Identifiers, Occurrence};
 use wesl_rings::add_edge;
-
-/// Whether it is a reference.
-fn is_reference(occurrence: &Occurrence<'_>) -> bool
-    ensures { result ≡ is_reference (occurrence_view occurrence.now).role }
-{
-    match occurrence.standing {
-        Standing::Reference(_) => true,
-        _ => false,
-    }
-}
-
-/// Whether it is the name of an import or of a global declaration.
-fn is_module_name(occurrence: &Occurrence<'_>) -> bool
-    ensures { result ≡ is_module_name (occurrence_view occurrence.now).role }
-{
-    match occurrence.standing {
-        Standing::ModuleName => true,
-        _ => false,
-    }
-}
 
 /// Adds what an identifier refers to, if it is a reference in a declaration.
 #[tactic(auto, using(crate::proofs::Stepping::no_use, crate::proofs::Stepping::no_place))]
@@ -41,7 +20,7 @@ fn add_use(
     ensures added { IfOk result (λ _. (j : ℕ) → edges_at (graph_view uses.new.items) j ≡ edges_at (graph_view uses.old.items) j ++ referred_here j (occurrence_view occurrence.now)) }
     ensures refused { IfErr result (λ e. e ≡ error.Memory) }
 {
-    if !is_reference(occurrence) {
+    if !occurrence.standing.is_reference() {
         return Ok(());
     }
     match occurrence.declaration {
@@ -91,7 +70,7 @@ fn add_steps(
     ensures closed { IfOk result (λ _. IsClosed (graph_view graph.old.items) → IsClosed (graph_view graph.new.items)) }
     ensures refused { IfErr result (λ e. e ≡ error.Memory) }
 {
-    if !is_module_name(occurrence) {
+    if !occurrence.standing.is_module_name() {
         return Ok(());
     }
     match occurrence.declaration {

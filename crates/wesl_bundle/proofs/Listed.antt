@@ -10,7 +10,7 @@ use Rattle.serde_json.specs.View.{items_view, view}
 use Rattle.serde_json.specs.declared.value.Value.{Value}
 use Rattle.wesl_names.specs.Path.{Text}
 use Rattle.wesl_bundle.specs.Packages as said
-use Rattle.wesl_bundle.specs.PackageViews.{modules_of, module_step, package_module_view, package_step, package_view, packages_of}
+use Rattle.wesl_bundle.specs.PackageViews.{package_modules, module_step, package_module_view, package_step, package_view, packages_of}
 use Rattle.wesl_bundle.specs.Reading.{items_in, list_in, name_in, or_default, required_in}
 use Rattle.wesl_pointer.specs.Keys.{has_only}
 use Rattle.wesl_bundle.specs.declared.packages.PackageModule.{PackageModule}
@@ -62,16 +62,16 @@ module-read (string s) name unit modules known is_name is_unit are = cc
 module-read (array ds) name unit modules known is_name is_unit are = cc
 module-read (object ms) name unit modules known is_name is_unit are = rw (known, is_name, is_unit, below-modules ms, are) refl
 
-each_module-listed : (ds : Items) → said.each_module ds ≡ option_map modules_of (items_in said.package_module_in ds)
+each_module-listed : (ds : Items) → said.each_module ds ≡ option_map package_modules (items_in said.package_module_in ds)
 each_module-listed no_items = refl
 each_module-listed (item d ds) = step (said.package_module_in d) (said.each_module ds) (items_in said.package_module_in ds) (each_module-listed ds)
   where
-    step : (o : Option said.PackageModule) (rest : Option said.PackageModules) (listed : Option (List said.PackageModule)) → rest ≡ option_map modules_of listed → option_and_then (λ m. option_and_then (λ ms. Some (said.module_before m ms)) rest) o ≡ option_map modules_of (option_and_then (λ m. option_and_then (λ ms. Some (m ∷ ms)) listed) o)
+    step : (o : Option said.PackageModule) (rest : Option said.PackageModules) (listed : Option (List said.PackageModule)) → rest ≡ option_map package_modules listed → option_and_then (λ m. option_and_then (λ ms. Some (said.module_before m ms)) rest) o ≡ option_map package_modules (option_and_then (λ m. option_and_then (λ ms. Some (m ∷ ms)) listed) o)
     step None rest listed e = refl
     step (Some m) rest None e = rw e refl
     step (Some m) rest (Some ms) e = rw e refl
 
-pub modules-whole : (d : Data) (vs : List Value) (i : ℕ) (xs : List said.PackageModule) → as_array d ≡ Some (items_view vs) → length vs ≤ i → items_in said.package_module_in (items_view (take i vs)) ≡ Some xs → said.package_modules_in d ≡ Some (modules_of xs)
+pub modules-whole : (d : Data) (vs : List Value) (i : ℕ) (xs : List said.PackageModule) → as_array d ≡ Some (items_view vs) → length vs ≤ i → items_in said.package_module_in (items_view (take i vs)) ≡ Some xs → said.package_modules_in d ≡ Some (package_modules xs)
 modules-whole null vs i xs is all read = cc
 modules-whole (boolean b) vs i xs is all read = cc
 modules-whole (number n) vs i xs is all read = cc
@@ -79,10 +79,10 @@ modules-whole (string s) vs i xs is all read = cc
 modules-whole (object ms) vs i xs is all read = cc
 modules-whole (array ds) vs i xs is all read =
     let same : ds ≡ items_view vs = cc in
-    ap said.each_module same ∙ each_module-listed (items_view vs) ∙ ap (λ ws. option_map modules_of (items_in said.package_module_in (items_view ws))) (sym (take_all i vs all)) ∙ ap (option_map modules_of) read
+    ap said.each_module same ∙ each_module-listed (items_view vs) ∙ ap (λ ws. option_map package_modules (items_in said.package_module_in (items_view ws))) (sym (take_all i vs all)) ∙ ap (option_map package_modules) read
 
 -- a module that is made of its fields
-pub module-made : (x : PackageModule-F PackageModule) → package_module_view (roll-PackageModule x) ≡ made-package-module (string_bytes x.name) (view x.unit.now) (modules_of (map package_module_view x.modules.items))
+pub module-made : (x : PackageModule-F PackageModule) → package_module_view (roll-PackageModule x) ≡ made-package-module (string_bytes x.name) (view x.unit.now) (package_modules (map package_module_view x.modules.items))
 module-made = fold-roll-PackageModule said.PackageModule module_step
 
 -- ---- packages
@@ -121,7 +121,7 @@ modules-listed (boolean b) x h = cc
 modules-listed (number n) x h = cc
 modules-listed (string s) x h = cc
 modules-listed (object ms) x h = cc
-modules-listed (array ds) x h = mapped modules_of (items_in said.package_module_in ds) x (sym (each_module-listed ds) ∙ h)
+modules-listed (array ds) x h = mapped package_modules (items_in said.package_module_in ds) x (sym (each_module-listed ds) ∙ h)
 
 -- what is read as packages is a list of such
 pub packages-listed : (d : Data) (x : said.Packages) → said.packages_in d ≡ Some x → (xs : List said.Package) × (list_in said.package_in d ≡ Some xs)

@@ -9,9 +9,9 @@ use Rattle.wesl_bundle.specs.declared.packages.Package.{Package}
 use Rattle.wesl_bundle.specs.declared.packages.Package.TheOpen.{Package-F}
 use Rattle.wesl_bundle.specs.declared.packages.Package.TheFolds.{fold-Package}
 
-abbrev pub modules_of : List said.PackageModule → said.PackageModules
-modules_of [] = said.no_modules
-modules_of (m ∷ ms) = said.module_before m (modules_of ms)
+abbrev pub package_modules : List said.PackageModule → said.PackageModules
+package_modules [] = said.no_modules
+package_modules (m ∷ ms) = said.module_before m (package_modules ms)
 
 abbrev pub packages_of : List said.Package → said.Packages
 packages_of [] = said.no_packages
@@ -19,13 +19,13 @@ packages_of (p ∷ ps) = said.package_before p (packages_of ps)
 
 -- a module, with each module below it seen already
 abbrev pub module_step : PackageModule-F said.PackageModule → said.PackageModule
-module_step m = record { name = string_bytes m.name; unit = view m.unit.now; modules = modules_of m.modules.items }
+module_step m = record { name = string_bytes m.name; unit = view m.unit.now; modules = package_modules m.modules.items }
 
 abbrev pub package_module_view : PackageModule → said.PackageModule
 package_module_view = fold-PackageModule said.PackageModule module_step
 
 abbrev pub package_modules_view : List PackageModule → said.PackageModules
-package_modules_view ms = modules_of (map package_module_view ms)
+package_modules_view ms = package_modules (map package_module_view ms)
 
 -- a package, with each package that it depends on seen already
 abbrev pub package_step : Package-F said.Package → said.Package

@@ -14,7 +14,7 @@ abbrev pub written_over : List ℕ → List ℕ → List ℕ
 written_over line buffer = take (length buffer) line ++ drop (length line) buffer
 
 -- of the line that the bytes have, the outcome's status, the length, and as much as the buffer has room for
-abbrev pub Answers : List ℕ → ℕ → ℕ → List ℕ → List ℕ → Type 0
-Answers bytes status needed old new =
+abbrev pub FillsBuffer : List ℕ → ℕ → ℕ → List ℕ → List ℕ → Type 0
+FillsBuffer bytes status needed old new =
     (outcome : Outcome) × (line : List ℕ)
     × IsLine outcome bytes line × (status ≡ status_of outcome) × (needed ≡ length line) × (new ≡ written_over line old)

@@ -3,7 +3,7 @@
 #![tactic(auto)]
 
 ghost use Rattle.std.specs.Prelude.{◌≡◌};
-ghost use Rattle.wesl_c.specs.Answers.{Answers, status_of, written_over};
+ghost use Rattle.wesl_c.specs.Answers.{FillsBuffer, status_of, written_over};
 
 use std::alloc::Global;
 use wesl::{Outcome, line_of_bytes};
@@ -23,7 +23,7 @@ pub extern "C" fn wesl_link_bundle(
     buffer: &mut [u8],
     needed: &mut usize,
 ) -> u32
-    ensures answers { Answers bundle.now result needed.new buffer.old buffer.new }
+    ensures answers { FillsBuffer bundle.now result needed.new buffer.old buffer.new }
 {
     let (outcome, line) = line_of_bytes(alloc, bundle);
     let bytes = line.as_bytes();

@@ -38,3 +38,11 @@ module _ (hands : Path → UnitOf Text → Type 0) (refuses : Path → ResolveEr
   -- what is refused, or has a fault of a condition
   abbrev pub refuses_left : Path → ResolveError → Type 0
   refuses_left p e = refuses p e ⊎ RefusesLeft features (hands p) e
+
+  -- a link of what is left of the units that are handed out
+  abbrev pub LinksLeft : Path → List Text → Bool → ℕ → ℕ → List Module → Type 0
+  LinksLeft p keep is_eager limit turns w = Links hands_left refuses_left p keep is_eager limit turns w
+
+  -- such a link is refused with the error, which stands
+  abbrev pub RefusesLinkLeft : Path → List Text → Bool → ℕ → error.Error → Type 0
+  RefusesLinkLeft p keep is_eager limit e = RefusesLink hands_left refuses_left p keep is_eager limit e

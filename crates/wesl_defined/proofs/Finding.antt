@@ -5,12 +5,12 @@ use Rattle.std.specs.List.{Contains, All, find, list_any}
 use Rattle.std.proofs.lemmas.List.Elements.{All-contains}
 use Rattle.wesl_names.specs.Path.{Text}
 use Rattle.wesl_syntax.specs.Unit.{UnitView, trees_of, name_in}
-use Rattle.wesl_occurrences.specs.Occurrences.{Block, Occurrence, occurrences}
+use Rattle.wesl_occurrences.specs.Occurrences.{Block, Occurrence, occurrences, is_binder, is_unqualified}
 use Rattle.wesl_occurrences.specs.Walk.{Found}
 use Rattle.wesl_occurrences.specs.Ways.{told}
 use Rattle.wesl_kept.specs.Marks.{mark_at}
 use Rattle.wesl_builtins.specs.Builtins.{BuiltinNames}
-use Rattle.wesl_valid.specs.Valid.{is_binder, is_unqualified, is_bound, is_known, is_undefined}
+use Rattle.wesl_valid.specs.Valid.{is_bound, is_known, is_undefined}
 use Rattle.wesl_defined.specs.Known.{is_meant, binds, is_unknown, IsUndefinedAt}
 
 contains_here : {A : Type 0} (x : A) (xs : List A) → Contains (x ∷ xs) x

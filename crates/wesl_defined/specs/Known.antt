@@ -3,13 +3,13 @@ use Rattle.std.specs.Prelude.{◌≡◌, ℕ, Bool, true, not, ◌&&◌, ◌||�
 use Rattle.std.specs.List.{Contains, list_any}
 use Rattle.wesl_names.specs.Path.{Text}
 use Rattle.wesl_syntax.specs.Unit.{UnitView}
-use Rattle.wesl_occurrences.specs.Occurrences.{OccurrenceIn, Occurrence}
+use Rattle.wesl_occurrences.specs.Occurrences.{OccurrenceIn, Occurrence, is_binder, is_unqualified}
 use Rattle.wesl_occurrences.specs.Identified.{identified}
 use Rattle.wesl_occurrences.specs.declared.whole.Identifiers.{Identifiers}
 use Rattle.wesl_kept.specs.Declarations.{all}
 use Rattle.wesl_kept.specs.Marks.{mark_at}
 use Rattle.wesl_builtins.specs.Builtins.{BuiltinNames, is_among}
-use Rattle.wesl_valid.specs.Valid.{is_binder, is_unqualified, is_undefined, underscore}
+use Rattle.wesl_valid.specs.Valid.{is_undefined, underscore}
 
 -- a name that is built in, or `_`
 abbrev pub is_meant : BuiltinNames → Text → Bool

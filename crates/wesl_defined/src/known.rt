@@ -5,13 +5,13 @@ ghost use Rattle.wesl_syntax.specs.Unit.{name_in};
 ghost use Rattle.wesl_occurrences.specs.Views.{occurrence_view};
 ghost use Rattle.wesl_kept.specs.Marks.{mark_at};
 ghost use Rattle.wesl_builtins.specs.Builtins.{is_among, builtins_view};
-ghost use Rattle.wesl_valid.specs.Valid.{is_binder, underscore};
+ghost use Rattle.wesl_valid.specs.Valid.{underscore};
 ghost use Rattle.wesl_defined.specs.Known.{binds_here, binds, is_meant};
 
 use std::alloc::Global;
 use wesl_builtins::Builtins;
 use wesl_names::{Error, Ident, Names};
-use wesl_occurrences::{Identifiers, Occurrence, Standing};
+use wesl_occurrences::{Identifiers, Occurrence};
 
 /// Sets a mark. A place past the end has none.
 #[tactic(auto, using(wesl_kept::proofs::Marking::set_marked, wesl_kept::proofs::Marking::mark_past))]
@@ -23,24 +23,11 @@ fn mark(marks: &mut [bool], place: usize)
     }
 }
 
-/// Whether it declares its name.
-fn is_binder(occurrence: &Occurrence<'_>) -> bool
-    ensures { result ≡ is_binder (occurrence_view occurrence.now).role }
-{
-    match occurrence.standing {
-        Standing::ModuleName => true,
-        Standing::Parameter => true,
-        Standing::Local { end: _ } => true,
-        Standing::Reference(_) => false,
-        Standing::Word => false,
-    }
-}
-
 #[tactic(auto, using(wesl_kept::proofs::Marking::or_false))]
 fn mark_binder(occurrence: &Occurrence<'_>, known: &mut [bool])
     ensures { (m : ℕ) → m < length known.old → mark_at known.new m ≡ mark_at known.old m || binds_here m (occurrence_view occurrence.now) }
 {
-    if is_binder(occurrence) {
+    if occurrence.standing.is_binder() {
         mark(known, occurrence.ident.0);
     }
 }

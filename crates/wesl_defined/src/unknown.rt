@@ -8,31 +8,23 @@ ghost use Rattle.wesl_occurrences.specs.Identified.{identified};
 ghost use Rattle.wesl_occurrences.specs.Views.{occurrence_view};
 ghost use Rattle.wesl_kept.specs.Declarations.{all};
 ghost use Rattle.wesl_builtins.specs.Builtins.{builtins_view};
-ghost use Rattle.wesl_valid.specs.Valid.{is_unqualified, IsDefined};
+ghost use Rattle.wesl_valid.specs.Valid.{IsDefined};
 ghost use Rattle.wesl_defined.specs.Known.{IsUndefinedAt, IsNamedBy, is_unknown};
 
 use crate::known::known_numbers;
 use std::alloc::Global;
 use wesl_builtins::Builtins;
 use wesl_names::{Error, Names};
-use wesl_occurrences::{Identifiers, Occurrence, Standing};
-
-/// Whether it is a reference without a path.
-fn is_unqualified(occurrence: &Occurrence<'_>) -> bool
-    ensures { result ≡ is_unqualified (occurrence_view occurrence.now).role }
-{
-    match occurrence.standing {
-        Standing::Reference(None) => true,
-        _ => false,
-    }
-}
+use wesl_occurrences::{Identifiers, Occurrence};
 
 /// Whether it is a reference without a path, in no argument of a custom attribute, to a number that is not marked.
 fn is_unknown(occurrence: &Occurrence<'_>, known: &Vec<bool>) -> bool
     ensures { result ≡ is_unknown known.now.items (occurrence_view occurrence.now) }
 {
     let number = occurrence.ident.0;
-    is_unqualified(occurrence) && !occurrence.is_excused && !(number < known.len() && known[number])
+    occurrence.standing.is_unqualified()
+        && !occurrence.is_excused
+        && !(number < known.len() && known[number])
 }
 
 #[tactic(auto, using(wesl_builtins::proofs::Strings::find_map, wesl_builtins::proofs::Strings::find_map_next))]

@@ -7,7 +7,7 @@ use Rattle.std.proofs.lemmas.Bool.Decides.{Decides-eqb}
 use Rattle.std.proofs.lemmas.Slice.Eq.{bytes_eq-Decides}
 use Rattle.wesl_names.specs.Path.{Text}
 use Rattle.wesl_syntax.specs.Unit.{UnitView, name_in, trees_of, spelled}
-use Rattle.wesl_occurrences.specs.Occurrences.{Block, Standing, module_name, parameter, local, reference, word, Occurrence, occurrences}
+use Rattle.wesl_occurrences.specs.Occurrences.{Block, Standing, module_name, parameter, local, reference, word, Occurrence, occurrences, is_binder, is_unqualified}
 use Rattle.wesl_occurrences.specs.Views.{occurrence_view}
 use Rattle.wesl_occurrences.specs.declared.occurrence.Occurrence.{Occurrence as FoundOccurrence}
 use Rattle.wesl_occurrences.specs.Walk.{Found}
@@ -22,7 +22,7 @@ use Rattle.wesl_meanings.specs.declared.keys.Key.TheVariants as made
 use Rattle.wesl_meanings.proofs.Scoping.{same_way}
 use Rattle.wesl_meanings.proofs.Entries.{one_test}
 use Rattle.wesl_faith.specs.declared.agreed.Agreed.{Agreed}
-use Rattle.wesl_faith.specs.Faithful.{is_binder, is_unqualified, binders_in, binders_of}
+use Rattle.wesl_faith.specs.Faithful.{binders_in, binders_of}
 use Rattle.wesl_faith.specs.Test.{is_named, is_one, are_apart, has_number, agree_on, reads_right, all_read_right}
 use Rattle.wesl_faith.specs.Agreement.{agree_in, in_module, is_met, is_global_met, all_leave, globals_right, key_right, references_right}
 use Rattle.wesl_faith.proofs.Picked.{Picked, none, some, picked}

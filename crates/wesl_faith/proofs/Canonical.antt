@@ -7,11 +7,11 @@ use Rattle.std.proofs.lemmas.Slice.Eq.{bytes_eq-Decides}
 use Rattle.wesl_names.specs.Path.{Text}
 use Rattle.wesl_syntax.specs.Unit.{UnitView, name_in, trees_of, spelled, numbers}
 use Rattle.wesl_syntax.specs.Numbers.{AreNumbers}
-use Rattle.wesl_occurrences.specs.Occurrences.{Block, Standing, module_name, parameter, local, reference, word, Occurrence, occurrences}
+use Rattle.wesl_occurrences.specs.Occurrences.{Block, Standing, module_name, parameter, local, reference, word, Occurrence, occurrences, is_binder, is_unqualified}
 use Rattle.wesl_occurrences.specs.Laws.{SpellingKeepsOccurrences, OccurrencesAreIdentifiers}
 use Rattle.wesl_meanings.specs.Scopes.{Key, bound, free, is_visible, binds, binder_of, meaning, key_as, key_of, keys}
 use Rattle.wesl_meanings.specs.Keys.{named}
-use Rattle.wesl_faith.specs.Faithful.{is_binder, is_global, is_unqualified, name_of, binders_in, binders_of, AgreeOn, ReadRight, IsFaithful}
+use Rattle.wesl_faith.specs.Faithful.{is_global, name_of, binders_in, binders_of, AgreeOn, ReadRight, IsFaithful}
 use Rattle.wesl_faith.specs.Retargeted.{unbound_as, IsUnbound, FollowMeanings, RunByFirst, IsNumberedByMeaning}
 use Rattle.wesl_faith.proofs.Picked.{Picked, none, some, picked}
 use Rattle.wesl_faith.proofs.Faith.{all_decides, if_decides}

@@ -8,8 +8,8 @@ use Rattle.std.proofs.lemmas.Bool.Decides.{Decides-by_and, Decides-and, Decides-
 use Rattle.std.proofs.lemmas.Slice.Eq.{bytes_eq-Decides}
 use Rattle.wesl_names.specs.Path.{Text}
 use Rattle.wesl_syntax.specs.Unit.{UnitView, name_in, trees_of}
-use Rattle.wesl_occurrences.specs.Occurrences.{Occurrence, occurrences}
-use Rattle.wesl_faith.specs.Faithful.{is_binder, is_global, is_unqualified, name_of, binders_of, AgreeOn, ReadRight, IsFaithful}
+use Rattle.wesl_occurrences.specs.Occurrences.{Occurrence, occurrences, is_binder, is_unqualified}
+use Rattle.wesl_faith.specs.Faithful.{is_global, name_of, binders_of, AgreeOn, ReadRight, IsFaithful}
 use Rattle.wesl_faith.specs.Test.{is_named, is_one, are_apart, has_number, agree_on, reads_right, all_read_right, is_faithful}
 
 pub all_decides : {X : Type 0} (p : X → Bool) (P : X → Type 0) → ((x : X) → Decides (p x) (P x)) → (xs : List X) → Decides (list_all p xs) (All P xs)

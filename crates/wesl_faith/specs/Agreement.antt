@@ -9,7 +9,7 @@ use Rattle.wesl_meanings.specs.Scopes.{bound, free, qualified, is_visible}
 use Rattle.wesl_meanings.specs.Canonical.{same_key}
 use Rattle.wesl_meanings.specs.Keys.{flat, opened}
 use Rattle.wesl_meanings.specs.declared.keys.Key.{Key}
-use Rattle.wesl_faith.specs.Faithful.{is_binder, is_unqualified}
+use Rattle.wesl_occurrences.specs.Occurrences.{is_binder, is_unqualified}
 use Rattle.wesl_faith.specs.declared.agreed.Agreed.{Agreed}
 
 -- a binder with the number k that is visible from place e on leaves the number m to a reference at place p

@@ -3,26 +3,13 @@ use Rattle.std.specs.Prelude.{◌≡◌, ◌≢◌, ℕ, Bool, true, false, ◌&
 use Rattle.std.specs.List.{All, filter}
 use Rattle.wesl_names.specs.Path.{Text}
 use Rattle.wesl_syntax.specs.Unit.{UnitView, name_in, trees_of}
-use Rattle.wesl_occurrences.specs.Occurrences.{Block, Standing, module_name, parameter, local, reference, word, Occurrence, occurrences}
+use Rattle.wesl_occurrences.specs.Occurrences.{Block, is_binder, is_unqualified, Occurrence, occurrences}
 use Rattle.wesl_meanings.specs.Scopes.{binds}
 use Rattle.wesl_meanings.specs.Keys.{named}
-
--- whether an identifier declares
-abbrev pub is_binder : Standing → Bool
-is_binder module_name = true
-is_binder parameter = true
-is_binder (local e) = true
-is_binder (reference path) = false
-is_binder word = false
 
 -- whether an identifier declares a name of the module's block
 abbrev pub is_global : {I : Type 0} → Occurrence I → Bool
 is_global o = is_binder o.role && bytes_eq o.block []
-
--- whether an identifier is a reference without a path
-abbrev pub is_unqualified : Standing → Bool
-is_unqualified (reference None) = true
-is_unqualified _ = false
 
 -- the first list, or where that is empty the second
 abbrev pub first_filled : {X : Type 0} → List X → List X → List X

@@ -4,9 +4,9 @@ use Rattle.std.specs.List.{All}
 use Rattle.wesl_names.specs.Path.{Text}
 use Rattle.wesl_syntax.specs.Unit.{UnitView, trees_of, numbers}
 use Rattle.wesl_syntax.specs.Numbers.{number_at}
-use Rattle.wesl_occurrences.specs.Occurrences.{Standing, reference, Occurrence, occurrences}
+use Rattle.wesl_occurrences.specs.Occurrences.{Standing, reference, Occurrence, occurrences, is_binder, is_unqualified}
 use Rattle.wesl_meanings.specs.Scopes.{Key, free, qualified}
-use Rattle.wesl_faith.specs.Faithful.{is_binder, is_global, is_unqualified, name_of}
+use Rattle.wesl_faith.specs.Faithful.{is_global, name_of}
 
 -- what an identifier means that no binder has the number of
 abbrev pub unbound_as : Text → Standing → Key

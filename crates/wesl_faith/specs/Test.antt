@@ -3,8 +3,8 @@ use Rattle.std.specs.Prelude.{ℕ, Bool, true, not, ◌&&◌, ◌==◌, bytes_eq
 use Rattle.std.specs.List.{list_all, list_any}
 use Rattle.wesl_names.specs.Path.{Text}
 use Rattle.wesl_syntax.specs.Unit.{UnitView, name_in, trees_of}
-use Rattle.wesl_occurrences.specs.Occurrences.{OccurrenceIn, Occurrence, occurrences}
-use Rattle.wesl_faith.specs.Faithful.{is_binder, is_global, is_unqualified, binders_of}
+use Rattle.wesl_occurrences.specs.Occurrences.{OccurrenceIn, Occurrence, occurrences, is_binder, is_unqualified}
+use Rattle.wesl_faith.specs.Faithful.{is_global, binders_of}
 
 -- whether an identifier is a binder of the module's block that is spelled so
 abbrev pub is_named : List Text → Text → Occurrence ℕ → Bool

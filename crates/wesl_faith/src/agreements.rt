@@ -7,7 +7,6 @@ ghost use Rattle.wesl_meanings.specs.Scopes as scopes;
 ghost use Rattle.wesl_meanings.specs.Scopes.{bound, is_visible};
 ghost use Rattle.wesl_meanings.specs.Canonical.{same_key};
 ghost use Rattle.wesl_meanings.specs.Keys.{flat, opened};
-ghost use Rattle.wesl_faith.specs.Faithful.{is_binder};
 ghost use Rattle.wesl_faith.specs.Agreement.{leaves, agree_in, in_module, is_met, is_global_met, one_leaves, all_leave};
 
 use crate::agreed::{Agreed, agreed_with, is_agreed};
@@ -27,19 +26,6 @@ fn visible_from(standing: &Standing<'_>) -> Option<usize>
         Standing::Local { end } => Some(*end),
         Standing::Reference(_) => None,
         Standing::Word => None,
-    }
-}
-
-/// Whether a name that stands so is declared.
-pub fn is_binder(standing: &Standing<'_>) -> bool
-    ensures { result ≡ is_binder (standing_view standing.now) }
-{
-    match standing {
-        Standing::ModuleName => true,
-        Standing::Parameter => true,
-        Standing::Local { end: _ } => true,
-        Standing::Reference(_) => false,
-        Standing::Word => false,
     }
 }
 
@@ -116,7 +102,7 @@ impl<'a> Agreements<'a> {
         ensures agree { OnOk result ((n : Text) (m : ℕ) → agree_in self.new.of.entries (bound (0 ∷ []) n) 0 m ≡ (agree_in self.old.of.entries (bound (0 ∷ []) n) 0 m && one_leaves (is_global_met n) m (flat key.entry) (occurrence_view occurrence.now))) }
         ensures refused { IfErr result (λ e. e ≡ error.Memory) }
     {
-        if is_binder(&occurrence.standing) && is_of_module(&key) {
+        if occurrence.standing.is_binder() && is_of_module(&key) {
             self.add(key, 0, occurrence.ident.0)
         } else {
             Ok(())

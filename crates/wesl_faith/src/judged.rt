@@ -7,7 +7,7 @@ ghost use Rattle.wesl_meanings.specs.Keys.{flat};
 ghost use Rattle.wesl_faith.specs.Test.{has_number};
 ghost use Rattle.wesl_faith.specs.Agreement.{global_right, globals_right, reference_right, references_right};
 
-use crate::agreements::{Agreements, is_binder, is_of_module};
+use crate::agreements::{Agreements, is_of_module};
 use indexmap::IndexSet;
 use std::alloc::Global;
 use wesl_meanings::Key;
@@ -21,7 +21,7 @@ pub fn numbers_bound(alloc: Global, all: &[Occurrence<'_>]) -> Result<IndexSet<u
 {
     let mut numbers = IndexSet::new(alloc);
     for occurrence in all {
-        if is_binder(&occurrence.standing) {
+        if occurrence.standing.is_binder() {
             numbers.insert(occurrence.ident.0)?;
         }
     }
@@ -32,7 +32,7 @@ pub fn numbers_bound(alloc: Global, all: &[Occurrence<'_>]) -> Result<IndexSet<u
 fn is_global_right(globals: &Agreements<'_>, occurrence: &Occurrence<'_>, key: &Key<'_>) -> bool
     ensures { result ≡ global_right globals.now.of.entries (flat key.now) (occurrence_view occurrence.now) }
 {
-    if is_binder(&occurrence.standing) && is_of_module(key) {
+    if occurrence.standing.is_binder() && is_of_module(key) {
         globals.are_at(key, 0, occurrence.ident.0)
     } else {
         true

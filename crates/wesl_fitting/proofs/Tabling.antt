@@ -10,14 +10,14 @@ use Rattle.wesl_syntax.specs.View.{global_view, placed, declarations_tree}
 use Rattle.wesl_syntax.specs.Tree.{declaration_node}
 use Rattle.wesl_syntax.specs.declared.span.Spanned.{Spanned}
 use Rattle.wesl_syntax.specs.declared.declaration.GlobalDeclaration.{GlobalDeclaration}
-use Rattle.wesl_occurrences.specs.Occurrences.{Block, Occurrence}
+use Rattle.wesl_occurrences.specs.Occurrences.{Block, Occurrence, is_module_name, is_binder}
 use Rattle.wesl_occurrences.specs.Walk.{Found}
 use Rattle.wesl_occurrences.specs.Ways.{told}
-use Rattle.wesl_kept.specs.Declarations.{is_module_name, lies_in, all, declared_in}
+use Rattle.wesl_kept.specs.Declarations.{lies_in, all, declared_in}
 use Rattle.wesl_kept.specs.Marks.{mark_at}
 use Rattle.wesl_rings.specs.Graphs.{Graph, edges_at, Leads, IsClosed}
 use Rattle.wesl_valid.specs.Calls.{ShapeOf, alias_of, other, open_alias, function_with, struct_with, shape_in}
-use Rattle.wesl_valid.specs.Valid.{is_binder, shape_of, Declares}
+use Rattle.wesl_valid.specs.Valid.{shape_of, Declares}
 use Rattle.wesl_fitting.specs.Tables.{Tables, AreTables, shape_at, target_of, target_at, one_or_none, declaration_named, alias_named, edges_here, edges_of, binds_here}
 use Rattle.wesl_fitting.proofs.Members.{contains_none, contains_here, contains_cases, to_mapped, from_mapped, to_filtered, from_filtered, from_joined, to_joined}
 

@@ -1,12 +1,11 @@
 -- What a module is to its calls, as tables tell it.
 use Rattle.std.specs.Prelude.{◌≡◌, ◌↔◌, ℕ, Bool, ◌&&◌, ◌==◌, Option, Some, None, List, [], ◌∷◌, flat_map, get_or, if◌then◌else◌}
 use Rattle.wesl_syntax.specs.Unit.{UnitView}
-use Rattle.wesl_occurrences.specs.Occurrences.{OccurrenceIn}
-use Rattle.wesl_kept.specs.Declarations.{is_module_name}
+use Rattle.wesl_occurrences.specs.Occurrences.{OccurrenceIn, is_module_name, is_binder}
 use Rattle.wesl_kept.specs.Marks.{mark_at}
 use Rattle.wesl_rings.specs.Graphs.{Graph, Leads, IsClosed}
 use Rattle.wesl_valid.specs.Calls.{ShapeOf, alias_of, other}
-use Rattle.wesl_valid.specs.Valid.{is_binder, is_bound, shape_of, Declares}
+use Rattle.wesl_valid.specs.Valid.{is_bound, shape_of, Declares}
 
 pub record Tables : Type 0 where
   -- of each declaration what it is to a call

@@ -4,12 +4,11 @@ ghost use Rattle.std.specs.List.{list_any};
 ghost use Rattle.wesl_names.specs.declared.errors.Error as error;
 ghost use Rattle.wesl_occurrences.specs.Views.{occurrence_view};
 ghost use Rattle.wesl_kept.specs.Marks.{mark_at};
-ghost use Rattle.wesl_valid.specs.Valid.{is_binder};
 ghost use Rattle.wesl_fitting.specs.Tables.{binds_here};
 
 use std::alloc::Global;
 use wesl_names::Error;
-use wesl_occurrences::{Identifiers, Occurrence, Standing};
+use wesl_occurrences::{Identifiers, Occurrence};
 
 /// Adds marks that are not set until there is one of this place.
 #[tactic(auto, using(crate::proofs::Marked::one_more))]
@@ -35,25 +34,12 @@ fn mark(marks: &mut Vec<bool>, place: usize) -> Result<(), Error>
     Ok(())
 }
 
-/// Whether it declares its name.
-fn is_binder(occurrence: &Occurrence<'_>) -> bool
-    ensures { result ≡ is_binder (occurrence_view occurrence.now).role }
-{
-    match occurrence.standing {
-        Standing::ModuleName => true,
-        Standing::Parameter => true,
-        Standing::Local { end: _ } => true,
-        Standing::Reference(_) => false,
-        Standing::Word => false,
-    }
-}
-
 #[tactic(auto, using(wesl_kept::proofs::Marking::or_false))]
 fn mark_binder(bound: &mut Vec<bool>, occurrence: &Occurrence<'_>) -> Result<(), Error>
     ensures marked { IfOk result (λ _. (m : ℕ) → mark_at bound.new.items m ≡ (mark_at bound.old.items m || binds_here m (occurrence_view occurrence.now))) }
     ensures refused { IfErr result (λ e. e ≡ error.Memory) }
 {
-    if is_binder(occurrence) {
+    if occurrence.standing.is_binder() {
         mark(bound, occurrence.ident.0)?;
     }
     Ok(())

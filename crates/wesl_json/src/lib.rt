@@ -3,6 +3,8 @@
 
 mod text;
 mod unit;
+mod value_text;
 
 pub use text::JsonText;
 pub use unit::{unit_of_value, value_of_unit};
+pub use value_text::{text_of_value, value_of_text};

@@ -6,9 +6,9 @@ ghost use Rattle.wesl_tree.specs.Translation.{unit_view};
 ghost use Rattle.wesl_json.specs.UnitTexts.{IsUnreadable, PrintsAs, ReadsAs};
 
 use crate::unit::{unit_of_value, value_of_unit};
+use crate::value_text::{text_of_value, value_of_text};
 use std::alloc::Global;
 use wesl_form_laws::law_of_units;
-use wesl_json_text::{text_of_value, value_of_text};
 use wesl_resolve::UnitText;
 use wesl_tree::{Diagnostic, Error, TranslationUnit};
 

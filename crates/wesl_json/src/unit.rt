@@ -37,7 +37,7 @@ pub fn unit_of_value(alloc: Global, value: &Value) -> Result<TranslationUnit, Er
     ensures is_read { IfErr result (λ e. OfWritten (view value.now) (λ u. IsReadable u → e ≡ error.Memory)) }
 {
     law_of_units();
-    wesl_unit::unit_of_value(alloc, value)
+    wesl_reading_unit::unit_of_value(alloc, value)
 }
 
 /// The value that a unit is written as: its form with the names for the identifiers.

@@ -8,10 +8,10 @@ use Rattle.std.proofs.lemmas.Slice.Eq.{bytes_eq-Decides}
 use Rattle.wesl_names.specs.Path.{Text}
 use Rattle.wesl_syntax.specs.Tree.{Tree, forest_of, trees}
 use Rattle.wesl_syntax.specs.Unit.{UnitView, trees_of, name_in}
-use Rattle.wesl_occurrences.specs.Occurrences.{Block, OccurrenceIn, Occurrence, occurrences}
+use Rattle.wesl_occurrences.specs.Occurrences.{Block, OccurrenceIn, Occurrence, occurrences, is_module_name, is_reference}
 use Rattle.wesl_occurrences.specs.Walk.{Found}
 use Rattle.wesl_occurrences.specs.Ways.{told}
-use Rattle.wesl_kept.specs.Declarations.{is_module_name, is_reference, lies_in, count, declared_in, referred_in, IsKept, named, nameless, reached}
+use Rattle.wesl_kept.specs.Declarations.{lies_in, count, declared_in, referred_in, IsKept, named, nameless, reached}
 use Rattle.wesl_kept.specs.Marks.{mark_at, has_name, names_here, Reached, kept_first, wanted_first, referred, declared}
 use Rattle.wesl_kept.proofs.Reaching.{both, and_true, found}
 use Rattle.wesl_kept.proofs.Reaching as reaching

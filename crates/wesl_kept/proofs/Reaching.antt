@@ -4,8 +4,8 @@ use Rattle.std.specs.Prelude.{Option, Some, None, if◌then◌else◌}
 use Rattle.std.specs.List.{list_any, All}
 use Rattle.std.proofs.lemmas.List.Folds.{list_any_at}
 use Rattle.std.proofs.lemmas.Bool.Decides.{Decides-eqb}
-use Rattle.wesl_occurrences.specs.Occurrences.{OccurrenceIn}
-use Rattle.wesl_kept.specs.Declarations.{is_module_name, is_reference, lies_in}
+use Rattle.wesl_occurrences.specs.Occurrences.{OccurrenceIn, is_module_name, is_reference}
+use Rattle.wesl_kept.specs.Declarations.{lies_in}
 use Rattle.wesl_kept.specs.Marks.{mark_at, mark_of, refers, refers_here, declares, declares_here, Reached, kept_first, wanted_first, referred, declared}
 
 pub both : (a b : Bool) → (a && b) ≡ true → (a ≡ true) × (b ≡ true)

@@ -4,15 +4,7 @@ use Rattle.std.specs.List.{Contains, filter}
 use Rattle.wesl_names.specs.Path.{Text}
 use Rattle.wesl_syntax.specs.Tree.{trees}
 use Rattle.wesl_syntax.specs.Unit.{UnitView, trees_of, name_in}
-use Rattle.wesl_occurrences.specs.Occurrences.{Standing, module_name, reference, Occurrence, occurrences}
-
-abbrev pub is_module_name : Standing → Bool
-is_module_name module_name = true
-is_module_name _ = false
-
-abbrev pub is_reference : Standing → Bool
-is_reference (reference by) = true
-is_reference _ = false
+use Rattle.wesl_occurrences.specs.Occurrences.{is_module_name, is_reference, Occurrence, occurrences}
 
 abbrev pub lies_in : ℕ → Option ℕ → Bool
 lies_in j None = false

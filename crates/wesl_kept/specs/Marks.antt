@@ -1,8 +1,8 @@
 -- Marks of declarations and of numbers, one for each.
 use Rattle.std.specs.Prelude.{◌≡◌, ◌<◌, ℕ, Bool, true, false, ◌&&◌, ◌==◌, Option, Some, None, List, length, get_or, slice_index_or, if◌then◌else◌}
 use Rattle.std.specs.List.{list_any, sum_by}
-use Rattle.wesl_occurrences.specs.Occurrences.{OccurrenceIn}
-use Rattle.wesl_kept.specs.Declarations.{is_module_name, is_reference, lies_in}
+use Rattle.wesl_occurrences.specs.Occurrences.{OccurrenceIn, is_module_name, is_reference}
+use Rattle.wesl_kept.specs.Declarations.{lies_in}
 
 abbrev pub mark_at : List Bool → ℕ → Bool
 mark_at ms j = slice_index_or ms j false

@@ -5,12 +5,12 @@ ghost use Rattle.wesl_names.specs.declared.errors.Error as error;
 ghost use Rattle.wesl_syntax.specs.Tree.{trees};
 ghost use Rattle.wesl_syntax.specs.Unit.{name_in};
 ghost use Rattle.wesl_occurrences.specs.Views.{occurrence_view};
-ghost use Rattle.wesl_kept.specs.Declarations.{IsKept, is_module_name, is_reference};
+ghost use Rattle.wesl_kept.specs.Declarations.{IsKept};
 ghost use Rattle.wesl_kept.specs.Marks.{Reached, mark_at, mark_of, unmarked, refers, declares, has_name, refers_here, declares_here, names_here};
 ghost use Rattle.wesl_tree.specs.Translation.{unit_view};
 
 use std::alloc::Global;
-use wesl_occurrences::{Occurrence, Standing, occurrences};
+use wesl_occurrences::{Occurrence, occurrences};
 use wesl_tree::{Error, Ident, Names, TranslationUnit};
 
 fn either(first: bool, second: bool) -> bool
@@ -35,26 +35,6 @@ fn mark(marks: &mut [bool], place: usize) -> bool
     true
 }
 
-/// Whether it is a reference.
-fn is_reference(occurrence: &Occurrence<'_>) -> bool
-    ensures { result ≡ is_reference (occurrence_view occurrence.now).role }
-{
-    match occurrence.standing {
-        Standing::Reference(_) => true,
-        _ => false,
-    }
-}
-
-/// Whether it is the name of an import or of a global declaration.
-fn is_module_name(occurrence: &Occurrence<'_>) -> bool
-    ensures { result ≡ is_module_name (occurrence_view occurrence.now).role }
-{
-    match occurrence.standing {
-        Standing::ModuleName => true,
-        _ => false,
-    }
-}
-
 /// Whether the declaration of this number is marked, if there is one.
 fn is_marked(marks: &[bool], declaration: Option<usize>) -> bool
     ensures { result ≡ mark_of marks.now declaration }
@@ -71,7 +51,7 @@ fn mark_reference(occurrence: &Occurrence<'_>, kept: &[bool], wanted: &mut [bool
     ensures fewer { result ≡ true → unmarked wanted.new < unmarked wanted.old }
     ensures same { result ≡ false → wanted.new ≡ wanted.old }
 {
-    if is_reference(occurrence) && is_marked(kept, occurrence.declaration) {
+    if occurrence.standing.is_reference() && is_marked(kept, occurrence.declaration) {
         mark(wanted, occurrence.ident.0)
     } else {
         false
@@ -101,7 +81,7 @@ fn mark_declaration(occurrence: &Occurrence<'_>, wanted: &[bool], kept: &mut [bo
     match occurrence.declaration {
         None => false,
         Some(declaration) => {
-            if is_module_name(occurrence) && is_marked(wanted, Some(occurrence.ident.0)) {
+            if occurrence.standing.is_module_name() && is_marked(wanted, Some(occurrence.ident.0)) {
                 mark(kept, declaration)
             } else {
                 false
@@ -171,7 +151,7 @@ fn unmark_declaration(occurrence: &Occurrence<'_>, kept: &mut [bool])
     let Some(declaration) = occurrence.declaration else {
         return;
     };
-    if !is_module_name(occurrence) {
+    if !occurrence.standing.is_module_name() {
         return;
     }
     if declaration >= kept.len() {

@@ -3,7 +3,7 @@ ghost use Rattle.std.specs.Prelude.{◌≡◌, ◌⊎◌, true, IsTrue, OnOk, On
 ghost use Rattle.wesl_names.specs.declared.errors.Error as error;
 ghost use Rattle.wesl_names.specs.Path.{Text, Path, path_view};
 ghost use Rattle.wesl_tree.specs.Translation.{unit_view};
-ghost use Rattle.wesl_naming.specs.Recorded.{IsRecordedBy};
+ghost use Rattle.wesl_linker.specs.Recorded.{IsRecordedBy};
 ghost use Rattle.wesl_linker.specs.Resolved.{paths_of, paths_told, first_path, IsNothing, IsMangled, AssemblesTo, writes};
 ghost use Rattle.wesl_link.specs.Keeping.{IsSound, resolved, modules_of, turns_of};
 

@@ -9,7 +9,7 @@ use Rattle.wesl_occurrences.specs.Occurrences.{Block, Standing, module_name, par
 use Rattle.wesl_meanings.specs.Scopes.{Key, bound, binder_of, meaning, key_as}
 use Rattle.wesl_table.specs.Uses.{Use, refers, asked, asked_plain, meant, use_as, under, aims}
 use Rattle.wesl_assembly.specs.Denotations.{symbol, local, free_name}
-use Rattle.wesl_linker.specs.Linked.{Denotation, Answers, StandsFor}
+use Rattle.wesl_linker.specs.Linked.{Denotation, AskedLeadsTo, StandsFor}
 use Rattle.wesl_link_laws.proofs.Grammar.{IsInner}
 use Rattle.wesl_link_laws.proofs.Scoped.{IsMeant, is_meant}
 
@@ -23,7 +23,7 @@ module _ (w : List (Table Path Text)) (own : Path) (declared : List Text) (impor
 
   -- what a reference denotes that no block of a function binds
   pub data Outside (n : Text) (u : Use Path Text) (d : Denotation) : Type 0 where
-    a_symbol : (p : Path) (m : Text) (a : Symbol Path Text) → d ≡ symbol p m → Contains (asked u) a → Answers w own a (record { path = p; name = m }) → Outside n u d
+    a_symbol : (p : Path) (m : Text) (a : Symbol Path Text) → d ≡ symbol p m → Contains (asked u) a → AskedLeadsTo w own a (record { path = p; name = m }) → Outside n u d
     a_free_name : d ≡ free_name n → Outside n u d
 
   outside : (n : Text) (asks : List (Symbol Path Text)) (d : Denotation) → StandsFor w own (refers n asks) d → Outside n (refers n asks) d

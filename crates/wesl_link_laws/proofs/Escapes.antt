@@ -18,7 +18,7 @@ use Rattle.wesl_assembly.specs.Denotations.{symbol, printed_as}
 use Rattle.wesl_mangle.specs.Escape.{escape, unescape, is_reversible}
 use Rattle.wesl_mangle.specs.Laws.{IsShort, HasShortNames, RoundTrip}
 use Rattle.wesl_mangle.proofs.Writing.{text_small, short-names}
-use Rattle.wesl_naming.specs.Given.{Given}
+use Rattle.wesl_linker.specs.Given.{Given}
 use Rattle.wesl_linker.specs.Worlds.{Module, table, tables, task_of}
 use Rattle.wesl_linker.specs.Linked.{Denotation}
 use Rattle.wesl_linker.specs.Resolved.{Resolved, AssemblesTo, IsMangled, first_path}

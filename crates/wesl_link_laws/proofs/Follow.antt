@@ -5,9 +5,9 @@ use Rattle.std.specs.List.{All}
 use Rattle.std.proofs.lemmas.List.Elements.{All-contains, All-contains_itself}
 use Rattle.std.proofs.lemmas.Slice.Eq.{bytes_eq-Decides}
 use Rattle.wesl_names.specs.Path.{Text, Path}
-use Rattle.wesl_occurrences.specs.Occurrences.{Block, Standing, module_name, parameter, local as local_name, reference, word, Occurrence}
+use Rattle.wesl_occurrences.specs.Occurrences.{Block, Standing, module_name, parameter, local as local_name, reference, word, Occurrence, is_binder, is_unqualified}
 use Rattle.wesl_meanings.specs.Scopes.{free}
-use Rattle.wesl_faith.specs.Faithful.{is_binder, is_unqualified, name_of}
+use Rattle.wesl_faith.specs.Faithful.{name_of}
 use Rattle.wesl_faith.specs.Retargeted.{unbound_as, IsUnbound, FollowMeanings}
 use Rattle.wesl_assembly.specs.Denotations.{DenotationOf, symbol, local, free_name}
 

@@ -6,7 +6,7 @@ use Rattle.wesl_occurrences.specs.Laws.{WaysLeadOutwards, OccurrencesAreIdentifi
 use Rattle.wesl_faith.specs.Faithful.{IsFaithful}
 use Rattle.wesl_link_laws.specs.Apart.{NamesAreApart}
 use Rattle.wesl_faith.specs.Retargeted.{IsNumberedByMeaning}
-use Rattle.wesl_naming.specs.Given.{Given}
+use Rattle.wesl_linker.specs.Given.{Given}
 use Rattle.wesl_table.specs.NumbersView.{numbering}
 use Rattle.wesl_linker.specs.Worlds.{Module}
 use Rattle.wesl_linker.specs.Resolved.{AssemblesTo}

@@ -11,17 +11,17 @@ use Rattle.wesl_world.specs.declared.symbols.Import.{Import}
 use Rattle.wesl_world.specs.World.{Task, Declares, LeadsTo, Entered, Reached}
 use Rattle.wesl_world.specs.World.{LeadsTo as leads}
 use Rattle.wesl_world.proofs.Lists.{map_contains, contains_map}
-use Rattle.wesl_occurrences.specs.Occurrences.{Block, Standing, module_name, parameter, local as local_name, reference, word, Occurrence, occurrences}
+use Rattle.wesl_occurrences.specs.Occurrences.{Block, Standing, module_name, parameter, local as local_name, reference, word, Occurrence, occurrences, is_binder}
 use Rattle.wesl_occurrences.specs.Pieces.{declarations_in}
 use Rattle.wesl_meanings.specs.Scopes.{Key, bound, free, qualified, is_visible, key_of}
 use Rattle.wesl_meanings.specs.Keys.{number_of}
-use Rattle.wesl_faith.specs.Faithful.{is_binder, name_of as printed_name}
+use Rattle.wesl_faith.specs.Faithful.{name_of as printed_name}
 use Rattle.wesl_table.specs.Imports.{imports}
 use Rattle.wesl_table.specs.Uses.{asked, meant, use_as, declares}
 use Rattle.wesl_table.specs.Tables.{name_of, names_declared, declaration_of}
 use Rattle.wesl_assembly.specs.Denotations.{symbol, local, free_name}
 use Rattle.wesl_linker.specs.Worlds.{Module, table, tables}
-use Rattle.wesl_linker.specs.Linked.{Denotation, Answers, StandsFor, Placed, IsHeldAs}
+use Rattle.wesl_linker.specs.Linked.{Denotation, AskedLeadsTo, StandsFor, Placed, IsHeldAs}
 use Rattle.wesl_link_laws.proofs.Aligned.{SameBlock, SameStanding}
 use Rattle.wesl_link_laws.proofs.Shaped.{Pathless}
 use Rattle.wesl_link_laws.proofs.Grammar.{StandsWell, Well, globals_well}
@@ -53,14 +53,14 @@ IsReference _ = ⊥
 -- a reference that denotes a symbol asks for it
 module _ (ws : List (Table Path Text)) (own : Path) (declared : List Text) (is : List (Import Path Text)) where
   meant_asks : (n : Text) (key : Key) (p : Path) (m : Text) → StandsFor ws own (meant own declared is n key) (symbol p m)
-      → (a : Symbol Path Text) × Contains (asked (meant own declared is n key)) a × Answers ws own a (record { path = p; name = m })
+      → (a : Symbol Path Text) × Contains (asked (meant own declared is n key)) a × AskedLeadsTo ws own a (record { path = p; name = m })
   meant_asks n (bound [] x) p m h = h
   meant_asks n (bound (k ∷ outer) x) p m h = absurd (let z : ⊥ = cc in z)
   meant_asks n (free x) p m h = h
   meant_asks n (qualified s x) p m h = h
 
   symbol_asks : (r : Standing) → IsReference r → (n : Text) (key : Key) (p : Path) (m : Text) → StandsFor ws own (use_as own declared is r n key) (symbol p m)
-      → (a : Symbol Path Text) × Contains (asked (use_as own declared is r n key)) a × Answers ws own a (record { path = p; name = m })
+      → (a : Symbol Path Text) × Contains (asked (use_as own declared is r n key)) a × AskedLeadsTo ws own a (record { path = p; name = m })
   symbol_asks (reference by) i n key p m h = meant_asks n key p m h
   symbol_asks module_name i n key p m h = absurd i
   symbol_asks parameter i n key p m h = absurd i

@@ -6,10 +6,10 @@ use Rattle.std.proofs.lemmas.List.Elements.{All-contains, Contains-append_cases,
 use Rattle.wesl_names.specs.Path.{Text, Path}
 use Rattle.wesl_world.specs.World.{Task, Entered}
 use Rattle.wesl_world.proofs.Lists.{contains_nil, contains_first, contains_later, contains_cases}
-use Rattle.wesl_occurrences.specs.Occurrences.{Block, Standing, module_name, parameter, local as local_name, reference, word, Occurrence, occurrences}
+use Rattle.wesl_occurrences.specs.Occurrences.{Block, Standing, module_name, parameter, local as local_name, reference, word, Occurrence, occurrences, is_binder}
 use Rattle.wesl_meanings.specs.Keys.{named as named_in}
 use Rattle.wesl_meanings.specs.Scopes.{is_visible, binds, binder_of}
-use Rattle.wesl_faith.specs.Faithful.{is_binder, name_of, first_filled, binders_in, binders_of}
+use Rattle.wesl_faith.specs.Faithful.{name_of, first_filled, binders_in, binders_of}
 use Rattle.wesl_assembly.specs.Denotations.{local}
 use Rattle.wesl_linker.specs.Worlds.{Module, tables}
 use Rattle.wesl_linker.specs.Linked.{Denotation, Placed}

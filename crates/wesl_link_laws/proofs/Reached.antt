@@ -11,7 +11,7 @@ use Rattle.wesl_world.specs.World.{Task, AsksFrom, Entered, Reached, Followed, l
 use Rattle.wesl_world.proofs.Lists.{contains_nil, contains_cases, map_contains}
 use Rattle.wesl_table.specs.Uses.{Use, asked}
 use Rattle.wesl_table.specs.Tables.{name_of, reference_to, declaration_of}
-use Rattle.wesl_linker.specs.Linked.{Answers}
+use Rattle.wesl_linker.specs.Linked.{AskedLeadsTo}
 
 in_flat_map : {X Y : Type 0} (f : X → List Y) (xs : List X) (x : X) (y : Y) → Contains xs x → Contains (f x) y → Contains (flat_map f xs) y
 in_flat_map f [] x y held there = absurd (contains_nil x held)
@@ -32,7 +32,7 @@ module _ (w : List (Table Path Text)) (task : Task Path Text) (t : Table Path Te
 
   -- of a declaration that is held: its symbol is reached, or it has no name
   pub refers_to_reached : (d : TreeOf Text) (us : List (Use Path Text)) → Contains t.declarations (declaration_of d us) → ((n : Text) → name_of d ≡ Some n → Reached w task (record { path = t.path; name = n }))
-      → (u : Use Path Text) → Contains us u → (a : Symbol Path Text) → Contains (asked u) a → (s : Symbol Path Text) → Answers w t.path a s → Reached w task s
+      → (u : Use Path Text) → Contains us u → (a : Symbol Path Text) → Contains (asked u) a → (s : Symbol Path Text) → AskedLeadsTo w t.path a s → Reached w task s
   refers_to_reached d us held reached u in_uses a in_asked s answers =
       let l : LookUp Path Text = record { asker = Some t.path; path = a.path; name = a.name } in
       led_to l s (followed (name_of d) l reached (asks_from d us held u in_uses a in_asked)) answers

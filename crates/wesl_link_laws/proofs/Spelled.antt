@@ -7,10 +7,10 @@ use Rattle.wesl_names.specs.Path.{Text, Path}
 use Rattle.wesl_world.specs.declared.symbols.Symbol.{Symbol}
 use Rattle.wesl_world.specs.World.{Task, Entered}
 use Rattle.wesl_world.proofs.Lists.{contains_nil}
-use Rattle.wesl_occurrences.specs.Occurrences.{Block, Standing, module_name, parameter, local as local_name, reference, word, Occurrence, occurrences}
+use Rattle.wesl_occurrences.specs.Occurrences.{Block, Standing, module_name, parameter, local as local_name, reference, word, Occurrence, occurrences, is_binder, is_unqualified}
 use Rattle.wesl_meanings.specs.Keys.{named as named_in}
 use Rattle.wesl_meanings.specs.Scopes.{bound, is_visible, binds, binder_of, meaning, key_as}
-use Rattle.wesl_faith.specs.Faithful.{is_binder, is_global, is_unqualified, name_of, first_filled, binders_in, binders_of, AgreeOn, ReadRight}
+use Rattle.wesl_faith.specs.Faithful.{is_global, name_of, first_filled, binders_in, binders_of, AgreeOn, ReadRight}
 use Rattle.wesl_faith.specs.Retargeted.{IsUnbound}
 use Rattle.wesl_table.specs.Imports.{imports}
 use Rattle.wesl_table.specs.Uses.{refers, under, or_else, aims, asked_plain, meant, use_as}

@@ -6,8 +6,8 @@ use Rattle.std.proofs.lemmas.Slice.Eq.{bytes_eq-Decides}
 use Rattle.wesl_names.specs.Path.{Text, Path}
 use Rattle.wesl_world.specs.World.{Task, Declares, Entered, Reached}
 use Rattle.wesl_world.proofs.Lists.{map_contains}
-use Rattle.wesl_occurrences.specs.Occurrences.{Block, Standing, module_name, parameter, local as local_name, reference, word, Occurrence}
-use Rattle.wesl_faith.specs.Faithful.{is_binder, is_global}
+use Rattle.wesl_occurrences.specs.Occurrences.{Block, Standing, module_name, parameter, local as local_name, reference, word, Occurrence, is_binder}
+use Rattle.wesl_faith.specs.Faithful.{is_global}
 use Rattle.wesl_table.specs.Tables.{name_of, declaration_of}
 use Rattle.wesl_assembly.specs.Denotations.{symbol}
 use Rattle.wesl_linker.specs.Worlds.{Module, table, tables}

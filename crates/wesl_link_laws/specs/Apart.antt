@@ -3,8 +3,8 @@ use Rattle.std.specs.Prelude.{◌≡◌, ◌≢◌, ℕ, true, false, List}
 use Rattle.std.specs.List.{All}
 use Rattle.wesl_names.specs.Path.{Text}
 use Rattle.wesl_syntax.specs.Unit.{UnitView, trees_of}
-use Rattle.wesl_occurrences.specs.Occurrences.{Occurrence, occurrences}
-use Rattle.wesl_faith.specs.Faithful.{is_binder, is_global, is_unqualified, name_of}
+use Rattle.wesl_occurrences.specs.Occurrences.{Occurrence, occurrences, is_binder, is_unqualified}
+use Rattle.wesl_faith.specs.Faithful.{is_global, name_of}
 use Rattle.wesl_faith.specs.Retargeted.{IsUnbound}
 
 module _ (names : List Text) (all : List (Occurrence ℕ)) where

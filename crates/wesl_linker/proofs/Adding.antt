@@ -35,7 +35,7 @@ use Rattle.wesl_linker.specs.Worlds.{table, tables}
 use Rattle.wesl_linker.specs.Tabled.{IsMarked}
 use Rattle.wesl_linker.specs.Keeping.{module_of, all_loaded, modules_in, task_in, IsLinkOf}
 use Rattle.wesl_linker.specs.Holding.{IsMeant, IsHeldHere, AddsOne, is_added, is_not_held, Adds}
-use Rattle.wesl_linker.specs.declared.loaded.Loaded.{Loaded}
+use Rattle.wesl_linker.specs.declared.loaded.LoadedModule.{LoadedModule}
 use Rattle.wesl_linker.specs.declared.link.Link.{Link}
 use Rattle.wesl_linker.specs.declared.assemble.Parts.{Parts}
 use Rattle.wesl_linker.proofs.Carried.{Covers}
@@ -47,7 +47,7 @@ abbrev pub Node : Type 0
 Node = Spanned GlobalDeclaration
 
 -- the declaration, as it is spelled in the module
-abbrev pub spelled_in : Loaded → Node → TreeOf Text
+abbrev pub spelled_in : LoadedModule → Node → TreeOf Text
 spelled_in m g = respell (name_in (unit_view m.unit).names) (placed_tree global_view declaration_node g)
 
 -- ---- other names
@@ -77,13 +77,13 @@ module _ {I J : Type 0} (f : I → J) where
 
 -- ---- the declarations of a module
 
-abbrev pub HasNodes : Loaded → List Node → Type 0
+abbrev pub HasNodes : LoadedModule → List Node → Type 0
 HasNodes m gs = (unit_view m.unit).declarations.children ≡ forest_of (map (placed_tree global_view declaration_node) gs)
 
-pub declarations_are : (m : Loaded) (v : Vec Node Global) (gs : List Node) → declarations_tree v ≡ (unit_view m.unit).declarations → gs ≡ v.items → HasNodes m gs
+pub declarations_are : (m : LoadedModule) (v : Vec Node Global) (gs : List Node) → declarations_tree v ≡ (unit_view m.unit).declarations → gs ≡ v.items → HasNodes m gs
 declarations_are m v gs e g = sym (ap (λ (t : TreeOf ℕ). t.children) e) ∙ ap (λ xs. forest_of (map (placed_tree global_view declaration_node) xs)) (sym g)
 
-all_trees : (m : Loaded) (gs : List Node) → HasNodes m gs → declarations_in (module_of m).unit ≡ map (spelled_in m) gs
+all_trees : (m : LoadedModule) (gs : List Node) → HasNodes m gs → declarations_in (module_of m).unit ≡ map (spelled_in m) gs
 all_trees m gs e =
     let apart : map (spelled_in m) gs ≡ map (respell (name_in (unit_view m.unit).names)) (map (placed_tree global_view declaration_node) gs) = simp map-map in
     trees_respelled (name_in (unit_view m.unit).names) (unit_view m.unit).declarations.children
@@ -94,13 +94,13 @@ uses_length own u =
     same_length (map (use_of own (names_declared u) (imports own u) (occurrences u))) (pieces u) ∙ cut_length (declarations_in u) (drop (size u.directives) (drop (size u.imports) (occurrences u)))
 
 -- what stands at a place of a module's declarations, with its row in the table and its marks
-pub record OneAt (nb : Numbering) (m : Loaded) (i : ℕ) (g : Node) (row : Declaration PathId NameId) (ms : List Mark) : Type 0 where
+pub record OneAt (nb : Numbering) (m : LoadedModule) (i : ℕ) (g : Node) (row : Declaration PathId NameId) (ms : List Mark) : Type 0 where
   pub uses : List (Use Path Text)
   pub stands : slice_get (placed (module_of m)) i ≡ Some (record { home = module_of m; declaration = spelled_in m g; uses = uses })
   pub same : SameDeclaration (PathAt nb) (NameAt nb) row (declaration_of (spelled_in m g) uses)
   pub marked : AreRelated (IsMark nb) ms uses
 
-module _ (nb : Numbering) (m : Loaded) (t : Table PathId NameId) (same : IsNumbered nb t (table (module_of m))) (marked : IsMarked nb m) (gs : List Node) (all : HasNodes m gs) where
+module _ (nb : Numbering) (m : LoadedModule) (t : Table PathId NameId) (same : IsNumbered nb t (table (module_of m))) (marked : IsMarked nb m) (gs : List Node) (all : HasNodes m gs) where
   abbrev own : Path
   own = (module_of m).path
 
@@ -157,7 +157,7 @@ module _ (l : Link) (sound : IsLinkOf (task_in l) l) where
         (table (module_of m), map_contains table (modules_in l) (module_of m) (map_contains module_of (all_loaded l) m d), f);
   }
 
-  module _ (m : Loaded) (t : Table PathId NameId) (same : IsNumbered (numbering l.numbers) t (table (module_of m))) (p q r : Parts) (i : ℕ) (g : Bor Node) (row : Declaration PathId NameId) (ms : List Mark)
+  module _ (m : LoadedModule) (t : Table PathId NameId) (same : IsNumbered (numbering l.numbers) t (table (module_of m))) (p q r : Parts) (i : ℕ) (g : Bor Node) (row : Declaration PathId NameId) (ms : List Mark)
       (one : OneAt (numbering l.numbers) m i g.now row ms) where
     abbrev d : Placed
     d = record { home = module_of m; declaration = spelled_in m g.now; uses = one.uses }

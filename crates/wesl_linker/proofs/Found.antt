@@ -27,13 +27,13 @@ use Rattle.wesl_linker.specs.Resolved.{module_at}
 use Rattle.wesl_linker.specs.Keeping.{loaded_modules}
 use Rattle.wesl_linker.specs.Worlds.{Module, table, task_of, IsLinked, IsModuleOrder}
 use Rattle.wesl_linker.specs.declared.loaded.Held.{Held}
-use Rattle.wesl_linker.specs.declared.loaded.Loaded.{Loaded}
+use Rattle.wesl_linker.specs.declared.loaded.LoadedModule.{LoadedModule}
 use Rattle.wesl_linker.proofs.Kept.{path_same, path_own}
 use Rattle.wesl_linker.proofs.Built.{ModuleFor, linked_world, paths_one}
 use Rattle.wesl_linker.proofs.Reordered.{reordered}
 
 -- what is in order is strictly so where no path stands twice
-strict : (m n : Loaded) (ms : List Loaded) → path_before (path_view n.path) (path_view m.path) ≡ false → AreDistinct (map (λ (x : Module). x.path) (loaded_modules (m ∷ n ∷ ms))) → path_before (path_view m.path) (path_view n.path) ≡ true
+strict : (m n : LoadedModule) (ms : List LoadedModule) → path_before (path_view n.path) (path_view m.path) ≡ false → AreDistinct (map (λ (x : Module). x.path) (loaded_modules (m ∷ n ∷ ms))) → path_before (path_view m.path) (path_view n.path) ≡ true
 strict m n ms h (one_distinct _ _ fresh d) = by (before-total (path_view m.path) (path_view n.path))
   where
     by : (path_before (path_view m.path) (path_view n.path) ≡ true) ⊎ ((path_view m.path ≡ path_view n.path) ⊎ (path_before (path_view n.path) (path_view m.path) ≡ true)) → path_before (path_view m.path) (path_view n.path) ≡ true
@@ -43,7 +43,7 @@ strict m n ms h (one_distinct _ _ fresh d) = by (before-total (path_view m.path)
         absurd (fresh (subst (λ (p : Path). Contains (path_view n.path ∷ ps) p) (sym e) (contains_first (path_view n.path) ps)))
     by (inr (inr e)) = absurd (true≢false (sym e ∙ h))
 
-in_order : (ms : List Loaded) → AreInOrder ms → AreDistinct (map (λ (x : Module). x.path) (loaded_modules ms)) → AllAdjacentBelow (λ m n. path_before m.path n.path ≡ true) (loaded_modules ms) (length (loaded_modules ms))
+in_order : (ms : List LoadedModule) → AreInOrder ms → AreDistinct (map (λ (x : Module). x.path) (loaded_modules ms)) → AllAdjacentBelow (λ m n. path_before m.path n.path ≡ true) (loaded_modules ms) (length (loaded_modules ms))
 in_order [] h d k x b = absurd (omega arith)
 in_order (m ∷ []) h d k x b = absurd (omega arith)
 in_order (m ∷ n ∷ ms) h d zero x b = strict m n ms (h 0 m (omega arith)) d
@@ -74,7 +74,7 @@ module _ (first nb : Numbering) (g : Grows first nb) (hands : Path → UnitOf Te
   For = ModuleFor nb hands units one rt rm root_now different_paths different_names asked
 
   module _ (k : linking.Linking PathId NameId) (linked : linking.IsLinked (IsHandedTable hands nb units) (IsRefusedPath refuses nb) rt (linking.task_of rt kept is_eager) limit k) where
-    pub other_for : (us : List (Table PathId NameId)) (t : Table PathId NameId) (m : Loaded) → (t.path ≡ rt.path → ⊥) → (t ≡ rt) ⊎ IsHandedTable hands nb units t.path t → IsTaken nb units us t m → For t (module_at m.path m.unit)
+    pub other_for : (us : List (Table PathId NameId)) (t : Table PathId NameId) (m : LoadedModule) → (t.path ≡ rt.path → ⊥) → (t ≡ rt) ⊎ IsHandedTable hands nb units t.path t → IsTaken nb units us t m → For t (module_at m.path m.unit)
     other_for us t m differ (inl e) h = absurd (differ (ap (λ (x : Table PathId NameId). x.path) e))
     other_for us t m differ (inr (q, unit, at, there, given, numbered)) (named, has, placed) =
         let kept_unit : Held = record { unit = m.unit; marks = m.marks } in
@@ -87,7 +87,7 @@ module _ (first nb : Numbering) (g : Grows first nb) (hands : Path → UnitOf Te
           whence = inr (differ, subst (λ (x : Path). hands x (spelled (unit_view m.unit))) same_path (subst (λ (x : Held). hands q (spelled (unit_view x.unit))) same_unit given), (kept_unit, held, refl));
         }
 
-    others_for : (us ts : List (Table PathId NameId)) (ms : List Loaded) → ((t : Table PathId NameId) → Contains ts t → Contains k.tables t × (t.path ≡ rt.path → ⊥)) → AreRelated (IsTaken nb units us) ts ms → AreRelated For ts (loaded_modules ms)
+    others_for : (us ts : List (Table PathId NameId)) (ms : List LoadedModule) → ((t : Table PathId NameId) → Contains ts t → Contains k.tables t × (t.path ≡ rt.path → ⊥)) → AreRelated (IsTaken nb units us) ts ms → AreRelated For ts (loaded_modules ms)
     others_for us [] [] h rel = tt
     others_for us (t ∷ ts) (m ∷ ms) h rel =
         let (held, differ) = h t (contains_first t ts) in
@@ -122,7 +122,7 @@ module _ (first nb : Numbering) (g : Grows first nb) (hands : Path → UnitOf Te
       pub some_left : 0 < length k.tables
       some_left = subst (λ (xs : List (Table PathId NameId)). 0 < length xs) (sym is) (omega arith)
 
-    module _ (ts : List (Table PathId NameId)) (is : k.tables ≡ rt ∷ ts) (ms others : List Loaded) (rel : AreRelated (IsTaken nb units ts) ts ms) (same : IsPermutation ms others) where
+    module _ (ts : List (Table PathId NameId)) (is : k.tables ≡ rt ∷ ts) (ms others : List LoadedModule) (rel : AreRelated (IsTaken nb units ts) ts ms) (same : IsPermutation ms others) where
       all_for : AreRelated For k.tables (rm ∷ loaded_modules ms)
       all_for =
           let rest : AreRelated For ts (loaded_modules ms) = others_for ts ts ms (λ t c. (ts_held ts is t c, fresh_root ts (ts_distinct ts is) t c)) rel in

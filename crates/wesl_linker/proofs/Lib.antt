@@ -1,3 +1,5 @@
+pub mod Giving
+pub mod Recording
 pub mod Lists
 pub mod Marked
 pub mod Carried

@@ -22,7 +22,7 @@ use Rattle.wesl_table.specs.declared.marks.Mark.{Mark}
 use Rattle.wesl_table.specs.declared.marks.Mark.TheVariants as marks
 use Rattle.wesl_assembly.specs.Denotations.{symbol, local, free_name}
 use Rattle.wesl_assembly.specs.Views.{Meaning}
-use Rattle.wesl_linker.specs.Linked.{Answers, StandsFor}
+use Rattle.wesl_linker.specs.Linked.{AskedLeadsTo, StandsFor}
 use Rattle.wesl_linker.specs.Worlds.{Module, tables}
 use Rattle.wesl_linker.specs.Keeping.{denotation_text, path_text, name_text}
 use Rattle.wesl_linker.specs.Holding.{look_up, IsAskable, IsMeant, IsNamed, IsHeldHere, RefersToAll}
@@ -77,7 +77,7 @@ module _ (nb : Numbering) (different_paths : AreDifferent nb.paths) (different_n
       ap (λ (q : Path). record { path = q; name = x.name }) (sym (path_is nb s.path x.path h.path)) ∙ ap (λ (n : Text). record { path = path_text nb s.path; name = n }) (sym (name_is nb s.name x.name h.name))
 
   answered : (s u : Symbol PathId NameId) (a : Symbol Path Text) → PathAt nb s.path a.path → NameAt nb s.name a.name → LeadsTo k.tables (look_up t s) u
-      → Answers (tables w) own a (record { path = path_text nb u.path; name = name_text nb u.name }) × IsNamed nb (symbol u.path u.name)
+      → AskedLeadsTo (tables w) own a (record { path = path_text nb u.path; name = name_text nb u.name }) × IsNamed nb (symbol u.path u.name)
   answered s u a at named leads =
       let l : LookUp Path Text = record { asker = Some own; path = a.path; name = a.name } in
       let same : SameLookUp (PathAt nb) (NameAt nb) (look_up t s) l = record { asker = at_own; path = at; name = named } in

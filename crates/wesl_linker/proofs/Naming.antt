@@ -14,16 +14,16 @@ use Rattle.wesl_world.specs.Faults.AreDistinct.{one_more as one_distinct}
 use Rattle.wesl_world.proofs.Lists.{contains_nil, contains_one, contains_first, contains_later, contains_cases, contains_map, map_contains}
 use Rattle.wesl_table.specs.Numbering.{Numbering, NameAt, PathAt, AreDifferent, IsNumbered, SameDeclaration}
 use Rattle.wesl_table.specs.NumbersView.{numbering}
-use Rattle.wesl_naming.specs.Given.{Given, AreNamed, GivesNames, KeepsOthers, Keeps}
+use Rattle.wesl_linker.specs.Given.{Given, AreNamed, GivesNames, KeepsOthers, Keeps}
 use Rattle.wesl_linker.specs.Worlds.{Module, table}
 use Rattle.wesl_linker.specs.Resolved.{mangled, paths_of, IsMangled}
 use Rattle.wesl_linker.specs.Keeping.{IsSoundLink, IsSound, resolved, resolved_of, or_own, name_text, name_under, module_of, loaded_modules, all_loaded, modules_in, IsLinkOf, task_in}
 use Rattle.wesl_linker.specs.Holding.{printed_by, GivesTo, IsGivenAll, IsFreshAfter, AreOnlyRoot}
-use Rattle.wesl_linker.specs.declared.loaded.Loaded.{Loaded}
+use Rattle.wesl_linker.specs.declared.loaded.LoadedModule.{LoadedModule}
 use Rattle.wesl_linker.specs.declared.link.Link.{Link}
 use Rattle.wesl_linker.specs.declared.resolutions.Resolutions.{Resolutions}
-use Rattle.wesl_naming.specs.GivenView.{given}
-use Rattle.wesl_naming.specs.declared.given.GivenNames.{GivenNames}
+use Rattle.wesl_linker.specs.GivenView.{given}
+use Rattle.wesl_linker.specs.declared.given.GivenNames.{GivenNames}
 use Rattle.wesl_linker.proofs.Carried.{related_in, related_back, option_of, option_back, declares_from, IsOneToOne}
 use Rattle.wesl_linker.proofs.Built.{paths_one, names_one}
 use Rattle.wesl_linker.proofs.Texts.{name_is, name_by}
@@ -40,7 +40,7 @@ pub gives_none : (nb : Numbering) (name_of : Path → Text → Text) (given : Gi
 gives_none nb name_of given h = record { names = λ m p n x c. absurd (contains_nil m c); none = λ p n f. h p n }
 
 module _ (nb : Numbering) (different_paths : AreDifferent nb.paths) (different_names : AreDifferent nb.names) (name_of now : Path → Text → Text) (same_names : (p : Path) (x : Text) → now p x ≡ name_of p x)
-    (ms : List Loaded) (m : Loaded) (fresh : (k : Loaded) → Contains ms k → path_view k.path ≡ path_view m.path → ⊥) (t : Table PathId NameId) (same : IsNumbered nb t (table (module_of m))) (old new : Given)
+    (ms : List LoadedModule) (m : LoadedModule) (fresh : (k : LoadedModule) → Contains ms k → path_view k.path ≡ path_view m.path → ⊥) (t : Table PathId NameId) (same : IsNumbered nb t (table (module_of m))) (old new : Given)
     (s : GivesTo nb ms name_of old) (gives : GivesNames nb (now (path_view m.path)) t old new) (others : KeepsOthers t.path old new) (keeps : Keeps old new) where
   P : IsOneToOne (PathAt nb)
   P = paths_one nb different_paths
@@ -59,21 +59,21 @@ module _ (nb : Numbering) (different_paths : AreDifferent nb.paths) (different_n
         others (record { path = p; name = n }) (λ e. f m (last_held ms) (subst (λ (q : PathId). PathAt nb q (path_view m.path)) (sym e) same.path)) ∙ s.none p n (λ k c at. f k (first_held k c) at);
   }
     where
-      by : (k : Loaded) (p : PathId) (n : NameId) (x : Text) → Contains ms k ⊎ Contains (m ∷ []) k → Declares (table (module_of k)) x → PathAt nb p (path_view k.path) → NameAt nb n x → new (record { path = p; name = n }) ≡ Some (name_of (path_view k.path) x)
+      by : (k : LoadedModule) (p : PathId) (n : NameId) (x : Text) → Contains ms k ⊎ Contains (m ∷ []) k → Declares (table (module_of k)) x → PathAt nb p (path_view k.path) → NameAt nb n x → new (record { path = p; name = n }) ≡ Some (name_of (path_view k.path) x)
       by k p n x (inl c) d at named = keeps (record { path = p; name = n }) (name_of (path_view k.path) x) (s.names k p n x c d at named)
       by k p n x (inr c) d at named =
           let e : m ≡ k = contains_one m k c in
-          subst (λ (z : Loaded). Declares (table (module_of z)) x → PathAt nb p (path_view z.path) → new (record { path = p; name = n }) ≡ Some (name_of (path_view z.path) x)) e (λ d2 at2. here p n x d2 at2 named) d at
+          subst (λ (z : LoadedModule). Declares (table (module_of z)) x → PathAt nb p (path_view z.path) → new (record { path = p; name = n }) ≡ Some (name_of (path_view z.path) x)) e (λ d2 at2. here p n x d2 at2 named) d at
 
-      last_held : (xs : List Loaded) → Contains (xs ++ m ∷ []) m
+      last_held : (xs : List LoadedModule) → Contains (xs ++ m ∷ []) m
       last_held [] = contains_first m []
       last_held (x ∷ xs) = contains_later x m (xs ++ m ∷ []) (last_held xs)
 
-      first_held : (k : Loaded) → Contains ms k → Contains (ms ++ m ∷ []) k
+      first_held : (k : LoadedModule) → Contains ms k → Contains (ms ++ m ∷ []) k
       first_held k c = Contains-append_left ms (m ∷ []) k c
 
 -- by other words for the same names
-pub gives_same : (nb : Numbering) (ms : List Loaded) (f h : Path → Text → Text) → ((p : Path) (x : Text) → f p x ≡ h p x) → (given : Given) → GivesTo nb ms f given → GivesTo nb ms h given
+pub gives_same : (nb : Numbering) (ms : List LoadedModule) (f h : Path → Text → Text) → ((p : Path) (x : Text) → f p x ≡ h p x) → (given : Given) → GivesTo nb ms f given → GivesTo nb ms h given
 gives_same nb ms f h same given s = record { names = λ m p n x c d at named. s.names m p n x c d at named ∙ ap Some (same (path_view m.path) x); none = s.none }
 
 -- ---- all modules
@@ -105,13 +105,13 @@ module _ (l : Link) (name_of : Path → Text → Text) (given : Given) where
   pub given_others : AreDistinct (paths_of (modules_in l)) → GivesTo (numbering l.numbers) l.others.items name_of given → IsGivenAll l false name_of given
   given_others (one_distinct _ _ fresh distinct) s m c p n x d at named = by (contains_cases l.root m l.others.items c)
     where
-      apart : (k : Loaded) → Contains l.others.items k → path_view k.path ≡ path_view l.root.path → ⊥
+      apart : (k : LoadedModule) → Contains l.others.items k → path_view k.path ≡ path_view l.root.path → ⊥
       apart k held e = fresh (subst (λ (q : Path). Contains (paths_of (loaded_modules l.others.items)) q) e (map_contains (λ (z : Module). z.path) (loaded_modules l.others.items) (module_of k) (map_contains module_of l.others.items k held)))
 
       by : (l.root ≡ m) ⊎ Contains l.others.items m → printed_by (numbering l.numbers) given p n ≡ mangled (path_view l.root.path) false name_of (path_view m.path) x
       by (inl e) =
-          let same : same_path (path_view m.path) (path_view l.root.path) ≡ true = (same_path-decides (path_view m.path) (path_view l.root.path)).1 (ap (λ (z : Loaded). path_view z.path) (sym e)) in
-          let none : given (record { path = p; name = n }) ≡ None = s.none p n (λ k held there. apart k held ((paths_one (numbering l.numbers) l.numbers.paths.different).one p (path_view k.path) (path_view l.root.path) there (subst (λ (z : Loaded). PathAt (numbering l.numbers) p (path_view z.path)) (sym e) at))) in
+          let same : same_path (path_view m.path) (path_view l.root.path) ≡ true = (same_path-decides (path_view m.path) (path_view l.root.path)).1 (ap (λ (z : LoadedModule). path_view z.path) (sym e)) in
+          let none : given (record { path = p; name = n }) ≡ None = s.none p n (λ k held there. apart k held ((paths_one (numbering l.numbers) l.numbers.paths.different).one p (path_view k.path) (path_view l.root.path) there (subst (λ (z : LoadedModule). PathAt (numbering l.numbers) p (path_view z.path)) (sym e) at))) in
           ap (or_own (name_text (numbering l.numbers) n)) none ∙ (name_is (numbering l.numbers) n x named ∙ sym (ap (λ b. if b && not false then x else name_of (path_view m.path) x) same))
       by (inr held) =
           let other : same_path (path_view m.path) (path_view l.root.path) ≡ false = is_false (same_path (path_view m.path) (path_view l.root.path)) (λ e. apart m held ((same_path-decides (path_view m.path) (path_view l.root.path)).0 e)) in
@@ -124,7 +124,7 @@ names_given l sound given mangle_root name_of h m x c d =
     let (k, held, e) = contains_map module_of (all_loaded l) m c in
     subst (λ (z : Module). Declares (table z) x → name_under (numbering l.numbers) given z.path x ≡ mangled (path_view l.root.path) mangle_root name_of z.path x) e (by k held) d
   where
-    by : (k : Loaded) → Contains (all_loaded l) k → Declares (table (module_of k)) x → name_under (numbering l.numbers) given (path_view k.path) x ≡ mangled (path_view l.root.path) mangle_root name_of (path_view k.path) x
+    by : (k : LoadedModule) → Contains (all_loaded l) k → Declares (table (module_of k)) x → name_under (numbering l.numbers) given (path_view k.path) x ≡ mangled (path_view l.root.path) mangle_root name_of (path_view k.path) x
     by k held declared =
         let (t, at, same, marked) = sound.tabled k held in
         let (e, there, is_x) = declared in
@@ -135,7 +135,7 @@ names_given l sound given mangle_root name_of h m x c d =
 
 -- ---- one module after the other
 
-fresh_next : (ys : List Loaded) → AreDistinct (paths_of (loaded_modules ys)) → (j : ℕ) (m k : Loaded) → j < length ys → m ≡ get_or ys j m → Contains (take j ys) k → path_view k.path ≡ path_view m.path → ⊥
+fresh_next : (ys : List LoadedModule) → AreDistinct (paths_of (loaded_modules ys)) → (j : ℕ) (m k : LoadedModule) → j < length ys → m ≡ get_or ys j m → Contains (take j ys) k → path_view k.path ≡ path_view m.path → ⊥
 fresh_next [] d j m k b e c same = absurd (omega arith)
 fresh_next (y ∷ ys) d zero m k b e c same = contains_nil k c
 fresh_next (y ∷ ys) (one_distinct _ _ fresh d) (suc j) m k b e c same = by (contains_cases y k (take j ys) c) (λ held. fresh_next ys d j m k (omega arith) e held same)
@@ -144,13 +144,13 @@ fresh_next (y ∷ ys) (one_distinct _ _ fresh d) (suc j) m k b e c same = by (co
     there = map_contains (λ (z : Module). z.path) (loaded_modules ys) (module_of m) (map_contains module_of ys m (item_held ys j m (omega arith) e))
 
     by : (y ≡ k) ⊎ Contains (take j ys) k → (Contains (take j ys) k → ⊥) → ⊥
-    by (inl is) rest = fresh (subst (λ (q : Path). Contains (paths_of (loaded_modules ys)) q) (sym same ∙ ap (λ (z : Loaded). path_view z.path) (sym is)) there)
+    by (inl is) rest = fresh (subst (λ (q : Path). Contains (paths_of (loaded_modules ys)) q) (sym same ∙ ap (λ (z : LoadedModule). path_view z.path) (sym is)) there)
     by (inr held) rest = rest held
 
 -- no module before has the path of the next of the others
-pub fresh_other : (l : Link) → AreDistinct (paths_of (modules_in l)) → (ms : List Loaded) → AreOnlyRoot l ms → (i : ℕ) (m : Loaded) → i < length l.others.items → m ≡ get_or l.others.items i m → IsFreshAfter (ms ++ take i l.others.items) m
+pub fresh_other : (l : Link) → AreDistinct (paths_of (modules_in l)) → (ms : List LoadedModule) → AreOnlyRoot l ms → (i : ℕ) (m : LoadedModule) → i < length l.others.items → m ≡ get_or l.others.items i m → IsFreshAfter (ms ++ take i l.others.items) m
 fresh_other l distinct ms only i m b e k c same = elim (Contains-append_cases ms (take i l.others.items) k c) [
-  | inl h ↦ fresh_next (all_loaded l) distinct (suc i) m k (omega arith) e (subst (λ (z : Loaded). Contains (l.root ∷ take i l.others.items) z) (sym (only k h)) (contains_first l.root (take i l.others.items))) same
+  | inl h ↦ fresh_next (all_loaded l) distinct (suc i) m k (omega arith) e (subst (λ (z : LoadedModule). Contains (l.root ∷ take i l.others.items) z) (sym (only k h)) (contains_first l.root (take i l.others.items))) same
   | inr h ↦ fresh_next (all_loaded l) distinct (suc i) m k (omega arith) e (contains_later l.root k (take i l.others.items) h) same
 ]
 

@@ -17,7 +17,7 @@ use Rattle.wesl_linker.specs.Linked.{Selects as selects, Joins as joins}
 use Rattle.wesl_linker.specs.Worlds.{Module, tables}
 use Rattle.wesl_linker.specs.Keeping.{denotation_text, module_of, loaded_modules, modules_in, task_in}
 use Rattle.wesl_linker.specs.Holding.{IsNamed, AreAlike, Adds, AddsModule, AreParts}
-use Rattle.wesl_linker.specs.declared.loaded.Loaded.{Loaded}
+use Rattle.wesl_linker.specs.declared.loaded.LoadedModule.{LoadedModule}
 use Rattle.wesl_linker.specs.declared.link.Link.{Link}
 use Rattle.wesl_linker.specs.declared.assemble.Parts.{Parts}
 use Rattle.wesl_linker.proofs.Lists.{selects_more, joins_more, joins_one}
@@ -118,7 +118,7 @@ module _ (l : Link) where
       alike = ap (λ ns. shape (forest_of (map declaration_ref_tree ns))) none;
     }
 
-    pub parts_more : (ms : List Loaded) (m : Loaded) (p q : Parts) → AreParts l ms words p → AddsModule l m p q → AreParts l (ms ++ m ∷ []) words q
+    pub parts_more : (ms : List LoadedModule) (m : LoadedModule) (p q : Parts) → AreParts l ms words p → AddsModule l m p q → AreParts l (ms ++ m ∷ []) words q
     parts_more ms m p q s a = record {
       held = s.held ++ a.held;
       meanings = s.meanings ++ a.meanings;

@@ -9,17 +9,17 @@ use Rattle.wesl_world.specs.declared.ids.NameId.{NameId}
 use Rattle.wesl_world.specs.Tables.{Declaration, Table}
 use Rattle.wesl_table.specs.Numbering.{Numbering, NameAt, PathAt, AreRelated, AreDifferent, IsNumbered, SameDeclaration, IsRelatedOption}
 use Rattle.wesl_table.proofs.Lists.{take_next}
-use Rattle.wesl_naming.specs.Given.{Given}
-use Rattle.wesl_naming.specs.Recorded.{Record, Write, IsRecordedBy, all_written, firsts, writes_of, declared_texts, text_of, HasNone}
-use Rattle.wesl_naming.proofs.Recording.{written_more}
+use Rattle.wesl_linker.specs.Given.{Given}
+use Rattle.wesl_linker.specs.Recorded.{Record, Write, IsRecordedBy, all_written, firsts, writes_of, declared_texts, text_of, HasNone}
+use Rattle.wesl_linker.proofs.Recording.{written_more}
 use Rattle.wesl_linker.specs.Worlds.{Module, table}
 use Rattle.wesl_linker.specs.Resolved.{declared_names, writes_from, writes}
 use Rattle.wesl_linker.specs.Keeping.{module_of, loaded_modules, modules_in, modules_of, resolved_of}
 use Rattle.wesl_linker.specs.Holding.{GivesTo, IsFreshAfter}
-use Rattle.wesl_linker.specs.declared.loaded.Loaded.{Loaded}
+use Rattle.wesl_linker.specs.declared.loaded.LoadedModule.{LoadedModule}
 use Rattle.wesl_linker.specs.declared.link.Link.{Link}
 use Rattle.wesl_linker.specs.declared.resolutions.Resolutions.{Resolutions}
-use Rattle.wesl_naming.specs.GivenView.{given}
+use Rattle.wesl_linker.specs.GivenView.{given}
 use Rattle.wesl_linker.proofs.Built.{paths_one}
 
 text_is : (nb : Numbering) (n : NameId) (x : Text) → NameAt nb n x → text_of nb n ≡ x
@@ -49,7 +49,7 @@ names_are nb [] (e ∷ es) h = absurd h
 names_are nb (d ∷ ds) [] h = absurd h
 
 -- of a module none of whose names was given each declared name is written
-pub module_recorded : (nb : Numbering) → AreDifferent nb.paths → (name_of now : Path → Text → Text) → ((p : Path) (x : Text) → now p x ≡ name_of p x) → (ms : List Loaded) (m : Loaded) → IsFreshAfter ms m
+pub module_recorded : (nb : Numbering) → AreDifferent nb.paths → (name_of now : Path → Text → Text) → ((p : Path) (x : Text) → now p x ≡ name_of p x) → (ms : List LoadedModule) (m : LoadedModule) → IsFreshAfter ms m
     → (t : Table PathId NameId) → IsNumbered nb t (table (module_of m)) → (old : Given) → GivesTo nb ms name_of old → (w : Bool) (before after : Record)
     → (HasNone t.path old → IsRecordedBy w (writes_of now (path_view m.path) (firsts (declared_texts nb t.declarations))) before after)
     → IsRecordedBy w (writes_of name_of (path_view m.path) (declared_names (module_of m))) before after
@@ -85,11 +85,11 @@ writes_more f (k ∷ ms) m =
     ap (λ (ws : List Write). writes_of f k.path (declared_names k) ++ ws) (writes_more f ms m) ∙ sym (assoc (writes_of f k.path (declared_names k)) (writes_from f ms) (writes_of f m.path (declared_names m)))
 
 -- the next of the modules
-pub recorded_next : (w : Bool) (f : Path → Text → Text) (xs : List Loaded) (i : ℕ) (m : Loaded) → i < length xs → m ≡ get_or xs i m → (before now after : Record) → IsRecordedBy w (writes_from f (loaded_modules (take i xs))) before now
+pub recorded_next : (w : Bool) (f : Path → Text → Text) (xs : List LoadedModule) (i : ℕ) (m : LoadedModule) → i < length xs → m ≡ get_or xs i m → (before now after : Record) → IsRecordedBy w (writes_from f (loaded_modules (take i xs))) before now
     → IsRecordedBy w (writes_of f (path_view m.path) (declared_names (module_of m))) now after → IsRecordedBy w (writes_from f (loaded_modules (take (i + 1) xs))) before after
 recorded_next w f xs i m b e before now after h k x =
     recorded_then w (writes_from f (loaded_modules (take i xs))) (writes_of f (path_view m.path) (declared_names (module_of m))) before now after h k x
-    ∙ ap (λ (ws : List Write). all_written w ws before x) (sym (ap (λ (ys : List Loaded). writes_from f (loaded_modules ys)) (take_next xs i m b e)
+    ∙ ap (λ (ws : List Write). all_written w ws before x) (sym (ap (λ (ys : List LoadedModule). writes_from f (loaded_modules ys)) (take_next xs i m b e)
     ∙ (ap (writes_from f) (map-append module_of (take i xs) (m ∷ [])) ∙ writes_more f (loaded_modules (take i xs)) (module_of m))))
 
 -- nothing is written of no module

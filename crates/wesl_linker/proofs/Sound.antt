@@ -34,7 +34,7 @@ use Rattle.wesl_linker.specs.Resolved.{Resolved, module_at}
 use Rattle.wesl_linker.specs.Holding.{IsFoundBy}
 use Rattle.wesl_linker.specs.Keeping.{name_text, module_of, loaded_modules, IsTabled, IsCovered, IsLinkOf, task_in}
 use Rattle.wesl_linker.specs.declared.loaded.Held.{Held}
-use Rattle.wesl_linker.specs.declared.loaded.Loaded.{Loaded}
+use Rattle.wesl_linker.specs.declared.loaded.LoadedModule.{LoadedModule}
 use Rattle.wesl_linker.specs.declared.link.Link.{Link}
 use Rattle.wesl_linker.proofs.Carried.{Back, one_back, related_in, related_back, table_back, SameSymbol, SameTask, Covers, reached_to}
 use Rattle.wesl_linker.proofs.Built.{paths_one, names_one}
@@ -67,14 +67,14 @@ module _ (numbers : Numbers) (first : Numbering) (g : Grows first (numbering num
     (rt : Table PathId NameId) (path : ModulePath) (unit : TranslationUnit) (marks : Vec (Vec Mark Global) Global) (root : IsNumbered first rt (table (module_at path unit))) (marked : AreMarked first marks.items (uses (path_view path) (spelled (unit_view unit))))
     (kept : Vec NameId Global) (keep : List Text) (kept_same : AreRelated (NameAt first) kept.items keep) (is_eager : Bool) (limit : ℕ)
     (k : linking.Linking PathId NameId) (linked : linking.IsLinked (IsHandedTable hands (numbering numbers) units) (IsRefusedPath refuses (numbering numbers)) rt (linking.task_of rt kept.items is_eager) limit k)
-    (ts : List (Table PathId NameId)) (is : k.tables ≡ rt ∷ ts) (ms : List Loaded) (others : Vec Loaded Global) (rel : AreRelated (IsTaken (numbering numbers) units ts) ts ms) (same : IsPermutation ms others.items) where
+    (ts : List (Table PathId NameId)) (is : k.tables ≡ rt ∷ ts) (ms : List LoadedModule) (others : Vec LoadedModule Global) (rel : AreRelated (IsTaken (numbering numbers) units ts) ts ms) (same : IsPermutation ms others.items) where
   abbrev nb : Numbering
   nb = numbering numbers
 
   abbrev rm : Module
   rm = module_at path unit
 
-  abbrev first_loaded : Loaded
+  abbrev first_loaded : LoadedModule
   first_loaded = record { path = path; place = 0; unit = unit; marks = marks }
 
   abbrev pub link : Link
@@ -92,7 +92,7 @@ module _ (numbers : Numbers) (first : Numbering) (g : Grows first (numbering num
   found_now : IsLinked hands refuses rm (task_of rm keep is_eager) limit k.turns w
   found_now = found.found_linked first nb g hands refuses units one rt rm root numbers.paths.different numbers.names.different numbers.paths.asked kept.items keep kept_same is_eager limit k linked ts is ms others.items rel same
 
-  taken_same : (us : List (Table PathId NameId)) (t : Table PathId NameId) (m : Loaded) → Contains ts t → IsTaken nb units us t m → IsNumbered nb t (table (module_of m))
+  taken_same : (us : List (Table PathId NameId)) (t : Table PathId NameId) (m : LoadedModule) → Contains ts t → IsTaken nb units us t m → IsNumbered nb t (table (module_of m))
   taken_same us t m c h =
       (found.other_for first nb g hands refuses units one rt rm root numbers.paths.different numbers.names.different numbers.paths.asked kept.items keep kept_same is_eager limit k linked us t m
       (found.fresh_root first nb g hands refuses units one rt rm root numbers.paths.different numbers.names.different numbers.paths.asked kept.items keep kept_same is_eager limit k linked ts
@@ -102,17 +102,17 @@ module _ (numbers : Numbers) (first : Numbering) (g : Grows first (numbering num
   root_marked : IsMarked nb first_loaded
   root_marked = marks_later first nb g marks.items (uses (path_view path) (spelled (unit_view unit))) marked
 
-  taken_marked : (us : List (Table PathId NameId)) (t : Table PathId NameId) (m : Loaded) → IsTaken nb units us t m → IsMarked nb m
+  taken_marked : (us : List (Table PathId NameId)) (t : Table PathId NameId) (m : LoadedModule) → IsTaken nb units us t m → IsMarked nb m
   taken_marked us t m (at, has, placed) =
       let kept_unit : Held = record { unit = m.unit; marks = m.marks } in
       let (q, named, given, its_marks) = handed t.path kept_unit (found_at path_eq path_same units t.path kept_unit has) in
       subst (λ (x : Path). IsMarkedAt nb x kept_unit) ((paths_one nb numbers.paths.different).one t.path q (path_view m.path) named at) its_marks
 
-  tabled : (m : Loaded) → Contains (first_loaded ∷ others.items) m → IsTabled nb k.tables m
+  tabled : (m : LoadedModule) → Contains (first_loaded ∷ others.items) m → IsTabled nb k.tables m
   tabled m c = by (contains_cases first_loaded m others.items c)
     where
       by : (first_loaded ≡ m) ⊎ Contains others.items m → IsTabled nb k.tables m
-      by (inl e) = subst (λ (x : Loaded). IsTabled nb k.tables x) e (rt, ap (λ xs. slice_get xs 0) is, root_now, root_marked)
+      by (inl e) = subst (λ (x : LoadedModule). IsTabled nb k.tables x) e (rt, ap (λ xs. slice_get xs 0) is, root_now, root_marked)
       by (inr d) =
           let (t, held, taken) = related_in (Back (IsTaken nb units ts)) ms ts m (related_back (IsTaken nb units ts) (Back (IsTaken nb units ts)) (λ x y z. z) ts ms rel) (Contains-permutation others.items ms m (IsPermutation-sym ms others.items same) d) in
           let (i, e, at) = taken.2 in

@@ -12,7 +12,7 @@ use Rattle.wesl_table.specs.Numbering.{Numbering, AreRelated}
 use Rattle.wesl_table.proofs.Lists.{related_append, take_next}
 use Rattle.wesl_linker.specs.Taking.{unit_at, AreKept, IsTaken}
 use Rattle.wesl_linker.specs.declared.loaded.Held.{Held}
-use Rattle.wesl_linker.specs.declared.loaded.Loaded.{Loaded}
+use Rattle.wesl_linker.specs.declared.loaded.LoadedModule.{LoadedModule}
 use Rattle.wesl_linker.proofs.Lists.{at_has}
 
 pub drop_has : {X : Type 0} (xs : List X) (i : ℕ) (x : X) → slice_get xs i ≡ Some x → Contains (drop i xs) x
@@ -42,7 +42,7 @@ left_more before units after ts i t d at left others u held =
     let later : Contains (drop (suc i) ts) u = subst (λ (k : ℕ). Contains (drop k ts) u) n held in
     others u.path (apart ts i t u d at later) ∙ left u (drop_less ts i u later)
 
-pub taken_more : (numbering : Numbering) (units : List (PathId × Held)) (ts : List (Table PathId NameId)) (i : ℕ) (t : Table PathId NameId) (ms new : List Loaded) (m : Loaded) → i < length ts → t ≡ get_or ts i t
+pub taken_more : (numbering : Numbering) (units : List (PathId × Held)) (ts : List (Table PathId NameId)) (i : ℕ) (t : Table PathId NameId) (ms new : List LoadedModule) (m : LoadedModule) → i < length ts → t ≡ get_or ts i t
     → AreRelated (IsTaken numbering units ts) (take i ts) ms → IsTaken numbering units ts t m → new ≡ ms ++ m ∷ [] → AreRelated (IsTaken numbering units ts) (take (i + 1) ts) new
 taken_more numbering units ts i t ms new m below at all here e =
     rw (e, take_next ts i t below at) (related_append (IsTaken numbering units ts) (IsTaken numbering units ts) (λ x y h. h) (take i ts) (t ∷ []) ms (m ∷ []) all (here, tt))

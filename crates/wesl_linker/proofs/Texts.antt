@@ -9,7 +9,7 @@ use Rattle.wesl_names.proofs.Order.{same_path-decides}
 use Rattle.wesl_world.specs.declared.ids.PathId.{PathId}
 use Rattle.wesl_world.specs.declared.ids.NameId.{NameId}
 use Rattle.wesl_table.specs.Numbering.{Numbering, NameAt, PathAt, AreDifferent}
-use Rattle.wesl_naming.specs.Given.{Given}
+use Rattle.wesl_linker.specs.Given.{Given}
 use Rattle.wesl_assembly.specs.Denotations.{symbol, local, free_name}
 use Rattle.wesl_assembly.specs.Views.{Meaning}
 use Rattle.wesl_linker.specs.Keeping.{path_text, name_text, place_of, or_own, given_at, name_under, denotation_text}

@@ -20,7 +20,7 @@ use Rattle.wesl_table.specs.Numbering.{PathAt, NameAt}
 use Rattle.wesl_table.specs.Tables.{names_declared, paired}
 use Rattle.wesl_table.specs.Uses.{Use, use_of}
 use Rattle.wesl_table.specs.NumbersView.{numbering}
-use Rattle.wesl_naming.specs.Given.{Given}
+use Rattle.wesl_linker.specs.Given.{Given}
 use Rattle.wesl_assembly.specs.Denotations.{symbol, local, free_name, printed_as}
 use Rattle.wesl_assembly.specs.Directives.{AreThinned, Thins, all_directives}
 use Rattle.wesl_assembly.specs.Laws.{MeaningsCanBeRetold}
@@ -32,7 +32,7 @@ use Rattle.wesl_linker.specs.Linked.{Joins as joins}
 use Rattle.wesl_linker.specs.Worlds.{Module, tables}
 use Rattle.wesl_linker.specs.Keeping.{name_text, denotation_text, name_under, module_of, all_loaded, modules_in, task_in}
 use Rattle.wesl_linker.specs.Holding.{printed_by, IsNamed, AreParts}
-use Rattle.wesl_linker.specs.declared.loaded.Loaded.{Loaded}
+use Rattle.wesl_linker.specs.declared.loaded.LoadedModule.{LoadedModule}
 use Rattle.wesl_linker.specs.declared.link.Link.{Link}
 use Rattle.wesl_linker.specs.declared.assemble.Parts.{Parts}
 use Rattle.wesl_linker.proofs.Lists.{same_length, related_length, flat_map-map, selected_in, joined_in}
@@ -49,9 +49,9 @@ many_of f g e =
 abbrev three : {I : Type 0} → ForestOf I → ForestOf I → ForestOf I
 three directives declarations = tree (kind imports_kind) end (tree (kind directive_list) directives (tree (kind declarations_kind) declarations end))
 
-all_directives_are : (us : List UnitView) (ms : List Loaded) → us ≡ map (λ m. unit_view m.unit) ms → all_directives us ≡ directives_in (map module_of ms)
+all_directives_are : (us : List UnitView) (ms : List LoadedModule) → us ≡ map (λ m. unit_view m.unit) ms → all_directives us ≡ directives_in (map module_of ms)
 all_directives_are us ms e =
-    ap all_directives e ∙ (flat_map-map (λ u. trees (spelled u).directives.children) (λ (m : Loaded). unit_view m.unit) ms
+    ap all_directives e ∙ (flat_map-map (λ u. trees (spelled u).directives.children) (λ (m : LoadedModule). unit_view m.unit) ms
     ∙ sym (flat_map-map (λ (m : Module). trees m.unit.directives.children) module_of ms))
 
 -- ---- as many meanings as identifiers
@@ -74,7 +74,7 @@ sized_each m f (t ∷ ts) (p ∷ ps) e d c =
       | inr more ↦ sized_each m f ts ps rest d more
     ]
 
-sized : PiecesAreDeclarations → (m : Loaded) (d : Placed) → Contains (placed (module_of m)) d → IsSized d
+sized : PiecesAreDeclarations → (m : LoadedModule) (d : Placed) → Contains (placed (module_of m)) d → IsSized d
 sized law m d c =
     let u = (module_of m).unit in
     let own = (module_of m).path in

@@ -23,12 +23,12 @@ use Rattle.wesl_table.specs.declared.marks.Mark.TheVariants as marks
 use Rattle.wesl_assembly.specs.Denotations.{symbol, local, free_name}
 use Rattle.wesl_assembly.specs.Linked.{shape, declaration_ref_tree}
 use Rattle.wesl_assembly.specs.Views.{Meaning, denotation_view}
-use Rattle.wesl_naming.specs.Given.{Given}
+use Rattle.wesl_linker.specs.Given.{Given}
 use Rattle.wesl_linker.specs.Linked.{Selects, Joins, Placed, placed, is_assert, IsHeld, AreHeldOf, AreMeanings}
 use Rattle.wesl_linker.specs.Resolved.{Resolved, mangled}
 use Rattle.wesl_linker.specs.Worlds.{table, tables}
 use Rattle.wesl_linker.specs.Keeping.{name_text, denotation_text, module_of, all_loaded, loaded_modules, modules_in, task_in, kept_texts, or_own}
-use Rattle.wesl_linker.specs.declared.loaded.Loaded.{Loaded}
+use Rattle.wesl_linker.specs.declared.loaded.LoadedModule.{LoadedModule}
 use Rattle.wesl_linker.specs.declared.link.Link.{Link}
 use Rattle.wesl_linker.specs.declared.assemble.Parts.{Parts}
 
@@ -47,28 +47,28 @@ pub record IsFoundBy (l : Link) (r : Resolved) : Type 0 where
   pub names : (p : Path) (n : Text) → r.names p n ≡ n
 
 -- each name that the module declares has the name that the mangler gives, the root's only where it is to be mangled
-abbrev pub IsGivenName : Link → Given → Bool → (Path → Text → Text) → Loaded → Type 0
+abbrev pub IsGivenName : Link → Given → Bool → (Path → Text → Text) → LoadedModule → Type 0
 IsGivenName l given mangle_root name_of m =
     (p : PathId) (n : NameId) (x : Text) → Declares (table (module_of m)) x → PathAt (numbering l.numbers) p (path_view m.path) → NameAt (numbering l.numbers) n x
     → printed_by (numbering l.numbers) given p n ≡ mangled (path_view l.root.path) mangle_root name_of (path_view m.path) x
 
 -- so it is for all modules
 abbrev pub IsGivenAll : Link → Bool → (Path → Text → Text) → Given → Type 0
-IsGivenAll l mangle_root name_of given = (m : Loaded) → Contains (all_loaded l) m → IsGivenName l given mangle_root name_of m
+IsGivenAll l mangle_root name_of given = (m : LoadedModule) → Contains (all_loaded l) m → IsGivenName l given mangle_root name_of m
 
 -- the names that these modules declare have the names that a mangler gives, and no others have one
-pub record GivesTo (nb : Numbering) (ms : List Loaded) (name_of : Path → Text → Text) (given : Given) : Type 0 where
-  pub names : (m : Loaded) (p : PathId) (n : NameId) (x : Text) → Contains ms m → Declares (table (module_of m)) x → PathAt nb p (path_view m.path) → NameAt nb n x
+pub record GivesTo (nb : Numbering) (ms : List LoadedModule) (name_of : Path → Text → Text) (given : Given) : Type 0 where
+  pub names : (m : LoadedModule) (p : PathId) (n : NameId) (x : Text) → Contains ms m → Declares (table (module_of m)) x → PathAt nb p (path_view m.path) → NameAt nb n x
       → given (record { path = p; name = n }) ≡ Some (name_of (path_view m.path) x)
-  pub none : (p : PathId) (n : NameId) → ((m : Loaded) → Contains ms m → PathAt nb p (path_view m.path) → ⊥) → given (record { path = p; name = n }) ≡ None
+  pub none : (p : PathId) (n : NameId) → ((m : LoadedModule) → Contains ms m → PathAt nb p (path_view m.path) → ⊥) → given (record { path = p; name = n }) ≡ None
 
 -- none of these modules has the path of this one
-abbrev pub IsFreshAfter : List Loaded → Loaded → Type 0
-IsFreshAfter ms m = (k : Loaded) → Contains ms k → path_view k.path ≡ path_view m.path → ⊥
+abbrev pub IsFreshAfter : List LoadedModule → LoadedModule → Type 0
+IsFreshAfter ms m = (k : LoadedModule) → Contains ms k → path_view k.path ≡ path_view m.path → ⊥
 
 -- no module, or the root alone
-abbrev pub AreOnlyRoot : Link → List Loaded → Type 0
-AreOnlyRoot l ms = (k : Loaded) → Contains ms k → k ≡ l.root
+abbrev pub AreOnlyRoot : Link → List LoadedModule → Type 0
+AreOnlyRoot l ms = (k : LoadedModule) → Contains ms k → k ≡ l.root
 
 -- ---- identifiers
 
@@ -130,11 +130,11 @@ pub record Adds (l : Link) (all : List Placed) (before after : Parts) : Type 0 w
   pub named : (d : Meaning) → Contains meanings d → IsNamed (numbering l.numbers) d
   pub alike : AreAlike nodes held
 
-abbrev pub AddsModule : Link → Loaded → Parts → Parts → Type 0
+abbrev pub AddsModule : Link → LoadedModule → Parts → Parts → Type 0
 AddsModule l m before after = Adds l (placed (module_of m)) before after
 
 -- The parts that were added of these modules, after these words.
-pub record AreParts (l : Link) (ms : List Loaded) (words : List Meaning) (p : Parts) : Type 0 where
+pub record AreParts (l : Link) (ms : List LoadedModule) (words : List Meaning) (p : Parts) : Type 0 where
   pub held : List Placed
   pub meanings : List Meaning
   pub denotations : map denotation_view p.denotations.items ≡ words ++ meanings

@@ -12,13 +12,13 @@ use Rattle.wesl_table.specs.Numbering.{Numbering, NameAt, PathAt, IsNumbered}
 use Rattle.wesl_table.specs.NumbersView.{numbering}
 use Rattle.wesl_assembly.specs.Denotations.{symbol, local, free_name}
 use Rattle.wesl_assembly.specs.Views.{Meaning}
-use Rattle.wesl_naming.specs.Given.{Given}
-use Rattle.wesl_naming.specs.GivenView.{given}
+use Rattle.wesl_linker.specs.Given.{Given}
+use Rattle.wesl_linker.specs.GivenView.{given}
 use Rattle.wesl_linker.specs.Linked.{Denotation}
 use Rattle.wesl_linker.specs.Worlds.{Module, table, tables, task_of}
 use Rattle.wesl_linker.specs.Resolved.{Resolved, paths_of}
 pub use Rattle.wesl_linker.specs.Tabled.{module_of, IsTabled}
-use Rattle.wesl_linker.specs.declared.loaded.Loaded.{Loaded}
+use Rattle.wesl_linker.specs.declared.loaded.LoadedModule.{LoadedModule}
 use Rattle.wesl_linker.specs.declared.link.Link.{Link}
 use Rattle.wesl_linker.specs.declared.resolutions.Resolutions.{Resolutions}
 
@@ -55,10 +55,10 @@ name_under nb names p n = or_own n (given_at names (place_of (same_path p) nb.pa
 
 -- ---- modules
 
-abbrev pub loaded_modules : List Loaded → List Module
+abbrev pub loaded_modules : List LoadedModule → List Module
 loaded_modules ms = map module_of ms
 
-abbrev pub all_loaded : Link → List Loaded
+abbrev pub all_loaded : Link → List LoadedModule
 all_loaded l = l.root ∷ l.others.items
 
 -- the modules of a link, the root's first
@@ -66,15 +66,15 @@ abbrev pub modules_in : Link → List Module
 modules_in l = loaded_modules (all_loaded l)
 
 -- the table is that of one of the modules
-abbrev pub IsCovered : Numbering → List Loaded → Table PathId NameId → Type 0
-IsCovered nb ms t = (m : Loaded) × Contains ms m × IsNumbered nb t (table (module_of m))
+abbrev pub IsCovered : Numbering → List LoadedModule → Table PathId NameId → Type 0
+IsCovered nb ms t = (m : LoadedModule) × Contains ms m × IsNumbered nb t (table (module_of m))
 
 -- the tables are those of the modules, each path once, and the symbols are the reached ones
 pub record IsLinkOf (task : Task Path Text) (l : Link) : Type 0 where
-  pub tabled : (m : Loaded) → Contains (all_loaded l) m → IsTabled (numbering l.numbers) l.linked.tables m
+  pub tabled : (m : LoadedModule) → Contains (all_loaded l) m → IsTabled (numbering l.numbers) l.linked.tables m
   pub covered : (t : Table PathId NameId) → Contains l.linked.tables t → IsCovered (numbering l.numbers) (all_loaded l) t
   pub once : AreDistinct (paths_of (modules_in l))
-  pub asked : (m : Loaded) → Contains (all_loaded l) m → is_relative (path_view m.path) ≡ false
+  pub asked : (m : LoadedModule) → Contains (all_loaded l) m → is_relative (path_view m.path) ≡ false
   pub reached : (s : Symbol PathId NameId) (x : Symbol Path Text) → PathAt (numbering l.numbers) s.path x.path → NameAt (numbering l.numbers) s.name x.name
       → Contains l.linked.symbols s ↔ Reached (tables (modules_in l)) task x
 

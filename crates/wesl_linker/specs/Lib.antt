@@ -1,3 +1,6 @@
+pub mod Given
+pub mod GivenView
+pub mod Recorded
 pub mod Handing
 pub mod Worlds
 pub mod Taking

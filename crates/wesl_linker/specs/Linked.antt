@@ -22,15 +22,15 @@ abbrev pub Denotation : Type 0
 Denotation = DenotationOf Path Text ℕ
 
 -- what the module at `own` asks for leads to the symbol
-abbrev pub Answers : List (Table Path Text) → Path → Symbol Path Text → Symbol Path Text → Type 0
-Answers w own asked s = LeadsTo w (record { asker = Some own; path = asked.path; name = asked.name }) s
+abbrev pub AskedLeadsTo : List (Table Path Text) → Path → Symbol Path Text → Symbol Path Text → Type 0
+AskedLeadsTo w own asked s = LeadsTo w (record { asker = Some own; path = asked.path; name = asked.name }) s
 
 -- What an identifier of the module at `own` stands for: a declared name for its symbol, a name of a block for itself there,
 -- a reference for what one of those that it asks for leads to, and where it asks for nothing, for its name.
 abbrev pub StandsFor : List (Table Path Text) → Path → Use Path Text → Denotation → Type 0
 StandsFor w own (declares n) d = d ≡ symbol own n
 StandsFor w own (in_block b n) d = d ≡ local own b n
-StandsFor w own (refers n asked) (symbol p m) = (a : Symbol Path Text) × Contains asked a × Answers w own a (record { path = p; name = m })
+StandsFor w own (refers n asked) (symbol p m) = (a : Symbol Path Text) × Contains asked a × AskedLeadsTo w own a (record { path = p; name = m })
 StandsFor w own (refers n asked) (free_name m) = (m ≡ n) × (asked ≡ [])
 StandsFor w own (refers n asked) (local p b m) = ⊥
 

@@ -9,7 +9,7 @@ use Rattle.wesl_syntax.specs.Unit.{UnitView, spelled, empty_unit}
 use Rattle.wesl_tree.specs.Translation.{unit_view}
 use Rattle.wesl_tree.specs.declared.unit.TranslationUnit.{TranslationUnit}
 use Rattle.wesl_world.specs.World.{Declares}
-use Rattle.wesl_naming.specs.Recorded.{Write, firsts, writes_of}
+use Rattle.wesl_linker.specs.Recorded.{Write, firsts, writes_of}
 use Rattle.wesl_linker.specs.Worlds.{Module, table, task_of}
 use Rattle.wesl_linker.specs.Linked.{IsAssembled}
 

@@ -8,15 +8,15 @@ use Rattle.wesl_table.specs.Numbering.{Numbering, IsNumbered}
 use Rattle.wesl_table.specs.Tables.{uses}
 use Rattle.wesl_linker.specs.Worlds.{Module, table}
 use Rattle.wesl_linker.specs.Resolved.{module_at}
-use Rattle.wesl_linker.specs.declared.loaded.Loaded.{Loaded}
+use Rattle.wesl_linker.specs.declared.loaded.LoadedModule.{LoadedModule}
 
-abbrev pub module_of : Loaded → Module
+abbrev pub module_of : LoadedModule → Module
 module_of m = module_at m.path m.unit
 
 -- the marks are those of the identifiers in the module's declarations
-abbrev pub IsMarked : Numbering → Loaded → Type 0
+abbrev pub IsMarked : Numbering → LoadedModule → Type 0
 IsMarked nb m = AreMarked nb m.marks.items (uses (module_of m).path (module_of m).unit)
 
 -- the table of the module stands at its place
-abbrev pub IsTabled : Numbering → List (Table PathId NameId) → Loaded → Type 0
+abbrev pub IsTabled : Numbering → List (Table PathId NameId) → LoadedModule → Type 0
 IsTabled nb ts m = (t : Table PathId NameId) × (slice_get ts m.place ≡ Some t) × IsNumbered nb t (table (module_of m)) × IsMarked nb m

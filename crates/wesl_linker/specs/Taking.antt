@@ -10,7 +10,7 @@ use Rattle.wesl_world.specs.contracts.ids.PathIdPartialEq.TheImpl as equality
 use Rattle.wesl_world.specs.Tables.{Table}
 use Rattle.wesl_table.specs.Numbering.{Numbering, PathAt}
 use Rattle.wesl_linker.specs.declared.loaded.Held.{Held}
-use Rattle.wesl_linker.specs.declared.loaded.Loaded.{Loaded}
+use Rattle.wesl_linker.specs.declared.loaded.LoadedModule.{LoadedModule}
 
 abbrev pub path_eq : PathId → PathId → Bool
 path_eq = (equality.ghosts).eq
@@ -25,13 +25,13 @@ AreKept numbering units ts =
     (t : Table PathId NameId) → Contains ts t → ((q : Path) × PathAt numbering t.path q) × ((u : Held) × (unit_at units t.path ≡ Some u))
 
 -- the module's place is that of the table, where one more table stands before these
-abbrev pub IsPlaced : List (Table PathId NameId) → Table PathId NameId → Loaded → Type 0
+abbrev pub IsPlaced : List (Table PathId NameId) → Table PathId NameId → LoadedModule → Type 0
 IsPlaced ts t m = (i : ℕ) × (m.place ≡ suc i) × (slice_get ts i ≡ Some t)
 
 -- the module has the table's path and place, and the unit that is kept for the path
-abbrev pub IsTaken : Numbering → List (PathId × Held) → List (Table PathId NameId) → Table PathId NameId → Loaded → Type 0
+abbrev pub IsTaken : Numbering → List (PathId × Held) → List (Table PathId NameId) → Table PathId NameId → LoadedModule → Type 0
 IsTaken numbering units ts t m = PathAt numbering t.path (path_view m.path) × (unit_at units t.path ≡ Some (record { unit = m.unit; marks = m.marks })) × IsPlaced ts t m
 
 -- none stands before the one in front of it
-abbrev pub AreInOrder : List Loaded → Type 0
+abbrev pub AreInOrder : List LoadedModule → Type 0
 AreInOrder ms = AllAdjacentBelow (λ m n. path_before (path_view n.path) (path_view m.path) ≡ false) ms (length ms)

@@ -12,20 +12,20 @@ ghost use Rattle.wesl_table.specs.NumbersView.{numbering};
 ghost use Rattle.wesl_table.specs.Tables.{reference_to};
 ghost use Rattle.wesl_table.specs.declared.marks.Mark as marked;
 ghost use Rattle.wesl_assembly.specs.Views.{Meaning, denotation_view};
-ghost use Rattle.wesl_naming.specs.GivenView.{given as given_names};
+ghost use Rattle.wesl_linker.specs.GivenView.{given as given_names};
 ghost use Rattle.wesl_linker.specs.Linked as linked;
 ghost use Rattle.wesl_linker.specs.Linked.{IsAssembled};
 ghost use Rattle.wesl_linker.specs.Keeping.{all_loaded, modules_in, name_text, name_under, IsLinkOf, task_in};
 ghost use Rattle.wesl_linker.specs.Holding as holding;
 
-use crate::link::{Link, table_of};
-use crate::loaded::Loaded;
+use crate::given::GivenNames;
+use crate::link::{Link, module_table};
+use crate::loaded::LoadedModule;
 use std::alloc::Global;
 use wesl_assembly::{
     Denotation, Directives, Printing, law_of_meanings, linked_unit, thinned_directives,
 };
 use wesl_names::Error;
-use wesl_naming::GivenNames;
 use wesl_occurrences::law_of_pieces;
 use wesl_syntax::{GlobalDeclaration, GlobalDeclarationNode};
 use wesl_table::marks::Mark;
@@ -164,13 +164,17 @@ fn add_declaration<'a>(
 }
 
 /// The held declarations of a module.
-fn add_module<'a>(link: &'a Link, module: &'a Loaded, parts: &mut Parts<'a>) -> Result<(), Error>
+fn add_module<'a>(
+    link: &'a Link,
+    module: &'a LoadedModule,
+    parts: &mut Parts<'a>,
+) -> Result<(), Error>
     requires sound { IsLinkOf (task_in link.now) link.now }
     requires inside { Contains (all_loaded link.now) module.now }
     ensures added { OnOk result (holding.AddsModule link.now module.now parts.old parts.new) }
     ensures refused { IfErr result (λ e. e ≡ error.Memory) }
 {
-    let table = table_of(link, module);
+    let table = module_table(link, module);
     let rows = table.declarations();
     let nodes = module.unit.global_declarations();
     for (index, declaration) in nodes.iter().enumerate() {

@@ -2,6 +2,7 @@
 #![tactic(auto)]
 
 mod assemble;
+mod given;
 mod laws;
 mod link;
 mod loaded;

@@ -5,7 +5,7 @@ ghost use Rattle.wesl_table.specs.NumbersView.{numbering};
 ghost use Rattle.wesl_linker.specs.Worlds as worlds;
 ghost use Rattle.wesl_linker.specs.Tabled.{IsMarked, IsTabled, module_of};
 
-use crate::loaded::Loaded;
+use crate::loaded::LoadedModule;
 use wesl_table::numbers::Numbers;
 use wesl_world::ids::NameId;
 use wesl_world::link::Linked;
@@ -15,8 +15,8 @@ use wesl_world::table::Table;
 /// and what is reached.
 #[derive(Drop)]
 pub struct Link {
-    pub root: Loaded,
-    pub others: Vec<Loaded>,
+    pub root: LoadedModule,
+    pub others: Vec<LoadedModule>,
     pub kept: Vec<NameId>,
     pub is_eager: bool,
     pub numbers: Numbers,
@@ -24,7 +24,7 @@ pub struct Link {
 }
 
 /// The symbol table of a module.
-pub fn table_of<'a>(link: &'a Link, module: &Loaded) -> &'a Table
+pub fn module_table<'a>(link: &'a Link, module: &LoadedModule) -> &'a Table
     requires tabled { IsTabled (numbering link.now.numbers) link.now.linked.tables module.now }
     ensures loaded { Contains link.now.linked.tables result.now }
     ensures numbered { IsNumbered (numbering link.now.numbers) result.now (worlds.table (module_of module.now)) }

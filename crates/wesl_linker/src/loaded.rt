@@ -31,7 +31,7 @@ pub struct Held {
 /// A module that was loaded: its path, where its symbol table stands, its unit, and of each of its declarations what
 /// the identifiers are.
 #[derive(Drop)]
-pub struct Loaded {
+pub struct LoadedModule {
     pub path: ModulePath,
     pub place: usize,
     pub unit: TranslationUnit,
@@ -56,7 +56,7 @@ pub fn take_modules(
     numbers: &Numbers,
     tables: &[Table],
     units: &mut IndexMap<PathId, Held>,
-) -> Result<Vec<Loaded>, Error>
+) -> Result<Vec<LoadedModule>, Error>
     requires kept { AreKept (numbering numbers.now) units.old.entries tables.now }
     requires once { AreDistinct (paths tables.now) }
     ensures taken { IfOk result (λ ms. AreRelated (IsTaken (numbering numbers.now) units.old.entries tables.now) tables.now ms.items) }
@@ -68,7 +68,7 @@ pub fn take_modules(
         let path = path_of(alloc, numbers, id)?;
         let held = take_unit(units, id);
         let Held { unit, marks } = held;
-        modules.push(Loaded {
+        modules.push(LoadedModule {
             path,
             place: index + 1,
             unit,
@@ -79,7 +79,7 @@ pub fn take_modules(
 }
 
 /// Puts modules in the order of their paths.
-pub fn put_in_order(modules: &mut Vec<Loaded>)
+pub fn put_in_order(modules: &mut Vec<LoadedModule>)
     ensures same { IsPermutation modules.old.items modules.new.items }
     ensures sorted { AreInOrder modules.new.items }
 {

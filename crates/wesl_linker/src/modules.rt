@@ -62,7 +62,7 @@ impl<R> Source<R> for Brand {
 
 /// What was loaded from a resolver, and the numbers of all paths and names in it.
 #[derive(Drop)]
-pub struct Modules<'r, 'n, R: Resolver, S: Source<R>> {
+pub struct ModuleLoader<'r, 'n, R: Resolver, S: Source<R>> {
     pub resolver: &'r mut R,
     pub numbers: &'n mut Numbers,
     pub units: &'n mut IndexMap<PathId, Held>,
@@ -137,7 +137,7 @@ fn unit_of(units: &IndexMap<PathId, Held>, id: PathId) -> Option<&Held>
     }
 }
 
-impl<R: Resolver, S: Source<R>> Modules<'_, '_, R, S> {
+impl<R: Resolver, S: Source<R>> ModuleLoader<'_, '_, R, S> {
     /// Asks the resolver for the module at a path whose unit is not kept, and keeps it.
     fn fetch(
         &mut self,
@@ -172,7 +172,7 @@ impl<R: Resolver, S: Source<R>> Modules<'_, '_, R, S> {
     }
 }
 
-impl<R: Resolver, S: Source<R>> Loader<ResolveError> for Modules<'_, '_, R, S> {
+impl<R: Resolver, S: Source<R>> Loader<ResolveError> for ModuleLoader<'_, '_, R, S> {
     ghost hands = { λ s p t. IsHandedTable S.hands (numbering s.numbers.now) s.units.now.entries p t };
 
     ghost refuses = { λ s p e. IsRefusedPath S.refuses (numbering s.numbers.now) p e };

@@ -4,20 +4,20 @@ ghost use Rattle.wesl_names.specs.declared.errors.Error as error;
 ghost use Rattle.wesl_names.specs.Path.{Text, Path, path_view};
 ghost use Rattle.wesl_tree.specs.Translation.{unit_view};
 ghost use Rattle.wesl_table.specs.NumbersView.{numbering};
-ghost use Rattle.wesl_naming.specs.GivenView.{given as given_names};
+ghost use Rattle.wesl_linker.specs.GivenView.{given as given_names};
 ghost use Rattle.wesl_linker.specs.Resolved.{paths_of, paths_told, first_path, IsNothing, IsMangled, AssemblesTo, declared_names, writes_from, writes};
-ghost use Rattle.wesl_naming.specs.Recorded.{IsRecordedBy, writes_of};
+ghost use Rattle.wesl_linker.specs.Recorded.{IsRecordedBy, writes_of};
 ghost use Rattle.wesl_linker.specs.Keeping.{all_loaded, loaded_modules, modules_in, module_of, IsLinkOf, task_in, IsSound, resolved, modules_of, turns_of};
 ghost use Rattle.wesl_linker.specs.Holding.{IsFoundBy, IsGivenAll, GivesTo, IsFreshAfter, AreOnlyRoot};
-ghost use Rattle.wesl_linker.specs.declared.loaded.Loaded as loaded;
+ghost use Rattle.wesl_linker.specs.declared.loaded.LoadedModule as loaded;
 
 use crate::assemble::assembled;
-use crate::link::{Link, table_of};
-use crate::loaded::Loaded;
+use crate::given::GivenNames;
+use crate::link::{Link, module_table};
+use crate::loaded::LoadedModule;
 use std::alloc::Global;
 use wesl_mangle::Mangler;
 use wesl_names::{Error, ModulePath};
-use wesl_naming::GivenNames;
 use wesl_tree::TranslationUnit;
 
 /// What a link found, and the names that its symbols print as: their own before any mangling.
@@ -36,8 +36,8 @@ impl Drop for Resolutions {
 /// The paths of modules: the root first.
 fn paths<'a>(
     alloc: Global,
-    root: &'a Loaded,
-    others: &'a [Loaded],
+    root: &'a LoadedModule,
+    others: &'a [LoadedModule],
 ) -> Result<Vec<&'a ModulePath>, Error>
     ensures told { IfOk result (λ ps. paths_told ps.items ≡ paths_of (loaded_modules (root.now ∷ others.now))) }
     ensures refused { IfErr result (λ e. e ≡ error.Memory) }
@@ -55,17 +55,17 @@ fn add_names<M: Mangler>(
     alloc: Global,
     link: &Link,
     mangler: &mut M,
-    module: &Loaded,
+    module: &LoadedModule,
     given: &mut GivenNames,
 ) -> Result<(), Error>
     requires sound { IsLinkOf (task_in link.now) link.now }
     requires inside { Contains (all_loaded link.now) module.now }
-    ensures given { OnOk result ((ms : List loaded.Loaded) (name_of : Path → Text → Text) → ((p : Path) (x : Text) → M.name_of mangler.old p x ≡ name_of p x) → IsFreshAfter ms module.now → GivesTo (numbering link.now.numbers) ms name_of (given_names given.old) → GivesTo (numbering link.now.numbers) (ms ++ module.now ∷ []) name_of (given_names given.new)) }
-    ensures recorded { OnOk result ((ms : List loaded.Loaded) (name_of : Path → Text → Text) → ((p : Path) (x : Text) → M.name_of mangler.old p x ≡ name_of p x) → IsFreshAfter ms module.now → GivesTo (numbering link.now.numbers) ms name_of (given_names given.old) → IsRecordedBy M.writes (writes_of name_of (path_view module.now.path) (declared_names (module_of module.now))) (M.recorded mangler.old) (M.recorded mangler.new)) }
+    ensures given { OnOk result ((ms : List loaded.LoadedModule) (name_of : Path → Text → Text) → ((p : Path) (x : Text) → M.name_of mangler.old p x ≡ name_of p x) → IsFreshAfter ms module.now → GivesTo (numbering link.now.numbers) ms name_of (given_names given.old) → GivesTo (numbering link.now.numbers) (ms ++ module.now ∷ []) name_of (given_names given.new)) }
+    ensures recorded { OnOk result ((ms : List loaded.LoadedModule) (name_of : Path → Text → Text) → ((p : Path) (x : Text) → M.name_of mangler.old p x ≡ name_of p x) → IsFreshAfter ms module.now → GivesTo (numbering link.now.numbers) ms name_of (given_names given.old) → IsRecordedBy M.writes (writes_of name_of (path_view module.now.path) (declared_names (module_of module.now))) (M.recorded mangler.old) (M.recorded mangler.new)) }
     ensures same { (p : Path) (x : Text) → M.name_of mangler.new p x ≡ M.name_of mangler.old p x }
     ensures refused { IfErr result (λ e. e ≡ error.Memory) }
 {
-    let table = table_of(link, module);
+    let table = module_table(link, module);
     given.add_table(alloc, mangler, &link.numbers, &module.path, table)
 }
 
@@ -77,8 +77,8 @@ fn add_others<M: Mangler>(
     given: &mut GivenNames,
 ) -> Result<(), Error>
     requires sound { IsLinkOf (task_in link.now) link.now }
-    ensures given { OnOk result ((ms : List loaded.Loaded) → AreOnlyRoot link.now ms → GivesTo (numbering link.now.numbers) ms (M.name_of mangler.old) (given_names given.old) → GivesTo (numbering link.now.numbers) (ms ++ link.now.others.items) (M.name_of mangler.old) (given_names given.new)) }
-    ensures recorded { OnOk result ((ms : List loaded.Loaded) → AreOnlyRoot link.now ms → GivesTo (numbering link.now.numbers) ms (M.name_of mangler.old) (given_names given.old) → IsRecordedBy M.writes (writes_from (M.name_of mangler.old) (loaded_modules link.now.others.items)) (M.recorded mangler.old) (M.recorded mangler.new)) }
+    ensures given { OnOk result ((ms : List loaded.LoadedModule) → AreOnlyRoot link.now ms → GivesTo (numbering link.now.numbers) ms (M.name_of mangler.old) (given_names given.old) → GivesTo (numbering link.now.numbers) (ms ++ link.now.others.items) (M.name_of mangler.old) (given_names given.new)) }
+    ensures recorded { OnOk result ((ms : List loaded.LoadedModule) → AreOnlyRoot link.now ms → GivesTo (numbering link.now.numbers) ms (M.name_of mangler.old) (given_names given.old) → IsRecordedBy M.writes (writes_from (M.name_of mangler.old) (loaded_modules link.now.others.items)) (M.recorded mangler.old) (M.recorded mangler.new)) }
     ensures same { (p : Path) (x : Text) → M.name_of mangler.new p x ≡ M.name_of mangler.old p x }
     ensures refused { IfErr result (λ e. e ≡ error.Memory) }
 {

@@ -23,11 +23,11 @@ ghost use Rattle.wesl_linker.specs.Resolved.{module_at};
 ghost use Rattle.wesl_linker.specs.Keeping.{IsSound, resolved, modules_of, turns_of};
 ghost use Rattle.wesl_linker.specs.Taking.{AreKept, AreInOrder, IsTaken};
 ghost use Rattle.wesl_linker.specs.Worlds as worlds;
-ghost use Rattle.wesl_linker.specs.declared.loaded.Loaded as loaded;
+ghost use Rattle.wesl_linker.specs.declared.loaded.LoadedModule as loaded;
 
 use crate::link::Link;
-use crate::loaded::{Held, Loaded, put_in_order, take_modules};
-use crate::modules::{Modules, Source};
+use crate::loaded::{Held, LoadedModule, put_in_order, take_modules};
+use crate::modules::{ModuleLoader, Source};
 use crate::refusals::error_of;
 use crate::resolutions::Resolutions;
 use indexmap::IndexMap;
@@ -146,14 +146,14 @@ fn link_of(
     requires some { 0 < length linked.tables }
     requires left { AreKept (numbering numbers) units.old.entries (drop 1 linked.tables) }
     requires once { AreDistinct (paths (drop 1 linked.tables)) }
-    ensures found { IfOk result (λ l. (ms : List loaded.Loaded) × AreRelated (IsTaken (numbering numbers) units.old.entries (drop 1 linked.tables)) (drop 1 linked.tables) ms × IsPermutation ms l.others.items × AreInOrder l.others.items) }
+    ensures found { IfOk result (λ l. (ms : List loaded.LoadedModule) × AreRelated (IsTaken (numbering numbers) units.old.entries (drop 1 linked.tables)) (drop 1 linked.tables) ms × IsPermutation ms l.others.items × AreInOrder l.others.items) }
     ensures rest { IfOk result (λ l. l ≡ record { root = record { path = root.path; place = 0; unit = root.unit; marks = root.marks }; others = l.others; kept = root.kept; is_eager = root.is_eager; numbers = numbers; linked = linked }) }
     ensures refused { IfErr result (λ e. e ≡ error.Memory) }
 {
     let mut others = take_modules(alloc, &numbers, &linked.tables()[1..], units)?;
     put_in_order(&mut others);
     Ok(Link {
-        root: Loaded {
+        root: LoadedModule {
             path: root.path,
             place: 0,
             unit: root.unit,
@@ -183,10 +183,10 @@ fn linked_by<E, L: Loader<E>>(
     ensures adds { OnlyAdds (L.hands loader.old) (L.refuses loader.old) (L.ready loader.old) (L.hands loader.new) (L.refuses loader.new) (L.ready loader.new) }
 {
     if is_eager {
-        return wesl_world::link::resolve_eager(alloc, root, loader, max_modules);
+        return wesl_world::link::link_eagerly(alloc, root, loader, max_modules);
     }
     match copied(alloc, kept) {
-        Ok(names) => wesl_world::link::resolve_lazy(alloc, root, names, loader, max_modules),
+        Ok(names) => wesl_world::link::link_lazily(alloc, root, names, loader, max_modules),
         Err(_) => Err(LinkError::Memory),
     }
 }
@@ -194,7 +194,7 @@ fn linked_by<E, L: Loader<E>>(
 /// Links a root with the modules of a resolver, whose relations are held fixed.
 fn reach_modules<R: Resolver, S: Source<R>>(
     alloc: Global,
-    modules: &mut Modules<'_, '_, R, S>,
+    modules: &mut ModuleLoader<'_, '_, R, S>,
     table: Table,
     root: Root,
     max_modules: usize,
@@ -263,7 +263,7 @@ fn reach<R: Resolver>(
 {
     let mut numbers = numbers;
     let mut units = IndexMap::new(alloc);
-    let mut modules = Modules::<'_, '_, R, Brand> {
+    let mut modules = ModuleLoader::<'_, '_, R, Brand> {
         resolver,
         numbers: &mut numbers,
         units: &mut units,

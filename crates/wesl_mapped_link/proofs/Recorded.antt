@@ -5,7 +5,7 @@ use Rattle.wesl_names.specs.declared.errors.Error as error
 use Rattle.wesl_names.specs.declared.errors.ResolveError.{ResolveError}
 use Rattle.wesl_names.specs.declared.errors.ResolveError as resolve_error
 use Rattle.wesl_syntax.specs.Unit.{UnitOf, UnitView}
-use Rattle.wesl_naming.specs.Recorded.{Record, IsRecordedBy}
+use Rattle.wesl_linker.specs.Recorded.{Record, IsRecordedBy}
 use Rattle.wesl_conditional.specs.Linking.{Links, RefusesLink, kept_names}
 use Rattle.wesl_linker.specs.Worlds.{Module}
 use Rattle.wesl_linker.specs.Linked.{IsAssembled}

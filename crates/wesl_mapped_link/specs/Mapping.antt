@@ -1,14 +1,15 @@
 -- A link whose printed names are recorded.
-use Rattle.std.specs.Prelude.{◌≡◌, ℕ, Bool, true, List}
+use Rattle.std.specs.Prelude.{◌≡◌, ℕ, Bool, true, List, Option}
 use Rattle.wesl_names.specs.Path.{Text, Path}
 use Rattle.wesl_names.specs.declared.errors.ResolveError.{ResolveError}
 use Rattle.wesl_syntax.specs.Unit.{UnitOf, UnitView}
 use Rattle.wesl_world.specs.World.{Task}
-use Rattle.wesl_naming.specs.Recorded.{Record, IsRecordedBy}
+use Rattle.wesl_linker.specs.Recorded.{Record, IsRecordedBy}
 use Rattle.wesl_linker.specs.Worlds.{Module}
 use Rattle.wesl_linker.specs.Linked.{IsAssembled}
 use Rattle.wesl_linker.specs.Resolved.{mangled, NamesAgree, writes}
-use Rattle.wesl_conditional.specs.Linking.{Links, kept_names}
+use Rattle.wesl_formula.specs.declared.features.Features.{Features}
+use Rattle.wesl_conditional.specs.Linking.{Links, kept_names, hands_left, refuses_left}
 
 -- the names that are kept of the root, or all that is declared
 abbrev pub task_at : Path → List Text → Bool → Task Path Text
@@ -24,3 +25,8 @@ MapsLink hands refuses name_of root keep is_eager mangle_root limit before after
     × NamesAgree w names (mangled root mangle_root name_of)
     × IsAssembled w (task_at root keep is_eager) names unit
     × IsRecordedBy true (writes name_of mangle_root w) before after
+
+-- the same of the units as the features leave them
+abbrev pub MapsLinkLeft : (Path → UnitOf Text → Type 0) → (Path → ResolveError → Type 0) → Option Features → (Path → Text → Text) → Path → List Text → Bool → Bool → ℕ → Record → Record → UnitView → Type 0
+MapsLinkLeft hands refuses features name_of root keep is_eager mangle_root limit before after unit =
+    MapsLink (hands_left hands refuses features) (refuses_left hands refuses features) name_of root keep is_eager mangle_root limit before after unit

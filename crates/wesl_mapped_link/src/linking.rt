@@ -7,13 +7,13 @@ ghost use Rattle.wesl_names.specs.Path.{Text, Path, path_view, is_relative};
 ghost use Rattle.wesl_tree.specs.Translation.{unit_view};
 ghost use Rattle.wesl_tree.specs.declared.unit.TranslationUnit.{TranslationUnit};
 ghost use Rattle.wesl_conditional.specs.Conditions.{IsConditioned};
-ghost use Rattle.wesl_conditional.specs.Linking.{Links, RefusesLink, kept_names, hands_left, refuses_left};
+ghost use Rattle.wesl_conditional.specs.Linking.{Links, RefusesLink, RefusesLinkLeft, kept_names};
 ghost use Rattle.wesl_link.specs.Keeping.{IsSound, resolved, modules_of, turns_of};
 ghost use Rattle.wesl_linker.specs.Resolved.{Resolved, IsMangled, AssemblesTo, writes};
-ghost use Rattle.wesl_naming.specs.Recorded.{IsRecordedBy};
+ghost use Rattle.wesl_linker.specs.Recorded.{IsRecordedBy};
 ghost use Rattle.wesl_source_map.specs.Records.{SameItems};
 ghost use Rattle.wesl_source_map.specs.BasicView.{items};
-ghost use Rattle.wesl_mapped_link.specs.Mapping.{MapsLink};
+ghost use Rattle.wesl_mapped_link.specs.Mapping.{MapsLink, MapsLinkLeft};
 
 use std::alloc::Global;
 use std::marker::{Brand, PhantomData};
@@ -55,8 +55,8 @@ pub fn link_mapped<R: Resolver + Drop, M: Mangler + Drop>(
 ) -> Result<Mapped, Error>
     requires ready { R.ready mapper.resolver }
     requires asked { is_relative (path_view mapper.root) ≡ false }
-    ensures mapped { IfOk result (λ made. MapsLink (hands_left (λ p u. R.hands mapper.resolver p u) (λ p e. R.refuses mapper.resolver p e) features.now) (refuses_left (λ p u. R.hands mapper.resolver p u) (λ p e. R.refuses mapper.resolver p e) features.now) (M.name_of mapper.mangler) (path_view mapper.root) (texts keep.now) is_eager mangle_root max_modules (items mapper.sourcemap) (items made.map) (unit_view made.unit)) }
-    ensures refused { IfErr result (RefusesLink (hands_left (λ p u. R.hands mapper.resolver p u) (λ p e. R.refuses mapper.resolver p e) features.now) (refuses_left (λ p u. R.hands mapper.resolver p u) (λ p e. R.refuses mapper.resolver p e) features.now) (path_view mapper.root) (texts keep.now) is_eager max_modules) }
+    ensures mapped { IfOk result (λ made. MapsLinkLeft (R.hands mapper.resolver) (R.refuses mapper.resolver) features.now (M.name_of mapper.mangler) (path_view mapper.root) (texts keep.now) is_eager mangle_root max_modules (items mapper.sourcemap) (items made.map) (unit_view made.unit)) }
+    ensures refused { IfErr result (RefusesLinkLeft (R.hands mapper.resolver) (R.refuses mapper.resolver) features.now (path_view mapper.root) (texts keep.now) is_eager max_modules) }
 {
     let judge = |unit: TranslationUnit|
         ensures { IsConditioned features.entry.now unit result }
@@ -92,8 +92,8 @@ fn link_judged<
     requires asked { is_relative (path_view mapper.root) ≡ false }
     requires callable { F.IsAlwaysCallable judge }
     requires judges { (given : TranslationUnit) (answer : Result TranslationUnit error.Error) → F.post judge given answer ↔ IsConditioned features.now given answer }
-    ensures mapped { IfOk result (λ made. MapsLink (hands_left (λ p u. R.hands mapper.resolver p u) (λ p e. R.refuses mapper.resolver p e) features.now) (refuses_left (λ p u. R.hands mapper.resolver p u) (λ p e. R.refuses mapper.resolver p e) features.now) (M.name_of mapper.mangler) (path_view mapper.root) (texts keep.now) is_eager mangle_root max_modules (items mapper.sourcemap) (items made.map) (unit_view made.unit)) }
-    ensures refused { IfErr result (RefusesLink (hands_left (λ p u. R.hands mapper.resolver p u) (λ p e. R.refuses mapper.resolver p e) features.now) (refuses_left (λ p u. R.hands mapper.resolver p u) (λ p e. R.refuses mapper.resolver p e) features.now) (path_view mapper.root) (texts keep.now) is_eager max_modules) }
+    ensures mapped { IfOk result (λ made. MapsLinkLeft (R.hands mapper.resolver) (R.refuses mapper.resolver) features.now (M.name_of mapper.mangler) (path_view mapper.root) (texts keep.now) is_eager mangle_root max_modules (items mapper.sourcemap) (items made.map) (unit_view made.unit)) }
+    ensures refused { IfErr result (RefusesLinkLeft (R.hands mapper.resolver) (R.refuses mapper.resolver) features.now (path_view mapper.root) (texts keep.now) is_eager max_modules) }
 {
     let SourceMapper {
         root,
@@ -122,8 +122,8 @@ fn link_through<R: Resolver + Drop, M: Mangler + Drop>(
 ) -> Result<Mapped, Error>
     requires ready { R.ready mapper.resolver }
     requires asked { is_relative (path_view mapper.root) ≡ false }
-    ensures mapped { IfOk result (λ made. MapsLink (λ p u. R.hands mapper.resolver p u) (λ p e. R.refuses mapper.resolver p e) (M.name_of mapper.mangler) (path_view mapper.root) (texts keep.now) is_eager mangle_root max_modules (items mapper.sourcemap) (items made.map) (unit_view made.unit)) }
-    ensures refused { IfErr result (RefusesLink (λ p u. R.hands mapper.resolver p u) (λ p e. R.refuses mapper.resolver p e) (path_view mapper.root) (texts keep.now) is_eager max_modules) }
+    ensures mapped { IfOk result (λ made. MapsLink (R.hands mapper.resolver) (R.refuses mapper.resolver) (M.name_of mapper.mangler) (path_view mapper.root) (texts keep.now) is_eager mangle_root max_modules (items mapper.sourcemap) (items made.map) (unit_view made.unit)) }
+    ensures refused { IfErr result (RefusesLink (R.hands mapper.resolver) (R.refuses mapper.resolver) (path_view mapper.root) (texts keep.now) is_eager max_modules) }
 {
     let path = mapper.root.try_clone(alloc)?;
     match found::<R, M, Brand>(alloc, keep, is_eager, &path, mapper, max_modules) {
@@ -151,13 +151,13 @@ fn found<R: Resolver + Drop, M: Mangler + Drop, S: Start>(
     requires asked { is_relative (path_view path.now) ≡ false }
     requires start { SameItems S.items (items mapper.sourcemap) }
     requires names { (p : Path) (i : Text) → M.name_of mapper.mangler p i ≡ S.name_of p i }
-    ensures linked { IfOk result (λ f. Links (λ p u. R.hands mapper.resolver p u) (λ p e. R.refuses mapper.resolver p e) (path_view path.now) (texts keep.now) is_eager max_modules (turns_of f.resolutions) (modules_of f.resolutions)) }
+    ensures linked { IfOk result (λ f. Links (R.hands mapper.resolver) (R.refuses mapper.resolver) (path_view path.now) (texts keep.now) is_eager max_modules (turns_of f.resolutions) (modules_of f.resolutions)) }
     ensures kept { IfOk result (λ f. (resolved f.resolutions).kept ≡ kept_names is_eager (texts keep.now)) }
     ensures eager { IfOk result (λ f. (resolved f.resolutions).is_eager ≡ is_eager) }
     ensures sound { IfOk result (λ f. IsSound f.resolutions) }
     ensures start { IfOk result (λ f. SameItems S.items (items f.mapper.sourcemap)) }
     ensures names { IfOk result (λ f. (p : Path) (i : Text) → M.name_of f.mapper.mangler p i ≡ S.name_of p i) }
-    ensures refused { IfErr result (RefusesLink (λ p u. R.hands mapper.resolver p u) (λ p e. R.refuses mapper.resolver p e) (path_view path.now) (texts keep.now) is_eager max_modules) }
+    ensures refused { IfErr result (RefusesLink (R.hands mapper.resolver) (R.refuses mapper.resolver) (path_view path.now) (texts keep.now) is_eager max_modules) }
 {
     let mut asked = Asked::<R, M, S> {
         mapper,

@@ -1,5 +1,6 @@
 //! Identifiers as they stand in a module.
 ghost use Rattle.std.specs.Prelude.{◌≡◌};
+ghost use Rattle.wesl_occurrences.specs.Occurrences.{is_module_name, is_binder, is_reference, is_unqualified};
 ghost use Rattle.wesl_occurrences.specs.Walk.{ended_as};
 ghost use Rattle.wesl_occurrences.specs.Views.{standing_view};
 
@@ -24,6 +25,49 @@ pub enum Standing<'a> {
 }
 
 impl<'a> Standing<'a> {
+    /// Whether it is the name of an import or of a global declaration.
+    pub fn is_module_name(&self) -> bool
+        ensures { result ≡ is_module_name (standing_view self.now) }
+    {
+        match self {
+            Standing::ModuleName => true,
+            _ => false,
+        }
+    }
+
+    /// Whether what stands so declares its name.
+    pub fn is_binder(&self) -> bool
+        ensures { result ≡ is_binder (standing_view self.now) }
+    {
+        match self {
+            Standing::ModuleName => true,
+            Standing::Parameter => true,
+            Standing::Local { end: _ } => true,
+            Standing::Reference(_) => false,
+            Standing::Word => false,
+        }
+    }
+
+    /// Whether it is a reference.
+    pub fn is_reference(&self) -> bool
+        ensures { result ≡ is_reference (standing_view self.now) }
+    {
+        match self {
+            Standing::Reference(_) => true,
+            _ => false,
+        }
+    }
+
+    /// Whether it is a reference without a path.
+    pub fn is_unqualified(&self) -> bool
+        ensures { result ≡ is_unqualified (standing_view self.now) }
+    {
+        match self {
+            Standing::Reference(None) => true,
+            _ => false,
+        }
+    }
+
     /// The same, where the declaration has ended if it is of a local name.
     pub(crate) fn ended(self, end: usize) -> Standing<'a>
         ensures { standing_view result ≡ ended_as end (standing_view self.entry) }

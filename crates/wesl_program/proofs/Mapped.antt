@@ -5,7 +5,7 @@ use Rattle.wesl_names.specs.declared.errors.Error as error
 use Rattle.wesl_names.specs.declared.errors.ResolveError.{ResolveError}
 use Rattle.wesl_syntax.specs.Unit.{UnitOf, UnitView}
 use Rattle.wesl_formula.specs.declared.features.Features.{Features}
-use Rattle.wesl_naming.specs.Recorded.{Record}
+use Rattle.wesl_linker.specs.Recorded.{Record}
 use Rattle.wesl_bundle.specs.Bundle.{Bundle}
 use Rattle.wesl_linker.specs.Worlds.{Module}
 use Rattle.wesl_source_map.specs.Records.{SameItems}

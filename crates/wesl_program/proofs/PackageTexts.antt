@@ -1,12 +1,12 @@
 -- Packages as texts, one more at a time.
 use Rattle.std.proofs.Common.{◌≡◌, List, [], ◌∷◌, ◌++◌}
 use Rattle.wesl_bundle.specs.Packages as said
-use Rattle.wesl_bundle.specs.PackageViews.{modules_of, packages_of}
+use Rattle.wesl_bundle.specs.PackageViews.{package_modules, packages_of}
 use Rattle.wesl_resolve.specs.declared.packages.CodegenModule.{CodegenModule}
 use Rattle.wesl_resolve.specs.declared.packages.CodegenPkg.{CodegenPkg}
 use Rattle.wesl_program.specs.PackageTexts.{AreModulesOf, IsModuleOf, ArePackagesOf, IsPackageOf}
 
-pub modules-more : (xs : List said.PackageModule) (ms : List CodegenModule) (x : said.PackageModule) (m : CodegenModule) → AreModulesOf (modules_of xs) ms → IsModuleOf x m → AreModulesOf (modules_of (xs ++ x ∷ [])) (ms ++ m ∷ [])
+pub modules-more : (xs : List said.PackageModule) (ms : List CodegenModule) (x : said.PackageModule) (m : CodegenModule) → AreModulesOf (package_modules xs) ms → IsModuleOf x m → AreModulesOf (package_modules (xs ++ x ∷ [])) (ms ++ m ∷ [])
 modules-more [] [] x m h k = (k, tt)
 modules-more [] (n ∷ ms) x m h k = absurd h
 modules-more (y ∷ xs) [] x m h k = absurd h

@@ -12,7 +12,7 @@ use Rattle.wesl_names.specs.declared.path.ModulePath.{ModulePath}
 use Rattle.wesl_names.proofs.Order.{path_eq-view, same_path-decides}
 use Rattle.wesl_program.specs.Bundle.{Module, later, unit_at}
 use Rattle.wesl_program.specs.Holds.{Holds, values_of, value_at}
-use Rattle.wesl_program.specs.declared.modules.Modules.{Modules}
+use Rattle.wesl_program.specs.declared.modules.BundleUnits.{BundleUnits}
 
 abbrev Entry : Type 0
 Entry = ModulePath × Bor Value
@@ -93,7 +93,7 @@ over : (b : Bool) (d : Data) (o : Option Data) → (if b then Some d else o) ≡
 over true d o = refl
 over false d o = refl
 
-pub Holds-added : (ms : List Module) (old new : Modules) (k : ModulePath) (v : Bor Value) → new.units.entries ≡ insert_entry path_eq old.units.entries k v → Holds ms old → Holds (ms ++ (record { path = path_view k; unit = view v.now }) ∷ []) new
+pub Holds-added : (ms : List Module) (old new : BundleUnits) (k : ModulePath) (v : Bor Value) → new.units.entries ≡ insert_entry path_eq old.units.entries k v → Holds ms old → Holds (ms ++ (record { path = path_view k; unit = view v.now }) ∷ []) new
 Holds-added ms old new k v grown holds = λ q.
     ap (λ es. value_at q (values_of es)) grown
     ∙ value_at-insert q old.units.entries k v

@@ -8,7 +8,7 @@ use Rattle.wesl_names.specs.Errors.{IsModuleNotFound, IsRefusedWith}
 use Rattle.wesl_names.specs.declared.errors.ResolveError.{ResolveError}
 use Rattle.wesl_json.specs.UnitTexts.{IsSpelled, IsTreeFault}
 use Rattle.wesl_program.specs.Holds.{values_of, value_at}
-use Rattle.wesl_program.specs.declared.modules.Modules.{Modules}
+use Rattle.wesl_program.specs.declared.modules.BundleUnits.{BundleUnits}
 
 abbrev pub virtual_module : Text
 virtual_module = codes "virtual module"
@@ -34,5 +34,5 @@ IsSourceAt None text = ⊥
 IsSourceAt (Some d) text = has_float d ≡ false → text ≡ compact_text d
 
 -- the unit at a path in a map
-abbrev pub unit_in : Modules → Path → Option Data
+abbrev pub unit_in : BundleUnits → Path → Option Data
 unit_in m p = value_at p (values_of m.units.entries)

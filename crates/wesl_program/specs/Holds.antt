@@ -8,7 +8,7 @@ use Rattle.wesl_names.specs.Path.{Path, path_view}
 use Rattle.wesl_names.specs.PathOrder.{same_path}
 use Rattle.wesl_names.specs.declared.path.ModulePath.{ModulePath}
 use Rattle.wesl_program.specs.Bundle.{Module, unit_at}
-use Rattle.wesl_program.specs.declared.modules.Modules.{Modules}
+use Rattle.wesl_program.specs.declared.modules.BundleUnits.{BundleUnits}
 
 -- what the entries of a map say
 abbrev pub values_of : List (ModulePath × Bor Value) → List (Path × Data)
@@ -20,5 +20,5 @@ value_at p [] = None
 value_at p (e ∷ es) = if same_path p e.0 then Some e.1 else value_at p es
 
 -- at each path the unit of the last module there
-abbrev pub Holds : List Module → Modules → Type 0
+abbrev pub Holds : List Module → BundleUnits → Type 0
 Holds ms m = (p : Path) → value_at p (values_of m.units.entries) ≡ unit_at p ms

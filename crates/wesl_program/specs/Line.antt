@@ -14,7 +14,7 @@ use Rattle.wesl_names.specs.declared.errors.Error as error
 use Rattle.wesl_program.specs.Fault.{Fault, fault, fault_of}
 use Rattle.wesl_source_map.specs.Records.{Item}
 use Rattle.wesl_source_map.specs.Listed.{IsListing}
-use Rattle.wesl_naming.specs.Recorded.{Record}
+use Rattle.wesl_linker.specs.Recorded.{Record}
 use Rattle.wesl_linker.specs.Worlds.{Module}
 use Rattle.wesl_program.specs.Linking.{LinksTo, recorded_for}
 use Rattle.wesl_program.specs.Validity.{IsValidUnder, RefusesBundle}
@@ -61,22 +61,22 @@ abbrev pub TellsOfLink : Bundle → Fault → Type 0
 TellsOfLink b f = (e : error.Error) × RefusesBundle b e × (f ≡ fault_of e)
 
 -- which fault the bytes may be refused with, want of memory aside
-abbrev pub StandsFor : List ℕ → Fault → Type 0
-StandsFor bytes f =
+abbrev pub MayRefuse : List ℕ → Fault → Type 0
+MayRefuse bytes f =
     ((f ≡ not_json) × IsNotJson bytes)
     ⊎ ((d : Data) × (place : Text) × IsJsonOf bytes d × (f ≡ bad_bundle place) × IsBrokenBundle d place)
     ⊎ ((d : Data) × (b : Bundle) × IsJsonOf bytes d × (bundle_of d ≡ Some b) × IsOfModules f × TellsOfLink b f)
 
 -- the error is want of memory, or one that the bytes may be refused with
 abbrev pub IsRefusal : List ℕ → error.Error → Type 0
-IsRefusal bytes e = (fault_of e ≡ memory) ⊎ StandsFor bytes (fault_of e)
+IsRefusal bytes e = (fault_of e ≡ memory) ⊎ MayRefuse bytes (fault_of e)
 
 -- the line of the fault, or the one for want of memory
 abbrev pub Tells : Fault → Text → Type 0
 Tells f line = (line ≡ fault_line memory) ⊎ (line ≡ fault_line f)
 
 abbrev pub IsFaultLine : List ℕ → Text → Type 0
-IsFaultLine bytes line = (line ≡ fault_line memory) ⊎ ((f : Fault) × StandsFor bytes f × (line ≡ fault_line f))
+IsFaultLine bytes line = (line ≡ fault_line memory) ⊎ ((f : Fault) × MayRefuse bytes f × (line ≡ fault_line f))
 
 -- ---- answers
 

@@ -1,7 +1,7 @@
 -- The packages of a bundle, their modules as texts.
 use Rattle.std.specs.Prelude.{◌≡◌, List, [], ◌∷◌}
 use Rattle.wesl_bundle.specs.Packages as said
-use Rattle.wesl_json_text.specs.Texts.{IsTextOf}
+use Rattle.wesl_json.specs.Texts.{IsTextOf}
 use Rattle.wesl_resolve.specs.Packages.{module_name, source_of}
 use Rattle.wesl_resolve.specs.declared.packages.CodegenModule.{CodegenModule, out-CodegenModule}
 use Rattle.wesl_resolve.specs.declared.packages.CodegenPkg.{CodegenPkg, out-CodegenPkg}

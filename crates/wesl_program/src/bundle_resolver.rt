@@ -9,7 +9,7 @@ ghost use Rattle.wesl_tree.specs.Translation.{unit_view};
 ghost use Rattle.wesl_json.specs.UnitTexts.{IsSpelled, IsTreeFault};
 ghost use Rattle.wesl_program.specs.Hands.{IsHandedAt, IsMissingAt, IsRefusedAt, IsSourceAt, unit_in, virtual_module};
 
-use crate::modules::Modules;
+use crate::modules::BundleUnits;
 use serde_json::Value;
 use std::alloc::Global;
 use wesl_json::unit_of_value;
@@ -19,7 +19,7 @@ use wesl_tree::{Diagnostic, Error, ModulePath, ResolveError, TranslationUnit};
 /// The modules of a bundle, each read when it is asked for.
 #[derive(Drop)]
 pub(crate) struct BundleResolver<'b, 'v> {
-    pub(crate) modules: &'b Modules<'v>,
+    pub(crate) modules: &'b BundleUnits<'v>,
 }
 
 impl Resolver for BundleResolver<'_, '_> {
@@ -61,7 +61,7 @@ impl Resolver for BundleResolver<'_, '_> {
 /// The text of the module at a path, which is compact JSON.
 fn source_of_module(
     alloc: Global,
-    modules: &Modules,
+    modules: &BundleUnits,
     path: &ModulePath,
 ) -> Result<String, ResolveError>
     ensures given { IfOk result (λ s. IsSourceAt (unit_in modules.now (path_view path.now)) (string_bytes s)) }
@@ -76,7 +76,7 @@ fn source_of_module(
 /// The unit of the module at a path.
 fn unit_of_module(
     alloc: Global,
-    modules: &Modules,
+    modules: &BundleUnits,
     path: &ModulePath,
 ) -> Result<TranslationUnit, ResolveError>
     ensures handed { IfOk result (λ u. IsHandedAt (unit_in modules.now (path_view path.now)) (spelled (unit_view u))) }

@@ -12,8 +12,8 @@ ghost use Rattle.wesl_bundle.specs.Views.{bundle_view, module_view};
 ghost use Rattle.wesl_linker.specs.Worlds.{Module};
 ghost use Rattle.wesl_source_map.specs.Records.{SameItems};
 ghost use Rattle.wesl_source_map.specs.BasicView.{items};
-ghost use Rattle.wesl_conditional.specs.Linking.{RefusesLink, hands_left, refuses_left};
-ghost use Rattle.wesl_mapped_link.specs.Mapping.{MapsLink};
+ghost use Rattle.wesl_conditional.specs.Linking.{RefusesLinkLeft};
+ghost use Rattle.wesl_mapped_link.specs.Mapping.{MapsLinkLeft};
 ghost use Rattle.wesl_program.specs.Line.{IsAnswerOf};
 ghost use Rattle.wesl_program.specs.Linking.{LinksTo, recorded_for};
 ghost use Rattle.wesl_program.specs.Naming.{named_by};
@@ -24,7 +24,7 @@ ghost use Rattle.wesl_program.specs.Refused.{IsLinkFault};
 use crate::answer::Answer;
 use crate::bundle_resolver::BundleResolver;
 use crate::map_value::map_value;
-use crate::modules::Modules;
+use crate::modules::BundleUnits;
 use crate::naming::BundleMangler;
 use crate::packages::package_of;
 use crate::stored_text::StoredText;
@@ -98,8 +98,8 @@ fn link_recorded<R: Resolver + Drop>(
 ) -> Result<Mapped, Error>
     requires ready { R.ready resolver }
     requires asked { is_relative (path_view root) ≡ false }
-    ensures mapped { IfOk result (λ made. MapsLink (hands_left (λ p u. R.hands resolver p u) (λ p e. R.refuses resolver p e) features.now) (refuses_left (λ p u. R.hands resolver p u) (λ p e. R.refuses resolver p e) features.now) (named_by options.mangler) (path_view root) (texts keep.now) options.eager options.mangle_root options.max_modules (λ name. None) (items made.map) (unit_view made.unit)) }
-    ensures refused { IfErr result (RefusesLink (hands_left (λ p u. R.hands resolver p u) (λ p e. R.refuses resolver p e) features.now) (refuses_left (λ p u. R.hands resolver p u) (λ p e. R.refuses resolver p e) features.now) (path_view root) (texts keep.now) options.eager options.max_modules) }
+    ensures mapped { IfOk result (λ made. MapsLinkLeft (R.hands resolver) (R.refuses resolver) features.now (named_by options.mangler) (path_view root) (texts keep.now) options.eager options.mangle_root options.max_modules (λ name. None) (items made.map) (unit_view made.unit)) }
+    ensures refused { IfErr result (RefusesLinkLeft (R.hands resolver) (R.refuses resolver) features.now (path_view root) (texts keep.now) options.eager options.max_modules) }
 {
     let naming = BundleMangler {
         naming: options.mangler,
@@ -116,11 +116,11 @@ fn link_recorded<R: Resolver + Drop>(
 }
 
 // The units of the modules, by their paths.
-fn modules_of<'v>(alloc: Global, listed: Vec<BundleModule<'v>>) -> Result<Modules<'v>, Error>
+fn modules_of<'v>(alloc: Global, listed: Vec<BundleModule<'v>>) -> Result<BundleUnits<'v>, Error>
     ensures held { IfOk result (λ m. Holds (map module_view listed.entry.items) m) }
     ensures refused { IfErr result (λ e. e ≡ error.Memory) }
 {
-    let mut modules = Modules::new(alloc);
+    let mut modules = BundleUnits::new(alloc);
     for module in listed {
         modules.add(module.path, module.unit)?;
     }
@@ -131,7 +131,7 @@ fn modules_of<'v>(alloc: Global, listed: Vec<BundleModule<'v>>) -> Result<Module
 // first counts.
 fn sources_of<'b, 'v>(
     alloc: Global,
-    modules: &'b Modules<'v>,
+    modules: &'b BundleUnits<'v>,
     packages: Vec<Package<'v>>,
 ) -> Result<Sources<'b, 'v>, Error>
     ensures local { IfOk result (λ s. s.local.modules.now ≡ modules.now) }

@@ -14,18 +14,18 @@ use wesl_tree::ModulePath;
 
 /// The value of the unit at each path, of a path that stands twice the later. No unit is read yet.
 #[derive(Drop)]
-pub(crate) struct Modules<'v> {
+pub(crate) struct BundleUnits<'v> {
     units: IndexMap<ModulePath, &'v Value>,
 }
 
-impl<'v> Modules<'v> {
+impl<'v> BundleUnits<'v> {
     ghost use Rattle.wesl_program.specs.Holds.{Holds};
 
     /// No modules. It takes no memory.
-    pub(crate) fn new(alloc: Global) -> Modules<'v>
+    pub(crate) fn new(alloc: Global) -> BundleUnits<'v>
         ensures { Holds [] result }
     {
-        Modules {
+        BundleUnits {
             units: IndexMap::new(alloc),
         }
     }

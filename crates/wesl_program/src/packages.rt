@@ -6,7 +6,7 @@ ghost use Rattle.wesl_program.specs.PackageTexts.{AreModulesOf, ArePackagesOf, I
 
 use std::alloc::Global;
 use wesl_bundle::{Package, PackageModule};
-use wesl_json_text::text_of_value;
+use wesl_json::text_of_value;
 use wesl_resolve::{CodegenModule, CodegenPkg};
 use wesl_tree::Error;
 

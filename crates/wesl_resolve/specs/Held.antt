@@ -10,8 +10,8 @@ use Rattle.wesl_resolve.specs.declared.standard.StandardResolver.{StandardResolv
 use Rattle.wesl_resolve.specs.declared.virtual_resolver.VirtualResolver.{VirtualResolver}
 
 -- the modules, in the order in which their paths were first added, and what reads their texts
-abbrev pub modules_of : {P : Type 0} → VirtualResolver P → List (Path × Text)
-modules_of s = texts_of s.modules.entries
+abbrev pub held_sources : {P : Type 0} → VirtualResolver P → List (Path × Text)
+held_sources s = texts_of s.modules.entries
 
 abbrev pub reader_of : {P : Type 0} → VirtualResolver P → P
 reader_of s = s.text

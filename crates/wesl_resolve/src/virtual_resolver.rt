@@ -41,12 +41,12 @@ pub struct VirtualResolver<P> {
 }
 
 impl<P> VirtualResolver<P> {
-    ghost use Rattle.wesl_resolve.specs.Held.{modules_of, reader_of};
+    ghost use Rattle.wesl_resolve.specs.Held.{held_sources, reader_of};
 
     /// A resolver without modules, which will read texts by `text`. It takes no memory.
     pub fn new(alloc: Global, text: P) -> VirtualResolver<P>
         ensures text { reader_of result ≡ text }
-        ensures modules { modules_of result ≡ [] }
+        ensures modules { held_sources result ≡ [] }
     {
         VirtualResolver {
             text,
@@ -58,9 +58,9 @@ impl<P> VirtualResolver<P> {
     /// takes the new text. Refused for want of memory alone, which leaves the modules as they were.
     pub fn add_module(&mut self, path: ModulePath, source: String) -> Result<(), Error>
         requires { is_relative (path_view path) ≡ false }
-        ensures added { OnOk result (modules_of self.new ≡ put (path_view path) (string_bytes source) (modules_of self.old)) }
-        ensures last { OnOk result (IsLast (path_view path) (string_bytes source) (modules_of self.old) (modules_of self.new)) }
-        ensures kept { OnErr result (modules_of self.new ≡ modules_of self.old) }
+        ensures added { OnOk result (held_sources self.new ≡ put (path_view path) (string_bytes source) (held_sources self.old)) }
+        ensures last { OnOk result (IsLast (path_view path) (string_bytes source) (held_sources self.old) (held_sources self.new)) }
+        ensures kept { OnErr result (held_sources self.new ≡ held_sources self.old) }
         ensures text { reader_of self.new ≡ reader_of self.old }
         ensures refused { IfErr result (λ e. e ≡ error.Memory) }
     {
@@ -69,8 +69,8 @@ impl<P> VirtualResolver<P> {
 
     /// The text of the module at a path. Refused where there is none, and for want of memory.
     pub fn get_module(&self, alloc: Global, path: &ModulePath) -> Result<&str, ResolveError>
-        ensures found { IfOk result (λ text. text_at (path_view path.now) (modules_of self.now) ≡ Some text.now) }
-        ensures missing { IfErr result (OrMemory (IsMissing (modules_of self.now) (path_view path.now))) }
+        ensures found { IfOk result (λ text. text_at (path_view path.now) (held_sources self.now) ≡ Some text.now) }
+        ensures missing { IfErr result (OrMemory (IsMissing (held_sources self.now) (path_view path.now))) }
     {
         match self.modules.get(path) {
             Some(source) => Ok(source.as_str()),
@@ -81,7 +81,7 @@ impl<P> VirtualResolver<P> {
     /// The paths and the texts of the modules, in the order in which the paths were first added. Refused for want
     /// of memory alone.
     pub fn modules(&self, alloc: Global) -> Result<Vec<(&ModulePath, &str)>, Error>
-        ensures listed { IfOk result (λ ms. map (λ m. (path_view m.0.now, m.1.now)) ms.items ≡ modules_of self.now) }
+        ensures listed { IfOk result (λ ms. map (λ m. (path_view m.0.now, m.1.now)) ms.items ≡ held_sources self.now) }
         ensures refused { IfErr result (λ e. e ≡ error.Memory) }
     {
         let mut modules = Vec::new(alloc);
@@ -93,7 +93,7 @@ impl<P> VirtualResolver<P> {
 }
 
 impl<P: UnitText> VirtualResolver<P> {
-    ghost use Rattle.wesl_resolve.specs.Held.{modules_of, reader_of};
+    ghost use Rattle.wesl_resolve.specs.Held.{held_sources, reader_of};
 
     /// Adds a unit as the module at a path, which is not relative: the text that is printed of it. Refused for
     /// want of memory alone, which leaves the modules as they were.
@@ -105,9 +105,9 @@ impl<P: UnitText> VirtualResolver<P> {
     ) -> Result<(), Error>
         requires { is_relative (path_view path) ≡ false }
         ensures added { OnOk result ((text : Text) × P.prints (reader_of self.old) (spelled (unit_view unit)) text
-            × (modules_of self.new ≡ put (path_view path) text (modules_of self.old))
-            × IsLast (path_view path) text (modules_of self.old) (modules_of self.new)) }
-        ensures kept { OnErr result (modules_of self.new ≡ modules_of self.old) }
+            × (held_sources self.new ≡ put (path_view path) text (held_sources self.old))
+            × IsLast (path_view path) text (held_sources self.old) (held_sources self.new)) }
+        ensures kept { OnErr result (held_sources self.new ≡ held_sources self.old) }
         ensures text { reader_of self.new ≡ reader_of self.old }
         ensures refused { IfErr result (λ e. e ≡ error.Memory) }
     {
@@ -120,8 +120,8 @@ impl<P: UnitText> VirtualResolver<P> {
 
     /// The unit of the module at a path.
     fn read_at(&self, alloc: Global, path: &ModulePath) -> Result<TranslationUnit, ResolveError>
-        ensures read { IfOk result (λ u. IsReadAt (P.reads (reader_of self.now)) (modules_of self.now) (path_view path.now) (spelled (unit_view u))) }
-        ensures refused { IfErr result (OrMemory (IsRefusedAt (P.unreadable (reader_of self.now)) (modules_of self.now) (path_view path.now))) }
+        ensures read { IfOk result (λ u. IsReadAt (P.reads (reader_of self.now)) (held_sources self.now) (path_view path.now) (spelled (unit_view u))) }
+        ensures refused { IfErr result (OrMemory (IsRefusedAt (P.unreadable (reader_of self.now)) (held_sources self.now) (path_view path.now))) }
     {
         let source = self.get_module(alloc, path)?;
         read_module(&self.text, alloc, path, source)
@@ -130,24 +130,24 @@ impl<P: UnitText> VirtualResolver<P> {
 
 impl<P: UnitText> Resolver for VirtualResolver<P> {
     ghost use Rattle.wesl_resolve.specs.Texts.{text_at, IsMissing, IsReadAt, IsRefusedAt};
-    ghost use Rattle.wesl_resolve.specs.Held.{modules_of, reader_of};
+    ghost use Rattle.wesl_resolve.specs.Held.{held_sources, reader_of};
 
     ghost ready = { λ _. Unit {0} };
 
-    ghost hands = { λ s p u. IsReadAt (P.reads (reader_of s)) (modules_of s) p u };
+    ghost hands = { λ s p u. IsReadAt (P.reads (reader_of s)) (held_sources s) p u };
 
-    ghost refuses = { λ s p e. IsRefusedAt (P.unreadable (reader_of s)) (modules_of s) p e };
+    ghost refuses = { λ s p e. IsRefusedAt (P.unreadable (reader_of s)) (held_sources s) p e };
 
-    ghost source = { λ s p text. text_at p (modules_of s) ≡ Some text };
+    ghost source = { λ s p text. text_at p (held_sources s) ≡ Some text };
 
-    ghost lacks = { λ s p e. IsMissing (modules_of s) p e };
+    ghost lacks = { λ s p e. IsMissing (held_sources s) p e };
 
     ghost shown = { λ _ p name. name ≡ None };
 
     /// The text of the module at a path. Refused where there is none, and for want of memory.
     fn resolve_source(&mut self, alloc: Global, path: &ModulePath) -> Result<String, ResolveError>
-        ensures given { IfOk result (λ text. text_at (path_view path.now) (modules_of self.old) ≡ Some (string_bytes text)) }
-        ensures refused { IfErr result (OrMemory (IsMissing (modules_of self.old) (path_view path.now))) }
+        ensures given { IfOk result (λ text. text_at (path_view path.now) (held_sources self.old) ≡ Some (string_bytes text)) }
+        ensures refused { IfErr result (OrMemory (IsMissing (held_sources self.old) (path_view path.now))) }
         ensures unchanged { self.new ≡ self.old }
     {
         let source = self.get_module(alloc, path)?;
@@ -161,8 +161,8 @@ impl<P: UnitText> Resolver for VirtualResolver<P> {
         alloc: Global,
         path: &ModulePath,
     ) -> Result<TranslationUnit, ResolveError>
-        ensures handed { IfOk result (λ u. IsReadAt (P.reads (reader_of self.old)) (modules_of self.old) (path_view path.now) (spelled (unit_view u))) }
-        ensures refused { IfErr result (OrMemory (IsRefusedAt (P.unreadable (reader_of self.old)) (modules_of self.old) (path_view path.now))) }
+        ensures handed { IfOk result (λ u. IsReadAt (P.reads (reader_of self.old)) (held_sources self.old) (path_view path.now) (spelled (unit_view u))) }
+        ensures refused { IfErr result (OrMemory (IsRefusedAt (P.unreadable (reader_of self.old)) (held_sources self.old) (path_view path.now))) }
         ensures unchanged { self.new ≡ self.old }
     {
         self.read_at(alloc, path)

@@ -14,7 +14,7 @@ use Rattle.std.proofs.lemmas.Map.Made.{update_all_none}
 use Rattle.std.proofs.lemmas.Map.Text.{btree_map_updates_text, is_eq-slice_cmp}
 use Rattle.wesl_names.specs.Path.{Text}
 use Rattle.wesl_names.specs.declared.path.ModulePath.{ModulePath}
-use Rattle.wesl_source_map.specs.Records.{Item, StandsFor, item_view}
+use Rattle.wesl_source_map.specs.Records.{Item, WritesItem, item_view}
 use Rattle.wesl_source_map.specs.Listed.{IsListing}
 use Rattle.wesl_source_map.specs.BasicView.{items_in}
 use Rattle.wesl_source_map.proofs.Seen.{seen, lookup-seen, distinct-seen, sorted-seen}
@@ -60,7 +60,7 @@ items_in-all table h q =
 -- one more entry is written
 pub items_in-more : (old new : BTreeMap (String Global) (ModulePath × String Global)) (es : List Entry) (e : Entry) (written : Text × Item)
     → ((q : Text) → items_in old q ≡ update_all bytes_eq (λ _. None) (map entry_seen es) q)
-    → StandsFor written.0 written.1 (items_in old) (items_in new) → written ≡ entry_seen e
+    → WritesItem written.0 written.1 (items_in old) (items_in new) → written ≡ entry_seen e
     → (q : Text) → items_in new q ≡ update_all bytes_eq (λ _. None) (map entry_seen (es ++ e ∷ [])) q
 items_in-more old new es e written so_far h is q =
     h q

@@ -13,7 +13,7 @@ use Rattle.wesl_names.specs.PathLaws.{path_eq}
 use Rattle.wesl_names.specs.PathOrder.{same_path}
 use Rattle.wesl_names.specs.declared.path.ModulePath.{ModulePath}
 use Rattle.wesl_names.proofs.Order.{path_eq-view, path_eq-test, same_path-decides}
-use Rattle.wesl_source_map.specs.Records.{Source, Tells, source_view}
+use Rattle.wesl_source_map.specs.Records.{Source, WritesSource, source_view}
 use Rattle.wesl_source_map.specs.BasicView.{sources_in}
 use Rattle.wesl_source_map.proofs.Seen.{seen, lookup-seen, distinct-seen}
 
@@ -78,7 +78,7 @@ lent (Some x) = refl
 -- one more entry is written
 pub sources_in-more : (old new : List (ModulePath × Said)) (es : List (ModulePath × Said)) (e : ModulePath × Said) (written : Path × Source)
     → ((q : Path) → sources_in old q ≡ update_all same_path (λ _. None) (map entry_seen es) q)
-    → Tells written.0 written.1 (sources_in old) (sources_in new) → written ≡ entry_seen e
+    → WritesSource written.0 written.1 (sources_in old) (sources_in new) → written ≡ entry_seen e
     → (q : Path) → sources_in new q ≡ update_all same_path (λ _. None) (map entry_seen (es ++ e ∷ [])) q
 sources_in-more old new es e written so_far h is q =
     h q

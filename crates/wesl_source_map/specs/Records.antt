@@ -24,12 +24,12 @@ abbrev pub Sources : Type 0
 Sources = Path → Option Source
 
 -- the name stands for the item, and every other name for what it stood for
-abbrev pub StandsFor : Text → Item → Items → Items → Type 0
-StandsFor name item old new = (other : Text) → new other ≡ update bytes_eq old name (Some item) other
+abbrev pub WritesItem : Text → Item → Items → Items → Type 0
+WritesItem name item old new = (other : Text) → new other ≡ update bytes_eq old name (Some item) other
 
 -- this is known of the module at the path, and of every other module what was known
-abbrev pub Tells : Path → Source → Sources → Sources → Type 0
-Tells path source old new = (other : Path) → new other ≡ update same_path old path (Some source) other
+abbrev pub WritesSource : Path → Source → Sources → Sources → Type 0
+WritesSource path source old new = (other : Path) → new other ≡ update same_path old path (Some source) other
 
 -- each name stands for what it stood for
 abbrev pub SameItems : Items → Items → Type 0

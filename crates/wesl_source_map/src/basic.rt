@@ -2,7 +2,7 @@
 ghost use Rattle.std.specs.Prelude.{◌≡◌, None, Some, OnOk, OnErr, IfOk, IfErr, map, option_map, string_bytes};
 ghost use Rattle.wesl_names.specs.Path.{Text, Path, path_view};
 ghost use Rattle.wesl_names.specs.declared.errors.Error as error;
-ghost use Rattle.wesl_source_map.specs.Records.{StandsFor, Tells, SameItems, SameSources, source_view};
+ghost use Rattle.wesl_source_map.specs.Records.{WritesItem, WritesSource, SameItems, SameSources, source_view};
 ghost use Rattle.wesl_source_map.specs.Listed.{IsListing};
 ghost use Rattle.wesl_source_map.specs.BasicView.{items_in, sources_in};
 
@@ -34,7 +34,7 @@ fn put_decl(
     path: ModulePath,
     item: String,
 ) -> Result<(), Error>
-    ensures written { OnOk result (StandsFor (string_bytes name) (path_view path, string_bytes item) (items_in decls.old) (items_in decls.new)) }
+    ensures written { OnOk result (WritesItem (string_bytes name) (path_view path, string_bytes item) (items_in decls.old) (items_in decls.new)) }
     ensures kept { OnErr result (SameItems (items_in decls.old) (items_in decls.new)) }
     ensures refused { IfErr result (λ e. e ≡ error.Memory) }
 {
@@ -49,7 +49,7 @@ fn put_source(
     display: Option<String>,
     text: String,
 ) -> Result<(), Error>
-    ensures written { OnOk result (Tells (path_view path) (option_map string_bytes display, string_bytes text)
+    ensures written { OnOk result (WritesSource (path_view path) (option_map string_bytes display, string_bytes text)
         (sources_in sources.old.entries) (sources_in sources.new.entries)) }
     ensures kept { OnErr result (SameSources (sources_in sources.old.entries) (sources_in sources.new.entries)) }
     ensures refused { IfErr result (λ e. e ≡ error.Memory) }
@@ -125,7 +125,7 @@ impl BasicSourceMap {
     ///
     /// Refused for want of memory alone, which leaves the map as it was.
     pub fn add_decl(&mut self, name: String, path: ModulePath, item: String) -> Result<(), Error>
-        ensures written { OnOk result (StandsFor (string_bytes name) (path_view path, string_bytes item) (items self.old) (items self.new)) }
+        ensures written { OnOk result (WritesItem (string_bytes name) (path_view path, string_bytes item) (items self.old) (items self.new)) }
         ensures kept { OnErr result (SameItems (items self.old) (items self.new)) }
         ensures modules { SameSources (sources self.old) (sources self.new) }
         ensures default { default_text self.new ≡ default_text self.old }
@@ -143,7 +143,7 @@ impl BasicSourceMap {
         display: Option<String>,
         text: String,
     ) -> Result<(), Error>
-        ensures written { OnOk result (Tells (path_view path) (option_map string_bytes display, string_bytes text)
+        ensures written { OnOk result (WritesSource (path_view path) (option_map string_bytes display, string_bytes text)
             (sources self.old) (sources self.new)) }
         ensures kept { OnErr result (SameSources (sources self.old) (sources self.new)) }
         ensures decls { SameItems (items self.old) (items self.new) }

@@ -4,7 +4,7 @@ ghost use Rattle.wesl_names.specs.Path.{Text, Path, path_view};
 
 use wesl_names::ModulePath;
 
-/// Tells the items that names of a linked unit stand for, and the sources of modules.
+/// WritesSource the items that names of a linked unit stand for, and the sources of modules.
 ///
 /// A look-up takes no memory and never refuses: it answers `None` for what the map does not know.
 ///

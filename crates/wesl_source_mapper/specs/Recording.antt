@@ -4,13 +4,13 @@ use Rattle.wesl_names.specs.Path.{Text, Path}
 use Rattle.wesl_names.specs.declared.errors.ResolveError as resolve_error
 use Rattle.wesl_names.specs.declared.path.ModulePath.{ModulePath}
 use Rattle.wesl_mangle.specs.Mangler.{written_if}
-use Rattle.wesl_source_map.specs.Records.{Item, Items, Source, Sources, Tells, SameItems, SameSources}
+use Rattle.wesl_source_map.specs.Records.{Item, Items, Source, Sources, WritesSource, SameItems, SameSources}
 use Rattle.wesl_source_map.specs.BasicView.{items, default_text}
 use Rattle.wesl_source_map.specs.declared.basic.BasicSourceMap.{BasicSourceMap}
 
 -- the text is recorded as the module's source, with a name by which the module may be shown
 abbrev pub Records : (Option Text → Type 0) → Path → Text → Sources → Sources → Type 0
-Records shows path text old new = (display : Option Text) × shows display × Tells path (display, text) old new
+Records shows path text old new = (display : Option Text) × shows display × WritesSource path (display, text) old new
 
 -- a source that is given is recorded; where the source is refused, and not for want of memory, nothing is
 abbrev pub RecordsIfGiven : (Text → Type 0) → (resolve_error.ResolveError → Type 0) → (Option Text → Type 0) → Path → Sources → Sources → Type 0

@@ -8,7 +8,7 @@ ghost use Rattle.wesl_names.specs.Errors.{OrMemory};
 ghost use Rattle.wesl_names.specs.declared.errors.Error as error;
 ghost use Rattle.wesl_names.specs.declared.errors.ResolveError as resolve_error;
 ghost use Rattle.wesl_resolve.specs.Resolver.{MeansTheSame};
-ghost use Rattle.wesl_source_map.specs.Records.{StandsFor, Tells, SameItems, SameSources};
+ghost use Rattle.wesl_source_map.specs.Records.{WritesItem, WritesSource, SameItems, SameSources};
 ghost use Rattle.wesl_source_map.specs.BasicView.{items, sources, default_text, KnowsTheSame};
 ghost use Rattle.wesl_source_mapper.specs.Recording.{Records, RecordsIfGiven, IsAskedAlone, HasNamed, source_or};
 
@@ -99,7 +99,7 @@ fn record(
     display: Option<String>,
     text: &str,
 ) -> Result<(), Error>
-    ensures recorded { OnOk result (Tells (path_view path.now) (option_map string_bytes display, text.now) (sources map.old) (sources map.new)) }
+    ensures recorded { OnOk result (WritesSource (path_view path.now) (option_map string_bytes display, text.now) (sources map.old) (sources map.new)) }
     ensures kept { OnErr result (SameSources (sources map.old) (sources map.new)) }
     ensures decls { SameItems (items map.old) (items map.new) }
     ensures default { default_text map.new ≡ default_text map.old }
@@ -224,7 +224,7 @@ impl<R, M: Mangler> Mangler for SourceMapper<R, M> {
     /// it keeps one, may then have the name.
     fn mangle(&mut self, alloc: Global, path: &ModulePath, item: &str) -> Result<String, Error>
         ensures named { IfOk result (λ name. string_bytes name ≡ M.name_of self.old.mangler (path_view path.now) item.now) }
-        ensures written { OnOk result (StandsFor (M.name_of self.old.mangler (path_view path.now) item.now) (path_view path.now, item.now)
+        ensures written { OnOk result (WritesItem (M.name_of self.old.mangler (path_view path.now) item.now) (path_view path.now, item.now)
             (items self.old.sourcemap) (items self.new.sourcemap)) }
         ensures unwritten { OnErr result (SameItems (items self.old.sourcemap) (items self.new.sourcemap)) }
         ensures refused { IfErr result (λ e. e ≡ error.Memory) }

@@ -5,22 +5,11 @@ use Rattle.std.specs.List.{Contains, list_any}
 use Rattle.wesl_names.specs.Path.{Text}
 use Rattle.wesl_syntax.specs.Tree.{Forest, end, trees}
 use Rattle.wesl_syntax.specs.Unit.{UnitView, name_in}
-use Rattle.wesl_occurrences.specs.Occurrences.{Standing, module_name, parameter, local, reference, word, Occurrence}
+use Rattle.wesl_occurrences.specs.Occurrences.{is_binder, is_unqualified, Occurrence}
 use Rattle.wesl_kept.specs.Declarations.{all, declared_in, referred_in}
 use Rattle.wesl_builtins.specs.Builtins.{BuiltinNames, is_among, is_callable}
 use Rattle.wesl_valid.specs.Calls.{CallOf, ShapeOf, alias_of, calls_in, shape_in, takes, is_plain_alias}
 use Rattle.wesl_valid.specs.Names.{plain_names}
-
-abbrev pub is_binder : Standing → Bool
-is_binder module_name = true
-is_binder parameter = true
-is_binder (local e) = true
-is_binder (reference by) = false
-is_binder word = false
-
-abbrev pub is_unqualified : Standing → Bool
-is_unqualified (reference None) = true
-is_unqualified _ = false
 
 -- the name that anything may stand for
 abbrev pub underscore : Text

@@ -5,10 +5,10 @@ use Rattle.std.specs.Option.{option_map}
 use Rattle.std.specs.List.{filter, find}
 use Rattle.wesl_names.specs.Path.{Text}
 use Rattle.wesl_syntax.specs.Unit.{UnitView, trees_of, name_in}
-use Rattle.wesl_occurrences.specs.Occurrences.{Block, Occurrence, occurrences}
+use Rattle.wesl_occurrences.specs.Occurrences.{Block, Occurrence, occurrences, is_module_name}
 use Rattle.wesl_occurrences.specs.Walk.{Found}
 use Rattle.wesl_occurrences.specs.Ways.{told}
-use Rattle.wesl_kept.specs.Declarations.{is_module_name, lies_in, declared_in}
+use Rattle.wesl_kept.specs.Declarations.{lies_in, declared_in}
 use Rattle.wesl_kept.specs.Marks.{names_here}
 use Rattle.wesl_builtins.specs.Builtins.{BuiltinNames}
 use Rattle.wesl_valid.specs.Valid.{spelling}

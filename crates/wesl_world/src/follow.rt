@@ -16,7 +16,7 @@ use crate::keyed;
 use crate::load::load;
 use crate::loader::Loader;
 use crate::names::{self, Answer};
-use crate::request::{Loaded, Request, table_of};
+use crate::request::{Loaded, Request, loaded_table};
 use crate::symbols::{LookUp, Symbol};
 use std::alloc::Global;
 
@@ -26,7 +26,7 @@ fn answer_at(request: &Request, loaded: &Loaded, look_up: LookUp<PathId, NameId>
     requires there { (t : tables.Table PathId NameId) × IsAt (world_of request.now loaded.now) look_up.path t }
     ensures { (t : tables.Table PathId NameId) × IsAt (world_of request.now loaded.now) look_up.path t × IsAnswer t look_up result }
 {
-    match table_of(request, loaded, look_up.path) {
+    match loaded_table(request, loaded, look_up.path) {
         Some(table) => names::answer_of(table, look_up),
         None => unreachable!(),
     }

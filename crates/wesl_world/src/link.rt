@@ -168,7 +168,7 @@ fn resolve<E, L: Loader<E>>(
 /// `loader` hands out each module but the root, once a path at most; no more than `max_modules` are loaded, the root counted.
 /// It is refused where a name has two targets, where the loader refuses a path, where a look-up finds nothing or nothing
 /// that it may see, and where there are more modules than may be (WESL, "Imports" and "Visibility").
-pub fn resolve_lazy<E, L: Loader<E>>(
+pub fn link_lazily<E, L: Loader<E>>(
     alloc: Global,
     root: Table,
     keep: Vec<NameId>,
@@ -185,8 +185,8 @@ pub fn resolve_lazy<E, L: Loader<E>>(
 
 /// Loads the modules that the root imports from, and those that they import from, and holds all that they declare.
 ///
-/// The loader, the limit and the refusals are those of `resolve_lazy`.
-pub fn resolve_eager<E, L: Loader<E>>(
+/// The loader, the limit and the refusals are those of `link_lazily`.
+pub fn link_eagerly<E, L: Loader<E>>(
     alloc: Global,
     root: Table,
     loader: &mut L,

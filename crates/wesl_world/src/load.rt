@@ -11,7 +11,7 @@ ghost use Rattle.wesl_world.specs.Loading.{IsSound, Grows, CanEnter, world_of, t
 use crate::error::LinkError;
 use crate::ids::PathId;
 use crate::loader::{LoadError, Loader};
-use crate::request::{Loaded, Request, table_of};
+use crate::request::{Loaded, Request, loaded_table};
 use crate::table::Table;
 use crate::{keyed, names};
 use std::alloc::Global;
@@ -88,7 +88,7 @@ pub fn load<E, L: Loader<E>>(
     ensures refused { IfErr result (IsExplained (L.hands loader.new) (L.refuses loader.new) request.now.root (task_at request.now) request.now.max_modules) }
     ensures adds { OnlyAdds (L.hands loader.old) (L.refuses loader.old) (L.ready loader.old) (L.hands loader.new) (L.refuses loader.new) (L.ready loader.new) }
 {
-    match table_of(request, loaded, path) {
+    match loaded_table(request, loaded, path) {
         Some(_) => Ok(()),
         None => fetch(alloc, request, loaded, loader, path),
     }

@@ -49,7 +49,7 @@ pub fn begin(alloc: Global) -> Loaded
 }
 
 /// The module at a path, if it is loaded.
-pub fn table_of<'a>(request: &'a Request, loaded: &'a Loaded, path: PathId) -> Option<&'a Table>
+pub fn loaded_table<'a>(request: &'a Request, loaded: &'a Loaded, path: PathId) -> Option<&'a Table>
     requires { ArePlaced loaded.now.others.items loaded.now.places.entries }
     ensures found { IfSome result (λ t. IsAt (world_of request.now loaded.now) path t.now) }
     ensures none { IfNone result ((t : tables.Table PathId NameId) → IsAt (world_of request.now loaded.now) path t → ⊥) }

@@ -16,7 +16,7 @@ use crate::follow::{follow, follow_all};
 use crate::ids::{NameId, PathId};
 use crate::loader::Loader;
 use crate::names;
-use crate::request::{self, Loaded, Request, table_at, table_of};
+use crate::request::{self, Loaded, Request, loaded_table, table_at};
 use crate::symbols::{LookUp, Symbol};
 use std::alloc::{AllocError, Global};
 
@@ -123,7 +123,7 @@ fn asked_by_symbol(
     requires agrees { (t : tables.Table PathId NameId) → Contains (world_of request.now loaded.now) t → Agrees t }
     ensures { IfOk result (λ v. (t : tables.Table PathId NameId) × IsAt (world_of request.now loaded.now) symbol.path t × ((l : LookUp PathId NameId) → Contains v.items l ↔ AsksFrom t (Some symbol.name) l)) }
 {
-    match table_of(request, loaded, symbol.path) {
+    match loaded_table(request, loaded, symbol.path) {
         Some(table) => {
             let asked = names::asked_from(alloc, table, Some(symbol.name))?;
             Ok(asked)

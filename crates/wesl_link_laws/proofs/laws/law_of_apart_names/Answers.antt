@@ -1,4 +1,4 @@
-use Rattle.wesl_naming.specs.GivenView.{given}
+use Rattle.wesl_linker.specs.GivenView.{given}
 use Rattle.wesl_link_laws.proofs.Links.{links_faithful}
 use Rattle.wesl_link_laws.proofs.laws.law_of_apart_names.Goals as goal
 

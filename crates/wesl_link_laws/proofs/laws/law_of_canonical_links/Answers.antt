@@ -1,4 +1,4 @@
-use Rattle.wesl_naming.specs.GivenView.{given}
+use Rattle.wesl_linker.specs.GivenView.{given}
 use Rattle.wesl_link_laws.proofs.Links.{links_numbered}
 use Rattle.wesl_link_laws.proofs.laws.law_of_canonical_links.Goals as goal
 

@@ -3,7 +3,7 @@ use Rattle.std.proofs.lemmas.List.{take_all}
 use Rattle.wesl_world.proofs.Lists.{contains_first, contains_later}
 use Rattle.wesl_table.proofs.Lists.{take_next}
 use Rattle.wesl_linker.specs.Holding.{AreParts}
-use Rattle.wesl_linker.specs.declared.loaded.Loaded.{Loaded}
+use Rattle.wesl_linker.specs.declared.loaded.LoadedModule.{LoadedModule}
 use Rattle.wesl_linker.proofs.Lists.{item_held}
 use Rattle.wesl_linker.proofs.Parted.{parts_more}
 use Rattle.wesl_linker.proofs.assemble.add_modules.Goals as goal
@@ -19,7 +19,7 @@ add_module-requires-in-loop-module-clause-inside c =
     let l = c.args.link.now in
     let xs = c.deref-module-items.result.now in
     let m = c.module-item.result in
-    contains_later l.root m l.others.items (subst (λ (ms : List Loaded). Contains ms m) c.deref-module-items.ensures.value (item_held xs c.loop-module.module-index m c.loop-module-test.true c.module-item.is))
+    contains_later l.root m l.others.items (subst (λ (ms : List LoadedModule). Contains ms m) c.deref-module-items.ensures.value (item_held xs c.loop-module.module-index m c.loop-module-test.true c.module-item.is))
 
 pub loop-module-preserved : goal.loop-module-preserved
 loop-module-preserved c = λ words h.
@@ -27,11 +27,11 @@ loop-module-preserved c = λ words h.
     let xs = c.deref-module-items.result.now in
     let i = c.loop-module.module-index in
     let m = c.module-item.result in
-    subst (λ (ms : List Loaded). AreParts l (l.root ∷ ms) words c.add_module-in-loop-module.new.parts) (sym (take_next xs i m c.loop-module-test.true c.module-item.is))
+    subst (λ (ms : List LoadedModule). AreParts l (l.root ∷ ms) words c.add_module-in-loop-module.new.parts) (sym (take_next xs i m c.loop-module-test.true c.module-item.is))
     (parts_more l words (l.root ∷ take i xs) m c.loop-module.parts c.add_module-in-loop-module.new.parts (c.loop-module.invariant words h) c.in_ok-add_module-2.ensures.added)
 
 pub returns-clause-added : goal.returns-clause-added
 returns-clause-added c = λ words h.
     let l = c.args.link.now in
     let xs = c.deref-module-items.result.now in
-    subst (λ (ms : List Loaded). AreParts l (l.root ∷ ms) words c.loop-module.parts) (take_all c.loop-module.module-index xs c.loop-module-test.false ∙ c.deref-module-items.ensures.value) (c.loop-module.invariant words h)
+    subst (λ (ms : List LoadedModule). AreParts l (l.root ∷ ms) words c.loop-module.parts) (take_all c.loop-module.module-index xs c.loop-module-test.false ∙ c.deref-module-items.ensures.value) (c.loop-module.invariant words h)

@@ -8,7 +8,7 @@ use Rattle.wesl_table.specs.NumbersView.{numbering}
 use Rattle.wesl_assembly.specs.Denotations.{printed_as}
 use Rattle.wesl_assembly.specs.Linked.{nodes_of, IsLinkedAs}
 use Rattle.wesl_assembly.specs.Views.{Meaning, denotation_view}
-use Rattle.wesl_naming.specs.GivenView.{given}
+use Rattle.wesl_linker.specs.GivenView.{given}
 use Rattle.wesl_linker.specs.Keeping.{all_loaded}
 use Rattle.wesl_linker.specs.Holding.{printed_by, AreParts}
 use Rattle.wesl_linker.specs.declared.assemble.Parts.{Parts}

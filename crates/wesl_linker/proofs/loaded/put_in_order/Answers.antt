@@ -5,15 +5,15 @@ use Rattle.std.proofs.lemmas.List.Sorted.{answers_always, ranks_by}
 use Rattle.wesl_names.specs.Path.{path_view}
 use Rattle.wesl_names.specs.PathLaws.{path_cmp}
 use Rattle.wesl_names.proofs.Order.{path_total, path_cmp-view, path_cmp-lt}
-use Rattle.wesl_linker.specs.declared.loaded.Loaded.{Loaded}
+use Rattle.wesl_linker.specs.declared.loaded.LoadedModule.{LoadedModule}
 use Rattle.wesl_linker.proofs.loaded.put_in_order.Goals as goal
 
-abbrev before : Loaded → Loaded → Bool
+abbrev before : LoadedModule → LoadedModule → Bool
 before m n = is_lt (path_cmp m.path n.path)
 
 weak : IsStrictWeakOrder before
 weak =
-    let ranks = ranks_by path_total (λ (m : Loaded). path_view m.path) in
+    let ranks = ranks_by path_total (λ (m : LoadedModule). path_view m.path) in
     record {
       one_way = λ x y h. ap is_lt (path_cmp-view y.path x.path) ∙ ranks.one_way x y (sym (ap is_lt (path_cmp-view x.path y.path)) ∙ h);
       chain = λ x y z h k. ap is_lt (path_cmp-view x.path z.path) ∙ ranks.chain x y z (sym (ap is_lt (path_cmp-view x.path y.path)) ∙ h) (sym (ap is_lt (path_cmp-view y.path z.path)) ∙ k);

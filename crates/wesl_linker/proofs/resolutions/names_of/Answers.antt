@@ -1,11 +1,11 @@
 use Rattle.std.proofs.Common.{◌≡◌, [], ◌∷◌, Bool, true, false, refl, subst, sym, ◌∙◌, rules}
 use Rattle.wesl_world.proofs.Lists.{contains_nil, contains_one}
 use Rattle.wesl_table.specs.NumbersView.{numbering}
-use Rattle.wesl_naming.specs.GivenView.{given}
+use Rattle.wesl_linker.specs.GivenView.{given}
 use Rattle.wesl_linker.specs.Holding.{GivesTo, IsGivenAll}
 use Rattle.wesl_linker.proofs.Naming.{gives_none, gives_same, given_all, given_others}
 use Rattle.wesl_names.specs.Path.{path_view}
-use Rattle.wesl_naming.specs.Recorded.{IsRecordedBy, writes_of}
+use Rattle.wesl_linker.specs.Recorded.{IsRecordedBy, writes_of}
 use Rattle.wesl_linker.specs.Resolved.{writes, writes_from, declared_names}
 use Rattle.wesl_linker.specs.Keeping.{module_of, loaded_modules, modules_in}
 use Rattle.wesl_linker.proofs.Recorded.{recorded_then, recorded_same}

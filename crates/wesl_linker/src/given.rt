@@ -1,0 +1,111 @@
+//! Names that are given to symbols, a module at a time.
+ghost use Rattle.std.specs.Prelude.{◌≡◌, Some, None, OnOk, IfErr, option_map, string_bytes};
+ghost use Rattle.wesl_names.specs.Path.{Text, Path, path_view};
+ghost use Rattle.wesl_names.specs.declared.errors.Error as error;
+ghost use Rattle.wesl_world.specs.declared.ids.PathId.{PathId};
+ghost use Rattle.wesl_world.specs.declared.ids.NameId.{NameId};
+ghost use Rattle.wesl_world.specs.declared.symbols.Symbol as symbols;
+ghost use Rattle.wesl_table.specs.NumbersView.{numbering};
+ghost use Rattle.wesl_linker.specs.Given.{AreNamed, GivesName, GivesNames, Keeps, KeepsOthers, KeepsUndeclared};
+ghost use Rattle.wesl_linker.specs.Recorded.{HasNone, IsRecordedBy, writes_of, firsts, declared_texts, written_unless};
+
+use indexmap::IndexMap;
+use std::alloc::Global;
+use wesl_mangle::Mangler;
+use wesl_names::{Error, ModulePath};
+use wesl_table::numbers::Numbers;
+use wesl_world::ids::{NameId, PathId};
+use wesl_world::symbols::Symbol;
+use wesl_world::table::Table;
+
+/// The names that a mangler gave to symbols (WESL, "NameMangling").
+#[derive(Drop)]
+pub(crate) struct GivenNames {
+    names: IndexMap<Symbol<PathId, NameId>, String>,
+}
+
+impl GivenNames {
+    ghost use Rattle.wesl_linker.specs.GivenView.{given};
+
+    /// No names. It takes no memory.
+    pub(crate) fn new(alloc: Global) -> GivenNames
+        ensures { (s : symbols.Symbol PathId NameId) → given result s ≡ None }
+    {
+        GivenNames {
+            names: IndexMap::new(alloc),
+        }
+    }
+
+    /// The name that was given to a symbol.
+    pub(crate) fn get(&self, symbol: Symbol<PathId, NameId>) -> Option<&str>
+        ensures { option_map (λ x. x.now) result ≡ given self.now symbol }
+    {
+        match self.names.get(&symbol) {
+            Some(name) => Some(name.as_str()),
+            None => None,
+        }
+    }
+
+    /// Gives a symbol the name that the mangler has for the item of the module at the path, unless it has a name.
+    fn add_name<M: Mangler>(
+        &mut self,
+        alloc: Global,
+        mangler: &mut M,
+        path: &ModulePath,
+        symbol: Symbol<PathId, NameId>,
+        item: &str,
+    ) -> Result<(), Error>
+        ensures gives { OnOk result (GivesName (M.name_of mangler.old (path_view path.now) item.now) symbol (given self.old) (given self.new)) }
+        ensures others { (s : symbols.Symbol PathId NameId) → (s ≡ symbol → ⊥) → given self.new s ≡ given self.old s }
+        ensures keeps { Keeps (given self.old) (given self.new) }
+        ensures same { (p : Path) (i : Text) → M.name_of mangler.new p i ≡ M.name_of mangler.old p i }
+        ensures recorded { OnOk result ((x : Text) → M.recorded mangler.new x ≡ written_unless (given self.old symbol) M.writes (M.name_of mangler.old (path_view path.now) item.now) (path_view path.now, item.now) (M.recorded mangler.old) x) }
+        ensures refused { IfErr result (λ e. e ≡ error.Memory) }
+    {
+        if self.get(symbol).is_some() {
+            return Ok(());
+        }
+        let name = mangler.mangle(alloc, path, item)?;
+        self.names.insert(symbol, name)?;
+        Ok(())
+    }
+
+    /// Gives each name that a module declares the name that the mangler has for it, where it was given none before
+    /// (WESL, "NameMangling").
+    ///
+    /// `numbers` are those of the table's names, and `path` is the module's. Refused for want of memory alone; the names
+    /// that were given until then stay. Of a module none of whose names was given, the mangler writes each declared name
+    /// once, in the order in which they stand first.
+    pub(crate) fn add_table<M: Mangler>(
+        &mut self,
+        alloc: Global,
+        mangler: &mut M,
+        numbers: &Numbers,
+        path: &ModulePath,
+        table: &Table,
+    ) -> Result<(), Error>
+        requires numbered { AreNamed (numbering numbers.now) table.now }
+        ensures given { OnOk result (GivesNames (numbering numbers.now) (M.name_of mangler.old (path_view path.now)) table.now (given self.old) (given self.new)) }
+        ensures others { KeepsOthers table.now.path (given self.old) (given self.new) }
+        ensures undeclared { KeepsUndeclared table.now (given self.old) (given self.new) }
+        ensures keeps { Keeps (given self.old) (given self.new) }
+        ensures same { (p : Path) (i : Text) → M.name_of mangler.new p i ≡ M.name_of mangler.old p i }
+        ensures recorded { OnOk result (HasNone table.now.path (given self.old)
+            → IsRecordedBy M.writes (writes_of (M.name_of mangler.old) (path_view path.now) (firsts (declared_texts (numbering numbers.now) table.now.declarations))) (M.recorded mangler.old) (M.recorded mangler.new)) }
+        ensures refused { IfErr result (λ e. e ≡ error.Memory) }
+    {
+        for declaration in table.declarations() {
+            if let Some(name) = declaration.name() {
+                let Some(item) = numbers.names.name(name) else {
+                    unreachable!()
+                };
+                let symbol = Symbol {
+                    path: table.path(),
+                    name,
+                };
+                self.add_name(alloc, mangler, path, symbol, item)?;
+            }
+        }
+        Ok(())
+    }
+}

@@ -1,0 +1,49 @@
+-- The members of a variable with an address space, and without one.
+use Rattle.std.proofs.Common.{◌≡◌, List, [], ◌∷◌, ◌++◌, Bool, true, false, if◌then◌else◌, Option, Some, None, option_map, codes, refl, ap}
+use Rattle.std.specs.Option.{is_some}
+use Rattle.serde_json.specs.Data.{Data}
+use Rattle.serde_json.specs.Find.{get}
+use Rattle.wesl_names.specs.Path.{Text}
+use Rattle.wesl_syntax.specs.Tree.{kind, binder, attributes, present}
+use Rattle.wesl_form.specs.Schema.{SpelledLabel, leaf, list_of, node, one_of, an_attribute, an_expression, a_text, a_type, an_ident, Row, may, nothing}
+use Rattle.wesl_form.specs.Words.{access_words, space_words}
+use Rattle.wesl_form.specs.Reading.{known_keys}
+use Rattle.wesl_form.specs.Place.{Field, field, fields}
+use Rattle.wesl_reading_statements.specs.Forms.{declared_worded}
+use Rattle.wesl_reading_statements.specs.declared.words.DeclaredWord.TheVariants as declareds
+
+abbrev pub access_row : Row
+access_row = may (codes "access") (leaf (one_of access_words)) nothing
+
+pub no-member : (o : Option Data) → is_some o ≡ false → o ≡ None
+no-member None h = refl
+no-member (Some v) h = cc
+
+pub a-member : (o : Option Data) → is_some o ≡ true → (v : Data) × (o ≡ Some v)
+a-member None h = cc
+a-member (Some v) h = (v, refl)
+
+pub same-label : (o : Option SpelledLabel) → o ≡ option_map (λ l. l) o
+same-label None = refl
+same-label (Some l) = refl
+
+abbrev var_keys : Bool → List Text
+var_keys b = codes "k" ∷ (codes "attrs" ∷ ((((if b then codes "space" ∷ (codes "access" ∷ []) else []) ++ []) ++ (codes "name" ∷ (codes "ty" ∷ (codes "init" ∷ [])))) ++ []))
+
+pub var-keys : (d : Data) → get (codes "space") d ≡ None → known_keys (declared_worded declareds.Var) d ≡ codes "k" ∷ codes "attrs" ∷ codes "name" ∷ codes "ty" ∷ codes "init" ∷ []
+var-keys d h = ap (λ o. var_keys (is_some o)) h
+
+pub space-keys : (d : Data) → is_some (get (codes "space") d) ≡ true → known_keys (declared_worded declareds.Var) d ≡ codes "k" ∷ codes "attrs" ∷ codes "space" ∷ codes "access" ∷ codes "name" ∷ codes "ty" ∷ codes "init" ∷ []
+space-keys d h = ap var_keys h
+
+abbrev space_fields : Bool → List Field
+space_fields b = if b then field (codes "space") true (leaf (one_of space_words)) ∷ (field (codes "access") false (leaf (one_of access_words)) ∷ []) else field (codes "space") false (leaf a_text) ∷ []
+
+abbrev pub var_fields : Bool → List Field
+var_fields b = field (codes "k") true (leaf (one_of ((codes "var", kind present) ∷ []))) ∷ (field (codes "attrs") false (list_of attributes an_attribute) ∷ (((space_fields b ++ []) ++ (field (codes "name") true (leaf (an_ident binder)) ∷ (field (codes "ty") false (node a_type) ∷ (field (codes "init") false (node an_expression) ∷ [])))) ++ []))
+
+pub var-fields : (d : Data) → get (codes "space") d ≡ None → fields (declared_worded declareds.Var) d ≡ var_fields false
+var-fields d h = ap (λ o. var_fields (is_some o)) h
+
+pub space-fields : (d : Data) → is_some (get (codes "space") d) ≡ true → fields (declared_worded declareds.Var) d ≡ var_fields true
+space-fields d h = ap var_fields h

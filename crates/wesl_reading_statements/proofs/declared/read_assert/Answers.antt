@@ -1,0 +1,42 @@
+use Rattle.serde_json.specs.View.{view}
+use Rattle.std.proofs.Common.{codes, false, refl, rules, true, ◌≡◌}
+use Rattle.wesl_form.specs.Reading.{known_keys}
+use Rattle.wesl_pointer.specs.Keys.{has_only}
+use Rattle.wesl_form.specs.Schema.{an_attribute, an_expression, list_of, node}
+use Rattle.wesl_reading.proofs.Places.{row-inside, row-keys, row-member}
+use Rattle.wesl_reading.proofs.Rows.{plain-kind}
+use Rattle.wesl_reading.proofs.Steps.{many-then, needs-then, none-then}
+use Rattle.wesl_reading.specs.Faults.{LocatesRow}
+use Rattle.wesl_reading_statements.proofs.Worded.{worded-reads}
+use Rattle.wesl_reading_statements.specs.Forms.{declared_worded}
+use Rattle.wesl_syntax.specs.Tree.{attributes, const_assert}
+use Rattle.wesl_reading_statements.specs.declared.words.DeclaredWord.TheVariants as declareds
+use Rattle.wesl_reading_statements.proofs.declared.read_assert.Goals as goal
+
+pub returns-in_err-check_keys-clause-place : goal.returns-in_err-check_keys-clause-place
+returns-in_err-check_keys-clause-place c =
+    let d = view c.args.value.now in
+    let e = c.in_err-check_keys.field-0.0 in
+    let wrong : has_only (known_keys (declared_worded declareds.Assert) d) d ≡ false = search rules in
+    let located : LocatesRow (declared_worded declareds.Assert) d e = row-keys (declared_worded declareds.Assert) d e wrong c.in_err-check_keys.ensures.place in
+    search rules
+
+pub returns-in_err-attributes-clause-place : goal.returns-in_err-attributes-clause-place
+returns-in_err-attributes-clause-place c =
+    let d = view c.args.value.now in
+    let e = c.in_err-attributes.field-0.0 in
+    let located : LocatesRow (declared_worded declareds.Assert) d e = row-inside (declared_worded declareds.Assert) (codes "attrs") false (list_of attributes an_attribute) d e refl c.in_err-attributes.ensures.place in
+    search rules
+
+pub returns-in_err-expression-clause-place : goal.returns-in_err-expression-clause-place
+returns-in_err-expression-clause-place c =
+    let d = view c.args.value.now in
+    let e = c.in_err-expression.field-0.0 in
+    let located : LocatesRow (declared_worded declareds.Assert) d e = row-member (declared_worded declareds.Assert) (codes "expr") (node an_expression) d e refl c.in_err-expression.ensures.place in
+    search rules
+
+pub returns-clause-ok : goal.returns-clause-ok
+returns-clause-ok c =
+    let d = view c.args.value.now in
+    let known : has_only (known_keys (declared_worded declareds.Assert) d) d ≡ true = search rules in
+    worded-reads known (plain-kind const_assert) refl (many-then c.in_ok-attributes.ensures.ok (needs-then c.in_ok-expression.ensures.ok (none-then d _)))

@@ -1,0 +1,36 @@
+use Rattle.serde_json.specs.View.{view}
+use Rattle.std.proofs.Common.{codes, false, refl, rules, sym, true, ◌≡◌}
+use Rattle.wesl_form.specs.Reading.{known_keys}
+use Rattle.wesl_pointer.specs.Keys.{has_only}
+use Rattle.wesl_form.specs.Schema.{an_attribute, list_of}
+use Rattle.wesl_reading.proofs.Places.{row-inside, row-keys}
+use Rattle.wesl_reading.proofs.Rows.{plain-kind}
+use Rattle.wesl_reading.proofs.Steps.{many-then, none-then}
+use Rattle.wesl_reading.specs.Faults.{LocatesRow}
+use Rattle.wesl_reading_statements.proofs.Views.{view-discard}
+use Rattle.wesl_reading_statements.proofs.Worded.{same-worded, worded-reads}
+use Rattle.wesl_reading_statements.specs.Forms.{statement_worded}
+use Rattle.wesl_syntax.specs.Tree.{attributes, discard}
+use Rattle.wesl_reading_statements.specs.declared.words.StatementWord.TheVariants as stated
+use Rattle.wesl_reading_statements.proofs.simple.read_discard.Goals as goal
+
+pub returns-in_err-check_keys-clause-place : goal.returns-in_err-check_keys-clause-place
+returns-in_err-check_keys-clause-place c =
+    let d = view c.args.value.now in
+    let e = c.in_err-check_keys.field-0.0 in
+    let wrong : has_only (known_keys (statement_worded stated.Discard) d) d ≡ false = search rules in
+    let located : LocatesRow (statement_worded stated.Discard) d e = row-keys (statement_worded stated.Discard) d e wrong c.in_err-check_keys.ensures.place in
+    search rules
+
+pub returns-in_err-attributes-clause-place : goal.returns-in_err-attributes-clause-place
+returns-in_err-attributes-clause-place c =
+    let d = view c.args.value.now in
+    let e = c.in_err-attributes.field-0.0 in
+    let located : LocatesRow (statement_worded stated.Discard) d e = row-inside (statement_worded stated.Discard) (codes "attrs") false (list_of attributes an_attribute) d e refl c.in_err-attributes.ensures.place in
+    search rules
+
+pub returns-clause-ok : goal.returns-clause-ok
+returns-clause-ok c =
+    let d = view c.args.value.now in
+    let known : has_only (known_keys (statement_worded stated.Discard) d) d ≡ true = search rules in
+    same-worded (worded-reads known (plain-kind discard) refl (many-then c.in_ok-attributes.ensures.ok (none-then d _))) (sym (view-discard c.in_ok-attributes.attributes))

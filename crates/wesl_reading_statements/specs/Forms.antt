@@ -1,0 +1,136 @@
+-- What is read of an object by the word at `k`.
+use Rattle.std.specs.Prelude.{◌≡◌, List, Bool, true, false, Some, None, codes, option_and_then}
+use Rattle.std.specs.Str.{bytes_eq}
+use Rattle.serde_json.specs.Data.{Data}
+use Rattle.serde_json.specs.Find.{get, as_str}
+use Rattle.wesl_names.specs.Path.{Text}
+use Rattle.wesl_syntax.specs.Tree.{Kind, kind, Tree, before, end, list, attributes, clauses, statement_node, compound_statement, compound, increment, decrement, if_statement, if_clause, switch, loop, for_loop, while_loop, break, continue, return, discard, call_statement, declaration, const_assert, void, const_kind, override_kind, let_kind, var_kind}
+use Rattle.wesl_form.specs.Schema.{Head, fixed, chosen, Row, nothing, marked, needs, may, many, inner, Node, node, list_of, a_body, a_call, a_clause, a_continuing, an_elif, an_else, a_statement, an_attribute}
+use Rattle.wesl_form.specs.Words.{assignment_words}
+use Rattle.wesl_form.specs.Nodes.{expression, one_expression, operand, attrs, body_row, condition_row, declared, space_row}
+use Rattle.wesl_form.specs.Reading.{known_keys}
+use Rattle.wesl_pointer.specs.Keys.{has_only}
+use Rattle.wesl_reading.specs.Forms.{worded_node}
+use Rattle.wesl_reading.specs.Numbers.{ReadsRows}
+use Rattle.wesl_reading_statements.specs.declared.words.ValueWord.{ValueWord}
+use Rattle.wesl_reading_statements.specs.declared.words.ValueWord.TheVariants as values
+use Rattle.wesl_reading_statements.specs.declared.words.DeclaredWord.{DeclaredWord}
+use Rattle.wesl_reading_statements.specs.declared.words.DeclaredWord.TheVariants as declareds
+use Rattle.wesl_reading_statements.specs.declared.words.StatementWord.{StatementWord}
+use Rattle.wesl_reading_statements.specs.declared.words.StatementWord.TheVariants as stated
+
+-- the row of an object with a word
+abbrev pub worded_row : Text → Head → Row → Row
+worded_row w h row = marked (codes "k") w (inner h row nothing)
+
+-- an object has only the members of its word, and they are read as the tree
+pub record ReadsWorded (w : Text) (h : Head) (row : Row) (d : Data) (t : Tree) (old new : List Text) : Type 0 where
+  pub known : has_only (known_keys (worded_row w h row) d) d ≡ true
+  pub inside : ReadsRows (inner h row nothing) d (before t end) old new
+
+-- ---- what stands in modules and in functions
+
+abbrev pub value_text : ValueWord → Text
+value_text values.Const = codes "const"
+value_text values.Override = codes "override"
+value_text values.Let = codes "let"
+
+abbrev pub value_kind : ValueWord → Kind
+value_kind values.Const = const_kind
+value_kind values.Override = override_kind
+value_kind values.Let = let_kind
+
+abbrev pub declared_text : DeclaredWord → Text
+declared_text (declareds.Value w) = value_text w
+declared_text declareds.Var = codes "var"
+declared_text declareds.Assert = codes "assert"
+declared_text declareds.Void = codes "void"
+
+abbrev pub declared_kind : DeclaredWord → Kind
+declared_kind (declareds.Value w) = declaration
+declared_kind declareds.Var = declaration
+declared_kind declareds.Assert = const_assert
+declared_kind declareds.Void = void
+
+abbrev pub declared_row : DeclaredWord → Row
+declared_row (declareds.Value w) = declared (value_kind w) nothing
+declared_row declareds.Var = declared var_kind space_row
+declared_row declareds.Assert = attrs operand
+declared_row declareds.Void = nothing
+
+abbrev pub declared_of : Kind → DeclaredWord → Node
+declared_of outer w = worded_node outer (declared_text w) (fixed (kind (declared_kind w))) (declared_row w)
+
+abbrev pub ReadsDeclared : DeclaredWord → Data → Tree → List Text → List Text → Type 0
+ReadsDeclared w = ReadsWorded (declared_text w) (fixed (kind (declared_kind w))) (declared_row w)
+
+abbrev pub declared_worded : DeclaredWord → Row
+declared_worded w = worded_row (declared_text w) (fixed (kind (declared_kind w))) (declared_row w)
+
+-- ---- statements
+
+abbrev pub statement_text : StatementWord → Text
+statement_text stated.Block = codes "block"
+statement_text stated.Assign = codes "assign"
+statement_text stated.Increment = codes "inc"
+statement_text stated.Decrement = codes "dec"
+statement_text stated.If = codes "if"
+statement_text stated.Switch = codes "switch"
+statement_text stated.Loop = codes "loop"
+statement_text stated.For = codes "for"
+statement_text stated.While = codes "while"
+statement_text stated.Break = codes "break"
+statement_text stated.Continue = codes "continue"
+statement_text stated.Discard = codes "discard"
+statement_text stated.Return = codes "return"
+statement_text stated.Call = codes "call"
+statement_text (stated.Declared w) = declared_text w
+
+abbrev pub statement_head : StatementWord → Head
+statement_head stated.Block = fixed (kind compound_statement)
+statement_head stated.Assign = chosen (codes "op") assignment_words
+statement_head stated.Increment = fixed (kind increment)
+statement_head stated.Decrement = fixed (kind decrement)
+statement_head stated.If = fixed (kind if_statement)
+statement_head stated.Switch = fixed (kind switch)
+statement_head stated.Loop = fixed (kind loop)
+statement_head stated.For = fixed (kind for_loop)
+statement_head stated.While = fixed (kind while_loop)
+statement_head stated.Break = fixed (kind break)
+statement_head stated.Continue = fixed (kind continue)
+statement_head stated.Discard = fixed (kind discard)
+statement_head stated.Return = fixed (kind return)
+statement_head stated.Call = fixed (kind call_statement)
+statement_head (stated.Declared w) = fixed (kind (declared_kind w))
+
+abbrev pub statement_row : StatementWord → Row
+statement_row stated.Block = inner (fixed (kind compound)) body_row nothing
+statement_row stated.Assign = attrs (needs (codes "lhs") expression (one_expression (codes "rhs")))
+statement_row stated.Increment = attrs operand
+statement_row stated.Decrement = attrs operand
+statement_row stated.If = attrs (inner (fixed (kind if_clause)) condition_row (many (codes "elifs") (list_of list an_elif) (may (codes "else") (node an_else) nothing)))
+statement_row stated.Switch = attrs (needs (codes "expr") expression (many (codes "body_attrs") (list_of attributes an_attribute) (many (codes "clauses") (list_of clauses a_clause) nothing)))
+statement_row stated.Loop = attrs (needs (codes "body") (node a_body) (may (codes "continuing") (node a_continuing) nothing))
+statement_row stated.For = attrs (may (codes "init") (node a_statement) (may (codes "cond") expression (may (codes "update") (node a_statement) (needs (codes "body") (node a_body) nothing))))
+statement_row stated.While = attrs condition_row
+statement_row stated.Break = attrs nothing
+statement_row stated.Continue = attrs nothing
+statement_row stated.Discard = attrs nothing
+statement_row stated.Return = attrs (may (codes "expr") expression nothing)
+statement_row stated.Call = attrs (needs (codes "call") (node a_call) nothing)
+statement_row (stated.Declared w) = declared_row w
+
+abbrev pub statement_of : StatementWord → Node
+statement_of w = worded_node statement_node (statement_text w) (statement_head w) (statement_row w)
+
+abbrev pub ReadsStatement : StatementWord → Data → Tree → List Text → List Text → Type 0
+ReadsStatement w = ReadsWorded (statement_text w) (statement_head w) (statement_row w)
+
+abbrev pub statement_worded : StatementWord → Row
+statement_worded w = worded_row (statement_text w) (statement_head w) (statement_row w)
+
+-- ---- the values of `case`
+
+-- the word at `k` is `default`
+abbrev pub has_default : Data → Bool
+has_default d = elim (option_and_then as_str (get (codes "k") d)) as (λ _. Bool) [ None ↦ false | Some s ↦ bytes_eq s (codes "default") ]

@@ -1,0 +1,126 @@
+//! Reading the values of `case` and the condition of `break if` (WGSL, "Switch Statement" and "Break-If Statement").
+ghost use Rattle.std.specs.Prelude.{◌≡◌, ℕ, List, IfOk, IfErr, codes, true};
+ghost use Rattle.serde_json.specs.View.{view};
+ghost use Rattle.wesl_syntax.specs.Tree.{list};
+ghost use Rattle.wesl_syntax.specs.View.{break_if_view, listed, optional as option_view, selector_view};
+ghost use Rattle.wesl_form.specs.Schema.{a_break_if, a_case, list_of, node as node_form};
+ghost use Rattle.wesl_reading.specs.Faults.{Locates, LocatesInside};
+ghost use Rattle.wesl_reading.specs.Numbers.{Reads, ReadsMany, ReadsMay};
+ghost use Rattle.wesl_reading_statements.specs.Forms.{has_default};
+
+use serde_json::Value;
+use std::alloc::Global;
+use wesl_names::Error;
+use wesl_reading::{
+    Numbering, attributes_member, check_keys, expression_member, read_expression, under,
+    under_index, wrong,
+};
+use wesl_syntax::{BreakIfStatement, CaseSelector};
+
+/// The values at `cases`, a list.
+pub(crate) fn cases_member(
+    alloc: Global,
+    numbering: &mut Numbering,
+    value: &Value,
+) -> Result<Vec<CaseSelector>, Error>
+    ensures ok { IfOk result (λ e. ReadsMany (codes "cases") (list_of list a_case) (view value.now) (listed selector_view list e) numbering.old numbering.new) }
+    ensures place { IfErr result (LocatesInside (codes "cases") (list_of list a_case) (view value.now)) }
+{
+    let Some(member) = value.get("cases") else {
+        return Ok(Vec::new(alloc));
+    };
+    match read_cases(alloc, numbering, member) {
+        Ok(cases) => Ok(cases),
+        Err(error) => Err(under(alloc, error, "cases")),
+    }
+}
+
+fn read_cases(
+    alloc: Global,
+    numbering: &mut Numbering,
+    value: &Value,
+) -> Result<Vec<CaseSelector>, Error>
+    ensures ok { IfOk result (λ e. Reads (list_of list a_case) (view value.now) (listed selector_view list e) numbering.old numbering.new) }
+    ensures place { IfErr result (Locates (list_of list a_case) (view value.now)) }
+{
+    let Some(items) = value.as_array() else {
+        return Err(wrong(alloc));
+    };
+    let mut cases = Vec::with_capacity(alloc, items.len())?;
+    for (index, item) in items.iter().enumerate() {
+        match read_case(alloc, numbering, item) {
+            Ok(case) => cases.push(case)?,
+            Err(error) => return Err(under_index(alloc, error, index)),
+        }
+    }
+    Ok(cases)
+}
+
+// `default` by its word, or an expression.
+fn read_case(alloc: Global, numbering: &mut Numbering, value: &Value) -> Result<CaseSelector, Error>
+    ensures ok { IfOk result (λ e. Reads (node_form a_case) (view value.now) (selector_view e) numbering.old numbering.new) }
+    ensures place { IfErr result (Locates (node_form a_case) (view value.now)) }
+{
+    if is_default(value) {
+        read_default(alloc, value)
+    } else {
+        let expression = read_expression(alloc, numbering, value)?;
+        Ok(CaseSelector::Expression(expression))
+    }
+}
+
+fn is_default(value: &Value) -> bool
+    ensures { result ≡ has_default (view value.now) }
+{
+    match value.get("k") {
+        Some(word) => match word.as_str() {
+            Some(text) => text == "default",
+            None => false,
+        },
+        None => false,
+    }
+}
+
+fn read_default(alloc: Global, value: &Value) -> Result<CaseSelector, Error>
+    requires { has_default (view value.now) ≡ true }
+    ensures ok { IfOk result (λ e. (names : List (List ℕ)) → Reads (node_form a_case) (view value.now) (selector_view e) names names) }
+    ensures place { IfErr result (Locates (node_form a_case) (view value.now)) }
+{
+    check_keys(alloc, value, &["k"])?;
+    Ok(CaseSelector::Default)
+}
+
+/// What stands at `break_if`, an option.
+pub(crate) fn optional_break_if(
+    alloc: Global,
+    numbering: &mut Numbering,
+    value: &Value,
+) -> Result<Option<BreakIfStatement>, Error>
+    ensures ok { IfOk result (λ e. ReadsMay (codes "break_if") (node_form a_break_if) (view value.now) (option_view break_if_view e) numbering.old numbering.new) }
+    ensures place { IfErr result (LocatesInside (codes "break_if") (node_form a_break_if) (view value.now)) }
+{
+    let Some(member) = value.get("break_if") else {
+        return Ok(None);
+    };
+    match read_break_if(alloc, numbering, member) {
+        Ok(break_if) => Ok(Some(break_if)),
+        Err(error) => Err(under(alloc, error, "break_if")),
+    }
+}
+
+fn read_break_if(
+    alloc: Global,
+    numbering: &mut Numbering,
+    value: &Value,
+) -> Result<BreakIfStatement, Error>
+    ensures ok { IfOk result (λ e. Reads (node_form a_break_if) (view value.now) (break_if_view e) numbering.old numbering.new) }
+    ensures place { IfErr result (Locates (node_form a_break_if) (view value.now)) }
+{
+    check_keys(alloc, value, &["attrs", "expr"])?;
+    let attributes = attributes_member(alloc, numbering, value, "attrs")?;
+    let expression = expression_member(alloc, numbering, value, "expr")?;
+    Ok(BreakIfStatement {
+        attributes,
+        expression,
+    })
+}

@@ -1,0 +1,150 @@
+//! Reading statements that hold no other statement (WGSL, "Statements").
+ghost use Rattle.std.specs.Prelude.{IfOk, IfErr};
+ghost use Rattle.serde_json.specs.View.{view};
+ghost use Rattle.wesl_syntax.specs.View.{statement_view};
+ghost use Rattle.wesl_reading.specs.Faults.{LocatesRow};
+ghost use Rattle.wesl_reading_statements.specs.declared.words.StatementWord.TheVariants as stated;
+ghost use Rattle.wesl_reading_statements.specs.Forms.{ReadsStatement, statement_worded};
+
+use crate::parts::call_member;
+use crate::words::assignment_member;
+use serde_json::Value;
+use std::alloc::Global;
+use wesl_names::Error;
+use wesl_reading::{
+    Numbering, attributes_member, check_keys, expression_member, optional_expression,
+};
+use wesl_syntax::Statement;
+
+/// An assignment, by its operator at `op`.
+pub(crate) fn read_assignment(
+    alloc: Global,
+    numbering: &mut Numbering,
+    value: &Value,
+) -> Result<Statement, Error>
+    ensures ok { IfOk result (λ e. ReadsStatement stated.Assign (view value.now) (statement_view e) numbering.old numbering.new) }
+    ensures place { IfErr result (LocatesRow (statement_worded stated.Assign) (view value.now)) }
+{
+    check_keys(alloc, value, &["k", "op", "attrs", "lhs", "rhs"])?;
+    let operator = assignment_member(alloc, value)?;
+    let attributes = attributes_member(alloc, numbering, value, "attrs")?;
+    let lhs = expression_member(alloc, numbering, value, "lhs")?;
+    let rhs = expression_member(alloc, numbering, value, "rhs")?;
+    Ok(Statement::Assignment {
+        attributes,
+        operator,
+        lhs,
+        rhs,
+    })
+}
+
+/// `expr++;`
+pub(crate) fn read_increment(
+    alloc: Global,
+    numbering: &mut Numbering,
+    value: &Value,
+) -> Result<Statement, Error>
+    ensures ok { IfOk result (λ e. ReadsStatement stated.Increment (view value.now) (statement_view e) numbering.old numbering.new) }
+    ensures place { IfErr result (LocatesRow (statement_worded stated.Increment) (view value.now)) }
+{
+    check_keys(alloc, value, &["k", "attrs", "expr"])?;
+    let attributes = attributes_member(alloc, numbering, value, "attrs")?;
+    let expression = expression_member(alloc, numbering, value, "expr")?;
+    Ok(Statement::Increment {
+        attributes,
+        expression,
+    })
+}
+
+/// `expr--;`
+pub(crate) fn read_decrement(
+    alloc: Global,
+    numbering: &mut Numbering,
+    value: &Value,
+) -> Result<Statement, Error>
+    ensures ok { IfOk result (λ e. ReadsStatement stated.Decrement (view value.now) (statement_view e) numbering.old numbering.new) }
+    ensures place { IfErr result (LocatesRow (statement_worded stated.Decrement) (view value.now)) }
+{
+    check_keys(alloc, value, &["k", "attrs", "expr"])?;
+    let attributes = attributes_member(alloc, numbering, value, "attrs")?;
+    let expression = expression_member(alloc, numbering, value, "expr")?;
+    Ok(Statement::Decrement {
+        attributes,
+        expression,
+    })
+}
+
+/// `break;`
+pub(crate) fn read_break(
+    alloc: Global,
+    numbering: &mut Numbering,
+    value: &Value,
+) -> Result<Statement, Error>
+    ensures ok { IfOk result (λ e. ReadsStatement stated.Break (view value.now) (statement_view e) numbering.old numbering.new) }
+    ensures place { IfErr result (LocatesRow (statement_worded stated.Break) (view value.now)) }
+{
+    check_keys(alloc, value, &["k", "attrs"])?;
+    let attributes = attributes_member(alloc, numbering, value, "attrs")?;
+    Ok(Statement::Break { attributes })
+}
+
+/// `continue;`
+pub(crate) fn read_continue(
+    alloc: Global,
+    numbering: &mut Numbering,
+    value: &Value,
+) -> Result<Statement, Error>
+    ensures ok { IfOk result (λ e. ReadsStatement stated.Continue (view value.now) (statement_view e) numbering.old numbering.new) }
+    ensures place { IfErr result (LocatesRow (statement_worded stated.Continue) (view value.now)) }
+{
+    check_keys(alloc, value, &["k", "attrs"])?;
+    let attributes = attributes_member(alloc, numbering, value, "attrs")?;
+    Ok(Statement::Continue { attributes })
+}
+
+/// `discard;`
+pub(crate) fn read_discard(
+    alloc: Global,
+    numbering: &mut Numbering,
+    value: &Value,
+) -> Result<Statement, Error>
+    ensures ok { IfOk result (λ e. ReadsStatement stated.Discard (view value.now) (statement_view e) numbering.old numbering.new) }
+    ensures place { IfErr result (LocatesRow (statement_worded stated.Discard) (view value.now)) }
+{
+    check_keys(alloc, value, &["k", "attrs"])?;
+    let attributes = attributes_member(alloc, numbering, value, "attrs")?;
+    Ok(Statement::Discard { attributes })
+}
+
+/// `return;` or `return expr;`
+pub(crate) fn read_return(
+    alloc: Global,
+    numbering: &mut Numbering,
+    value: &Value,
+) -> Result<Statement, Error>
+    ensures ok { IfOk result (λ e. ReadsStatement stated.Return (view value.now) (statement_view e) numbering.old numbering.new) }
+    ensures place { IfErr result (LocatesRow (statement_worded stated.Return) (view value.now)) }
+{
+    check_keys(alloc, value, &["k", "attrs", "expr"])?;
+    let attributes = attributes_member(alloc, numbering, value, "attrs")?;
+    let expression = optional_expression(alloc, numbering, value, "expr")?;
+    Ok(Statement::Return {
+        attributes,
+        expression,
+    })
+}
+
+/// `call;`
+pub(crate) fn read_call_statement(
+    alloc: Global,
+    numbering: &mut Numbering,
+    value: &Value,
+) -> Result<Statement, Error>
+    ensures ok { IfOk result (λ e. ReadsStatement stated.Call (view value.now) (statement_view e) numbering.old numbering.new) }
+    ensures place { IfErr result (LocatesRow (statement_worded stated.Call) (view value.now)) }
+{
+    check_keys(alloc, value, &["k", "attrs", "call"])?;
+    let attributes = attributes_member(alloc, numbering, value, "attrs")?;
+    let call = call_member(alloc, numbering, value)?;
+    Ok(Statement::FunctionCall { attributes, call })
+}

@@ -1,0 +1,490 @@
+//! Reading statements and blocks (WGSL, "Statements").
+ghost use Rattle.std.specs.Prelude.{IfOk, IfErr, codes};
+ghost use Rattle.std.specs.Box.{box_value};
+ghost use Rattle.serde_json.specs.View.{view};
+ghost use Rattle.wesl_syntax.specs.Tree.{clauses, list, statements};
+ghost use Rattle.wesl_syntax.specs.View.{clause_view, compound_view, continuing_view, else_if_view, else_view, listed, optional as option_view, statement_tree, statement_view};
+ghost use Rattle.wesl_form.specs.Schema.{a_body, a_clause, a_continuing, a_statement, an_elif, an_else, list_of, node as node_form};
+ghost use Rattle.wesl_reading.specs.Faults.{Locates, LocatesInside, LocatesMember, LocatesRow};
+ghost use Rattle.wesl_reading.specs.Forms.{HasWord};
+ghost use Rattle.wesl_reading.specs.Numbers.{Reads, ReadsMany, ReadsMay, ReadsNeeded};
+ghost use Rattle.wesl_reading_statements.specs.declared.words.StatementWord.TheVariants as stated;
+ghost use Rattle.wesl_reading_statements.specs.Forms.{ReadsStatement, statement_text, statement_worded};
+
+use crate::declared::{read_declared, statement_of};
+use crate::selector::{cases_member, optional_break_if};
+use crate::simple::{
+    read_assignment, read_break, read_call_statement, read_continue, read_decrement, read_discard,
+    read_increment, read_return,
+};
+use crate::words::{StatementWord, statement_word};
+use serde_json::Value;
+use std::alloc::Global;
+use wesl_names::Error;
+use wesl_reading::{
+    Numbering, attributes_member, check_keys, expression_member, optional_expression, required,
+    under, under_index, unplaced, wrong,
+};
+use wesl_syntax::{
+    CompoundStatement, ContinuingStatement, ElseClause, ElseIfClause, IfClause, Statement,
+    StatementNode, SwitchClause,
+};
+
+/// The statement that an object is, by its word at `k`.
+#[cycle(statements)]
+pub(crate) fn read_statement(
+    alloc: Global,
+    numbering: &mut Numbering,
+    value: &Value,
+) -> Result<StatementNode, Error>
+    ensures ok { IfOk result (λ e. Reads (node_form a_statement) (view value.now) (statement_tree e) numbering.old numbering.new) }
+    ensures place { IfErr result (Locates (node_form a_statement) (view value.now)) }
+{
+    let word = statement_word_of(alloc, value)?;
+    match read_worded(alloc, numbering, value, word) {
+        Ok(statement) => Ok(unplaced(statement)),
+        Err(error) => Err(error),
+    }
+}
+
+// The word at `k`.
+fn statement_word_of(alloc: Global, value: &Value) -> Result<StatementWord, Error>
+    ensures word { IfOk result (λ w. HasWord (statement_text w) (view value.now)) }
+    ensures place { IfErr result (Locates (node_form a_statement) (view value.now)) }
+{
+    let word = required(alloc, value, "k")?;
+    match word.as_str().and_then(statement_word) {
+        Some(word) => Ok(word),
+        None => Err(under(alloc, wrong(alloc), "k")),
+    }
+}
+
+#[cycle(statements)]
+fn read_worded(
+    alloc: Global,
+    numbering: &mut Numbering,
+    value: &Value,
+    word: StatementWord,
+) -> Result<Statement, Error>
+    ensures ok { IfOk result (λ e. ReadsStatement word (view value.now) (statement_view e) numbering.old numbering.new) }
+    ensures place { IfErr result (LocatesRow (statement_worded word) (view value.now)) }
+{
+    match word {
+        StatementWord::Block => read_block(alloc, numbering, value),
+        StatementWord::Assign => read_assignment(alloc, numbering, value),
+        StatementWord::Increment => read_increment(alloc, numbering, value),
+        StatementWord::Decrement => read_decrement(alloc, numbering, value),
+        StatementWord::If => read_if(alloc, numbering, value),
+        StatementWord::Switch => read_switch(alloc, numbering, value),
+        StatementWord::Loop => read_loop(alloc, numbering, value),
+        StatementWord::For => read_for(alloc, numbering, value),
+        StatementWord::While => read_while(alloc, numbering, value),
+        StatementWord::Break => read_break(alloc, numbering, value),
+        StatementWord::Continue => read_continue(alloc, numbering, value),
+        StatementWord::Discard => read_discard(alloc, numbering, value),
+        StatementWord::Return => read_return(alloc, numbering, value),
+        StatementWord::Call => read_call_statement(alloc, numbering, value),
+        StatementWord::Declared(word) => match read_declared(alloc, numbering, value, word) {
+            Ok(declared) => Ok(statement_of(declared)),
+            Err(error) => Err(error),
+        },
+    }
+}
+
+#[cycle(statements)]
+fn read_block(alloc: Global, numbering: &mut Numbering, value: &Value) -> Result<Statement, Error>
+    ensures ok { IfOk result (λ e. ReadsStatement stated.Block (view value.now) (statement_view e) numbering.old numbering.new) }
+    ensures place { IfErr result (LocatesRow (statement_worded stated.Block) (view value.now)) }
+{
+    check_keys(alloc, value, &["k", "attrs", "stmts"])?;
+    let attributes = attributes_member(alloc, numbering, value, "attrs")?;
+    let statements = statements_member(alloc, numbering, value)?;
+    Ok(Statement::Compound(CompoundStatement {
+        attributes,
+        statements,
+    }))
+}
+
+#[cycle(statements)]
+fn read_if(alloc: Global, numbering: &mut Numbering, value: &Value) -> Result<Statement, Error>
+    ensures ok { IfOk result (λ e. ReadsStatement stated.If (view value.now) (statement_view e) numbering.old numbering.new) }
+    ensures place { IfErr result (LocatesRow (statement_worded stated.If) (view value.now)) }
+{
+    check_keys(
+        alloc,
+        value,
+        &["k", "attrs", "cond", "body", "elifs", "else"],
+    )?;
+    let attributes = attributes_member(alloc, numbering, value, "attrs")?;
+    let expression = expression_member(alloc, numbering, value, "cond")?;
+    let body = body_member(alloc, numbering, value)?;
+    let else_if_clauses = elifs_member(alloc, numbering, value)?;
+    let else_clause = optional_else(alloc, numbering, value)?;
+    Ok(Statement::If {
+        attributes,
+        if_clause: IfClause { expression, body },
+        else_if_clauses,
+        else_clause,
+    })
+}
+
+#[cycle(statements)]
+fn read_switch(alloc: Global, numbering: &mut Numbering, value: &Value) -> Result<Statement, Error>
+    ensures ok { IfOk result (λ e. ReadsStatement stated.Switch (view value.now) (statement_view e) numbering.old numbering.new) }
+    ensures place { IfErr result (LocatesRow (statement_worded stated.Switch) (view value.now)) }
+{
+    check_keys(
+        alloc,
+        value,
+        &["k", "attrs", "expr", "body_attrs", "clauses"],
+    )?;
+    let attributes = attributes_member(alloc, numbering, value, "attrs")?;
+    let expression = expression_member(alloc, numbering, value, "expr")?;
+    let body_attributes = attributes_member(alloc, numbering, value, "body_attrs")?;
+    let clauses = clauses_member(alloc, numbering, value)?;
+    Ok(Statement::Switch {
+        attributes,
+        expression,
+        body_attributes,
+        clauses,
+    })
+}
+
+#[cycle(statements)]
+fn read_loop(alloc: Global, numbering: &mut Numbering, value: &Value) -> Result<Statement, Error>
+    ensures ok { IfOk result (λ e. ReadsStatement stated.Loop (view value.now) (statement_view e) numbering.old numbering.new) }
+    ensures place { IfErr result (LocatesRow (statement_worded stated.Loop) (view value.now)) }
+{
+    check_keys(alloc, value, &["k", "attrs", "body", "continuing"])?;
+    let attributes = attributes_member(alloc, numbering, value, "attrs")?;
+    let body = body_member(alloc, numbering, value)?;
+    let continuing = optional_continuing(alloc, numbering, value)?;
+    Ok(Statement::Loop {
+        attributes,
+        body,
+        continuing,
+    })
+}
+
+#[cycle(statements)]
+fn read_for(alloc: Global, numbering: &mut Numbering, value: &Value) -> Result<Statement, Error>
+    ensures ok { IfOk result (λ e. ReadsStatement stated.For (view value.now) (statement_view e) numbering.old numbering.new) }
+    ensures place { IfErr result (LocatesRow (statement_worded stated.For) (view value.now)) }
+{
+    check_keys(
+        alloc,
+        value,
+        &["k", "attrs", "init", "cond", "update", "body"],
+    )?;
+    let attributes = attributes_member(alloc, numbering, value, "attrs")?;
+    let initializer = optional_statement(alloc, numbering, value, "init")?;
+    let condition = optional_expression(alloc, numbering, value, "cond")?;
+    let update = optional_statement(alloc, numbering, value, "update")?;
+    let body = body_member(alloc, numbering, value)?;
+    Ok(Statement::For {
+        attributes,
+        initializer,
+        condition,
+        update,
+        body,
+    })
+}
+
+#[cycle(statements)]
+fn read_while(alloc: Global, numbering: &mut Numbering, value: &Value) -> Result<Statement, Error>
+    ensures ok { IfOk result (λ e. ReadsStatement stated.While (view value.now) (statement_view e) numbering.old numbering.new) }
+    ensures place { IfErr result (LocatesRow (statement_worded stated.While) (view value.now)) }
+{
+    check_keys(alloc, value, &["k", "attrs", "cond", "body"])?;
+    let attributes = attributes_member(alloc, numbering, value, "attrs")?;
+    let condition = expression_member(alloc, numbering, value, "cond")?;
+    let body = body_member(alloc, numbering, value)?;
+    Ok(Statement::While {
+        attributes,
+        condition,
+        body,
+    })
+}
+
+/// The block at `body`, which must be there.
+#[cycle(statements)]
+pub fn body_member(
+    alloc: Global,
+    numbering: &mut Numbering,
+    value: &Value,
+) -> Result<CompoundStatement, Error>
+    ensures ok { IfOk result (λ e. ReadsNeeded (codes "body") (node_form a_body) (view value.now) (compound_view e) numbering.old numbering.new) }
+    ensures place { IfErr result (LocatesMember (codes "body") (node_form a_body) (view value.now)) }
+{
+    let member = required(alloc, value, "body")?;
+    match read_body(alloc, numbering, member) {
+        Ok(body) => Ok(body),
+        Err(error) => Err(under(alloc, error, "body")),
+    }
+}
+
+#[cycle(statements)]
+fn read_body(
+    alloc: Global,
+    numbering: &mut Numbering,
+    value: &Value,
+) -> Result<CompoundStatement, Error>
+    ensures ok { IfOk result (λ e. Reads (node_form a_body) (view value.now) (compound_view e) numbering.old numbering.new) }
+    ensures place { IfErr result (Locates (node_form a_body) (view value.now)) }
+{
+    check_keys(alloc, value, &["attrs", "stmts"])?;
+    let attributes = attributes_member(alloc, numbering, value, "attrs")?;
+    let statements = statements_member(alloc, numbering, value)?;
+    Ok(CompoundStatement {
+        attributes,
+        statements,
+    })
+}
+
+// The statements at `stmts`, a list.
+#[cycle(statements)]
+fn statements_member(
+    alloc: Global,
+    numbering: &mut Numbering,
+    value: &Value,
+) -> Result<Vec<StatementNode>, Error>
+    ensures ok { IfOk result (λ e. ReadsMany (codes "stmts") (list_of statements a_statement) (view value.now) (listed statement_tree statements e) numbering.old numbering.new) }
+    ensures place { IfErr result (LocatesInside (codes "stmts") (list_of statements a_statement) (view value.now)) }
+{
+    let Some(member) = value.get("stmts") else {
+        return Ok(Vec::new(alloc));
+    };
+    match read_statements(alloc, numbering, member) {
+        Ok(statements) => Ok(statements),
+        Err(error) => Err(under(alloc, error, "stmts")),
+    }
+}
+
+#[cycle(statements)]
+fn read_statements(
+    alloc: Global,
+    numbering: &mut Numbering,
+    value: &Value,
+) -> Result<Vec<StatementNode>, Error>
+    ensures ok { IfOk result (λ e. Reads (list_of statements a_statement) (view value.now) (listed statement_tree statements e) numbering.old numbering.new) }
+    ensures place { IfErr result (Locates (list_of statements a_statement) (view value.now)) }
+{
+    let Some(items) = value.as_array() else {
+        return Err(wrong(alloc));
+    };
+    let mut statements = Vec::with_capacity(alloc, items.len())?;
+    for (index, item) in items.iter().enumerate() {
+        match read_statement(alloc, numbering, item) {
+            Ok(statement) => statements.push(statement)?,
+            Err(error) => return Err(under_index(alloc, error, index)),
+        }
+    }
+    Ok(statements)
+}
+
+// The statement at `key`, an option.
+#[cycle(statements)]
+fn optional_statement(
+    alloc: Global,
+    numbering: &mut Numbering,
+    value: &Value,
+    key: &str,
+) -> Result<Option<Box<StatementNode>>, Error>
+    ensures ok { IfOk result (λ e. ReadsMay key.now (node_form a_statement) (view value.now) (option_view (λ s. statement_tree (box_value s)) e) numbering.old numbering.new) }
+    ensures place { IfErr result (LocatesInside key.now (node_form a_statement) (view value.now)) }
+{
+    let Some(member) = value.get(key) else {
+        return Ok(None);
+    };
+    match read_statement(alloc, numbering, member) {
+        Ok(statement) => Ok(Some(Box::new(alloc, statement)?)),
+        Err(error) => Err(under(alloc, error, key)),
+    }
+}
+
+// The clauses at `elifs`, a list.
+#[cycle(statements)]
+fn elifs_member(
+    alloc: Global,
+    numbering: &mut Numbering,
+    value: &Value,
+) -> Result<Vec<ElseIfClause>, Error>
+    ensures ok { IfOk result (λ e. ReadsMany (codes "elifs") (list_of list an_elif) (view value.now) (listed else_if_view list e) numbering.old numbering.new) }
+    ensures place { IfErr result (LocatesInside (codes "elifs") (list_of list an_elif) (view value.now)) }
+{
+    let Some(member) = value.get("elifs") else {
+        return Ok(Vec::new(alloc));
+    };
+    match read_elifs(alloc, numbering, member) {
+        Ok(clauses) => Ok(clauses),
+        Err(error) => Err(under(alloc, error, "elifs")),
+    }
+}
+
+#[cycle(statements)]
+fn read_elifs(
+    alloc: Global,
+    numbering: &mut Numbering,
+    value: &Value,
+) -> Result<Vec<ElseIfClause>, Error>
+    ensures ok { IfOk result (λ e. Reads (list_of list an_elif) (view value.now) (listed else_if_view list e) numbering.old numbering.new) }
+    ensures place { IfErr result (Locates (list_of list an_elif) (view value.now)) }
+{
+    let Some(items) = value.as_array() else {
+        return Err(wrong(alloc));
+    };
+    let mut clauses = Vec::with_capacity(alloc, items.len())?;
+    for (index, item) in items.iter().enumerate() {
+        match read_elif(alloc, numbering, item) {
+            Ok(clause) => clauses.push(clause)?,
+            Err(error) => return Err(under_index(alloc, error, index)),
+        }
+    }
+    Ok(clauses)
+}
+
+#[cycle(statements)]
+fn read_elif(alloc: Global, numbering: &mut Numbering, value: &Value) -> Result<ElseIfClause, Error>
+    ensures ok { IfOk result (λ e. Reads (node_form an_elif) (view value.now) (else_if_view e) numbering.old numbering.new) }
+    ensures place { IfErr result (Locates (node_form an_elif) (view value.now)) }
+{
+    check_keys(alloc, value, &["attrs", "cond", "body"])?;
+    let attributes = attributes_member(alloc, numbering, value, "attrs")?;
+    let expression = expression_member(alloc, numbering, value, "cond")?;
+    let body = body_member(alloc, numbering, value)?;
+    Ok(ElseIfClause {
+        attributes,
+        expression,
+        body,
+    })
+}
+
+// The clause at `else`, an option.
+#[cycle(statements)]
+fn optional_else(
+    alloc: Global,
+    numbering: &mut Numbering,
+    value: &Value,
+) -> Result<Option<ElseClause>, Error>
+    ensures ok { IfOk result (λ e. ReadsMay (codes "else") (node_form an_else) (view value.now) (option_view else_view e) numbering.old numbering.new) }
+    ensures place { IfErr result (LocatesInside (codes "else") (node_form an_else) (view value.now)) }
+{
+    let Some(member) = value.get("else") else {
+        return Ok(None);
+    };
+    match read_else(alloc, numbering, member) {
+        Ok(clause) => Ok(Some(clause)),
+        Err(error) => Err(under(alloc, error, "else")),
+    }
+}
+
+#[cycle(statements)]
+fn read_else(alloc: Global, numbering: &mut Numbering, value: &Value) -> Result<ElseClause, Error>
+    ensures ok { IfOk result (λ e. Reads (node_form an_else) (view value.now) (else_view e) numbering.old numbering.new) }
+    ensures place { IfErr result (Locates (node_form an_else) (view value.now)) }
+{
+    check_keys(alloc, value, &["attrs", "body"])?;
+    let attributes = attributes_member(alloc, numbering, value, "attrs")?;
+    let body = body_member(alloc, numbering, value)?;
+    Ok(ElseClause { attributes, body })
+}
+
+// The clauses at `clauses`, a list.
+#[cycle(statements)]
+fn clauses_member(
+    alloc: Global,
+    numbering: &mut Numbering,
+    value: &Value,
+) -> Result<Vec<SwitchClause>, Error>
+    ensures ok { IfOk result (λ e. ReadsMany (codes "clauses") (list_of clauses a_clause) (view value.now) (listed clause_view clauses e) numbering.old numbering.new) }
+    ensures place { IfErr result (LocatesInside (codes "clauses") (list_of clauses a_clause) (view value.now)) }
+{
+    let Some(member) = value.get("clauses") else {
+        return Ok(Vec::new(alloc));
+    };
+    match read_clauses(alloc, numbering, member) {
+        Ok(clauses) => Ok(clauses),
+        Err(error) => Err(under(alloc, error, "clauses")),
+    }
+}
+
+#[cycle(statements)]
+fn read_clauses(
+    alloc: Global,
+    numbering: &mut Numbering,
+    value: &Value,
+) -> Result<Vec<SwitchClause>, Error>
+    ensures ok { IfOk result (λ e. Reads (list_of clauses a_clause) (view value.now) (listed clause_view clauses e) numbering.old numbering.new) }
+    ensures place { IfErr result (Locates (list_of clauses a_clause) (view value.now)) }
+{
+    let Some(items) = value.as_array() else {
+        return Err(wrong(alloc));
+    };
+    let mut clauses = Vec::with_capacity(alloc, items.len())?;
+    for (index, item) in items.iter().enumerate() {
+        match read_clause(alloc, numbering, item) {
+            Ok(clause) => clauses.push(clause)?,
+            Err(error) => return Err(under_index(alloc, error, index)),
+        }
+    }
+    Ok(clauses)
+}
+
+#[cycle(statements)]
+fn read_clause(
+    alloc: Global,
+    numbering: &mut Numbering,
+    value: &Value,
+) -> Result<SwitchClause, Error>
+    ensures ok { IfOk result (λ e. Reads (node_form a_clause) (view value.now) (clause_view e) numbering.old numbering.new) }
+    ensures place { IfErr result (Locates (node_form a_clause) (view value.now)) }
+{
+    check_keys(alloc, value, &["attrs", "cases", "body"])?;
+    let attributes = attributes_member(alloc, numbering, value, "attrs")?;
+    let case_selectors = cases_member(alloc, numbering, value)?;
+    let body = body_member(alloc, numbering, value)?;
+    Ok(SwitchClause {
+        attributes,
+        case_selectors,
+        body,
+    })
+}
+
+// What stands at `continuing`, an option.
+#[cycle(statements)]
+fn optional_continuing(
+    alloc: Global,
+    numbering: &mut Numbering,
+    value: &Value,
+) -> Result<Option<ContinuingStatement>, Error>
+    ensures ok { IfOk result (λ e. ReadsMay (codes "continuing") (node_form a_continuing) (view value.now) (option_view continuing_view e) numbering.old numbering.new) }
+    ensures place { IfErr result (LocatesInside (codes "continuing") (node_form a_continuing) (view value.now)) }
+{
+    let Some(member) = value.get("continuing") else {
+        return Ok(None);
+    };
+    match read_continuing(alloc, numbering, member) {
+        Ok(continuing) => Ok(Some(continuing)),
+        Err(error) => Err(under(alloc, error, "continuing")),
+    }
+}
+
+#[cycle(statements)]
+fn read_continuing(
+    alloc: Global,
+    numbering: &mut Numbering,
+    value: &Value,
+) -> Result<ContinuingStatement, Error>
+    ensures ok { IfOk result (λ e. Reads (node_form a_continuing) (view value.now) (continuing_view e) numbering.old numbering.new) }
+    ensures place { IfErr result (Locates (node_form a_continuing) (view value.now)) }
+{
+    check_keys(alloc, value, &["attrs", "body", "break_if"])?;
+    let attributes = attributes_member(alloc, numbering, value, "attrs")?;
+    let body = body_member(alloc, numbering, value)?;
+    let break_if = optional_break_if(alloc, numbering, value)?;
+    Ok(ContinuingStatement {
+        attributes,
+        body,
+        break_if,
+    })
+}

@@ -1,0 +1,308 @@
+//! Reading the declarations of a module (WGSL, "Declaration and Scope").
+ghost use Rattle.std.specs.Prelude.{◌≡◌, IfOk, IfErr, codes};
+ghost use Rattle.serde_json.specs.View.{view};
+ghost use Rattle.wesl_syntax.specs.Tree.{declaration_node, declarations, member_node, members, parameters};
+ghost use Rattle.wesl_syntax.specs.View.{declarations_tree, global_view, listed, member_view, parameter_view, placed};
+ghost use Rattle.wesl_form.specs.Schema.{a_declaration, a_member, a_parameter, list_of, node as node_form};
+ghost use Rattle.wesl_reading.specs.Faults.{Locates, LocatesInside, LocatesRow};
+ghost use Rattle.wesl_reading.specs.Forms.{HasWord};
+ghost use Rattle.wesl_reading.specs.Numbers.{Reads, ReadsMany};
+ghost use Rattle.wesl_reading_statements.specs.Views.{declared_view};
+ghost use Rattle.wesl_reading_unit.specs.declared.words.DeclarationWord.TheVariants as globals;
+ghost use Rattle.wesl_reading_unit.specs.Forms.{ReadsDeclaration, declaration_text, declaration_worded};
+
+use crate::words::{DeclarationWord, declaration_word};
+use serde_json::Value;
+use std::alloc::Global;
+use wesl_names::Error;
+use wesl_reading::{
+    Numbering, attributes_member, check_keys, optional_type, required, type_member, under,
+    under_index, unplaced, wrong,
+};
+use wesl_reading_statements::{
+    Declared, binder_member, body_member, plain_name_member, read_declared,
+};
+use wesl_syntax::{
+    FormalParameter, Function, GlobalDeclaration, GlobalDeclarationNode, Struct, StructMember,
+    StructMemberNode, TypeAlias,
+};
+
+/// The declarations at `declarations`, a list.
+pub(crate) fn declarations_member(
+    alloc: Global,
+    numbering: &mut Numbering,
+    value: &Value,
+) -> Result<Vec<GlobalDeclarationNode>, Error>
+    ensures ok { IfOk result (λ e. ReadsMany (codes "declarations") (list_of declarations a_declaration) (view value.now) (declarations_tree e) numbering.old numbering.new) }
+    ensures place { IfErr result (LocatesInside (codes "declarations") (list_of declarations a_declaration) (view value.now)) }
+{
+    let Some(member) = value.get("declarations") else {
+        return Ok(Vec::new(alloc));
+    };
+    match read_declarations(alloc, numbering, member) {
+        Ok(declarations) => Ok(declarations),
+        Err(error) => Err(under(alloc, error, "declarations")),
+    }
+}
+
+fn read_declarations(
+    alloc: Global,
+    numbering: &mut Numbering,
+    value: &Value,
+) -> Result<Vec<GlobalDeclarationNode>, Error>
+    ensures ok { IfOk result (λ e. Reads (list_of declarations a_declaration) (view value.now) (declarations_tree e) numbering.old numbering.new) }
+    ensures place { IfErr result (Locates (list_of declarations a_declaration) (view value.now)) }
+{
+    let Some(items) = value.as_array() else {
+        return Err(wrong(alloc));
+    };
+    let mut declarations = Vec::with_capacity(alloc, items.len())?;
+    for (index, item) in items.iter().enumerate() {
+        match read_declaration(alloc, numbering, item) {
+            Ok(declaration) => declarations.push(declaration)?,
+            Err(error) => return Err(under_index(alloc, error, index)),
+        }
+    }
+    Ok(declarations)
+}
+
+fn read_declaration(
+    alloc: Global,
+    numbering: &mut Numbering,
+    value: &Value,
+) -> Result<GlobalDeclarationNode, Error>
+    ensures ok { IfOk result (λ e. Reads (node_form a_declaration) (view value.now) (placed global_view declaration_node e) numbering.old numbering.new) }
+    ensures place { IfErr result (Locates (node_form a_declaration) (view value.now)) }
+{
+    let word = declaration_word_of(alloc, value)?;
+    match read_worded(alloc, numbering, value, word) {
+        Ok(declaration) => Ok(unplaced(declaration)),
+        Err(error) => Err(error),
+    }
+}
+
+// The word at `k`.
+fn declaration_word_of(alloc: Global, value: &Value) -> Result<DeclarationWord, Error>
+    ensures word { IfOk result (λ w. HasWord (declaration_text w) (view value.now)) }
+    ensures place { IfErr result (Locates (node_form a_declaration) (view value.now)) }
+{
+    let word = required(alloc, value, "k")?;
+    match word.as_str().and_then(declaration_word) {
+        Some(word) => Ok(word),
+        None => Err(under(alloc, wrong(alloc), "k")),
+    }
+}
+
+fn read_worded(
+    alloc: Global,
+    numbering: &mut Numbering,
+    value: &Value,
+    word: DeclarationWord,
+) -> Result<GlobalDeclaration, Error>
+    ensures ok { IfOk result (λ e. ReadsDeclaration word (view value.now) (global_view e) numbering.old numbering.new) }
+    ensures place { IfErr result (LocatesRow (declaration_worded word) (view value.now)) }
+{
+    match word {
+        DeclarationWord::Alias => read_alias(alloc, numbering, value),
+        DeclarationWord::Struct => read_struct(alloc, numbering, value),
+        DeclarationWord::Function => read_function(alloc, numbering, value),
+        DeclarationWord::Declared(word) => match read_declared(alloc, numbering, value, word) {
+            Ok(declared) => Ok(global_of(declared)),
+            Err(error) => Err(error),
+        },
+    }
+}
+
+// The declaration of a module that this is.
+fn global_of(declared: Declared) -> GlobalDeclaration
+    ensures { global_view result ≡ declared_view declared }
+{
+    match declared {
+        Declared::Void => GlobalDeclaration::Void,
+        Declared::Declaration(declaration) => GlobalDeclaration::Declaration(declaration),
+        Declared::Assert(assertion) => GlobalDeclaration::ConstAssert(assertion),
+    }
+}
+
+fn read_alias(
+    alloc: Global,
+    numbering: &mut Numbering,
+    value: &Value,
+) -> Result<GlobalDeclaration, Error>
+    ensures ok { IfOk result (λ e. ReadsDeclaration globals.Alias (view value.now) (global_view e) numbering.old numbering.new) }
+    ensures place { IfErr result (LocatesRow (declaration_worded globals.Alias) (view value.now)) }
+{
+    check_keys(alloc, value, &["k", "attrs", "name", "ty"])?;
+    let attributes = attributes_member(alloc, numbering, value, "attrs")?;
+    let ident = binder_member(alloc, numbering, value)?;
+    let ty = type_member(alloc, numbering, value, "ty")?;
+    Ok(GlobalDeclaration::TypeAlias(TypeAlias {
+        attributes,
+        ident,
+        ty,
+    }))
+}
+
+fn read_struct(
+    alloc: Global,
+    numbering: &mut Numbering,
+    value: &Value,
+) -> Result<GlobalDeclaration, Error>
+    ensures ok { IfOk result (λ e. ReadsDeclaration globals.Struct (view value.now) (global_view e) numbering.old numbering.new) }
+    ensures place { IfErr result (LocatesRow (declaration_worded globals.Struct) (view value.now)) }
+{
+    check_keys(alloc, value, &["k", "attrs", "name", "members"])?;
+    let attributes = attributes_member(alloc, numbering, value, "attrs")?;
+    let ident = binder_member(alloc, numbering, value)?;
+    let members = members_member(alloc, numbering, value)?;
+    Ok(GlobalDeclaration::Struct(Struct {
+        attributes,
+        ident,
+        members,
+    }))
+}
+
+fn read_function(
+    alloc: Global,
+    numbering: &mut Numbering,
+    value: &Value,
+) -> Result<GlobalDeclaration, Error>
+    ensures ok { IfOk result (λ e. ReadsDeclaration globals.Function (view value.now) (global_view e) numbering.old numbering.new) }
+    ensures place { IfErr result (LocatesRow (declaration_worded globals.Function) (view value.now)) }
+{
+    check_keys(
+        alloc,
+        value,
+        &["k", "attrs", "name", "params", "ret_attrs", "ret", "body"],
+    )?;
+    let attributes = attributes_member(alloc, numbering, value, "attrs")?;
+    let ident = binder_member(alloc, numbering, value)?;
+    let parameters = parameters_member(alloc, numbering, value)?;
+    let return_attributes = attributes_member(alloc, numbering, value, "ret_attrs")?;
+    let return_type = optional_type(alloc, numbering, value, "ret")?;
+    let body = body_member(alloc, numbering, value)?;
+    Ok(GlobalDeclaration::Function(Function {
+        attributes,
+        ident,
+        parameters,
+        return_attributes,
+        return_type,
+        body,
+    }))
+}
+
+// The members at `members`, a list.
+fn members_member(
+    alloc: Global,
+    numbering: &mut Numbering,
+    value: &Value,
+) -> Result<Vec<StructMemberNode>, Error>
+    ensures ok { IfOk result (λ e. ReadsMany (codes "members") (list_of members a_member) (view value.now) (listed (placed member_view member_node) members e) numbering.old numbering.new) }
+    ensures place { IfErr result (LocatesInside (codes "members") (list_of members a_member) (view value.now)) }
+{
+    let Some(member) = value.get("members") else {
+        return Ok(Vec::new(alloc));
+    };
+    match read_members(alloc, numbering, member) {
+        Ok(members) => Ok(members),
+        Err(error) => Err(under(alloc, error, "members")),
+    }
+}
+
+fn read_members(
+    alloc: Global,
+    numbering: &mut Numbering,
+    value: &Value,
+) -> Result<Vec<StructMemberNode>, Error>
+    ensures ok { IfOk result (λ e. Reads (list_of members a_member) (view value.now) (listed (placed member_view member_node) members e) numbering.old numbering.new) }
+    ensures place { IfErr result (Locates (list_of members a_member) (view value.now)) }
+{
+    let Some(items) = value.as_array() else {
+        return Err(wrong(alloc));
+    };
+    let mut members = Vec::with_capacity(alloc, items.len())?;
+    for (index, item) in items.iter().enumerate() {
+        match read_member(alloc, numbering, item) {
+            Ok(member) => members.push(member)?,
+            Err(error) => return Err(under_index(alloc, error, index)),
+        }
+    }
+    Ok(members)
+}
+
+fn read_member(
+    alloc: Global,
+    numbering: &mut Numbering,
+    value: &Value,
+) -> Result<StructMemberNode, Error>
+    ensures ok { IfOk result (λ e. Reads (node_form a_member) (view value.now) (placed member_view member_node e) numbering.old numbering.new) }
+    ensures place { IfErr result (Locates (node_form a_member) (view value.now)) }
+{
+    check_keys(alloc, value, &["attrs", "name", "ty"])?;
+    let attributes = attributes_member(alloc, numbering, value, "attrs")?;
+    let name = plain_name_member(alloc, value, "name")?;
+    let ty = type_member(alloc, numbering, value, "ty")?;
+    Ok(unplaced(StructMember {
+        attributes,
+        name,
+        ty,
+    }))
+}
+
+// The parameters at `params`, a list.
+fn parameters_member(
+    alloc: Global,
+    numbering: &mut Numbering,
+    value: &Value,
+) -> Result<Vec<FormalParameter>, Error>
+    ensures ok { IfOk result (λ e. ReadsMany (codes "params") (list_of parameters a_parameter) (view value.now) (listed parameter_view parameters e) numbering.old numbering.new) }
+    ensures place { IfErr result (LocatesInside (codes "params") (list_of parameters a_parameter) (view value.now)) }
+{
+    let Some(member) = value.get("params") else {
+        return Ok(Vec::new(alloc));
+    };
+    match read_parameters(alloc, numbering, member) {
+        Ok(parameters) => Ok(parameters),
+        Err(error) => Err(under(alloc, error, "params")),
+    }
+}
+
+fn read_parameters(
+    alloc: Global,
+    numbering: &mut Numbering,
+    value: &Value,
+) -> Result<Vec<FormalParameter>, Error>
+    ensures ok { IfOk result (λ e. Reads (list_of parameters a_parameter) (view value.now) (listed parameter_view parameters e) numbering.old numbering.new) }
+    ensures place { IfErr result (Locates (list_of parameters a_parameter) (view value.now)) }
+{
+    let Some(items) = value.as_array() else {
+        return Err(wrong(alloc));
+    };
+    let mut parameters = Vec::with_capacity(alloc, items.len())?;
+    for (index, item) in items.iter().enumerate() {
+        match read_parameter(alloc, numbering, item) {
+            Ok(parameter) => parameters.push(parameter)?,
+            Err(error) => return Err(under_index(alloc, error, index)),
+        }
+    }
+    Ok(parameters)
+}
+
+fn read_parameter(
+    alloc: Global,
+    numbering: &mut Numbering,
+    value: &Value,
+) -> Result<FormalParameter, Error>
+    ensures ok { IfOk result (λ e. Reads (node_form a_parameter) (view value.now) (parameter_view e) numbering.old numbering.new) }
+    ensures place { IfErr result (Locates (node_form a_parameter) (view value.now)) }
+{
+    check_keys(alloc, value, &["attrs", "name", "ty"])?;
+    let attributes = attributes_member(alloc, numbering, value, "attrs")?;
+    let ident = binder_member(alloc, numbering, value)?;
+    let ty = type_member(alloc, numbering, value, "ty")?;
+    Ok(FormalParameter {
+        attributes,
+        ident,
+        ty,
+    })
+}
