@@ -1,4 +1,4 @@
-//! Printing units straight: of a unit's value there is no more at a time than that of one declaration.
+//! Printing units as JSON texts, a declaration at a time.
 #![tactic(auto)]
 
 mod lists;

@@ -17,7 +17,8 @@ use wesl_writing::{directive_values, global_value, import_values};
 
 /// The text, and behind it the value that a unit is written as, as compact JSON, its keys in the order of their bytes.
 ///
-/// It is the text of what `value_of_unit` gives, of which there is no more at a time than the value of one declaration.
+/// It is the text of what `value_of_unit` gives. Of that value there is no more at a time than one declaration, or the
+/// list of directives or of imports.
 pub fn print_unit(alloc: Global, text: String, unit: &TranslationUnit) -> Result<String, AllocError>
     ensures { IfOk result (λ s. string_bytes s ≡ string_bytes text ++ compact_text (unit_value (unit_view unit.now))) }
 {

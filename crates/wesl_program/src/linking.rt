@@ -55,7 +55,11 @@ pub fn linked(alloc: Global, bundle: Bundle) -> Result<Answer, Error>
     }
     let clash = names_clash(alloc, &made.unit)?;
     let map = map_value(alloc, &made.map)?;
-    Ok(Answer { clash, map, unit: made.unit })
+    Ok(Answer {
+        clash,
+        map,
+        unit: made.unit,
+    })
 }
 
 /// The root is handed out as each other module is, and each is linked as the bundle's features leave it. Of the other
