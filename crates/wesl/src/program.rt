@@ -1,5 +1,8 @@
 //! The program: the bytes of a bundle in, one line out.
-ghost use Rattle.std.specs.Prelude.{◌≡◌, Ok, Err, IfOk, IfErr, OnErr, string_bytes, true};
+ghost use Rattle.std.specs.Prelude.{◌≡◌, Ok, Err, IfOk, IfErr, OnErr, string_bytes, true, false};
+ghost use Rattle.serde_json.specs.View.{view};
+ghost use Rattle.serde_json.specs.Written.{has_float};
+ghost use Rattle.wesl_program.specs.Answers.{IsAnswerFor};
 ghost use Rattle.wesl_program.specs.Line.{IsAnswerLine, IsRefusal};
 ghost use Rattle.wesl_program.specs.Made.{bytes_of};
 ghost use Rattle.wesl.specs.Run.{IsLine, IsLineFor, Wrote, WroteBeginning};
@@ -8,7 +11,7 @@ use std::alloc::Global;
 use std::io::{Read, Write};
 use wesl_bundle::read_bundle;
 use wesl_program::{
-    Failures, Line, ReadFault, answer_line, linked, memory_line, read_whole, refusal,
+    Answer, Failures, Line, ReadFault, answer_line, linked, memory_line, read_whole, refusal,
     value_of_bytes, write_whole,
 };
 use wesl_tree::Error;
@@ -99,15 +102,25 @@ fn line_for<R: Read>(
     }
 }
 
-// The answer of the bytes.
+// The answer of the bytes. What was read of them is dropped before the line is made.
 fn answer(alloc: Global, bytes: &[u8]) -> Result<String, Error>
     ensures line { IfOk result (λ line. IsAnswerLine bytes.now (string_bytes line)) }
+    ensures refused { IfErr result (IsRefusal bytes.now) }
+{
+    let answer = linked_of_bytes(alloc, bytes)?;
+    Ok(answer_line(alloc, &answer)?)
+}
+
+// What is answered of the bundle that the bytes are.
+fn linked_of_bytes(alloc: Global, bytes: &[u8]) -> Result<Answer, Error>
+    ensures linked { IfOk result (IsAnswerFor bytes.now) }
+    ensures map_whole { IfOk result (λ a. has_float (view a.map) ≡ false) }
     ensures refused { IfErr result (IsRefusal bytes.now) }
 {
     let value = value_of_bytes(alloc, bytes)?;
     let bundle = read_bundle(alloc, &value)?;
     match linked(alloc, bundle) {
-        Ok(answer) => Ok(answer_line(alloc, answer)?),
+        Ok(answer) => Ok(answer),
         Err(error) => Err(error),
     }
 }

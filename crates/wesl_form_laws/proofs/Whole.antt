@@ -7,9 +7,9 @@ use Rattle.serde_json.specs.Written.{has_float, items_have_float, members_have_f
 use Rattle.wesl_names.specs.Path.{Text}
 use Rattle.wesl_syntax.specs.Tree.{kind, at, ident, text, texts, truth, unary, binary, assignment, space, access, path, end, tree, before, literal, type_or_identifier}
 use Rattle.wesl_syntax.specs.Unit.{spelled}
-use Rattle.wesl_form.specs.Schema.{SpelledForest, SpelledLabel, Leaf, an_ident, a_name, a_text, a_literal, some_names, a_path, one_of, a_fixed_path, a_truth, a_limit, some_texts, a_map_to, anything, Name, Form, leaf, list_of, node, Head, fixed, chosen, Row, nothing, marked, needs, may, many, given, inner, inner_where, Node, a_unit, an_import, a_content, an_entry, a_directive, a_declaration, a_member, a_parameter, a_body, a_statement, an_elif, an_else, a_clause, a_case, a_continuing, a_break_if, a_call, a_type, a_template_argument, an_expression, an_attribute, a_bundle, a_module, a_package, a_package_module, some_features, some_builtins}
+use Rattle.wesl_form.specs.Schema.{Spelled, SpelledForest, SpelledLabel, Leaf, an_ident, a_name, a_text, a_literal, some_names, a_path, one_of, a_fixed_path, a_truth, a_limit, some_texts, a_map_to, anything, Name, Form, leaf, list_of, node, Head, fixed, chosen, Row, nothing, marked, needs, may, many, given, inner, inner_where, Node, a_unit, an_import, a_content, an_entry, a_directive, a_declaration, a_member, a_parameter, a_body, a_statement, an_elif, an_else, a_clause, a_case, a_continuing, a_break_if, a_call, a_type, a_template_argument, an_expression, an_attribute, a_bundle, a_module, a_package, a_package_module, some_features, some_builtins}
 use Rattle.wesl_form.specs.Units.{unit_tree}
-use Rattle.wesl_form.specs.Writing.{texts_value, label_value, leaf_value, text_or_null, word_of, Writes, written_forest, value_at, short_value, short_type_value, short_expression_value, object_value, first_fit, candidates, marks, unmarked, put_head, is_absent, is_empty_array, is_absent_at, ident_in, truth_in, label_at, has_label, children_of_first}
+use Rattle.wesl_form.specs.Writing.{texts_value, label_value, leaf_value, text_or_null, word_of, Writes, written, written_forest, value_at, short_value, short_type_value, short_expression_value, object_value, first_fit, candidates, marks, unmarked, put_head, is_absent, is_empty_array, is_absent_at, ident_in, truth_in, label_at, has_label, children_of_first}
 use Rattle.wesl_form.specs.Words.{attribute_words}
 use Rattle.wesl_form_laws.specs.Readable.{HaveNoFloat}
 
@@ -206,6 +206,14 @@ all_whole (tree l c o) =
       items = λ m. both_false (has_float (value_at l c (written_forest c) (node m))) (items_have_float ((written_forest o).items m)) (value_whole l c inside (node m)) (later.items m);
       row = row_whole l c o inside later;
     }
+
+-- no tree is written as a value with a float
+pub written_whole : (f : Form) (t : Spelled) → has_float (written f t) ≡ false
+written_whole f t = (all_whole (before t end)).value f
+
+-- nor are trees after one another
+pub items_whole : (m : Name) (ts : SpelledForest) → items_have_float ((written_forest ts).items m) ≡ false
+items_whole m ts = (all_whole ts).items m
 
 pub have_no_float : HaveNoFloat
 have_no_float u = (all_whole (before (unit_tree (spelled u)) end)).value (node a_unit)

@@ -1,3 +1,4 @@
+pub mod AnswerLines
 pub mod Bytes
 pub mod Texts
 pub mod Units

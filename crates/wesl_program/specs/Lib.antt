@@ -8,6 +8,7 @@ pub mod StoredTexts
 pub mod Linking
 pub mod Validity
 pub mod Line
+pub mod Answers
 pub mod Made
 pub mod Refused
 pub mod Naming

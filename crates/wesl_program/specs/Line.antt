@@ -1,5 +1,5 @@
 -- The line for the bytes of a bundle: an answer or a fault.
-use Rattle.std.specs.Prelude.{◌≡◌, ◌≢◌, ◌⊎◌, ◌↔◌, ℕ, List, [], ◌∷◌, ◌++◌, Bool, false, Option, Some, None, codes, IsUtf8}
+use Rattle.std.specs.Prelude.{◌≡◌, ◌≢◌, ◌⊎◌, ◌↔◌, ℕ, List, [], ◌∷◌, ◌++◌, Bool, true, false, Option, Some, None, codes, IsUtf8}
 use Rattle.serde_json.specs.Data.{Data, boolean, string, array, object, item, no_items, member, no_members, Items, Members}
 use Rattle.serde_json.specs.Read.{read}
 use Rattle.serde_json.specs.Written.{compact_text}
@@ -94,6 +94,11 @@ IsMapOf recorded map = (listing : List (Text × Item)) × IsListing recorded lis
 
 abbrev pub answer_value : Bool → Data → Data → Data
 answer_value clash map unit = object (member (codes "clash") (boolean clash) (member (codes "map") map (member (codes "unit") unit no_members)))
+
+-- the line of an answer up to the map
+abbrev pub answer_beginning : Bool → Text
+answer_beginning true = codes "{\"clash\":true,\"map\":"
+answer_beginning false = codes "{\"clash\":false,\"map\":"
 
 -- there is no clash exactly where plain scoping of the names of the unit reads each reference as its number says
 abbrev pub SaysClash : Bool → UnitView → Type 0

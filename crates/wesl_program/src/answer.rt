@@ -2,11 +2,13 @@
 ghost use Rattle.std.specs.Prelude.{◌≡◌, IfOk, false, string_bytes};
 ghost use Rattle.serde_json.specs.View.{view};
 ghost use Rattle.serde_json.specs.Written.{has_float};
-ghost use Rattle.wesl_program.specs.Line.{answer_value, line_of};
+ghost use Rattle.wesl_program.specs.Answers.{value_of_answer};
+ghost use Rattle.wesl_program.specs.Line.{answer_beginning, line_of};
 
-use crate::text_line::text_line;
-use serde_json::{Value, json};
+use serde_json::Value;
 use std::alloc::{AllocError, Global};
+use wesl_printing::{print_text, print_unit, print_value};
+use wesl_tree::TranslationUnit;
 
 /// What is answered of a linked unit.
 #[derive(Drop)]
@@ -15,22 +17,29 @@ pub struct Answer {
     pub clash: bool,
     /// What the names of the unit stand for.
     pub map: Value,
-    /// The unit as a tree.
-    pub unit: Value,
+    /// The unit.
+    pub unit: TranslationUnit,
 }
 
 /// The line of an answer.
-pub fn answer_line(alloc: Global, answer: Answer) -> Result<String, AllocError>
-    requires map { has_float (view answer.map) ≡ false }
-    requires unit { has_float (view answer.unit) ≡ false }
-    ensures { IfOk result (λ s. string_bytes s ≡ line_of (answer_value answer.clash (view answer.map) (view answer.unit))) }
+pub fn answer_line(alloc: Global, answer: &Answer) -> Result<String, AllocError>
+    requires { has_float (view answer.now.map) ≡ false }
+    ensures { IfOk result (λ s. string_bytes s ≡ line_of (value_of_answer answer.now)) }
 {
-    let answer = answer_object(alloc, answer)?;
-    text_line(alloc, &answer)
+    let text = String::from_str(alloc, beginning(answer.clash))?;
+    let text = print_value(alloc, text, &answer.map)?;
+    let text = print_text(text, ",\"unit\":")?;
+    let text = print_unit(alloc, text, &answer.unit)?;
+    print_text(text, "}\n")
 }
 
-fn answer_object(alloc: Global, answer: Answer) -> Result<Value, AllocError>
-    ensures { IfOk result (λ v. view v ≡ answer_value answer.clash (view answer.map) (view answer.unit)) }
+// What stands before the map.
+fn beginning(clash: bool) -> &'static str
+    ensures { result.now ≡ answer_beginning clash }
 {
-    json!(in alloc; {"clash": answer.clash, "map": answer.map, "unit": answer.unit})
+    if clash {
+        "{\"clash\":true,\"map\":"
+    } else {
+        "{\"clash\":false,\"map\":"
+    }
 }

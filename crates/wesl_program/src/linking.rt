@@ -5,6 +5,7 @@ ghost use Rattle.serde_json.specs.View.{view};
 ghost use Rattle.serde_json.specs.Written.{has_float};
 ghost use Rattle.wesl_names.specs.Path.{path_view, is_relative};
 ghost use Rattle.wesl_names.specs.declared.errors.Error as error;
+ghost use Rattle.wesl_form.specs.Units.{unit_value};
 ghost use Rattle.wesl_tree.specs.Translation.{unit_view};
 ghost use Rattle.wesl_bundle.specs.PackageViews.{packages_view};
 ghost use Rattle.wesl_bundle.specs.Views.{bundle_view, module_view};
@@ -32,7 +33,6 @@ use std::alloc::{AllocError, Global};
 use wesl_bundle::{BuiltinNames, Bundle, BundleModule, Options, Package};
 use wesl_clash::names_clash;
 use wesl_formula::Features;
-use wesl_json::value_of_unit;
 use wesl_mapped_link::{Mapped, link_mapped};
 use wesl_resolve::{Resolver, StandardResolver};
 use wesl_source_mapper::SourceMapper;
@@ -41,13 +41,12 @@ use wesl_tree::{Error, ModulePath};
 // The modules of a bundle, and its packages.
 type Sources<'b, 'v> = StandardResolver<BundleResolver<'b, 'v>, StoredText>;
 
-/// The value of the unit that is linked of a bundle's modules, whether its names clash, and what they stand for. Where the
+/// The unit that is linked of a bundle's modules, whether its names clash, and what they stand for. Where the
 /// bundle has built-in names, the unit is validated by them, and refused with the validator's fault.
 pub fn linked(alloc: Global, bundle: Bundle) -> Result<Answer, Error>
     requires fixed { is_relative (path_view bundle.root) ≡ false }
-    ensures linked { IfOk result (λ a. IsAnswerOf (bundle_view bundle.entry) a.clash (view a.map) (view a.unit)) }
+    ensures linked { IfOk result (λ a. IsAnswerOf (bundle_view bundle.entry) a.clash (view a.map) (unit_value (unit_view a.unit))) }
     ensures map_whole { IfOk result (λ a. has_float (view a.map) ≡ false) }
-    ensures whole { IfOk result (λ a. has_float (view a.unit) ≡ false) }
     ensures refused { IfErr result (IsLinkFault (bundle_view bundle.entry)) }
 {
     let (made, builtins) = linked_unit(alloc, bundle)?;
@@ -56,8 +55,11 @@ pub fn linked(alloc: Global, bundle: Bundle) -> Result<Answer, Error>
     }
     let clash = names_clash(alloc, &made.unit)?;
     let map = map_value(alloc, &made.map)?;
-    let unit = value_of_unit(alloc, &made.unit)?;
-    Ok(Answer { clash, map, unit })
+    Ok(Answer {
+        clash,
+        map,
+        unit: made.unit,
+    })
 }
 
 /// The root is handed out as each other module is, and each is linked as the bundle's features leave it. Of the other

@@ -28,7 +28,7 @@ with_some k v ms h = some v.items (view (Array v)) h (view-Array v)
 
 -- ---- one item more
 
-abbrev items_then : Items → Data → Items
+abbrev pub items_then : Items → Data → Items
 items_then no_items d = item d no_items
 items_then (item e es) d = item e (items_then es d)
 
@@ -40,11 +40,11 @@ texts_value-then : (ts : List Text) (t : Text) → texts_value (ts ++ t ∷ []) 
 texts_value-then [] t = refl
 texts_value-then (s ∷ ts) t = ap (item (string s)) (texts_value-then ts t)
 
-map-then : {A B : Type 0} (f : A → B) (xs : List A) (x : A) → map f (xs ++ x ∷ []) ≡ map f xs ++ f x ∷ []
+pub map-then : {A B : Type 0} (f : A → B) (xs : List A) (x : A) → map f (xs ++ x ∷ []) ≡ map f xs ++ f x ∷ []
 map-then f [] x = refl
 map-then f (y ∷ xs) x = ap (λ r. f y ∷ r) (map-then f xs x)
 
-take-then : {A : Type 0} (xs : List A) (i : ℕ) (x : A) → i < length xs → x ≡ get_or xs i x → take (i + 1) xs ≡ take i xs ++ x ∷ []
+pub take-then : {A : Type 0} (xs : List A) (i : ℕ) (x : A) → i < length xs → x ≡ get_or xs i x → take (i + 1) xs ≡ take i xs ++ x ∷ []
 take-then xs i x within here = take_more xs i x within ∙ ap (λ w. take i xs ++ w ∷ []) (sym here)
 
 -- a turn of the loop over texts
@@ -57,7 +57,7 @@ pub texts-whole : (xs ys : List (String Global)) (i : ℕ) (ds : Items) → xs �
 texts-whole xs ys i ds same all h = h ∙ ap (λ zs. texts_value (map string_bytes zs)) (take_all i xs all ∙ same)
 
 module _ (names : List Text) (m : Name) where
-  items_in-then : (ts : List Tree) (t : Tree) → items_in names m (forest_of (ts ++ t ∷ [])) ≡ items_then (items_in names m (forest_of ts)) (value_in names (node m) t)
+  pub items_in-then : (ts : List Tree) (t : Tree) → items_in names m (forest_of (ts ++ t ∷ [])) ≡ items_then (items_in names m (forest_of ts)) (value_in names (node m) t)
   unfolding items_in value_in
   items_in-then [] t = refl
   items_in-then (u ∷ ts) t = ap (item (written (node m) (respell (name_in names) u))) (items_in-then ts t)

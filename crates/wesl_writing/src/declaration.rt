@@ -40,7 +40,8 @@ pub(crate) fn global_values(
     Ok(values)
 }
 
-fn global_value(alloc: Global, names: &Names, declaration: &GlobalDeclaration) -> Written
+/// The value of a declaration of a module.
+pub fn global_value(alloc: Global, names: &Names, declaration: &GlobalDeclaration) -> Written
     ensures { IfOk result (λ v. view v ≡ declaration_in names.now (global_view declaration.now)) }
 {
     match declaration {

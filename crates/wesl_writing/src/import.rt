@@ -19,7 +19,7 @@ use wesl_syntax::{
 };
 
 /// The values of imports.
-pub(crate) fn import_values(
+pub fn import_values(
     alloc: Global,
     names: &Names,
     imports: &Vec<ImportStatementNode>,
@@ -92,7 +92,7 @@ fn entry_value(alloc: Global, names: &Names, entry: &Import) -> Written
 }
 
 /// The values of directives.
-pub(crate) fn directive_values(
+pub fn directive_values(
     alloc: Global,
     names: &Names,
     directives: &Vec<GlobalDirectiveNode>,

@@ -10,4 +10,7 @@ mod statement;
 mod unit;
 mod words;
 
+pub use declaration::global_value;
+pub use import::{directive_values, import_values};
+pub use object::{Written, WrittenList};
 pub use unit::value_of_unit;

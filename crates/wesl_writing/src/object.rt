@@ -11,10 +11,10 @@ use std::alloc::{AllocError, Global};
 use wesl_names::{Ident, Names};
 
 /// A value that is written, unless there is no memory for it.
-pub(crate) type Written = Result<Value, AllocError>;
+pub type Written = Result<Value, AllocError>;
 
 /// Values that are written, unless there is no memory for them.
-pub(crate) type WrittenList = Result<Vec<Value>, AllocError>;
+pub type WrittenList = Result<Vec<Value>, AllocError>;
 
 /// An object that is written, member by member. Its members stand in the order of their keys, whichever comes first here.
 ///

@@ -1,6 +1,7 @@
-use Rattle.std.proofs.Common.{subst, rules}
+use Rattle.std.proofs.Common.{refl, subst, rules}
 use Rattle.std.specs.Prelude.{option_map}
 use Rattle.serde_json.specs.View.{view}
+use Rattle.wesl_form.specs.Units.{unit_value}
 use Rattle.wesl_tree.specs.Translation.{unit_view}
 use Rattle.wesl_bundle.specs.Views.{builtins_view, bundle_view}
 use Rattle.wesl_source_map.specs.Records.{SameItems}
@@ -24,4 +25,4 @@ returns-clause-linked c =
     let b = bundle_view c.args.bundle in
     let u = unit_view made.made.unit in
     let valid : IsValidUnder b.builtins u = search rules in
-    answer-of b u (items made.made.map) c.in_ok-clash.clash (view c.in_ok-map.map) (view c.in_ok-unit.unit) made.ensures.linked valid c.in_ok-clash.ensures.exact c.in_ok-map.ensures.map c.in_ok-unit.ensures.written
+    answer-of b u (items made.made.map) c.in_ok-clash.clash (view c.in_ok-map.map) (unit_value u) made.ensures.linked valid c.in_ok-clash.ensures.exact c.in_ok-map.ensures.map refl

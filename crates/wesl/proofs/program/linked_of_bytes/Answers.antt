@@ -6,7 +6,7 @@ use Rattle.wesl_bundle.specs.Bundle.{Bundle, bundle_of}
 use Rattle.wesl_bundle.specs.Views.{bundle_view}
 use Rattle.wesl_program.specs.Line.{IsJsonOf, IsRefusal}
 use Rattle.wesl_program.specs.Refused.{IsLinkFault}
-use Rattle.wesl.proofs.program.answer.Goals as goal
+use Rattle.wesl.proofs.program.linked_of_bytes.Goals as goal
 
 refusal : (bytes : List ℕ) (d : Data) (b : Bundle) (e : error.Error) → IsJsonOf bytes d → bundle_of d ≡ Some b → IsLinkFault b e → IsRefusal bytes e
 refusal bytes d b e found is (inl h) = inl h
