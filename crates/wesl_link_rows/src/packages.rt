@@ -43,12 +43,26 @@ fn packages_at(row: Row<'_>, key: &str) -> Result<Vec<CodegenPkg>, anyhow::Error
     Ok(packages)
 }
 
+/// The root of the package that a row names, with its `submodules`.
+fn root(row: Row<'_>) -> Result<CodegenModule, anyhow::Error> {
+    let name = row.owned("package")?;
+    let source = row.owned("package")?;
+    Ok(CodegenModule {
+        name,
+        source,
+        submodules: submodules(row)?,
+    })
+}
+
 /// The package that a row names, with its `submodules` and its `dependencies`.
 fn package(row: Row<'_>) -> Result<CodegenPkg, anyhow::Error> {
-    let mut package = package_of(row.alloc, row.text("package"))?;
-    package.root.submodules = submodules(row)?;
-    package.dependencies = packages_at(row, "dependencies")?;
-    Ok(package)
+    let crate_name = String::from_str(row.alloc, "crate")?;
+    let root = root(row)?;
+    Ok(CodegenPkg {
+        crate_name,
+        root,
+        dependencies: packages_at(row, "dependencies")?,
+    })
 }
 
 /// A resolver of the package of a row.
