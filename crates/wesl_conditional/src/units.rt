@@ -20,6 +20,6 @@ pub fn condition(
     let mut unit = unit;
     match run(alloc, &mut unit, features) {
         Ok(()) => Ok(unit),
-        Err(told) => Err(told.error),
+        Err(told) => Err(told.into_error()),
     }
 }

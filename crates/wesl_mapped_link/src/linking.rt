@@ -168,7 +168,7 @@ fn found<R: Resolver + Drop, M: Mangler + Drop, S: Start>(
             resolutions,
             mapper: asked.mapper,
         }),
-        Err(diagnostic) => Err(diagnostic.error),
+        Err(diagnostic) => Err(diagnostic.into_error()),
     }
 }
 

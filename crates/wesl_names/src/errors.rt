@@ -4,6 +4,7 @@
 //! Want of memory is `Memory` wherever it comes up, and no call wraps it in another error.
 ghost use Rattle.std.specs.Prelude.{◌≡◌};
 ghost use Rattle.wesl_names.specs.Errors.{error_of_resolve, IsBare};
+ghost use Rattle.wesl_names.specs.declared.errors.Diagnostic.{out-Diagnostic};
 
 use crate::path::ModulePath;
 use crate::span::Span;
@@ -55,7 +56,7 @@ pub enum ValidateError {
 
 /// A fault with the place where it was found.
 #[cycle(errors)]
-#[derive(Debug, Drop)]
+#[derive(Debug)]
 pub struct Diagnostic {
     /// What the fault is.
     pub error: Error,
@@ -69,6 +70,20 @@ pub struct Diagnostic {
     pub span: Option<Span>,
     /// The source of the module.
     pub source: Option<String>,
+}
+
+impl Drop for Diagnostic {
+    #[cycle(errors)]
+    fn drop(self) {
+        let Diagnostic {
+            error: _,
+            declaration: _,
+            module: _,
+            display: _,
+            span: _,
+            source: _,
+        } = self;
+    }
 }
 
 /// Why a resolver hands out no module.
@@ -188,6 +203,21 @@ impl Diagnostic {
             span: None,
             source: None,
         }
+    }
+
+    /// The error alone: its place is let go.
+    pub fn into_error(self) -> Error
+        ensures { result ≡ (out-Diagnostic self).error }
+    {
+        let Diagnostic {
+            error,
+            declaration: _,
+            module: _,
+            display: _,
+            span: _,
+            source: _,
+        } = self;
+        error
     }
 }
 

@@ -26,7 +26,7 @@ impl UnitText for StoredText {
     fn read(&self, alloc: Global, text: &str) -> Result<TranslationUnit, Diagnostic> {
         match JsonText.read(alloc, text) {
             Ok(unit) => Ok(unit),
-            Err(fault) => Err(Diagnostic::of(at_root(alloc, fault.error))),
+            Err(fault) => Err(Diagnostic::of(at_root(alloc, fault.into_error()))),
         }
     }
 

@@ -26,6 +26,6 @@ pub(crate) fn check_valid(
     let builtins = Builtins::new(listed.names, listed.functions, listed.constructors);
     match validate_wgsl(alloc, unit, &builtins) {
         Ok(()) => Ok(()),
-        Err(diagnostic) => Err(diagnostic.error),
+        Err(diagnostic) => Err(diagnostic.into_error()),
     }
 }

@@ -47,7 +47,7 @@ fn unreadable(alloc: Global, fault: Diagnostic, path: &ModulePath, source: &str)
     ensures { OrMemory (IsRefusedFor (λ e. e ≡ (out-Diagnostic fault).error)) result }
 {
     match String::from_str(alloc, source) {
-        Ok(source) => refused(alloc, fault.error, path, None, Some(source)),
+        Ok(source) => refused(alloc, fault.into_error(), path, None, Some(source)),
         Err(_) => ResolveError::Memory,
     }
 }

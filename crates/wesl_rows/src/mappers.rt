@@ -158,7 +158,7 @@ fn without_x(alloc: Global, unit: TranslationUnit) -> Result<TranslationUnit, Er
     let mut unit = unit;
     match run(alloc, &mut unit, &features) {
         Ok(()) => Ok(unit),
-        Err(told) => Err(told.error),
+        Err(told) => Err(told.into_error()),
     }
 }
 
