@@ -1,7 +1,7 @@
 use Rattle.std.proofs.Common.{◌≡◌, ◌<◌, [], length, sym, ap, ◌∙◌, rules}
 use Rattle.std.proofs.lemmas.Grind.{common_steps}
 use Rattle.std.proofs.lemmas.Result.{IfOk-at_ok}
-use Rattle.serde_json.specs.View.{items_view}
+use Rattle.wesl_piece.specs.View.{items_view}
 use Rattle.wesl_writing.specs.Values.{with_list}
 use Rattle.wesl_writing.proofs.Lists.{with_none, with_some}
 use Rattle.wesl_writing.proofs.Objects.{holds-as}
