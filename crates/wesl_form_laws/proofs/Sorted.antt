@@ -44,7 +44,7 @@ below_put l k d no_members first below = first
 below_put l k d (member m e ms) first below = below_at (slice_cmp nat_cmp k m) l k m d e ms first below
 
 sorted_at : (o : Ordering) (k l : Text) (d e : Data) (ms : Members) → slice_cmp nat_cmp k l ≡ o → IsSorted d → IsSorted e → IsBelow l ms → AreMembersSorted ms → AreMembersSorted (put k d ms) → AreMembersSorted (match_ordering o (member k d (member l e ms)) (member l d ms) (member l e (put k d ms)))
-sorted_at Less k l d e ms is a b below rest more = (a, is, b, below, rest)
+sorted_at Less k l d e ms is a b below rest more = (a, is, (b, below, rest))
 sorted_at Equal k l d e ms is a b below rest more = (a, below, rest)
 sorted_at Greater k l d e ms is a b below rest more = (b, below_put l k d ms (nat_list_cmp_total.antisymm l k ∙ ap ordering_reverse is) below, more)
 
