@@ -52,7 +52,7 @@ impl<'a> Object<'a> {
                     Err(_) => None,
                 }
             }
-            _ => None,
+            (_members, _value) => None,
         };
         Object { alloc, members }
     }

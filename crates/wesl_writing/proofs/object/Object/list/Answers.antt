@@ -13,8 +13,8 @@ returns-then-is_empty c = λ ms ds held made.
     let same : items_view c.in-Ok.list.items ≡ ds = IfOk-at_ok (λ vs. items_view vs.items ≡ ds) c.in-Ok.is made in
     holds-as c.args.self _ _ (sym (with_none c.args.key.now c.in-Ok.list.items ms none) ∙ ap (λ es. with_list c.args.key.now es ms) same) held
 
-pub returns-else-is_empty : goal.returns-else-is_empty
-returns-else-is_empty c = λ ms ds held made.
+pub returns-in-Ok : goal.returns-in-Ok
+returns-in-Ok c = λ ms ds held made.
     let some : 0 < length c.in-Ok.list.items = search (rules, common_steps) in
     let same : items_view c.in-Ok.list.items ≡ ds = IfOk-at_ok (λ vs. items_view vs.items ≡ ds) c.in-Ok.is made in
     holds-as c.value.result _ _ (sym (with_some c.args.key.now c.in-Ok.list ms some) ∙ ap (λ es. with_list c.args.key.now es ms) same) (search rules)
