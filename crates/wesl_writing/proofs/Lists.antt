@@ -2,6 +2,7 @@
 use Rattle.std.proofs.Common.{◌≡◌, ℕ, ◌+◌, ◌<◌, ◌≤◌, List, [], ◌∷◌, ◌++◌, length, get_or, map, take, String, Vec, Global, string_bytes, refl, sym, ap, ◌∙◌, arith, rules}
 use Rattle.std.proofs.lemmas.List.{take_more, take_all}
 use Rattle.serde_json.specs.Data.{Data, string, array, Items, no_items, item, Members}
+use Rattle.wesl_piece.specs.Order.{sorted}
 use Rattle.wesl_piece.specs.View.{items_view, piece_view}
 use Rattle.wesl_piece.specs.declared.piece.Piece.{Piece, the_lemmas}
 use Rattle.wesl_piece.specs.declared.piece.Piece as pieces
@@ -85,3 +86,7 @@ module _ (names : List Text) (m : Name) where
   pub placed-value : {A : Type 0} (f : A → Tree) (k : Kind) (x : Spanned A) → value_in names (node m) (placed f k x) ≡ placed_in names m k (f x.node)
   unfolding value_in placed_in
   placed-value f k x = refl
+
+-- a piece of data that is sorted, made a value
+pub made-sorted : (d e v : Data) → sorted e ≡ e → d ≡ e → v ≡ sorted d → v ≡ e
+made-sorted d e v law is made = made ∙ ap sorted is ∙ law
