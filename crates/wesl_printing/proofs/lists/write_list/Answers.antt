@@ -17,4 +17,4 @@ returns-clause-written c = λ ds made.
     let list = c.in_ok-list.list in
     let some : 0 < length list.items = search (rules, common_steps) in
     let same : items_view list.items ≡ ds = IfOk-at_ok (λ vs. items_view vs.items ≡ ds) c.in_ok-list.was made in
-    on_ok_weaker c.write_items.result (λ h. full-list list.items ds c.args.key.now c.args.out.now.tokens c.key-2.new.self.tokens c.begin_array.new.self.tokens c.write_items.new.out.tokens some same (search rules) (search rules) h) (search rules)
+    on_ok_weaker c.write_items.result (λ h. full-list list.items ds c.args.key.now c.args.out.now.tokens c.key.new.self.tokens c.begin_array.new.self.tokens c.write_items.new.out.tokens some same (search rules) (search rules) h) (search rules)

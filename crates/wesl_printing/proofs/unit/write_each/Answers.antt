@@ -1,11 +1,11 @@
-use Rattle.std.proofs.Common.{◌++◌, sym, ap, ◌∙◌, rules}
+use Rattle.std.proofs.Common.{sym, rules}
 use Rattle.std.proofs.lemmas.Result.{on_ok_weaker}
 use Rattle.wesl_syntax.specs.Tree.{declaration_node}
 use Rattle.wesl_syntax.specs.View.{global_view, placed}
 use Rattle.wesl_form.specs.Schema.{a_declaration}
 use Rattle.wesl_writing.specs.Values.{placed_in}
 use Rattle.wesl_writing.proofs.Lists.{placed-value}
-use Rattle.wesl_printing.proofs.Printed.{all-written, left, turn-written}
+use Rattle.wesl_printing.proofs.Printed.{all-written, turn-written}
 use Rattle.wesl_printing.proofs.unit.write_each.Goals as goal
 
 pub loop-declaration-preserved : goal.loop-declaration-preserved
