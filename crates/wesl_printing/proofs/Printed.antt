@@ -51,8 +51,10 @@ module _ (names : List Text) (m : Name) {A : Type 0} (f : A → Tree) where
   unfolding items_in
   none-left xs i all = ap (λ ys. items_tokens (items_outline (items_in names m (forest_of (map f ys))))) (drop_all i xs all)
 
-  pub all-written : (xs : List A) (i : ℕ) (whole now closed : List Token) → length xs ≤ i → now ++ left i xs ≡ whole → closed ≡ now ++ end_array ∷ [] → closed ≡ whole
-  all-written xs i whole now closed all so_far h = h ∙ ap (λ ts. now ++ ts) (sym (none-left xs i all)) ∙ so_far
+  pub all-written : (xs ys : List A) (i : ℕ) (start now closed : List Token) → xs ≡ ys → length xs ≤ i → now ++ left i xs ≡ start ++ left 0 xs → closed ≡ now ++ end_array ∷ []
+      → closed ≡ start ++ items_tokens (items_outline (items_in names m (forest_of (map f ys))))
+  all-written xs ys i start now closed same all so_far h =
+      h ∙ ap (λ ts. now ++ ts) (sym (none-left xs i all)) ∙ so_far ∙ ap (λ zs. start ++ items_tokens (items_outline (items_in names m (forest_of (map f zs))))) same
 
   -- the member of a list without nodes
   pub none-member : (xs : List A) (k : Text) (old : List Token) → xs ≡ [] → old ≡ old ++ list_tokens k (items_in names m (forest_of (map f xs)))

@@ -24,4 +24,4 @@ returns-clause-written c =
     let names = c.args.names.now in
     let xs = c.deref-declaration-items.result.now in
     let l = c.loop-declaration in
-    on_ok_weaker c.end_array.result (λ e. all-written names a_declaration (placed global_view declaration_node) xs l.declaration-index _ l.out.tokens c.end_array.new.self.tokens (search rules) l.invariant.0 e) (search rules)
+    on_ok_weaker c.end_array.result (λ e. all-written names a_declaration (placed global_view declaration_node) xs c.args.declarations.now.items l.declaration-index c.args.out.now.tokens l.out.tokens c.end_array.new.self.tokens (search rules) (search rules) l.invariant.0 e) (search rules)
