@@ -8,7 +8,7 @@ ghost use Rattle.wesl_names.specs.declared.errors.Diagnostic.{out-Diagnostic};
 ghost use Rattle.wesl_resolve.specs.Resolver.{MeansTheSame};
 ghost use Rattle.wesl_conditional.specs.Conditions.{IsConditioned};
 ghost use Rattle.wesl_conditional.specs.Linking.{Links, LinksLeft, RefusesLink, RefusesLinkLeft, kept_names};
-ghost use Rattle.wesl_linker.specs.Refusal.{TellsOf};
+ghost use Rattle.wesl_linker.specs.Linking.{LinksRoot, RefusesRoot};
 ghost use Rattle.wesl_linker.specs.Resolved.{module_at};
 ghost use Rattle.wesl_linker.specs.Worlds as worlds;
 ghost use Rattle.wesl_link.specs.Keeping.{IsSound, resolved, modules_of, turns_of};
@@ -127,13 +127,13 @@ fn link_unit<R: Resolver>(
 ) -> Result<Resolutions, Diagnostic>
     requires ready { R.ready resolver.old }
     requires asked { is_relative (path_view path.now) ≡ false }
-    ensures linked { let root = module_at path.now unit in IfOk result (λ r. worlds.IsLinked (R.hands resolver.old) (R.refuses resolver.old) root (worlds.task_of root (kept_names is_eager (texts keep.now)) is_eager) max_modules (turns_of r) (modules_of r)) }
+    ensures linked { IfOk result (λ r. LinksRoot (R.hands resolver.old) (R.refuses resolver.old) path.now unit (kept_names is_eager (texts keep.now)) is_eager max_modules (resolved r)) }
     ensures order { IfOk result (λ r. worlds.IsModuleOrder (module_at path.now unit) (modules_of r)) }
     ensures kept { IfOk result (λ r. (resolved r).kept ≡ kept_names is_eager (texts keep.now)) }
     ensures eager { IfOk result (λ r. (resolved r).is_eager ≡ is_eager) }
     ensures names { IfOk result (λ r. (p : Path) (n : Text) → (resolved r).names p n ≡ n) }
     ensures sound { IfOk result IsSound }
-    ensures refused { let root = module_at path.now unit in IfErr result (λ d. TellsOf (worlds.IsRefused (R.hands resolver.old) (R.refuses resolver.old) root (worlds.task_of root (kept_names is_eager (texts keep.now)) is_eager) max_modules) (out-Diagnostic d).error) }
+    ensures refused { IfErr result (RefusesRoot (R.hands resolver.old) (R.refuses resolver.old) path.now unit (kept_names is_eager (texts keep.now)) is_eager max_modules) }
     ensures same { MeansTheSame R.hands R.refuses R.source R.lacks R.shown resolver.old resolver.new }
     ensures stays_ready { R.ready resolver.new }
 {
