@@ -1,6 +1,7 @@
 //! Statements.
-ghost use Rattle.std.specs.Prelude.{◌≡◌};
+ghost use Rattle.std.specs.Prelude.{◌≡◌, ◌&&◌};
 ghost use Rattle.std.specs.Box.{box_value};
+ghost use Rattle.wesl_spelling.specs.Groups.{is_jump, is_step, is_action, is_if, is_switch, is_plain_loop, is_for};
 ghost use Rattle.wesl_syntax.specs.Tree.{clauses, list, statements};
 ghost use Rattle.wesl_syntax.specs.View.{statement_view, statement_tree, compound_view, continuing_view, else_view, else_if_view, if_view, clause_view, selector_view, break_if_view, listed, optional};
 
@@ -49,16 +50,75 @@ impl Tables<'_> {
             && self.same_node(&left.expression, &right.expression)
     }
 
-    #[cycle(statement)]
+    /// Whether the left one breaks, continues, returns or discards, and the right one is the same.
     #[tactic(auto, using(crate::proofs::Bools::steps))]
-    fn same_statement(&self, left: &Statement, right: &Statement) -> bool
-        ensures { result ≡ same_in self.now (statement_view left.now) (statement_view right.now) }
+    fn same_jump(&self, left: &Statement, right: &Statement) -> bool
+        ensures { result ≡ is_jump (statement_view left.now).label && same_in self.now (statement_view left.now) (statement_view right.now) }
     {
         match (left, right) {
-            (Statement::Void, Statement::Void) => true,
-            (Statement::Compound(left), Statement::Compound(right)) => self.same_compound(
-                left, right,
-            ),
+            (Statement::Break { attributes: left }, Statement::Break { attributes: right }) => {
+                self.same_attributes(left, right)
+            }
+            (
+                Statement::Continue { attributes: left },
+                Statement::Continue { attributes: right },
+            ) => self.same_attributes(left, right),
+            (
+                Statement::Return {
+                    attributes: left_attributes,
+                    expression: left_expression,
+                },
+                Statement::Return {
+                    attributes: right_attributes,
+                    expression: right_expression,
+                },
+            ) => self.same_attributes(left_attributes, right_attributes)
+                && self.same_optional_node(left_expression, right_expression),
+            (Statement::Discard { attributes: left }, Statement::Discard { attributes: right }) => {
+                self.same_attributes(left, right)
+            }
+            _ => false,
+        }
+    }
+
+    /// Whether the left one counts up or down, and the right one is the same.
+    #[tactic(auto, using(crate::proofs::Bools::steps))]
+    fn same_step(&self, left: &Statement, right: &Statement) -> bool
+        ensures { result ≡ is_step (statement_view left.now).label && same_in self.now (statement_view left.now) (statement_view right.now) }
+    {
+        match (left, right) {
+            (
+                Statement::Increment {
+                    attributes: left_attributes,
+                    expression: left_expression,
+                },
+                Statement::Increment {
+                    attributes: right_attributes,
+                    expression: right_expression,
+                },
+            ) => self.same_attributes(left_attributes, right_attributes)
+                && self.same_node(left_expression, right_expression),
+            (
+                Statement::Decrement {
+                    attributes: left_attributes,
+                    expression: left_expression,
+                },
+                Statement::Decrement {
+                    attributes: right_attributes,
+                    expression: right_expression,
+                },
+            ) => self.same_attributes(left_attributes, right_attributes)
+                && self.same_node(left_expression, right_expression),
+            _ => false,
+        }
+    }
+
+    /// Whether the left one assigns or calls, and the right one is the same.
+    #[tactic(auto, using(crate::proofs::Bools::steps))]
+    fn same_action(&self, left: &Statement, right: &Statement) -> bool
+        ensures { result ≡ is_action (statement_view left.now).label && same_in self.now (statement_view left.now) (statement_view right.now) }
+    {
+        match (left, right) {
             (
                 Statement::Assignment {
                     attributes: left_attributes,
@@ -77,27 +137,27 @@ impl Tables<'_> {
                 && self.same_node(left_lhs, right_lhs)
                 && self.same_node(left_rhs, right_rhs),
             (
-                Statement::Increment {
+                Statement::FunctionCall {
                     attributes: left_attributes,
-                    expression: left_expression,
+                    call: left_call,
                 },
-                Statement::Increment {
+                Statement::FunctionCall {
                     attributes: right_attributes,
-                    expression: right_expression,
+                    call: right_call,
                 },
             ) => self.same_attributes(left_attributes, right_attributes)
-                && self.same_node(left_expression, right_expression),
-            (
-                Statement::Decrement {
-                    attributes: left_attributes,
-                    expression: left_expression,
-                },
-                Statement::Decrement {
-                    attributes: right_attributes,
-                    expression: right_expression,
-                },
-            ) => self.same_attributes(left_attributes, right_attributes)
-                && self.same_node(left_expression, right_expression),
+                && self.same_call(left_call, right_call),
+            _ => false,
+        }
+    }
+
+    /// Whether the left one is an `if`, and the right one is the same.
+    #[cycle(statement)]
+    #[tactic(auto, using(crate::proofs::Bools::steps))]
+    fn same_if_statement(&self, left: &Statement, right: &Statement) -> bool
+        ensures { result ≡ is_if (statement_view left.now).label && same_in self.now (statement_view left.now) (statement_view right.now) }
+    {
+        match (left, right) {
             (
                 Statement::If {
                     attributes: left_attributes,
@@ -115,6 +175,17 @@ impl Tables<'_> {
                 && self.same_if(left_if_clause, right_if_clause)
                 && self.same_else_ifs(left_else_if_clauses, right_else_if_clauses)
                 && self.same_optional_else(left_else_clause, right_else_clause),
+            _ => false,
+        }
+    }
+
+    /// Whether the left one is a `switch`, and the right one is the same.
+    #[cycle(statement)]
+    #[tactic(auto, using(crate::proofs::Bools::steps))]
+    fn same_switch(&self, left: &Statement, right: &Statement) -> bool
+        ensures { result ≡ is_switch (statement_view left.now).label && same_in self.now (statement_view left.now) (statement_view right.now) }
+    {
+        match (left, right) {
             (
                 Statement::Switch {
                     attributes: left_attributes,
@@ -132,6 +203,17 @@ impl Tables<'_> {
                 && self.same_node(left_expression, right_expression)
                 && self.same_attributes(left_body_attributes, right_body_attributes)
                 && self.same_clauses(left_clauses, right_clauses),
+            _ => false,
+        }
+    }
+
+    /// Whether the left one is a `loop` or a `while`, and the right one is the same.
+    #[cycle(statement)]
+    #[tactic(auto, using(crate::proofs::Bools::steps))]
+    fn same_plain_loop(&self, left: &Statement, right: &Statement) -> bool
+        ensures { result ≡ is_plain_loop (statement_view left.now).label && same_in self.now (statement_view left.now) (statement_view right.now) }
+    {
+        match (left, right) {
             (
                 Statement::Loop {
                     attributes: left_attributes,
@@ -146,6 +228,31 @@ impl Tables<'_> {
             ) => self.same_attributes(left_attributes, right_attributes)
                 && self.same_compound(left_body, right_body)
                 && self.same_optional_continuing(left_continuing, right_continuing),
+            (
+                Statement::While {
+                    attributes: left_attributes,
+                    condition: left_condition,
+                    body: left_body,
+                },
+                Statement::While {
+                    attributes: right_attributes,
+                    condition: right_condition,
+                    body: right_body,
+                },
+            ) => self.same_attributes(left_attributes, right_attributes)
+                && self.same_node(left_condition, right_condition)
+                && self.same_compound(left_body, right_body),
+            _ => false,
+        }
+    }
+
+    /// Whether the left one is a `for`, and the right one is the same.
+    #[cycle(statement)]
+    #[tactic(auto, using(crate::proofs::Bools::steps))]
+    fn same_for(&self, left: &Statement, right: &Statement) -> bool
+        ensures { result ≡ is_for (statement_view left.now).label && same_in self.now (statement_view left.now) (statement_view right.now) }
+    {
+        match (left, right) {
             (
                 Statement::For {
                     attributes: left_attributes,
@@ -166,72 +273,45 @@ impl Tables<'_> {
                 && self.same_optional_node(left_condition, right_condition)
                 && self.same_optional_statement(left_update, right_update)
                 && self.same_compound(left_body, right_body),
-            (
-                Statement::While {
-                    attributes: left_attributes,
-                    condition: left_condition,
-                    body: left_body,
-                },
-                Statement::While {
-                    attributes: right_attributes,
-                    condition: right_condition,
-                    body: right_body,
-                },
-            ) => self.same_attributes(left_attributes, right_attributes)
-                && self.same_node(left_condition, right_condition)
-                && self.same_compound(left_body, right_body),
-            (
-                Statement::Break {
-                    attributes: left_attributes,
-                },
-                Statement::Break {
-                    attributes: right_attributes,
-                },
-            ) => self.same_attributes(left_attributes, right_attributes),
-            (
-                Statement::Continue {
-                    attributes: left_attributes,
-                },
-                Statement::Continue {
-                    attributes: right_attributes,
-                },
-            ) => self.same_attributes(left_attributes, right_attributes),
-            (
-                Statement::Return {
-                    attributes: left_attributes,
-                    expression: left_expression,
-                },
-                Statement::Return {
-                    attributes: right_attributes,
-                    expression: right_expression,
-                },
-            ) => self.same_attributes(left_attributes, right_attributes)
-                && self.same_optional_node(left_expression, right_expression),
-            (
-                Statement::Discard {
-                    attributes: left_attributes,
-                },
-                Statement::Discard {
-                    attributes: right_attributes,
-                },
-            ) => self.same_attributes(left_attributes, right_attributes),
-            (
-                Statement::FunctionCall {
-                    attributes: left_attributes,
-                    call: left_call,
-                },
-                Statement::FunctionCall {
-                    attributes: right_attributes,
-                    call: right_call,
-                },
-            ) => self.same_attributes(left_attributes, right_attributes)
-                && self.same_call(left_call, right_call),
+            _ => false,
+        }
+    }
+
+    #[cycle(statement)]
+    #[tactic(auto, using(crate::proofs::Bools::steps))]
+    fn same_statement(&self, left: &Statement, right: &Statement) -> bool
+        ensures { result ≡ same_in self.now (statement_view left.now) (statement_view right.now) }
+    {
+        match (left, right) {
+            (Statement::Void, Statement::Void) => true,
+            (Statement::Compound(left), Statement::Compound(right)) => self.same_compound(
+                left, right,
+            ),
             (Statement::ConstAssert(left), Statement::ConstAssert(right)) => self.same_assert(
                 left, right,
             ),
             (Statement::Declaration(left), Statement::Declaration(right)) => self.same_declaration(
                 left, right,
             ),
+            (Statement::Assignment { .. } | Statement::FunctionCall { .. }, _) => {
+                self.same_action(left, right)
+            }
+            (Statement::Increment { .. } | Statement::Decrement { .. }, _) => {
+                self.same_step(left, right)
+            }
+            (Statement::If { .. }, _) => self.same_if_statement(left, right),
+            (Statement::Switch { .. }, _) => self.same_switch(left, right),
+            (Statement::Loop { .. } | Statement::While { .. }, _) => {
+                self.same_plain_loop(left, right)
+            }
+            (Statement::For { .. }, _) => self.same_for(left, right),
+            (
+                Statement::Break { .. }
+                | Statement::Continue { .. }
+                | Statement::Return { .. }
+                | Statement::Discard { .. },
+                _,
+            ) => self.same_jump(left, right),
             _ => false,
         }
     }
