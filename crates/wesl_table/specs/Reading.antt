@@ -134,4 +134,4 @@ pub record Marks (nb : Numbering) (m : Mark) (old new : List (Reference PathId N
 
 -- the mark says what the name of that number is, in these texts, and what it asks for is added
 abbrev pub MarksName : Numbers → Numbers → NameId → (Text → Use Path Text) → Mark → List (Reference PathId NameId) → List (Reference PathId NameId) → Type 0
-MarksName before after name use m old new = (x : Text) → NameAt (numbering before) name x → Marks (numbering after) m old new (use x)
+MarksName before after name as_use m old new = (x : Text) → NameAt (numbering before) name x → Marks (numbering after) m old new (as_use x)
