@@ -15,20 +15,20 @@ use Rattle.wesl_linker.specs.Worlds.{task_of, IsLinked, IsRefused, IsFaultless}
 abbrev pub TellsMemory : Diagnostic → Type 0
 TellsMemory d = (out-Diagnostic d).error ≡ error.Memory
 
--- the root is a unit that stands at a path; linked is what its kept names reach, or all that is declared
+-- The root is a unit that stands at a path; it is linked with what its kept names reach, or with all that is declared.
 module _ (hands : Path → UnitOf Text → Type 0) (refuses : Path → ResolveError → Type 0) (path : ModulePath) (unit : TranslationUnit) (keep : List Text) (is_eager : Bool) (limit : ℕ) where
-  -- the modules that are found are a link of the root, in as many turns
+  -- what is found is a link of the root
   abbrev pub LinksRoot : Resolved → Type 0
   LinksRoot found = IsLinked hands refuses (module_at path unit) (task_of (module_at path unit) keep is_eager) limit found.turns found.modules
 
-  -- the error tells a fault that such a link meets, or want of memory
+  -- the error tells a fault that stands in a world of the root, or want of memory
   abbrev pub TellsFault : error.Error → Type 0
   TellsFault e = TellsOf (IsRefused hands refuses (module_at path unit) (task_of (module_at path unit) keep is_eager) limit) e
 
-  -- the error of the diagnostic does
+  -- so does the error of the diagnostic
   abbrev pub RefusesRoot : Diagnostic → Type 0
-  RefusesRoot d = TellsOf (IsRefused hands refuses (module_at path unit) (task_of (module_at path unit) keep is_eager) limit) (out-Diagnostic d).error
+  RefusesRoot d = TellsFault (out-Diagnostic d).error
 
-  -- such a link can meet no fault
+  -- no fault can stand in a world of the root
   abbrev pub IsFaultlessRoot : Type 0
   IsFaultlessRoot = IsFaultless hands refuses (module_at path unit) (task_of (module_at path unit) keep is_eager) limit

@@ -22,7 +22,7 @@ module _ (l : Link) (gives : Path → Text → Text) (m : LoadedModule) where
       (ms : List LoadedModule) (name_of : Path → Text → Text) → NameAlike gives name_of → IsFreshAfter ms m
       → GivesTo (numbering l.numbers) ms name_of (given before) → GivesTo (numbering l.numbers) (ms ++ m ∷ []) name_of (given after)
 
-  -- then the names that it declares are recorded, each once
+  -- where other modules have the names that the mangler gives, the module's own are recorded, each once
   abbrev pub RecordsNext : GivenNames → Bool → Record → Record → Type 0
   RecordsNext before writes old new =
       (ms : List LoadedModule) (name_of : Path → Text → Text) → NameAlike gives name_of → IsFreshAfter ms m
@@ -36,7 +36,7 @@ module _ (l : Link) (name_of : Path → Text → Text) where
       (ms : List LoadedModule) → AreOnlyRoot l ms
       → GivesTo (numbering l.numbers) ms name_of (given before) → GivesTo (numbering l.numbers) (ms ++ l.others.items) name_of (given after)
 
-  -- then the names that these declare are recorded, module after module
+  -- where the root or no module has the names that the mangler gives, those of the others are recorded, module after module
   abbrev pub RecordsOthers : GivenNames → Bool → Record → Record → Type 0
   RecordsOthers before writes old new =
       (ms : List LoadedModule) → AreOnlyRoot l ms

@@ -19,22 +19,22 @@ use Rattle.wesl_linker.specs.declared.resolve.Root.{Root}
 abbrev pub AreKeptTexts : Numbering → Root → List Text → Type 0
 AreKeptTexts nb root keep = AreRelated (NameAt nb) root.kept.items keep
 
--- a success keeps the names of these texts
+-- what is found keeps the names of these texts
 abbrev pub KeepsTexts : Numbering → Root → Result Resolutions error.Error → Type 0
 KeepsTexts nb root result = (keep : List Text) → AreKeptTexts nb root keep → IfOk result (λ r. (resolved r).kept ≡ keep)
 
 module _ (hands : Path → UnitOf Text → Type 0) (refuses : Path → ResolveError → Type 0) (nb : Numbering) (root : Root) (limit : ℕ) where
-  -- a success is a link of the root with the kept names of these texts
+  -- what is found is a link of the root, with the kept names of these texts
   abbrev pub LinksNumbered : Result Resolutions error.Error → Type 0
   LinksNumbered result =
       (keep : List Text) → AreKeptTexts nb root keep → IfOk result (λ r. LinksRoot hands refuses root.path root.unit keep root.is_eager limit (resolved r))
 
-  -- a refusal tells a fault that this link meets, or want of memory
+  -- an error tells a fault that stands in a world of the root, or want of memory
   abbrev pub RefusesNumbered : Result Resolutions error.Error → Type 0
   RefusesNumbered result =
       (keep : List Text) → AreKeptTexts nb root keep → IfErr result (TellsFault hands refuses root.path root.unit keep root.is_eager limit)
 
--- the link of the root, whose table is the first of those that were linked
+-- the link holds the root, whose table is the first, and what was linked
 abbrev pub IsLinkFrom : Root → Numbers → links.Linking PathId NameId → Link → Type 0
 IsLinkFrom root numbers linked l =
     l ≡ record {
