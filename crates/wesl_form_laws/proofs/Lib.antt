@@ -10,4 +10,6 @@ pub mod Attributes
 pub mod Declarations
 pub mod Statements
 pub mod Modules
-pub mod Whole
+mod Held
+mod Whole
+mod Sorted

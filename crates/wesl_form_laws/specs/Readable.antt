@@ -12,6 +12,7 @@ use Rattle.wesl_form.specs.Schema.{SpelledLabel, SpelledForest, node, a_unit, no
 use Rattle.wesl_form.specs.Reading.{reading, is_literal}
 use Rattle.wesl_form.specs.Nodes.{whole_form}
 use Rattle.wesl_form.specs.Units.{unit_tree, unit_value}
+use Rattle.wesl_piece.specs.Order.{sorted}
 
 -- the text of a literal is one that the format has, those of a diagnostic are any, each other one is a name
 abbrev pub is_text_of : SpelledLabel → Text → Bool
@@ -61,3 +62,7 @@ UnitsReadBack = (u : TranslationUnit) → All HasText (paths (forest_of_unit (sp
 -- what a unit is written as has no number that is not whole
 abbrev pub HaveNoFloat : Type 0
 HaveNoFloat = (u : UnitView) → has_float (unit_value u) ≡ false
+
+-- what a unit is written as has the members of each object in the order of their keys
+abbrev pub AreSorted : Type 0
+AreSorted = (u : UnitView) → sorted (unit_value u) ≡ unit_value u

@@ -3,4 +3,4 @@
 
 mod laws;
 
-pub use laws::{law_of_units, law_of_whole_values};
+pub use laws::{law_of_order, law_of_units, law_of_whole_values};

@@ -1,13 +1,16 @@
-//! Printing values and lists of them behind a text.
-ghost use Rattle.std.specs.Prelude.{◌≡◌, ◌∷◌, ◌++◌, [], false, IfOk, string_bytes};
-ghost use Rattle.serde_json.specs.Data.{Data, Items, string};
-ghost use Rattle.serde_json.specs.View.{items_view, view};
-ghost use Rattle.serde_json.specs.Written.{comma_if, compact_text, has_float, items_have_float};
-ghost use Rattle.wesl_names.specs.Path.{Text};
-ghost use Rattle.wesl_printing.specs.Printing.{list_text};
+//! Printing values behind a text, and lists of pieces to a writer.
+ghost use Rattle.std.specs.Prelude.{◌≡◌, ◌++◌, false, IfOk, OnOk, string_bytes};
+ghost use Rattle.json.specs.Tree.{json_tokens};
+ghost use Rattle.serde_json.specs.Data.{Data, Items};
+ghost use Rattle.serde_json.specs.View.{view};
+ghost use Rattle.serde_json.specs.Written.{compact_text, has_float, outline};
+ghost use Rattle.wesl_piece.specs.View.{items_view, piece_view};
+ghost use Rattle.wesl_printing.specs.Printing.{list_tokens};
 
+use json::Writer;
 use serde_json::Value;
 use std::alloc::{AllocError, Global};
+use wesl_piece::{write_items, write_piece};
 use wesl_writing::{Written, WrittenList};
 
 /// A text that is printed, unless there is no memory for it.
@@ -31,44 +34,29 @@ pub fn print_value(alloc: Global, text: String, value: &Value) -> Printed
     print_text(text, &printed)
 }
 
-/// The text, and a comma behind it where something stands before.
-pub(crate) fn print_comma(text: String, later: bool) -> Printed
-    ensures { IfOk result (λ s. string_bytes s ≡ string_bytes text ++ comma_if later) }
+/// Writes an item of a list.
+pub(crate) fn write_item(out: &mut Writer, piece: Written<'_>) -> Result<(), AllocError>
+    ensures written { (d : Data) → IfOk piece.entry (λ v. piece_view v ≡ d) → OnOk result (out.new.tokens ≡ out.old.tokens ++ json_tokens (outline d)) }
+    ensures before { out.new.before ≡ out.old.before }
 {
-    if later {
-        print_text(text, ",")
-    } else {
-        Ok(text)
-    }
+    let piece = piece?;
+    write_piece(out, &piece)
 }
 
-/// The text, and behind it an item of a list.
-pub(crate) fn print_item(alloc: Global, text: String, later: bool, value: Written) -> Printed
-    requires { IfOk value (λ v. has_float (view v) ≡ false) }
-    ensures { (d : Data) → IfOk value (λ v. view v ≡ d) → IfOk result (λ s. string_bytes s ≡ string_bytes text ++ (comma_if later ++ compact_text d)) }
-{
-    let value = value?;
-    let text = print_comma(text, later)?;
-    print_value(alloc, text, &value)
-}
-
-/// The text, and behind it a member of an object that is a list, unless the list is empty. The key comes with quotes and
-/// a colon.
-pub(crate) fn print_list(
-    alloc: Global,
-    text: String,
-    later: bool,
+/// Writes a member of an object that is a list, unless the list is empty.
+pub(crate) fn write_list(
+    out: &mut Writer,
     key: &str,
-    list: WrittenList,
-) -> Printed
-    requires { IfOk list (λ vs. items_have_float (items_view vs.items) ≡ false) }
-    ensures { (k : Text) (ds : Items) → key.now ≡ compact_text (string k) ++ 58 ∷ [] → IfOk list (λ vs. items_view vs.items ≡ ds) → IfOk result (λ s. string_bytes s ≡ string_bytes text ++ list_text later k ds) }
+    list: WrittenList<'_>,
+) -> Result<(), AllocError>
+    ensures written { (ds : Items) → IfOk list.entry (λ vs. items_view vs.items ≡ ds) → OnOk result (out.new.tokens ≡ out.old.tokens ++ list_tokens key.now ds) }
+    ensures before { out.new.before ≡ out.old.before }
 {
     let list = list?;
     if list.is_empty() {
-        return Ok(text);
+        return Ok(());
     }
-    let text = print_comma(text, later)?;
-    let text = print_text(text, key)?;
-    print_value(alloc, text, &Value::Array(list))
+    out.key(key)?;
+    out.begin_array()?;
+    write_items(out, &list)
 }

@@ -1,14 +1,16 @@
 //! Printing units.
-ghost use Rattle.std.specs.Prelude.{◌≡◌, ◌++◌, false, IfOk, codes, string_bytes};
-ghost use Rattle.serde_json.specs.Written.{compact_text};
+ghost use Rattle.std.specs.Prelude.{◌≡◌, ◌++◌, IfOk, OnOk, codes, string_bytes};
+ghost use Rattle.json.specs.Tree.{items_tokens, json_tokens};
+ghost use Rattle.serde_json.specs.Written.{compact_text, items_outline, outline};
 ghost use Rattle.wesl_form.specs.Schema.{a_declaration};
 ghost use Rattle.wesl_form.specs.Units.{unit_value};
 ghost use Rattle.wesl_syntax.specs.View.{declarations_tree};
 ghost use Rattle.wesl_tree.specs.Translation.{unit_view};
 ghost use Rattle.wesl_writing.specs.Values.{items_in};
-ghost use Rattle.wesl_printing.specs.Printing.{bare_items, list_text};
+ghost use Rattle.wesl_printing.specs.Printing.{list_tokens};
 
-use crate::lists::{Printed, print_item, print_list, print_text};
+use crate::lists::{write_item, write_list};
+use json::Writer;
 use std::alloc::{AllocError, Global};
 use wesl_names::Names;
 use wesl_syntax::GlobalDeclarationNode;
@@ -17,57 +19,63 @@ use wesl_writing::{directive_values, global_value, import_values};
 
 /// The text, and behind it the value that a unit is written as, as compact JSON, its keys in the order of their bytes.
 ///
-/// It is the text of what `value_of_unit` gives. Of that value there is no more at a time than one declaration, or the
-/// list of directives or of imports.
+/// It is the text of what `value_of_unit` gives. That value is not made: there is no more of it at a time than a light
+/// form of one declaration, or of the list of directives or of imports.
 pub fn print_unit(alloc: Global, text: String, unit: &TranslationUnit) -> Result<String, AllocError>
     ensures { IfOk result (λ s. string_bytes s ≡ string_bytes text ++ compact_text (unit_value (unit_view unit.now))) }
 {
-    let names = unit.names();
-    let declarations = unit.global_declarations();
-    let directives = unit.global_directives();
-    let declared = !declarations.is_empty();
-    let directed = declared || !directives.is_empty();
-    let text = print_text(text, "{")?;
-    let text = print_declarations(alloc, text, names, declarations)?;
-    let directives = directive_values(alloc, names, directives);
-    let text = print_list(alloc, text, declared, "\"directives\":", directives)?;
-    let imports = import_values(alloc, names, unit.imports());
-    let text = print_list(alloc, text, directed, "\"imports\":", imports)?;
-    print_text(text, "}")
+    let mut out = Writer::new(text.into_bytes());
+    write_unit(alloc, &mut out, unit)?;
+    match String::from_utf8(out.into_inner()) {
+        Ok(printed) => Ok(printed),
+        Err(_) => unreachable!(),
+    }
 }
 
-// The text, and behind it the member of the declarations, unless there are none.
-fn print_declarations(
+fn write_unit(alloc: Global, out: &mut Writer, unit: &TranslationUnit) -> Result<(), AllocError>
+    ensures written { OnOk result (out.new.tokens ≡ out.old.tokens ++ json_tokens (outline (unit_value (unit_view unit.now)))) }
+    ensures before { out.new.before ≡ out.old.before }
+{
+    let names = unit.names();
+    out.begin_object()?;
+    write_declarations(alloc, out, names, unit.global_declarations())?;
+    let directives = directive_values(alloc, names, unit.global_directives());
+    write_list(out, "directives", directives)?;
+    let imports = import_values(alloc, names, unit.imports());
+    write_list(out, "imports", imports)?;
+    out.end_object()
+}
+
+// Writes the member of the declarations, unless there are none.
+fn write_declarations(
     alloc: Global,
-    text: String,
+    out: &mut Writer,
     names: &Names,
     declarations: &Vec<GlobalDeclarationNode>,
-) -> Printed
-    ensures { IfOk result (λ s. string_bytes s ≡ string_bytes text ++ list_text false (codes "declarations") (items_in names.now a_declaration (declarations_tree declarations.now).children)) }
+) -> Result<(), AllocError>
+    ensures written { OnOk result (out.new.tokens ≡ out.old.tokens ++ list_tokens (codes "declarations") (items_in names.now a_declaration (declarations_tree declarations.now).children)) }
+    ensures before { out.new.before ≡ out.old.before }
 {
     if declarations.is_empty() {
-        return Ok(text);
+        return Ok(());
     }
-    let text = print_text(text, "\"declarations\":[")?;
-    let text = print_each(alloc, text, names, declarations)?;
-    print_text(text, "]")
+    out.key("declarations")?;
+    out.begin_array()?;
+    write_each(alloc, out, names, declarations)
 }
 
-// The text, and behind it the declarations with commas between them.
-fn print_each(
+// Writes the declarations as the items of a list, and its end.
+fn write_each(
     alloc: Global,
-    text: String,
+    out: &mut Writer,
     names: &Names,
     declarations: &Vec<GlobalDeclarationNode>,
-) -> Printed
-    ensures { IfOk result (λ s. string_bytes s ≡ string_bytes text ++ bare_items false (items_in names.now a_declaration (declarations_tree declarations.now).children)) }
+) -> Result<(), AllocError>
+    ensures written { OnOk result (out.new.tokens ≡ out.old.tokens ++ items_tokens (items_outline (items_in names.now a_declaration (declarations_tree declarations.now).children))) }
+    ensures before { out.new.before ≡ out.old.before }
 {
-    let mut printed = text;
-    let mut later = false;
     for declaration in declarations {
-        let value = global_value(alloc, names, &declaration.node);
-        printed = print_item(alloc, printed, later, value)?;
-        later = true;
+        write_item(out, global_value(alloc, names, &declaration.node))?;
     }
-    Ok(printed)
+    out.end_array()
 }

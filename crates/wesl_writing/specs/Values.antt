@@ -7,6 +7,7 @@ use Rattle.wesl_syntax.specs.Unit.{name_in}
 use Rattle.wesl_syntax.specs.declared.declaration.DeclarationKind.{DeclarationKind}
 use Rattle.wesl_syntax.specs.declared.declaration.DeclarationKind.TheVariants as kinds
 use Rattle.wesl_form.specs.Schema.{Name, Form, Row, Words, SpelledLabel, node, may, nothing, an_expression, a_statement, an_attribute, a_member, an_import, a_directive, a_declaration}
+use Rattle.wesl_form.specs.Words.{assignment_words}
 use Rattle.wesl_form.specs.Writing.{written, written_forest, put_list, word_of, text_or_null}
 use Rattle.wesl_form.specs.Nodes.{body_row, call_row, condition_row, space_row}
 
@@ -83,3 +84,15 @@ body_members names t = with_row names body_row t.children no_members
 -- the members, with a condition and its body
 abbrev pub with_clause : List Text → Tree → Members → Members
 with_clause names t ms = with_row names condition_row t.children ms
+
+-- an assignment, from the label of its operator, its attributes and its sides
+abbrev pub assigned : List Text → SpelledLabel → Forest → Tree → Tree → Data
+assigned names o a l r =
+    worded (codes "assign") (with_member (codes "op") (word_value assignment_words o) (with_list (codes "attrs") (items_in names an_attribute a)
+    (with_member (codes "lhs") (expression_in names l) (with_member (codes "rhs") (expression_in names r) no_members))))
+
+-- a workgroup's size, of which the second and the third are options
+abbrev pub sized : List Text → Tree → Tree → Tree → Data
+sized names x y z =
+    worded (codes "workgroup_size") (with_member (codes "x") (expression_in names x)
+    (with_option (codes "y") names (node an_expression) y (with_option (codes "z") names (node an_expression) z no_members)))

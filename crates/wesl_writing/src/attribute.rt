@@ -1,13 +1,13 @@
 //! Writing attributes.
 ghost use Rattle.std.specs.Prelude.{◌≡◌, [], ◌∷◌, IfOk, codes};
 ghost use Rattle.serde_json.specs.Data.{no_members, string};
-ghost use Rattle.serde_json.specs.View.{items_view, view};
-ghost use Rattle.wesl_form.specs.Schema.{an_attribute, an_expression, node as node_form};
+ghost use Rattle.wesl_piece.specs.View.{items_view, piece_view};
+ghost use Rattle.wesl_form.specs.Schema.{an_attribute};
 ghost use Rattle.wesl_form.specs.Writing.{texts_value};
 ghost use Rattle.wesl_syntax.specs.Tree.{branch, custom, leaf, list, text as text_label};
 ghost use Rattle.wesl_syntax.specs.View.{attribute_view, attributes_tree, expression_tree, expression_view, listed, optional, texts_of};
 ghost use Rattle.wesl_writing.specs.Objects.{Holds};
-ghost use Rattle.wesl_writing.specs.Values.{attribute_in, expression_in, items_in, with_list, with_member, with_option, worded};
+ghost use Rattle.wesl_writing.specs.Values.{attribute_in, expression_in, items_in, sized, with_list, with_member, with_option, worded};
 
 use crate::expression::{
     applied_object, expression_value, expression_values, with_optional_expression,
@@ -18,7 +18,11 @@ use wesl_names::Names;
 use wesl_syntax::{Attribute, Attributes, ExpressionNode};
 
 /// The values of attributes.
-pub(crate) fn attribute_values(alloc: Global, names: &Names, attributes: &Attributes) -> WrittenList
+pub(crate) fn attribute_values<'a>(
+    alloc: Global,
+    names: &'a Names,
+    attributes: &'a Attributes,
+) -> WrittenList<'a>
     ensures { IfOk result (λ vs. items_view vs.items ≡ items_in names.now an_attribute (attributes_tree attributes.now).children) }
 {
     let mut values = Vec::with_capacity(alloc, attributes.len())?;
@@ -29,60 +33,65 @@ pub(crate) fn attribute_values(alloc: Global, names: &Names, attributes: &Attrib
 }
 
 #[tactic(auto, unfolding(crate::specs::Values::placed_in, crate::specs::Values::with_member, crate::specs::Values::with_list, crate::specs::Values::with_option))]
-fn attribute_value(alloc: Global, names: &Names, attribute: &Attribute) -> Written
-    ensures { IfOk result (λ v. view v ≡ attribute_in names.now (attribute_view attribute.now)) }
+fn attribute_value<'a>(alloc: Global, names: &'a Names, attribute: &'a Attribute) -> Written<'a>
+    ensures { IfOk result (λ v. piece_view v ≡ attribute_in names.now (attribute_view attribute.now)) }
 {
     match attribute {
         Attribute::Align(operand) => operand_value(alloc, names, "align", operand),
         Attribute::Binding(operand) => operand_value(alloc, names, "binding", operand),
         Attribute::BlendSrc(operand) => operand_value(alloc, names, "blend_src", operand),
         Attribute::Builtin(name) => named_value(alloc, "builtin", name.as_str()),
-        Attribute::Const => text_value(alloc, "const"),
+        Attribute::Const => text_value("const"),
         Attribute::Diagnostic { severity, rule } => {
             diagnostic_value(alloc, severity.as_str(), rule.as_str())
         }
         Attribute::Group(operand) => operand_value(alloc, names, "group", operand),
         Attribute::Id(operand) => operand_value(alloc, names, "id", operand),
         Attribute::Interpolate(texts) => interpolate_value(alloc, texts),
-        Attribute::Invariant => text_value(alloc, "invariant"),
+        Attribute::Invariant => text_value("invariant"),
         Attribute::Location(operand) => operand_value(alloc, names, "location", operand),
-        Attribute::MustUse => text_value(alloc, "must_use"),
+        Attribute::MustUse => text_value("must_use"),
         Attribute::Size(operand) => operand_value(alloc, names, "size", operand),
         Attribute::WorkgroupSize { x, y, z } => workgroup_value(alloc, names, x, y, z),
-        Attribute::Vertex => text_value(alloc, "vertex"),
-        Attribute::Fragment => text_value(alloc, "fragment"),
-        Attribute::Compute => text_value(alloc, "compute"),
-        Attribute::Publish => text_value(alloc, "publish"),
+        Attribute::Vertex => text_value("vertex"),
+        Attribute::Fragment => text_value("fragment"),
+        Attribute::Compute => text_value("compute"),
+        Attribute::Publish => text_value("publish"),
         Attribute::If(operand) => operand_value(alloc, names, "if", operand),
         Attribute::Elif(operand) => operand_value(alloc, names, "elif", operand),
-        Attribute::Else => text_value(alloc, "else"),
+        Attribute::Else => text_value("else"),
         Attribute::Custom { name, arguments } => {
             custom_value(alloc, names, name.as_str(), arguments)
         }
     }
 }
 
-fn operand_value(alloc: Global, names: &Names, word: &str, operand: &ExpressionNode) -> Written
-    ensures { IfOk result (λ v. view v ≡ worded word.now (with_member (codes "expr") (expression_in names.now (expression_view operand.now.node)) no_members)) }
+fn operand_value<'a>(
+    alloc: Global,
+    names: &'a Names,
+    word: &'a str,
+    operand: &'a ExpressionNode,
+) -> Written<'a>
+    ensures { IfOk result (λ v. piece_view v ≡ worded word.now (with_member (codes "expr") (expression_in names.now (expression_view operand.now.node)) no_members)) }
 {
     let operand = expression_value(alloc, names, &operand.node);
     Object::new(alloc).value("expr", operand).worded(word)
 }
 
-fn named_value(alloc: Global, word: &str, name: &str) -> Written
-    ensures { IfOk result (λ v. view v ≡ worded word.now (with_member (codes "name") (string name.now) no_members)) }
+fn named_value<'a>(alloc: Global, word: &'a str, name: &'a str) -> Written<'a>
+    ensures { IfOk result (λ v. piece_view v ≡ worded word.now (with_member (codes "name") (string name.now) no_members)) }
 {
     Object::new(alloc).text("name", name).worded(word)
 }
 
-fn diagnostic_value(alloc: Global, severity: &str, rule: &str) -> Written
-    ensures { IfOk result (λ v. view v ≡ worded (codes "diagnostic") (with_member (codes "severity") (string severity.now) (with_member (codes "rule") (string rule.now) no_members))) }
+fn diagnostic_value<'a>(alloc: Global, severity: &'a str, rule: &'a str) -> Written<'a>
+    ensures { IfOk result (λ v. piece_view v ≡ worded (codes "diagnostic") (with_member (codes "severity") (string severity.now) (with_member (codes "rule") (string rule.now) no_members))) }
 {
     severity_object(alloc, severity, rule).worded("diagnostic")
 }
 
 /// The severity and the rule of a diagnostic.
-pub(crate) fn severity_object(alloc: Global, severity: &str, rule: &str) -> Object
+pub(crate) fn severity_object<'a>(alloc: Global, severity: &'a str, rule: &'a str) -> Object<'a>
     ensures { Holds result (with_member (codes "severity") (string severity.now) (with_member (codes "rule") (string rule.now) no_members)) }
 {
     Object::new(alloc)
@@ -90,8 +99,8 @@ pub(crate) fn severity_object(alloc: Global, severity: &str, rule: &str) -> Obje
         .text("severity", severity)
 }
 
-fn interpolate_value(alloc: Global, texts: &Vec<String>) -> Written
-    ensures { IfOk result (λ v. view v ≡ worded (codes "interpolate") (with_list (codes "names") (texts_value (texts_of texts.now)) no_members)) }
+fn interpolate_value<'a>(alloc: Global, texts: &'a Vec<String>) -> Written<'a>
+    ensures { IfOk result (λ v. piece_view v ≡ worded (codes "interpolate") (with_list (codes "names") (texts_value (texts_of texts.now)) no_members)) }
 {
     Object::new(alloc)
         .list("names", text_values(alloc, texts))
@@ -99,24 +108,24 @@ fn interpolate_value(alloc: Global, texts: &Vec<String>) -> Written
 }
 
 /// Texts as values.
-pub(crate) fn text_values(alloc: Global, texts: &Vec<String>) -> WrittenList
+pub(crate) fn text_values<'a>(alloc: Global, texts: &'a Vec<String>) -> WrittenList<'a>
     ensures { IfOk result (λ vs. items_view vs.items ≡ texts_value (texts_of texts.now)) }
 {
     let mut values = Vec::with_capacity(alloc, texts.len())?;
     for text in texts {
-        values.push(text_value(alloc, text.as_str())?)?;
+        values.push(text_value(text.as_str())?)?;
     }
     Ok(values)
 }
 
-fn workgroup_value(
+fn workgroup_value<'a>(
     alloc: Global,
-    names: &Names,
-    x: &ExpressionNode,
-    y: &Option<ExpressionNode>,
-    z: &Option<ExpressionNode>,
-) -> Written
-    ensures { IfOk result (λ v. view v ≡ worded (codes "workgroup_size") (with_member (codes "x") (expression_in names.now (expression_view x.now.node)) (with_option (codes "y") names.now (node_form an_expression) (optional expression_tree y.now) (with_option (codes "z") names.now (node_form an_expression) (optional expression_tree z.now) no_members)))) }
+    names: &'a Names,
+    x: &'a ExpressionNode,
+    y: &'a Option<ExpressionNode>,
+    z: &'a Option<ExpressionNode>,
+) -> Written<'a>
+    ensures { IfOk result (λ v. piece_view v ≡ sized names.now (expression_view x.now.node) (optional expression_tree y.now) (optional expression_tree z.now)) }
 {
     let object = with_optional_expression(alloc, Object::new(alloc), names, "z", z);
     let object = with_optional_expression(alloc, object, names, "y", y);
@@ -124,13 +133,13 @@ fn workgroup_value(
     object.value("x", x).worded("workgroup_size")
 }
 
-fn custom_value(
+fn custom_value<'a>(
     alloc: Global,
-    names: &Names,
-    name: &str,
-    arguments: &Option<Vec<ExpressionNode>>,
-) -> Written
-    ensures { IfOk result (λ v. view v ≡ attribute_in names.now (branch custom (leaf (text_label name.now) ∷ optional (listed expression_tree list) arguments.now ∷ []))) }
+    names: &'a Names,
+    name: &'a str,
+    arguments: &'a Option<Vec<ExpressionNode>>,
+) -> Written<'a>
+    ensures { IfOk result (λ v. piece_view v ≡ attribute_in names.now (branch custom (leaf (text_label name.now) ∷ optional (listed expression_tree list) arguments.now ∷ []))) }
 {
     match arguments {
         None => named_value(alloc, "custom", name),

@@ -1,7 +1,7 @@
 //! Writing declarations.
 ghost use Rattle.std.specs.Prelude.{◌≡◌, [], IfOk, codes};
 ghost use Rattle.serde_json.specs.Data.{Members, no_members, string};
-ghost use Rattle.serde_json.specs.View.{items_view, view};
+ghost use Rattle.wesl_piece.specs.View.{items_view, piece_view};
 ghost use Rattle.wesl_names.specs.Path.{Text};
 ghost use Rattle.wesl_form.specs.Schema.{a_declaration, an_attribute, a_member, a_parameter, a_type, leaf, node as node_form, one_of};
 ghost use Rattle.wesl_form.specs.Words.{access_words};
@@ -26,11 +26,11 @@ use wesl_syntax::{
 };
 
 /// The values of declarations of a module.
-pub(crate) fn global_values(
+pub(crate) fn global_values<'a>(
     alloc: Global,
-    names: &Names,
-    declarations: &Vec<GlobalDeclarationNode>,
-) -> WrittenList
+    names: &'a Names,
+    declarations: &'a Vec<GlobalDeclarationNode>,
+) -> WrittenList<'a>
     ensures { IfOk result (λ vs. items_view vs.items ≡ items_in names.now a_declaration (declarations_tree declarations.now).children) }
 {
     let mut values = Vec::with_capacity(alloc, declarations.len())?;
@@ -41,8 +41,12 @@ pub(crate) fn global_values(
 }
 
 /// The value of a declaration of a module.
-pub fn global_value(alloc: Global, names: &Names, declaration: &GlobalDeclaration) -> Written
-    ensures { IfOk result (λ v. view v ≡ declaration_in names.now (global_view declaration.now)) }
+pub fn global_value<'a>(
+    alloc: Global,
+    names: &'a Names,
+    declaration: &'a GlobalDeclaration,
+) -> Written<'a>
+    ensures { IfOk result (λ v. piece_view v ≡ declaration_in names.now (global_view declaration.now)) }
 {
     match declaration {
         GlobalDeclaration::Void => void_value(alloc, names),
@@ -55,17 +59,21 @@ pub fn global_value(alloc: Global, names: &Names, declaration: &GlobalDeclaratio
 }
 
 /// The value of a void declaration, which is also that of a void statement.
-pub(crate) fn void_value(alloc: Global, names: &Names) -> Written
-    ensures global { IfOk result (λ v. view v ≡ declaration_in names.now (branch void [])) }
-    ensures local { IfOk result (λ v. view v ≡ statement_in names.now (branch void [])) }
+pub(crate) fn void_value<'a>(alloc: Global, names: &'a Names) -> Written<'a>
+    ensures global { IfOk result (λ v. piece_view v ≡ declaration_in names.now (branch void [])) }
+    ensures local { IfOk result (λ v. piece_view v ≡ statement_in names.now (branch void [])) }
 {
     Object::new(alloc).worded("void")
 }
 
 /// The value of a declaration, which is the same in a module and in a function.
-pub(crate) fn declaration_value(alloc: Global, names: &Names, declaration: &Declaration) -> Written
-    ensures global { IfOk result (λ v. view v ≡ declaration_in names.now (declaration_view declaration.now)) }
-    ensures local { IfOk result (λ v. view v ≡ statement_in names.now (declaration_view declaration.now)) }
+pub(crate) fn declaration_value<'a>(
+    alloc: Global,
+    names: &'a Names,
+    declaration: &'a Declaration,
+) -> Written<'a>
+    ensures global { IfOk result (λ v. piece_view v ≡ declaration_in names.now (declaration_view declaration.now)) }
+    ensures local { IfOk result (λ v. piece_view v ≡ statement_in names.now (declaration_view declaration.now)) }
 {
     let object = Object::new(alloc);
     let object = with_optional_expression(alloc, object, names, "init", &declaration.initializer);
@@ -91,8 +99,8 @@ fn kind_word(kind: DeclarationKind) -> &'static str
 }
 
 // The object with the space and the access mode of a variable.
-fn with_space(object: Object, names: &Names, kind: DeclarationKind) -> Object
-    ensures { (ms : Members) → Holds object ms → Holds result (with_space_of names.now (kind_tree kind) ms) }
+fn with_space<'a>(object: Object<'a>, names: &'a Names, kind: DeclarationKind) -> Object<'a>
+    ensures { (ms : Members) → Holds object.entry ms → Holds result (with_space_of names.now (kind_tree kind) ms) }
 {
     match kind {
         DeclarationKind::Const => object,
@@ -106,8 +114,8 @@ fn with_space(object: Object, names: &Names, kind: DeclarationKind) -> Object
 }
 
 // The object with an access mode, an option.
-fn with_access(object: Object, names: &Names, mode: Option<AccessMode>) -> Object
-    ensures { (ms : Members) → Holds object ms → Holds result (with_option (codes "access") names.now (leaf (one_of access_words)) (optional access_tree mode) ms) }
+fn with_access<'a>(object: Object<'a>, names: &'a Names, mode: Option<AccessMode>) -> Object<'a>
+    ensures { (ms : Members) → Holds object.entry ms → Holds result (with_option (codes "access") names.now (leaf (one_of access_words)) (optional access_tree mode) ms) }
 {
     match mode {
         Some(mode) => object.text("access", access_word(mode)),
@@ -115,21 +123,21 @@ fn with_access(object: Object, names: &Names, mode: Option<AccessMode>) -> Objec
     }
 }
 
-fn alias_value(alloc: Global, names: &Names, alias: &TypeAlias) -> Written
-    ensures { IfOk result (λ v. view v ≡ declaration_in names.now (alias_view alias.now)) }
+fn alias_value<'a>(alloc: Global, names: &'a Names, alias: &'a TypeAlias) -> Written<'a>
+    ensures { IfOk result (λ v. piece_view v ≡ declaration_in names.now (alias_view alias.now)) }
 {
     let name = spelling(names, alias.ident);
     typed_object(alloc, names, &alias.attributes, name, &alias.ty).worded("alias")
 }
 
 // Attributes, a name and a type.
-fn typed_object(
+fn typed_object<'a>(
     alloc: Global,
-    names: &Names,
-    attributes: &Attributes,
-    name: &str,
-    ty: &TypeExpression,
-) -> Object
+    names: &'a Names,
+    attributes: &'a Attributes,
+    name: &'a str,
+    ty: &'a TypeExpression,
+) -> Object<'a>
     ensures { (t : Text) → name.now ≡ t → Holds result (with_list (codes "attrs") (items_in names.now an_attribute (attributes_tree attributes.now).children) (with_member (codes "name") (string t) (with_member (codes "ty") (value_in names.now (node_form a_type) (type_view ty.now)) no_members))) }
 {
     Object::new(alloc)
@@ -138,8 +146,8 @@ fn typed_object(
         .list("attrs", attribute_values(alloc, names, attributes))
 }
 
-fn struct_value(alloc: Global, names: &Names, structure: &Struct) -> Written
-    ensures { IfOk result (λ v. view v ≡ declaration_in names.now (struct_view structure.now)) }
+fn struct_value<'a>(alloc: Global, names: &'a Names, structure: &'a Struct) -> Written<'a>
+    ensures { IfOk result (λ v. piece_view v ≡ declaration_in names.now (struct_view structure.now)) }
 {
     let attributes = attribute_values(alloc, names, &structure.attributes);
     Object::new(alloc)
@@ -149,7 +157,11 @@ fn struct_value(alloc: Global, names: &Names, structure: &Struct) -> Written
         .worded("struct")
 }
 
-fn member_values(alloc: Global, names: &Names, members: &Vec<StructMemberNode>) -> WrittenList
+fn member_values<'a>(
+    alloc: Global,
+    names: &'a Names,
+    members: &'a Vec<StructMemberNode>,
+) -> WrittenList<'a>
     ensures { IfOk result (λ vs. items_view vs.items ≡ items_in names.now a_member (listed (placed member_view member_node) members_kind members.now).children) }
 {
     let mut values = Vec::with_capacity(alloc, members.len())?;
@@ -159,15 +171,15 @@ fn member_values(alloc: Global, names: &Names, members: &Vec<StructMemberNode>) 
     Ok(values)
 }
 
-fn member_value(alloc: Global, names: &Names, member: &StructMember) -> Written
-    ensures { IfOk result (λ v. view v ≡ placed_in names.now a_member member_node (member_view member.now)) }
+fn member_value<'a>(alloc: Global, names: &'a Names, member: &'a StructMember) -> Written<'a>
+    ensures { IfOk result (λ v. piece_view v ≡ placed_in names.now a_member member_node (member_view member.now)) }
 {
     let name = member.name.as_str();
     typed_object(alloc, names, &member.attributes, name, &member.ty).finish()
 }
 
-fn function_value(alloc: Global, names: &Names, function: &Function) -> Written
-    ensures { IfOk result (λ v. view v ≡ declaration_in names.now (function_view function.now)) }
+fn function_value<'a>(alloc: Global, names: &'a Names, function: &'a Function) -> Written<'a>
+    ensures { IfOk result (λ v. piece_view v ≡ declaration_in names.now (function_view function.now)) }
 {
     let object = Object::new(alloc).value("body", body_value(alloc, names, &function.body));
     let return_attributes = attribute_values(alloc, names, &function.return_attributes);
@@ -181,7 +193,11 @@ fn function_value(alloc: Global, names: &Names, function: &Function) -> Written
         .worded("fn")
 }
 
-fn parameter_values(alloc: Global, names: &Names, parameters: &Vec<FormalParameter>) -> WrittenList
+fn parameter_values<'a>(
+    alloc: Global,
+    names: &'a Names,
+    parameters: &'a Vec<FormalParameter>,
+) -> WrittenList<'a>
     ensures { IfOk result (λ vs. items_view vs.items ≡ items_in names.now a_parameter (listed parameter_view parameters_kind parameters.now).children) }
 {
     let mut values = Vec::with_capacity(alloc, parameters.len())?;
@@ -191,17 +207,25 @@ fn parameter_values(alloc: Global, names: &Names, parameters: &Vec<FormalParamet
     Ok(values)
 }
 
-fn parameter_value(alloc: Global, names: &Names, parameter: &FormalParameter) -> Written
-    ensures { IfOk result (λ v. view v ≡ value_in names.now (node_form a_parameter) (parameter_view parameter.now)) }
+fn parameter_value<'a>(
+    alloc: Global,
+    names: &'a Names,
+    parameter: &'a FormalParameter,
+) -> Written<'a>
+    ensures { IfOk result (λ v. piece_view v ≡ value_in names.now (node_form a_parameter) (parameter_view parameter.now)) }
 {
     let name = spelling(names, parameter.ident);
     typed_object(alloc, names, &parameter.attributes, name, &parameter.ty).finish()
 }
 
 /// The value of an assertion, which is the same in a module and in a function.
-pub(crate) fn assert_value(alloc: Global, names: &Names, assertion: &ConstAssert) -> Written
-    ensures global { IfOk result (λ v. view v ≡ declaration_in names.now (assert_view assertion.now)) }
-    ensures local { IfOk result (λ v. view v ≡ statement_in names.now (assert_view assertion.now)) }
+pub(crate) fn assert_value<'a>(
+    alloc: Global,
+    names: &'a Names,
+    assertion: &'a ConstAssert,
+) -> Written<'a>
+    ensures global { IfOk result (λ v. piece_view v ≡ declaration_in names.now (assert_view assertion.now)) }
+    ensures local { IfOk result (λ v. piece_view v ≡ statement_in names.now (assert_view assertion.now)) }
 {
     let expression = expression_value(alloc, names, &assertion.expression.node);
     let attributes = attribute_values(alloc, names, &assertion.attributes);

@@ -1,7 +1,7 @@
 //! Writing expressions and types.
 ghost use Rattle.std.specs.Prelude.{◌≡◌, [], ◌∷◌, IfOk, codes};
 ghost use Rattle.serde_json.specs.Data.{Data, Items, Members, array, no_members, string};
-ghost use Rattle.serde_json.specs.View.{items_view, view};
+ghost use Rattle.wesl_piece.specs.View.{items_view, piece_view};
 ghost use Rattle.wesl_names.specs.Path.{Text, path_view};
 ghost use Rattle.wesl_names.specs.PathText.{to_text};
 ghost use Rattle.wesl_form.specs.Schema.{a_path, a_template_argument, a_type, an_expression, leaf, node as node_form};
@@ -14,9 +14,9 @@ ghost use Rattle.wesl_writing.specs.Values.{bare, call_members, expression_in, i
 
 use crate::object::{Object, Written, WrittenList, spelling, text_value};
 use crate::words::{binary_word, unary_word};
-use serde_json::Value;
 use std::alloc::{AllocError, Global};
 use wesl_names::{Ident, ModulePath, Names};
+use wesl_piece::Piece;
 use wesl_syntax::{
     BinaryOperator, Expression, ExpressionNode, FunctionCall, Literal, TemplateArg, TypeExpression,
     UnaryOperator,
@@ -24,8 +24,12 @@ use wesl_syntax::{
 
 /// The value of an expression.
 #[cycle(writing)]
-pub(crate) fn expression_value(alloc: Global, names: &Names, expression: &Expression) -> Written
-    ensures { IfOk result (λ v. view v ≡ expression_in names.now (expression_view expression.now)) }
+pub(crate) fn expression_value<'a>(
+    alloc: Global,
+    names: &'a Names,
+    expression: &'a Expression,
+) -> Written<'a>
+    ensures { IfOk result (λ v. piece_view v ≡ expression_in names.now (expression_view expression.now)) }
 {
     match expression {
         Expression::Literal(literal) => literal_value(alloc, names, literal),
@@ -62,24 +66,29 @@ pub(crate) fn expression_value(alloc: Global, names: &Names, expression: &Expres
     }
 }
 
-fn literal_value(alloc: Global, names: &Names, literal: &Literal) -> Written
-    ensures { IfOk result (λ v. view v ≡ expression_in names.now (branch literal_kind (literal_tree literal.now ∷ []))) }
+fn literal_value<'a>(alloc: Global, names: &'a Names, literal: &'a Literal) -> Written<'a>
+    ensures { IfOk result (λ v. piece_view v ≡ expression_in names.now (branch literal_kind (literal_tree literal.now ∷ []))) }
 {
     match literal {
-        Literal::Bool(truth) => Ok(Value::Bool(*truth)),
+        Literal::Bool(truth) => Ok(Piece::Truth(*truth)),
         Literal::Text(text) => { Object::new(alloc).text("text", text.as_str()).worded("lit") }
     }
 }
 
-fn unary_value(alloc: Global, operator: UnaryOperator, operand: Written) -> Written
-    ensures { (d : Data) → IfOk operand (λ v. view v ≡ d) → IfOk result (λ v. view v ≡ worded (codes "unary") (with_member (codes "op") (word_value unary_words (unary operator)) (with_member (codes "expr") d no_members))) }
+fn unary_value<'a>(alloc: Global, operator: UnaryOperator, operand: Written<'a>) -> Written<'a>
+    ensures { (d : Data) → IfOk operand.entry (λ v. piece_view v ≡ d) → IfOk result (λ v. piece_view v ≡ worded (codes "unary") (with_member (codes "op") (word_value unary_words (unary operator)) (with_member (codes "expr") d no_members))) }
 {
     let object = Object::new(alloc).value("expr", operand);
     object.text("op", unary_word(operator)).worded("unary")
 }
 
-fn binary_value(alloc: Global, operator: BinaryOperator, left: Written, right: Written) -> Written
-    ensures { (d e : Data) → IfOk left (λ v. view v ≡ d) → IfOk right (λ v. view v ≡ e) → IfOk result (λ v. view v ≡ worded (codes "binary") (with_member (codes "op") (word_value binary_words (binary operator)) (with_member (codes "left") d (with_member (codes "right") e no_members)))) }
+fn binary_value<'a>(
+    alloc: Global,
+    operator: BinaryOperator,
+    left: Written<'a>,
+    right: Written<'a>,
+) -> Written<'a>
+    ensures { (d e : Data) → IfOk left.entry (λ v. piece_view v ≡ d) → IfOk right.entry (λ v. piece_view v ≡ e) → IfOk result (λ v. piece_view v ≡ worded (codes "binary") (with_member (codes "op") (word_value binary_words (binary operator)) (with_member (codes "left") d (with_member (codes "right") e no_members)))) }
 {
     let object = Object::new(alloc).value("right", right).value("left", left);
     object.text("op", binary_word(operator)).worded("binary")
@@ -87,7 +96,7 @@ fn binary_value(alloc: Global, operator: BinaryOperator, left: Written, right: W
 
 /// The members of a call.
 #[cycle(writing)]
-pub(crate) fn call_object(alloc: Global, names: &Names, call: &FunctionCall) -> Object
+pub(crate) fn call_object<'a>(alloc: Global, names: &'a Names, call: &'a FunctionCall) -> Object<'a>
     ensures { Holds result (call_members names.now (call_view call.now)) }
 {
     let arguments = expression_values(alloc, names, &call.arguments);
@@ -97,11 +106,11 @@ pub(crate) fn call_object(alloc: Global, names: &Names, call: &FunctionCall) -> 
 
 /// The values of expressions.
 #[cycle(writing)]
-pub(crate) fn expression_values(
+pub(crate) fn expression_values<'a>(
     alloc: Global,
-    names: &Names,
-    nodes: &Vec<ExpressionNode>,
-) -> WrittenList
+    names: &'a Names,
+    nodes: &'a Vec<ExpressionNode>,
+) -> WrittenList<'a>
     ensures { IfOk result (λ vs. items_view vs.items ≡ items_in names.now an_expression (listed expression_tree list nodes.now).children) }
 {
     let mut values = Vec::with_capacity(alloc, nodes.len())?;
@@ -113,8 +122,8 @@ pub(crate) fn expression_values(
 
 /// The value of a type: its name, where it has no path and no arguments.
 #[cycle(writing)]
-pub(crate) fn type_value(alloc: Global, names: &Names, ty: &TypeExpression) -> Written
-    ensures { IfOk result (λ v. view v ≡ value_in names.now (node_form a_type) (type_view ty.now)) }
+pub(crate) fn type_value<'a>(alloc: Global, names: &'a Names, ty: &'a TypeExpression) -> Written<'a>
+    ensures { IfOk result (λ v. piece_view v ≡ value_in names.now (node_form a_type) (type_view ty.now)) }
 {
     match &ty.template_args {
         None => plain_type_value(alloc, names, &ty.path, ty.ident),
@@ -126,17 +135,17 @@ pub(crate) fn type_value(alloc: Global, names: &Names, ty: &TypeExpression) -> W
 }
 
 // A type without arguments.
-fn plain_type_value(
+fn plain_type_value<'a>(
     alloc: Global,
-    names: &Names,
-    path: &Option<ModulePath>,
+    names: &'a Names,
+    path: &'a Option<ModulePath>,
     ident: Ident,
-) -> Written
-    ensures { IfOk result (λ v. view v ≡ value_in names.now (node_form a_type) (branch type_expression (optional path_tree path.now ∷ ident_tree reference ident ∷ leaf_tree (kind absent) ∷ []))) }
+) -> Written<'a>
+    ensures { IfOk result (λ v. piece_view v ≡ value_in names.now (node_form a_type) (branch type_expression (optional path_tree path.now ∷ ident_tree reference ident ∷ leaf_tree (kind absent) ∷ []))) }
 {
     let name = spelling(names, ident);
     match path {
-        None => text_value(alloc, name),
+        None => text_value(name),
         Some(path) => {
             let object = Object::new(alloc).text("name", name);
             object.value("path", path_value(alloc, path)).finish()
@@ -145,32 +154,36 @@ fn plain_type_value(
 }
 
 // A path as a value.
-fn path_value(alloc: Global, path: &ModulePath) -> Written
-    ensures { IfOk result (λ v. view v ≡ string (to_text (path_view path.now))) }
+fn path_value<'a>(alloc: Global, path: &'a ModulePath) -> Written<'a>
+    ensures { IfOk result (λ v. piece_view v ≡ string (to_text (path_view path.now))) }
 {
     match path.to_text(alloc) {
-        Ok(text) => Ok(Value::String(text)),
+        Ok(text) => Ok(Piece::Owned(text)),
         Err(_) => Err(AllocError),
     }
 }
 
 // A type with arguments, of which the list may be empty.
-fn argued_type_value(
+fn argued_type_value<'a>(
     alloc: Global,
-    names: &Names,
-    path: &Option<ModulePath>,
+    names: &'a Names,
+    path: &'a Option<ModulePath>,
     ident: Ident,
-    arguments: WrittenList,
-) -> Written
-    ensures { (ds : Items) → IfOk arguments (λ vs. items_view vs.items ≡ ds) → IfOk result (λ v. view v ≡ bare (with_option (codes "path") names.now (leaf a_path) (optional path_tree path.now) (with_member (codes "name") (string (name_in names.now ident.0)) (with_member (codes "args") (array ds) no_members)))) }
+    arguments: WrittenList<'a>,
+) -> Written<'a>
+    ensures { (ds : Items) → IfOk arguments.entry (λ vs. items_view vs.items ≡ ds) → IfOk result (λ v. piece_view v ≡ bare (with_option (codes "path") names.now (leaf a_path) (optional path_tree path.now) (with_member (codes "name") (string (name_in names.now ident.0)) (with_member (codes "args") (array ds) no_members)))) }
 {
     let object = applied_object(alloc, spelling(names, ident), arguments);
     with_optional_path(alloc, object, names, path).finish()
 }
 
 /// A name with arguments, which are written also where there are none.
-pub(crate) fn applied_object(alloc: Global, name: &str, arguments: WrittenList) -> Object
-    ensures { (t : Text) (ds : Items) → name.now ≡ t → IfOk arguments (λ vs. items_view vs.items ≡ ds) → Holds result (with_member (codes "name") (string t) (with_member (codes "args") (array ds) no_members)) }
+pub(crate) fn applied_object<'a>(
+    alloc: Global,
+    name: &'a str,
+    arguments: WrittenList<'a>,
+) -> Object<'a>
+    ensures { (t : Text) (ds : Items) → name.now ≡ t → IfOk arguments.entry (λ vs. items_view vs.items ≡ ds) → Holds result (with_member (codes "name") (string t) (with_member (codes "args") (array ds) no_members)) }
 {
     Object::new(alloc)
         .array("args", arguments)
@@ -178,13 +191,13 @@ pub(crate) fn applied_object(alloc: Global, name: &str, arguments: WrittenList) 
 }
 
 /// The object with the path at `path`, an option.
-pub(crate) fn with_optional_path(
+pub(crate) fn with_optional_path<'a>(
     alloc: Global,
-    object: Object,
-    names: &Names,
-    path: &Option<ModulePath>,
-) -> Object
-    ensures { (ms : Members) → Holds object ms → Holds result (with_option (codes "path") names.now (leaf a_path) (optional path_tree path.now) ms) }
+    object: Object<'a>,
+    names: &'a Names,
+    path: &'a Option<ModulePath>,
+) -> Object<'a>
+    ensures { (ms : Members) → Holds object.entry ms → Holds result (with_option (codes "path") names.now (leaf a_path) (optional path_tree path.now) ms) }
 {
     match path {
         Some(path) => object.value("path", path_value(alloc, path)),
@@ -193,7 +206,11 @@ pub(crate) fn with_optional_path(
 }
 
 #[cycle(writing)]
-fn argument_values(alloc: Global, names: &Names, arguments: &Vec<TemplateArg>) -> WrittenList
+fn argument_values<'a>(
+    alloc: Global,
+    names: &'a Names,
+    arguments: &'a Vec<TemplateArg>,
+) -> WrittenList<'a>
     ensures { IfOk result (λ vs. items_view vs.items ≡ items_in names.now a_template_argument (listed argument_view list arguments.now).children) }
 {
     let mut values = Vec::with_capacity(alloc, arguments.len())?;
@@ -204,14 +221,14 @@ fn argument_values(alloc: Global, names: &Names, arguments: &Vec<TemplateArg>) -
 }
 
 /// The type at `ty`, an option.
-pub(crate) fn with_optional_type(
+pub(crate) fn with_optional_type<'a>(
     alloc: Global,
-    object: Object,
-    names: &Names,
-    key: &str,
-    ty: &Option<TypeExpression>,
-) -> Object
-    ensures { (ms : Members) → Holds object ms → Holds result (with_option key.now names.now (node_form a_type) (optional type_view ty.now) ms) }
+    object: Object<'a>,
+    names: &'a Names,
+    key: &'a str,
+    ty: &'a Option<TypeExpression>,
+) -> Object<'a>
+    ensures { (ms : Members) → Holds object.entry ms → Holds result (with_option key.now names.now (node_form a_type) (optional type_view ty.now) ms) }
 {
     match ty {
         Some(ty) => object.value(key, type_value(alloc, names, ty)),
@@ -220,14 +237,14 @@ pub(crate) fn with_optional_type(
 }
 
 /// The expression at `key`, an option.
-pub(crate) fn with_optional_expression(
+pub(crate) fn with_optional_expression<'a>(
     alloc: Global,
-    object: Object,
-    names: &Names,
-    key: &str,
-    expression: &Option<ExpressionNode>,
-) -> Object
-    ensures { (ms : Members) → Holds object ms → Holds result (with_option key.now names.now (node_form an_expression) (optional expression_tree expression.now) ms) }
+    object: Object<'a>,
+    names: &'a Names,
+    key: &'a str,
+    expression: &'a Option<ExpressionNode>,
+) -> Object<'a>
+    ensures { (ms : Members) → Holds object.entry ms → Holds result (with_option key.now names.now (node_form an_expression) (optional expression_tree expression.now) ms) }
 {
     match expression {
         Some(expression) => object.value(key, expression_value(alloc, names, &expression.node)),

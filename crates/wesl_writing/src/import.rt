@@ -1,7 +1,7 @@
 //! Writing imports and directives.
 ghost use Rattle.std.specs.Prelude.{◌≡◌, IfOk, codes};
 ghost use Rattle.serde_json.specs.Data.{no_members, string};
-ghost use Rattle.serde_json.specs.View.{items_view, view};
+ghost use Rattle.wesl_piece.specs.View.{items_view, piece_view};
 ghost use Rattle.wesl_form.specs.Schema.{a_content, a_directive, an_attribute, an_entry, an_import, node as node_form};
 ghost use Rattle.wesl_form.specs.Writing.{texts_value};
 ghost use Rattle.wesl_syntax.specs.Tree.{directive_node, import_node, list};
@@ -19,11 +19,11 @@ use wesl_syntax::{
 };
 
 /// The values of imports.
-pub fn import_values(
+pub fn import_values<'a>(
     alloc: Global,
-    names: &Names,
-    imports: &Vec<ImportStatementNode>,
-) -> WrittenList
+    names: &'a Names,
+    imports: &'a Vec<ImportStatementNode>,
+) -> WrittenList<'a>
     ensures { IfOk result (λ vs. items_view vs.items ≡ items_in names.now an_import (imports_tree imports.now).children) }
 {
     let mut values = Vec::with_capacity(alloc, imports.len())?;
@@ -33,8 +33,8 @@ pub fn import_values(
     Ok(values)
 }
 
-fn import_value(alloc: Global, names: &Names, import: &ImportStatement) -> Written
-    ensures { IfOk result (λ v. view v ≡ placed_in names.now an_import import_node (import_view import.now)) }
+fn import_value<'a>(alloc: Global, names: &'a Names, import: &'a ImportStatement) -> Written<'a>
+    ensures { IfOk result (λ v. piece_view v ≡ placed_in names.now an_import import_node (import_view import.now)) }
 {
     let content = content_value(alloc, names, &import.content);
     let object = Object::new(alloc).value("content", content);
@@ -44,8 +44,8 @@ fn import_value(alloc: Global, names: &Names, import: &ImportStatement) -> Writt
 }
 
 #[cycle(writing)]
-fn content_value(alloc: Global, names: &Names, content: &ImportContent) -> Written
-    ensures { IfOk result (λ v. view v ≡ value_in names.now (node_form a_content) (content_view content.now)) }
+fn content_value<'a>(alloc: Global, names: &'a Names, content: &'a ImportContent) -> Written<'a>
+    ensures { IfOk result (λ v. piece_view v ≡ value_in names.now (node_form a_content) (content_view content.now)) }
 {
     match content {
         ImportContent::Item(item) => item_value(alloc, names, item),
@@ -56,8 +56,8 @@ fn content_value(alloc: Global, names: &Names, content: &ImportContent) -> Writt
     }
 }
 
-fn item_value(alloc: Global, names: &Names, item: &ImportItem) -> Written
-    ensures { IfOk result (λ v. view v ≡ value_in names.now (node_form a_content) (item_view item.now)) }
+fn item_value<'a>(alloc: Global, names: &'a Names, item: &'a ImportItem) -> Written<'a>
+    ensures { IfOk result (λ v. piece_view v ≡ value_in names.now (node_form a_content) (item_view item.now)) }
 {
     let name = spelling(names, item.ident);
     match item.rename {
@@ -70,7 +70,7 @@ fn item_value(alloc: Global, names: &Names, item: &ImportItem) -> Written
 }
 
 #[cycle(writing)]
-fn entry_values(alloc: Global, names: &Names, entries: &Vec<Import>) -> WrittenList
+fn entry_values<'a>(alloc: Global, names: &'a Names, entries: &'a Vec<Import>) -> WrittenList<'a>
     ensures { IfOk result (λ vs. items_view vs.items ≡ items_in names.now an_entry (listed entry_view list entries.now).children) }
 {
     let mut values = Vec::with_capacity(alloc, entries.len())?;
@@ -81,8 +81,8 @@ fn entry_values(alloc: Global, names: &Names, entries: &Vec<Import>) -> WrittenL
 }
 
 #[cycle(writing)]
-fn entry_value(alloc: Global, names: &Names, entry: &Import) -> Written
-    ensures { IfOk result (λ v. view v ≡ value_in names.now (node_form an_entry) (entry_view entry.now)) }
+fn entry_value<'a>(alloc: Global, names: &'a Names, entry: &'a Import) -> Written<'a>
+    ensures { IfOk result (λ v. piece_view v ≡ value_in names.now (node_form an_entry) (entry_view entry.now)) }
 {
     let content = content_value(alloc, names, &entry.content);
     Object::new(alloc)
@@ -92,11 +92,11 @@ fn entry_value(alloc: Global, names: &Names, entry: &Import) -> Written
 }
 
 /// The values of directives.
-pub fn directive_values(
+pub fn directive_values<'a>(
     alloc: Global,
-    names: &Names,
-    directives: &Vec<GlobalDirectiveNode>,
-) -> WrittenList
+    names: &'a Names,
+    directives: &'a Vec<GlobalDirectiveNode>,
+) -> WrittenList<'a>
     ensures { IfOk result (λ vs. items_view vs.items ≡ items_in names.now a_directive (directives_tree directives.now).children) }
 {
     let mut values = Vec::with_capacity(alloc, directives.len())?;
@@ -107,8 +107,12 @@ pub fn directive_values(
 }
 
 #[tactic(auto, unfolding(crate::specs::Values::placed_in, crate::specs::Values::with_member, crate::specs::Values::with_list, crate::specs::Values::items_in))]
-fn directive_value(alloc: Global, names: &Names, directive: &GlobalDirective) -> Written
-    ensures { IfOk result (λ v. view v ≡ placed_in names.now a_directive directive_node (directive_view directive.now)) }
+fn directive_value<'a>(
+    alloc: Global,
+    names: &'a Names,
+    directive: &'a GlobalDirective,
+) -> Written<'a>
+    ensures { IfOk result (λ v. piece_view v ≡ placed_in names.now a_directive directive_node (directive_view directive.now)) }
 {
     match directive {
         GlobalDirective::Diagnostic {
@@ -127,28 +131,28 @@ fn directive_value(alloc: Global, names: &Names, directive: &GlobalDirective) ->
     }
 }
 
-fn diagnostic_value(
+fn diagnostic_value<'a>(
     alloc: Global,
-    names: &Names,
-    attributes: &Attributes,
-    severity: &str,
-    rule: &str,
-) -> Written
-    ensures { IfOk result (λ v. view v ≡ worded (codes "diagnostic") (with_list (codes "attrs") (items_in names.now an_attribute (attributes_tree attributes.now).children) (with_member (codes "severity") (string severity.now) (with_member (codes "rule") (string rule.now) no_members)))) }
+    names: &'a Names,
+    attributes: &'a Attributes,
+    severity: &'a str,
+    rule: &'a str,
+) -> Written<'a>
+    ensures { IfOk result (λ v. piece_view v ≡ worded (codes "diagnostic") (with_list (codes "attrs") (items_in names.now an_attribute (attributes_tree attributes.now).children) (with_member (codes "severity") (string severity.now) (with_member (codes "rule") (string rule.now) no_members)))) }
 {
     severity_object(alloc, severity, rule)
         .list("attrs", attribute_values(alloc, names, attributes))
         .worded("diagnostic")
 }
 
-fn extensions_value(
+fn extensions_value<'a>(
     alloc: Global,
-    names: &Names,
-    word: &str,
-    attributes: &Attributes,
-    extensions: &Vec<String>,
-) -> Written
-    ensures { IfOk result (λ v. view v ≡ worded word.now (with_list (codes "attrs") (items_in names.now an_attribute (attributes_tree attributes.now).children) (with_list (codes "names") (texts_value (texts_of extensions.now)) no_members))) }
+    names: &'a Names,
+    word: &'a str,
+    attributes: &'a Attributes,
+    extensions: &'a Vec<String>,
+) -> Written<'a>
+    ensures { IfOk result (λ v. piece_view v ≡ worded word.now (with_list (codes "attrs") (items_in names.now an_attribute (attributes_tree attributes.now).children) (with_list (codes "names") (texts_value (texts_of extensions.now)) no_members))) }
 {
     Object::new(alloc)
         .list("names", text_values(alloc, extensions))

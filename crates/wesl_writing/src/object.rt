@@ -1,91 +1,90 @@
 //! Objects that are written.
 ghost use Rattle.std.specs.Prelude.{◌≡◌, IfOk};
 ghost use Rattle.serde_json.specs.Data.{Data, Items, Members, array, no_members, object, string};
-ghost use Rattle.serde_json.specs.View.{items_view, view};
+ghost use Rattle.wesl_piece.specs.View.{items_view, piece_view};
 ghost use Rattle.wesl_names.specs.Path.{Text};
 ghost use Rattle.wesl_syntax.specs.Unit.{name_in};
 ghost use Rattle.wesl_writing.specs.Values.{with_list, with_member, worded};
 
-use serde_json::{Map, Value};
 use std::alloc::{AllocError, Global};
 use wesl_names::{Ident, Names};
+use wesl_piece::{Members, Piece};
 
-/// A value that is written, unless there is no memory for it.
-pub type Written = Result<Value, AllocError>;
+/// What is written, unless there is no memory for it.
+pub type Written<'a> = Result<Piece<'a>, AllocError>;
 
-/// Values that are written, unless there is no memory for them.
-pub type WrittenList = Result<Vec<Value>, AllocError>;
+/// Pieces that are written, unless there is no memory for them.
+pub type WrittenList<'a> = Result<Vec<Piece<'a>>, AllocError>;
 
 /// An object that is written, member by member. Its members stand in the order of their keys, whichever comes first here.
 ///
 /// What is written into it may be a refusal for want of memory. `finish` answers that, so that no member has to ask.
 #[derive(Drop)]
-pub(crate) struct Object {
+pub(crate) struct Object<'a> {
     alloc: Global,
-    members: Option<Map<String, Value>>,
+    members: Option<Members<'a>>,
 }
 
-impl Object {
+impl<'a> Object<'a> {
     ghost use Rattle.wesl_writing.specs.Objects.{Holds};
 
     /// An object without members. It takes no memory.
     #[tactic(auto, unfolding(crate::specs::Objects::Holds))]
-    pub(crate) fn new(alloc: Global) -> Object
+    pub(crate) fn new(alloc: Global) -> Object<'a>
         ensures { Holds result no_members }
     {
         Object {
             alloc,
-            members: Some(Map::new(alloc)),
+            members: Some(Vec::new(alloc)),
         }
     }
 
-    /// The object with a value at `key`.
+    /// The object with a piece at `key`.
     #[tactic(auto, unfolding(crate::specs::Objects::Holds, crate::specs::Values::with_member))]
-    pub(crate) fn value(self, key: &str, value: Written) -> Object
-        ensures { (ms : Members) (d : Data) → Holds self ms → IfOk value (λ v. view v ≡ d) → Holds result (with_member key.now d ms) }
+    pub(crate) fn value(self, key: &'a str, value: Written<'a>) -> Object<'a>
+        ensures { (ms : Members) (d : Data) → Holds self.entry ms → IfOk value.entry (λ v. piece_view v ≡ d) → Holds result (with_member key.now d ms) }
     {
         let alloc = self.alloc;
         let members = match (self.members, value) {
             (Some(mut members), Ok(value)) => {
-                match serde_json::put(&mut members, alloc, key, value) {
+                match wesl_piece::put(&mut members, key, value) {
                     Ok(()) => Some(members),
                     Err(_) => None,
                 }
             }
-            _ => None,
+            (_members, _value) => None,
         };
         Object { alloc, members }
     }
 
     /// The object with a text at `key`.
-    pub(crate) fn text(self, key: &str, text: &str) -> Object
-        ensures { (ms : Members) (t : Text) → Holds self ms → text.now ≡ t → Holds result (with_member key.now (string t) ms) }
+    pub(crate) fn text(self, key: &'a str, text: &'a str) -> Object<'a>
+        ensures { (ms : Members) (t : Text) → Holds self.entry ms → text.now ≡ t → Holds result (with_member key.now (string t) ms) }
     {
-        let alloc = self.alloc;
-        self.value(key, text_value(alloc, text))
+        self.value(key, text_value(text))
     }
 
     /// The object with a list at `key`, which may be empty.
-    pub(crate) fn array(self, key: &str, list: WrittenList) -> Object
-        ensures { (ms : Members) (ds : Items) → Holds self ms → IfOk list (λ vs. items_view vs.items ≡ ds) → Holds result (with_member key.now (array ds) ms) }
+    pub(crate) fn array(self, key: &'a str, list: WrittenList<'a>) -> Object<'a>
+        ensures { (ms : Members) (ds : Items) → Holds self.entry ms → IfOk list.entry (λ vs. items_view vs.items ≡ ds) → Holds result (with_member key.now (array ds) ms) }
     {
         match list {
-            Ok(list) => self.value(key, Ok(Value::Array(list))),
+            Ok(list) => self.value(key, Ok(Piece::List(list))),
             Err(error) => self.value(key, Err(error)),
         }
     }
 
     /// The object with a list at `key`, unless the list is empty.
     #[tactic(auto, unfolding(crate::specs::Objects::Holds))]
-    pub(crate) fn list(self, key: &str, list: WrittenList) -> Object
-        ensures { (ms : Members) (ds : Items) → Holds self ms → IfOk list (λ vs. items_view vs.items ≡ ds) → Holds result (with_list key.now ds ms) }
+    pub(crate) fn list(self, key: &'a str, list: WrittenList<'a>) -> Object<'a>
+        ensures { (ms : Members) (ds : Items) → Holds self.entry ms → IfOk list.entry (λ vs. items_view vs.items ≡ ds) → Holds result (with_list key.now ds ms) }
     {
         match list {
             Ok(list) => {
                 if list.is_empty() {
                     self
                 } else {
-                    self.value(key, Ok(Value::Array(list)))
+                    self.value(key, Ok(Piece::List(list)))
                 }
             }
             Err(_) => Object {
@@ -95,20 +94,20 @@ impl Object {
         }
     }
 
-    /// The object as a value.
+    /// The object as a piece.
     #[tactic(auto, unfolding(crate::specs::Objects::Holds))]
-    pub(crate) fn finish(self) -> Written
-        ensures { (ms : Members) → Holds self ms → IfOk result (λ v. view v ≡ object ms) }
+    pub(crate) fn finish(self) -> Written<'a>
+        ensures { (ms : Members) → Holds self.entry ms → IfOk result (λ v. piece_view v ≡ object ms) }
     {
         match self.members {
-            Some(members) => Ok(Value::Object(members)),
+            Some(members) => Ok(Piece::Object(members)),
             None => Err(AllocError),
         }
     }
 
-    /// The object as a value, with its word.
-    pub(crate) fn worded(self, word: &str) -> Written
-        ensures { (ms : Members) (w : Text) → Holds self ms → word.now ≡ w → IfOk result (λ v. view v ≡ worded w ms) }
+    /// The object as a piece, with its word.
+    pub(crate) fn worded(self, word: &'a str) -> Written<'a>
+        ensures { (ms : Members) (w : Text) → Holds self.entry ms → word.now ≡ w → IfOk result (λ v. piece_view v ≡ worded w ms) }
     {
         self.text("k", word).finish()
     }
@@ -125,9 +124,9 @@ pub(crate) fn spelling<'a>(names: &'a Names, ident: Ident) -> &'a str
     }
 }
 
-/// A text as a value.
-pub(crate) fn text_value(alloc: Global, text: &str) -> Written
-    ensures { IfOk result (λ v. view v ≡ string text.now) }
+/// A text as a piece.
+pub(crate) fn text_value<'a>(text: &'a str) -> Written<'a>
+    ensures { IfOk result (λ v. piece_view v ≡ string text.now) }
 {
-    Ok(Value::String(String::from_str(alloc, text)?))
+    Ok(Piece::Text(text))
 }

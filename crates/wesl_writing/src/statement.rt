@@ -2,13 +2,12 @@
 ghost use Rattle.std.specs.Prelude.{◌≡◌, IfOk, codes};
 ghost use Rattle.std.specs.Box.{box_value};
 ghost use Rattle.serde_json.specs.Data.{Data, Members, no_members};
-ghost use Rattle.serde_json.specs.View.{items_view, view};
+ghost use Rattle.wesl_piece.specs.View.{items_view, piece_view};
 ghost use Rattle.wesl_form.specs.Schema.{a_body, a_break_if, a_case, a_clause, a_continuing, a_statement, an_attribute, an_elif, an_else, an_expression, node as node_form};
-ghost use Rattle.wesl_form.specs.Words.{assignment_words};
 ghost use Rattle.wesl_syntax.specs.Tree.{assignment, clauses as clauses_kind, list, statements as statements_kind};
 ghost use Rattle.wesl_syntax.specs.View.{attributes_tree, break_if_view, call_view, clause_view, compound_view, continuing_view, else_if_view, else_view, expression_tree, expression_view, if_view, listed, optional, selector_view, statement_tree, statement_view};
 ghost use Rattle.wesl_writing.specs.Objects.{Holds};
-ghost use Rattle.wesl_writing.specs.Values.{bare, body_members, call_members, expression_in, items_in, statement_in, value_in, with_clause, with_list, with_member, with_option, word_value, worded};
+ghost use Rattle.wesl_writing.specs.Values.{assigned, bare, body_members, call_members, expression_in, items_in, statement_in, value_in, with_clause, with_list, with_member, with_option, worded};
 
 use crate::attribute::attribute_values;
 use crate::declaration::{assert_value, declaration_value, void_value};
@@ -25,8 +24,12 @@ use wesl_syntax::{
 
 /// The value of a statement.
 #[cycle(writing)]
-pub(crate) fn statement_value(alloc: Global, names: &Names, statement: &Statement) -> Written
-    ensures { IfOk result (λ v. view v ≡ statement_in names.now (statement_view statement.now)) }
+pub(crate) fn statement_value<'a>(
+    alloc: Global,
+    names: &'a Names,
+    statement: &'a Statement,
+) -> Written<'a>
+    ensures { IfOk result (λ v. piece_view v ≡ statement_in names.now (statement_view statement.now)) }
 {
     match statement {
         Statement::Void => void_value(alloc, names),
@@ -123,15 +126,15 @@ pub(crate) fn statement_value(alloc: Global, names: &Names, statement: &Statemen
     }
 }
 
-fn assignment_value(
+fn assignment_value<'a>(
     alloc: Global,
-    names: &Names,
-    attributes: &Attributes,
+    names: &'a Names,
+    attributes: &'a Attributes,
     operator: AssignmentOperator,
-    lhs: &ExpressionNode,
-    rhs: &ExpressionNode,
-) -> Written
-    ensures { IfOk result (λ v. view v ≡ worded (codes "assign") (with_member (codes "op") (word_value assignment_words (assignment operator)) (with_list (codes "attrs") (items_in names.now an_attribute (attributes_tree attributes.now).children) (with_member (codes "lhs") (expression_in names.now (expression_view lhs.now.node)) (with_member (codes "rhs") (expression_in names.now (expression_view rhs.now.node)) no_members))))) }
+    lhs: &'a ExpressionNode,
+    rhs: &'a ExpressionNode,
+) -> Written<'a>
+    ensures { IfOk result (λ v. piece_view v ≡ assigned names.now (assignment operator) (attributes_tree attributes.now).children (expression_view lhs.now.node) (expression_view rhs.now.node)) }
 {
     let lhs = expression_value(alloc, names, &lhs.node);
     let rhs = expression_value(alloc, names, &rhs.node);
@@ -144,14 +147,14 @@ fn assignment_value(
 }
 
 // An increment or a decrement.
-fn step_value(
+fn step_value<'a>(
     alloc: Global,
-    names: &Names,
-    word: &str,
-    attributes: &Attributes,
-    expression: &ExpressionNode,
-) -> Written
-    ensures { IfOk result (λ v. view v ≡ worded word.now (with_list (codes "attrs") (items_in names.now an_attribute (attributes_tree attributes.now).children) (with_member (codes "expr") (expression_in names.now (expression_view expression.now.node)) no_members))) }
+    names: &'a Names,
+    word: &'a str,
+    attributes: &'a Attributes,
+    expression: &'a ExpressionNode,
+) -> Written<'a>
+    ensures { IfOk result (λ v. piece_view v ≡ worded word.now (with_list (codes "attrs") (items_in names.now an_attribute (attributes_tree attributes.now).children) (with_member (codes "expr") (expression_in names.now (expression_view expression.now.node)) no_members))) }
 {
     let expression = expression_value(alloc, names, &expression.node);
     Object::new(alloc)
@@ -161,29 +164,39 @@ fn step_value(
 }
 
 // A statement that is a word alone.
-fn jump_value(alloc: Global, names: &Names, word: &str, attributes: &Attributes) -> Written
-    ensures { IfOk result (λ v. view v ≡ worded word.now (with_list (codes "attrs") (items_in names.now an_attribute (attributes_tree attributes.now).children) no_members)) }
+fn jump_value<'a>(
+    alloc: Global,
+    names: &'a Names,
+    word: &'a str,
+    attributes: &'a Attributes,
+) -> Written<'a>
+    ensures { IfOk result (λ v. piece_view v ≡ worded word.now (with_list (codes "attrs") (items_in names.now an_attribute (attributes_tree attributes.now).children) no_members)) }
 {
     Object::new(alloc)
         .list("attrs", attribute_values(alloc, names, attributes))
         .worded(word)
 }
 
-fn return_value(
+fn return_value<'a>(
     alloc: Global,
-    names: &Names,
-    attributes: &Attributes,
-    expression: &Option<ExpressionNode>,
-) -> Written
-    ensures { IfOk result (λ v. view v ≡ worded (codes "return") (with_list (codes "attrs") (items_in names.now an_attribute (attributes_tree attributes.now).children) (with_option (codes "expr") names.now (node_form an_expression) (optional expression_tree expression.now) no_members))) }
+    names: &'a Names,
+    attributes: &'a Attributes,
+    expression: &'a Option<ExpressionNode>,
+) -> Written<'a>
+    ensures { IfOk result (λ v. piece_view v ≡ worded (codes "return") (with_list (codes "attrs") (items_in names.now an_attribute (attributes_tree attributes.now).children) (with_option (codes "expr") names.now (node_form an_expression) (optional expression_tree expression.now) no_members))) }
 {
     with_optional_expression(alloc, Object::new(alloc), names, "expr", expression)
         .list("attrs", attribute_values(alloc, names, attributes))
         .worded("return")
 }
 
-fn call_value(alloc: Global, names: &Names, attributes: &Attributes, call: &FunctionCall) -> Written
-    ensures { IfOk result (λ v. view v ≡ worded (codes "call") (with_list (codes "attrs") (items_in names.now an_attribute (attributes_tree attributes.now).children) (with_member (codes "call") (bare (call_members names.now (call_view call.now))) no_members))) }
+fn call_value<'a>(
+    alloc: Global,
+    names: &'a Names,
+    attributes: &'a Attributes,
+    call: &'a FunctionCall,
+) -> Written<'a>
+    ensures { IfOk result (λ v. piece_view v ≡ worded (codes "call") (with_list (codes "attrs") (items_in names.now an_attribute (attributes_tree attributes.now).children) (with_member (codes "call") (bare (call_members names.now (call_view call.now))) no_members))) }
 {
     Object::new(alloc)
         .value("call", call_object(alloc, names, call).finish())
@@ -193,14 +206,18 @@ fn call_value(alloc: Global, names: &Names, attributes: &Attributes, call: &Func
 
 /// The value of a body.
 #[cycle(writing)]
-pub(crate) fn body_value(alloc: Global, names: &Names, body: &CompoundStatement) -> Written
-    ensures { IfOk result (λ v. view v ≡ value_in names.now (node_form a_body) (compound_view body.now)) }
+pub(crate) fn body_value<'a>(
+    alloc: Global,
+    names: &'a Names,
+    body: &'a CompoundStatement,
+) -> Written<'a>
+    ensures { IfOk result (λ v. piece_view v ≡ value_in names.now (node_form a_body) (compound_view body.now)) }
 {
     body_object(alloc, names, body).finish()
 }
 
 #[cycle(writing)]
-fn body_object(alloc: Global, names: &Names, body: &CompoundStatement) -> Object
+fn body_object<'a>(alloc: Global, names: &'a Names, body: &'a CompoundStatement) -> Object<'a>
     ensures { Holds result (body_members names.now (compound_view body.now)) }
 {
     Object::new(alloc)
@@ -209,7 +226,11 @@ fn body_object(alloc: Global, names: &Names, body: &CompoundStatement) -> Object
 }
 
 #[cycle(writing)]
-fn statement_values(alloc: Global, names: &Names, nodes: &Vec<StatementNode>) -> WrittenList
+fn statement_values<'a>(
+    alloc: Global,
+    names: &'a Names,
+    nodes: &'a Vec<StatementNode>,
+) -> WrittenList<'a>
     ensures { IfOk result (λ vs. items_view vs.items ≡ items_in names.now a_statement (listed statement_tree statements_kind nodes.now).children) }
 {
     let mut values = Vec::with_capacity(alloc, nodes.len())?;
@@ -220,14 +241,14 @@ fn statement_values(alloc: Global, names: &Names, nodes: &Vec<StatementNode>) ->
 }
 
 // The object with a condition and the body that it decides on.
-fn with_condition(
+fn with_condition<'a>(
     alloc: Global,
-    object: Object,
-    names: &Names,
-    condition: &ExpressionNode,
-    body: Written,
-) -> Object
-    ensures { (ms : Members) (d : Data) → Holds object ms → IfOk body (λ v. view v ≡ d) → Holds result (with_member (codes "cond") (expression_in names.now (expression_view condition.now.node)) (with_member (codes "body") d ms)) }
+    object: Object<'a>,
+    names: &'a Names,
+    condition: &'a ExpressionNode,
+    body: Written<'a>,
+) -> Object<'a>
+    ensures { (ms : Members) (d : Data) → Holds object.entry ms → IfOk body.entry (λ v. piece_view v ≡ d) → Holds result (with_member (codes "cond") (expression_in names.now (expression_view condition.now.node)) (with_member (codes "body") d ms)) }
 {
     object
         .value("body", body)
@@ -235,15 +256,24 @@ fn with_condition(
 }
 
 #[cycle(writing)]
-fn with_if_clause(alloc: Global, object: Object, names: &Names, clause: &IfClause) -> Object
-    ensures { (ms : Members) → Holds object ms → Holds result (with_clause names.now (if_view clause.now) ms) }
+fn with_if_clause<'a>(
+    alloc: Global,
+    object: Object<'a>,
+    names: &'a Names,
+    clause: &'a IfClause,
+) -> Object<'a>
+    ensures { (ms : Members) → Holds object.entry ms → Holds result (with_clause names.now (if_view clause.now) ms) }
 {
     let body = body_value(alloc, names, &clause.body);
     with_condition(alloc, object, names, &clause.expression, body)
 }
 
 #[cycle(writing)]
-fn elif_values(alloc: Global, names: &Names, clauses: &Vec<ElseIfClause>) -> WrittenList
+fn elif_values<'a>(
+    alloc: Global,
+    names: &'a Names,
+    clauses: &'a Vec<ElseIfClause>,
+) -> WrittenList<'a>
     ensures { IfOk result (λ vs. items_view vs.items ≡ items_in names.now an_elif (listed else_if_view list clauses.now).children) }
 {
     let mut values = Vec::with_capacity(alloc, clauses.len())?;
@@ -254,8 +284,8 @@ fn elif_values(alloc: Global, names: &Names, clauses: &Vec<ElseIfClause>) -> Wri
 }
 
 #[cycle(writing)]
-fn elif_value(alloc: Global, names: &Names, clause: &ElseIfClause) -> Written
-    ensures { IfOk result (λ v. view v ≡ value_in names.now (node_form an_elif) (else_if_view clause.now)) }
+fn elif_value<'a>(alloc: Global, names: &'a Names, clause: &'a ElseIfClause) -> Written<'a>
+    ensures { IfOk result (λ v. piece_view v ≡ value_in names.now (node_form an_elif) (else_if_view clause.now)) }
 {
     let body = body_value(alloc, names, &clause.body);
     with_condition(alloc, Object::new(alloc), names, &clause.expression, body)
@@ -264,13 +294,13 @@ fn elif_value(alloc: Global, names: &Names, clause: &ElseIfClause) -> Written
 }
 
 #[cycle(writing)]
-fn with_optional_else(
+fn with_optional_else<'a>(
     alloc: Global,
-    object: Object,
-    names: &Names,
-    clause: &Option<ElseClause>,
-) -> Object
-    ensures { (ms : Members) → Holds object ms → Holds result (with_option (codes "else") names.now (node_form an_else) (optional else_view clause.now) ms) }
+    object: Object<'a>,
+    names: &'a Names,
+    clause: &'a Option<ElseClause>,
+) -> Object<'a>
+    ensures { (ms : Members) → Holds object.entry ms → Holds result (with_option (codes "else") names.now (node_form an_else) (optional else_view clause.now) ms) }
 {
     match clause {
         Some(clause) => object.value("else", else_value(alloc, names, clause)),
@@ -279,8 +309,8 @@ fn with_optional_else(
 }
 
 #[cycle(writing)]
-fn else_value(alloc: Global, names: &Names, clause: &ElseClause) -> Written
-    ensures { IfOk result (λ v. view v ≡ value_in names.now (node_form an_else) (else_view clause.now)) }
+fn else_value<'a>(alloc: Global, names: &'a Names, clause: &'a ElseClause) -> Written<'a>
+    ensures { IfOk result (λ v. piece_view v ≡ value_in names.now (node_form an_else) (else_view clause.now)) }
 {
     Object::new(alloc)
         .value("body", body_value(alloc, names, &clause.body))
@@ -289,7 +319,11 @@ fn else_value(alloc: Global, names: &Names, clause: &ElseClause) -> Written
 }
 
 #[cycle(writing)]
-fn clause_values(alloc: Global, names: &Names, clauses: &Vec<SwitchClause>) -> WrittenList
+fn clause_values<'a>(
+    alloc: Global,
+    names: &'a Names,
+    clauses: &'a Vec<SwitchClause>,
+) -> WrittenList<'a>
     ensures { IfOk result (λ vs. items_view vs.items ≡ items_in names.now a_clause (listed clause_view clauses_kind clauses.now).children) }
 {
     let mut values = Vec::with_capacity(alloc, clauses.len())?;
@@ -300,8 +334,8 @@ fn clause_values(alloc: Global, names: &Names, clauses: &Vec<SwitchClause>) -> W
 }
 
 #[cycle(writing)]
-fn clause_value(alloc: Global, names: &Names, clause: &SwitchClause) -> Written
-    ensures { IfOk result (λ v. view v ≡ value_in names.now (node_form a_clause) (clause_view clause.now)) }
+fn clause_value<'a>(alloc: Global, names: &'a Names, clause: &'a SwitchClause) -> Written<'a>
+    ensures { IfOk result (λ v. piece_view v ≡ value_in names.now (node_form a_clause) (clause_view clause.now)) }
 {
     Object::new(alloc)
         .value("body", body_value(alloc, names, &clause.body))
@@ -310,7 +344,11 @@ fn clause_value(alloc: Global, names: &Names, clause: &SwitchClause) -> Written
         .finish()
 }
 
-fn case_values(alloc: Global, names: &Names, selectors: &Vec<CaseSelector>) -> WrittenList
+fn case_values<'a>(
+    alloc: Global,
+    names: &'a Names,
+    selectors: &'a Vec<CaseSelector>,
+) -> WrittenList<'a>
     ensures { IfOk result (λ vs. items_view vs.items ≡ items_in names.now a_case (listed selector_view list selectors.now).children) }
 {
     let mut values = Vec::with_capacity(alloc, selectors.len())?;
@@ -320,8 +358,8 @@ fn case_values(alloc: Global, names: &Names, selectors: &Vec<CaseSelector>) -> W
     Ok(values)
 }
 
-fn case_value(alloc: Global, names: &Names, selector: &CaseSelector) -> Written
-    ensures { IfOk result (λ v. view v ≡ value_in names.now (node_form a_case) (selector_view selector.now)) }
+fn case_value<'a>(alloc: Global, names: &'a Names, selector: &'a CaseSelector) -> Written<'a>
+    ensures { IfOk result (λ v. piece_view v ≡ value_in names.now (node_form a_case) (selector_view selector.now)) }
 {
     match selector {
         CaseSelector::Default => Object::new(alloc).worded("default"),
@@ -330,13 +368,13 @@ fn case_value(alloc: Global, names: &Names, selector: &CaseSelector) -> Written
 }
 
 #[cycle(writing)]
-fn with_optional_continuing(
+fn with_optional_continuing<'a>(
     alloc: Global,
-    object: Object,
-    names: &Names,
-    continuing: &Option<ContinuingStatement>,
-) -> Object
-    ensures { (ms : Members) → Holds object ms → Holds result (with_option (codes "continuing") names.now (node_form a_continuing) (optional continuing_view continuing.now) ms) }
+    object: Object<'a>,
+    names: &'a Names,
+    continuing: &'a Option<ContinuingStatement>,
+) -> Object<'a>
+    ensures { (ms : Members) → Holds object.entry ms → Holds result (with_option (codes "continuing") names.now (node_form a_continuing) (optional continuing_view continuing.now) ms) }
 {
     match continuing {
         Some(continuing) => {
@@ -347,8 +385,12 @@ fn with_optional_continuing(
 }
 
 #[cycle(writing)]
-fn continuing_value(alloc: Global, names: &Names, continuing: &ContinuingStatement) -> Written
-    ensures { IfOk result (λ v. view v ≡ value_in names.now (node_form a_continuing) (continuing_view continuing.now)) }
+fn continuing_value<'a>(
+    alloc: Global,
+    names: &'a Names,
+    continuing: &'a ContinuingStatement,
+) -> Written<'a>
+    ensures { IfOk result (λ v. piece_view v ≡ value_in names.now (node_form a_continuing) (continuing_view continuing.now)) }
 {
     let attributes = attribute_values(alloc, names, &continuing.attributes);
     with_optional_break_if(alloc, Object::new(alloc), names, &continuing.break_if)
@@ -357,13 +399,13 @@ fn continuing_value(alloc: Global, names: &Names, continuing: &ContinuingStateme
         .finish()
 }
 
-fn with_optional_break_if(
+fn with_optional_break_if<'a>(
     alloc: Global,
-    object: Object,
-    names: &Names,
-    break_if: &Option<BreakIfStatement>,
-) -> Object
-    ensures { (ms : Members) → Holds object ms → Holds result (with_option (codes "break_if") names.now (node_form a_break_if) (optional break_if_view break_if.now) ms) }
+    object: Object<'a>,
+    names: &'a Names,
+    break_if: &'a Option<BreakIfStatement>,
+) -> Object<'a>
+    ensures { (ms : Members) → Holds object.entry ms → Holds result (with_option (codes "break_if") names.now (node_form a_break_if) (optional break_if_view break_if.now) ms) }
 {
     match break_if {
         Some(break_if) => object.value("break_if", break_if_value(alloc, names, break_if)),
@@ -371,8 +413,12 @@ fn with_optional_break_if(
     }
 }
 
-fn break_if_value(alloc: Global, names: &Names, break_if: &BreakIfStatement) -> Written
-    ensures { IfOk result (λ v. view v ≡ value_in names.now (node_form a_break_if) (break_if_view break_if.now)) }
+fn break_if_value<'a>(
+    alloc: Global,
+    names: &'a Names,
+    break_if: &'a BreakIfStatement,
+) -> Written<'a>
+    ensures { IfOk result (λ v. piece_view v ≡ value_in names.now (node_form a_break_if) (break_if_view break_if.now)) }
 {
     let expression = expression_value(alloc, names, &break_if.expression.node);
     let attributes = attribute_values(alloc, names, &break_if.attributes);
@@ -383,14 +429,14 @@ fn break_if_value(alloc: Global, names: &Names, break_if: &BreakIfStatement) -> 
 }
 
 #[cycle(writing)]
-fn with_optional_statement(
+fn with_optional_statement<'a>(
     alloc: Global,
-    object: Object,
-    names: &Names,
-    key: &str,
-    statement: &Option<Box<StatementNode>>,
-) -> Object
-    ensures { (ms : Members) → Holds object ms → Holds result (with_option key.now names.now (node_form a_statement) (optional (λ s. statement_tree (box_value s)) statement.now) ms) }
+    object: Object<'a>,
+    names: &'a Names,
+    key: &'a str,
+    statement: &'a Option<Box<StatementNode>>,
+) -> Object<'a>
+    ensures { (ms : Members) → Holds object.entry ms → Holds result (with_option key.now names.now (node_form a_statement) (optional (λ s. statement_tree (box_value s)) statement.now) ms) }
 {
     match statement {
         Some(statement) => object.value(key, statement_value(alloc, names, &statement.node)),

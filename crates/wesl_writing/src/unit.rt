@@ -1,6 +1,7 @@
 //! Writing units.
 ghost use Rattle.std.specs.Prelude.{◌≡◌, IfErr, IfOk};
 ghost use Rattle.serde_json.specs.View.{view};
+ghost use Rattle.wesl_piece.specs.View.{piece_view};
 ghost use Rattle.wesl_names.specs.declared.errors.Error as error;
 ghost use Rattle.wesl_form.specs.Units.{unit_value};
 ghost use Rattle.wesl_tree.specs.Translation.{unit_view};
@@ -9,7 +10,9 @@ use crate::declaration::global_values;
 use crate::import::{directive_values, import_values};
 use crate::object::{Object, Written};
 use serde_json::Value;
-use std::alloc::Global;
+use std::alloc::{AllocError, Global};
+use wesl_form_laws::law_of_order;
+use wesl_piece::value_of_piece;
 use wesl_tree::{Error, TranslationUnit};
 
 /// The value that a unit is written as: its form with the names for the identifiers.
@@ -20,11 +23,19 @@ pub fn value_of_unit(alloc: Global, unit: &TranslationUnit) -> Result<Value, Err
     ensures written { IfOk result (λ v. view v ≡ unit_value (unit_view unit.now)) }
     ensures refused { IfErr result (λ e. e ≡ error.Memory) }
 {
-    Ok(written_unit(alloc, unit)?)
+    Ok(sorted_unit(alloc, unit)?)
 }
 
-fn written_unit(alloc: Global, unit: &TranslationUnit) -> Written
+fn sorted_unit(alloc: Global, unit: &TranslationUnit) -> Result<Value, AllocError>
     ensures { IfOk result (λ v. view v ≡ unit_value (unit_view unit.now)) }
+{
+    law_of_order();
+    let piece = written_unit(alloc, unit)?;
+    value_of_piece(alloc, &piece)
+}
+
+fn written_unit<'a>(alloc: Global, unit: &'a TranslationUnit) -> Written<'a>
+    ensures { IfOk result (λ v. piece_view v ≡ unit_value (unit_view unit.now)) }
 {
     let names = unit.names();
     let imports = import_values(alloc, names, unit.imports());

@@ -1,5 +1,5 @@
 use Rattle.std.proofs.Common.{rules}
-use Rattle.serde_json.specs.View.{items_view}
+use Rattle.wesl_piece.specs.View.{items_view}
 use Rattle.wesl_writing.proofs.Lists.{texts-turn, texts-whole}
 use Rattle.wesl_writing.proofs.attribute.text_values.Goals as goal
 

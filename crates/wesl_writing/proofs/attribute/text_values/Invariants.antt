@@ -1,5 +1,5 @@
 use Rattle.std.proofs.Common.{◌≡◌, map, take, string_bytes}
-use Rattle.serde_json.specs.View.{items_view}
+use Rattle.wesl_piece.specs.View.{items_view}
 use Rattle.wesl_form.specs.Writing.{texts_value}
 use Rattle.wesl_writing.proofs.attribute.text_values.Given as goal
 

@@ -1,5 +1,5 @@
 use Rattle.std.proofs.Common.{◌≡◌, map, take}
-use Rattle.serde_json.specs.View.{items_view}
+use Rattle.wesl_piece.specs.View.{items_view}
 use Rattle.wesl_syntax.specs.Tree.{forest_of}
 use Rattle.wesl_syntax.specs.Tree.{declaration_node}
 use Rattle.wesl_syntax.specs.View.{global_view, placed}

@@ -1,5 +1,5 @@
 use Rattle.std.proofs.Common.{◌≡◌, sym, ◌∙◌, rules}
-use Rattle.serde_json.specs.View.{items_view}
+use Rattle.wesl_piece.specs.View.{items_view}
 use Rattle.wesl_syntax.specs.Tree.{member_node}
 use Rattle.wesl_syntax.specs.View.{member_view, placed}
 use Rattle.wesl_form.specs.Schema.{a_member}

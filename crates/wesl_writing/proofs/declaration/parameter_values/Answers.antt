@@ -1,5 +1,5 @@
 use Rattle.std.proofs.Common.{◌≡◌, sym, ◌∙◌, rules}
-use Rattle.serde_json.specs.View.{items_view}
+use Rattle.wesl_piece.specs.View.{items_view}
 use Rattle.wesl_syntax.specs.View.{parameter_view}
 use Rattle.wesl_form.specs.Schema.{a_parameter}
 use Rattle.wesl_writing.proofs.Lists.{items-none, items-turn, items-whole, placed-value}

@@ -1,7 +1,7 @@
 use Rattle.std.proofs.Common.{◌∙◌, rules}
 use Rattle.std.proofs.lemmas.Result.{IfOk-weaker}
-use Rattle.serde_json.specs.View.{view}
-use Rattle.serde_json.specs.declared.value.Value.{the_lemmas}
+use Rattle.wesl_piece.specs.View.{piece_view}
+use Rattle.wesl_piece.specs.declared.piece.Piece.{the_lemmas}
 use Rattle.wesl_writing.proofs.Expressions.{as-truth, as-literal}
 use Rattle.wesl_writing.proofs.expression.literal_value.Goals as goal
 
@@ -10,4 +10,4 @@ returns-in-Bool c = search (rules, the_lemmas) ∙ as-truth c.args.names.now c.a
 
 pub returns-in-Text : goal.returns-in-Text
 returns-in-Text c =
-    IfOk-weaker c.worded.result _ _ (λ v h. as-literal c.args.names.now c.args.literal.now c.in-Text.text (view v) c.in-Text.is h) (search rules)
+    IfOk-weaker c.worded.result _ _ (λ v h. as-literal c.args.names.now c.args.literal.now c.in-Text.text (piece_view v) c.in-Text.is h) (search rules)

@@ -1,6 +1,6 @@
 use Rattle.std.proofs.Common.{refl, rules}
 use Rattle.std.proofs.lemmas.Result.{IfOk-weaker}
-use Rattle.serde_json.specs.View.{view, items_view}
+use Rattle.wesl_piece.specs.View.{items_view, piece_view}
 use Rattle.wesl_syntax.specs.View.{entry_view}
 use Rattle.wesl_form.specs.Schema.{an_entry}
 use Rattle.wesl_writing.proofs.Imports.{as-collection, as-entry}
@@ -9,10 +9,10 @@ use Rattle.wesl_writing.proofs.import.+writing.Goals as goal
 
 pub content_value-returns-in-Collection : goal.content_value-returns-in-Collection
 content_value-returns-in-Collection t c =
-    IfOk-weaker c.finish.result _ _ (λ v h. as-collection c.args.names.now c.args.content.now c.in-Collection.entries _ (view v) (search rules) refl h) (search rules)
+    IfOk-weaker c.finish.result _ _ (λ v h. as-collection c.args.names.now c.args.content.now c.in-Collection.entries _ (piece_view v) (search rules) refl h) (search rules)
 
 pub entry_value-returns : goal.entry_value-returns
-entry_value-returns t c = IfOk-weaker c.finish.result _ _ (λ v h. as-entry c.args.names.now c.args.entry.now (view v) h) (search rules)
+entry_value-returns t c = IfOk-weaker c.finish.result _ _ (λ v h. as-entry c.args.names.now c.args.entry.now (piece_view v) h) (search rules)
 
 pub entry_values-loop-entry-preserved : goal.entry_values-loop-entry-preserved
 entry_values-loop-entry-preserved t c =

@@ -1,7 +1,7 @@
 use Rattle.std.proofs.Common.{◌≡◌, codes, refl, sym, ◌∙◌, rules}
 use Rattle.std.proofs.lemmas.Result.{IfOk-weaker}
 use Rattle.std.specs.Box.{box_value}
-use Rattle.serde_json.specs.View.{view, items_view}
+use Rattle.wesl_piece.specs.View.{items_view, piece_view}
 use Rattle.wesl_syntax.specs.Tree.{statement_node}
 use Rattle.wesl_syntax.specs.View.{clause_view, continuing_view, else_if_view, else_view, statement_tree, statement_view}
 use Rattle.wesl_form.specs.Schema.{a_clause, a_continuing, a_statement, an_elif, an_else, node}
@@ -16,23 +16,23 @@ body_object-returns t c =
 
 pub body_value-returns : goal.body_value-returns
 body_value-returns t c =
-    IfOk-weaker c.finish.result _ _ (λ v h. as-body-value c.args.names.now c.args.body.now _ (view v) refl h) (search rules)
+    IfOk-weaker c.finish.result _ _ (λ v h. as-body-value c.args.names.now c.args.body.now _ (piece_view v) refl h) (search rules)
 
 pub clause_value-returns : goal.clause_value-returns
 clause_value-returns t c =
-    IfOk-weaker c.finish.result _ _ (λ v h. as-clause c.args.names.now c.args.clause.now (view v) h) (search rules)
+    IfOk-weaker c.finish.result _ _ (λ v h. as-clause c.args.names.now c.args.clause.now (piece_view v) h) (search rules)
 
 pub continuing_value-returns : goal.continuing_value-returns
 continuing_value-returns t c =
-    IfOk-weaker c.finish.result _ _ (λ v h. as-continuing c.args.names.now c.args.continuing.now (view v) h) (search rules)
+    IfOk-weaker c.finish.result _ _ (λ v h. as-continuing c.args.names.now c.args.continuing.now (piece_view v) h) (search rules)
 
 pub elif_value-returns : goal.elif_value-returns
 elif_value-returns t c =
-    IfOk-weaker c.finish.result _ _ (λ v h. as-elif c.args.names.now c.args.clause.now (view v) h) (search rules)
+    IfOk-weaker c.finish.result _ _ (λ v h. as-elif c.args.names.now c.args.clause.now (piece_view v) h) (search rules)
 
 pub else_value-returns : goal.else_value-returns
 else_value-returns t c =
-    IfOk-weaker c.finish.result _ _ (λ v h. as-else c.args.names.now c.args.clause.now (view v) h) (search rules)
+    IfOk-weaker c.finish.result _ _ (λ v h. as-else c.args.names.now c.args.clause.now (piece_view v) h) (search rules)
 
 pub with_if_clause-returns : goal.with_if_clause-returns
 with_if_clause-returns t c = λ ms held.
@@ -40,59 +40,59 @@ with_if_clause-returns t c = λ ms held.
 
 pub statement_value-returns-in-Compound : goal.statement_value-returns-in-Compound
 statement_value-returns-in-Compound t c =
-    IfOk-weaker c.worded.result _ _ (λ v h. as-block c.args.names.now c.args.statement.now (view v) c.in-Compound.body _ (search rules) refl h) (search rules)
+    IfOk-weaker c.worded.result _ _ (λ v h. as-block c.args.names.now c.args.statement.now (piece_view v) c.in-Compound.body _ (search rules) refl h) (search rules)
 
 pub statement_value-returns-in-Assignment : goal.statement_value-returns-in-Assignment
 statement_value-returns-in-Assignment t c =
-    IfOk-weaker c.assignment_value.result _ _ (λ v h. as-assignment c.args.names.now c.args.statement.now (view v) c.in-Assignment.attributes c.in-Assignment.operator c.in-Assignment.lhs c.in-Assignment.rhs (search rules) h) (search rules)
+    IfOk-weaker c.assignment_value.result _ _ (λ v h. as-assignment c.args.names.now c.args.statement.now (piece_view v) c.in-Assignment.attributes c.in-Assignment.operator c.in-Assignment.lhs c.in-Assignment.rhs (search rules) h) (search rules)
 
 pub statement_value-returns-in-Increment : goal.statement_value-returns-in-Increment
 statement_value-returns-in-Increment t c =
-    IfOk-weaker c.step_value.result _ _ (λ v h. as-increment c.args.names.now c.args.statement.now (view v) c.in-Increment.attributes c.in-Increment.expression (search rules) h) (search rules)
+    IfOk-weaker c.step_value.result _ _ (λ v h. as-increment c.args.names.now c.args.statement.now (piece_view v) c.in-Increment.attributes c.in-Increment.expression (search rules) h) (search rules)
 
 pub statement_value-returns-in-Decrement : goal.statement_value-returns-in-Decrement
 statement_value-returns-in-Decrement t c =
-    IfOk-weaker c.step_value-in-Decrement.result _ _ (λ v h. as-decrement c.args.names.now c.args.statement.now (view v) c.in-Decrement.attributes c.in-Decrement.expression (search rules) h) (search rules)
+    IfOk-weaker c.step_value-in-Decrement.result _ _ (λ v h. as-decrement c.args.names.now c.args.statement.now (piece_view v) c.in-Decrement.attributes c.in-Decrement.expression (search rules) h) (search rules)
 
 pub statement_value-returns-in-If : goal.statement_value-returns-in-If
 statement_value-returns-in-If t c =
-    IfOk-weaker c.worded-in-If.result _ _ (λ v h. as-if c.args.names.now c.args.statement.now (view v) c.in-If.attributes c.in-If.if_clause c.in-If.else_if_clauses c.in-If.else_clause (search rules) h) (search rules)
+    IfOk-weaker c.worded-in-If.result _ _ (λ v h. as-if c.args.names.now c.args.statement.now (piece_view v) c.in-If.attributes c.in-If.if_clause c.in-If.else_if_clauses c.in-If.else_clause (search rules) h) (search rules)
 
 pub statement_value-returns-in-Switch : goal.statement_value-returns-in-Switch
 statement_value-returns-in-Switch t c =
-    IfOk-weaker c.worded-in-Switch.result _ _ (λ v h. as-switch c.args.names.now c.args.statement.now (view v) c.in-Switch.attributes c.in-Switch.expression c.in-Switch.body_attributes c.in-Switch.clauses (search rules) h) (search rules)
+    IfOk-weaker c.worded-in-Switch.result _ _ (λ v h. as-switch c.args.names.now c.args.statement.now (piece_view v) c.in-Switch.attributes c.in-Switch.expression c.in-Switch.body_attributes c.in-Switch.clauses (search rules) h) (search rules)
 
 pub statement_value-returns-in-Loop : goal.statement_value-returns-in-Loop
 statement_value-returns-in-Loop t c =
-    IfOk-weaker c.worded-in-Loop.result _ _ (λ v h. as-loop c.args.names.now c.args.statement.now (view v) c.in-Loop.attributes c.in-Loop.body c.in-Loop.continuing (search rules) h) (search rules)
+    IfOk-weaker c.worded-in-Loop.result _ _ (λ v h. as-loop c.args.names.now c.args.statement.now (piece_view v) c.in-Loop.attributes c.in-Loop.body c.in-Loop.continuing (search rules) h) (search rules)
 
 pub statement_value-returns-in-For : goal.statement_value-returns-in-For
 statement_value-returns-in-For t c =
-    IfOk-weaker c.worded-in-For.result _ _ (λ v h. as-for c.args.names.now c.args.statement.now (view v) c.in-For.attributes c.in-For.initializer c.in-For.condition c.in-For.update c.in-For.body (search rules) h) (search rules)
+    IfOk-weaker c.worded-in-For.result _ _ (λ v h. as-for c.args.names.now c.args.statement.now (piece_view v) c.in-For.attributes c.in-For.initializer c.in-For.condition c.in-For.update c.in-For.body (search rules) h) (search rules)
 
 pub statement_value-returns-in-While : goal.statement_value-returns-in-While
 statement_value-returns-in-While t c =
-    IfOk-weaker c.worded-in-While.result _ _ (λ v h. as-while c.args.names.now c.args.statement.now (view v) c.in-While.attributes c.in-While.condition c.in-While.body (search rules) h) (search rules)
+    IfOk-weaker c.worded-in-While.result _ _ (λ v h. as-while c.args.names.now c.args.statement.now (piece_view v) c.in-While.attributes c.in-While.condition c.in-While.body (search rules) h) (search rules)
 
 pub statement_value-returns-in-Break : goal.statement_value-returns-in-Break
 statement_value-returns-in-Break t c =
-    IfOk-weaker c.jump_value.result _ _ (λ v h. as-break c.args.names.now c.args.statement.now (view v) c.in-Break.attributes (search rules) h) (search rules)
+    IfOk-weaker c.jump_value.result _ _ (λ v h. as-break c.args.names.now c.args.statement.now (piece_view v) c.in-Break.attributes (search rules) h) (search rules)
 
 pub statement_value-returns-in-Continue : goal.statement_value-returns-in-Continue
 statement_value-returns-in-Continue t c =
-    IfOk-weaker c.jump_value-in-Continue.result _ _ (λ v h. as-continue c.args.names.now c.args.statement.now (view v) c.in-Continue.attributes (search rules) h) (search rules)
+    IfOk-weaker c.jump_value-in-Continue.result _ _ (λ v h. as-continue c.args.names.now c.args.statement.now (piece_view v) c.in-Continue.attributes (search rules) h) (search rules)
 
 pub statement_value-returns-in-Return : goal.statement_value-returns-in-Return
 statement_value-returns-in-Return t c =
-    IfOk-weaker c.return_value.result _ _ (λ v h. as-return c.args.names.now c.args.statement.now (view v) c.in-Return.attributes c.in-Return.expression (search rules) h) (search rules)
+    IfOk-weaker c.return_value.result _ _ (λ v h. as-return c.args.names.now c.args.statement.now (piece_view v) c.in-Return.attributes c.in-Return.expression (search rules) h) (search rules)
 
 pub statement_value-returns-in-Discard : goal.statement_value-returns-in-Discard
 statement_value-returns-in-Discard t c =
-    IfOk-weaker c.jump_value-in-Discard.result _ _ (λ v h. as-discard c.args.names.now c.args.statement.now (view v) c.in-Discard.attributes (search rules) h) (search rules)
+    IfOk-weaker c.jump_value-in-Discard.result _ _ (λ v h. as-discard c.args.names.now c.args.statement.now (piece_view v) c.in-Discard.attributes (search rules) h) (search rules)
 
 pub statement_value-returns-in-FunctionCall : goal.statement_value-returns-in-FunctionCall
 statement_value-returns-in-FunctionCall t c =
-    IfOk-weaker c.call_value.result _ _ (λ v h. as-call c.args.names.now c.args.statement.now (view v) c.in-FunctionCall.attributes c.in-FunctionCall.call (search rules) h) (search rules)
+    IfOk-weaker c.call_value.result _ _ (λ v h. as-call c.args.names.now c.args.statement.now (piece_view v) c.in-FunctionCall.attributes c.in-FunctionCall.call (search rules) h) (search rules)
 
 pub with_optional_continuing-returns-in-None : goal.with_optional_continuing-returns-in-None
 with_optional_continuing-returns-in-None t c = λ ms held.

@@ -1,6 +1,6 @@
 use Rattle.std.proofs.Common.{rules}
 use Rattle.std.proofs.lemmas.Result.{IfOk-weaker}
-use Rattle.serde_json.specs.View.{view}
+use Rattle.wesl_piece.specs.View.{piece_view}
 use Rattle.wesl_syntax.specs.View.{imports_tree, directives_tree, declarations_tree}
 use Rattle.wesl_tree.specs.Translation.{unit_view}
 use Rattle.wesl_form.specs.Schema.{a_declaration, a_directive, an_import}
@@ -17,4 +17,4 @@ returns c =
     let declared = c.list.ensures _ _ c.new.ensures c.global_values-declarations.ensures in
     let directed = c.list-2.ensures _ _ declared c.directive_values-directives.ensures in
     let imported = c.list-3.ensures _ _ directed c.import_values-imports.ensures in
-    IfOk-weaker c.finish.result _ _ (λ v h. as-unit (unit_view c.args.unit.now) i d g (items_in names an_import i) (items_in names a_directive d) (items_in names a_declaration g) (view v) (search rules) (search rules) (search rules) (search rules) (search rules) (search rules) h) (c.finish.ensures _ imported)
+    IfOk-weaker c.finish.result _ _ (λ v h. as-unit (unit_view c.args.unit.now) i d g (items_in names an_import i) (items_in names a_directive d) (items_in names a_declaration g) (piece_view v) (search rules) (search rules) (search rules) (search rules) (search rules) (search rules) h) (c.finish.ensures _ imported)

@@ -1,7 +1,7 @@
 use Rattle.std.proofs.Common.{◌≡◌, ◌<◌, [], length, sym, ap, ◌∙◌, rules}
 use Rattle.std.proofs.lemmas.Grind.{common_steps}
 use Rattle.std.proofs.lemmas.Result.{IfOk-at_ok}
-use Rattle.serde_json.specs.View.{items_view}
+use Rattle.wesl_piece.specs.View.{items_view}
 use Rattle.wesl_writing.specs.Values.{with_list}
 use Rattle.wesl_writing.proofs.Lists.{with_none, with_some}
 use Rattle.wesl_writing.proofs.Objects.{holds-as}
@@ -13,8 +13,8 @@ returns-then-is_empty c = λ ms ds held made.
     let same : items_view c.in-Ok.list.items ≡ ds = IfOk-at_ok (λ vs. items_view vs.items ≡ ds) c.in-Ok.is made in
     holds-as c.args.self _ _ (sym (with_none c.args.key.now c.in-Ok.list.items ms none) ∙ ap (λ es. with_list c.args.key.now es ms) same) held
 
-pub returns-else-is_empty : goal.returns-else-is_empty
-returns-else-is_empty c = λ ms ds held made.
+pub returns-in-Ok : goal.returns-in-Ok
+returns-in-Ok c = λ ms ds held made.
     let some : 0 < length c.in-Ok.list.items = search (rules, common_steps) in
     let same : items_view c.in-Ok.list.items ≡ ds = IfOk-at_ok (λ vs. items_view vs.items ≡ ds) c.in-Ok.is made in
     holds-as c.value.result _ _ (sym (with_some c.args.key.now c.in-Ok.list ms some) ∙ ap (λ es. with_list c.args.key.now es ms) same) (search rules)

@@ -1,0 +1,13 @@
+-- The place of a key among members; for private clauses.
+use Rattle.std.specs.Prelude.{ℕ, suc, List, Bool, true, false}
+use Rattle.std.specs.Ordering.{nat_cmp, match_ordering}
+use Rattle.std.specs.Cmp.Lexicographic.{slice_cmp}
+use Rattle.serde_json.specs.Data.{Members, no_members, member}
+
+abbrev pub one_on : ℕ × Bool → ℕ × Bool
+one_on p = (suc p.0, p.1)
+
+-- where `put` goes, and whether a member with this key stands there
+abbrev pub place_of : List ℕ → Members → ℕ × Bool
+place_of k no_members = (0, false)
+place_of k (member l e ms) = match_ordering (slice_cmp nat_cmp k l) (0, false) (0, true) (one_on (place_of k ms))
