@@ -1,12 +1,11 @@
 //! The directives of a linked unit (WGSL, "Directives").
 ghost use Rattle.std.specs.Prelude.{◌≡◌, ◌↔◌, ◌++◌, ◌∷◌, [], IsTrue, IfOk, IfErr, OnOk, length, map};
 ghost use Rattle.wesl_names.specs.declared.errors.Error as error;
-ghost use Rattle.wesl_syntax.specs.Tree.{tree_below, identifiers, directive_node, before, end, respell};
-ghost use Rattle.wesl_syntax.specs.Unit.{name_in};
+ghost use Rattle.wesl_syntax.specs.Tree.{tree_below, directive_node};
 ghost use Rattle.wesl_syntax.specs.View.{placed, directive_view};
-ghost use Rattle.wesl_assembly.specs.Denotations.{free_name};
 ghost use Rattle.wesl_assembly.specs.Directives.{AreThinned};
 ghost use Rattle.wesl_assembly.specs.Linked.{directive_ref_tree};
+ghost use Rattle.wesl_assembly.specs.Thinning.{spelled_directive, words_in};
 ghost use Rattle.wesl_assembly.specs.Views.{denotation_view};
 
 use crate::denotation::Denotation;
@@ -31,7 +30,7 @@ fn words<'a>(
     directive: &GlobalDirectiveNode,
 ) -> Result<Vec<Denotation<'a>>, Error>
     requires below { IsTrue (tree_below (length names.now) (placed directive_view directive_node directive.now)) }
-    ensures words { IfOk result (λ words. map denotation_view words.items ≡ map free_name (map (name_in names.now) (identifiers (before (placed directive_view directive_node directive.now) end)))) }
+    ensures words { IfOk result (λ words. map denotation_view words.items ≡ words_in names.now directive.now) }
     ensures refused { IfErr result (λ e. e ≡ error.Memory) }
 {
     let idents = words_of(alloc, directive)?;
@@ -50,7 +49,7 @@ pub(crate) fn are_equal(
     right_names: &Names,
     right: &GlobalDirectiveNode,
 ) -> Result<bool, Error>
-    ensures equal { IfOk result (λ same. IsTrue same ↔ (respell (name_in left_names.now) (placed directive_view directive_node left.now) ≡ respell (name_in right_names.now) (placed directive_view directive_node right.now))) }
+    ensures equal { IfOk result (λ same. IsTrue same ↔ (spelled_directive left_names.now left.now ≡ spelled_directive right_names.now right.now)) }
     ensures refused { IfErr result (λ e. e ≡ error.Memory) }
 {
     let left = vec![in alloc; copy_global_directive_node(alloc, left)?]?;
@@ -78,7 +77,7 @@ impl<'a> Directives<'a> {
     ) -> Result<(), Error>
         requires below { IsTrue (tree_below (length names.now) (placed directive_view directive_node directive.now)) }
         ensures nodes { OnOk result (map directive_ref_tree self.new.nodes.items ≡ map directive_ref_tree self.old.nodes.items ++ placed directive_view directive_node directive.now ∷ []) }
-        ensures words { OnOk result (map denotation_view self.new.words.items ≡ map denotation_view self.old.words.items ++ map free_name (map (name_in names.now) (identifiers (before (placed directive_view directive_node directive.now) end)))) }
+        ensures words { OnOk result (map denotation_view self.new.words.items ≡ map denotation_view self.old.words.items ++ words_in names.now directive.now) }
         ensures refused { IfErr result (λ e. e ≡ error.Memory) }
     {
         let mut words = words(alloc, names, directive)?;

@@ -2,12 +2,11 @@
 ghost use Rattle.std.specs.Prelude.{◌≡◌, ◌↔◌, ◌++◌, ◌∷◌, [], List, Some, IsTrue, IfOk, IfErr, OnOk, length, map};
 ghost use Rattle.wesl_names.specs.Path.{Text};
 ghost use Rattle.wesl_names.specs.declared.errors.Error as error;
-ghost use Rattle.wesl_syntax.specs.Tree.{TreeOf, tree_below, respell, directive_node};
-ghost use Rattle.wesl_syntax.specs.Unit.{name_in};
+ghost use Rattle.wesl_syntax.specs.Tree.{TreeOf, tree_below, directive_node};
 ghost use Rattle.wesl_syntax.specs.View.{placed, directive_view};
 ghost use Rattle.wesl_tree.specs.Translation.{unit_view};
 ghost use Rattle.wesl_assembly.specs.Directives.{AreThinned, all_directives, directives_of};
-ghost use Rattle.wesl_assembly.specs.Thinning.{told, IsThinning};
+ghost use Rattle.wesl_assembly.specs.Thinning.{told, spelled_directive, IsThinning};
 ghost use Rattle.wesl_assembly.specs.Views.{denotation_view};
 
 use crate::directives::{Directives, are_equal};
@@ -38,7 +37,7 @@ impl<'a> Thinning<'a> {
         names: &Names,
         directive: &GlobalDirectiveNode,
     ) -> Result<bool, Error>
-        ensures again { IfOk result (λ same. IsTrue same ↔ (told self.now.last ≡ Some (respell (name_in names.now) (placed directive_view directive_node directive.now)))) }
+        ensures again { IfOk result (λ same. IsTrue same ↔ (told self.now.last ≡ Some (spelled_directive names.now directive.now))) }
         ensures refused { IfErr result (λ e. e ≡ error.Memory) }
     {
         match self.last {
@@ -55,7 +54,7 @@ impl<'a> Thinning<'a> {
         directive: &'a GlobalDirectiveNode,
     ) -> Result<(), Error>
         requires below { IsTrue (tree_below (length names.now) (placed directive_view directive_node directive.now)) }
-        ensures thinned { OnOk result ((all : List (TreeOf Text)) → IsThinning all self.old → IsThinning (all ++ respell (name_in names.now) (placed directive_view directive_node directive.now) ∷ []) self.new) }
+        ensures thinned { OnOk result ((all : List (TreeOf Text)) → IsThinning all self.old → IsThinning (all ++ spelled_directive names.now directive.now ∷ []) self.new) }
         ensures refused { IfErr result (λ e. e ≡ error.Memory) }
     {
         if !self.is_again(alloc, names, directive)? {

@@ -1,8 +1,10 @@
 -- The nodes of the code as nodes of a judged list.
 use Rattle.std.specs.Prelude.{ℕ, Bool, true, false, cond, List, [], ◌∷◌, map, Option, Some, None}
 use Rattle.wesl_chains.specs.declared.chain.Role.{Role}
+use Rattle.wesl_chains.specs.declared.conditions.Condition.{Condition as Lent}
+use Rattle.wesl_chains.specs.declared.conditions.Condition.TheVariants as lent
 use Rattle.wesl_chains.specs.Chains.{Condition, none, on, else_on, otherwise, recast_condition}
-use Rattle.wesl_chains.specs.Conditions.{condition_at, attribute_of}
+use Rattle.wesl_chains.specs.Conditions.{first_spot, condition_at, attribute_of}
 use Rattle.wesl_chains.specs.Lists.{Element}
 use Rattle.wesl_formula.specs.Answers.{Answers}
 use Rattle.wesl_formula.specs.Features.{Replies, answer_to, known, by_number}
@@ -12,7 +14,7 @@ use Rattle.wesl_formula.specs.declared.features.Truth.{Truth}
 use Rattle.wesl_formula.specs.declared.features.Truth.TheVariants.{Yes}
 use Rattle.wesl_names.specs.Path.{Text}
 use Rattle.wesl_syntax.specs.Tree.{Tree, Forest, end, tree, before, forest_of, attribute_node}
-use Rattle.wesl_syntax.specs.View.{attribute_view, placed}
+use Rattle.wesl_syntax.specs.View.{attribute_view, expression_tree, placed}
 use Rattle.wesl_syntax.specs.declared.attribute.Attribute.{Attribute}
 use Rattle.wesl_syntax.specs.declared.span.Spanned.{Spanned}
 
@@ -32,6 +34,13 @@ attributes_forest xs = forest_of (map attribute_tree xs)
 -- the condition that an attribute is
 abbrev pub condition_of_attribute : Attribute → Condition ℕ
 condition_of_attribute a = condition_at (before (attribute_view a) end)
+
+-- a condition as it is lent, if there is one
+abbrev pub condition_view : Option Lent → Condition ℕ
+condition_view None = none
+condition_view (Some (lent.If e)) = on (first_spot (before (expression_tree e.now) end))
+condition_view (Some (lent.Elif e)) = else_on (first_spot (before (expression_tree e.now) end))
+condition_view (Some lent.Else) = otherwise
 
 -- an attribute as a new condition, where it was one and one is left
 abbrev pub remade : Forest → Condition ℕ → Condition ℕ → Forest

@@ -2,7 +2,7 @@
 ghost use Rattle.std.specs.Prelude.{◌≡◌, map};
 ghost use Rattle.wesl_chains.specs.Chains.{follows_on, holds};
 ghost use Rattle.wesl_chains.specs.Conditions.{first_condition, recast};
-ghost use Rattle.wesl_chains.specs.Nodes.{answers, attributes_forest, condition_of_attribute, attribute_tree, follows_if_any, holds_if_any, instead, is_any, marked, marked_tree, unconditional};
+ghost use Rattle.wesl_chains.specs.Nodes.{answers, attributes_forest, condition_of_attribute, condition_view, attribute_tree, follows_if_any, holds_if_any, instead, is_any, marked, marked_tree, unconditional};
 ghost use Rattle.wesl_formula.specs.Formulas.{form, written};
 ghost use Rattle.wesl_formula.specs.Residual.{residual};
 ghost use Rattle.wesl_syntax.specs.Tree.{before, end};
@@ -16,41 +16,25 @@ use wesl_syntax::{
     Attribute, AttributeNode, Attributes, Expression, ExpressionNode, Literal, Spanned,
 };
 
-/// Whether an attribute is a condition.
-pub fn is_condition(attribute: &Attribute) -> bool
-    ensures { result ≡ is_any (condition_of_attribute attribute.now) }
-{
-    match attribute {
-        Attribute::If(_) | Attribute::Elif(_) | Attribute::Else => true,
-        Attribute::Align(_)
-        | Attribute::Binding(_)
-        | Attribute::BlendSrc(_)
-        | Attribute::Builtin(_)
-        | Attribute::Const
-        | Attribute::Diagnostic { .. }
-        | Attribute::Group(_)
-        | Attribute::Id(_)
-        | Attribute::Interpolate(_)
-        | Attribute::Invariant
-        | Attribute::Location(_)
-        | Attribute::MustUse
-        | Attribute::Size(_)
-        | Attribute::WorkgroupSize { .. }
-        | Attribute::Vertex
-        | Attribute::Fragment
-        | Attribute::Compute
-        | Attribute::Publish
-        | Attribute::Custom { .. } => false,
-    }
+/// A condition, as an attribute holds it.
+#[derive(Clone, Copy)]
+pub enum Condition<'a> {
+    /// `@if(formula)`
+    If(&'a ExpressionNode),
+    /// `@elif(formula)`
+    Elif(&'a ExpressionNode),
+    /// `@else`
+    Else,
 }
 
-/// Whether an attribute is an `@elif` or an `@else`, if it is a condition.
-fn follows_one(attribute: &Attribute) -> Option<bool>
-    ensures { result ≡ follows_if_any (condition_of_attribute attribute.now) }
+/// The condition that an attribute is, if it is one.
+pub fn condition_of(attribute: &Attribute) -> Option<Condition<'_>>
+    ensures { condition_view result ≡ condition_of_attribute attribute.now }
 {
     match attribute {
-        Attribute::If(_) => Some(false),
-        Attribute::Elif(_) | Attribute::Else => Some(true),
+        Attribute::If(formula) => Some(Condition::If(formula)),
+        Attribute::Elif(formula) => Some(Condition::Elif(formula)),
+        Attribute::Else => Some(Condition::Else),
         Attribute::Align(_)
         | Attribute::Binding(_)
         | Attribute::BlendSrc(_)
@@ -70,6 +54,24 @@ fn follows_one(attribute: &Attribute) -> Option<bool>
         | Attribute::Compute
         | Attribute::Publish
         | Attribute::Custom { .. } => None,
+    }
+}
+
+/// Whether an attribute is a condition.
+pub fn is_condition(attribute: &Attribute) -> bool
+    ensures { result ≡ is_any (condition_of_attribute attribute.now) }
+{
+    condition_of(attribute).is_some()
+}
+
+/// Whether an attribute is an `@elif` or an `@else`, if it is a condition.
+fn follows_one(attribute: &Attribute) -> Option<bool>
+    ensures { result ≡ follows_if_any (condition_of_attribute attribute.now) }
+{
+    match condition_of(attribute) {
+        Some(Condition::If(_)) => Some(false),
+        Some(Condition::Elif(_) | Condition::Else) => Some(true),
+        None => None,
     }
 }
 
@@ -77,29 +79,12 @@ fn follows_one(attribute: &Attribute) -> Option<bool>
 fn holds_one(attribute: &Attribute, names: &Names, features: &Features) -> Option<Truth>
     ensures { result ≡ holds_if_any (answers names.now features.now) (condition_of_attribute attribute.now) }
 {
-    match attribute {
-        Attribute::If(formula) => Some(decided(&formula.node, names, features)),
-        Attribute::Elif(formula) => Some(decided(&formula.node, names, features)),
-        Attribute::Else => Some(Truth::Yes),
-        Attribute::Align(_)
-        | Attribute::Binding(_)
-        | Attribute::BlendSrc(_)
-        | Attribute::Builtin(_)
-        | Attribute::Const
-        | Attribute::Diagnostic { .. }
-        | Attribute::Group(_)
-        | Attribute::Id(_)
-        | Attribute::Interpolate(_)
-        | Attribute::Invariant
-        | Attribute::Location(_)
-        | Attribute::MustUse
-        | Attribute::Size(_)
-        | Attribute::WorkgroupSize { .. }
-        | Attribute::Vertex
-        | Attribute::Fragment
-        | Attribute::Compute
-        | Attribute::Publish
-        | Attribute::Custom { .. } => None,
+    match condition_of(attribute) {
+        Some(Condition::If(formula) | Condition::Elif(formula)) => {
+            Some(decided(&formula.node, names, features))
+        }
+        Some(Condition::Else) => Some(Truth::Yes),
+        None => None,
     }
 }
 
@@ -148,39 +133,16 @@ fn marked(
 ) -> Option<Attribute>
     ensures { instead result (before (attribute_view attribute.new) end) ≡ marked (answers names.now features.now) role (before (attribute_view attribute.old) end) }
 {
-    match attribute {
-        Attribute::If(formula) => match role {
-            Role::Plain => None,
-            Role::Else => Some(Attribute::Else),
-            Role::If => Some(Attribute::If(left_over(formula, names, features))),
-            Role::Elif => Some(Attribute::Elif(left_over(formula, names, features))),
-        },
-        Attribute::Elif(formula) => match role {
-            Role::Plain => None,
-            Role::Else => Some(Attribute::Else),
-            Role::If => Some(Attribute::If(left_over(formula, names, features))),
-            Role::Elif => Some(Attribute::Elif(left_over(formula, names, features))),
-        },
-        Attribute::Else
-        | Attribute::Align(_)
-        | Attribute::Binding(_)
-        | Attribute::BlendSrc(_)
-        | Attribute::Builtin(_)
-        | Attribute::Const
-        | Attribute::Diagnostic { .. }
-        | Attribute::Group(_)
-        | Attribute::Id(_)
-        | Attribute::Interpolate(_)
-        | Attribute::Invariant
-        | Attribute::Location(_)
-        | Attribute::MustUse
-        | Attribute::Size(_)
-        | Attribute::WorkgroupSize { .. }
-        | Attribute::Vertex
-        | Attribute::Fragment
-        | Attribute::Compute
-        | Attribute::Publish
-        | Attribute::Custom { .. } => None,
+    match (role, attribute) {
+        (Role::Plain, _) => None,
+        (Role::Else, Attribute::If(_) | Attribute::Elif(_)) => Some(Attribute::Else),
+        (Role::If, Attribute::If(formula) | Attribute::Elif(formula)) => {
+            Some(Attribute::If(left_over(formula, names, features)))
+        }
+        (Role::Elif, Attribute::If(formula) | Attribute::Elif(formula)) => {
+            Some(Attribute::Elif(left_over(formula, names, features)))
+        }
+        _ => None,
     }
 }
 

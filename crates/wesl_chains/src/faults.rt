@@ -9,7 +9,7 @@ ghost use Rattle.wesl_formula.specs.Evaluation.{Judges};
 ghost use Rattle.wesl_names.specs.Path.{Text};
 ghost use Rattle.wesl_syntax.specs.Tree.{forest_of};
 
-use crate::conditions::{follows_on, is_condition};
+use crate::conditions::{Condition, condition_of, follows_on, is_condition};
 use crate::lists::Conditional;
 use std::alloc::Global;
 use wesl_formula::{Features, check_formula};
@@ -37,28 +37,9 @@ fn has_several(attributes: &[AttributeNode]) -> bool
 fn opens_one(attribute: &Attribute) -> bool
     ensures { result ≡ opens (condition_of_attribute attribute.now ∷ []) }
 {
-    match attribute {
-        Attribute::If(_) | Attribute::Elif(_) => true,
-        Attribute::Else
-        | Attribute::Align(_)
-        | Attribute::Binding(_)
-        | Attribute::BlendSrc(_)
-        | Attribute::Builtin(_)
-        | Attribute::Const
-        | Attribute::Diagnostic { .. }
-        | Attribute::Group(_)
-        | Attribute::Id(_)
-        | Attribute::Interpolate(_)
-        | Attribute::Invariant
-        | Attribute::Location(_)
-        | Attribute::MustUse
-        | Attribute::Size(_)
-        | Attribute::WorkgroupSize { .. }
-        | Attribute::Vertex
-        | Attribute::Fragment
-        | Attribute::Compute
-        | Attribute::Publish
-        | Attribute::Custom { .. } => false,
+    match condition_of(attribute) {
+        Some(Condition::If(_) | Condition::Elif(_)) => true,
+        Some(Condition::Else) | None => false,
     }
 }
 
@@ -84,29 +65,11 @@ fn check_attribute(
 ) -> Result<(), Error>
     ensures { Judges names.now (condition_faults (replies names.now features.now) (condition_of_attribute attribute.now)) result }
 {
-    match attribute {
-        Attribute::If(formula) => check_formula(alloc, &formula.node, names, features),
-        Attribute::Elif(formula) => check_formula(alloc, &formula.node, names, features),
-        Attribute::Else
-        | Attribute::Align(_)
-        | Attribute::Binding(_)
-        | Attribute::BlendSrc(_)
-        | Attribute::Builtin(_)
-        | Attribute::Const
-        | Attribute::Diagnostic { .. }
-        | Attribute::Group(_)
-        | Attribute::Id(_)
-        | Attribute::Interpolate(_)
-        | Attribute::Invariant
-        | Attribute::Location(_)
-        | Attribute::MustUse
-        | Attribute::Size(_)
-        | Attribute::WorkgroupSize { .. }
-        | Attribute::Vertex
-        | Attribute::Fragment
-        | Attribute::Compute
-        | Attribute::Publish
-        | Attribute::Custom { .. } => Ok(()),
+    match condition_of(attribute) {
+        Some(Condition::If(formula) | Condition::Elif(formula)) => {
+            check_formula(alloc, &formula.node, names, features)
+        }
+        Some(Condition::Else) | None => Ok(()),
     }
 }
 

@@ -4,14 +4,13 @@ ghost use Rattle.wesl_names.specs.declared.errors.Error as error;
 ghost use Rattle.wesl_tree.specs.declared.unit.TranslationUnit.{TranslationUnit};
 ghost use Rattle.wesl_names.specs.Borrowed.{texts};
 ghost use Rattle.wesl_names.specs.Path.{Text, Path, path_view, is_relative};
-ghost use Rattle.wesl_names.specs.declared.errors.Diagnostic.{out-Diagnostic};
 ghost use Rattle.wesl_resolve.specs.Resolver.{MeansTheSame};
 ghost use Rattle.wesl_conditional.specs.Conditions.{IsConditioned};
-ghost use Rattle.wesl_conditional.specs.Linking.{Links, LinksLeft, RefusesLink, RefusesLinkLeft, kept_names};
-ghost use Rattle.wesl_linker.specs.Refusal.{TellsOf};
+ghost use Rattle.wesl_conditional.specs.Linking.{FindsLink, FindsLinkLeft, TellsRefusal, TellsRefusalLeft, kept_names};
+ghost use Rattle.wesl_linker.specs.Linking.{LinksRoot, RefusesRoot};
 ghost use Rattle.wesl_linker.specs.Resolved.{module_at};
 ghost use Rattle.wesl_linker.specs.Worlds as worlds;
-ghost use Rattle.wesl_link.specs.Keeping.{IsSound, resolved, modules_of, turns_of};
+ghost use Rattle.wesl_link.specs.Keeping.{IsSound, resolved, modules_of};
 
 use crate::units::condition;
 use std::alloc::Global;
@@ -37,12 +36,12 @@ pub fn link_under<R: Resolver + Drop>(
 ) -> Result<Resolutions, Diagnostic>
     requires ready { R.ready resolver }
     requires asked { is_relative (path_view path.now) ≡ false }
-    ensures linked { IfOk result (λ r. LinksLeft (R.hands resolver) (R.refuses resolver) features.now (path_view path.now) (texts keep.now) is_eager max_modules (turns_of r) (modules_of r)) }
+    ensures linked { IfOk result (FindsLinkLeft (R.hands resolver) (R.refuses resolver) features.now path.now (texts keep.now) is_eager max_modules) }
     ensures kept { IfOk result (λ r. (resolved r).kept ≡ kept_names is_eager (texts keep.now)) }
     ensures eager { IfOk result (λ r. (resolved r).is_eager ≡ is_eager) }
     ensures names { IfOk result (λ r. (p : Path) (n : Text) → (resolved r).names p n ≡ n) }
     ensures sound { IfOk result IsSound }
-    ensures refused { IfErr result (λ d. RefusesLinkLeft (R.hands resolver) (R.refuses resolver) features.now (path_view path.now) (texts keep.now) is_eager max_modules (out-Diagnostic d).error) }
+    ensures refused { IfErr result (TellsRefusalLeft (R.hands resolver) (R.refuses resolver) features.now path.now (texts keep.now) is_eager max_modules) }
 {
     let judge = |unit: TranslationUnit|
         ensures { IsConditioned features.entry.now unit result }
@@ -74,12 +73,12 @@ fn link_judged<R: Resolver + Drop, F: Fn(TranslationUnit) -> Result<TranslationU
     requires asked { is_relative (path_view path.now) ≡ false }
     requires callable { F.IsAlwaysCallable judge }
     requires judges { (given : TranslationUnit) (answer : Result TranslationUnit error.Error) → F.post judge given answer ↔ IsConditioned features.now given answer }
-    ensures linked { IfOk result (λ r. LinksLeft (R.hands resolver) (R.refuses resolver) features.now (path_view path.now) (texts keep.now) is_eager max_modules (turns_of r) (modules_of r)) }
+    ensures linked { IfOk result (FindsLinkLeft (R.hands resolver) (R.refuses resolver) features.now path.now (texts keep.now) is_eager max_modules) }
     ensures kept { IfOk result (λ r. (resolved r).kept ≡ kept_names is_eager (texts keep.now)) }
     ensures eager { IfOk result (λ r. (resolved r).is_eager ≡ is_eager) }
     ensures names { IfOk result (λ r. (p : Path) (n : Text) → (resolved r).names p n ≡ n) }
     ensures sound { IfOk result IsSound }
-    ensures refused { IfErr result (λ d. RefusesLinkLeft (R.hands resolver) (R.refuses resolver) features.now (path_view path.now) (texts keep.now) is_eager max_modules (out-Diagnostic d).error) }
+    ensures refused { IfErr result (TellsRefusalLeft (R.hands resolver) (R.refuses resolver) features.now path.now (texts keep.now) is_eager max_modules) }
 {
     let mut judged = Preprocessor::new(resolver, judge);
     link_at(alloc, keep, is_eager, path, &mut judged, max_modules)
@@ -100,12 +99,12 @@ pub fn link_at<R: Resolver>(
 ) -> Result<Resolutions, Diagnostic>
     requires ready { R.ready resolver.old }
     requires asked { is_relative (path_view path.now) ≡ false }
-    ensures linked { IfOk result (λ r. Links (R.hands resolver.old) (R.refuses resolver.old) (path_view path.now) (texts keep.now) is_eager max_modules (turns_of r) (modules_of r)) }
+    ensures linked { IfOk result (FindsLink (R.hands resolver.old) (R.refuses resolver.old) path.now (texts keep.now) is_eager max_modules) }
     ensures kept { IfOk result (λ r. (resolved r).kept ≡ kept_names is_eager (texts keep.now)) }
     ensures eager { IfOk result (λ r. (resolved r).is_eager ≡ is_eager) }
     ensures names { IfOk result (λ r. (p : Path) (n : Text) → (resolved r).names p n ≡ n) }
     ensures sound { IfOk result IsSound }
-    ensures refused { IfErr result (λ d. RefusesLink (R.hands resolver.old) (R.refuses resolver.old) (path_view path.now) (texts keep.now) is_eager max_modules (out-Diagnostic d).error) }
+    ensures refused { IfErr result (TellsRefusal (R.hands resolver.old) (R.refuses resolver.old) path.now (texts keep.now) is_eager max_modules) }
     ensures same { MeansTheSame R.hands R.refuses R.source R.lacks R.shown resolver.old resolver.new }
     ensures stays_ready { R.ready resolver.new }
 {
@@ -127,13 +126,13 @@ fn link_unit<R: Resolver>(
 ) -> Result<Resolutions, Diagnostic>
     requires ready { R.ready resolver.old }
     requires asked { is_relative (path_view path.now) ≡ false }
-    ensures linked { let root = module_at path.now unit in IfOk result (λ r. worlds.IsLinked (R.hands resolver.old) (R.refuses resolver.old) root (worlds.task_of root (kept_names is_eager (texts keep.now)) is_eager) max_modules (turns_of r) (modules_of r)) }
+    ensures linked { IfOk result (λ r. LinksRoot (R.hands resolver.old) (R.refuses resolver.old) path.now unit (kept_names is_eager (texts keep.now)) is_eager max_modules (resolved r)) }
     ensures order { IfOk result (λ r. worlds.IsModuleOrder (module_at path.now unit) (modules_of r)) }
     ensures kept { IfOk result (λ r. (resolved r).kept ≡ kept_names is_eager (texts keep.now)) }
     ensures eager { IfOk result (λ r. (resolved r).is_eager ≡ is_eager) }
     ensures names { IfOk result (λ r. (p : Path) (n : Text) → (resolved r).names p n ≡ n) }
     ensures sound { IfOk result IsSound }
-    ensures refused { let root = module_at path.now unit in IfErr result (λ d. TellsOf (worlds.IsRefused (R.hands resolver.old) (R.refuses resolver.old) root (worlds.task_of root (kept_names is_eager (texts keep.now)) is_eager) max_modules) (out-Diagnostic d).error) }
+    ensures refused { IfErr result (RefusesRoot (R.hands resolver.old) (R.refuses resolver.old) path.now unit (kept_names is_eager (texts keep.now)) is_eager max_modules) }
     ensures same { MeansTheSame R.hands R.refuses R.source R.lacks R.shown resolver.old resolver.new }
     ensures stays_ready { R.ready resolver.new }
 {

@@ -1,14 +1,12 @@
 //! Linking a root with the modules that it reaches.
 ghost use Rattle.std.specs.Prelude.{◌≡◌, [], true, false, IfOk, IfErr};
-ghost use Rattle.wesl_names.specs.declared.errors.Error as error;
-ghost use Rattle.wesl_names.specs.declared.errors.Diagnostic.{out-Diagnostic};
 ghost use Rattle.wesl_names.specs.Borrowed.{texts};
 ghost use Rattle.wesl_names.specs.Path.{Text, Path, path_view, is_relative};
 ghost use Rattle.wesl_resolve.specs.Resolver.{MeansTheSame};
-ghost use Rattle.wesl_linker.specs.Refusal.{TellsOf};
+ghost use Rattle.wesl_linker.specs.Linking.{LinksRoot, RefusesRoot, IsFaultlessRoot, TellsMemory};
 ghost use Rattle.wesl_linker.specs.Resolved.{module_at};
 ghost use Rattle.wesl_linker.specs.Worlds as worlds;
-ghost use Rattle.wesl_link.specs.Keeping.{IsSound, resolved, modules_of, turns_of};
+ghost use Rattle.wesl_link.specs.Keeping.{IsSound, resolved, modules_of};
 
 use crate::resolutions::Resolutions;
 use std::alloc::Global;
@@ -32,14 +30,14 @@ pub fn resolve_lazy<R: Resolver>(
 ) -> Result<Resolutions, Diagnostic>
     requires ready { R.ready resolver.old }
     requires asked { is_relative (path_view path.now) ≡ false }
-    ensures linked { let root = module_at path.now unit in IfOk result (λ r. worlds.IsLinked (R.hands resolver.old) (R.refuses resolver.old) root (worlds.task_of root (texts keep.now) false) max_modules (turns_of r) (modules_of r)) }
+    ensures linked { IfOk result (λ r. LinksRoot (R.hands resolver.old) (R.refuses resolver.old) path.now unit (texts keep.now) false max_modules (resolved r)) }
     ensures order { IfOk result (λ r. worlds.IsModuleOrder (module_at path.now unit) (modules_of r)) }
     ensures kept { IfOk result (λ r. (resolved r).kept ≡ texts keep.now) }
     ensures lazy { IfOk result (λ r. (resolved r).is_eager ≡ false) }
     ensures sound { IfOk result IsSound }
     ensures names { IfOk result (λ r. (p : Path) (n : Text) → (resolved r).names p n ≡ n) }
-    ensures refused { let root = module_at path.now unit in IfErr result (λ d. TellsOf (worlds.IsRefused (R.hands resolver.old) (R.refuses resolver.old) root (worlds.task_of root (texts keep.now) false) max_modules) (out-Diagnostic d).error) }
-    ensures succeeds { let root = module_at path.now unit in worlds.IsFaultless (R.hands resolver.old) (R.refuses resolver.old) root (worlds.task_of root (texts keep.now) false) max_modules → IfErr result (λ d. (out-Diagnostic d).error ≡ error.Memory) }
+    ensures refused { IfErr result (RefusesRoot (R.hands resolver.old) (R.refuses resolver.old) path.now unit (texts keep.now) false max_modules) }
+    ensures succeeds { IsFaultlessRoot (R.hands resolver.old) (R.refuses resolver.old) path.now unit (texts keep.now) false max_modules → IfErr result TellsMemory }
     ensures same { MeansTheSame R.hands R.refuses R.source R.lacks R.shown resolver.old resolver.new }
     ensures stays_ready { R.ready resolver.new }
 {
@@ -62,14 +60,14 @@ pub fn resolve_eager<R: Resolver>(
 ) -> Result<Resolutions, Diagnostic>
     requires ready { R.ready resolver.old }
     requires asked { is_relative (path_view path.now) ≡ false }
-    ensures linked { let root = module_at path.now unit in IfOk result (λ r. worlds.IsLinked (R.hands resolver.old) (R.refuses resolver.old) root (worlds.task_of root [] true) max_modules (turns_of r) (modules_of r)) }
+    ensures linked { IfOk result (λ r. LinksRoot (R.hands resolver.old) (R.refuses resolver.old) path.now unit [] true max_modules (resolved r)) }
     ensures order { IfOk result (λ r. worlds.IsModuleOrder (module_at path.now unit) (modules_of r)) }
     ensures kept { IfOk result (λ r. (resolved r).kept ≡ []) }
     ensures eager { IfOk result (λ r. (resolved r).is_eager ≡ true) }
     ensures sound { IfOk result IsSound }
     ensures names { IfOk result (λ r. (p : Path) (n : Text) → (resolved r).names p n ≡ n) }
-    ensures refused { let root = module_at path.now unit in IfErr result (λ d. TellsOf (worlds.IsRefused (R.hands resolver.old) (R.refuses resolver.old) root (worlds.task_of root [] true) max_modules) (out-Diagnostic d).error) }
-    ensures succeeds { let root = module_at path.now unit in worlds.IsFaultless (R.hands resolver.old) (R.refuses resolver.old) root (worlds.task_of root [] true) max_modules → IfErr result (λ d. (out-Diagnostic d).error ≡ error.Memory) }
+    ensures refused { IfErr result (RefusesRoot (R.hands resolver.old) (R.refuses resolver.old) path.now unit [] true max_modules) }
+    ensures succeeds { IsFaultlessRoot (R.hands resolver.old) (R.refuses resolver.old) path.now unit [] true max_modules → IfErr result TellsMemory }
     ensures same { MeansTheSame R.hands R.refuses R.source R.lacks R.shown resolver.old resolver.new }
     ensures stays_ready { R.ready resolver.new }
 {

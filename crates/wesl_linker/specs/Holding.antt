@@ -24,6 +24,7 @@ use Rattle.wesl_table.specs.declared.marks.Mark.TheVariants as marks
 use Rattle.wesl_assembly.specs.Denotations.{symbol, local, free_name}
 use Rattle.wesl_assembly.specs.Linked.{shape, declaration_ref_tree}
 use Rattle.wesl_assembly.specs.Views.{Meaning, denotation_view}
+use Rattle.wesl_assembly.specs.declared.denotation.Denotation.{Denotation}
 use Rattle.wesl_linker.specs.Given.{Given}
 use Rattle.wesl_linker.specs.Linked.{Selects, Joins, Placed, placed, is_assert, IsHeld, AreHeldOf, AreMeanings}
 use Rattle.wesl_linker.specs.Resolved.{Resolved, mangled}
@@ -90,6 +91,11 @@ module _ (nb : Numbering) (k : Linking PathId NameId) (t : Table PathId NameId) 
   IsMeant (marks.Asks s) _ = ⊥
   IsMeant (marks.Local b n) d = d ≡ local t.path b (name_text nb n)
   IsMeant (marks.Free n) d = d ≡ free_name (name_text nb n)
+
+-- what an identifier with each of the marks stands for is added, in their order
+abbrev pub AddsMeanings : Link → Table PathId NameId → List Mark → List Denotation → List Denotation → Type 0
+AddsMeanings l t ms old new =
+    (ds : List Meaning) × (map denotation_view new ≡ map denotation_view old ++ ds) × AreRelated (IsMeant (numbering l.numbers) l.linked t) ms ds
 
 -- what has numbers has texts
 abbrev pub IsNamed : Numbering → Meaning → Type 0

@@ -1,6 +1,7 @@
 pub mod Given
 pub mod GivenView
 pub mod Recorded
+pub mod Recording
 pub mod Handing
 pub mod Worlds
 pub mod Taking
@@ -9,5 +10,8 @@ pub mod Resolved
 pub mod Tabled
 pub mod Keeping
 pub mod Holding
+pub mod Mangling
 pub mod Refusal
+pub mod Linking
+pub mod Rooted
 pub mod Laws

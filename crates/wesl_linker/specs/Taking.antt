@@ -1,6 +1,7 @@
 -- The modules of a link, each taken with the unit that is kept for its path.
 use Rattle.std.specs.Prelude.{◌≡◌, ℕ, suc, Bool, Option, Some, List, Contains, length, false, slice_get}
 use Rattle.std.specs.List.{AllAdjacentBelow}
+use Rattle.std.specs.List.Sorted.{IsPermutation}
 use Rattle.std.specs.Map.{lookup}
 use Rattle.wesl_names.specs.Path.{Path, path_view}
 use Rattle.wesl_names.specs.PathOrder.{path_before}
@@ -8,7 +9,7 @@ use Rattle.wesl_symbols.specs.declared.ids.PathId.{PathId}
 use Rattle.wesl_symbols.specs.declared.ids.NameId.{NameId}
 use Rattle.wesl_symbols.specs.contracts.ids.PathIdPartialEq.TheImpl as equality
 use Rattle.wesl_symbols.specs.Tables.{Table}
-use Rattle.wesl_table.specs.Numbering.{Numbering, PathAt}
+use Rattle.wesl_table.specs.Numbering.{Numbering, AreRelated, PathAt}
 use Rattle.wesl_linker.specs.declared.loaded.Held.{Held}
 use Rattle.wesl_linker.specs.declared.loaded.LoadedModule.{LoadedModule}
 
@@ -35,3 +36,8 @@ IsTaken numbering units ts t m = PathAt numbering t.path (path_view m.path) × (
 -- none stands before the one in front of it
 abbrev pub AreInOrder : List LoadedModule → Type 0
 AreInOrder ms = AllAdjacentBelow (λ m n. path_before (path_view n.path) (path_view m.path) ≡ false) ms (length ms)
+
+-- these are the modules of the tables, each taken so, in the order of their paths
+abbrev pub AreTaken : Numbering → List (PathId × Held) → List (Table PathId NameId) → List LoadedModule → Type 0
+AreTaken numbering units ts ordered =
+    (ms : List LoadedModule) × AreRelated (IsTaken numbering units ts) ts ms × IsPermutation ms ordered × AreInOrder ordered

@@ -1,5 +1,5 @@
 //! The linked unit: of each module, the directives and the declarations that are held.
-ghost use Rattle.std.specs.Prelude.{◌≡◌, ◌↔◌, ◌++◌, [], List, Contains, IsTrue, IfOk, IfErr, OnOk, map, false};
+ghost use Rattle.std.specs.Prelude.{◌≡◌, ◌↔◌, [], List, Contains, IsTrue, IfOk, IfErr, OnOk, map, false};
 ghost use Rattle.wesl_names.specs.declared.errors.Error as error;
 ghost use Rattle.wesl_syntax.specs.Tree.{before, end};
 ghost use Rattle.wesl_syntax.specs.View.{global_view};
@@ -7,7 +7,6 @@ ghost use Rattle.wesl_tree.specs.Translation.{unit_view};
 ghost use Rattle.wesl_world.specs.World.{LeadsTo};
 ghost use Rattle.wesl_world.specs.Keeping.{StandsHeld};
 ghost use Rattle.wesl_table.specs.Imports.{first_label};
-ghost use Rattle.wesl_table.specs.Numbering.{AreRelated};
 ghost use Rattle.wesl_table.specs.NumbersView.{numbering};
 ghost use Rattle.wesl_table.specs.Tables.{reference_to};
 ghost use Rattle.wesl_table.specs.declared.marks.Mark as marked;
@@ -110,8 +109,7 @@ fn add_denotations<'a>(
 ) -> Result<(), Error>
     requires loaded { Contains link.now.linked.tables table.now }
     requires held { (m : marked.Mark) → Contains marks.now m → holding.IsAskable link.now.linked table.now m }
-    ensures added { OnOk result ((ds : List Meaning) × (map denotation_view denotations.new.items ≡ map denotation_view denotations.old.items ++ ds)
-        × AreRelated (holding.IsMeant (numbering link.now.numbers) link.now.linked table.now) marks.now ds) }
+    ensures added { OnOk result (holding.AddsMeanings link.now table.now marks.now denotations.old.items denotations.new.items) }
     ensures refused { IfErr result (λ e. e ≡ error.Memory) }
 {
     for mark in marks {

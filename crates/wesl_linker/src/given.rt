@@ -7,7 +7,7 @@ ghost use Rattle.wesl_symbols.specs.declared.ids.NameId.{NameId};
 ghost use Rattle.wesl_symbols.specs.declared.symbols.Symbol as symbols;
 ghost use Rattle.wesl_table.specs.NumbersView.{numbering};
 ghost use Rattle.wesl_linker.specs.Given.{AreNamed, GivesName, GivesNames, Keeps, KeepsOthers, KeepsUndeclared};
-ghost use Rattle.wesl_linker.specs.Recorded.{HasNone, IsRecordedBy, writes_of, firsts, declared_texts, written_unless};
+ghost use Rattle.wesl_linker.specs.Recording.{RecordsName, RecordsTable};
 
 use indexmap::IndexMap;
 use std::alloc::Global;
@@ -59,7 +59,7 @@ impl GivenNames {
         ensures others { (s : symbols.Symbol PathId NameId) → (s ≡ symbol → ⊥) → given self.new s ≡ given self.old s }
         ensures keeps { Keeps (given self.old) (given self.new) }
         ensures same { (p : Path) (i : Text) → M.name_of mangler.new p i ≡ M.name_of mangler.old p i }
-        ensures recorded { OnOk result ((x : Text) → M.recorded mangler.new x ≡ written_unless (given self.old symbol) M.writes (M.name_of mangler.old (path_view path.now) item.now) (path_view path.now, item.now) (M.recorded mangler.old) x) }
+        ensures recorded { OnOk result (RecordsName M.writes (M.name_of mangler.old) path.now item.now (given self.old symbol) (M.recorded mangler.old) (M.recorded mangler.new)) }
         ensures refused { IfErr result (λ e. e ≡ error.Memory) }
     {
         if self.get(symbol).is_some() {
@@ -90,8 +90,7 @@ impl GivenNames {
         ensures undeclared { KeepsUndeclared table.now (given self.old) (given self.new) }
         ensures keeps { Keeps (given self.old) (given self.new) }
         ensures same { (p : Path) (i : Text) → M.name_of mangler.new p i ≡ M.name_of mangler.old p i }
-        ensures recorded { OnOk result (HasNone table.now.path (given self.old)
-            → IsRecordedBy M.writes (writes_of (M.name_of mangler.old) (path_view path.now) (firsts (declared_texts (numbering numbers.now) table.now.declarations))) (M.recorded mangler.old) (M.recorded mangler.new)) }
+        ensures recorded { OnOk result (RecordsTable M.writes (M.name_of mangler.old) path.now numbers.now table.now self.old (M.recorded mangler.old) (M.recorded mangler.new)) }
         ensures refused { IfErr result (λ e. e ≡ error.Memory) }
     {
         for declaration in table.declarations() {

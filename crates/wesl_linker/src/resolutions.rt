@@ -1,15 +1,14 @@
 //! What a link found: its modules, what they declare that is reached, and the names that these print as.
-ghost use Rattle.std.specs.Prelude.{◌≡◌, ◌⊎◌, true, ◌∷◌, ◌++◌, [], List, Contains, IsTrue, OnOk, OnErr, IfOk, IfErr, option_map, map};
+ghost use Rattle.std.specs.Prelude.{◌≡◌, ◌⊎◌, true, ◌∷◌, Contains, IsTrue, OnOk, OnErr, IfOk, IfErr, option_map};
 ghost use Rattle.wesl_names.specs.declared.errors.Error as error;
 ghost use Rattle.wesl_names.specs.Path.{Text, Path, path_view};
 ghost use Rattle.wesl_tree.specs.Translation.{unit_view};
-ghost use Rattle.wesl_table.specs.NumbersView.{numbering};
 ghost use Rattle.wesl_linker.specs.GivenView.{given as given_names};
-ghost use Rattle.wesl_linker.specs.Resolved.{paths_of, paths_told, first_path, IsNothing, IsMangled, AssemblesTo, declared_names, writes_from, writes};
-ghost use Rattle.wesl_linker.specs.Recorded.{IsRecordedBy, writes_of};
-ghost use Rattle.wesl_linker.specs.Keeping.{all_loaded, loaded_modules, modules_in, module_of, IsLinkOf, task_in, IsSound, resolved, modules_of, turns_of};
-ghost use Rattle.wesl_linker.specs.Holding.{IsFoundBy, IsGivenAll, GivesTo, IsFreshAfter, AreOnlyRoot};
-ghost use Rattle.wesl_linker.specs.declared.loaded.LoadedModule as loaded;
+ghost use Rattle.wesl_linker.specs.Resolved.{paths_of, paths_told, first_path, IsNothing, IsMangled, AssemblesTo, writes};
+ghost use Rattle.wesl_linker.specs.Recorded.{IsRecordedBy};
+ghost use Rattle.wesl_linker.specs.Keeping.{all_loaded, loaded_modules, modules_in, IsLinkOf, task_in, IsSound, resolved, modules_of, turns_of};
+ghost use Rattle.wesl_linker.specs.Holding.{IsFoundBy, IsGivenAll};
+ghost use Rattle.wesl_linker.specs.Mangling.{GivesNext, GivesOthers, RecordsNext, RecordsOthers};
 
 use crate::assemble::assembled;
 use crate::given::GivenNames;
@@ -60,8 +59,8 @@ fn add_names<M: Mangler>(
 ) -> Result<(), Error>
     requires sound { IsLinkOf (task_in link.now) link.now }
     requires inside { Contains (all_loaded link.now) module.now }
-    ensures given { OnOk result ((ms : List loaded.LoadedModule) (name_of : Path → Text → Text) → ((p : Path) (x : Text) → M.name_of mangler.old p x ≡ name_of p x) → IsFreshAfter ms module.now → GivesTo (numbering link.now.numbers) ms name_of (given_names given.old) → GivesTo (numbering link.now.numbers) (ms ++ module.now ∷ []) name_of (given_names given.new)) }
-    ensures recorded { OnOk result ((ms : List loaded.LoadedModule) (name_of : Path → Text → Text) → ((p : Path) (x : Text) → M.name_of mangler.old p x ≡ name_of p x) → IsFreshAfter ms module.now → GivesTo (numbering link.now.numbers) ms name_of (given_names given.old) → IsRecordedBy M.writes (writes_of name_of (path_view module.now.path) (declared_names (module_of module.now))) (M.recorded mangler.old) (M.recorded mangler.new)) }
+    ensures given { OnOk result (GivesNext link.now (M.name_of mangler.old) module.now given.old given.new) }
+    ensures recorded { OnOk result (RecordsNext link.now (M.name_of mangler.old) module.now given.old M.writes (M.recorded mangler.old) (M.recorded mangler.new)) }
     ensures same { (p : Path) (x : Text) → M.name_of mangler.new p x ≡ M.name_of mangler.old p x }
     ensures refused { IfErr result (λ e. e ≡ error.Memory) }
 {
@@ -77,8 +76,8 @@ fn add_others<M: Mangler>(
     given: &mut GivenNames,
 ) -> Result<(), Error>
     requires sound { IsLinkOf (task_in link.now) link.now }
-    ensures given { OnOk result ((ms : List loaded.LoadedModule) → AreOnlyRoot link.now ms → GivesTo (numbering link.now.numbers) ms (M.name_of mangler.old) (given_names given.old) → GivesTo (numbering link.now.numbers) (ms ++ link.now.others.items) (M.name_of mangler.old) (given_names given.new)) }
-    ensures recorded { OnOk result ((ms : List loaded.LoadedModule) → AreOnlyRoot link.now ms → GivesTo (numbering link.now.numbers) ms (M.name_of mangler.old) (given_names given.old) → IsRecordedBy M.writes (writes_from (M.name_of mangler.old) (loaded_modules link.now.others.items)) (M.recorded mangler.old) (M.recorded mangler.new)) }
+    ensures given { OnOk result (GivesOthers link.now (M.name_of mangler.old) given.old given.new) }
+    ensures recorded { OnOk result (RecordsOthers link.now (M.name_of mangler.old) given.old M.writes (M.recorded mangler.old) (M.recorded mangler.new)) }
     ensures same { (p : Path) (x : Text) → M.name_of mangler.new p x ≡ M.name_of mangler.old p x }
     ensures refused { IfErr result (λ e. e ≡ error.Memory) }
 {

@@ -1,8 +1,6 @@
 //! Linking a root with the modules that it reaches.
 ghost use Rattle.std.specs.Prelude.{◌≡◌, ◌∷◌, [], true, false, List, IfOk, IfErr, drop, length, ◌<◌};
-ghost use Rattle.std.specs.List.Sorted.{IsPermutation};
 ghost use Rattle.wesl_names.specs.declared.errors.Error as error;
-ghost use Rattle.wesl_names.specs.declared.errors.Diagnostic.{out-Diagnostic};
 ghost use Rattle.wesl_names.specs.Borrowed.{texts};
 ghost use Rattle.wesl_names.specs.Path.{Text, Path, path_view, is_relative};
 ghost use Rattle.wesl_syntax.specs.Unit.{spelled};
@@ -18,12 +16,12 @@ ghost use Rattle.wesl_table.specs.Tables.{table_at, uses};
 ghost use Rattle.wesl_table.specs.Numbering.{AreRelated, Grows, NameAt, IsNumbered};
 ghost use Rattle.wesl_table.specs.NumbersView.{numbering};
 ghost use Rattle.wesl_linker.specs.Handing.{Follows, StaysOne};
-ghost use Rattle.wesl_linker.specs.Refusal.{TellsOf};
 ghost use Rattle.wesl_linker.specs.Resolved.{module_at};
-ghost use Rattle.wesl_linker.specs.Keeping.{IsSound, resolved, modules_of, turns_of};
-ghost use Rattle.wesl_linker.specs.Taking.{AreKept, AreInOrder, IsTaken};
+ghost use Rattle.wesl_linker.specs.Keeping.{IsSound, resolved, modules_of};
+ghost use Rattle.wesl_linker.specs.Linking.{LinksRoot, RefusesRoot, IsFaultlessRoot, TellsMemory};
+ghost use Rattle.wesl_linker.specs.Rooted.{AreKeptTexts, KeepsTexts, LinksNumbered, RefusesNumbered, IsLinkFrom};
+ghost use Rattle.wesl_linker.specs.Taking.{AreKept, AreTaken};
 ghost use Rattle.wesl_linker.specs.Worlds as worlds;
-ghost use Rattle.wesl_linker.specs.declared.loaded.LoadedModule as loaded;
 
 use crate::link::Link;
 use crate::loaded::{Held, LoadedModule, put_in_order, take_modules};
@@ -104,7 +102,7 @@ fn root_of(
     requires { is_relative (path_view path.now) ≡ false }
     ensures root { IfOk result (λ t. IsNumbered (numbering numbers.new) t.table (table_at (path_view t.root.path) (spelled (unit_view t.root.unit)))) }
     ensures marked { IfOk result (λ t. AreMarked (numbering numbers.new) t.root.marks.items (uses (path_view t.root.path) (spelled (unit_view t.root.unit)))) }
-    ensures kept { IfOk result (λ t. AreRelated (NameAt (numbering numbers.new)) t.root.kept.items (texts keep.now)) }
+    ensures kept { IfOk result (λ t. AreKeptTexts (numbering numbers.new) t.root (texts keep.now)) }
     ensures module { IfOk result (λ t. module_at t.root.path t.root.unit ≡ module_at path.now unit) }
     ensures eager { IfOk result (λ t. t.root.is_eager ≡ is_eager) }
 {
@@ -146,8 +144,8 @@ fn link_of(
     requires some { 0 < length linked.tables }
     requires left { AreKept (numbering numbers) units.old.entries (drop 1 linked.tables) }
     requires once { AreDistinct (paths (drop 1 linked.tables)) }
-    ensures found { IfOk result (λ l. (ms : List loaded.LoadedModule) × AreRelated (IsTaken (numbering numbers) units.old.entries (drop 1 linked.tables)) (drop 1 linked.tables) ms × IsPermutation ms l.others.items × AreInOrder l.others.items) }
-    ensures rest { IfOk result (λ l. l ≡ record { root = record { path = root.path; place = 0; unit = root.unit; marks = root.marks }; others = l.others; kept = root.kept; is_eager = root.is_eager; numbers = numbers; linked = linked }) }
+    ensures found { IfOk result (λ l. AreTaken (numbering numbers) units.old.entries (drop 1 linked.tables) l.others.items) }
+    ensures rest { IfOk result (IsLinkFrom root numbers linked) }
     ensures refused { IfErr result (λ e. e ≡ error.Memory) }
 {
     let mut others = take_modules(alloc, &numbers, &linked.tables()[1..], units)?;
@@ -207,15 +205,15 @@ fn reach_modules<R: Resolver, S: Source<R>>(
     requires root { IsNumbered (numbering modules.old.numbers.now) table (table_at (path_view root.path) (spelled (unit_view root.unit))) }
     requires marked { AreMarked (numbering modules.old.numbers.now) root.marks.items (uses (path_view root.path) (spelled (unit_view root.unit))) }
     requires asked { is_relative (path_view root.path) ≡ false }
-    requires kept { (keep : List Text) × AreRelated (NameAt (numbering modules.old.numbers.now)) root.kept.items keep }
+    requires kept { (keep : List Text) × AreKeptTexts (numbering modules.old.numbers.now) root keep }
     requires none_kept { root.is_eager ≡ true → root.kept.items ≡ [] }
-    ensures linked { (keep : List Text) → AreRelated (NameAt (numbering modules.old.numbers.now)) root.kept.items keep → IfOk result (λ r. worlds.IsLinked S.hands S.refuses (module_at root.path root.unit) (worlds.task_of (module_at root.path root.unit) keep root.is_eager) max_modules (turns_of r) (modules_of r)) }
+    ensures linked { LinksNumbered S.hands S.refuses (numbering modules.old.numbers.now) root max_modules result }
     ensures order { IfOk result (λ r. worlds.IsModuleOrder (module_at root.path root.unit) (modules_of r)) }
-    ensures kept { (keep : List Text) → AreRelated (NameAt (numbering modules.old.numbers.now)) root.kept.items keep → IfOk result (λ r. (resolved r).kept ≡ keep) }
+    ensures kept { KeepsTexts (numbering modules.old.numbers.now) root result }
     ensures eager { IfOk result (λ r. (resolved r).is_eager ≡ root.is_eager) }
     ensures sound { IfOk result IsSound }
     ensures names { IfOk result (λ r. (p : Path) (n : Text) → (resolved r).names p n ≡ n) }
-    ensures refused { (keep : List Text) → AreRelated (NameAt (numbering modules.old.numbers.now)) root.kept.items keep → IfErr result (TellsOf (worlds.IsRefused S.hands S.refuses (module_at root.path root.unit) (worlds.task_of (module_at root.path root.unit) keep root.is_eager) max_modules)) }
+    ensures refused { RefusesNumbered S.hands S.refuses (numbering modules.old.numbers.now) root max_modules result }
     ensures these { S.these modules.new.resolver.now }
     ensures stays_ready { R.ready modules.new.resolver.now }
     ensures loan { modules.new.resolver.ghost_name ≡ modules.old.resolver.ghost_name }
@@ -249,15 +247,15 @@ fn reach<R: Resolver>(
     requires root { IsNumbered (numbering numbers) tabled.table (table_at (path_view tabled.root.path) (spelled (unit_view tabled.root.unit))) }
     requires marked { AreMarked (numbering numbers) tabled.root.marks.items (uses (path_view tabled.root.path) (spelled (unit_view tabled.root.unit))) }
     requires asked { is_relative (path_view tabled.root.path) ≡ false }
-    requires kept { (keep : List Text) × AreRelated (NameAt (numbering numbers)) tabled.root.kept.items keep }
+    requires kept { (keep : List Text) × AreKeptTexts (numbering numbers) tabled.root keep }
     requires none_kept { tabled.root.is_eager ≡ true → tabled.root.kept.items ≡ [] }
-    ensures linked { (keep : List Text) → AreRelated (NameAt (numbering numbers)) tabled.root.kept.items keep → IfOk result (λ r. worlds.IsLinked (R.hands resolver.old) (R.refuses resolver.old) (module_at tabled.root.path tabled.root.unit) (worlds.task_of (module_at tabled.root.path tabled.root.unit) keep tabled.root.is_eager) max_modules (turns_of r) (modules_of r)) }
+    ensures linked { LinksNumbered (R.hands resolver.old) (R.refuses resolver.old) (numbering numbers) tabled.root max_modules result }
     ensures order { IfOk result (λ r. worlds.IsModuleOrder (module_at tabled.root.path tabled.root.unit) (modules_of r)) }
-    ensures kept { (keep : List Text) → AreRelated (NameAt (numbering numbers)) tabled.root.kept.items keep → IfOk result (λ r. (resolved r).kept ≡ keep) }
+    ensures kept { KeepsTexts (numbering numbers) tabled.root result }
     ensures eager { IfOk result (λ r. (resolved r).is_eager ≡ tabled.root.is_eager) }
     ensures sound { IfOk result IsSound }
     ensures names { IfOk result (λ r. (p : Path) (n : Text) → (resolved r).names p n ≡ n) }
-    ensures refused { (keep : List Text) → AreRelated (NameAt (numbering numbers)) tabled.root.kept.items keep → IfErr result (TellsOf (worlds.IsRefused (R.hands resolver.old) (R.refuses resolver.old) (module_at tabled.root.path tabled.root.unit) (worlds.task_of (module_at tabled.root.path tabled.root.unit) keep tabled.root.is_eager) max_modules)) }
+    ensures refused { RefusesNumbered (R.hands resolver.old) (R.refuses resolver.old) (numbering numbers) tabled.root max_modules result }
     ensures same { MeansTheSame R.hands R.refuses R.source R.lacks R.shown resolver.old resolver.new }
     ensures stays_ready { R.ready resolver.new }
 {
@@ -286,13 +284,13 @@ fn resolutions_of<R: Resolver>(
     requires ready { R.ready resolver.old }
     requires asked { is_relative (path_view path.now) ≡ false }
     requires none_kept { is_eager ≡ true → texts keep.now ≡ [] }
-    ensures linked { let root = module_at path.now unit in IfOk result (λ r. worlds.IsLinked (R.hands resolver.old) (R.refuses resolver.old) root (worlds.task_of root (texts keep.now) is_eager) max_modules (turns_of r) (modules_of r)) }
+    ensures linked { IfOk result (λ r. LinksRoot (R.hands resolver.old) (R.refuses resolver.old) path.now unit (texts keep.now) is_eager max_modules (resolved r)) }
     ensures order { IfOk result (λ r. worlds.IsModuleOrder (module_at path.now unit) (modules_of r)) }
     ensures kept { IfOk result (λ r. (resolved r).kept ≡ texts keep.now) }
     ensures eager { IfOk result (λ r. (resolved r).is_eager ≡ is_eager) }
     ensures sound { IfOk result IsSound }
     ensures names { IfOk result (λ r. (p : Path) (n : Text) → (resolved r).names p n ≡ n) }
-    ensures refused { let root = module_at path.now unit in IfErr result (λ d. TellsOf (worlds.IsRefused (R.hands resolver.old) (R.refuses resolver.old) root (worlds.task_of root (texts keep.now) is_eager) max_modules) (out-Diagnostic d).error) }
+    ensures refused { IfErr result (RefusesRoot (R.hands resolver.old) (R.refuses resolver.old) path.now unit (texts keep.now) is_eager max_modules) }
     ensures same { MeansTheSame R.hands R.refuses R.source R.lacks R.shown resolver.old resolver.new }
     ensures stays_ready { R.ready resolver.new }
 {
@@ -322,14 +320,14 @@ pub fn resolve_lazy<R: Resolver>(
 ) -> Result<Resolutions, Diagnostic>
     requires ready { R.ready resolver.old }
     requires asked { is_relative (path_view path.now) ≡ false }
-    ensures linked { let root = module_at path.now unit in IfOk result (λ r. worlds.IsLinked (R.hands resolver.old) (R.refuses resolver.old) root (worlds.task_of root (texts keep.now) false) max_modules (turns_of r) (modules_of r)) }
+    ensures linked { IfOk result (λ r. LinksRoot (R.hands resolver.old) (R.refuses resolver.old) path.now unit (texts keep.now) false max_modules (resolved r)) }
     ensures order { IfOk result (λ r. worlds.IsModuleOrder (module_at path.now unit) (modules_of r)) }
     ensures kept { IfOk result (λ r. (resolved r).kept ≡ texts keep.now) }
     ensures lazy { IfOk result (λ r. (resolved r).is_eager ≡ false) }
     ensures sound { IfOk result IsSound }
     ensures names { IfOk result (λ r. (p : Path) (n : Text) → (resolved r).names p n ≡ n) }
-    ensures refused { let root = module_at path.now unit in IfErr result (λ d. TellsOf (worlds.IsRefused (R.hands resolver.old) (R.refuses resolver.old) root (worlds.task_of root (texts keep.now) false) max_modules) (out-Diagnostic d).error) }
-    ensures succeeds { let root = module_at path.now unit in worlds.IsFaultless (R.hands resolver.old) (R.refuses resolver.old) root (worlds.task_of root (texts keep.now) false) max_modules → IfErr result (λ d. (out-Diagnostic d).error ≡ error.Memory) }
+    ensures refused { IfErr result (RefusesRoot (R.hands resolver.old) (R.refuses resolver.old) path.now unit (texts keep.now) false max_modules) }
+    ensures succeeds { IsFaultlessRoot (R.hands resolver.old) (R.refuses resolver.old) path.now unit (texts keep.now) false max_modules → IfErr result TellsMemory }
     ensures same { MeansTheSame R.hands R.refuses R.source R.lacks R.shown resolver.old resolver.new }
     ensures stays_ready { R.ready resolver.new }
 {
@@ -349,14 +347,14 @@ pub fn resolve_eager<R: Resolver>(
 ) -> Result<Resolutions, Diagnostic>
     requires ready { R.ready resolver.old }
     requires asked { is_relative (path_view path.now) ≡ false }
-    ensures linked { let root = module_at path.now unit in IfOk result (λ r. worlds.IsLinked (R.hands resolver.old) (R.refuses resolver.old) root (worlds.task_of root [] true) max_modules (turns_of r) (modules_of r)) }
+    ensures linked { IfOk result (λ r. LinksRoot (R.hands resolver.old) (R.refuses resolver.old) path.now unit [] true max_modules (resolved r)) }
     ensures order { IfOk result (λ r. worlds.IsModuleOrder (module_at path.now unit) (modules_of r)) }
     ensures kept { IfOk result (λ r. (resolved r).kept ≡ []) }
     ensures eager { IfOk result (λ r. (resolved r).is_eager ≡ true) }
     ensures sound { IfOk result IsSound }
     ensures names { IfOk result (λ r. (p : Path) (n : Text) → (resolved r).names p n ≡ n) }
-    ensures refused { let root = module_at path.now unit in IfErr result (λ d. TellsOf (worlds.IsRefused (R.hands resolver.old) (R.refuses resolver.old) root (worlds.task_of root [] true) max_modules) (out-Diagnostic d).error) }
-    ensures succeeds { let root = module_at path.now unit in worlds.IsFaultless (R.hands resolver.old) (R.refuses resolver.old) root (worlds.task_of root [] true) max_modules → IfErr result (λ d. (out-Diagnostic d).error ≡ error.Memory) }
+    ensures refused { IfErr result (RefusesRoot (R.hands resolver.old) (R.refuses resolver.old) path.now unit [] true max_modules) }
+    ensures succeeds { IsFaultlessRoot (R.hands resolver.old) (R.refuses resolver.old) path.now unit [] true max_modules → IfErr result TellsMemory }
     ensures same { MeansTheSame R.hands R.refuses R.source R.lacks R.shown resolver.old resolver.new }
     ensures stays_ready { R.ready resolver.new }
 {

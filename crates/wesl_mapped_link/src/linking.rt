@@ -1,19 +1,18 @@
 //! A link through a mapper, and what it records.
 ghost use Rattle.std.specs.Prelude.{◌≡◌, ◌↔◌, Result, false, true, IfOk, IfErr};
 ghost use Rattle.wesl_names.specs.declared.errors.Error as error;
-ghost use Rattle.wesl_names.specs.declared.errors.Diagnostic.{out-Diagnostic};
 ghost use Rattle.wesl_names.specs.Borrowed.{texts};
 ghost use Rattle.wesl_names.specs.Path.{Text, Path, path_view, is_relative};
 ghost use Rattle.wesl_tree.specs.Translation.{unit_view};
 ghost use Rattle.wesl_tree.specs.declared.unit.TranslationUnit.{TranslationUnit};
 ghost use Rattle.wesl_conditional.specs.Conditions.{IsConditioned};
-ghost use Rattle.wesl_conditional.specs.Linking.{Links, RefusesLink, RefusesLinkLeft, kept_names};
-ghost use Rattle.wesl_link.specs.Keeping.{IsSound, resolved, modules_of, turns_of};
+ghost use Rattle.wesl_conditional.specs.Linking.{FindsLink, RefusesLink, kept_names};
+ghost use Rattle.wesl_link.specs.Keeping.{IsSound, resolved, modules_of};
 ghost use Rattle.wesl_linker.specs.Resolved.{Resolved, IsMangled, AssemblesTo, writes};
 ghost use Rattle.wesl_linker.specs.Recorded.{IsRecordedBy};
 ghost use Rattle.wesl_source_map.specs.Records.{SameItems};
 ghost use Rattle.wesl_source_map.specs.BasicView.{items};
-ghost use Rattle.wesl_mapped_link.specs.Mapping.{MapsLink, MapsLinkLeft};
+ghost use Rattle.wesl_mapped_link.specs.Mapping.{MapsBy, MapsByLeft, RefusesByLeft};
 
 use std::alloc::Global;
 use std::marker::{Brand, PhantomData};
@@ -55,8 +54,8 @@ pub fn link_mapped<R: Resolver + Drop, M: Mangler + Drop>(
 ) -> Result<Mapped, Error>
     requires ready { R.ready mapper.resolver }
     requires asked { is_relative (path_view mapper.root) ≡ false }
-    ensures mapped { IfOk result (λ made. MapsLinkLeft (R.hands mapper.resolver) (R.refuses mapper.resolver) features.now (M.name_of mapper.mangler) (path_view mapper.root) (texts keep.now) is_eager mangle_root max_modules (items mapper.sourcemap) (items made.map) (unit_view made.unit)) }
-    ensures refused { IfErr result (RefusesLinkLeft (R.hands mapper.resolver) (R.refuses mapper.resolver) features.now (path_view mapper.root) (texts keep.now) is_eager max_modules) }
+    ensures mapped { IfOk result (MapsByLeft R.hands R.refuses M.name_of features.now mapper (texts keep.now) is_eager mangle_root max_modules) }
+    ensures refused { IfErr result (RefusesByLeft R.hands R.refuses features.now mapper (texts keep.now) is_eager max_modules) }
 {
     let judge = |unit: TranslationUnit|
         ensures { IsConditioned features.entry.now unit result }
@@ -92,8 +91,8 @@ fn link_judged<
     requires asked { is_relative (path_view mapper.root) ≡ false }
     requires callable { F.IsAlwaysCallable judge }
     requires judges { (given : TranslationUnit) (answer : Result TranslationUnit error.Error) → F.post judge given answer ↔ IsConditioned features.now given answer }
-    ensures mapped { IfOk result (λ made. MapsLinkLeft (R.hands mapper.resolver) (R.refuses mapper.resolver) features.now (M.name_of mapper.mangler) (path_view mapper.root) (texts keep.now) is_eager mangle_root max_modules (items mapper.sourcemap) (items made.map) (unit_view made.unit)) }
-    ensures refused { IfErr result (RefusesLinkLeft (R.hands mapper.resolver) (R.refuses mapper.resolver) features.now (path_view mapper.root) (texts keep.now) is_eager max_modules) }
+    ensures mapped { IfOk result (MapsByLeft R.hands R.refuses M.name_of features.now mapper (texts keep.now) is_eager mangle_root max_modules) }
+    ensures refused { IfErr result (RefusesByLeft R.hands R.refuses features.now mapper (texts keep.now) is_eager max_modules) }
 {
     let SourceMapper {
         root,
@@ -122,7 +121,7 @@ fn link_through<R: Resolver + Drop, M: Mangler + Drop>(
 ) -> Result<Mapped, Error>
     requires ready { R.ready mapper.resolver }
     requires asked { is_relative (path_view mapper.root) ≡ false }
-    ensures mapped { IfOk result (λ made. MapsLink (R.hands mapper.resolver) (R.refuses mapper.resolver) (M.name_of mapper.mangler) (path_view mapper.root) (texts keep.now) is_eager mangle_root max_modules (items mapper.sourcemap) (items made.map) (unit_view made.unit)) }
+    ensures mapped { IfOk result (MapsBy R.hands R.refuses M.name_of mapper (texts keep.now) is_eager mangle_root max_modules) }
     ensures refused { IfErr result (RefusesLink (R.hands mapper.resolver) (R.refuses mapper.resolver) (path_view mapper.root) (texts keep.now) is_eager max_modules) }
 {
     let path = mapper.root.try_clone(alloc)?;
@@ -151,7 +150,7 @@ fn found<R: Resolver + Drop, M: Mangler + Drop, S: Start>(
     requires asked { is_relative (path_view path.now) ≡ false }
     requires start { SameItems S.items (items mapper.sourcemap) }
     requires names { (p : Path) (i : Text) → M.name_of mapper.mangler p i ≡ S.name_of p i }
-    ensures linked { IfOk result (λ f. Links (R.hands mapper.resolver) (R.refuses mapper.resolver) (path_view path.now) (texts keep.now) is_eager max_modules (turns_of f.resolutions) (modules_of f.resolutions)) }
+    ensures linked { IfOk result (λ f. FindsLink (R.hands mapper.resolver) (R.refuses mapper.resolver) path.now (texts keep.now) is_eager max_modules f.resolutions) }
     ensures kept { IfOk result (λ f. (resolved f.resolutions).kept ≡ kept_names is_eager (texts keep.now)) }
     ensures eager { IfOk result (λ f. (resolved f.resolutions).is_eager ≡ is_eager) }
     ensures sound { IfOk result (λ f. IsSound f.resolutions) }

@@ -2,7 +2,8 @@
 use Rattle.std.specs.Prelude.{◌≡◌, ℕ, ◌<◌, ◌==◌, Bool, false, Option, Some, None, List, [], ◌∷◌, ◌++◌, length, map, flat_map, take, drop, get_or, Contains, if◌then◌else◌}
 use Rattle.std.specs.List.{All, list_any}
 use Rattle.wesl_names.specs.Path.{Text, Path, path_view, is_relative}
-use Rattle.wesl_syntax.specs.Tree.{kind, declarations}
+use Rattle.wesl_names.specs.declared.path.ModulePath.{ModulePath}
+use Rattle.wesl_syntax.specs.Tree.{TreeOf, kind, declarations}
 use Rattle.wesl_syntax.specs.Unit.{UnitOf, UnitView, spelled, trees_of}
 use Rattle.wesl_tree.specs.Translation.{unit_view}
 use Rattle.wesl_symbols.specs.declared.ids.PathId.{PathId}
@@ -10,20 +11,24 @@ use Rattle.wesl_symbols.specs.declared.ids.NameId.{NameId}
 use Rattle.wesl_symbols.specs.declared.symbols.Import.{Import}
 use Rattle.wesl_symbols.specs.declared.symbols.Reference.{Reference}
 use Rattle.wesl_symbols.specs.declared.symbols.Symbol.{Symbol}
+use Rattle.wesl_symbols.specs.Tables.{Table}
 use Rattle.wesl_occurrences.specs.Occurrences.{occurrences}
 use Rattle.wesl_occurrences.specs.Identified.{identified}
 use Rattle.wesl_occurrences.specs.Pieces.{starts}
 use Rattle.wesl_occurrences.specs.Ways.{AreNested, way}
 use Rattle.wesl_meanings.specs.Scopes.{Key, keys}
 use Rattle.wesl_meanings.specs.Keys.{key_view, IsKeyBelow}
+use Rattle.wesl_meanings.specs.declared.keys.Key as keyed
 use Rattle.wesl_table.specs.Imports.{imports}
 use Rattle.wesl_table.specs.Marks.{IsMark}
-use Rattle.wesl_table.specs.Numbering.{Numbering, AreRelated, AreNumberedImports, AreNumberedReferences, NameAt, PathAt}
+use Rattle.wesl_table.specs.Numbering.{Numbering, AreRelated, IsRelatedOption, AreNumberedImports, AreNumberedReferences, NameAt, PathAt}
+use Rattle.wesl_table.specs.NumbersView.{numbering}
 use Rattle.wesl_table.specs.Spelling.{spelled_imports}
-use Rattle.wesl_table.specs.Tables.{names_declared, reference_to}
-use Rattle.wesl_table.specs.Uses.{Use, local, asked, asked_plain, meant, use_of}
+use Rattle.wesl_table.specs.Tables.{name_of, names_declared, reference_to, table_at}
+use Rattle.wesl_table.specs.Uses.{Use, refers, local, asked, asked_plain, under, aims, meant, use_of}
 use Rattle.wesl_table.specs.declared.marks.Mark.{Mark}
 use Rattle.wesl_table.specs.declared.marks.Mark.TheVariants as marks
+use Rattle.wesl_table.specs.declared.numbers.Numbers.{Numbers}
 use Rattle.wesl_table.specs.declared.reading.Reading.{Reading}
 
 -- ---- the module
@@ -47,12 +52,23 @@ plain_in r x = asked_plain (own_path r) (names_declared (unit_in r)) (imports_in
 abbrev pub meant_in : Reading → Text → Key → Use Path Text
 meant_in r x k = meant (own_path r) (names_declared (unit_in r)) (imports_in r) x k
 
+-- what a name is in it that means this by plain scoping, and what a name under a path is
+abbrev pub meant_by : Reading → keyed.Key → Text → Use Path Text
+meant_by r key x = meant_in r x (key_view (way r.meanings.now.found.outer.items) key)
+
+abbrev pub aimed_in : Reading → ModulePath → Text → Use Path Text
+aimed_in r p x = refers x (map (under x) (aims (own_path r) (imports_in r) (path_view p)))
+
 -- what all its identifiers are, and the one at a place
 abbrev pub all_uses : Reading → List (Use Path Text)
 all_uses r = map (use_of (own_path r) (names_declared (unit_in r)) (imports_in r) (occurrences (unit_in r))) (occurrences (unit_in r))
 
 abbrev pub use_at : Reading → ℕ → Use Path Text
 use_at r i = get_or (all_uses r) i (local 0 [])
+
+-- its symbol table
+abbrev pub table_in : Reading → Table Path Text
+table_in r = table_at (own_path r) (unit_in r)
 
 -- the elements from one place to another
 abbrev pub span : {X : Type 0} → ℕ → ℕ → List X → List X
@@ -70,6 +86,10 @@ pub record IsRead (r : Reading) : Type 0 where
   pub named : All (λ o. o.ident.0 < length (view_in r).names) r.meanings.now.found.all.items
   pub nested : AreNested r.meanings.now.found.outer.items
   pub below : All (IsKeyBelow (length r.meanings.now.found.outer.items)) r.meanings.now.keys.items
+
+-- of each of these declarations the number of the name that it binds, if it binds one
+abbrev pub AreNumbersOfNames : Numbering → List (Option NameId) → List (TreeOf Text) → Type 0
+AreNumbersOfNames nb ids ds = AreRelated (IsRelatedOption (NameAt nb)) ids (map name_of ds)
 
 -- its numbers: of its path, its imports, its names, and of those that it declares
 pub record IsNumberedBy (nb : Numbering) (r : Reading) : Type 0 where
@@ -111,3 +131,7 @@ Adds nb old new more = (added : List (Reference PathId NameId)) × (new ≡ old 
 pub record Marks (nb : Numbering) (m : Mark) (old new : List (Reference PathId NameId)) (u : Use Path Text) : Type 0 where
   pub mark : IsMark nb m u
   pub added : Adds nb old new (asked u)
+
+-- the mark says what the name of that number is, in these texts, and what it asks for is added
+abbrev pub MarksName : Numbers → Numbers → NameId → (Text → Use Path Text) → Mark → List (Reference PathId NameId) → List (Reference PathId NameId) → Type 0
+MarksName before after name as_use m old new = (x : Text) → NameAt (numbering before) name x → Marks (numbering after) m old new (as_use x)

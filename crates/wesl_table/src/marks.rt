@@ -2,14 +2,13 @@
 ghost use Rattle.std.specs.Prelude.{◌≡◌, ◌<◌, ◌≤◌, ◌++◌, false, All, length, get_or, map, flat_map, drop, IfOk, IfErr, OnOk};
 ghost use Rattle.wesl_names.specs.Path.{Text, path_view, is_relative};
 ghost use Rattle.wesl_names.specs.declared.errors.Error as error;
-ghost use Rattle.wesl_occurrences.specs.Ways.{way};
-ghost use Rattle.wesl_meanings.specs.Keys.{key_view, IsKeyBelow};
-ghost use Rattle.wesl_table.specs.Uses.{refers, under, asked, aims as modules_aimed};
+ghost use Rattle.wesl_meanings.specs.Keys.{IsKeyBelow};
+ghost use Rattle.wesl_table.specs.Uses.{refers, under, asked};
 ghost use Rattle.wesl_table.specs.Marks.{IsMark};
 ghost use Rattle.wesl_table.specs.Tables.{reference_to};
 ghost use Rattle.wesl_table.specs.Numbering.{AreRelated, AreNumberedReferences, Grows, NameAt};
 ghost use Rattle.wesl_table.specs.NumbersView.{numbering};
-ghost use Rattle.wesl_table.specs.Reading.{IsRead, IsNumberedBy, Marks, Adds, plain, mark_of, plain_in, meant_in, own_path, imports_in, use_at, all_uses, span};
+ghost use Rattle.wesl_table.specs.Reading.{IsRead, IsNumberedBy, Marks, MarksName, Adds, plain, mark_of, plain_in, aimed_in, meant_by, use_at, all_uses, span};
 
 use crate::aims::{Scope, aims};
 use crate::numbers::Numbers;
@@ -85,7 +84,7 @@ fn mark_plain(
     name: NameId,
 ) -> Result<Mark, Error>
     requires numbered { IsNumberedBy (numbering numbers.now) reading }
-    ensures marked { IfOk result (λ m. (x : Text) → NameAt (numbering numbers.now) name x → Marks (numbering numbers.now) m found.old.items found.new.items (refers x (plain_in reading.entry x))) }
+    ensures marked { IfOk result (λ m. MarksName numbers.now numbers.now name (λ x. refers x (plain_in reading.entry x)) m found.old.items found.new.items) }
     ensures refused { IfErr result (λ e. e ≡ error.Memory) }
 {
     let before = found.len();
@@ -123,7 +122,7 @@ fn mark_aimed(
     path: &ModulePath,
 ) -> Result<Mark, Error>
     requires read { IsRead reading }
-    ensures marked { IfOk result (λ m. (x : Text) → NameAt (numbering numbers.old) name x → Marks (numbering numbers.new) m found.old.items found.new.items (refers x (map (under x) (modules_aimed (own_path reading.entry) (imports_in reading.entry) (path_view path.now))))) }
+    ensures marked { IfOk result (λ m. MarksName numbers.old numbers.new name (aimed_in reading.entry path.now) m found.old.items found.new.items) }
     ensures grows { Grows (numbering numbers.old) (numbering numbers.new) }
     ensures refused { IfErr result (λ e. e ≡ error.Memory) }
 {
@@ -150,7 +149,7 @@ fn mark_reference(
     requires read { IsRead reading }
     requires numbered { IsNumberedBy (numbering numbers.now) reading }
     requires below { IsKeyBelow (length reading.meanings.now.found.outer.items) key }
-    ensures marked { IfOk result (λ m. (x : Text) → NameAt (numbering numbers.old) name x → Marks (numbering numbers.new) m found.old.items found.new.items (meant_in reading.entry x (key_view (way reading.entry.meanings.now.found.outer.items) key.entry))) }
+    ensures marked { IfOk result (λ m. MarksName numbers.old numbers.new name (meant_by reading.entry key.entry) m found.old.items found.new.items) }
     ensures grows { Grows (numbering numbers.old) (numbering numbers.new) }
     ensures refused { IfErr result (λ e. e ≡ error.Memory) }
 {

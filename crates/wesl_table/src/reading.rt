@@ -1,13 +1,14 @@
 //! A module as its identifiers are marked.
-ghost use Rattle.std.specs.Prelude.{◌≡◌, ◌↔◌, ◌⊎◌, Some, Contains, map, option_map, IfOk, IfErr, OnOk};
+ghost use Rattle.std.specs.Prelude.{◌≡◌, ◌↔◌, ◌⊎◌, Some, Contains, option_map, IfOk, IfErr, OnOk};
 ghost use Rattle.wesl_names.specs.declared.errors.Error as error;
 ghost use Rattle.wesl_syntax.specs.Tree.{trees, respell};
 ghost use Rattle.wesl_syntax.specs.Unit.{name_in};
 ghost use Rattle.wesl_syntax.specs.View.{global_view, declarations_tree};
 ghost use Rattle.wesl_symbols.specs.declared.ids.NameId.{NameId};
-ghost use Rattle.wesl_table.specs.Tables.{declared_name, name_of};
+ghost use Rattle.wesl_table.specs.Tables.{declared_name};
 ghost use Rattle.wesl_table.specs.Numbering.{AreRelated, IsRelatedOption, Grows, NameAt};
 ghost use Rattle.wesl_table.specs.NumbersView.{numbering};
+ghost use Rattle.wesl_table.specs.Reading.{AreNumbersOfNames};
 
 use crate::numbers::{Numbers, spelling};
 use indexmap::IndexSet;
@@ -88,7 +89,7 @@ pub fn names_of(
     names: &Names,
     nodes: &Vec<GlobalDeclarationNode>,
 ) -> Result<Vec<Option<NameId>>, Error>
-    ensures numbered { IfOk result (λ found. AreRelated (IsRelatedOption (NameAt (numbering numbers.new))) found.items (map name_of (trees (respell (name_in names.now) (declarations_tree nodes.now)).children))) }
+    ensures numbered { IfOk result (λ found. AreNumbersOfNames (numbering numbers.new) found.items (trees (respell (name_in names.now) (declarations_tree nodes.now)).children)) }
     ensures grows { Grows (numbering numbers.old) (numbering numbers.new) }
     ensures refused { IfErr result (λ e. e ≡ error.Memory) }
 {

@@ -1,5 +1,5 @@
 //! The symbol table of a module.
-ghost use Rattle.std.specs.Prelude.{◌≡◌, ◌<◌, ◌↔◌, Some, suc, false, All, Contains, IfOk, IfErr, length, get_or, map};
+ghost use Rattle.std.specs.Prelude.{◌≡◌, ◌<◌, ◌↔◌, Some, suc, false, All, Contains, IfOk, IfErr, length, get_or};
 ghost use Rattle.wesl_names.specs.Path.{path_view, is_relative};
 ghost use Rattle.wesl_names.specs.declared.errors.Error as error;
 ghost use Rattle.wesl_syntax.specs.Unit.{spelled};
@@ -8,11 +8,11 @@ ghost use Rattle.wesl_occurrences.specs.Pieces.{declarations_in};
 ghost use Rattle.wesl_symbols.specs.declared.ids.NameId.{NameId};
 ghost use Rattle.wesl_table.specs.Imports.{imports as imports_in};
 ghost use Rattle.wesl_table.specs.Marks.{AreMarked};
-ghost use Rattle.wesl_table.specs.Numbering.{AreRelated, IsRelatedOption, IsNumberedImport, AreNumberedImports, AreNumberedDeclarations, IsNumbered, Grows, NameAt, PathAt};
+ghost use Rattle.wesl_table.specs.Numbering.{AreRelated, IsNumberedImport, AreNumberedImports, AreNumberedDeclarations, IsNumbered, Grows, NameAt, PathAt};
 ghost use Rattle.wesl_table.specs.NumbersView.{numbering};
-ghost use Rattle.wesl_table.specs.Reading.{IsRead, IsNumberedBy, own_path, unit_in};
+ghost use Rattle.wesl_table.specs.Reading.{AreNumbersOfNames, IsRead, IsNumberedBy, own_path, table_in, unit_in};
 ghost use Rattle.wesl_table.specs.Spelling.{spelled_import, spelled_imports};
-ghost use Rattle.wesl_table.specs.Tables.{name_of, declaration_of, paired, uses, table_at};
+ghost use Rattle.wesl_table.specs.Tables.{uses, table_at};
 
 use crate::imports::imports;
 use crate::marks::{Mark, mark_piece};
@@ -102,8 +102,8 @@ fn mark_declarations(
 ) -> Result<Declared, Error>
     requires read { IsRead reading }
     requires numbered { IsNumberedBy (numbering numbers.now) reading }
-    requires named { AreRelated (IsRelatedOption (NameAt (numbering numbers.now))) names.now (map name_of (declarations_in (unit_in reading))) }
-    ensures declared { IfOk result (λ d. AreNumberedDeclarations (numbering numbers.new) d.declarations.items (paired declaration_of (declarations_in (unit_in reading.entry)) (uses (own_path reading.entry) (unit_in reading.entry)))) }
+    requires named { AreNumbersOfNames (numbering numbers.now) names.now (declarations_in (unit_in reading)) }
+    ensures declared { IfOk result (λ d. AreNumberedDeclarations (numbering numbers.new) d.declarations.items (table_in reading.entry).declarations) }
     ensures marked { IfOk result (λ d. AreMarked (numbering numbers.new) d.marks.items (uses (own_path reading.entry) (unit_in reading.entry))) }
     ensures grows { Grows (numbering numbers.old) (numbering numbers.new) }
     ensures refused { IfErr result (λ e. e ≡ error.Memory) }
@@ -143,7 +143,7 @@ fn unit_numbers(
     requires { All (λ i. is_relative (path_view i.path) ≡ false) imports.now }
     ensures imports { IfOk result (λ n. AreNumberedImports (numbering numbers.new) n.imports.items (spelled_imports (unit_view unit.now).names imports.now)) }
     ensures ids { IfOk result (λ n. AreRelated (NameAt (numbering numbers.new)) n.ids.items (unit_view unit.now).names) }
-    ensures names { IfOk result (λ n. AreRelated (IsRelatedOption (NameAt (numbering numbers.new))) n.names.items (map name_of (declarations_in (spelled (unit_view unit.now))))) }
+    ensures names { IfOk result (λ n. AreNumbersOfNames (numbering numbers.new) n.names.items (declarations_in (spelled (unit_view unit.now)))) }
     ensures declared { IfOk result (λ n. (x : NameId) → Contains n.declared.keys x ↔ Contains n.names.items (Some x)) }
     ensures grows { Grows (numbering numbers.old) (numbering numbers.new) }
     ensures refused { IfErr result (λ e. e ≡ error.Memory) }
@@ -176,9 +176,9 @@ fn mark_unit(
     requires imports { spelled_imports (unit_view unit.now).names imports.now ≡ imports_in (path_view path.now) (spelled (unit_view unit.now)) }
     requires numbered { AreNumberedImports (numbering numbers.old) numbered.now.imports.items (imports_in (path_view path.now) (spelled (unit_view unit.now))) }
     requires ids { AreRelated (NameAt (numbering numbers.old)) numbered.now.ids.items (unit_view unit.now).names }
-    requires names { AreRelated (IsRelatedOption (NameAt (numbering numbers.old))) numbered.now.names.items (map name_of (declarations_in (spelled (unit_view unit.now)))) }
+    requires names { AreNumbersOfNames (numbering numbers.old) numbered.now.names.items (declarations_in (spelled (unit_view unit.now))) }
     requires declared { (x : NameId) → Contains numbered.now.declared.keys x ↔ Contains numbered.now.names.items (Some x) }
-    ensures declared { IfOk result (λ d. AreNumberedDeclarations (numbering numbers.new) d.declarations.items (paired declaration_of (declarations_in (spelled (unit_view unit.now))) (uses (path_view path.now) (spelled (unit_view unit.now))))) }
+    ensures declared { IfOk result (λ d. AreNumberedDeclarations (numbering numbers.new) d.declarations.items (table_at (path_view path.now) (spelled (unit_view unit.now))).declarations) }
     ensures marked { IfOk result (λ d. AreMarked (numbering numbers.new) d.marks.items (uses (path_view path.now) (spelled (unit_view unit.now)))) }
     ensures grows { Grows (numbering numbers.old) (numbering numbers.new) }
     ensures refused { IfErr result (λ e. e ≡ error.Memory) }

@@ -1,9 +1,9 @@
 -- What lists of references and of declarations ask for.
-use Rattle.std.specs.Prelude.{◌≡◌, ◌⊎◌, ℕ, ◌+◌, ◌≤◌, slice_get, Option, Some, None, List, Contains}
+use Rattle.std.specs.Prelude.{◌≡◌, ◌⊎◌, ◌↔◌, ℕ, ◌+◌, ◌≤◌, slice_get, Option, Some, None, List, Contains}
 use Rattle.wesl_symbols.specs.declared.symbols.LookUp.{LookUp}
 use Rattle.wesl_symbols.specs.declared.symbols.Reference.{Reference}
 use Rattle.wesl_symbols.specs.Tables.{Declaration, Table}
-use Rattle.wesl_symbols.specs.Names.{Asks}
+use Rattle.wesl_symbols.specs.Names.{Asks, AsksFrom}
 
 -- the list gains what Q says, and nothing else
 pub record Gains {X : Type 0} (from to : List X) (Q : X → Type 0) : Type 0 where
@@ -14,6 +14,10 @@ pub record Gains {X : Type 0} (from to : List X) (Q : X → Type 0) : Type 0 whe
 -- some reference of the list asks for it
 abbrev pub AsksIn : {P N : Type 0} → Table P N → List (Reference P N) → LookUp P N → Type 0
 AsksIn {P} {N} t rs l = (r : Reference P N) × Contains rs r × Asks t r l
+
+-- these are the look-ups that declarations of that name ask for
+abbrev pub AreAsked : {P N : Type 0} → Table P N → Option N → List (LookUp P N) → Type 0
+AreAsked {P} {N} t name ls = (l : LookUp P N) → Contains ls l ↔ AsksFrom t name l
 
 -- some reference in a declaration of that name at n or behind asks for it
 abbrev pub AsksBehind : {P N : Type 0} → Table P N → Option N → ℕ → LookUp P N → Type 0

@@ -74,6 +74,23 @@ pub record IsModuleDone {P N : Type 0} (w : List (Table P N)) (task : Task P N) 
 pub record IsSymbolDone {P N : Type 0} (w : List (Table P N)) (answers : List (LookUp P N × Symbol P N)) (s : Symbol P N) : Type 0 where
   pub asks : (t : Table P N) (l : LookUp P N) → IsAt w s.path t → AsksFrom t (Some s.name) l → IsAnswered answers l
 
+module _ {P N : Type 0} where
+  -- Q holds of the module at the place
+  abbrev pub OfModuleAt : List (Table P N) → ℕ → (Table P N → Type 0) → Type 0
+  OfModuleAt w place Q = (t : Table P N) → slice_get w place ≡ Some t → Q t
+
+  -- all that the module's const_asserts ask for is answered
+  abbrev pub AnswersAsserts : List (LookUp P N × Symbol P N) → Table P N → Type 0
+  AnswersAsserts answers t = (l : LookUp P N) → AsksFrom t None l → IsAnswered answers l
+
+  -- each path that the module imports from has a module
+  abbrev pub HasImported : List (Table P N) → Table P N → Type 0
+  HasImported w t = (i : Import P N) → Contains t.imports i → (u : Table P N) × IsAt w i.path u
+
+  -- each symbol that the module declares is held
+  abbrev pub HoldsDeclared : List (Symbol P N) → Table P N → Type 0
+  HoldsDeclared ss t = (n : N) → Declares t n → Contains ss (record { path = t.path; name = n })
+
 -- ---- the state of the engine
 
 -- the modules that are loaded, the root's first
@@ -96,9 +113,17 @@ pub record Grows (from to : Loaded) : Type 0 where
 abbrev pub kept_look_up : PathId → NameId → LookUp PathId NameId
 kept_look_up root n = record { asker = None; path = root; name = n }
 
+-- each kept name is answered
+abbrev pub AnswersKept : Request → Loaded → Type 0
+AnswersKept r s = (n : NameId) → Contains r.kept.items n → IsAnswered s.answers.entries (kept_look_up r.root.path n)
+
+-- the module is done, as things are loaded
+abbrev pub IsTaken : Request → Loaded → Table PathId NameId → Type 0
+IsTaken r s t = IsModuleDone (world_of r s) (task_at r) s.symbols.keys s.answers.entries t
+
 -- the first n modules are done
 abbrev pub ModulesDone : Request → Loaded → ℕ → Type 0
-ModulesDone r s n = (t : Table PathId NameId) → Contains (take n (world_of r s)) t → IsModuleDone (world_of r s) (task_at r) s.symbols.keys s.answers.entries t
+ModulesDone r s n = (t : Table PathId NameId) → Contains (take n (world_of r s)) t → IsTaken r s t
 
 -- the first n symbols are done
 abbrev pub SymbolsDone : Request → Loaded → ℕ → Type 0

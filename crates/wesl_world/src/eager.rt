@@ -1,17 +1,15 @@
 //! What an eager link takes of each module besides: the modules that it imports from, and all that it declares.
-ghost use Rattle.std.specs.Prelude.{◌≡◌, ◌↔◌, ◌<◌, length, map, slice_get, Some, IfOk, OnOk, IfErr, Contains, true, []};
+ghost use Rattle.std.specs.Prelude.{◌≡◌, ◌<◌, length, map, IfOk, OnOk, IfErr, Contains, true, []};
 ghost use Rattle.wesl_symbols.specs.declared.ids.PathId.{PathId};
 ghost use Rattle.wesl_symbols.specs.declared.ids.NameId.{NameId};
 ghost use Rattle.wesl_symbols.specs.Tables as tables;
 ghost use Rattle.wesl_symbols.specs.declared.symbols.Symbol.{Symbol};
-ghost use Rattle.wesl_symbols.specs.declared.symbols.Import.{Import};
-ghost use Rattle.wesl_symbols.specs.Names.{Declares};
 ghost use Rattle.wesl_world.specs.World.{IsAt, Entered, Reached};
 ghost use Rattle.wesl_world.specs.Asked.{Gains};
 ghost use Rattle.wesl_world.specs.Eager.{IsDeclaredAmong};
 ghost use Rattle.wesl_world.specs.Loader.{OnlyAdds};
 ghost use Rattle.wesl_world.specs.Refusal.{IsExplained};
-ghost use Rattle.wesl_world.specs.Loading.{IsSound, Grows, CanEnter, world_of, task_at};
+ghost use Rattle.wesl_world.specs.Loading.{IsSound, Grows, CanEnter, HasImported, HoldsDeclared, OfModuleAt, world_of, task_at};
 
 use crate::error::LinkError;
 use crate::load::load;
@@ -70,8 +68,7 @@ pub fn enter_imports<E, L: Loader<E>>(
     requires within { place < length (world_of request.now loaded.old) }
     ensures sound { OnOk result (IsSound (L.hands loader.new) (L.ready loader.new) request.now loaded.new) }
     ensures grows { OnOk result (Grows loaded.old loaded.new) }
-    ensures there { OnOk result ((t : tables.Table PathId NameId) → slice_get (world_of request.now loaded.old) place ≡ Some t → (i : Import PathId NameId) → Contains t.imports i
-        → (u : tables.Table PathId NameId) × IsAt (world_of request.now loaded.new) i.path u) }
+    ensures there { OnOk result (OfModuleAt (world_of request.now loaded.old) place (HasImported (world_of request.now loaded.new))) }
     ensures refused { IfErr result (IsExplained (L.hands loader.new) (L.refuses loader.new) request.now.root (task_at request.now) request.now.max_modules) }
     ensures adds { OnlyAdds (L.hands loader.old) (L.refuses loader.old) (L.ready loader.old) (L.hands loader.new) (L.refuses loader.new) (L.ready loader.new) }
 {
@@ -131,8 +128,7 @@ pub fn hold_declared<E, L: Loader<E>>(
     requires within { place < length (world_of request.now loaded.old) }
     ensures sound { OnOk result (IsSound (L.hands loader.now) (L.ready loader.now) request.now loaded.new) }
     ensures grows { OnOk result (Grows loaded.old loaded.new) }
-    ensures held { OnOk result ((t : tables.Table PathId NameId) → slice_get (world_of request.now loaded.old) place ≡ Some t → (n : NameId) → Declares t n
-        → Contains loaded.new.symbols.keys (record { path = t.path; name = n })) }
+    ensures held { OnOk result (OfModuleAt (world_of request.now loaded.old) place (HoldsDeclared loaded.new.symbols.keys)) }
     ensures refused { IfErr result (IsExplained (L.hands loader.now) (L.refuses loader.now) request.now.root (task_at request.now) request.now.max_modules) }
 {
     let symbols = declared_symbols(alloc, table_at(request, loaded, place))?;

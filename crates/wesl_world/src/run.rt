@@ -1,15 +1,15 @@
 //! The worklist: each module and each reached symbol is taken once.
-ghost use Rattle.std.specs.Prelude.{◌≡◌, ◌↔◌, ◌≤◌, ◌<◌, ◌+◌, length, slice_get, Some, None, IfOk, OnOk, IfErr, Contains, false};
+ghost use Rattle.std.specs.Prelude.{◌≡◌, ◌≤◌, ◌<◌, ◌+◌, length, slice_get, Some, None, IfOk, OnOk, IfErr, Contains, false};
 ghost use Rattle.wesl_symbols.specs.declared.ids.PathId.{PathId};
 ghost use Rattle.wesl_symbols.specs.declared.ids.NameId.{NameId};
 ghost use Rattle.wesl_symbols.specs.Tables as tables;
 ghost use Rattle.wesl_symbols.specs.declared.symbols.LookUp.{LookUp};
-ghost use Rattle.wesl_symbols.specs.Names.{AsksFrom};
 ghost use Rattle.wesl_world.specs.World.{IsAt};
+ghost use Rattle.wesl_world.specs.Asked.{AreAsked};
 ghost use Rattle.wesl_world.specs.Faults.{Agrees};
 ghost use Rattle.wesl_world.specs.Loader.{IsReady, OnlyAdds};
 ghost use Rattle.wesl_world.specs.Refusal.{IsExplained};
-ghost use Rattle.wesl_world.specs.Loading.{IsSound, Grows, ArePlaced, IsAnswered, IsModuleDone, IsSymbolDone, ModulesDone, SymbolsDone, kept_look_up, world_of, task_at};
+ghost use Rattle.wesl_world.specs.Loading.{IsSound, Grows, ArePlaced, AnswersAsserts, AnswersKept, IsTaken, IsSymbolDone, ModulesDone, OfModuleAt, SymbolsDone, world_of, task_at};
 
 use crate::eager::{enter_imports, hold_declared};
 use crate::error::LinkError;
@@ -30,7 +30,7 @@ fn asked_by_module(
 ) -> Result<Vec<LookUp<PathId, NameId>>, AllocError>
     requires within { place < length (world_of request.now loaded.now) }
     requires agrees { (t : tables.Table PathId NameId) → Contains (world_of request.now loaded.now) t → Agrees t }
-    ensures { IfOk result (λ v. (t : tables.Table PathId NameId) × (slice_get (world_of request.now loaded.now) place ≡ Some t) × ((l : LookUp PathId NameId) → Contains v.items l ↔ AsksFrom t None l)) }
+    ensures { IfOk result (λ v. (t : tables.Table PathId NameId) × (slice_get (world_of request.now loaded.now) place ≡ Some t) × AreAsked t None v.items) }
 {
     let table = table_at(request, loaded, place);
     let asked = names::asked_from(alloc, table, None)?;
@@ -49,8 +49,7 @@ fn answer_asserts<E, L: Loader<E>>(
     requires within { place < length (world_of request.now loaded.old) }
     ensures sound { OnOk result (IsSound (L.hands loader.new) (L.ready loader.new) request.now loaded.new) }
     ensures grows { OnOk result (Grows loaded.old loaded.new) }
-    ensures answered { OnOk result ((t : tables.Table PathId NameId) → slice_get (world_of request.now loaded.old) place ≡ Some t → (l : LookUp PathId NameId) → AsksFrom t None l
-        → IsAnswered loaded.new.answers.entries l) }
+    ensures answered { OnOk result (OfModuleAt (world_of request.now loaded.old) place (AnswersAsserts loaded.new.answers.entries)) }
     ensures refused { IfErr result (IsExplained (L.hands loader.new) (L.refuses loader.new) request.now.root (task_at request.now) request.now.max_modules) }
     ensures adds { OnlyAdds (L.hands loader.old) (L.refuses loader.old) (L.ready loader.old) (L.hands loader.new) (L.refuses loader.new) (L.ready loader.new) }
 {
@@ -72,8 +71,7 @@ fn take_module<E, L: Loader<E>>(
     requires within { place < length (world_of request.now loaded.old) }
     ensures sound { OnOk result (IsSound (L.hands loader.new) (L.ready loader.new) request.now loaded.new) }
     ensures grows { OnOk result (Grows loaded.old loaded.new) }
-    ensures done { OnOk result ((t : tables.Table PathId NameId) → slice_get (world_of request.now loaded.old) place ≡ Some t
-        → IsModuleDone (world_of request.now loaded.new) (task_at request.now) loaded.new.symbols.keys loaded.new.answers.entries t) }
+    ensures done { OnOk result (OfModuleAt (world_of request.now loaded.old) place (IsTaken request.now loaded.new)) }
     ensures refused { IfErr result (IsExplained (L.hands loader.new) (L.refuses loader.new) request.now.root (task_at request.now) request.now.max_modules) }
     ensures adds { OnlyAdds (L.hands loader.old) (L.refuses loader.old) (L.ready loader.old) (L.hands loader.new) (L.refuses loader.new) (L.ready loader.new) }
 {
@@ -122,7 +120,7 @@ fn asked_by_symbol(
     requires placed { ArePlaced loaded.now.others.items loaded.now.places.entries }
     requires there { (t : tables.Table PathId NameId) × IsAt (world_of request.now loaded.now) symbol.path t }
     requires agrees { (t : tables.Table PathId NameId) → Contains (world_of request.now loaded.now) t → Agrees t }
-    ensures { IfOk result (λ v. (t : tables.Table PathId NameId) × IsAt (world_of request.now loaded.now) symbol.path t × ((l : LookUp PathId NameId) → Contains v.items l ↔ AsksFrom t (Some symbol.name) l)) }
+    ensures { IfOk result (λ v. (t : tables.Table PathId NameId) × IsAt (world_of request.now loaded.now) symbol.path t × AreAsked t (Some symbol.name) v.items) }
 {
     match loaded_table(request, loaded, symbol.path) {
         Some(table) => {
@@ -193,7 +191,7 @@ fn follow_kept<E, L: Loader<E>>(
     requires sound { IsSound (L.hands loader.old) (L.ready loader.old) request.now loaded.old }
     ensures sound { OnOk result (IsSound (L.hands loader.new) (L.ready loader.new) request.now loaded.new) }
     ensures grows { OnOk result (Grows loaded.old loaded.new) }
-    ensures answered { OnOk result ((n : NameId) → Contains request.now.kept.items n → IsAnswered loaded.new.answers.entries (kept_look_up request.now.root.path n)) }
+    ensures answered { OnOk result (AnswersKept request.now loaded.new) }
     ensures refused { IfErr result (IsExplained (L.hands loader.new) (L.refuses loader.new) request.now.root (task_at request.now) request.now.max_modules) }
     ensures adds { OnlyAdds (L.hands loader.old) (L.refuses loader.old) (L.ready loader.old) (L.hands loader.new) (L.refuses loader.new) (L.ready loader.new) }
 {
@@ -225,7 +223,7 @@ pub fn reach_all<E, L: Loader<E>>(
     requires ready_paths { IsReady (L.ready loader.old) request.now.root }
     requires room { 0 < request.now.max_modules }
     ensures sound { IfOk result (λ r. IsSound (L.hands loader.new) (L.ready loader.new) request.now r.loaded) }
-    ensures kept { IfOk result (λ r. (n : NameId) → Contains request.now.kept.items n → IsAnswered r.loaded.answers.entries (kept_look_up request.now.root.path n)) }
+    ensures kept { IfOk result (λ r. AnswersKept request.now r.loaded) }
     ensures modules { IfOk result (λ r. ModulesDone request.now r.loaded (length (world_of request.now r.loaded))) }
     ensures symbols { IfOk result (λ r. SymbolsDone request.now r.loaded (length r.loaded.symbols.keys)) }
     ensures turns { IfOk result (λ r. r.turns ≡ length (world_of request.now r.loaded) + length r.loaded.symbols.keys) }

@@ -1,0 +1,47 @@
+-- A root whose kept names are numbers, and what a link of it finds.
+use Rattle.std.specs.Prelude.{◌≡◌, ℕ, List, Result, IfOk, IfErr}
+use Rattle.wesl_names.specs.Path.{Text, Path}
+use Rattle.wesl_names.specs.declared.errors.Error as error
+use Rattle.wesl_names.specs.declared.errors.ResolveError.{ResolveError}
+use Rattle.wesl_syntax.specs.Unit.{UnitOf}
+use Rattle.wesl_symbols.specs.declared.ids.PathId.{PathId}
+use Rattle.wesl_symbols.specs.declared.ids.NameId.{NameId}
+use Rattle.wesl_world.specs.Linking as links
+use Rattle.wesl_table.specs.Numbering.{Numbering, AreRelated, NameAt}
+use Rattle.wesl_table.specs.declared.numbers.Numbers.{Numbers}
+use Rattle.wesl_linker.specs.Keeping.{resolved}
+use Rattle.wesl_linker.specs.Linking.{LinksRoot, TellsFault}
+use Rattle.wesl_linker.specs.declared.link.Link.{Link}
+use Rattle.wesl_linker.specs.declared.resolutions.Resolutions.{Resolutions}
+use Rattle.wesl_linker.specs.declared.resolve.Root.{Root}
+
+-- these are the texts of the root's kept names
+abbrev pub AreKeptTexts : Numbering → Root → List Text → Type 0
+AreKeptTexts nb root keep = AreRelated (NameAt nb) root.kept.items keep
+
+-- what is found keeps the names of these texts
+abbrev pub KeepsTexts : Numbering → Root → Result Resolutions error.Error → Type 0
+KeepsTexts nb root result = (keep : List Text) → AreKeptTexts nb root keep → IfOk result (λ r. (resolved r).kept ≡ keep)
+
+module _ (hands : Path → UnitOf Text → Type 0) (refuses : Path → ResolveError → Type 0) (nb : Numbering) (root : Root) (limit : ℕ) where
+  -- what is found is a link of the root, with the kept names of these texts
+  abbrev pub LinksNumbered : Result Resolutions error.Error → Type 0
+  LinksNumbered result =
+      (keep : List Text) → AreKeptTexts nb root keep → IfOk result (λ r. LinksRoot hands refuses root.path root.unit keep root.is_eager limit (resolved r))
+
+  -- an error tells a fault that stands in a world of the root, or want of memory
+  abbrev pub RefusesNumbered : Result Resolutions error.Error → Type 0
+  RefusesNumbered result =
+      (keep : List Text) → AreKeptTexts nb root keep → IfErr result (TellsFault hands refuses root.path root.unit keep root.is_eager limit)
+
+-- the link holds the root, whose table is the first, and what was linked
+abbrev pub IsLinkFrom : Root → Numbers → links.Linking PathId NameId → Link → Type 0
+IsLinkFrom root numbers linked l =
+    l ≡ record {
+      root = record { path = root.path; place = 0; unit = root.unit; marks = root.marks };
+      others = l.others;
+      kept = root.kept;
+      is_eager = root.is_eager;
+      numbers = numbers;
+      linked = linked;
+    }
