@@ -8,6 +8,6 @@ abbrev pub one_on : ℕ × Bool → ℕ × Bool
 one_on p = (suc p.0, p.1)
 
 -- where `put` goes, and whether a member with this key stands there
-abbrev pub place_of : List ℕ → Members → ℕ × Bool
-place_of k no_members = (0, false)
-place_of k (member l e ms) = match_ordering (slice_cmp nat_cmp k l) (0, false) (0, true) (one_on (place_of k ms))
+abbrev pub place_for : List ℕ → Members → ℕ × Bool
+place_for k no_members = (0, false)
+place_for k (member l e ms) = match_ordering (slice_cmp nat_cmp k l) (0, false) (0, true) (one_on (place_for k ms))

@@ -2,7 +2,7 @@
 ghost use Rattle.std.specs.Prelude.{◌≡◌, OnOk};
 ghost use Rattle.serde_json.specs.Data.{put as put_member};
 ghost use Rattle.wesl_piece.specs.View.{members_view, piece_view};
-ghost use Rattle.wesl_piece.specs.Place.{place_of};
+ghost use Rattle.wesl_piece.specs.Place.{place_for};
 
 use crate::piece::{Members, Piece};
 use std::alloc::AllocError;
@@ -24,7 +24,7 @@ pub fn put<'a>(members: &mut Members<'a>, key: &'a str, piece: Piece<'a>) -> Res
 
 // The place of a key, and whether a member with this key stands there.
 fn place_of<'a>(members: &Members<'a>, key: &str) -> (usize, bool)
-    ensures { result ≡ place_of key.now (members_view members.now.items) }
+    ensures { result ≡ place_for key.now (members_view members.now.items) }
 {
     let mut place = 0;
     for member in members {

@@ -118,12 +118,12 @@ abbrev pub AnswersKept : Request → Loaded → Type 0
 AnswersKept r s = (n : NameId) → Contains r.kept.items n → IsAnswered s.answers.entries (kept_look_up r.root.path n)
 
 -- the module is done, as things are loaded
-abbrev pub IsTaken : Request → Loaded → Table PathId NameId → Type 0
-IsTaken r s t = IsModuleDone (world_of r s) (task_at r) s.symbols.keys s.answers.entries t
+abbrev pub IsDoneIn : Request → Loaded → Table PathId NameId → Type 0
+IsDoneIn r s t = IsModuleDone (world_of r s) (task_at r) s.symbols.keys s.answers.entries t
 
 -- the first n modules are done
 abbrev pub ModulesDone : Request → Loaded → ℕ → Type 0
-ModulesDone r s n = (t : Table PathId NameId) → Contains (take n (world_of r s)) t → IsTaken r s t
+ModulesDone r s n = (t : Table PathId NameId) → Contains (take n (world_of r s)) t → IsDoneIn r s t
 
 -- the first n symbols are done
 abbrev pub SymbolsDone : Request → Loaded → ℕ → Type 0

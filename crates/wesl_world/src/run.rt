@@ -9,7 +9,7 @@ ghost use Rattle.wesl_world.specs.Asked.{AreAsked};
 ghost use Rattle.wesl_world.specs.Faults.{Agrees};
 ghost use Rattle.wesl_world.specs.Loader.{IsReady, OnlyAdds};
 ghost use Rattle.wesl_world.specs.Refusal.{IsExplained};
-ghost use Rattle.wesl_world.specs.Loading.{IsSound, Grows, ArePlaced, AnswersAsserts, AnswersKept, IsTaken, IsSymbolDone, ModulesDone, OfModuleAt, SymbolsDone, world_of, task_at};
+ghost use Rattle.wesl_world.specs.Loading.{IsSound, Grows, ArePlaced, AnswersAsserts, AnswersKept, IsDoneIn, IsSymbolDone, ModulesDone, OfModuleAt, SymbolsDone, world_of, task_at};
 
 use crate::eager::{enter_imports, hold_declared};
 use crate::error::LinkError;
@@ -71,7 +71,7 @@ fn take_module<E, L: Loader<E>>(
     requires within { place < length (world_of request.now loaded.old) }
     ensures sound { OnOk result (IsSound (L.hands loader.new) (L.ready loader.new) request.now loaded.new) }
     ensures grows { OnOk result (Grows loaded.old loaded.new) }
-    ensures done { OnOk result (OfModuleAt (world_of request.now loaded.old) place (IsTaken request.now loaded.new)) }
+    ensures done { OnOk result (OfModuleAt (world_of request.now loaded.old) place (IsDoneIn request.now loaded.new)) }
     ensures refused { IfErr result (IsExplained (L.hands loader.new) (L.refuses loader.new) request.now.root (task_at request.now) request.now.max_modules) }
     ensures adds { OnlyAdds (L.hands loader.old) (L.refuses loader.old) (L.ready loader.old) (L.hands loader.new) (L.refuses loader.new) (L.ready loader.new) }
 {
