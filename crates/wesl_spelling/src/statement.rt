@@ -59,10 +59,8 @@ impl Tables<'_> {
             (Statement::Break { attributes: left }, Statement::Break { attributes: right }) => {
                 self.same_attributes(left, right)
             }
-            (
-                Statement::Continue { attributes: left },
-                Statement::Continue { attributes: right },
-            ) => self.same_attributes(left, right),
+            (Statement::Continue { attributes: left }, Statement::Continue { attributes: right }) =>
+                self.same_attributes(left, right),
             (
                 Statement::Return {
                     attributes: left_attributes,
