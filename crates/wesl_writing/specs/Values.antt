@@ -6,8 +6,8 @@ use Rattle.wesl_syntax.specs.Tree.{Kind, at, Tree, Forest, before, end, respell,
 use Rattle.wesl_syntax.specs.Unit.{name_in}
 use Rattle.wesl_syntax.specs.declared.declaration.DeclarationKind.{DeclarationKind}
 use Rattle.wesl_syntax.specs.declared.declaration.DeclarationKind.TheVariants as kinds
-use Rattle.wesl_form.specs.Schema.{Name, Form, Row, Words, SpelledLabel, node, may, nothing, an_expression, a_statement, an_attribute, a_member, an_import, a_directive, a_declaration}
-use Rattle.wesl_form.specs.Words.{assignment_words}
+use Rattle.wesl_form.specs.Schema.{Name, Form, Row, Words, SpelledLabel, leaf, node, may, nothing, a_path, an_expression, a_statement, an_attribute, a_member, an_import, a_directive, a_declaration}
+use Rattle.wesl_form.specs.Words.{assignment_words, binary_words}
 use Rattle.wesl_form.specs.Writing.{written, written_forest, put_list, word_of, text_or_null}
 use Rattle.wesl_form.specs.Nodes.{body_row, call_row, condition_row, space_row}
 
@@ -92,7 +92,19 @@ assigned names o a l r =
     (with_member (codes "lhs") (expression_in names l) (with_member (codes "rhs") (expression_in names r) no_members))))
 
 -- a workgroup's size, of which the second and the third are options
-abbrev pub sized : List Text → Tree → Tree → Tree → Data
-sized names x y z =
+abbrev pub workgroup_size : List Text → Tree → Tree → Tree → Data
+workgroup_size names x y z =
     worded (codes "workgroup_size") (with_member (codes "x") (expression_in names x)
     (with_option (codes "y") names (node an_expression) y (with_option (codes "z") names (node an_expression) z no_members)))
+
+-- two operands, from the label of their operator
+abbrev pub binary_object : SpelledLabel → Data → Data → Data
+binary_object o d e =
+    worded (codes "binary") (with_member (codes "op") (word_value binary_words o)
+    (with_member (codes "left") d (with_member (codes "right") e no_members)))
+
+-- a type with arguments, from the names, its path, its name and the arguments
+abbrev pub argued : List Text → Tree → Text → Items → Data
+argued names path name ds =
+    bare (with_option (codes "path") names (leaf a_path) path
+    (with_member (codes "name") (string name) (with_member (codes "args") (array ds) no_members)))

@@ -7,7 +7,7 @@ ghost use Rattle.wesl_form.specs.Writing.{texts_value};
 ghost use Rattle.wesl_syntax.specs.Tree.{branch, custom, leaf, list, text as text_label};
 ghost use Rattle.wesl_syntax.specs.View.{attribute_view, attributes_tree, expression_tree, expression_view, listed, optional, texts_of};
 ghost use Rattle.wesl_writing.specs.Objects.{Holds};
-ghost use Rattle.wesl_writing.specs.Values.{attribute_in, expression_in, items_in, sized, with_list, with_member, with_option, worded};
+ghost use Rattle.wesl_writing.specs.Values.{attribute_in, expression_in, items_in, workgroup_size, with_list, with_member, with_option, worded};
 
 use crate::expression::{
     applied_object, expression_value, expression_values, with_optional_expression,
@@ -125,7 +125,7 @@ fn workgroup_value<'a>(
     y: &'a Option<ExpressionNode>,
     z: &'a Option<ExpressionNode>,
 ) -> Written<'a>
-    ensures { IfOk result (λ v. piece_view v ≡ sized names.now (expression_view x.now.node) (optional expression_tree y.now) (optional expression_tree z.now)) }
+    ensures { IfOk result (λ v. piece_view v ≡ workgroup_size names.now (expression_view x.now.node) (optional expression_tree y.now) (optional expression_tree z.now)) }
 {
     let object = with_optional_expression(alloc, Object::new(alloc), names, "z", z);
     let object = with_optional_expression(alloc, object, names, "y", y);

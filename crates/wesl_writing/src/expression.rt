@@ -8,9 +8,9 @@ ghost use Rattle.wesl_form.specs.Schema.{a_path, a_template_argument, a_type, an
 ghost use Rattle.wesl_syntax.specs.Tree.{absent, binary, branch, kind, leaf as leaf_tree, list, literal as literal_kind, reference, type_expression, unary};
 ghost use Rattle.wesl_syntax.specs.Unit.{name_in};
 ghost use Rattle.wesl_syntax.specs.View.{argument_view, call_view, expression_tree, expression_view, ident_tree, listed, literal_tree, optional, path_tree, type_view};
-ghost use Rattle.wesl_form.specs.Words.{binary_words, unary_words};
+ghost use Rattle.wesl_form.specs.Words.{unary_words};
 ghost use Rattle.wesl_writing.specs.Objects.{Holds};
-ghost use Rattle.wesl_writing.specs.Values.{bare, call_members, expression_in, items_in, value_in, with_member, with_option, word_value, worded};
+ghost use Rattle.wesl_writing.specs.Values.{argued, binary_object, call_members, expression_in, items_in, value_in, with_member, with_option, word_value, worded};
 
 use crate::object::{Object, Written, WrittenList, spelling, text_value};
 use crate::words::{binary_word, unary_word};
@@ -88,7 +88,7 @@ fn binary_value<'a>(
     left: Written<'a>,
     right: Written<'a>,
 ) -> Written<'a>
-    ensures { (d e : Data) → IfOk left.entry (λ v. piece_view v ≡ d) → IfOk right.entry (λ v. piece_view v ≡ e) → IfOk result (λ v. piece_view v ≡ worded (codes "binary") (with_member (codes "op") (word_value binary_words (binary operator)) (with_member (codes "left") d (with_member (codes "right") e no_members)))) }
+    ensures { (d e : Data) → IfOk left.entry (λ v. piece_view v ≡ d) → IfOk right.entry (λ v. piece_view v ≡ e) → IfOk result (λ v. piece_view v ≡ binary_object (binary operator) d e) }
 {
     let object = Object::new(alloc).value("right", right).value("left", left);
     object.text("op", binary_word(operator)).worded("binary")
@@ -171,7 +171,7 @@ fn argued_type_value<'a>(
     ident: Ident,
     arguments: WrittenList<'a>,
 ) -> Written<'a>
-    ensures { (ds : Items) → IfOk arguments.entry (λ vs. items_view vs.items ≡ ds) → IfOk result (λ v. piece_view v ≡ bare (with_option (codes "path") names.now (leaf a_path) (optional path_tree path.now) (with_member (codes "name") (string (name_in names.now ident.0)) (with_member (codes "args") (array ds) no_members)))) }
+    ensures { (ds : Items) → IfOk arguments.entry (λ vs. items_view vs.items ≡ ds) → IfOk result (λ v. piece_view v ≡ argued names.now (optional path_tree path.now) (name_in names.now ident.0) ds) }
 {
     let object = applied_object(alloc, spelling(names, ident), arguments);
     with_optional_path(alloc, object, names, path).finish()
