@@ -7,12 +7,12 @@ ghost use Rattle.wesl_program.specs.Line.{IsAnswerLine, IsRefusal};
 ghost use Rattle.wesl_program.specs.Made.{bytes_of};
 ghost use Rattle.wesl.specs.Run.{IsLine, IsLineFor, Wrote, WroteBeginning};
 
+use json::Scratch;
 use std::alloc::Global;
 use std::io::{Read, Write};
-use wesl_bundle::read_bundle;
 use wesl_program::{
-    Answer, Failures, Line, ReadFault, answer_line, linked, memory_line, read_whole, refusal,
-    value_of_bytes, write_whole,
+    Answer, Failures, Line, ReadFault, answer_line, bundle_of_bytes, linked, memory_line,
+    read_whole, refusal, write_whole,
 };
 use wesl_tree::Error;
 
@@ -117,8 +117,8 @@ fn linked_of_bytes(alloc: Global, bytes: &[u8]) -> Result<Answer, Error>
     ensures map_whole { IfOk result (λ a. has_float (view a.map) ≡ false) }
     ensures refused { IfErr result (IsRefusal bytes.now) }
 {
-    let value = value_of_bytes(alloc, bytes)?;
-    let bundle = read_bundle(alloc, &value)?;
+    let mut scratch = Scratch::new(alloc);
+    let bundle = bundle_of_bytes(alloc, bytes, &mut scratch)?;
     match linked(alloc, bundle) {
         Ok(answer) => Ok(answer),
         Err(error) => Err(error),

@@ -4,8 +4,8 @@ use Rattle.std.specs.Ordering.{match_ordering}
 use Rattle.std.specs.Cmp.Lexicographic.{slice_cmp}
 use Rattle.serde_json.specs.Data.{Data, Items, items_depth, null, boolean, number, string, array, object, Members, no_members, member, depth, members_depth}
 use Rattle.serde_json.specs.Find.{get, get_member, as_array}
-use Rattle.serde_json.specs.View.{view, items_view}
-use Rattle.serde_json.specs.declared.value.Value.{Value}
+use Rattle.wesl_borrowed.specs.View.{borrowed_view, items_view}
+use Rattle.wesl_borrowed.specs.declared.value.BorrowedValue.{BorrowedValue}
 
 get_member-depth_at : (o : Ordering) (k : List ℕ) (d e : Data) (ms : Members) → (get_member k ms ≡ Some d → depth d ≤ members_depth ms) → match_ordering o (get_member k ms) (Some e) (get_member k ms) ≡ Some d → depth d ≤ max (depth e) (members_depth ms)
 get_member-depth_at Less k d e ms below h = let low = below h in omega arith
@@ -26,9 +26,9 @@ get-depth k (array ds) e h = cc
 get-depth k (object ms) e h = let low = get_member-depth k e ms h in omega arith
 
 -- an item is less deep
-pub item-depth : (vs : List Value) (i : ℕ) (v : Value) → i < length vs → v ≡ get_or vs i v → depth (view v) ≤ items_depth (items_view vs)
+pub item-depth : (vs : List BorrowedValue) (i : ℕ) (v : BorrowedValue) → i < length vs → v ≡ get_or vs i v → depth (borrowed_view v) ≤ items_depth (items_view vs)
 item-depth [] i v h e = absurd (omega arith)
-item-depth (w ∷ vs) zero v h e = let same = ap (λ x. depth (view x)) e in omega arith
+item-depth (w ∷ vs) zero v h e = let same = ap (λ x. depth (borrowed_view x)) e in omega arith
 item-depth (w ∷ vs) (suc i) v h e = let low = item-depth vs i v (omega arith) e in omega arith
 
 pub array-depth : (d : Data) (ds : Items) → as_array d ≡ Some ds → items_depth ds < depth d

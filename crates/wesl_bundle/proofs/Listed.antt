@@ -6,8 +6,8 @@ use Rattle.std.specs.Cmp.Lexicographic.{slice_cmp}
 use Rattle.std.specs.Ordering.{match_ordering}
 use Rattle.serde_json.specs.Data.{Data, null, boolean, number, string, array, object, Items, no_items, item, Members, no_members, member}
 use Rattle.serde_json.specs.Find.{as_array, get, get_member}
-use Rattle.serde_json.specs.View.{items_view, view}
-use Rattle.serde_json.specs.declared.value.Value.{Value}
+use Rattle.wesl_borrowed.specs.View.{items_view, borrowed_view}
+use Rattle.wesl_borrowed.specs.declared.value.BorrowedValue.{BorrowedValue}
 use Rattle.wesl_names.specs.Path.{Text}
 use Rattle.wesl_bundle.specs.Packages as said
 use Rattle.wesl_bundle.specs.PackageViews.{package_modules, module_step, package_module_view, package_step, package_view, packages_of}
@@ -71,7 +71,7 @@ each_module-listed (item d ds) = step (said.package_module_in d) (said.each_modu
     step (Some m) rest None e = rw e refl
     step (Some m) rest (Some ms) e = rw e refl
 
-pub modules-whole : (d : Data) (vs : List Value) (i : ℕ) (xs : List said.PackageModule) → as_array d ≡ Some (items_view vs) → length vs ≤ i → items_in said.package_module_in (items_view (take i vs)) ≡ Some xs → said.package_modules_in d ≡ Some (package_modules xs)
+pub modules-whole : (d : Data) (vs : List BorrowedValue) (i : ℕ) (xs : List said.PackageModule) → as_array d ≡ Some (items_view vs) → length vs ≤ i → items_in said.package_module_in (items_view (take i vs)) ≡ Some xs → said.package_modules_in d ≡ Some (package_modules xs)
 modules-whole null vs i xs is all read = cc
 modules-whole (boolean b) vs i xs is all read = cc
 modules-whole (number n) vs i xs is all read = cc
@@ -82,7 +82,7 @@ modules-whole (array ds) vs i xs is all read =
     ap said.each_module same ∙ each_module-listed (items_view vs) ∙ ap (λ ws. option_map package_modules (items_in said.package_module_in (items_view ws))) (sym (take_all i vs all)) ∙ ap (option_map package_modules) read
 
 -- a module that is made of its fields
-pub module-made : (x : PackageModule-F PackageModule) → package_module_view (roll-PackageModule x) ≡ made-package-module (string_bytes x.name) (view x.unit.now) (package_modules (map package_module_view x.modules.items))
+pub module-made : (x : PackageModule-F PackageModule) → package_module_view (roll-PackageModule x) ≡ made-package-module (string_bytes x.name) (borrowed_view x.unit) (package_modules (map package_module_view x.modules.items))
 module-made = fold-roll-PackageModule said.PackageModule module_step
 
 -- ---- packages
@@ -104,7 +104,7 @@ each_package-listed (item d ds) = step (said.package_in d) (said.each_package ds
     step (Some p) rest None e = rw e refl
     step (Some p) rest (Some ps) e = rw e refl
 
-pub packages-whole : (d : Data) (vs : List Value) (i : ℕ) (xs : List said.Package) → as_array d ≡ Some (items_view vs) → length vs ≤ i → items_in said.package_in (items_view (take i vs)) ≡ Some xs → said.packages_in d ≡ Some (packages_of xs)
+pub packages-whole : (d : Data) (vs : List BorrowedValue) (i : ℕ) (xs : List said.Package) → as_array d ≡ Some (items_view vs) → length vs ≤ i → items_in said.package_in (items_view (take i vs)) ≡ Some xs → said.packages_in d ≡ Some (packages_of xs)
 packages-whole null vs i xs is all read = cc
 packages-whole (boolean b) vs i xs is all read = cc
 packages-whole (number n) vs i xs is all read = cc

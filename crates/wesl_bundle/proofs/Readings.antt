@@ -1,14 +1,11 @@
 -- Lists and objects, read item by item and member by member.
-use Rattle.std.proofs.Common.{◌≡◌, ℕ, ◌+◌, ◌<◌, ◌≤◌, List, [], ◌∷◌, ◌++◌, take, length, get_or, Bool, true, false, ◌||◌, Option, Some, None, option_and_then, string_bytes, refl, sym, ap, ◌∙◌, inl, inr, codes}
+use Rattle.std.proofs.Common.{◌≡◌, ℕ, zero, suc, ◌+◌, ◌<◌, ◌≤◌, List, [], ◌∷◌, ◌++◌, take, length, get_or, Bool, true, false, Option, Some, None, option_and_then, refl, sym, ap, ◌∙◌, codes, arith}
 use Rattle.std.proofs.lemmas.List.{take_more, take_all}
 use Rattle.serde_json.specs.Data.{Data, null, boolean, number, string, array, object}
 use Rattle.serde_json.specs.Find.{get, at, get_item, as_array, as_bool, as_str}
-use Rattle.serde_json.specs.Written.{has_float, items_have_float, members_have_float}
-use Rattle.serde_json.specs.View.{view, items_view, members_view}
-use Rattle.serde_json.specs.declared.value.Value.{Value}
-use Rattle.serde_json.proofs.Views.{Entry, get_item_within}
+use Rattle.wesl_borrowed.specs.View.{borrowed_view, items_view}
+use Rattle.wesl_borrowed.specs.declared.value.BorrowedValue.{BorrowedValue}
 use Rattle.wesl_names.specs.Path.{Text, Path}
-use Rattle.wesl_pointer.specs.Keys.{HasMember}
 use Rattle.wesl_bundle.specs.Bundle.{bundle_keys, module_in, bundle_in, Module, Options, options_in, naming_in, limit_in}
 use Rattle.wesl_bundle.specs.Builtins.{Builtins, builtins_in, builtins_keys}
 use Rattle.wesl_bundle.specs.Features.{Features, Flag, feature_in, features_in, features_keys, flags_in}
@@ -22,38 +19,29 @@ use Rattle.wesl_bundle.specs.declared.options.Naming.TheVariants as naming
 
 -- ---- items
 
-pub item-at : (d : Data) (vs : List Value) (i : ℕ) (v : Value) → as_array d ≡ Some (items_view vs) → i < length vs → v ≡ get_or vs i v → at i d ≡ Some (view v)
+item-found : (vs : List BorrowedValue) (i : ℕ) (v : BorrowedValue) → i < length vs → v ≡ get_or vs i v → get_item i (items_view vs) ≡ Some (borrowed_view v)
+item-found [] i v low e = absurd (omega arith)
+item-found (w ∷ vs) zero v low e = ap (λ x. Some (borrowed_view x)) (sym e)
+item-found (w ∷ vs) (suc i) v low e = item-found vs i v (omega arith) e
+
+pub item-at : (d : Data) (vs : List BorrowedValue) (i : ℕ) (v : BorrowedValue) → as_array d ≡ Some (items_view vs) → i < length vs → v ≡ get_or vs i v → at i d ≡ Some (borrowed_view v)
 item-at null vs i v h low e = cc
 item-at (boolean b) vs i v h low e = cc
 item-at (number n) vs i v h low e = cc
 item-at (string s) vs i v h low e = cc
 item-at (array es) vs i v h low e =
     let same : es ≡ items_view vs = cc in
-    ap (get_item i) same ∙ sym (get_item_within vs i v low) ∙ ap (λ x. Some (view x)) (sym e)
+    ap (get_item i) same ∙ item-found vs i v low e
 item-at (object ms) vs i v h low e = cc
-
-pub item-found : (vs : List Value) (i : ℕ) (v : Value) → i < length vs → v ≡ get_or vs i v → get_item i (items_view vs) ≡ Some (view v)
-item-found vs i v low e = sym (get_item_within vs i v low) ∙ ap (λ x. Some (view x)) (sym e)
 
 pub longer : {X : Type 0} (vs : List X) (i : ℕ) (v : X) → i < length vs → v ≡ get_or vs i v → take (i + 1) vs ≡ take i vs ++ v ∷ []
 longer vs i v low e = take_more vs i v low ∙ ap (λ x. take i vs ++ x ∷ []) (sym e)
 
-floats-append : (vs : List Value) (v : Value) → items_have_float (items_view vs) ≡ false → has_float (view v) ≡ false → items_have_float (items_view (vs ++ v ∷ [])) ≡ false
-floats-append [] v before here = rw here
-floats-append (w ∷ vs) v before here = both (has_float (view w)) (items_have_float (items_view vs)) before (λ later. floats-append vs v later here)
-  where
-    both : (a b : Bool) {c : Bool} → (a || b) ≡ false → (b ≡ false → c ≡ false) → (a || c) ≡ false
-    both true b h next = cc
-    both false b h next = next h
-
-pub floats-turn : (vs : List Value) (i : ℕ) (v : Value) → i < length vs → v ≡ get_or vs i v → items_have_float (items_view (take i vs)) ≡ false → has_float (view v) ≡ false → items_have_float (items_view (take (i + 1) vs)) ≡ false
-floats-turn vs i v low e before here = ap (λ ws. items_have_float (items_view ws)) (longer vs i v low e) ∙ floats-append (take i vs) v before here
-
-pub items_in-append : {A : Type 0} (r : Data → Option A) (vs : List Value) (v : Value) (xs : List A) (x : A) → items_in r (items_view vs) ≡ Some xs → r (view v) ≡ Some x → items_in r (items_view (vs ++ v ∷ [])) ≡ Some (xs ++ x ∷ [])
+pub items_in-append : {A : Type 0} (r : Data → Option A) (vs : List BorrowedValue) (v : BorrowedValue) (xs : List A) (x : A) → items_in r (items_view vs) ≡ Some xs → r (borrowed_view v) ≡ Some x → items_in r (items_view (vs ++ v ∷ [])) ≡ Some (xs ++ x ∷ [])
 items_in-append {A = A} r [] v xs x before here =
     let none : [] ≡ xs = cc in
     rw here (ap (λ ys. Some (ys ++ x ∷ [])) none)
-items_in-append {A = A} r (w ∷ vs) v xs x before here = step (r (view w)) (items_in r (items_view vs)) (items_in r (items_view (vs ++ v ∷ []))) before (λ ys h. items_in-append r vs v ys x h here)
+items_in-append {A = A} r (w ∷ vs) v xs x before here = step (r (borrowed_view w)) (items_in r (items_view vs)) (items_in r (items_view (vs ++ v ∷ []))) before (λ ys h. items_in-append r vs v ys x h here)
   where
     step : (o : Option A) (rest grown : Option (List A)) → option_and_then (λ y. option_and_then (λ ys. Some (y ∷ ys)) rest) o ≡ Some xs → ((ys : List A) → rest ≡ Some ys → grown ≡ Some (ys ++ x ∷ [])) → option_and_then (λ y. option_and_then (λ ys. Some (y ∷ ys)) grown) o ≡ Some (xs ++ x ∷ [])
     step None rest grown h next = cc
@@ -62,25 +50,11 @@ items_in-append {A = A} r (w ∷ vs) v xs x before here = step (r (view w)) (ite
         let same : y ∷ ys ≡ xs = cc in
         rw (next ys refl) (ap (λ zs. Some (zs ++ x ∷ [])) same)
 
-pub items_in-turn : {A : Type 0} (r : Data → Option A) (vs : List Value) (i : ℕ) (v : Value) (xs ys : List A) (x : A) → i < length vs → v ≡ get_or vs i v → ys ≡ xs ++ x ∷ [] → items_in r (items_view (take i vs)) ≡ Some xs → r (view v) ≡ Some x → items_in r (items_view (take (i + 1) vs)) ≡ Some ys
+pub items_in-turn : {A : Type 0} (r : Data → Option A) (vs : List BorrowedValue) (i : ℕ) (v : BorrowedValue) (xs ys : List A) (x : A) → i < length vs → v ≡ get_or vs i v → ys ≡ xs ++ x ∷ [] → items_in r (items_view (take i vs)) ≡ Some xs → r (borrowed_view v) ≡ Some x → items_in r (items_view (take (i + 1) vs)) ≡ Some ys
 items_in-turn r vs i v xs ys x low e grown before here = ap (λ ws. items_in r (items_view ws)) (longer vs i v low e) ∙ items_in-append r (take i vs) v xs x before here ∙ ap Some (sym grown)
 
-pub list_in-whole : {A : Type 0} (r : Data → Option A) (d : Data) (vs : List Value) (i : ℕ) (xs : List A) → as_array d ≡ Some (items_view vs) → length vs ≤ i → items_in r (items_view (take i vs)) ≡ Some xs → option_and_then (items_in r) (as_array d) ≡ Some xs
+pub list_in-whole : {A : Type 0} (r : Data → Option A) (d : Data) (vs : List BorrowedValue) (i : ℕ) (xs : List A) → as_array d ≡ Some (items_view vs) → length vs ≤ i → items_in r (items_view (take i vs)) ≡ Some xs → option_and_then (items_in r) (as_array d) ≡ Some xs
 list_in-whole r d vs i xs is all read = ap (option_and_then (items_in r)) is ∙ ap (λ ws. items_in r (items_view ws)) (sym (take_all i vs all)) ∙ read
-
--- ---- members
-
-pub HasMember-middle : (done : List Entry) (e : Entry) (left : List Entry) → HasMember (string_bytes e.0) (view e.1) (members_view (done ++ e ∷ left))
-HasMember-middle [] e left = inl (refl, refl)
-HasMember-middle (x ∷ done) e left = inr (HasMember-middle done e left)
-
-pub floats-member : (done : List Entry) (e : Entry) → members_have_float (members_view done) ≡ false → has_float (view e.1) ≡ false → members_have_float (members_view (done ++ e ∷ [])) ≡ false
-floats-member [] e before here = rw here
-floats-member (x ∷ done) e before here = both (has_float (view x.1)) (members_have_float (members_view done)) before (λ later. floats-member done e later here)
-  where
-    both : (a b : Bool) {c : Bool} → (a || b) ≡ false → (b ≡ false → c ≡ false) → (a || c) ≡ false
-    both true b h next = cc
-    both false b h next = next h
 
 -- ---- objects
 

@@ -1,6 +1,6 @@
 -- The packages that are kept, beside the values that they were read from.
 use Rattle.std.specs.Prelude.{List, [], ◌∷◌, map, string_bytes}
-use Rattle.serde_json.specs.View.{view}
+use Rattle.wesl_borrowed.specs.View.{borrowed_view}
 use Rattle.wesl_bundle.specs.Packages as said
 use Rattle.wesl_bundle.specs.declared.packages.PackageModule.{PackageModule}
 use Rattle.wesl_bundle.specs.declared.packages.PackageModule.TheOpen.{PackageModule-F}
@@ -19,7 +19,7 @@ packages_of (p ∷ ps) = said.package_before p (packages_of ps)
 
 -- a module, with each module below it seen already
 abbrev pub module_step : PackageModule-F said.PackageModule → said.PackageModule
-module_step m = record { name = string_bytes m.name; unit = view m.unit.now; modules = package_modules m.modules.items }
+module_step m = record { name = string_bytes m.name; unit = borrowed_view m.unit; modules = package_modules m.modules.items }
 
 abbrev pub package_module_view : PackageModule → said.PackageModule
 package_module_view = fold-PackageModule said.PackageModule module_step

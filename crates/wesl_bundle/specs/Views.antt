@@ -2,7 +2,7 @@
 use Rattle.std.specs.Prelude.{List, map, option_map, String, string_bytes}
 use Rattle.std.specs.declared.alloc.Global.{Global}
 use Rattle.std.specs.BTreeMap.{BTreeMap}
-use Rattle.serde_json.specs.View.{view}
+use Rattle.wesl_borrowed.specs.View.{borrowed_view}
 use Rattle.wesl_formula.specs.declared.features.Feature.{Feature}
 use Rattle.wesl_formula.specs.declared.features.Features.{Features}
 use Rattle.wesl_names.specs.Path.{path_view}
@@ -16,7 +16,7 @@ use Rattle.wesl_bundle.specs.declared.bundle.BundleModule.{BundleModule}
 use Rattle.wesl_bundle.specs.declared.options.Options.{Options}
 
 abbrev pub module_view : BundleModule → spec.Module
-module_view m = record { path = path_view m.path; unit = view m.unit.now }
+module_view m = record { path = path_view m.path; unit = borrowed_view m.unit }
 
 abbrev pub flag_view : String Global × Feature → said.Flag
 flag_view f = record { named = string_bytes f.0; answer = f.1 }

@@ -1,7 +1,7 @@
 //! The names that a bundle calls built in.
 ghost use Rattle.std.specs.Prelude.{◌≡◌, Some, IfOk, IfErr, map, option_map, string_bytes};
 ghost use Rattle.serde_json.specs.Find.{get, as_str};
-ghost use Rattle.serde_json.specs.View.{view};
+ghost use Rattle.wesl_borrowed.specs.View.{borrowed_view};
 ghost use Rattle.wesl_bundle.specs.Broken.{Locates, LocatesMember};
 ghost use Rattle.wesl_bundle.specs.Builtins.{builtins_in};
 ghost use Rattle.wesl_bundle.specs.Forms.{a_list_of, a_text, optional, some_builtins};
@@ -9,8 +9,8 @@ ghost use Rattle.wesl_bundle.specs.Reading.{list_in, optional_in, or_empty};
 ghost use Rattle.wesl_bundle.specs.Views.{builtins_view};
 
 use crate::members::{BundleError, check_keys, under, under_index, wrong};
-use serde_json::Value;
 use std::alloc::Global;
+use wesl_borrowed::BorrowedValue;
 
 /// The names that are built in, for validation.
 #[derive(Drop)]
@@ -26,11 +26,11 @@ pub struct BuiltinNames {
 // The names at the key, none where it is not there.
 pub(crate) fn builtins_member(
     alloc: Global,
-    value: &Value,
+    value: &BorrowedValue<'_>,
     key: &str,
 ) -> Result<Option<BuiltinNames>, BundleError>
-    ensures ok { IfOk result (λ b. optional_in builtins_in (get key.now (view value.now)) ≡ Some (option_map builtins_view b)) }
-    ensures place { IfErr result (LocatesMember (optional key.now some_builtins) (view value.now)) }
+    ensures ok { IfOk result (λ b. optional_in builtins_in (get key.now (borrowed_view value.now)) ≡ Some (option_map builtins_view b)) }
+    ensures place { IfErr result (LocatesMember (optional key.now some_builtins) (borrowed_view value.now)) }
 {
     let Some(found) = value.get(key) else {
         return Ok(None);
@@ -41,9 +41,9 @@ pub(crate) fn builtins_member(
     }
 }
 
-fn builtins_of(alloc: Global, value: &Value) -> Result<BuiltinNames, BundleError>
-    ensures ok { IfOk result (λ b. builtins_in (view value.now) ≡ Some (builtins_view b)) }
-    ensures place { IfErr result (Locates some_builtins (view value.now)) }
+fn builtins_of(alloc: Global, value: &BorrowedValue<'_>) -> Result<BuiltinNames, BundleError>
+    ensures ok { IfOk result (λ b. builtins_in (borrowed_view value.now) ≡ Some (builtins_view b)) }
+    ensures place { IfErr result (Locates some_builtins (borrowed_view value.now)) }
 {
     check_keys(alloc, value, &["names", "functions", "constructors"])?;
     let names = texts_member(alloc, value, "names")?;
@@ -57,9 +57,13 @@ fn builtins_of(alloc: Global, value: &Value) -> Result<BuiltinNames, BundleError
 }
 
 // The texts at the key, none where it is not there.
-fn texts_member(alloc: Global, value: &Value, key: &str) -> Result<Vec<String>, BundleError>
-    ensures ok { IfOk result (λ v. or_empty as_str (get key.now (view value.now)) ≡ Some (map string_bytes v.items)) }
-    ensures place { IfErr result (LocatesMember (optional key.now (a_list_of a_text)) (view value.now)) }
+fn texts_member(
+    alloc: Global,
+    value: &BorrowedValue<'_>,
+    key: &str,
+) -> Result<Vec<String>, BundleError>
+    ensures ok { IfOk result (λ v. or_empty as_str (get key.now (borrowed_view value.now)) ≡ Some (map string_bytes v.items)) }
+    ensures place { IfErr result (LocatesMember (optional key.now (a_list_of a_text)) (borrowed_view value.now)) }
 {
     let Some(list) = value.get(key) else {
         return Ok(Vec::new(alloc));
@@ -70,9 +74,9 @@ fn texts_member(alloc: Global, value: &Value, key: &str) -> Result<Vec<String>, 
     }
 }
 
-fn texts_of(alloc: Global, value: &Value) -> Result<Vec<String>, BundleError>
-    ensures ok { IfOk result (λ v. list_in as_str (view value.now) ≡ Some (map string_bytes v.items)) }
-    ensures place { IfErr result (Locates (a_list_of a_text) (view value.now)) }
+fn texts_of(alloc: Global, value: &BorrowedValue<'_>) -> Result<Vec<String>, BundleError>
+    ensures ok { IfOk result (λ v. list_in as_str (borrowed_view value.now) ≡ Some (map string_bytes v.items)) }
+    ensures place { IfErr result (Locates (a_list_of a_text) (borrowed_view value.now)) }
 {
     let Some(items) = value.as_array() else {
         return Err(wrong(alloc));
@@ -87,9 +91,9 @@ fn texts_of(alloc: Global, value: &Value) -> Result<Vec<String>, BundleError>
     Ok(texts)
 }
 
-fn text_of(alloc: Global, value: &Value) -> Result<String, BundleError>
-    ensures ok { IfOk result (λ s. as_str (view value.now) ≡ Some (string_bytes s)) }
-    ensures place { IfErr result (Locates a_text (view value.now)) }
+fn text_of(alloc: Global, value: &BorrowedValue<'_>) -> Result<String, BundleError>
+    ensures ok { IfOk result (λ s. as_str (borrowed_view value.now) ≡ Some (string_bytes s)) }
+    ensures place { IfErr result (Locates a_text (borrowed_view value.now)) }
 {
     match value.as_str() {
         Some(text) => Ok(String::from_str(alloc, text)?),

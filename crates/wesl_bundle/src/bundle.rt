@@ -1,7 +1,7 @@
 //! The bundle: the root's path, the names that are kept, and the modules.
 ghost use Rattle.std.specs.Prelude.{◌≡◌, None, Some, IfOk, IfErr, map, string_bytes, false};
 ghost use Rattle.serde_json.specs.Find.{get};
-ghost use Rattle.serde_json.specs.View.{view};
+ghost use Rattle.wesl_borrowed.specs.View.{borrowed_view};
 ghost use Rattle.wesl_names.specs.Path.{path_view, is_relative};
 ghost use Rattle.wesl_bundle.specs.Broken.{IfPlace, Locates, LocatesMember};
 ghost use Rattle.wesl_bundle.specs.Bundle.{module_in, bundle_in, bundle_of};
@@ -17,22 +17,22 @@ use crate::members::{
 };
 use crate::options::{Options, read_options};
 use crate::packages::{Package, packages_member};
-use serde_json::Value;
 use std::alloc::Global;
+use wesl_borrowed::BorrowedValue;
 use wesl_formula::Features;
 use wesl_names::ModulePath;
 
-/// A bundle whose units are not read yet: each is a value within the bundle's.
+/// A bundle whose units are not read yet: of each the value is kept, a copy of that within the bundle's.
 #[derive(Drop)]
-pub struct Bundle<'v> {
+pub struct Bundle<'t> {
     /// The path of the root. It is not relative.
     pub root: ModulePath,
     /// The names of the root that are kept.
     pub keep: Vec<String>,
     /// The modules in order. Of those at one path the last counts.
-    pub modules: Vec<BundleModule<'v>>,
+    pub modules: Vec<BundleModule<'t>>,
     /// The packages in order. Of those with one name the first counts.
-    pub packages: Vec<Package<'v>>,
+    pub packages: Vec<Package<'t>>,
     /// The answers for feature flags. Without them no condition is judged.
     pub features: Option<Features>,
     /// How the modules are linked.
@@ -43,29 +43,29 @@ pub struct Bundle<'v> {
 
 /// A module of a bundle.
 #[derive(Drop)]
-pub struct BundleModule<'v> {
+pub struct BundleModule<'t> {
     /// Where the module is. The path is not relative.
     pub path: ModulePath,
-    /// The value that its unit is read from.
-    pub unit: &'v Value,
+    /// A copy of the value that its unit is read from.
+    pub unit: BorrowedValue<'t>,
 }
 
 /// The bundle that a value is. Refused at a place of the value that breaks the form, and then the value is no bundle,
 /// or for want of memory.
-pub fn read_bundle<'v>(alloc: Global, value: &'v Value) -> Result<Bundle<'v>, BundleError>
-    ensures ok { IfOk result (λ b. bundle_of (view value.now) ≡ Some (bundle_view b)) }
+pub fn read_bundle<'t>(alloc: Global, value: &BorrowedValue<'t>) -> Result<Bundle<'t>, BundleError>
+    ensures ok { IfOk result (λ b. bundle_of (borrowed_view value.now) ≡ Some (bundle_view b)) }
     ensures fixed { IfOk result (λ b. is_relative (path_view b.root) ≡ false) }
-    ensures place { IfErr result (λ e. IfPlace e (IsBrokenBundle (view value.now))) }
-    ensures unread { IfErr result (λ e. IfPlace e (λ _. bundle_of (view value.now) ≡ None)) }
+    ensures place { IfErr result (λ e. IfPlace e (IsBrokenBundle (borrowed_view value.now))) }
+    ensures unread { IfErr result (λ e. IfPlace e (λ _. bundle_of (borrowed_view value.now) ≡ None)) }
 {
     check_whole(alloc, value)?;
     read_members(alloc, value)
 }
 
-fn read_members<'v>(alloc: Global, value: &'v Value) -> Result<Bundle<'v>, BundleError>
-    ensures ok { IfOk result (λ b. bundle_in (view value.now) ≡ Some (bundle_view b)) }
+fn read_members<'t>(alloc: Global, value: &BorrowedValue<'t>) -> Result<Bundle<'t>, BundleError>
+    ensures ok { IfOk result (λ b. bundle_in (borrowed_view value.now) ≡ Some (bundle_view b)) }
     ensures fixed { IfOk result (λ b. is_relative (path_view b.root) ≡ false) }
-    ensures place { IfErr result (Locates a_bundle (view value.now)) }
+    ensures place { IfErr result (Locates a_bundle (borrowed_view value.now)) }
 {
     let known = [
         "root",
@@ -99,9 +99,13 @@ fn read_members<'v>(alloc: Global, value: &'v Value) -> Result<Bundle<'v>, Bundl
 }
 
 // The names at the key, none where it is not there.
-fn names_member(alloc: Global, value: &Value, key: &str) -> Result<Vec<String>, BundleError>
-    ensures ok { IfOk result (λ v. or_empty name_in (get key.now (view value.now)) ≡ Some (map string_bytes v.items)) }
-    ensures place { IfErr result (LocatesMember (optional key.now (a_list_of a_name)) (view value.now)) }
+fn names_member(
+    alloc: Global,
+    value: &BorrowedValue<'_>,
+    key: &str,
+) -> Result<Vec<String>, BundleError>
+    ensures ok { IfOk result (λ v. or_empty name_in (get key.now (borrowed_view value.now)) ≡ Some (map string_bytes v.items)) }
+    ensures place { IfErr result (LocatesMember (optional key.now (a_list_of a_name)) (borrowed_view value.now)) }
 {
     let Some(list) = value.get(key) else {
         return Ok(Vec::new(alloc));
@@ -112,9 +116,9 @@ fn names_member(alloc: Global, value: &Value, key: &str) -> Result<Vec<String>, 
     }
 }
 
-fn names_of(alloc: Global, value: &Value) -> Result<Vec<String>, BundleError>
-    ensures ok { IfOk result (λ v. list_in name_in (view value.now) ≡ Some (map string_bytes v.items)) }
-    ensures place { IfErr result (Locates (a_list_of a_name) (view value.now)) }
+fn names_of(alloc: Global, value: &BorrowedValue<'_>) -> Result<Vec<String>, BundleError>
+    ensures ok { IfOk result (λ v. list_in name_in (borrowed_view value.now) ≡ Some (map string_bytes v.items)) }
+    ensures place { IfErr result (Locates (a_list_of a_name) (borrowed_view value.now)) }
 {
     let Some(items) = value.as_array() else {
         return Err(wrong(alloc));
@@ -130,13 +134,13 @@ fn names_of(alloc: Global, value: &Value) -> Result<Vec<String>, BundleError>
 }
 
 // The modules at the key, none where it is not there.
-fn modules_member<'v>(
+fn modules_member<'t>(
     alloc: Global,
-    value: &'v Value,
+    value: &BorrowedValue<'t>,
     key: &str,
-) -> Result<Vec<BundleModule<'v>>, BundleError>
-    ensures ok { IfOk result (λ ms. or_empty module_in (get key.now (view value.now)) ≡ Some (map module_view ms.items)) }
-    ensures place { IfErr result (LocatesMember (optional key.now (a_list_of a_module)) (view value.now)) }
+) -> Result<Vec<BundleModule<'t>>, BundleError>
+    ensures ok { IfOk result (λ ms. or_empty module_in (get key.now (borrowed_view value.now)) ≡ Some (map module_view ms.items)) }
+    ensures place { IfErr result (LocatesMember (optional key.now (a_list_of a_module)) (borrowed_view value.now)) }
 {
     let Some(list) = value.get(key) else {
         return Ok(Vec::new(alloc));
@@ -147,9 +151,12 @@ fn modules_member<'v>(
     }
 }
 
-fn modules_of<'v>(alloc: Global, value: &'v Value) -> Result<Vec<BundleModule<'v>>, BundleError>
-    ensures ok { IfOk result (λ ms. list_in module_in (view value.now) ≡ Some (map module_view ms.items)) }
-    ensures place { IfErr result (Locates (a_list_of a_module) (view value.now)) }
+fn modules_of<'t>(
+    alloc: Global,
+    value: &BorrowedValue<'t>,
+) -> Result<Vec<BundleModule<'t>>, BundleError>
+    ensures ok { IfOk result (λ ms. list_in module_in (borrowed_view value.now) ≡ Some (map module_view ms.items)) }
+    ensures place { IfErr result (Locates (a_list_of a_module) (borrowed_view value.now)) }
 {
     let Some(items) = value.as_array() else {
         return Err(wrong(alloc));
@@ -164,12 +171,13 @@ fn modules_of<'v>(alloc: Global, value: &'v Value) -> Result<Vec<BundleModule<'v
     Ok(modules)
 }
 
-fn module_of<'v>(alloc: Global, value: &'v Value) -> Result<BundleModule<'v>, BundleError>
-    ensures ok { IfOk result (λ m. module_in (view value.now) ≡ Some (module_view m)) }
-    ensures place { IfErr result (Locates a_module (view value.now)) }
+fn module_of<'t>(alloc: Global, value: &BorrowedValue<'t>) -> Result<BundleModule<'t>, BundleError>
+    ensures ok { IfOk result (λ m. module_in (borrowed_view value.now) ≡ Some (module_view m)) }
+    ensures place { IfErr result (Locates a_module (borrowed_view value.now)) }
 {
     check_keys(alloc, value, &["path", "unit"])?;
     let path = path_member(alloc, value, "path")?;
-    let unit = member(alloc, value, "unit")?;
+    let found = member(alloc, value, "unit")?;
+    let unit = found.try_clone(alloc)?;
     Ok(BundleModule { path, unit })
 }

@@ -1,9 +1,10 @@
 //! The answers for feature flags (WESL, "ConditionalTranslation").
-ghost use Rattle.std.specs.Prelude.{◌≡◌, [], Some, IfOk, IfErr, option_map};
+ghost use Rattle.std.specs.Prelude.{◌≡◌, [], Some, IfOk, IfErr, option_and_then, option_map};
 ghost use Rattle.serde_json.specs.Find.{get};
 ghost use Rattle.serde_json.specs.View.{view};
+ghost use Rattle.wesl_borrowed.specs.View.{borrowed_view};
 ghost use Rattle.wesl_bundle.specs.Broken.{Locates, LocatesMember};
-ghost use Rattle.wesl_bundle.specs.Features.{answer_for, feature_in, features_in, flags_in};
+ghost use Rattle.wesl_bundle.specs.Features.{answer_for, feature_in, feature_of as named_feature, features_in, flags_in};
 ghost use Rattle.wesl_bundle.specs.Forms.{a_feature, an_object_of, optional, some_features};
 ghost use Rattle.wesl_bundle.specs.Reading.{optional_in, or_default};
 ghost use Rattle.wesl_bundle.specs.Views.{features_view, flags_view};
@@ -15,6 +16,7 @@ use crate::members::{BundleError, check_keys, under, wrong};
 use serde_json::Value;
 use std::alloc::Global;
 use std::collections::BTreeMap;
+use wesl_borrowed::{BorrowedValue, value_of_borrowed};
 use wesl_formula::{Feature, Features};
 
 /// What features answer for a flag is what a bundle says for it.
@@ -25,11 +27,11 @@ pub fn law_of_answers(features: &Features)
 // The features at the key, none where it is not there.
 pub(crate) fn features_member(
     alloc: Global,
-    value: &Value,
+    value: &BorrowedValue<'_>,
     key: &str,
 ) -> Result<Option<Features>, BundleError>
-    ensures ok { IfOk result (λ f. optional_in features_in (get key.now (view value.now)) ≡ Some (option_map features_view f)) }
-    ensures place { IfErr result (LocatesMember (optional key.now some_features) (view value.now)) }
+    ensures ok { IfOk result (λ f. optional_in features_in (get key.now (borrowed_view value.now)) ≡ Some (option_map features_view f)) }
+    ensures place { IfErr result (LocatesMember (optional key.now some_features) (borrowed_view value.now)) }
 {
     let Some(found) = value.get(key) else {
         return Ok(None);
@@ -40,9 +42,9 @@ pub(crate) fn features_member(
     }
 }
 
-fn features_of(alloc: Global, value: &Value) -> Result<Features, BundleError>
-    ensures ok { IfOk result (λ f. features_in (view value.now) ≡ Some (features_view f)) }
-    ensures place { IfErr result (Locates some_features (view value.now)) }
+fn features_of(alloc: Global, value: &BorrowedValue<'_>) -> Result<Features, BundleError>
+    ensures ok { IfOk result (λ f. features_in (borrowed_view value.now) ≡ Some (features_view f)) }
+    ensures place { IfErr result (Locates some_features (borrowed_view value.now)) }
 {
     check_keys(alloc, value, &["default", "flags"])?;
     let default = feature_member(alloc, value, "default")?;
@@ -51,9 +53,13 @@ fn features_of(alloc: Global, value: &Value) -> Result<Features, BundleError>
 }
 
 // The answer at the key; where it is not there, flags are disabled.
-fn feature_member(alloc: Global, value: &Value, key: &str) -> Result<Feature, BundleError>
-    ensures ok { IfOk result (λ f. or_default Disable feature_in (get key.now (view value.now)) ≡ Some f) }
-    ensures place { IfErr result (LocatesMember (optional key.now a_feature) (view value.now)) }
+fn feature_member(
+    alloc: Global,
+    value: &BorrowedValue<'_>,
+    key: &str,
+) -> Result<Feature, BundleError>
+    ensures ok { IfOk result (λ f. or_default Disable feature_in (get key.now (borrowed_view value.now)) ≡ Some f) }
+    ensures place { IfErr result (LocatesMember (optional key.now a_feature) (borrowed_view value.now)) }
 {
     let Some(word) = value.get(key) else {
         return Ok(Feature::Disable);
@@ -65,35 +71,62 @@ fn feature_member(alloc: Global, value: &Value, key: &str) -> Result<Feature, Bu
 }
 
 // The answer that a word names.
-fn feature_of(alloc: Global, value: &Value) -> Result<Feature, BundleError>
+fn feature_of(alloc: Global, value: &BorrowedValue<'_>) -> Result<Feature, BundleError>
+    ensures ok { IfOk result (λ f. feature_in (borrowed_view value.now) ≡ Some f) }
+    ensures place { IfErr result (Locates a_feature (borrowed_view value.now)) }
+{
+    feature_named(value.as_str()).ok_or(wrong(alloc))
+}
+
+// The answer that a flag's word names.
+fn answer_of(alloc: Global, value: &Value) -> Result<Feature, BundleError>
     ensures ok { IfOk result (λ f. feature_in (view value.now) ≡ Some f) }
     ensures place { IfErr result (Locates a_feature (view value.now)) }
 {
-    match value.as_str() {
-        Some("enable") => Ok(Feature::Enable),
-        Some("disable") => Ok(Feature::Disable),
-        Some("keep") => Ok(Feature::Keep),
-        Some("error") => Ok(Feature::Error),
-        _ => Err(wrong(alloc)),
+    feature_named(value.as_str()).ok_or(wrong(alloc))
+}
+
+// The answer of this word, where there is one.
+fn feature_named(word: Option<&str>) -> Option<Feature>
+    ensures { result ≡ option_and_then named_feature (option_map (λ s. s.now) word.entry) }
+{
+    match word {
+        Some("enable") => Some(Feature::Enable),
+        Some("disable") => Some(Feature::Disable),
+        Some("keep") => Some(Feature::Keep),
+        Some("error") => Some(Feature::Error),
+        _ => None,
     }
 }
 
 // The flags at the key, none where it is not there.
 fn flags_member(
     alloc: Global,
-    value: &Value,
+    value: &BorrowedValue<'_>,
     key: &str,
 ) -> Result<BTreeMap<String, Feature>, BundleError>
-    ensures ok { IfOk result (λ f. or_default [] flags_in (get key.now (view value.now)) ≡ Some (flags_view f)) }
-    ensures place { IfErr result (LocatesMember (optional key.now (an_object_of a_feature)) (view value.now)) }
+    ensures ok { IfOk result (λ f. or_default [] flags_in (get key.now (borrowed_view value.now)) ≡ Some (flags_view f)) }
+    ensures place { IfErr result (LocatesMember (optional key.now (an_object_of a_feature)) (borrowed_view value.now)) }
 {
     let Some(found) = value.get(key) else {
         return Ok(BTreeMap::new(alloc));
     };
-    match flags_of(alloc, found) {
+    match sorted_flags(alloc, found) {
         Ok(flags) => Ok(flags),
         Err(error) => Err(under(alloc, error, key)),
     }
+}
+
+// Flags stand in the order of their names, and so do the members of a value with texts of its own.
+fn sorted_flags(
+    alloc: Global,
+    value: &BorrowedValue<'_>,
+) -> Result<BTreeMap<String, Feature>, BundleError>
+    ensures ok { IfOk result (λ f. flags_in (borrowed_view value.now) ≡ Some (flags_view f)) }
+    ensures place { IfErr result (Locates (an_object_of a_feature) (borrowed_view value.now)) }
+{
+    let sorted = value_of_borrowed(alloc, value)?;
+    flags_of(alloc, &sorted)
 }
 
 fn flags_of(alloc: Global, value: &Value) -> Result<BTreeMap<String, Feature>, BundleError>
@@ -105,7 +138,7 @@ fn flags_of(alloc: Global, value: &Value) -> Result<BTreeMap<String, Feature>, B
     };
     let mut flags = BTreeMap::new(alloc);
     for (name, word) in members.iter() {
-        match feature_of(alloc, word) {
+        match answer_of(alloc, word) {
             Ok(feature) => {
                 flags.insert(name.clone()?, feature)?;
             }

@@ -3,7 +3,7 @@ ghost use Rattle.std.specs.Prelude.{◌≡◌, ◌∷◌, ◌++◌, [], map, tru
 ghost use Rattle.std.specs.List.{list_any};
 ghost use Rattle.std.specs.Str.{bytes_eq};
 ghost use Rattle.serde_json.specs.Find.{get};
-ghost use Rattle.serde_json.specs.View.{view, members_view};
+ghost use Rattle.wesl_borrowed.specs.View.{borrowed_view};
 ghost use Rattle.wesl_names.specs.Path.{path_view, is_relative};
 ghost use Rattle.wesl_names.specs.PathText.{parse};
 ghost use Rattle.wesl_bundle.specs.declared.members.BundleError.TheVariants.{Memory};
@@ -13,8 +13,8 @@ ghost use Rattle.wesl_bundle.specs.Reading.{name_in, path_in, required_in};
 ghost use Rattle.wesl_pointer.specs.Keys.{all_known, has_only};
 ghost use Rattle.wesl_bundle.specs.Broken.{place_of, IsUnder, Locates, LocatesMember};
 
-use serde_json::Value;
 use std::alloc::{AllocError, AllocFailed, Global};
+use wesl_borrowed::BorrowedValue;
 use wesl_names::{Error, ModulePath};
 
 /// Why a bundle was not read: the place of a fault, as a JSON Pointer (RFC 6901), or want of memory.
@@ -96,9 +96,13 @@ pub(crate) fn under_index(alloc: Global, error: BundleError, index: usize) -> Bu
 }
 
 // An object with no keys but these.
-pub(crate) fn check_keys(alloc: Global, value: &Value, known: &[&str]) -> Result<(), BundleError>
-    ensures ok { OnOk result (has_only (map (λ k. k.now) known.now) (view value.now) ≡ true) }
-    ensures refused { OnErr result (has_only (map (λ k. k.now) known.now) (view value.now) ≡ false) }
+pub(crate) fn check_keys(
+    alloc: Global,
+    value: &BorrowedValue<'_>,
+    known: &[&str],
+) -> Result<(), BundleError>
+    ensures ok { OnOk result (has_only (map (λ k. k.now) known.now) (borrowed_view value.now) ≡ true) }
+    ensures refused { OnErr result (has_only (map (λ k. k.now) known.now) (borrowed_view value.now) ≡ false) }
     ensures place { IfErr result (λ e. place_of e ≡ Some []) }
 {
     if wesl_pointer::has_only(value, known) {
@@ -109,22 +113,22 @@ pub(crate) fn check_keys(alloc: Global, value: &Value, known: &[&str]) -> Result
 }
 
 // The member at the key, which has to be there.
-pub(crate) fn member<'v>(
+pub(crate) fn member<'v, 't>(
     alloc: Global,
-    value: &'v Value,
+    value: &'v BorrowedValue<'t>,
     key: &str,
-) -> Result<&'v Value, BundleError>
-    ensures ok { IfOk result (λ v. get key.now (view value.now) ≡ Some (view v.now)) }
-    ensures refused { OnErr result (get key.now (view value.now) ≡ None) }
+) -> Result<&'v BorrowedValue<'t>, BundleError>
+    ensures ok { IfOk result (λ v. get key.now (borrowed_view value.now) ≡ Some (borrowed_view v.now)) }
+    ensures refused { OnErr result (get key.now (borrowed_view value.now) ≡ None) }
     ensures place { IfErr result (λ e. place_of e ≡ Some []) }
 {
     value.get(key).ok_or(wrong(alloc))
 }
 
 // A nonempty text.
-pub(crate) fn name_of(alloc: Global, value: &Value) -> Result<String, BundleError>
-    ensures ok { IfOk result (λ s. name_in (view value.now) ≡ Some (string_bytes s)) }
-    ensures place { IfErr result (Locates a_name (view value.now)) }
+pub(crate) fn name_of(alloc: Global, value: &BorrowedValue<'_>) -> Result<String, BundleError>
+    ensures ok { IfOk result (λ s. name_in (borrowed_view value.now) ≡ Some (string_bytes s)) }
+    ensures place { IfErr result (Locates a_name (borrowed_view value.now)) }
 {
     match value.as_str() {
         Some(text) if !text.is_empty() => Ok(String::from_str(alloc, text)?),
@@ -133,10 +137,10 @@ pub(crate) fn name_of(alloc: Global, value: &Value) -> Result<String, BundleErro
 }
 
 // The path that a value's text says, unless it is relative.
-fn path_of(alloc: Global, value: &Value) -> Result<ModulePath, BundleError>
-    ensures ok { IfOk result (λ p. path_in (view value.now) ≡ Some (path_view p)) }
+fn path_of(alloc: Global, value: &BorrowedValue<'_>) -> Result<ModulePath, BundleError>
+    ensures ok { IfOk result (λ p. path_in (borrowed_view value.now) ≡ Some (path_view p)) }
     ensures fixed { IfOk result (λ p. is_relative (path_view p) ≡ false) }
-    ensures place { IfErr result (Locates a_path (view value.now)) }
+    ensures place { IfErr result (Locates a_path (borrowed_view value.now)) }
 {
     let Some(text) = value.as_str() else {
         return Err(wrong(alloc));
@@ -163,12 +167,12 @@ fn parsed(alloc: Global, text: &str) -> Result<Option<ModulePath>, BundleError>
 // The path at the key.
 pub(crate) fn path_member(
     alloc: Global,
-    value: &Value,
+    value: &BorrowedValue<'_>,
     key: &str,
 ) -> Result<ModulePath, BundleError>
-    ensures ok { IfOk result (λ p. required_in path_in key.now (view value.now) ≡ Some (path_view p)) }
+    ensures ok { IfOk result (λ p. required_in path_in key.now (borrowed_view value.now) ≡ Some (path_view p)) }
     ensures fixed { IfOk result (λ p. is_relative (path_view p) ≡ false) }
-    ensures place { IfErr result (LocatesMember (required key.now a_path) (view value.now)) }
+    ensures place { IfErr result (LocatesMember (required key.now a_path) (borrowed_view value.now)) }
 {
     let found = member(alloc, value, key)?;
     match path_of(alloc, found) {

@@ -1,7 +1,7 @@
 //! How the modules of a bundle are linked.
 ghost use Rattle.std.specs.Prelude.{◌≡◌, Some, IfOk, IfErr, false};
 ghost use Rattle.serde_json.specs.Find.{get, as_bool};
-ghost use Rattle.serde_json.specs.View.{view};
+ghost use Rattle.wesl_borrowed.specs.View.{borrowed_view};
 ghost use Rattle.wesl_bundle.specs.Bundle.{naming_in, limit_in, options_in};
 ghost use Rattle.wesl_bundle.specs.Forms.{optional, a_mangler, a_truth, a_limit, a_bundle};
 ghost use Rattle.wesl_bundle.specs.Reading.{or_default};
@@ -10,8 +10,8 @@ ghost use Rattle.wesl_bundle.specs.Views.{options_view};
 ghost use Rattle.wesl_bundle.specs.declared.options.Naming.TheVariants.{Escape};
 
 use crate::members::{BundleError, under, wrong};
-use serde_json::Value;
 use std::alloc::Global;
+use wesl_borrowed::BorrowedValue;
 
 /// Which mangler names the items of modules.
 #[derive(Clone, Copy, Drop)]
@@ -38,9 +38,9 @@ pub struct Options {
 }
 
 /// The options of a bundle.
-pub(crate) fn read_options(alloc: Global, value: &Value) -> Result<Options, BundleError>
-    ensures ok { IfOk result (λ o. options_in (view value.now) ≡ Some (options_view o)) }
-    ensures place { IfErr result (Locates a_bundle (view value.now)) }
+pub(crate) fn read_options(alloc: Global, value: &BorrowedValue<'_>) -> Result<Options, BundleError>
+    ensures ok { IfOk result (λ o. options_in (borrowed_view value.now) ≡ Some (options_view o)) }
+    ensures place { IfErr result (Locates a_bundle (borrowed_view value.now)) }
 {
     let mangler = naming_member(alloc, value, "mangler")?;
     let mangle_root = truth_member(alloc, value, "mangle_root")?;
@@ -55,9 +55,9 @@ pub(crate) fn read_options(alloc: Global, value: &Value) -> Result<Options, Bund
 }
 
 // The mangler at the key, the escape form where it is not there.
-fn naming_member(alloc: Global, value: &Value, key: &str) -> Result<Naming, BundleError>
-    ensures ok { IfOk result (λ n. or_default Escape naming_in (get key.now (view value.now)) ≡ Some n) }
-    ensures place { IfErr result (LocatesMember (optional key.now a_mangler) (view value.now)) }
+fn naming_member(alloc: Global, value: &BorrowedValue<'_>, key: &str) -> Result<Naming, BundleError>
+    ensures ok { IfOk result (λ n. or_default Escape naming_in (get key.now (borrowed_view value.now)) ≡ Some n) }
+    ensures place { IfErr result (LocatesMember (optional key.now a_mangler) (borrowed_view value.now)) }
 {
     let Some(word) = value.get(key) else {
         return Ok(Naming::Escape);
@@ -69,9 +69,9 @@ fn naming_member(alloc: Global, value: &Value, key: &str) -> Result<Naming, Bund
 }
 
 // The mangler that a word names.
-fn naming_of(alloc: Global, value: &Value) -> Result<Naming, BundleError>
-    ensures ok { IfOk result (λ n. naming_in (view value.now) ≡ Some n) }
-    ensures place { IfErr result (Locates a_mangler (view value.now)) }
+fn naming_of(alloc: Global, value: &BorrowedValue<'_>) -> Result<Naming, BundleError>
+    ensures ok { IfOk result (λ n. naming_in (borrowed_view value.now) ≡ Some n) }
+    ensures place { IfErr result (Locates a_mangler (borrowed_view value.now)) }
 {
     match value.as_str() {
         Some("escape") => Ok(Naming::Escape),
@@ -82,9 +82,9 @@ fn naming_of(alloc: Global, value: &Value) -> Result<Naming, BundleError>
 }
 
 // The truth value at the key, false where it is not there.
-fn truth_member(alloc: Global, value: &Value, key: &str) -> Result<bool, BundleError>
-    ensures ok { IfOk result (λ b. or_default false as_bool (get key.now (view value.now)) ≡ Some b) }
-    ensures place { IfErr result (LocatesMember (optional key.now a_truth) (view value.now)) }
+fn truth_member(alloc: Global, value: &BorrowedValue<'_>, key: &str) -> Result<bool, BundleError>
+    ensures ok { IfOk result (λ b. or_default false as_bool (get key.now (borrowed_view value.now)) ≡ Some b) }
+    ensures place { IfErr result (LocatesMember (optional key.now a_truth) (borrowed_view value.now)) }
 {
     let Some(found) = value.get(key) else {
         return Ok(false);
@@ -95,17 +95,17 @@ fn truth_member(alloc: Global, value: &Value, key: &str) -> Result<bool, BundleE
     }
 }
 
-fn truth_of(alloc: Global, value: &Value) -> Result<bool, BundleError>
-    ensures ok { IfOk result (λ b. as_bool (view value.now) ≡ Some b) }
-    ensures place { IfErr result (Locates a_truth (view value.now)) }
+fn truth_of(alloc: Global, value: &BorrowedValue<'_>) -> Result<bool, BundleError>
+    ensures ok { IfOk result (λ b. as_bool (borrowed_view value.now) ≡ Some b) }
+    ensures place { IfErr result (Locates a_truth (borrowed_view value.now)) }
 {
     value.as_bool().ok_or(wrong(alloc))
 }
 
 // The number at the key, a thousand where it is not there.
-fn limit_member(alloc: Global, value: &Value, key: &str) -> Result<usize, BundleError>
-    ensures ok { IfOk result (λ n. or_default 1000 limit_in (get key.now (view value.now)) ≡ Some n) }
-    ensures place { IfErr result (LocatesMember (optional key.now a_limit) (view value.now)) }
+fn limit_member(alloc: Global, value: &BorrowedValue<'_>, key: &str) -> Result<usize, BundleError>
+    ensures ok { IfOk result (λ n. or_default 1000 limit_in (get key.now (borrowed_view value.now)) ≡ Some n) }
+    ensures place { IfErr result (LocatesMember (optional key.now a_limit) (borrowed_view value.now)) }
 {
     let Some(found) = value.get(key) else {
         return Ok(1000);
@@ -117,9 +117,9 @@ fn limit_member(alloc: Global, value: &Value, key: &str) -> Result<usize, Bundle
 }
 
 // A whole number of at most 32 bits.
-fn limit_of(alloc: Global, value: &Value) -> Result<usize, BundleError>
-    ensures ok { IfOk result (λ n. limit_in (view value.now) ≡ Some n) }
-    ensures place { IfErr result (Locates a_limit (view value.now)) }
+fn limit_of(alloc: Global, value: &BorrowedValue<'_>) -> Result<usize, BundleError>
+    ensures ok { IfOk result (λ n. limit_in (borrowed_view value.now) ≡ Some n) }
+    ensures place { IfErr result (Locates a_limit (borrowed_view value.now)) }
 {
     match value.as_u64() {
         Some(limit) if limit < 4294967296 => Ok(limit as usize),

@@ -5,8 +5,9 @@ ghost use Rattle.wesl_syntax.specs.Unit.{spelled};
 ghost use Rattle.wesl_tree.specs.Translation.{unit_view};
 ghost use Rattle.wesl_json.specs.UnitTexts.{IsUnreadable, PrintsAs, ReadsAs};
 
-use crate::unit::{unit_of_value, value_of_unit};
-use crate::value_text::{text_of_value, value_of_text};
+use crate::unit::{unit_of_borrowed, value_of_unit};
+use crate::value_text::{borrowed_of_text, text_of_value};
+use json::Scratch;
 use std::alloc::Global;
 use wesl_form_laws::law_of_units;
 use wesl_resolve::UnitText;
@@ -42,8 +43,9 @@ fn unit_of_text(alloc: Global, text: &str) -> Result<TranslationUnit, Error>
     ensures read { IfOk result (λ u. ReadsAs text.now (spelled (unit_view u))) }
     ensures refused { IfErr result (λ e. (e ≡ error.Memory) ⊎ IsUnreadable text.now e) }
 {
-    let value = value_of_text(alloc, text)?;
-    unit_of_value(alloc, &value)
+    let mut scratch = Scratch::new(alloc);
+    let value = borrowed_of_text(alloc, text, &mut scratch)?;
+    unit_of_borrowed(alloc, &value)
 }
 
 // The text of the value that a unit is written as.

@@ -2,6 +2,7 @@
 ghost use Rattle.std.specs.Prelude.{◌≡◌, false, IfErr, IfOk};
 ghost use Rattle.serde_json.specs.View.{view};
 ghost use Rattle.serde_json.specs.Written.{has_float};
+ghost use Rattle.wesl_borrowed.specs.View.{borrowed_view};
 ghost use Rattle.wesl_names.specs.declared.errors.Error as error;
 ghost use Rattle.wesl_syntax.specs.Unit.{spelled};
 ghost use Rattle.wesl_tree.specs.Translation.{unit_view};
@@ -13,6 +14,7 @@ ghost use Rattle.wesl_json.specs.ReadAgain.{OfWritten};
 
 use serde_json::Value;
 use std::alloc::Global;
+use wesl_borrowed::{BorrowedValue, borrowed_of_value};
 use wesl_form_laws::{law_of_units, law_of_whole_values};
 use wesl_tree::{Error, TranslationUnit};
 
@@ -35,6 +37,21 @@ pub fn unit_of_value(alloc: Global, value: &Value) -> Result<TranslationUnit, Er
     ensures reads_back { IfOk result (λ r. OfWritten (view value.now) (λ u. spelled (unit_view r) ≡ u)) }
     ensures only_readable { IfOk result (λ _. OfWritten (view value.now) IsReadable) }
     ensures is_read { IfErr result (λ e. OfWritten (view value.now) (λ u. IsReadable u → e ≡ error.Memory)) }
+{
+    let light = borrowed_of_value(alloc, value)?;
+    unit_of_borrowed(alloc, &light)
+}
+
+/// The unit that a value stands for, read from the value's light form: as `unit_of_value` reads it.
+pub fn unit_of_borrowed(alloc: Global, value: &BorrowedValue<'_>) -> Result<TranslationUnit, Error>
+    ensures unit { IfOk result (λ u. IsUnitOf whole_form (borrowed_view value.now) (unit_view u)) }
+    ensures place { IfErr result (λ e. IfPlace e (IsBrokenUnit whole_form (borrowed_view value.now))) }
+    ensures unread { IfErr result (λ e. IfPlace e (λ _. IsNoUnit whole_form (borrowed_view value.now))) }
+
+    // of the value that a unit was written as
+    ensures reads_back { IfOk result (λ r. OfWritten (borrowed_view value.now) (λ u. spelled (unit_view r) ≡ u)) }
+    ensures only_readable { IfOk result (λ _. OfWritten (borrowed_view value.now) IsReadable) }
+    ensures is_read { IfErr result (λ e. OfWritten (borrowed_view value.now) (λ u. IsReadable u → e ≡ error.Memory)) }
 {
     law_of_units();
     wesl_reading_unit::unit_of_value(alloc, value)

@@ -3,11 +3,15 @@ ghost use Rattle.std.specs.Prelude.{◌≡◌, ◌≤◌, Some, IfOk, IfErr, str
 ghost use Rattle.serde_json.specs.Data.{depth};
 ghost use Rattle.serde_json.specs.Read.{max_depth, read};
 ghost use Rattle.serde_json.specs.View.{view};
+ghost use Rattle.wesl_borrowed.specs.View.{borrowed_view};
 ghost use Rattle.wesl_names.specs.declared.errors.Error as error;
 ghost use Rattle.wesl_json.specs.Texts.{IsNoJson, IsTextOf};
 
+use json::Scratch;
 use serde_json::Value;
 use std::alloc::Global;
+use wesl_borrowed::BorrowedValue;
+use wesl_borrowed_text::{ReadFault, read_borrowed};
 use wesl_names::Error;
 
 /// The value that a text is, as JSON (RFC 8259) with arrays and objects nested at most 127 deep.
@@ -21,6 +25,24 @@ pub fn value_of_text(alloc: Global, text: &str) -> Result<Value, Error>
         Ok(value) => Ok(value),
         Err(error) if error.is_memory() => Err(Error::Memory),
         Err(_) => Err(Error::NotJson),
+    }
+}
+
+/// The same value in its light form: its texts stand in the text, or, where they have escapes, in the scratch.
+///
+/// Refused as `value_of_text` refuses.
+pub fn borrowed_of_text<'a>(
+    alloc: Global,
+    text: &'a str,
+    scratch: &'a mut Scratch,
+) -> Result<BorrowedValue<'a>, Error>
+    ensures value { IfOk result (λ v. read text.now ≡ Some (borrowed_view v)) }
+    ensures refused { IfErr result (IsNoJson text.now) }
+{
+    match read_borrowed(alloc, text, scratch) {
+        Ok(value) => Ok(value),
+        Err(ReadFault::Memory) => Err(Error::Memory),
+        Err(ReadFault::NotJson) => Err(Error::NotJson),
     }
 }
 

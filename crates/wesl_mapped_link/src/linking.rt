@@ -20,7 +20,7 @@ use wesl_cond::Features;
 use wesl_conditional::{condition, link_at};
 use wesl_link::Resolutions;
 use wesl_mangle::Mangler;
-use wesl_resolve::{Preprocessor, Resolver};
+use wesl_resolve::{NoResolver, Preprocessor, Resolver};
 use wesl_source_map::BasicSourceMap;
 use wesl_source_mapper::{Asked, SourceMapper, Start};
 use wesl_tree::{Error, ModulePath, TranslationUnit};
@@ -131,10 +131,10 @@ fn link_through<R: Resolver + Drop, M: Mangler + Drop>(
     }
 }
 
-// What a link found, and the mapper that it asked.
-struct MapperLink<R, M> {
+// What a link found, and the mapper that it asked, whose resolver was let go, with all that it held.
+struct MapperLink<M> {
     resolutions: Resolutions,
-    mapper: SourceMapper<R, M>,
+    mapper: SourceMapper<NoResolver, M>,
 }
 
 // Links by the mapper as a resolver alone: the names that it has recorded stay, and those that its mangler gives.
@@ -145,7 +145,7 @@ fn found<R: Resolver + Drop, M: Mangler + Drop, S: Start>(
     path: &ModulePath,
     mapper: SourceMapper<R, M>,
     max_modules: usize,
-) -> Result<MapperLink<R, M>, Error>
+) -> Result<MapperLink<M>, Error>
     requires ready { R.ready mapper.resolver }
     requires asked { is_relative (path_view path.now) ≡ false }
     requires start { SameItems S.items (items mapper.sourcemap) }
@@ -165,16 +165,36 @@ fn found<R: Resolver + Drop, M: Mangler + Drop, S: Start>(
     match link_at(alloc, keep, is_eager, path, &mut asked, max_modules) {
         Ok(resolutions) => Ok(MapperLink {
             resolutions,
-            mapper: asked.mapper,
+            mapper: without_resolver(asked.mapper),
         }),
         Err(diagnostic) => Err(diagnostic.into_error()),
     }
 }
 
+// The mapper once nothing more is asked of its resolver.
+fn without_resolver<R: Drop, M>(mapper: SourceMapper<R, M>) -> SourceMapper<NoResolver, M>
+    ensures mangler { result.mangler ≡ mapper.mangler }
+    ensures record { result.sourcemap ≡ mapper.sourcemap }
+{
+    let SourceMapper {
+        root,
+        resolver,
+        mangler,
+        sourcemap,
+    } = mapper;
+    drop(resolver);
+    SourceMapper {
+        root,
+        resolver: NoResolver,
+        mangler,
+        sourcemap,
+    }
+}
+
 // The unit of a link under the names of the mapper, which records them.
-fn named<R: Drop, M: Mangler + Drop>(
+fn named<M: Mangler + Drop>(
     alloc: Global,
-    found: MapperLink<R, M>,
+    found: MapperLink<M>,
     mangle_root: bool,
 ) -> Result<Mapped, Error>
     requires sound { IsSound found.resolutions }

@@ -2,14 +2,14 @@
 ghost use Rattle.std.specs.Prelude.{◌≡◌, map};
 ghost use Rattle.std.specs.List.{list_any};
 ghost use Rattle.std.specs.Str.{bytes_eq};
-ghost use Rattle.serde_json.specs.View.{view, members_view};
+ghost use Rattle.wesl_borrowed.specs.View.{borrowed_view, members_view};
 ghost use Rattle.wesl_pointer.specs.Keys.{all_known, has_only};
 
-use serde_json::{Map, Value};
+use wesl_borrowed::{BorrowedValue, Members};
 
 /// Whether a value is an object with no keys but these.
-pub fn has_only(value: &Value, known: &[&str]) -> bool
-    ensures { result ≡ has_only (map (λ k. k.now) known.now) (view value.now) }
+pub fn has_only(value: &BorrowedValue<'_>, known: &[&str]) -> bool
+    ensures { result ≡ has_only (map (λ k. k.now) known.now) (borrowed_view value.now) }
 {
     match value.as_object() {
         Some(members) => all_known(members, known),
@@ -17,11 +17,11 @@ pub fn has_only(value: &Value, known: &[&str]) -> bool
     }
 }
 
-fn all_known(members: &Map<String, Value>, known: &[&str]) -> bool
-    ensures { result ≡ all_known (map (λ k. k.now) known.now) (members_view members.now.entries) }
+fn all_known(members: &Members<'_>, known: &[&str]) -> bool
+    ensures { result ≡ all_known (map (λ k. k.now) known.now) (members_view members.now.items) }
 {
-    for (key, _) in members.iter() {
-        if !is_among(key.as_str(), known) {
+    for member in members {
+        if !is_among(member.0, known) {
             return false;
         }
     }

@@ -1,10 +1,10 @@
 -- The unit at a path, as modules are added.
-use Rattle.std.proofs.Common.{◌≡◌, List, [], ◌∷◌, ◌++◌, Bool, true, false, true≢false, if◌then◌else◌, cond, Option, Some, None, option_map, Bor, refl, sym, ap, ◌∙◌}
+use Rattle.std.proofs.Common.{◌≡◌, List, [], ◌∷◌, ◌++◌, Bool, true, false, true≢false, if◌then◌else◌, cond, Option, Some, None, option_map, refl, sym, ap, ◌∙◌}
 use Rattle.std.specs.Map.{lookup}
 use Rattle.indexmap.specs.IndexMap.{insert_entry}
 use Rattle.serde_json.specs.Data.{Data}
-use Rattle.serde_json.specs.View.{view}
-use Rattle.serde_json.specs.declared.value.Value.{Value}
+use Rattle.wesl_borrowed.specs.View.{borrowed_view}
+use Rattle.wesl_borrowed.specs.declared.value.BorrowedValue.{BorrowedValue}
 use Rattle.wesl_names.specs.Path.{Path, path_view}
 use Rattle.wesl_names.specs.PathLaws.{path_eq}
 use Rattle.wesl_names.specs.PathOrder.{same_path}
@@ -15,16 +15,16 @@ use Rattle.wesl_program.specs.Holds.{Holds, values_of, value_at}
 use Rattle.wesl_program.specs.declared.modules.BundleUnits.{BundleUnits}
 
 abbrev Entry : Type 0
-Entry = ModulePath × Bor Value
+Entry = ModulePath × BorrowedValue
 
 -- ---- the value at a path is the one that the map has
 
-chosen : (b : Bool) (v : Bor Value) (others : Option (Bor Value)) (o : Option Data) → o ≡ option_map (λ x. view x.now) others
-    → (if b then Some (view v.now) else o) ≡ option_map (λ x. view x.now) (cond b (Some v) others)
+chosen : (b : Bool) (v : BorrowedValue) (others : Option BorrowedValue) (o : Option Data) → o ≡ option_map borrowed_view others
+    → (if b then Some (borrowed_view v) else o) ≡ option_map borrowed_view (cond b (Some v) others)
 chosen true v others o h = refl
 chosen false v others o h = h
 
-pub value_at-lookup : (p : ModulePath) (es : List Entry) → value_at (path_view p) (values_of es) ≡ option_map (λ x. view x.now) (lookup (path_eq p) es)
+pub value_at-lookup : (p : ModulePath) (es : List Entry) → value_at (path_view p) (values_of es) ≡ option_map borrowed_view (lookup (path_eq p) es)
 value_at-lookup p [] = refl
 value_at-lookup p (e ∷ es) =
     rw (path_eq-view p e.0) (chosen (same_path (path_view p) (path_view e.0)) e.1 (lookup (path_eq p) es) (value_at (path_view p) (values_of es)) (value_at-lookup p es))
@@ -57,11 +57,11 @@ past-first p q r new old others after true is c_is h =
     rw apart refl
 past-first p q r new old others after false is c_is h = h
 
-either : (p q : Path) (k : ModulePath) (v : Bor Value) (e : Entry) (es fs : List Entry) (b : Bool) → path_view k ≡ p → same_path p (path_view e.0) ≡ b
-    → value_at q (values_of fs) ≡ (if same_path p q then Some (view v.now) else value_at q (values_of es))
-    → value_at q (values_of (if b then (e.0, v) ∷ es else e ∷ fs)) ≡ (if same_path p q then Some (view v.now) else value_at q (values_of (e ∷ es)))
-either p q k v e es fs true is_k is h = over-first p q (path_view e.0) (view v.now) (view e.1.now) (value_at q (values_of es)) (same_path q (path_view e.0)) is refl
-either p q k v e es fs false is_k is h = past-first p q (path_view e.0) (view v.now) (view e.1.now) (value_at q (values_of es)) (value_at q (values_of fs)) (same_path q (path_view e.0)) is refl h
+either : (p q : Path) (k : ModulePath) (v : BorrowedValue) (e : Entry) (es fs : List Entry) (b : Bool) → path_view k ≡ p → same_path p (path_view e.0) ≡ b
+    → value_at q (values_of fs) ≡ (if same_path p q then Some (borrowed_view v) else value_at q (values_of es))
+    → value_at q (values_of (if b then (e.0, v) ∷ es else e ∷ fs)) ≡ (if same_path p q then Some (borrowed_view v) else value_at q (values_of (e ∷ es)))
+either p q k v e es fs true is_k is h = over-first p q (path_view e.0) (borrowed_view v) (borrowed_view e.1) (value_at q (values_of es)) (same_path q (path_view e.0)) is refl
+either p q k v e es fs false is_k is h = past-first p q (path_view e.0) (borrowed_view v) (borrowed_view e.1) (value_at q (values_of es)) (value_at q (values_of fs)) (same_path q (path_view e.0)) is refl h
 
 single : (p q : Path) (d : Data) (c : Bool) → same_path q p ≡ c → (if c then Some d else None) ≡ (if same_path p q then Some d else None)
 single p q d true c_is = rw (itself p q (sym (same q p c_is))) refl
@@ -69,8 +69,8 @@ single p q d false c_is =
     let apart : same_path p q ≡ false = differ (same_path p q) (λ e. true≢false (sym (itself q p (sym (same p q e))) ∙ c_is)) in
     rw apart refl
 
-value_at-insert : (q : Path) (es : List Entry) (k : ModulePath) (v : Bor Value) → value_at q (values_of (insert_entry path_eq es k v)) ≡ (if same_path (path_view k) q then Some (view v.now) else value_at q (values_of es))
-value_at-insert q [] k v = single (path_view k) q (view v.now) (same_path q (path_view k)) refl
+value_at-insert : (q : Path) (es : List Entry) (k : ModulePath) (v : BorrowedValue) → value_at q (values_of (insert_entry path_eq es k v)) ≡ (if same_path (path_view k) q then Some (borrowed_view v) else value_at q (values_of es))
+value_at-insert q [] k v = single (path_view k) q (borrowed_view v) (same_path q (path_view k)) refl
 value_at-insert q (e ∷ es) k v =
     rw (path_eq-view k e.0) (either (path_view k) q k v e es (insert_entry path_eq es k v) (same_path (path_view k) (path_view e.0)) refl refl (value_at-insert q es k v))
 
@@ -93,10 +93,10 @@ over : (b : Bool) (d : Data) (o : Option Data) → (if b then Some d else o) ≡
 over true d o = refl
 over false d o = refl
 
-pub Holds-added : (ms : List Module) (old new : BundleUnits) (k : ModulePath) (v : Bor Value) → new.units.entries ≡ insert_entry path_eq old.units.entries k v → Holds ms old → Holds (ms ++ (record { path = path_view k; unit = view v.now }) ∷ []) new
+pub Holds-added : (ms : List Module) (old new : BundleUnits) (k : ModulePath) (v : BorrowedValue) → new.units.entries ≡ insert_entry path_eq old.units.entries k v → Holds ms old → Holds (ms ++ (record { path = path_view k; unit = borrowed_view v }) ∷ []) new
 Holds-added ms old new k v grown holds = λ q.
     ap (λ es. value_at q (values_of es)) grown
     ∙ value_at-insert q old.units.entries k v
-    ∙ ap (λ o. if same_path (path_view k) q then Some (view v.now) else o) (holds q)
-    ∙ over (same_path (path_view k) q) (view v.now) (unit_at q ms)
-    ∙ sym (unit_at-append q ms (record { path = path_view k; unit = view v.now }))
+    ∙ ap (λ o. if same_path (path_view k) q then Some (borrowed_view v) else o) (holds q)
+    ∙ over (same_path (path_view k) q) (borrowed_view v) (unit_at q ms)
+    ∙ sym (unit_at-append q ms (record { path = path_view k; unit = borrowed_view v }))

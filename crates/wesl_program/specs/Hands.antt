@@ -1,7 +1,6 @@
 -- What the modules of a bundle hand out at a path, and what they refuse.
-use Rattle.std.specs.Prelude.{◌≡◌, Option, Some, None, false, codes}
+use Rattle.std.specs.Prelude.{◌≡◌, Option, Some, None, codes}
 use Rattle.serde_json.specs.Data.{Data}
-use Rattle.serde_json.specs.Written.{has_float, compact_text}
 use Rattle.wesl_syntax.specs.Unit.{UnitOf}
 use Rattle.wesl_names.specs.Path.{Text, Path}
 use Rattle.wesl_names.specs.Errors.{IsModuleNotFound, IsRefusedWith}
@@ -18,20 +17,10 @@ abbrev pub IsRefusedAt : Path → Option Data → ResolveError → Type 0
 IsRefusedAt p None e = IsModuleNotFound p virtual_module e
 IsRefusedAt p (Some d) e = IsRefusedWith (IsTreeFault d) e
 
--- a path that no module has is refused
-abbrev pub IsMissingAt : Path → Option Data → ResolveError → Type 0
-IsMissingAt p None e = IsModuleNotFound p virtual_module e
-IsMissingAt p (Some d) e = ⊥
-
 -- the unit that the value of a module stands for is handed out
 abbrev pub IsHandedAt : Option Data → UnitOf Text → Type 0
 IsHandedAt None u = ⊥
 IsHandedAt (Some d) u = IsSpelled d u
-
--- the source of a module is its value as compact JSON
-abbrev pub IsSourceAt : Option Data → Text → Type 0
-IsSourceAt None text = ⊥
-IsSourceAt (Some d) text = has_float d ≡ false → text ≡ compact_text d
 
 -- the unit at a path in a map
 abbrev pub unit_in : BundleUnits → Path → Option Data

@@ -1,9 +1,8 @@
 -- Which modules a map of units has.
 use Rattle.std.specs.Prelude.{◌≡◌, if◌then◌else◌, Option, Some, None, List, [], ◌∷◌, map}
-use Rattle.std.specs.Borrow.{Bor}
 use Rattle.serde_json.specs.Data.{Data}
-use Rattle.serde_json.specs.View.{view}
-use Rattle.serde_json.specs.declared.value.Value.{Value}
+use Rattle.wesl_borrowed.specs.View.{borrowed_view}
+use Rattle.wesl_borrowed.specs.declared.value.BorrowedValue.{BorrowedValue}
 use Rattle.wesl_names.specs.Path.{Path, path_view}
 use Rattle.wesl_names.specs.PathOrder.{same_path}
 use Rattle.wesl_names.specs.declared.path.ModulePath.{ModulePath}
@@ -11,8 +10,8 @@ use Rattle.wesl_program.specs.Bundle.{Module, unit_at}
 use Rattle.wesl_program.specs.declared.modules.BundleUnits.{BundleUnits}
 
 -- what the entries of a map say
-abbrev pub values_of : List (ModulePath × Bor Value) → List (Path × Data)
-values_of es = map (λ e. (path_view e.0, view e.1.now)) es
+abbrev pub values_of : List (ModulePath × BorrowedValue) → List (Path × Data)
+values_of es = map (λ e. (path_view e.0, borrowed_view e.1)) es
 
 -- the value at a path
 abbrev pub value_at : Path → List (Path × Data) → Option Data

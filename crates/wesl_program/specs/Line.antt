@@ -48,6 +48,10 @@ bad_bundle place = fault (codes "BadBundle") (place ∷ [])
 abbrev pub IsJsonOf : List ℕ → Data → Type 0
 IsJsonOf bytes d = IsUtf8 bytes × (read bytes ≡ Some d)
 
+-- the bytes are JSON of a value that is this bundle
+abbrev pub IsBundleOf : List ℕ → Bundle → Type 0
+IsBundleOf bytes b = (d : Data) × IsJsonOf bytes d × (bundle_of d ≡ Some b)
+
 -- no UTF-8, no JSON, or nested past 127
 abbrev pub IsNotJson : List ℕ → Type 0
 IsNotJson bytes = IsUtf8 bytes → read bytes ≡ None

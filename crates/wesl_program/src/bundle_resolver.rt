@@ -1,44 +1,45 @@
 //! The modules of a bundle, as a resolver: the unit at a path is read only when it is asked for.
-ghost use Rattle.std.specs.Prelude.{◌≡◌, ◌⊎◌, None, IfOk, IfErr, string_bytes};
+ghost use Rattle.std.specs.Prelude.{◌≡◌, ◌⊎◌, None, IfOk, IfErr};
 ghost use Rattle.wesl_names.specs.declared.errors.Error as error;
 ghost use Rattle.wesl_names.specs.Path.{path_view};
 ghost use Rattle.wesl_names.specs.Errors.{IsModuleNotFound, IsRefusedWith, OrMemory};
-ghost use Rattle.serde_json.specs.View.{view};
+ghost use Rattle.wesl_borrowed.specs.View.{borrowed_view};
 ghost use Rattle.wesl_syntax.specs.Unit.{spelled};
 ghost use Rattle.wesl_tree.specs.Translation.{unit_view};
 ghost use Rattle.wesl_json.specs.UnitTexts.{IsSpelled, IsTreeFault};
-ghost use Rattle.wesl_program.specs.Hands.{IsHandedAt, IsMissingAt, IsRefusedAt, IsSourceAt, unit_in, virtual_module};
+ghost use Rattle.wesl_program.specs.Hands.{IsHandedAt, IsRefusedAt, unit_in, virtual_module};
 
 use crate::modules::BundleUnits;
-use serde_json::Value;
 use std::alloc::Global;
-use wesl_json::unit_of_value;
+use wesl_borrowed::BorrowedValue;
+use wesl_json::unit_of_borrowed;
 use wesl_resolve::Resolver;
 use wesl_tree::{Diagnostic, Error, ModulePath, ResolveError, TranslationUnit};
 
-/// The modules of a bundle, each read when it is asked for.
+/// The modules of a bundle, each read when it is asked for. They are virtual: a module of a bundle has no source.
 #[derive(Drop)]
-pub(crate) struct BundleResolver<'b, 'v> {
-    pub(crate) modules: &'b BundleUnits<'v>,
+pub(crate) struct BundleResolver<'t> {
+    pub(crate) modules: BundleUnits<'t>,
 }
 
-impl Resolver for BundleResolver<'_, '_> {
-    ghost use Rattle.wesl_program.specs.Hands.{IsHandedAt, IsMissingAt, IsRefusedAt, IsSourceAt, unit_in};
+impl Resolver for BundleResolver<'_> {
+    ghost use Rattle.wesl_names.specs.Errors.{IsModuleNotFound};
+    ghost use Rattle.wesl_program.specs.Hands.{IsHandedAt, IsRefusedAt, unit_in, virtual_module};
 
     ghost ready = { λ _. Unit {0} };
 
-    ghost hands = { λ r p u. IsHandedAt (unit_in r.modules.now p) u };
+    ghost hands = { λ r p u. IsHandedAt (unit_in r.modules p) u };
 
-    ghost refuses = { λ r p e. IsRefusedAt p (unit_in r.modules.now p) e };
+    ghost refuses = { λ r p e. IsRefusedAt p (unit_in r.modules p) e };
 
-    ghost source = { λ r p text. IsSourceAt (unit_in r.modules.now p) text };
+    ghost source = { λ _ p text. ⊥ };
 
-    ghost lacks = { λ r p e. IsMissingAt p (unit_in r.modules.now p) e };
+    ghost lacks = { λ _ p e. IsModuleNotFound p virtual_module e };
 
     ghost shown = { λ _ p name. name ≡ None };
 
     fn resolve_source(&mut self, alloc: Global, path: &ModulePath) -> Result<String, ResolveError> {
-        source_of_module(alloc, self.modules, path)
+        Err(not_found(alloc, path))
     }
 
     fn resolve_module(
@@ -46,7 +47,7 @@ impl Resolver for BundleResolver<'_, '_> {
         alloc: Global,
         path: &ModulePath,
     ) -> Result<TranslationUnit, ResolveError> {
-        unit_of_module(alloc, self.modules, path)
+        unit_of_module(alloc, &self.modules, path)
     }
 
     fn display_name(
@@ -55,21 +56,6 @@ impl Resolver for BundleResolver<'_, '_> {
         _path: &ModulePath,
     ) -> Result<Option<String>, ResolveError> {
         Ok(None)
-    }
-}
-
-/// The text of the module at a path, which is compact JSON.
-fn source_of_module(
-    alloc: Global,
-    modules: &BundleUnits,
-    path: &ModulePath,
-) -> Result<String, ResolveError>
-    ensures given { IfOk result (λ s. IsSourceAt (unit_in modules.now (path_view path.now)) (string_bytes s)) }
-    ensures refused { IfErr result (OrMemory (IsMissingAt (path_view path.now) (unit_in modules.now (path_view path.now)))) }
-{
-    match modules.unit_at(path) {
-        Some(value) => Ok(value.to_string(alloc)?),
-        None => Err(not_found(alloc, path)),
     }
 }
 
@@ -89,17 +75,17 @@ fn unit_of_module(
 }
 
 // The unit that a value stands for.
-fn tree_of(alloc: Global, value: &Value) -> Result<TranslationUnit, Error>
-    ensures read { IfOk result (λ u. IsSpelled (view value.now) (spelled (unit_view u))) }
-    ensures refused { IfErr result (λ e. (e ≡ error.Memory) ⊎ IsTreeFault (view value.now) e) }
+fn tree_of(alloc: Global, value: &BorrowedValue<'_>) -> Result<TranslationUnit, Error>
+    ensures read { IfOk result (λ u. IsSpelled (borrowed_view value.now) (spelled (unit_view u))) }
+    ensures refused { IfErr result (λ e. (e ≡ error.Memory) ⊎ IsTreeFault (borrowed_view value.now) e) }
 {
-    unit_of_value(alloc, value)
+    unit_of_borrowed(alloc, value)
 }
 
 // The same, its fault as that of a resolver.
-fn read_unit(alloc: Global, value: &Value) -> Result<TranslationUnit, ResolveError>
-    ensures read { IfOk result (λ u. IsSpelled (view value.now) (spelled (unit_view u))) }
-    ensures refused { IfErr result (OrMemory (IsRefusedWith (IsTreeFault (view value.now)))) }
+fn read_unit(alloc: Global, value: &BorrowedValue<'_>) -> Result<TranslationUnit, ResolveError>
+    ensures read { IfOk result (λ u. IsSpelled (borrowed_view value.now) (spelled (unit_view u))) }
+    ensures refused { IfErr result (OrMemory (IsRefusedWith (IsTreeFault (borrowed_view value.now)))) }
 {
     match tree_of(alloc, value) {
         Ok(unit) => Ok(unit),

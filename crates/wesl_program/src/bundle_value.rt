@@ -1,20 +1,45 @@
-//! The bytes of a bundle as a value.
-ghost use Rattle.std.specs.Prelude.{IfOk, IfErr};
-ghost use Rattle.serde_json.specs.View.{view};
-ghost use Rattle.wesl_program.specs.Line.{IsJsonOf, IsRefusal};
+//! The bytes of a bundle, read.
+ghost use Rattle.std.specs.Prelude.{◌≡◌, false, IfOk, IfErr};
+ghost use Rattle.wesl_names.specs.Path.{path_view, is_relative};
+ghost use Rattle.wesl_borrowed.specs.View.{borrowed_view};
+ghost use Rattle.wesl_bundle.specs.Views.{bundle_view};
+ghost use Rattle.wesl_program.specs.Line.{IsBundleOf, IsJsonOf, IsRefusal};
 
-use serde_json::Value;
+use json::Scratch;
 use std::alloc::Global;
+use std::str::from_utf8;
+use wesl_borrowed::BorrowedValue;
+use wesl_bundle::{Bundle, read_bundle};
+use wesl_json::borrowed_of_text;
 use wesl_tree::Error;
 
-/// The value of bytes that are JSON in UTF-8. Refused where they are none, and for want of memory.
-pub fn value_of_bytes(alloc: Global, bytes: &[u8]) -> Result<Value, Error>
-    ensures value { IfOk result (λ v. IsJsonOf bytes.now (view v)) }
+/// The bundle that the bytes are. Its texts stand in the bytes, or, where they have escapes, in the scratch. The value of
+/// the bytes is let go: of it the units of modules are kept, each a copy. Refused where the bytes are no UTF-8, no JSON or
+/// no bundle, and for want of memory.
+pub fn bundle_of_bytes<'t>(
+    alloc: Global,
+    bytes: &'t [u8],
+    scratch: &'t mut Scratch,
+) -> Result<Bundle<'t>, Error>
+    ensures bundle { IfOk result (λ b. IsBundleOf bytes.now (bundle_view b)) }
+    ensures fixed { IfOk result (λ b. is_relative (path_view b.root) ≡ false) }
     ensures refused { IfErr result (IsRefusal bytes.now) }
 {
-    match Value::from_slice(alloc, bytes) {
-        Ok(value) => Ok(value),
-        Err(error) if error.is_memory() => Err(Error::Memory),
+    let value = value_of_bytes(alloc, bytes, scratch)?;
+    Ok(read_bundle(alloc, &value)?)
+}
+
+// The value of bytes that are JSON in UTF-8.
+fn value_of_bytes<'t>(
+    alloc: Global,
+    bytes: &'t [u8],
+    scratch: &'t mut Scratch,
+) -> Result<BorrowedValue<'t>, Error>
+    ensures value { IfOk result (λ v. IsJsonOf bytes.now (borrowed_view v)) }
+    ensures refused { IfErr result (IsRefusal bytes.now) }
+{
+    match from_utf8(bytes) {
+        Ok(text) => borrowed_of_text(alloc, text, scratch),
         Err(_) => Err(Error::NotJson),
     }
 }

@@ -17,7 +17,7 @@ mod text_line;
 mod validity;
 
 pub use answer::{Answer, answer_line};
-pub use bundle_value::value_of_bytes;
+pub use bundle_value::bundle_of_bytes;
 pub use lines::{Line, memory_line, refusal};
 pub use linking::linked;
 pub use streams::{Failures, ReadFault, read_whole, write_whole};

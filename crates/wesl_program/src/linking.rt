@@ -39,7 +39,7 @@ use wesl_source_mapper::SourceMapper;
 use wesl_tree::{Error, ModulePath};
 
 // The modules of a bundle, and its packages.
-type Sources<'b, 'v> = StandardResolver<BundleResolver<'b, 'v>, StoredText>;
+type Sources<'t> = StandardResolver<BundleResolver<'t>, StoredText>;
 
 /// The unit that is linked of a bundle's modules, whether its names clash, and what they stand for. Where the
 /// bundle has built-in names, the unit is validated by them, and refused with the validator's fault.
@@ -83,7 +83,7 @@ fn linked_unit(alloc: Global, bundle: Bundle) -> Result<(Mapped, Option<BuiltinN
         builtins,
     } = bundle;
     let units = modules_of(alloc, modules)?;
-    let sources = sources_of(alloc, &units, packages)?;
+    let sources = sources_of(alloc, units, packages)?;
     let keep = names(alloc, &keep)?;
     match link_recorded(alloc, &keep, root, sources, &features, options) {
         Ok(made) => Ok((made, builtins)),
@@ -120,7 +120,7 @@ fn link_recorded<R: Resolver + Drop>(
 }
 
 // The units of the modules, by their paths.
-fn modules_of<'v>(alloc: Global, listed: Vec<BundleModule<'v>>) -> Result<BundleUnits<'v>, Error>
+fn modules_of<'t>(alloc: Global, listed: Vec<BundleModule<'t>>) -> Result<BundleUnits<'t>, Error>
     ensures held { IfOk result (λ m. Holds (map module_view listed.entry.items) m) }
     ensures refused { IfErr result (λ e. e ≡ error.Memory) }
 {
@@ -133,12 +133,12 @@ fn modules_of<'v>(alloc: Global, listed: Vec<BundleModule<'v>>) -> Result<Bundle
 
 // Looks up a path among the modules, or, where it begins in a named package, in the packages. Of packages of one name the
 // first counts.
-fn sources_of<'b, 'v>(
+fn sources_of<'t>(
     alloc: Global,
-    modules: &'b BundleUnits<'v>,
-    packages: Vec<Package<'v>>,
-) -> Result<Sources<'b, 'v>, Error>
-    ensures local { IfOk result (λ s. s.local.modules.now ≡ modules.now) }
+    modules: BundleUnits<'t>,
+    packages: Vec<Package<'t>>,
+) -> Result<Sources<'t>, Error>
+    ensures local { IfOk result (λ s. s.local.modules ≡ modules.entry) }
     ensures packages { IfOk result (λ s. ArePackagesOf (packages_view packages.entry.items) s.packages.packages.items) }
     ensures refused { IfErr result (λ e. e ≡ error.Memory) }
 {

@@ -1,28 +1,28 @@
 //! The modules of a bundle.
 ghost use Rattle.std.specs.Prelude.{◌≡◌, ◌++◌, ◌∷◌, [], List, IfOk, IfErr, OnOk, option_map};
-ghost use Rattle.serde_json.specs.View.{view};
+ghost use Rattle.wesl_borrowed.specs.View.{borrowed_view};
 ghost use Rattle.wesl_names.specs.Path.{path_view};
 ghost use Rattle.wesl_program.specs.Bundle.{Module};
 ghost use Rattle.wesl_program.specs.Hands.{unit_in};
 ghost use Rattle.wesl_bundle.specs.declared.members.BundleError.TheVariants.{Memory};
 
 use indexmap::IndexMap;
-use serde_json::Value;
 use std::alloc::Global;
+use wesl_borrowed::BorrowedValue;
 use wesl_bundle::BundleError;
 use wesl_tree::ModulePath;
 
 /// The value of the unit at each path, of a path that stands twice the later. No unit is read yet.
 #[derive(Drop)]
-pub(crate) struct BundleUnits<'v> {
-    units: IndexMap<ModulePath, &'v Value>,
+pub(crate) struct BundleUnits<'t> {
+    units: IndexMap<ModulePath, BorrowedValue<'t>>,
 }
 
-impl<'v> BundleUnits<'v> {
+impl<'t> BundleUnits<'t> {
     ghost use Rattle.wesl_program.specs.Holds.{Holds};
 
     /// No modules. It takes no memory.
-    pub(crate) fn new(alloc: Global) -> BundleUnits<'v>
+    pub(crate) fn new(alloc: Global) -> BundleUnits<'t>
         ensures { Holds [] result }
     {
         BundleUnits {
@@ -31,8 +31,12 @@ impl<'v> BundleUnits<'v> {
     }
 
     /// One more module, in the place of the one that was at its path. Refused for want of memory alone.
-    pub(crate) fn add(&mut self, path: ModulePath, unit: &'v Value) -> Result<(), BundleError>
-        ensures added { OnOk result ((ms : List Module) → Holds ms self.old → Holds (ms ++ (record { path = path_view path; unit = view unit.now }) ∷ []) self.new) }
+    pub(crate) fn add(
+        &mut self,
+        path: ModulePath,
+        unit: BorrowedValue<'t>,
+    ) -> Result<(), BundleError>
+        ensures added { OnOk result ((ms : List Module) → Holds ms self.old → Holds (ms ++ (record { path = path_view path; unit = borrowed_view unit.entry }) ∷ []) self.new) }
         ensures refused { IfErr result (λ e. e ≡ Memory) }
     {
         self.units.insert(path, unit)?;
@@ -40,9 +44,9 @@ impl<'v> BundleUnits<'v> {
     }
 
     /// The value of the unit at a path.
-    pub(crate) fn unit_at(&self, path: &ModulePath) -> Option<&'v Value>
-        ensures { option_map (λ v. view v.now) result ≡ unit_in self.now (path_view path.now) }
+    pub(crate) fn unit_at(&self, path: &ModulePath) -> Option<&BorrowedValue<'t>>
+        ensures { option_map (λ v. borrowed_view v.now) result ≡ unit_in self.now (path_view path.now) }
     {
-        self.units.get(path).copied()
+        self.units.get(path)
     }
 }

@@ -1,10 +1,13 @@
 //! The packages of a bundle, their modules as texts.
-ghost use Rattle.std.specs.Prelude.{◌≡◌, IfOk, IfErr};
+ghost use Rattle.std.specs.Prelude.{◌≡◌, IfOk, IfErr, string_bytes};
 ghost use Rattle.wesl_names.specs.declared.errors.Error as error;
+ghost use Rattle.wesl_borrowed.specs.View.{borrowed_view};
+ghost use Rattle.wesl_json.specs.Texts.{IsTextOf};
 ghost use Rattle.wesl_bundle.specs.PackageViews.{package_module_view, package_modules_view, package_view, packages_view};
 ghost use Rattle.wesl_program.specs.PackageTexts.{AreModulesOf, ArePackagesOf, IsModuleOf, IsPackageOf};
 
 use std::alloc::Global;
+use wesl_borrowed::{BorrowedValue, value_of_borrowed};
 use wesl_bundle::{Package, PackageModule};
 use wesl_json::text_of_value;
 use wesl_resolve::{CodegenModule, CodegenPkg};
@@ -48,7 +51,7 @@ fn module_of(alloc: Global, said: PackageModule) -> Result<CodegenModule, Error>
     } = said;
     Ok(CodegenModule {
         name,
-        source: text_of_value(alloc, unit)?,
+        source: text_of(alloc, unit)?,
         submodules: modules_of(alloc, modules)?,
     })
 }
@@ -63,4 +66,13 @@ fn modules_of(alloc: Global, said: Vec<PackageModule>) -> Result<Vec<CodegenModu
         made.push(module_of(alloc, one)?)?;
     }
     Ok(made)
+}
+
+// The text of a value, which is let go.
+fn text_of(alloc: Global, unit: BorrowedValue) -> Result<String, Error>
+    ensures text { IfOk result (λ s. IsTextOf (borrowed_view unit.entry) (string_bytes s)) }
+    ensures refused { IfErr result (λ e. e ≡ error.Memory) }
+{
+    let value = value_of_borrowed(alloc, &unit)?;
+    text_of_value(alloc, &value)
 }

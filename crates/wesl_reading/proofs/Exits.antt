@@ -4,7 +4,7 @@ use Rattle.std.specs.Prelude.{IfOk, IfErr, IsErrAnd, ltb, take, true, None}
 use borrow.Author.Tests.{ltb-true}
 use Rattle.serde_json.specs.Data.{Data, depth}
 use Rattle.serde_json.specs.Find.{as_array, get}
-use Rattle.serde_json.specs.declared.value.Value.{Value}
+use Rattle.wesl_borrowed.specs.declared.value.BorrowedValue.{BorrowedValue}
 use Rattle.wesl_names.specs.Path.{Text}
 use Rattle.wesl_names.specs.declared.errors.Error as error
 use Rattle.wesl_form.specs.Nodes.{whole_form}
@@ -39,7 +39,7 @@ module _ {A : Type 0} (f : A → Tree) (kd : Kind) (m : Name) (d : Data) (a : Li
   pub none_listed : (k : Text) (v : Vec A Global) → get k d ≡ None → v.items ≡ [] → ReadsMany k (list_of kd m) d (listed f kd v) a a
   none_listed k v none empty = subst (λ l. ReadsMany k (list_of kd m) d (branch kd (map f l)) a a) (sym empty) (many-absent k kd m d a none)
 
-  pub none_read : (vs : List Value) (l : List A) → l ≡ [] → AreReadAs (items_read m (take 0 vs)) (depth d) (forest_of (map f l)) a a
+  pub none_read : (vs : List BorrowedValue) (l : List A) → l ≡ [] → AreReadAs (items_read m (take 0 vs)) (depth d) (forest_of (map f l)) a a
   none_read vs l empty = subst (λ l. AreReadAs (items_read m (take 0 vs)) (depth d) (forest_of (map f l)) a a) (sym empty) (items-none m vs (depth d) a)
 
 pub no_list : (kd : Kind) (m : Name) (d : Data) (e : error.Error) → as_array d ≡ None → IsAtRoot e → Locates (list_of kd m) d e

@@ -3,8 +3,8 @@ use Rattle.std.proofs.Common.{◌≡◌, ◌&&◌, Bool, true, false, ℕ, suc, 
 use Rattle.std.proofs.lemmas.List.{take_more, take_all}
 use Rattle.serde_json.specs.Data.{Data, depth}
 use Rattle.serde_json.specs.Find.{as_array}
-use Rattle.serde_json.specs.View.{view, items_view}
-use Rattle.serde_json.specs.declared.value.Value.{Value}
+use Rattle.wesl_borrowed.specs.View.{borrowed_view, items_view}
+use Rattle.wesl_borrowed.specs.declared.value.BorrowedValue.{BorrowedValue}
 use Rattle.wesl_names.specs.Path.{Text}
 use Rattle.wesl_syntax.specs.Tree.{Kind, kind, Tree, Forest, end, tree, before, forest_of, branch, identifiers, respell, respell_label, respell_forest, label_below, forest_below}
 use Rattle.wesl_syntax.specs.Unit.{name_in}
@@ -25,12 +25,12 @@ first_of None rest us h = cc
 first_of (Some x) None us h = cc
 first_of (Some x) (Some xs) us h = (x, xs, refl, refl, cc)
 
-items-then : (read : Data → Option Spelled) (vs : List Value) (v : Value) (us : SpelledForest) (u : Spelled) → items_in read (items_view vs) ≡ Some us → read (view v) ≡ Some u → items_in read (items_view (vs ++ v ∷ [])) ≡ Some (then_tree us u)
+items-then : (read : Data → Option Spelled) (vs : List BorrowedValue) (v : BorrowedValue) (us : SpelledForest) (u : Spelled) → items_in read (items_view vs) ≡ Some us → read (borrowed_view v) ≡ Some u → items_in read (items_view (vs ++ v ∷ [])) ≡ Some (then_tree us u)
 items-then read [] v us u before_it this =
     let none : us ≡ end = cc in
     rw this (ap (λ r. Some (then_tree r u)) (sym none))
 items-then read (w ∷ vs) v us u before_it this =
-    let f = first_of (read (view w)) (items_in read (items_view vs)) us before_it in
+    let f = first_of (read (borrowed_view w)) (items_in read (items_view vs)) us before_it in
     let one = f.2 in
     rw one (rw (items-then read vs v f.1 u f.3 this) (ap (λ r. Some (then_tree r u)) (sym f.4)))
 
@@ -68,11 +68,11 @@ closed-then n (x ∷ ts) t all one =
     let both = and-case (label_below n x.label && forest_below n x.children) (forest_below n (forest_of ts)) all in
     ap (λ y. y && forest_below n (forest_of (ts ++ t ∷ []))) both.0 ∙ closed-then n ts t both.1 one
 
-abbrev pub items_read : Name → List Value → ℕ → Option SpelledForest
+abbrev pub items_read : Name → List BorrowedValue → ℕ → Option SpelledForest
 items_read m vs n = items_in (reading whole_form n (node m)) (items_view vs)
 
 -- one item more
-items-item : (m : Name) (vs : List Value) (v : Value) (least : ℕ) (a b c : List Text) (ts : List Tree) (t : Tree) → depth (view v) < least → AreReadAs (items_read m vs) least (forest_of ts) a b → ReadsForm (node m) (view v) t b c → AreReadAs (items_read m (vs ++ v ∷ [])) least (forest_of (ts ++ t ∷ [])) a c
+items-item : (m : Name) (vs : List BorrowedValue) (v : BorrowedValue) (least : ℕ) (a b c : List Text) (ts : List Tree) (t : Tree) → depth (borrowed_view v) < least → AreReadAs (items_read m vs) least (forest_of ts) a b → ReadsForm (node m) (borrowed_view v) t b c → AreReadAs (items_read m (vs ++ v ∷ [])) least (forest_of (ts ++ t ∷ [])) a c
 items-item m vs v least a b c ts t below earlier this = record {
   spelled = λ n names low later. items-then (reading whole_form n (node m)) vs v _ _ (earlier.spelled n names low (Begins-then b c names this.begins later)) (this.spelled n names (omega arith) later) ∙ ap Some (sym (respell-then (name_in names) ts t));
   numbered = subst (λ is. NumberedFrom (length a) is (length c)) (sym (identifiers-then ts t)) (NumberedFrom-append _ _ _ (identifiers (forest_of ts)) (identifiers (before t end)) earlier.numbered this.numbered);
@@ -86,17 +86,17 @@ map-then f [] x = refl
 map-then f (y ∷ xs) x = ap (λ r. f y ∷ r) (map-then f xs x)
 
 -- a turn of the loop over a list
-pub items-turn : {A : Type 0} (f : A → Tree) (m : Name) (vs : List Value) (i : ℕ) (v : Value) (least : ℕ) (a b c : List Text) (xs grown : List A) (x : A) → i < length vs → v ≡ get_or vs i v → grown ≡ xs ++ x ∷ [] → depth (view v) < least → AreReadAs (items_read m (take i vs)) least (forest_of (map f xs)) a b → ReadsForm (node m) (view v) (f x) b c → AreReadAs (items_read m (take (i + 1) vs)) least (forest_of (map f grown)) a c
+pub items-turn : {A : Type 0} (f : A → Tree) (m : Name) (vs : List BorrowedValue) (i : ℕ) (v : BorrowedValue) (least : ℕ) (a b c : List Text) (xs grown : List A) (x : A) → i < length vs → v ≡ get_or vs i v → grown ≡ xs ++ x ∷ [] → depth (borrowed_view v) < least → AreReadAs (items_read m (take i vs)) least (forest_of (map f xs)) a b → ReadsForm (node m) (borrowed_view v) (f x) b c → AreReadAs (items_read m (take (i + 1) vs)) least (forest_of (map f grown)) a c
 items-turn f m vs i v least a b c xs grown x within here is below earlier this =
     let longer : take (i + 1) vs ≡ take i vs ++ v ∷ [] = take_more vs i v within ∙ ap (λ w. take i vs ++ w ∷ []) (sym here) in
     let all : map f grown ≡ map f xs ++ f x ∷ [] = ap (map f) is ∙ map-then f xs x in
     subst (λ us. AreReadAs (items_read m (take (i + 1) vs)) least (forest_of us) a c) (sym all) (subst (λ ws. AreReadAs (items_read m ws) least (forest_of (map f xs ++ f x ∷ [])) a c) (sym longer) (items-item m (take i vs) v least a b c (map f xs) (f x) below earlier this))
 
 -- before the first turn
-pub items-none : (m : Name) (vs : List Value) (least : ℕ) (a : List Text) → AreReadAs (items_read m (take 0 vs)) least end a a
+pub items-none : (m : Name) (vs : List BorrowedValue) (least : ℕ) (a : List Text) → AreReadAs (items_read m (take 0 vs)) least end a a
 items-none m vs least a = none-read (items_read m (take 0 vs)) least a (λ n. refl)
 
-list-level : (kd : Kind) (m : Name) (d : Data) (vs : List Value) (us : SpelledForest) (n : ℕ) → as_array d ≡ Some (items_view vs) → items_read m vs n ≡ Some us → reading whole_form (suc n) (list_of kd m) d ≡ Some (record { label = kind kd; children = us })
+list-level : (kd : Kind) (m : Name) (d : Data) (vs : List BorrowedValue) (us : SpelledForest) (n : ℕ) → as_array d ≡ Some (items_view vs) → items_read m vs n ≡ Some us → reading whole_form (suc n) (list_of kd m) d ≡ Some (record { label = kind kd; children = us })
 list-level kd m d vs us n is h = ap (λ o. option_map (λ ts. record { label = kind kd; children = ts }) (option_and_then (items_in (reading whole_form n (node m))) o)) is ∙ ap (option_map (λ ts. record { label = kind kd; children = ts })) h
 
 one-up-at : (f : Form) (d : Data) (names : List Text) (t : Tree) (n : ℕ) → suc (depth d) ≤ n → ((k : ℕ) → depth d ≤ k → reading whole_form (suc k) f d ≡ Some (respell (name_in names) t)) → reading whole_form n f d ≡ Some (respell (name_in names) t)
@@ -114,7 +114,7 @@ one-up f d t a b h = record {
 }
 
 -- the loop's end
-pub items-whole : (kd : Kind) (m : Name) (d : Data) (vs : List Value) (i : ℕ) (a b : List Text) (ts : List Tree) → as_array d ≡ Some (items_view vs) → length vs ≤ i → AreReadAs (items_read m (take i vs)) (depth d) (forest_of ts) a b → ReadsForm (list_of kd m) d (branch kd ts) a b
+pub items-whole : (kd : Kind) (m : Name) (d : Data) (vs : List BorrowedValue) (i : ℕ) (a b : List Text) (ts : List Tree) → as_array d ≡ Some (items_view vs) → length vs ≤ i → AreReadAs (items_read m (take i vs)) (depth d) (forest_of ts) a b → ReadsForm (list_of kd m) d (branch kd ts) a b
 items-whole kd m d vs i a b ts is all inside =
     let whole : AreReadAs (items_read m vs) (depth d) (forest_of ts) a b = subst (λ ws. AreReadAs (items_read m ws) (depth d) (forest_of ts) a b) (take_all i vs all) inside in
     let at_level = over (items_read m vs) (λ n. reading whole_form (suc n) (list_of kd m) d) (depth d) (kind kd) (kind kd) (forest_of ts) a b (plain-kind kd) (λ n us low h. list-level kd m d vs us n is h) whole in

@@ -3,8 +3,8 @@ use Rattle.std.proofs.Common.{◌≡◌, ℕ, ◌+◌, ◌<◌, ◌≤◌, List,
 use Rattle.std.proofs.lemmas.List.{take_more, take_all}
 use Rattle.serde_json.specs.Data.{Data}
 use Rattle.serde_json.specs.Find.{at, as_array}
-use Rattle.serde_json.specs.View.{view, items_view}
-use Rattle.serde_json.specs.declared.value.Value.{Value}
+use Rattle.wesl_borrowed.specs.View.{borrowed_view, items_view}
+use Rattle.wesl_borrowed.specs.declared.value.BorrowedValue.{BorrowedValue}
 use Rattle.wesl_names.specs.Path.{Text}
 use Rattle.wesl_names.specs.declared.errors.Error as error
 use Rattle.wesl_syntax.specs.Tree.{text, texts, leaf as leaf_tree}
@@ -19,9 +19,9 @@ use Rattle.wesl_reading.proofs.Places.{further}
 use Rattle.wesl_reading.proofs.Rows.{plain-texts}
 use Rattle.wesl_reading.proofs.Steps.{leaf-reads}
 
-texts-then : (vs : List Value) (v : Value) (ss : List Text) (s : Text) → texts_in name_in (items_view vs) ≡ Some ss → name_in (view v) ≡ Some s → texts_in name_in (items_view (vs ++ v ∷ [])) ≡ Some (ss ++ s ∷ [])
+texts-then : (vs : List BorrowedValue) (v : BorrowedValue) (ss : List Text) (s : Text) → texts_in name_in (items_view vs) ≡ Some ss → name_in (borrowed_view v) ≡ Some s → texts_in name_in (items_view (vs ++ v ∷ [])) ≡ Some (ss ++ s ∷ [])
 texts-then [] v ss s before_it this = let none : ss ≡ [] = cc in rw this (ap (λ r. Some (r ++ s ∷ [])) (sym none))
-texts-then (w ∷ vs) v ss s before_it this = one_more (name_in (view w)) (texts_in name_in (items_view vs)) refl before_it (λ rest h. texts-then vs v rest s h this)
+texts-then (w ∷ vs) v ss s before_it this = one_more (name_in (borrowed_view w)) (texts_in name_in (items_view vs)) refl before_it (λ rest h. texts-then vs v rest s h this)
   where
     one_more : (o : Option Text) (rest : Option (List Text)) → rest ≡ texts_in name_in (items_view vs) → option_and_then (λ x. option_and_then (λ xs. Some (x ∷ xs)) rest) o ≡ Some ss → ((xs : List Text) → texts_in name_in (items_view vs) ≡ Some xs → texts_in name_in (items_view (vs ++ v ∷ [])) ≡ Some (xs ++ s ∷ [])) → option_and_then (λ x. option_and_then (λ xs. Some (x ∷ xs)) (texts_in name_in (items_view (vs ++ v ∷ [])))) o ≡ Some (ss ++ s ∷ [])
     one_more None rest is h later = cc
@@ -33,12 +33,12 @@ map-then f [] x = refl
 map-then f (y ∷ xs) x = ap (λ r. f y ∷ r) (map-then f xs x)
 
 -- a turn of the loop over names
-pub names-turn : (vs : List Value) (i : ℕ) (v : Value) (xs grown : List (String Global)) (x : String Global) → i < length vs → v ≡ get_or vs i v → grown ≡ xs ++ x ∷ [] → texts_in name_in (items_view (take i vs)) ≡ Some (map string_bytes xs) → name_in (view v) ≡ Some (string_bytes x) → texts_in name_in (items_view (take (i + 1) vs)) ≡ Some (map string_bytes grown)
+pub names-turn : (vs : List BorrowedValue) (i : ℕ) (v : BorrowedValue) (xs grown : List (String Global)) (x : String Global) → i < length vs → v ≡ get_or vs i v → grown ≡ xs ++ x ∷ [] → texts_in name_in (items_view (take i vs)) ≡ Some (map string_bytes xs) → name_in (borrowed_view v) ≡ Some (string_bytes x) → texts_in name_in (items_view (take (i + 1) vs)) ≡ Some (map string_bytes grown)
 names-turn vs i v xs grown x within here is earlier this =
     let longer : take (i + 1) vs ≡ take i vs ++ v ∷ [] = take_more vs i v within ∙ ap (λ w. take i vs ++ w ∷ []) (sym here) in
     ap (λ ws. texts_in name_in (items_view ws)) longer ∙ texts-then (take i vs) v (map string_bytes xs) (string_bytes x) earlier this ∙ ap Some (sym (map-then string_bytes xs x)) ∙ ap (λ ys. Some (map string_bytes ys)) (sym is)
 
-pub names-whole : (d : Data) (vs : List Value) (i : ℕ) (xs : List (String Global)) (names : List Text) → as_array d ≡ Some (items_view vs) → length vs ≤ i → texts_in name_in (items_view (take i vs)) ≡ Some (map string_bytes xs) → Reads (leaf some_names) d (leaf_tree (texts (map string_bytes xs))) names names
+pub names-whole : (d : Data) (vs : List BorrowedValue) (i : ℕ) (xs : List (String Global)) (names : List Text) → as_array d ≡ Some (items_view vs) → length vs ≤ i → texts_in name_in (items_view (take i vs)) ≡ Some (map string_bytes xs) → Reads (leaf some_names) d (leaf_tree (texts (map string_bytes xs))) names names
 names-whole d vs i xs names is all inside =
     let found : list_in name_in d ≡ Some (map string_bytes xs) = ap (option_and_then (texts_in name_in)) is ∙ ap (λ ws. texts_in name_in (items_view ws)) (sym (take_all i vs all)) ∙ inside in
     leaf-reads (list_in name_in) some_names texts d (map string_bytes xs) (texts (map string_bytes xs)) names (λ v. refl) (plain-texts (map string_bytes xs)) found

@@ -1,7 +1,7 @@
 //! Reading attributes.
 ghost use Rattle.std.specs.Prelude.{◌≡◌, [], ◌∷◌, List, ℕ, MatchOption, None, Some, IfOk, IfErr, codes};
 ghost use Rattle.serde_json.specs.Find.{as_str};
-ghost use Rattle.serde_json.specs.View.{view};
+ghost use Rattle.wesl_borrowed.specs.View.{borrowed_view};
 ghost use Rattle.wesl_syntax.specs.Tree.{Kind, attribute_node, attributes as attributes_kind, branch, kind};
 ghost use Rattle.wesl_syntax.specs.View.{attribute_view, attributes_tree, expression_tree, placed};
 ghost use Rattle.wesl_form.specs.Schema.{an_attribute, list_of, look, node as node_form};
@@ -15,8 +15,8 @@ use crate::fields::{check_keys, name_member, required, text_member, under, under
 use crate::names::names_member;
 use crate::numbering::Numbering;
 use crate::words::{AttributeWord, OperandWord, attribute_word};
-use serde_json::Value;
 use std::alloc::Global;
+use wesl_borrowed::BorrowedValue;
 use wesl_names::Error;
 use wesl_syntax::{Attribute, AttributeNode, Attributes, ExpressionNode};
 
@@ -24,11 +24,11 @@ use wesl_syntax::{Attribute, AttributeNode, Attributes, ExpressionNode};
 pub fn attributes_member(
     alloc: Global,
     numbering: &mut Numbering,
-    value: &Value,
+    value: &BorrowedValue<'_>,
     key: &str,
 ) -> Result<Attributes, Error>
-    ensures ok { IfOk result (λ e. ReadsMany key.now (list_of attributes_kind an_attribute) (view value.now) (attributes_tree e) numbering.old numbering.new) }
-    ensures place { IfErr result (LocatesInside key.now (list_of attributes_kind an_attribute) (view value.now)) }
+    ensures ok { IfOk result (λ e. ReadsMany key.now (list_of attributes_kind an_attribute) (borrowed_view value.now) (attributes_tree e) numbering.old numbering.new) }
+    ensures place { IfErr result (LocatesInside key.now (list_of attributes_kind an_attribute) (borrowed_view value.now)) }
 {
     let Some(member) = value.get(key) else {
         return Ok(Vec::new(alloc));
@@ -42,10 +42,10 @@ pub fn attributes_member(
 fn read_attributes(
     alloc: Global,
     numbering: &mut Numbering,
-    value: &Value,
+    value: &BorrowedValue<'_>,
 ) -> Result<Attributes, Error>
-    ensures ok { IfOk result (λ e. Reads (list_of attributes_kind an_attribute) (view value.now) (attributes_tree e) numbering.old numbering.new) }
-    ensures place { IfErr result (Locates (list_of attributes_kind an_attribute) (view value.now)) }
+    ensures ok { IfOk result (λ e. Reads (list_of attributes_kind an_attribute) (borrowed_view value.now) (attributes_tree e) numbering.old numbering.new) }
+    ensures place { IfErr result (Locates (list_of attributes_kind an_attribute) (borrowed_view value.now)) }
 {
     let Some(items) = value.as_array() else {
         return Err(wrong(alloc));
@@ -63,10 +63,10 @@ fn read_attributes(
 fn read_attribute(
     alloc: Global,
     numbering: &mut Numbering,
-    value: &Value,
+    value: &BorrowedValue<'_>,
 ) -> Result<AttributeNode, Error>
-    ensures ok { IfOk result (λ e. Reads (node_form an_attribute) (view value.now) (placed attribute_view attribute_node e) numbering.old numbering.new) }
-    ensures place { IfErr result (Locates (node_form an_attribute) (view value.now)) }
+    ensures ok { IfOk result (λ e. Reads (node_form an_attribute) (borrowed_view value.now) (placed attribute_view attribute_node e) numbering.old numbering.new) }
+    ensures place { IfErr result (Locates (node_form an_attribute) (borrowed_view value.now)) }
 {
     if let Some(text) = value.as_str() {
         return match plain_attribute(text) {
@@ -118,10 +118,10 @@ fn attribute_of(word: OperandWord, operand: ExpressionNode) -> Attribute
 }
 
 // The word at `k`, of a value that is no text.
-fn attribute_word_of(alloc: Global, value: &Value) -> Result<AttributeWord, Error>
-    requires { as_str (view value.now) ≡ None }
-    ensures word { IfOk result (λ w. HasWord (attribute_text w) (view value.now)) }
-    ensures place { IfErr result (Locates (node_form an_attribute) (view value.now)) }
+fn attribute_word_of(alloc: Global, value: &BorrowedValue<'_>) -> Result<AttributeWord, Error>
+    requires { as_str (borrowed_view value.now) ≡ None }
+    ensures word { IfOk result (λ w. HasWord (attribute_text w) (borrowed_view value.now)) }
+    ensures place { IfErr result (Locates (node_form an_attribute) (borrowed_view value.now)) }
 {
     let word = required(alloc, value, "k")?;
     match word.as_str().and_then(attribute_word) {
@@ -133,12 +133,12 @@ fn attribute_word_of(alloc: Global, value: &Value) -> Result<AttributeWord, Erro
 fn read_operand(
     alloc: Global,
     numbering: &mut Numbering,
-    value: &Value,
+    value: &BorrowedValue<'_>,
     word: OperandWord,
 ) -> Result<AttributeNode, Error>
-    requires { HasWord (operand_text word) (view value.now) }
-    ensures ok { IfOk result (λ e. Reads (node_form an_attribute) (view value.now) (placed attribute_view attribute_node e) numbering.old numbering.new) }
-    ensures place { IfErr result (Locates (node_form an_attribute) (view value.now)) }
+    requires { HasWord (operand_text word) (borrowed_view value.now) }
+    ensures ok { IfOk result (λ e. Reads (node_form an_attribute) (borrowed_view value.now) (placed attribute_view attribute_node e) numbering.old numbering.new) }
+    ensures place { IfErr result (Locates (node_form an_attribute) (borrowed_view value.now)) }
 {
     check_keys(alloc, value, &["k", "expr"])?;
     let operand = expression_member(alloc, numbering, value, "expr")?;
@@ -148,11 +148,11 @@ fn read_operand(
 fn read_workgroup_size(
     alloc: Global,
     numbering: &mut Numbering,
-    value: &Value,
+    value: &BorrowedValue<'_>,
 ) -> Result<AttributeNode, Error>
-    requires { HasWord (codes "workgroup_size") (view value.now) }
-    ensures ok { IfOk result (λ e. Reads (node_form an_attribute) (view value.now) (placed attribute_view attribute_node e) numbering.old numbering.new) }
-    ensures place { IfErr result (Locates (node_form an_attribute) (view value.now)) }
+    requires { HasWord (codes "workgroup_size") (borrowed_view value.now) }
+    ensures ok { IfOk result (λ e. Reads (node_form an_attribute) (borrowed_view value.now) (placed attribute_view attribute_node e) numbering.old numbering.new) }
+    ensures place { IfErr result (Locates (node_form an_attribute) (borrowed_view value.now)) }
 {
     check_keys(alloc, value, &["k", "x", "y", "z"])?;
     let x = expression_member(alloc, numbering, value, "x")?;
@@ -161,20 +161,20 @@ fn read_workgroup_size(
     Ok(unplaced(Attribute::WorkgroupSize { x, y, z }))
 }
 
-fn read_builtin(alloc: Global, value: &Value) -> Result<AttributeNode, Error>
-    requires { HasWord (codes "builtin") (view value.now) }
-    ensures ok { IfOk result (λ e. (names : List (List ℕ)) → Reads (node_form an_attribute) (view value.now) (placed attribute_view attribute_node e) names names) }
-    ensures place { IfErr result (Locates (node_form an_attribute) (view value.now)) }
+fn read_builtin(alloc: Global, value: &BorrowedValue<'_>) -> Result<AttributeNode, Error>
+    requires { HasWord (codes "builtin") (borrowed_view value.now) }
+    ensures ok { IfOk result (λ e. (names : List (List ℕ)) → Reads (node_form an_attribute) (borrowed_view value.now) (placed attribute_view attribute_node e) names names) }
+    ensures place { IfErr result (Locates (node_form an_attribute) (borrowed_view value.now)) }
 {
     check_keys(alloc, value, &["k", "name"])?;
     let name = String::from_str(alloc, name_member(alloc, value, "name")?)?;
     Ok(unplaced(Attribute::Builtin(name)))
 }
 
-fn read_diagnostic(alloc: Global, value: &Value) -> Result<AttributeNode, Error>
-    requires { HasWord (codes "diagnostic") (view value.now) }
-    ensures ok { IfOk result (λ e. (names : List (List ℕ)) → Reads (node_form an_attribute) (view value.now) (placed attribute_view attribute_node e) names names) }
-    ensures place { IfErr result (Locates (node_form an_attribute) (view value.now)) }
+fn read_diagnostic(alloc: Global, value: &BorrowedValue<'_>) -> Result<AttributeNode, Error>
+    requires { HasWord (codes "diagnostic") (borrowed_view value.now) }
+    ensures ok { IfOk result (λ e. (names : List (List ℕ)) → Reads (node_form an_attribute) (borrowed_view value.now) (placed attribute_view attribute_node e) names names) }
+    ensures place { IfErr result (Locates (node_form an_attribute) (borrowed_view value.now)) }
 {
     check_keys(alloc, value, &["k", "severity", "rule"])?;
     let severity = String::from_str(alloc, text_member(alloc, value, "severity")?)?;
@@ -185,11 +185,11 @@ fn read_diagnostic(alloc: Global, value: &Value) -> Result<AttributeNode, Error>
 fn read_custom(
     alloc: Global,
     numbering: &mut Numbering,
-    value: &Value,
+    value: &BorrowedValue<'_>,
 ) -> Result<AttributeNode, Error>
-    requires { HasWord (codes "custom") (view value.now) }
-    ensures ok { IfOk result (λ e. Reads (node_form an_attribute) (view value.now) (placed attribute_view attribute_node e) numbering.old numbering.new) }
-    ensures place { IfErr result (Locates (node_form an_attribute) (view value.now)) }
+    requires { HasWord (codes "custom") (borrowed_view value.now) }
+    ensures ok { IfOk result (λ e. Reads (node_form an_attribute) (borrowed_view value.now) (placed attribute_view attribute_node e) numbering.old numbering.new) }
+    ensures place { IfErr result (Locates (node_form an_attribute) (borrowed_view value.now)) }
 {
     check_keys(alloc, value, &["k", "name", "args"])?;
     let name = String::from_str(alloc, name_member(alloc, value, "name")?)?;
@@ -197,10 +197,10 @@ fn read_custom(
     Ok(unplaced(Attribute::Custom { name, arguments }))
 }
 
-fn read_interpolate(alloc: Global, value: &Value) -> Result<AttributeNode, Error>
-    requires { HasWord (codes "interpolate") (view value.now) }
-    ensures ok { IfOk result (λ e. (names : List (List ℕ)) → Reads (node_form an_attribute) (view value.now) (placed attribute_view attribute_node e) names names) }
-    ensures place { IfErr result (Locates (node_form an_attribute) (view value.now)) }
+fn read_interpolate(alloc: Global, value: &BorrowedValue<'_>) -> Result<AttributeNode, Error>
+    requires { HasWord (codes "interpolate") (borrowed_view value.now) }
+    ensures ok { IfOk result (λ e. (names : List (List ℕ)) → Reads (node_form an_attribute) (borrowed_view value.now) (placed attribute_view attribute_node e) names names) }
+    ensures place { IfErr result (Locates (node_form an_attribute) (borrowed_view value.now)) }
 {
     check_keys(alloc, value, &["k", "names"])?;
     let names = names_member(alloc, value, "names")?;

@@ -1,7 +1,7 @@
 //! Reading expressions and types.
 ghost use Rattle.std.specs.Prelude.{◌≡◌, List, [], ℕ, Some, None, IfOk, IfErr, codes, is_some, true};
 ghost use Rattle.serde_json.specs.Find.{as_object, get};
-ghost use Rattle.serde_json.specs.View.{view};
+ghost use Rattle.wesl_borrowed.specs.View.{borrowed_view};
 ghost use Rattle.wesl_syntax.specs.Tree.{list};
 ghost use Rattle.wesl_syntax.specs.View.{argument_view, call_view, expression_tree, listed, optional as option_view, path_tree, type_view};
 ghost use Rattle.wesl_form.specs.Schema.{a_call, a_path, a_template_argument, a_type, an_expression, leaf, list_of, node as node_form};
@@ -16,8 +16,8 @@ use crate::numbering::Numbering;
 use crate::words::{
     ExpressionWord, binary_operator_member, expression_word, unary_operator_member,
 };
-use serde_json::Value;
 use std::alloc::Global;
+use wesl_borrowed::BorrowedValue;
 use wesl_names::{Error, ModulePath, Span};
 use wesl_syntax::{
     Expression, ExpressionNode, FunctionCall, Literal, Spanned, TemplateArg, TypeExpression,
@@ -38,10 +38,10 @@ pub fn unplaced<T>(node: T) -> Spanned<T>
 pub fn read_expression(
     alloc: Global,
     numbering: &mut Numbering,
-    value: &Value,
+    value: &BorrowedValue<'_>,
 ) -> Result<ExpressionNode, Error>
-    ensures ok { IfOk result (λ e. Reads (node_form an_expression) (view value.now) (expression_tree e) numbering.old numbering.new) }
-    ensures place { IfErr result (Locates (node_form an_expression) (view value.now)) }
+    ensures ok { IfOk result (λ e. Reads (node_form an_expression) (borrowed_view value.now) (expression_tree e) numbering.old numbering.new) }
+    ensures place { IfErr result (Locates (node_form an_expression) (borrowed_view value.now)) }
 {
     if let Some(truth) = value.as_bool() {
         return Ok(unplaced(Expression::Literal(Literal::Bool(truth))));
@@ -57,11 +57,11 @@ pub fn read_expression(
 fn read_expression_object(
     alloc: Global,
     numbering: &mut Numbering,
-    value: &Value,
+    value: &BorrowedValue<'_>,
 ) -> Result<ExpressionNode, Error>
-    requires { is_some (as_object (view value.now)) ≡ true }
-    ensures ok { IfOk result (λ e. Reads (node_form an_expression) (view value.now) (expression_tree e) numbering.old numbering.new) }
-    ensures place { IfErr result (Locates (node_form an_expression) (view value.now)) }
+    requires { is_some (as_object (borrowed_view value.now)) ≡ true }
+    ensures ok { IfOk result (λ e. Reads (node_form an_expression) (borrowed_view value.now) (expression_tree e) numbering.old numbering.new) }
+    ensures place { IfErr result (Locates (node_form an_expression) (borrowed_view value.now)) }
 {
     match expression_word_of(alloc, value)? {
         Some(ExpressionWord::Literal) => read_literal(alloc, value),
@@ -76,10 +76,13 @@ fn read_expression_object(
 }
 
 // The word at `k`; without one the object is a type or an identifier.
-fn expression_word_of(alloc: Global, value: &Value) -> Result<Option<ExpressionWord>, Error>
-    requires { is_some (as_object (view value.now)) ≡ true }
-    ensures word { IfOk result (λ w. HasExpressionWord w (view value.now)) }
-    ensures place { IfErr result (Locates (node_form an_expression) (view value.now)) }
+fn expression_word_of(
+    alloc: Global,
+    value: &BorrowedValue<'_>,
+) -> Result<Option<ExpressionWord>, Error>
+    requires { is_some (as_object (borrowed_view value.now)) ≡ true }
+    ensures word { IfOk result (λ w. HasExpressionWord w (borrowed_view value.now)) }
+    ensures place { IfErr result (Locates (node_form an_expression) (borrowed_view value.now)) }
 {
     let Some(word) = value.get("k") else {
         return Ok(None);
@@ -90,10 +93,10 @@ fn expression_word_of(alloc: Global, value: &Value) -> Result<Option<ExpressionW
     }
 }
 
-fn read_literal(alloc: Global, value: &Value) -> Result<ExpressionNode, Error>
-    requires { HasWord (codes "lit") (view value.now) }
-    ensures ok { IfOk result (λ e. (names : List (List ℕ)) → Reads (node_form an_expression) (view value.now) (expression_tree e) names names) }
-    ensures place { IfErr result (Locates (node_form an_expression) (view value.now)) }
+fn read_literal(alloc: Global, value: &BorrowedValue<'_>) -> Result<ExpressionNode, Error>
+    requires { HasWord (codes "lit") (borrowed_view value.now) }
+    ensures ok { IfOk result (λ e. (names : List (List ℕ)) → Reads (node_form an_expression) (borrowed_view value.now) (expression_tree e) names names) }
+    ensures place { IfErr result (Locates (node_form an_expression) (borrowed_view value.now)) }
 {
     check_keys(alloc, value, &["k", "text"])?;
     let text = literal_member(alloc, value, "text")?;
@@ -105,11 +108,11 @@ fn read_literal(alloc: Global, value: &Value) -> Result<ExpressionNode, Error>
 fn read_parenthesized(
     alloc: Global,
     numbering: &mut Numbering,
-    value: &Value,
+    value: &BorrowedValue<'_>,
 ) -> Result<ExpressionNode, Error>
-    requires { HasWord (codes "paren") (view value.now) }
-    ensures ok { IfOk result (λ e. Reads (node_form an_expression) (view value.now) (expression_tree e) numbering.old numbering.new) }
-    ensures place { IfErr result (Locates (node_form an_expression) (view value.now)) }
+    requires { HasWord (codes "paren") (borrowed_view value.now) }
+    ensures ok { IfOk result (λ e. Reads (node_form an_expression) (borrowed_view value.now) (expression_tree e) numbering.old numbering.new) }
+    ensures place { IfErr result (Locates (node_form an_expression) (borrowed_view value.now)) }
 {
     check_keys(alloc, value, &["k", "expr"])?;
     let expression = Box::new(alloc, expression_member(alloc, numbering, value, "expr")?)?;
@@ -120,11 +123,11 @@ fn read_parenthesized(
 fn read_component(
     alloc: Global,
     numbering: &mut Numbering,
-    value: &Value,
+    value: &BorrowedValue<'_>,
 ) -> Result<ExpressionNode, Error>
-    requires { HasWord (codes "field") (view value.now) }
-    ensures ok { IfOk result (λ e. Reads (node_form an_expression) (view value.now) (expression_tree e) numbering.old numbering.new) }
-    ensures place { IfErr result (Locates (node_form an_expression) (view value.now)) }
+    requires { HasWord (codes "field") (borrowed_view value.now) }
+    ensures ok { IfOk result (λ e. Reads (node_form an_expression) (borrowed_view value.now) (expression_tree e) numbering.old numbering.new) }
+    ensures place { IfErr result (Locates (node_form an_expression) (borrowed_view value.now)) }
 {
     check_keys(alloc, value, &["k", "base", "name"])?;
     let base = Box::new(alloc, expression_member(alloc, numbering, value, "base")?)?;
@@ -136,11 +139,11 @@ fn read_component(
 fn read_indexing(
     alloc: Global,
     numbering: &mut Numbering,
-    value: &Value,
+    value: &BorrowedValue<'_>,
 ) -> Result<ExpressionNode, Error>
-    requires { HasWord (codes "index") (view value.now) }
-    ensures ok { IfOk result (λ e. Reads (node_form an_expression) (view value.now) (expression_tree e) numbering.old numbering.new) }
-    ensures place { IfErr result (Locates (node_form an_expression) (view value.now)) }
+    requires { HasWord (codes "index") (borrowed_view value.now) }
+    ensures ok { IfOk result (λ e. Reads (node_form an_expression) (borrowed_view value.now) (expression_tree e) numbering.old numbering.new) }
+    ensures place { IfErr result (Locates (node_form an_expression) (borrowed_view value.now)) }
 {
     check_keys(alloc, value, &["k", "base", "index"])?;
     let base = Box::new(alloc, expression_member(alloc, numbering, value, "base")?)?;
@@ -152,11 +155,11 @@ fn read_indexing(
 fn read_unary(
     alloc: Global,
     numbering: &mut Numbering,
-    value: &Value,
+    value: &BorrowedValue<'_>,
 ) -> Result<ExpressionNode, Error>
-    requires { HasWord (codes "unary") (view value.now) }
-    ensures ok { IfOk result (λ e. Reads (node_form an_expression) (view value.now) (expression_tree e) numbering.old numbering.new) }
-    ensures place { IfErr result (Locates (node_form an_expression) (view value.now)) }
+    requires { HasWord (codes "unary") (borrowed_view value.now) }
+    ensures ok { IfOk result (λ e. Reads (node_form an_expression) (borrowed_view value.now) (expression_tree e) numbering.old numbering.new) }
+    ensures place { IfErr result (Locates (node_form an_expression) (borrowed_view value.now)) }
 {
     check_keys(alloc, value, &["k", "op", "expr"])?;
     let operator = unary_operator_member(alloc, value)?;
@@ -168,11 +171,11 @@ fn read_unary(
 fn read_binary(
     alloc: Global,
     numbering: &mut Numbering,
-    value: &Value,
+    value: &BorrowedValue<'_>,
 ) -> Result<ExpressionNode, Error>
-    requires { HasWord (codes "binary") (view value.now) }
-    ensures ok { IfOk result (λ e. Reads (node_form an_expression) (view value.now) (expression_tree e) numbering.old numbering.new) }
-    ensures place { IfErr result (Locates (node_form an_expression) (view value.now)) }
+    requires { HasWord (codes "binary") (borrowed_view value.now) }
+    ensures ok { IfOk result (λ e. Reads (node_form an_expression) (borrowed_view value.now) (expression_tree e) numbering.old numbering.new) }
+    ensures place { IfErr result (Locates (node_form an_expression) (borrowed_view value.now)) }
 {
     check_keys(alloc, value, &["k", "op", "left", "right"])?;
     let operator = binary_operator_member(alloc, value)?;
@@ -189,11 +192,11 @@ fn read_binary(
 fn read_call_expression(
     alloc: Global,
     numbering: &mut Numbering,
-    value: &Value,
+    value: &BorrowedValue<'_>,
 ) -> Result<ExpressionNode, Error>
-    requires { HasWord (codes "call") (view value.now) }
-    ensures ok { IfOk result (λ e. Reads (node_form an_expression) (view value.now) (expression_tree e) numbering.old numbering.new) }
-    ensures place { IfErr result (Locates (node_form an_expression) (view value.now)) }
+    requires { HasWord (codes "call") (borrowed_view value.now) }
+    ensures ok { IfOk result (λ e. Reads (node_form an_expression) (borrowed_view value.now) (expression_tree e) numbering.old numbering.new) }
+    ensures place { IfErr result (Locates (node_form an_expression) (borrowed_view value.now)) }
 {
     check_keys(alloc, value, &["k", "ty", "args"])?;
     let ty = type_member(alloc, numbering, value, "ty")?;
@@ -205,12 +208,12 @@ fn read_call_expression(
 fn read_type_or_identifier(
     alloc: Global,
     numbering: &mut Numbering,
-    value: &Value,
+    value: &BorrowedValue<'_>,
 ) -> Result<ExpressionNode, Error>
-    requires object { is_some (as_object (view value.now)) ≡ true }
-    requires unmarked { get (codes "k") (view value.now) ≡ None }
-    ensures ok { IfOk result (λ e. Reads (node_form an_expression) (view value.now) (expression_tree e) numbering.old numbering.new) }
-    ensures place { IfErr result (Locates (node_form an_expression) (view value.now)) }
+    requires object { is_some (as_object (borrowed_view value.now)) ≡ true }
+    requires unmarked { get (codes "k") (borrowed_view value.now) ≡ None }
+    ensures ok { IfOk result (λ e. Reads (node_form an_expression) (borrowed_view value.now) (expression_tree e) numbering.old numbering.new) }
+    ensures place { IfErr result (Locates (node_form an_expression) (borrowed_view value.now)) }
 {
     check_keys(alloc, value, &["path", "name", "args"])?;
     let path = optional_path(alloc, value)?;
@@ -228,11 +231,11 @@ fn read_type_or_identifier(
 pub fn expression_member(
     alloc: Global,
     numbering: &mut Numbering,
-    value: &Value,
+    value: &BorrowedValue<'_>,
     key: &str,
 ) -> Result<ExpressionNode, Error>
-    ensures ok { IfOk result (λ e. ReadsNeeded key.now (node_form an_expression) (view value.now) (expression_tree e) numbering.old numbering.new) }
-    ensures place { IfErr result (LocatesMember key.now (node_form an_expression) (view value.now)) }
+    ensures ok { IfOk result (λ e. ReadsNeeded key.now (node_form an_expression) (borrowed_view value.now) (expression_tree e) numbering.old numbering.new) }
+    ensures place { IfErr result (LocatesMember key.now (node_form an_expression) (borrowed_view value.now)) }
 {
     let member = required(alloc, value, key)?;
     match read_expression(alloc, numbering, member) {
@@ -246,11 +249,11 @@ pub fn expression_member(
 pub fn expressions_member(
     alloc: Global,
     numbering: &mut Numbering,
-    value: &Value,
+    value: &BorrowedValue<'_>,
     key: &str,
 ) -> Result<Vec<ExpressionNode>, Error>
-    ensures ok { IfOk result (λ e. ReadsMany key.now (list_of list an_expression) (view value.now) (listed expression_tree list e) numbering.old numbering.new) }
-    ensures place { IfErr result (LocatesInside key.now (list_of list an_expression) (view value.now)) }
+    ensures ok { IfOk result (λ e. ReadsMany key.now (list_of list an_expression) (borrowed_view value.now) (listed expression_tree list e) numbering.old numbering.new) }
+    ensures place { IfErr result (LocatesInside key.now (list_of list an_expression) (borrowed_view value.now)) }
 {
     let Some(member) = value.get(key) else {
         return Ok(Vec::new(alloc));
@@ -266,10 +269,10 @@ pub fn expressions_member(
 pub fn read_expressions(
     alloc: Global,
     numbering: &mut Numbering,
-    value: &Value,
+    value: &BorrowedValue<'_>,
 ) -> Result<Vec<ExpressionNode>, Error>
-    ensures ok { IfOk result (λ e. Reads (list_of list an_expression) (view value.now) (listed expression_tree list e) numbering.old numbering.new) }
-    ensures place { IfErr result (Locates (list_of list an_expression) (view value.now)) }
+    ensures ok { IfOk result (λ e. Reads (list_of list an_expression) (borrowed_view value.now) (listed expression_tree list e) numbering.old numbering.new) }
+    ensures place { IfErr result (Locates (list_of list an_expression) (borrowed_view value.now)) }
 {
     let Some(items) = value.as_array() else {
         return Err(wrong(alloc));
@@ -289,11 +292,11 @@ pub fn read_expressions(
 pub fn type_member(
     alloc: Global,
     numbering: &mut Numbering,
-    value: &Value,
+    value: &BorrowedValue<'_>,
     key: &str,
 ) -> Result<TypeExpression, Error>
-    ensures ok { IfOk result (λ e. ReadsNeeded key.now (node_form a_type) (view value.now) (type_view e) numbering.old numbering.new) }
-    ensures place { IfErr result (LocatesMember key.now (node_form a_type) (view value.now)) }
+    ensures ok { IfOk result (λ e. ReadsNeeded key.now (node_form a_type) (borrowed_view value.now) (type_view e) numbering.old numbering.new) }
+    ensures place { IfErr result (LocatesMember key.now (node_form a_type) (borrowed_view value.now)) }
 {
     let member = required(alloc, value, key)?;
     match read_type(alloc, numbering, member) {
@@ -307,10 +310,10 @@ pub fn type_member(
 pub fn read_type(
     alloc: Global,
     numbering: &mut Numbering,
-    value: &Value,
+    value: &BorrowedValue<'_>,
 ) -> Result<TypeExpression, Error>
-    ensures ok { IfOk result (λ e. Reads (node_form a_type) (view value.now) (type_view e) numbering.old numbering.new) }
-    ensures place { IfErr result (Locates (node_form a_type) (view value.now)) }
+    ensures ok { IfOk result (λ e. Reads (node_form a_type) (borrowed_view value.now) (type_view e) numbering.old numbering.new) }
+    ensures place { IfErr result (Locates (node_form a_type) (borrowed_view value.now)) }
 {
     if value.is_object() {
         read_type_object(alloc, numbering, value)
@@ -323,10 +326,10 @@ pub fn read_type(
 fn read_plain_type(
     alloc: Global,
     numbering: &mut Numbering,
-    value: &Value,
+    value: &BorrowedValue<'_>,
 ) -> Result<TypeExpression, Error>
-    ensures ok { IfOk result (λ e. ReadsPlain (view value.now) (type_view e) numbering.old numbering.new) }
-    ensures place { IfErr result (LocatesPlain (view value.now)) }
+    ensures ok { IfOk result (λ e. ReadsPlain (borrowed_view value.now) (type_view e) numbering.old numbering.new) }
+    ensures place { IfErr result (LocatesPlain (borrowed_view value.now)) }
 {
     let name = name_of(alloc, value)?;
     Ok(TypeExpression {
@@ -340,11 +343,11 @@ fn read_plain_type(
 fn read_type_object(
     alloc: Global,
     numbering: &mut Numbering,
-    value: &Value,
+    value: &BorrowedValue<'_>,
 ) -> Result<TypeExpression, Error>
-    requires { is_some (as_object (view value.now)) ≡ true }
-    ensures ok { IfOk result (λ e. Reads (node_form a_type) (view value.now) (type_view e) numbering.old numbering.new) }
-    ensures place { IfErr result (Locates (node_form a_type) (view value.now)) }
+    requires { is_some (as_object (borrowed_view value.now)) ≡ true }
+    ensures ok { IfOk result (λ e. Reads (node_form a_type) (borrowed_view value.now) (type_view e) numbering.old numbering.new) }
+    ensures place { IfErr result (Locates (node_form a_type) (borrowed_view value.now)) }
 {
     check_keys(alloc, value, &["path", "name", "args"])?;
     let path = optional_path(alloc, value)?;
@@ -358,9 +361,9 @@ fn read_type_object(
 }
 
 /// The path at `path`, an option.
-pub fn optional_path(alloc: Global, value: &Value) -> Result<Option<ModulePath>, Error>
-    ensures ok { IfOk result (λ e. (names : List (List ℕ)) → ReadsMay (codes "path") (leaf a_path) (view value.now) (option_view path_tree e) names names) }
-    ensures place { IfErr result (LocatesInside (codes "path") (leaf a_path) (view value.now)) }
+pub fn optional_path(alloc: Global, value: &BorrowedValue<'_>) -> Result<Option<ModulePath>, Error>
+    ensures ok { IfOk result (λ e. (names : List (List ℕ)) → ReadsMay (codes "path") (leaf a_path) (borrowed_view value.now) (option_view path_tree e) names names) }
+    ensures place { IfErr result (LocatesInside (codes "path") (leaf a_path) (borrowed_view value.now)) }
 {
     let Some(member) = value.get("path") else {
         return Ok(None);
@@ -376,10 +379,10 @@ pub fn optional_path(alloc: Global, value: &Value) -> Result<Option<ModulePath>,
 fn arguments_member(
     alloc: Global,
     numbering: &mut Numbering,
-    value: &Value,
+    value: &BorrowedValue<'_>,
 ) -> Result<Option<Vec<TemplateArg>>, Error>
-    ensures ok { IfOk result (λ e. ReadsMay (codes "args") (list_of list a_template_argument) (view value.now) (option_view (listed argument_view list) e) numbering.old numbering.new) }
-    ensures place { IfErr result (LocatesInside (codes "args") (list_of list a_template_argument) (view value.now)) }
+    ensures ok { IfOk result (λ e. ReadsMay (codes "args") (list_of list a_template_argument) (borrowed_view value.now) (option_view (listed argument_view list) e) numbering.old numbering.new) }
+    ensures place { IfErr result (LocatesInside (codes "args") (list_of list a_template_argument) (borrowed_view value.now)) }
 {
     let Some(member) = value.get("args") else {
         return Ok(None);
@@ -394,10 +397,10 @@ fn arguments_member(
 fn read_arguments(
     alloc: Global,
     numbering: &mut Numbering,
-    value: &Value,
+    value: &BorrowedValue<'_>,
 ) -> Result<Vec<TemplateArg>, Error>
-    ensures ok { IfOk result (λ e. Reads (list_of list a_template_argument) (view value.now) (listed argument_view list e) numbering.old numbering.new) }
-    ensures place { IfErr result (Locates (list_of list a_template_argument) (view value.now)) }
+    ensures ok { IfOk result (λ e. Reads (list_of list a_template_argument) (borrowed_view value.now) (listed argument_view list e) numbering.old numbering.new) }
+    ensures place { IfErr result (Locates (list_of list a_template_argument) (borrowed_view value.now)) }
 {
     let Some(items) = value.as_array() else {
         return Err(wrong(alloc));
@@ -416,10 +419,10 @@ fn read_arguments(
 pub fn read_call(
     alloc: Global,
     numbering: &mut Numbering,
-    value: &Value,
+    value: &BorrowedValue<'_>,
 ) -> Result<FunctionCall, Error>
-    ensures ok { IfOk result (λ e. Reads (node_form a_call) (view value.now) (call_view e) numbering.old numbering.new) }
-    ensures place { IfErr result (Locates (node_form a_call) (view value.now)) }
+    ensures ok { IfOk result (λ e. Reads (node_form a_call) (borrowed_view value.now) (call_view e) numbering.old numbering.new) }
+    ensures place { IfErr result (Locates (node_form a_call) (borrowed_view value.now)) }
 {
     check_keys(alloc, value, &["ty", "args"])?;
     let ty = type_member(alloc, numbering, value, "ty")?;
@@ -431,11 +434,11 @@ pub fn read_call(
 pub fn optional_expression(
     alloc: Global,
     numbering: &mut Numbering,
-    value: &Value,
+    value: &BorrowedValue<'_>,
     key: &str,
 ) -> Result<Option<ExpressionNode>, Error>
-    ensures ok { IfOk result (λ e. ReadsMay key.now (node_form an_expression) (view value.now) (option_view expression_tree e) numbering.old numbering.new) }
-    ensures place { IfErr result (LocatesInside key.now (node_form an_expression) (view value.now)) }
+    ensures ok { IfOk result (λ e. ReadsMay key.now (node_form an_expression) (borrowed_view value.now) (option_view expression_tree e) numbering.old numbering.new) }
+    ensures place { IfErr result (LocatesInside key.now (node_form an_expression) (borrowed_view value.now)) }
 {
     let Some(member) = value.get(key) else {
         return Ok(None);
@@ -450,11 +453,11 @@ pub fn optional_expression(
 pub fn optional_expressions(
     alloc: Global,
     numbering: &mut Numbering,
-    value: &Value,
+    value: &BorrowedValue<'_>,
     key: &str,
 ) -> Result<Option<Vec<ExpressionNode>>, Error>
-    ensures ok { IfOk result (λ e. ReadsMay key.now (list_of list an_expression) (view value.now) (option_view (listed expression_tree list) e) numbering.old numbering.new) }
-    ensures place { IfErr result (LocatesInside key.now (list_of list an_expression) (view value.now)) }
+    ensures ok { IfOk result (λ e. ReadsMay key.now (list_of list an_expression) (borrowed_view value.now) (option_view (listed expression_tree list) e) numbering.old numbering.new) }
+    ensures place { IfErr result (LocatesInside key.now (list_of list an_expression) (borrowed_view value.now)) }
 {
     let Some(member) = value.get(key) else {
         return Ok(None);
@@ -469,11 +472,11 @@ pub fn optional_expressions(
 pub fn optional_type(
     alloc: Global,
     numbering: &mut Numbering,
-    value: &Value,
+    value: &BorrowedValue<'_>,
     key: &str,
 ) -> Result<Option<TypeExpression>, Error>
-    ensures ok { IfOk result (λ e. ReadsMay key.now (node_form a_type) (view value.now) (option_view type_view e) numbering.old numbering.new) }
-    ensures place { IfErr result (LocatesInside key.now (node_form a_type) (view value.now)) }
+    ensures ok { IfOk result (λ e. ReadsMay key.now (node_form a_type) (borrowed_view value.now) (option_view type_view e) numbering.old numbering.new) }
+    ensures place { IfErr result (LocatesInside key.now (node_form a_type) (borrowed_view value.now)) }
 {
     let Some(member) = value.get(key) else {
         return Ok(None);

@@ -6,15 +6,15 @@ ghost use Rattle.std.specs.Prelude.{◌≡◌, ◌∷◌, ◌++◌, map, true, f
 ghost use Rattle.std.specs.List.{list_any};
 ghost use Rattle.std.specs.Str.{bytes_eq};
 ghost use Rattle.serde_json.specs.Find.{as_str, get};
-ghost use Rattle.serde_json.specs.View.{view, members_view};
+ghost use Rattle.wesl_borrowed.specs.View.{borrowed_view};
 ghost use Rattle.wesl_names.specs.Path.{path_view};
 ghost use Rattle.wesl_form.specs.Reading.{name_in, literal_in, path_in};
 ghost use Rattle.wesl_pointer.specs.Keys.{all_known, has_only};
 ghost use Rattle.wesl_pointer.specs.Pointer.{escaped};
 ghost use Rattle.wesl_reading.specs.Faults.{IsAtRoot, IsUnder, IsUnderIndex, LocatesHere, LocatesText};
 
-use serde_json::Value;
 use std::alloc::Global;
+use wesl_borrowed::BorrowedValue;
 use wesl_names::{Error, ModulePath};
 
 /// The value itself is wrong.
@@ -51,9 +51,9 @@ pub fn under_index(alloc: Global, error: Error, index: usize) -> Error
 }
 
 /// The object has no keys but these.
-pub fn check_keys(alloc: Global, value: &Value, known: &[&str]) -> Result<(), Error>
-    ensures ok { OnOk result (has_only (map (λ k. k.now) known.now) (view value.now) ≡ true) }
-    ensures err { OnErr result (has_only (map (λ k. k.now) known.now) (view value.now) ≡ false) }
+pub fn check_keys(alloc: Global, value: &BorrowedValue<'_>, known: &[&str]) -> Result<(), Error>
+    ensures ok { OnOk result (has_only (map (λ k. k.now) known.now) (borrowed_view value.now) ≡ true) }
+    ensures err { OnErr result (has_only (map (λ k. k.now) known.now) (borrowed_view value.now) ≡ false) }
     ensures place { IfErr result IsAtRoot }
 {
     if wesl_pointer::has_only(value, known) {
@@ -64,18 +64,22 @@ pub fn check_keys(alloc: Global, value: &Value, known: &[&str]) -> Result<(), Er
 }
 
 /// The member `key`, which must be there.
-pub fn required<'a>(alloc: Global, value: &'a Value, key: &str) -> Result<&'a Value, Error>
-    ensures ok { IfOk result (λ v. get key.now (view value.now) ≡ Some (view v.now)) }
-    ensures err { OnErr result (get key.now (view value.now) ≡ None) }
+pub fn required<'s, 'a>(
+    alloc: Global,
+    value: &'s BorrowedValue<'a>,
+    key: &str,
+) -> Result<&'s BorrowedValue<'a>, Error>
+    ensures ok { IfOk result (λ v. get key.now (borrowed_view value.now) ≡ Some (borrowed_view v.now)) }
+    ensures err { OnErr result (get key.now (borrowed_view value.now) ≡ None) }
     ensures place { IfErr result IsAtRoot }
 {
     value.get(key).ok_or(wrong(alloc))
 }
 
 /// The text of a name, which is not empty.
-pub fn name_of<'a>(alloc: Global, value: &'a Value) -> Result<&'a str, Error>
-    ensures ok { IfOk result (λ s. name_in (view value.now) ≡ Some s.now) }
-    ensures place { IfErr result (LocatesHere (name_in (view value.now))) }
+pub fn name_of<'a>(alloc: Global, value: &BorrowedValue<'a>) -> Result<&'a str, Error>
+    ensures ok { IfOk result (λ s. name_in (borrowed_view value.now) ≡ Some s.now) }
+    ensures place { IfErr result (LocatesHere (name_in (borrowed_view value.now))) }
 {
     match value.as_str() {
         Some(text) if !text.is_empty() => Ok(text),
@@ -84,9 +88,13 @@ pub fn name_of<'a>(alloc: Global, value: &'a Value) -> Result<&'a str, Error>
 }
 
 /// The name at `key`.
-pub fn name_member<'a>(alloc: Global, value: &'a Value, key: &str) -> Result<&'a str, Error>
-    ensures ok { IfOk result (λ s. option_and_then name_in (get key.now (view value.now)) ≡ Some s.now) }
-    ensures place { IfErr result (LocatesText name_in key.now (view value.now)) }
+pub fn name_member<'a>(
+    alloc: Global,
+    value: &BorrowedValue<'a>,
+    key: &str,
+) -> Result<&'a str, Error>
+    ensures ok { IfOk result (λ s. option_and_then name_in (get key.now (borrowed_view value.now)) ≡ Some s.now) }
+    ensures place { IfErr result (LocatesText name_in key.now (borrowed_view value.now)) }
 {
     let member = required(alloc, value, key)?;
     match name_of(alloc, member) {
@@ -96,9 +104,9 @@ pub fn name_member<'a>(alloc: Global, value: &'a Value, key: &str) -> Result<&'a
 }
 
 // The text of a literal, which is not empty and no truth value.
-fn literal_of<'a>(alloc: Global, value: &'a Value) -> Result<&'a str, Error>
-    ensures ok { IfOk result (λ s. literal_in (view value.now) ≡ Some s.now) }
-    ensures place { IfErr result (LocatesHere (literal_in (view value.now))) }
+fn literal_of<'a>(alloc: Global, value: &BorrowedValue<'a>) -> Result<&'a str, Error>
+    ensures ok { IfOk result (λ s. literal_in (borrowed_view value.now) ≡ Some s.now) }
+    ensures place { IfErr result (LocatesHere (literal_in (borrowed_view value.now))) }
 {
     match value.as_str() {
         Some(text) if !text.is_empty() && text != "true" && text != "false" => Ok(text),
@@ -107,9 +115,13 @@ fn literal_of<'a>(alloc: Global, value: &'a Value) -> Result<&'a str, Error>
 }
 
 /// The text of the literal at `key`.
-pub fn literal_member<'a>(alloc: Global, value: &'a Value, key: &str) -> Result<&'a str, Error>
-    ensures ok { IfOk result (λ s. option_and_then literal_in (get key.now (view value.now)) ≡ Some s.now) }
-    ensures place { IfErr result (LocatesText literal_in key.now (view value.now)) }
+pub fn literal_member<'a>(
+    alloc: Global,
+    value: &BorrowedValue<'a>,
+    key: &str,
+) -> Result<&'a str, Error>
+    ensures ok { IfOk result (λ s. option_and_then literal_in (get key.now (borrowed_view value.now)) ≡ Some s.now) }
+    ensures place { IfErr result (LocatesText literal_in key.now (borrowed_view value.now)) }
 {
     let member = required(alloc, value, key)?;
     match literal_of(alloc, member) {
@@ -119,9 +131,9 @@ pub fn literal_member<'a>(alloc: Global, value: &'a Value, key: &str) -> Result<
 }
 
 // The path that a text says.
-pub fn path_of(alloc: Global, value: &Value) -> Result<ModulePath, Error>
-    ensures ok { IfOk result (λ p. path_in (view value.now) ≡ Some (path_view p)) }
-    ensures place { IfErr result (LocatesHere (path_in (view value.now))) }
+pub fn path_of(alloc: Global, value: &BorrowedValue<'_>) -> Result<ModulePath, Error>
+    ensures ok { IfOk result (λ p. path_in (borrowed_view value.now) ≡ Some (path_view p)) }
+    ensures place { IfErr result (LocatesHere (path_in (borrowed_view value.now))) }
 {
     let Some(text) = value.as_str() else {
         return Err(wrong(alloc));
@@ -133,9 +145,9 @@ pub fn path_of(alloc: Global, value: &Value) -> Result<ModulePath, Error>
 }
 
 /// The path at `key`.
-pub fn path_member(alloc: Global, value: &Value, key: &str) -> Result<ModulePath, Error>
-    ensures ok { IfOk result (λ p. option_and_then path_in (get key.now (view value.now)) ≡ Some (path_view p)) }
-    ensures place { IfErr result (LocatesText path_in key.now (view value.now)) }
+pub fn path_member(alloc: Global, value: &BorrowedValue<'_>, key: &str) -> Result<ModulePath, Error>
+    ensures ok { IfOk result (λ p. option_and_then path_in (get key.now (borrowed_view value.now)) ≡ Some (path_view p)) }
+    ensures place { IfErr result (LocatesText path_in key.now (borrowed_view value.now)) }
 {
     let member = required(alloc, value, key)?;
     match path_of(alloc, member) {
@@ -145,9 +157,9 @@ pub fn path_member(alloc: Global, value: &Value, key: &str) -> Result<ModulePath
 }
 
 // Any text.
-fn text_of<'a>(alloc: Global, value: &'a Value) -> Result<&'a str, Error>
-    ensures ok { IfOk result (λ s. as_str (view value.now) ≡ Some s.now) }
-    ensures place { IfErr result (LocatesHere (as_str (view value.now))) }
+fn text_of<'a>(alloc: Global, value: &BorrowedValue<'a>) -> Result<&'a str, Error>
+    ensures ok { IfOk result (λ s. as_str (borrowed_view value.now) ≡ Some s.now) }
+    ensures place { IfErr result (LocatesHere (as_str (borrowed_view value.now))) }
 {
     match value.as_str() {
         Some(text) => Ok(text),
@@ -156,9 +168,13 @@ fn text_of<'a>(alloc: Global, value: &'a Value) -> Result<&'a str, Error>
 }
 
 /// The text at `key`, which may be empty.
-pub fn text_member<'a>(alloc: Global, value: &'a Value, key: &str) -> Result<&'a str, Error>
-    ensures ok { IfOk result (λ s. option_and_then as_str (get key.now (view value.now)) ≡ Some s.now) }
-    ensures place { IfErr result (LocatesText as_str key.now (view value.now)) }
+pub fn text_member<'a>(
+    alloc: Global,
+    value: &BorrowedValue<'a>,
+    key: &str,
+) -> Result<&'a str, Error>
+    ensures ok { IfOk result (λ s. option_and_then as_str (get key.now (borrowed_view value.now)) ≡ Some s.now) }
+    ensures place { IfErr result (LocatesText as_str key.now (borrowed_view value.now)) }
 {
     let member = required(alloc, value, key)?;
     match text_of(alloc, member) {

@@ -1,20 +1,24 @@
 //! Reading lists of names.
 ghost use Rattle.std.specs.Prelude.{◌≡◌, List, ℕ, Some, IfOk, IfErr};
-ghost use Rattle.serde_json.specs.View.{view};
+ghost use Rattle.wesl_borrowed.specs.View.{borrowed_view};
 ghost use Rattle.wesl_syntax.specs.View.{names_tree};
 ghost use Rattle.wesl_form.specs.Schema.{leaf, some_names};
 ghost use Rattle.wesl_reading.specs.Faults.{Locates, LocatesInside};
 ghost use Rattle.wesl_reading.specs.Numbers.{Reads, ReadsMany};
 
 use crate::fields::{name_of, under, under_index, wrong};
-use serde_json::Value;
 use std::alloc::Global;
+use wesl_borrowed::BorrowedValue;
 use wesl_names::Error;
 
 /// The names at `key`, a list.
-pub fn names_member(alloc: Global, value: &Value, key: &str) -> Result<Vec<String>, Error>
-    ensures ok { IfOk result (λ e. (names : List (List ℕ)) → ReadsMany key.now (leaf some_names) (view value.now) (names_tree e) names names) }
-    ensures place { IfErr result (LocatesInside key.now (leaf some_names) (view value.now)) }
+pub fn names_member(
+    alloc: Global,
+    value: &BorrowedValue<'_>,
+    key: &str,
+) -> Result<Vec<String>, Error>
+    ensures ok { IfOk result (λ e. (names : List (List ℕ)) → ReadsMany key.now (leaf some_names) (borrowed_view value.now) (names_tree e) names names) }
+    ensures place { IfErr result (LocatesInside key.now (leaf some_names) (borrowed_view value.now)) }
 {
     let Some(member) = value.get(key) else {
         return Ok(Vec::new(alloc));
@@ -25,9 +29,9 @@ pub fn names_member(alloc: Global, value: &Value, key: &str) -> Result<Vec<Strin
     }
 }
 
-fn read_names(alloc: Global, value: &Value) -> Result<Vec<String>, Error>
-    ensures ok { IfOk result (λ e. (names : List (List ℕ)) → Reads (leaf some_names) (view value.now) (names_tree e) names names) }
-    ensures place { IfErr result (Locates (leaf some_names) (view value.now)) }
+fn read_names(alloc: Global, value: &BorrowedValue<'_>) -> Result<Vec<String>, Error>
+    ensures ok { IfOk result (λ e. (names : List (List ℕ)) → Reads (leaf some_names) (borrowed_view value.now) (names_tree e) names names) }
+    ensures place { IfErr result (Locates (leaf some_names) (borrowed_view value.now)) }
 {
     let Some(items) = value.as_array() else {
         return Err(wrong(alloc));

@@ -1,7 +1,7 @@
 //! The words of the form.
 ghost use Rattle.std.specs.Prelude.{◌≡◌, Some, None, IfOk, IfErr, IfSome, codes, option_map, option_and_then};
 ghost use Rattle.serde_json.specs.Find.{get};
-ghost use Rattle.serde_json.specs.View.{view};
+ghost use Rattle.wesl_borrowed.specs.View.{borrowed_view};
 ghost use Rattle.wesl_syntax.specs.Tree.{unary, binary};
 ghost use Rattle.wesl_form.specs.Schema.{look};
 ghost use Rattle.wesl_form.specs.Words.{unary_words, binary_words};
@@ -11,8 +11,8 @@ ghost use Rattle.wesl_form.specs.Nodes.{attribute_nodes, expression_words};
 ghost use Rattle.wesl_reading.specs.Forms.{attribute_of, attribute_text, expression_of, expression_text};
 
 use crate::fields::{required, under, wrong};
-use serde_json::Value;
 use std::alloc::Global;
+use wesl_borrowed::BorrowedValue;
 use wesl_names::Error;
 use wesl_syntax::{BinaryOperator, UnaryOperator};
 
@@ -133,9 +133,9 @@ fn binary_operator(text: &str) -> Option<BinaryOperator>
     }
 }
 
-fn unary_operator_of(alloc: Global, value: &Value) -> Result<UnaryOperator, Error>
-    ensures ok { IfOk result (λ o. word_in unary_words (view value.now) ≡ Some (unary o)) }
-    ensures place { IfErr result (LocatesHere (word_in unary_words (view value.now))) }
+fn unary_operator_of(alloc: Global, value: &BorrowedValue<'_>) -> Result<UnaryOperator, Error>
+    ensures ok { IfOk result (λ o. word_in unary_words (borrowed_view value.now) ≡ Some (unary o)) }
+    ensures place { IfErr result (LocatesHere (word_in unary_words (borrowed_view value.now))) }
 {
     match value.as_str().and_then(unary_operator) {
         Some(operator) => Ok(operator),
@@ -143,9 +143,9 @@ fn unary_operator_of(alloc: Global, value: &Value) -> Result<UnaryOperator, Erro
     }
 }
 
-fn binary_operator_of(alloc: Global, value: &Value) -> Result<BinaryOperator, Error>
-    ensures ok { IfOk result (λ o. word_in binary_words (view value.now) ≡ Some (binary o)) }
-    ensures place { IfErr result (LocatesHere (word_in binary_words (view value.now))) }
+fn binary_operator_of(alloc: Global, value: &BorrowedValue<'_>) -> Result<BinaryOperator, Error>
+    ensures ok { IfOk result (λ o. word_in binary_words (borrowed_view value.now) ≡ Some (binary o)) }
+    ensures place { IfErr result (LocatesHere (word_in binary_words (borrowed_view value.now))) }
 {
     match value.as_str().and_then(binary_operator) {
         Some(operator) => Ok(operator),
@@ -154,9 +154,12 @@ fn binary_operator_of(alloc: Global, value: &Value) -> Result<BinaryOperator, Er
 }
 
 /// The unary operator at `op`.
-pub(crate) fn unary_operator_member(alloc: Global, value: &Value) -> Result<UnaryOperator, Error>
-    ensures ok { IfOk result (λ o. option_and_then (word_in unary_words) (get (codes "op") (view value.now)) ≡ Some (unary o)) }
-    ensures place { IfErr result (LocatesText (word_in unary_words) (codes "op") (view value.now)) }
+pub(crate) fn unary_operator_member(
+    alloc: Global,
+    value: &BorrowedValue<'_>,
+) -> Result<UnaryOperator, Error>
+    ensures ok { IfOk result (λ o. option_and_then (word_in unary_words) (get (codes "op") (borrowed_view value.now)) ≡ Some (unary o)) }
+    ensures place { IfErr result (LocatesText (word_in unary_words) (codes "op") (borrowed_view value.now)) }
 {
     let member = required(alloc, value, "op")?;
     match unary_operator_of(alloc, member) {
@@ -166,9 +169,12 @@ pub(crate) fn unary_operator_member(alloc: Global, value: &Value) -> Result<Unar
 }
 
 /// The binary operator at `op`.
-pub(crate) fn binary_operator_member(alloc: Global, value: &Value) -> Result<BinaryOperator, Error>
-    ensures ok { IfOk result (λ o. option_and_then (word_in binary_words) (get (codes "op") (view value.now)) ≡ Some (binary o)) }
-    ensures place { IfErr result (LocatesText (word_in binary_words) (codes "op") (view value.now)) }
+pub(crate) fn binary_operator_member(
+    alloc: Global,
+    value: &BorrowedValue<'_>,
+) -> Result<BinaryOperator, Error>
+    ensures ok { IfOk result (λ o. option_and_then (word_in binary_words) (get (codes "op") (borrowed_view value.now)) ≡ Some (binary o)) }
+    ensures place { IfErr result (LocatesText (word_in binary_words) (codes "op") (borrowed_view value.now)) }
 {
     let member = required(alloc, value, "op")?;
     match binary_operator_of(alloc, member) {

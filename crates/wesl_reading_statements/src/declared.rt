@@ -2,7 +2,7 @@
 //! Declarations" and "Const Assertion Statement").
 ghost use Rattle.std.specs.Prelude.{◌≡◌, ℕ, List, [], IfOk, IfErr, codes, is_some, true, false};
 ghost use Rattle.serde_json.specs.Find.{get};
-ghost use Rattle.serde_json.specs.View.{view};
+ghost use Rattle.wesl_borrowed.specs.View.{borrowed_view};
 ghost use Rattle.wesl_syntax.specs.Tree.{branch};
 ghost use Rattle.wesl_syntax.specs.View.{access_tree, kind_tree, optional as option_view, statement_view};
 ghost use Rattle.wesl_form.specs.Schema.{leaf, one_of};
@@ -15,8 +15,8 @@ ghost use Rattle.wesl_reading_statements.specs.Views.{declared_view};
 
 use crate::parts::binder_member;
 use crate::words::{DeclaredWord, ValueWord, access_mode_of, space_member};
-use serde_json::Value;
 use std::alloc::Global;
+use wesl_borrowed::BorrowedValue;
 use wesl_names::Error;
 use wesl_reading::{
     Numbering, attributes_member, check_keys, expression_member, optional_expression,
@@ -50,11 +50,11 @@ pub(crate) fn statement_of(declared: Declared) -> Statement
 pub fn read_declared(
     alloc: Global,
     numbering: &mut Numbering,
-    value: &Value,
+    value: &BorrowedValue<'_>,
     word: DeclaredWord,
 ) -> Result<Declared, Error>
-    ensures ok { IfOk result (λ e. ReadsDeclared word (view value.now) (declared_view e) numbering.old numbering.new) }
-    ensures place { IfErr result (LocatesRow (declared_worded word) (view value.now)) }
+    ensures ok { IfOk result (λ e. ReadsDeclared word (borrowed_view value.now) (declared_view e) numbering.old numbering.new) }
+    ensures place { IfErr result (LocatesRow (declared_worded word) (borrowed_view value.now)) }
 {
     match word {
         DeclaredWord::Value(kind) => read_value(alloc, numbering, value, kind),
@@ -70,9 +70,9 @@ pub fn read_declared(
     }
 }
 
-fn read_void(alloc: Global, value: &Value) -> Result<Declared, Error>
-    ensures ok { IfOk result (λ e. (names : List (List ℕ)) → ReadsDeclared declareds.Void (view value.now) (declared_view e) names names) }
-    ensures place { IfErr result (LocatesRow (declared_worded declareds.Void) (view value.now)) }
+fn read_void(alloc: Global, value: &BorrowedValue<'_>) -> Result<Declared, Error>
+    ensures ok { IfOk result (λ e. (names : List (List ℕ)) → ReadsDeclared declareds.Void (borrowed_view value.now) (declared_view e) names names) }
+    ensures place { IfErr result (LocatesRow (declared_worded declareds.Void) (borrowed_view value.now)) }
 {
     check_keys(alloc, value, &["k"])?;
     Ok(Declared::Void)
@@ -91,11 +91,11 @@ fn kind_of(word: ValueWord) -> DeclarationKind
 fn read_value(
     alloc: Global,
     numbering: &mut Numbering,
-    value: &Value,
+    value: &BorrowedValue<'_>,
     word: ValueWord,
 ) -> Result<Declared, Error>
-    ensures ok { IfOk result (λ e. ReadsDeclared (declareds.Value word) (view value.now) (declared_view e) numbering.old numbering.new) }
-    ensures place { IfErr result (LocatesRow (declared_worded (declareds.Value word)) (view value.now)) }
+    ensures ok { IfOk result (λ e. ReadsDeclared (declareds.Value word) (borrowed_view value.now) (declared_view e) numbering.old numbering.new) }
+    ensures place { IfErr result (LocatesRow (declared_worded (declareds.Value word)) (borrowed_view value.now)) }
 {
     check_keys(alloc, value, &["k", "attrs", "name", "ty", "init"])?;
     let attributes = attributes_member(alloc, numbering, value, "attrs")?;
@@ -112,10 +112,14 @@ fn read_value(
 }
 
 // A variable with no address space.
-fn read_var(alloc: Global, numbering: &mut Numbering, value: &Value) -> Result<Declared, Error>
-    requires { is_some (get (codes "space") (view value.now)) ≡ false }
-    ensures ok { IfOk result (λ e. ReadsDeclared declareds.Var (view value.now) (declared_view e) numbering.old numbering.new) }
-    ensures place { IfErr result (LocatesRow (declared_worded declareds.Var) (view value.now)) }
+fn read_var(
+    alloc: Global,
+    numbering: &mut Numbering,
+    value: &BorrowedValue<'_>,
+) -> Result<Declared, Error>
+    requires { is_some (get (codes "space") (borrowed_view value.now)) ≡ false }
+    ensures ok { IfOk result (λ e. ReadsDeclared declareds.Var (borrowed_view value.now) (declared_view e) numbering.old numbering.new) }
+    ensures place { IfErr result (LocatesRow (declared_worded declareds.Var) (borrowed_view value.now)) }
 {
     check_keys(alloc, value, &["k", "attrs", "name", "ty", "init"])?;
     let attributes = attributes_member(alloc, numbering, value, "attrs")?;
@@ -135,11 +139,11 @@ fn read_var(alloc: Global, numbering: &mut Numbering, value: &Value) -> Result<D
 fn read_var_in_space(
     alloc: Global,
     numbering: &mut Numbering,
-    value: &Value,
+    value: &BorrowedValue<'_>,
 ) -> Result<Declared, Error>
-    requires { is_some (get (codes "space") (view value.now)) ≡ true }
-    ensures ok { IfOk result (λ e. ReadsDeclared declareds.Var (view value.now) (declared_view e) numbering.old numbering.new) }
-    ensures place { IfErr result (LocatesRow (declared_worded declareds.Var) (view value.now)) }
+    requires { is_some (get (codes "space") (borrowed_view value.now)) ≡ true }
+    ensures ok { IfOk result (λ e. ReadsDeclared declareds.Var (borrowed_view value.now) (declared_view e) numbering.old numbering.new) }
+    ensures place { IfErr result (LocatesRow (declared_worded declareds.Var) (borrowed_view value.now)) }
 {
     check_keys(
         alloc,
@@ -162,9 +166,9 @@ fn read_var_in_space(
 }
 
 // The access mode at `access`, an option.
-fn optional_access(alloc: Global, value: &Value) -> Result<Option<AccessMode>, Error>
-    ensures ok { IfOk result (λ e. (names : List (List ℕ)) → ReadsMay (codes "access") (leaf (one_of access_words)) (view value.now) (option_view access_tree e) names names) }
-    ensures place { IfErr result (LocatesInside (codes "access") (leaf (one_of access_words)) (view value.now)) }
+fn optional_access(alloc: Global, value: &BorrowedValue<'_>) -> Result<Option<AccessMode>, Error>
+    ensures ok { IfOk result (λ e. (names : List (List ℕ)) → ReadsMay (codes "access") (leaf (one_of access_words)) (borrowed_view value.now) (option_view access_tree e) names names) }
+    ensures place { IfErr result (LocatesInside (codes "access") (leaf (one_of access_words)) (borrowed_view value.now)) }
 {
     let Some(member) = value.get("access") else {
         return Ok(None);
@@ -175,9 +179,13 @@ fn optional_access(alloc: Global, value: &Value) -> Result<Option<AccessMode>, E
     }
 }
 
-fn read_assert(alloc: Global, numbering: &mut Numbering, value: &Value) -> Result<Declared, Error>
-    ensures ok { IfOk result (λ e. ReadsDeclared declareds.Assert (view value.now) (declared_view e) numbering.old numbering.new) }
-    ensures place { IfErr result (LocatesRow (declared_worded declareds.Assert) (view value.now)) }
+fn read_assert(
+    alloc: Global,
+    numbering: &mut Numbering,
+    value: &BorrowedValue<'_>,
+) -> Result<Declared, Error>
+    ensures ok { IfOk result (λ e. ReadsDeclared declareds.Assert (borrowed_view value.now) (declared_view e) numbering.old numbering.new) }
+    ensures place { IfErr result (LocatesRow (declared_worded declareds.Assert) (borrowed_view value.now)) }
 {
     check_keys(alloc, value, &["k", "attrs", "expr"])?;
     let attributes = attributes_member(alloc, numbering, value, "attrs")?;

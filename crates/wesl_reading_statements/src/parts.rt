@@ -1,14 +1,14 @@
 //! Members that stand in many nodes.
 ghost use Rattle.std.specs.Prelude.{List, ℕ, IfOk, IfErr, codes};
-ghost use Rattle.serde_json.specs.View.{view};
+ghost use Rattle.wesl_borrowed.specs.View.{borrowed_view};
 ghost use Rattle.wesl_syntax.specs.Tree.{binder};
 ghost use Rattle.wesl_syntax.specs.View.{call_view, ident_tree, text_tree};
 ghost use Rattle.wesl_form.specs.Schema.{a_call, a_name, a_text, an_ident, leaf, node as node_form};
 ghost use Rattle.wesl_reading.specs.Faults.{LocatesMember};
 ghost use Rattle.wesl_reading.specs.Numbers.{ReadsNeeded};
 
-use serde_json::Value;
 use std::alloc::Global;
+use wesl_borrowed::BorrowedValue;
 use wesl_names::{Error, Ident};
 use wesl_reading::{Numbering, name_member, read_call, required, text_member, under};
 use wesl_syntax::FunctionCall;
@@ -17,10 +17,10 @@ use wesl_syntax::FunctionCall;
 pub fn binder_member(
     alloc: Global,
     numbering: &mut Numbering,
-    value: &Value,
+    value: &BorrowedValue<'_>,
 ) -> Result<Ident, Error>
-    ensures ok { IfOk result (λ e. ReadsNeeded (codes "name") (leaf (an_ident binder)) (view value.now) (ident_tree binder e) numbering.old numbering.new) }
-    ensures place { IfErr result (LocatesMember (codes "name") (leaf (an_ident binder)) (view value.now)) }
+    ensures ok { IfOk result (λ e. ReadsNeeded (codes "name") (leaf (an_ident binder)) (borrowed_view value.now) (ident_tree binder e) numbering.old numbering.new) }
+    ensures place { IfErr result (LocatesMember (codes "name") (leaf (an_ident binder)) (borrowed_view value.now)) }
 {
     let name = name_member(alloc, value, "name")?;
     let ident = numbering.number(alloc, name)?;
@@ -28,9 +28,13 @@ pub fn binder_member(
 }
 
 /// The name at `key`, as it is.
-pub fn plain_name_member(alloc: Global, value: &Value, key: &str) -> Result<String, Error>
-    ensures ok { IfOk result (λ e. (names : List (List ℕ)) → ReadsNeeded key.now (leaf a_name) (view value.now) (text_tree e) names names) }
-    ensures place { IfErr result (LocatesMember key.now (leaf a_name) (view value.now)) }
+pub fn plain_name_member(
+    alloc: Global,
+    value: &BorrowedValue<'_>,
+    key: &str,
+) -> Result<String, Error>
+    ensures ok { IfOk result (λ e. (names : List (List ℕ)) → ReadsNeeded key.now (leaf a_name) (borrowed_view value.now) (text_tree e) names names) }
+    ensures place { IfErr result (LocatesMember key.now (leaf a_name) (borrowed_view value.now)) }
 {
     let name = name_member(alloc, value, key)?;
     let text = String::from_str(alloc, name)?;
@@ -38,9 +42,13 @@ pub fn plain_name_member(alloc: Global, value: &Value, key: &str) -> Result<Stri
 }
 
 /// The text at `key`, which may be empty.
-pub fn plain_text_member(alloc: Global, value: &Value, key: &str) -> Result<String, Error>
-    ensures ok { IfOk result (λ e. (names : List (List ℕ)) → ReadsNeeded key.now (leaf a_text) (view value.now) (text_tree e) names names) }
-    ensures place { IfErr result (LocatesMember key.now (leaf a_text) (view value.now)) }
+pub fn plain_text_member(
+    alloc: Global,
+    value: &BorrowedValue<'_>,
+    key: &str,
+) -> Result<String, Error>
+    ensures ok { IfOk result (λ e. (names : List (List ℕ)) → ReadsNeeded key.now (leaf a_text) (borrowed_view value.now) (text_tree e) names names) }
+    ensures place { IfErr result (LocatesMember key.now (leaf a_text) (borrowed_view value.now)) }
 {
     let name = text_member(alloc, value, key)?;
     let text = String::from_str(alloc, name)?;
@@ -51,10 +59,10 @@ pub fn plain_text_member(alloc: Global, value: &Value, key: &str) -> Result<Stri
 pub(crate) fn call_member(
     alloc: Global,
     numbering: &mut Numbering,
-    value: &Value,
+    value: &BorrowedValue<'_>,
 ) -> Result<FunctionCall, Error>
-    ensures ok { IfOk result (λ e. ReadsNeeded (codes "call") (node_form a_call) (view value.now) (call_view e) numbering.old numbering.new) }
-    ensures place { IfErr result (LocatesMember (codes "call") (node_form a_call) (view value.now)) }
+    ensures ok { IfOk result (λ e. ReadsNeeded (codes "call") (node_form a_call) (borrowed_view value.now) (call_view e) numbering.old numbering.new) }
+    ensures place { IfErr result (LocatesMember (codes "call") (node_form a_call) (borrowed_view value.now)) }
 {
     let member = required(alloc, value, "call")?;
     match read_call(alloc, numbering, member) {

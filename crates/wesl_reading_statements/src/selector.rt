@@ -1,6 +1,6 @@
 //! Reading the values of `case` and the condition of `break if` (WGSL, "Switch Statement" and "Break-If Statement").
 ghost use Rattle.std.specs.Prelude.{◌≡◌, ℕ, List, IfOk, IfErr, codes, true};
-ghost use Rattle.serde_json.specs.View.{view};
+ghost use Rattle.wesl_borrowed.specs.View.{borrowed_view};
 ghost use Rattle.wesl_syntax.specs.Tree.{list};
 ghost use Rattle.wesl_syntax.specs.View.{break_if_view, listed, optional as option_view, selector_view};
 ghost use Rattle.wesl_form.specs.Schema.{a_break_if, a_case, list_of, node as node_form};
@@ -8,8 +8,8 @@ ghost use Rattle.wesl_reading.specs.Faults.{Locates, LocatesInside};
 ghost use Rattle.wesl_reading.specs.Numbers.{Reads, ReadsMany, ReadsMay};
 ghost use Rattle.wesl_reading_statements.specs.Forms.{has_default};
 
-use serde_json::Value;
 use std::alloc::Global;
+use wesl_borrowed::BorrowedValue;
 use wesl_names::Error;
 use wesl_reading::{
     Numbering, attributes_member, check_keys, expression_member, read_expression, under,
@@ -21,10 +21,10 @@ use wesl_syntax::{BreakIfStatement, CaseSelector};
 pub(crate) fn cases_member(
     alloc: Global,
     numbering: &mut Numbering,
-    value: &Value,
+    value: &BorrowedValue<'_>,
 ) -> Result<Vec<CaseSelector>, Error>
-    ensures ok { IfOk result (λ e. ReadsMany (codes "cases") (list_of list a_case) (view value.now) (listed selector_view list e) numbering.old numbering.new) }
-    ensures place { IfErr result (LocatesInside (codes "cases") (list_of list a_case) (view value.now)) }
+    ensures ok { IfOk result (λ e. ReadsMany (codes "cases") (list_of list a_case) (borrowed_view value.now) (listed selector_view list e) numbering.old numbering.new) }
+    ensures place { IfErr result (LocatesInside (codes "cases") (list_of list a_case) (borrowed_view value.now)) }
 {
     let Some(member) = value.get("cases") else {
         return Ok(Vec::new(alloc));
@@ -38,10 +38,10 @@ pub(crate) fn cases_member(
 fn read_cases(
     alloc: Global,
     numbering: &mut Numbering,
-    value: &Value,
+    value: &BorrowedValue<'_>,
 ) -> Result<Vec<CaseSelector>, Error>
-    ensures ok { IfOk result (λ e. Reads (list_of list a_case) (view value.now) (listed selector_view list e) numbering.old numbering.new) }
-    ensures place { IfErr result (Locates (list_of list a_case) (view value.now)) }
+    ensures ok { IfOk result (λ e. Reads (list_of list a_case) (borrowed_view value.now) (listed selector_view list e) numbering.old numbering.new) }
+    ensures place { IfErr result (Locates (list_of list a_case) (borrowed_view value.now)) }
 {
     let Some(items) = value.as_array() else {
         return Err(wrong(alloc));
@@ -57,9 +57,13 @@ fn read_cases(
 }
 
 // `default` by its word, or an expression.
-fn read_case(alloc: Global, numbering: &mut Numbering, value: &Value) -> Result<CaseSelector, Error>
-    ensures ok { IfOk result (λ e. Reads (node_form a_case) (view value.now) (selector_view e) numbering.old numbering.new) }
-    ensures place { IfErr result (Locates (node_form a_case) (view value.now)) }
+fn read_case(
+    alloc: Global,
+    numbering: &mut Numbering,
+    value: &BorrowedValue<'_>,
+) -> Result<CaseSelector, Error>
+    ensures ok { IfOk result (λ e. Reads (node_form a_case) (borrowed_view value.now) (selector_view e) numbering.old numbering.new) }
+    ensures place { IfErr result (Locates (node_form a_case) (borrowed_view value.now)) }
 {
     if is_default(value) {
         read_default(alloc, value)
@@ -69,8 +73,8 @@ fn read_case(alloc: Global, numbering: &mut Numbering, value: &Value) -> Result<
     }
 }
 
-fn is_default(value: &Value) -> bool
-    ensures { result ≡ has_default (view value.now) }
+fn is_default(value: &BorrowedValue<'_>) -> bool
+    ensures { result ≡ has_default (borrowed_view value.now) }
 {
     match value.get("k") {
         Some(word) => match word.as_str() {
@@ -81,10 +85,10 @@ fn is_default(value: &Value) -> bool
     }
 }
 
-fn read_default(alloc: Global, value: &Value) -> Result<CaseSelector, Error>
-    requires { has_default (view value.now) ≡ true }
-    ensures ok { IfOk result (λ e. (names : List (List ℕ)) → Reads (node_form a_case) (view value.now) (selector_view e) names names) }
-    ensures place { IfErr result (Locates (node_form a_case) (view value.now)) }
+fn read_default(alloc: Global, value: &BorrowedValue<'_>) -> Result<CaseSelector, Error>
+    requires { has_default (borrowed_view value.now) ≡ true }
+    ensures ok { IfOk result (λ e. (names : List (List ℕ)) → Reads (node_form a_case) (borrowed_view value.now) (selector_view e) names names) }
+    ensures place { IfErr result (Locates (node_form a_case) (borrowed_view value.now)) }
 {
     check_keys(alloc, value, &["k"])?;
     Ok(CaseSelector::Default)
@@ -94,10 +98,10 @@ fn read_default(alloc: Global, value: &Value) -> Result<CaseSelector, Error>
 pub(crate) fn optional_break_if(
     alloc: Global,
     numbering: &mut Numbering,
-    value: &Value,
+    value: &BorrowedValue<'_>,
 ) -> Result<Option<BreakIfStatement>, Error>
-    ensures ok { IfOk result (λ e. ReadsMay (codes "break_if") (node_form a_break_if) (view value.now) (option_view break_if_view e) numbering.old numbering.new) }
-    ensures place { IfErr result (LocatesInside (codes "break_if") (node_form a_break_if) (view value.now)) }
+    ensures ok { IfOk result (λ e. ReadsMay (codes "break_if") (node_form a_break_if) (borrowed_view value.now) (option_view break_if_view e) numbering.old numbering.new) }
+    ensures place { IfErr result (LocatesInside (codes "break_if") (node_form a_break_if) (borrowed_view value.now)) }
 {
     let Some(member) = value.get("break_if") else {
         return Ok(None);
@@ -111,10 +115,10 @@ pub(crate) fn optional_break_if(
 fn read_break_if(
     alloc: Global,
     numbering: &mut Numbering,
-    value: &Value,
+    value: &BorrowedValue<'_>,
 ) -> Result<BreakIfStatement, Error>
-    ensures ok { IfOk result (λ e. Reads (node_form a_break_if) (view value.now) (break_if_view e) numbering.old numbering.new) }
-    ensures place { IfErr result (Locates (node_form a_break_if) (view value.now)) }
+    ensures ok { IfOk result (λ e. Reads (node_form a_break_if) (borrowed_view value.now) (break_if_view e) numbering.old numbering.new) }
+    ensures place { IfErr result (Locates (node_form a_break_if) (borrowed_view value.now)) }
 {
     check_keys(alloc, value, &["attrs", "expr"])?;
     let attributes = attributes_member(alloc, numbering, value, "attrs")?;

@@ -1,6 +1,6 @@
 //! Reading statements that hold no other statement (WGSL, "Statements").
 ghost use Rattle.std.specs.Prelude.{IfOk, IfErr};
-ghost use Rattle.serde_json.specs.View.{view};
+ghost use Rattle.wesl_borrowed.specs.View.{borrowed_view};
 ghost use Rattle.wesl_syntax.specs.View.{statement_view};
 ghost use Rattle.wesl_reading.specs.Faults.{LocatesRow};
 ghost use Rattle.wesl_reading_statements.specs.declared.words.StatementWord.TheVariants as stated;
@@ -8,8 +8,8 @@ ghost use Rattle.wesl_reading_statements.specs.Forms.{ReadsStatement, statement_
 
 use crate::parts::call_member;
 use crate::words::assignment_member;
-use serde_json::Value;
 use std::alloc::Global;
+use wesl_borrowed::BorrowedValue;
 use wesl_names::Error;
 use wesl_reading::{
     Numbering, attributes_member, check_keys, expression_member, optional_expression,
@@ -20,10 +20,10 @@ use wesl_syntax::Statement;
 pub(crate) fn read_assignment(
     alloc: Global,
     numbering: &mut Numbering,
-    value: &Value,
+    value: &BorrowedValue<'_>,
 ) -> Result<Statement, Error>
-    ensures ok { IfOk result (λ e. ReadsStatement stated.Assign (view value.now) (statement_view e) numbering.old numbering.new) }
-    ensures place { IfErr result (LocatesRow (statement_worded stated.Assign) (view value.now)) }
+    ensures ok { IfOk result (λ e. ReadsStatement stated.Assign (borrowed_view value.now) (statement_view e) numbering.old numbering.new) }
+    ensures place { IfErr result (LocatesRow (statement_worded stated.Assign) (borrowed_view value.now)) }
 {
     check_keys(alloc, value, &["k", "op", "attrs", "lhs", "rhs"])?;
     let operator = assignment_member(alloc, value)?;
@@ -42,10 +42,10 @@ pub(crate) fn read_assignment(
 pub(crate) fn read_increment(
     alloc: Global,
     numbering: &mut Numbering,
-    value: &Value,
+    value: &BorrowedValue<'_>,
 ) -> Result<Statement, Error>
-    ensures ok { IfOk result (λ e. ReadsStatement stated.Increment (view value.now) (statement_view e) numbering.old numbering.new) }
-    ensures place { IfErr result (LocatesRow (statement_worded stated.Increment) (view value.now)) }
+    ensures ok { IfOk result (λ e. ReadsStatement stated.Increment (borrowed_view value.now) (statement_view e) numbering.old numbering.new) }
+    ensures place { IfErr result (LocatesRow (statement_worded stated.Increment) (borrowed_view value.now)) }
 {
     check_keys(alloc, value, &["k", "attrs", "expr"])?;
     let attributes = attributes_member(alloc, numbering, value, "attrs")?;
@@ -60,10 +60,10 @@ pub(crate) fn read_increment(
 pub(crate) fn read_decrement(
     alloc: Global,
     numbering: &mut Numbering,
-    value: &Value,
+    value: &BorrowedValue<'_>,
 ) -> Result<Statement, Error>
-    ensures ok { IfOk result (λ e. ReadsStatement stated.Decrement (view value.now) (statement_view e) numbering.old numbering.new) }
-    ensures place { IfErr result (LocatesRow (statement_worded stated.Decrement) (view value.now)) }
+    ensures ok { IfOk result (λ e. ReadsStatement stated.Decrement (borrowed_view value.now) (statement_view e) numbering.old numbering.new) }
+    ensures place { IfErr result (LocatesRow (statement_worded stated.Decrement) (borrowed_view value.now)) }
 {
     check_keys(alloc, value, &["k", "attrs", "expr"])?;
     let attributes = attributes_member(alloc, numbering, value, "attrs")?;
@@ -78,10 +78,10 @@ pub(crate) fn read_decrement(
 pub(crate) fn read_break(
     alloc: Global,
     numbering: &mut Numbering,
-    value: &Value,
+    value: &BorrowedValue<'_>,
 ) -> Result<Statement, Error>
-    ensures ok { IfOk result (λ e. ReadsStatement stated.Break (view value.now) (statement_view e) numbering.old numbering.new) }
-    ensures place { IfErr result (LocatesRow (statement_worded stated.Break) (view value.now)) }
+    ensures ok { IfOk result (λ e. ReadsStatement stated.Break (borrowed_view value.now) (statement_view e) numbering.old numbering.new) }
+    ensures place { IfErr result (LocatesRow (statement_worded stated.Break) (borrowed_view value.now)) }
 {
     check_keys(alloc, value, &["k", "attrs"])?;
     let attributes = attributes_member(alloc, numbering, value, "attrs")?;
@@ -92,10 +92,10 @@ pub(crate) fn read_break(
 pub(crate) fn read_continue(
     alloc: Global,
     numbering: &mut Numbering,
-    value: &Value,
+    value: &BorrowedValue<'_>,
 ) -> Result<Statement, Error>
-    ensures ok { IfOk result (λ e. ReadsStatement stated.Continue (view value.now) (statement_view e) numbering.old numbering.new) }
-    ensures place { IfErr result (LocatesRow (statement_worded stated.Continue) (view value.now)) }
+    ensures ok { IfOk result (λ e. ReadsStatement stated.Continue (borrowed_view value.now) (statement_view e) numbering.old numbering.new) }
+    ensures place { IfErr result (LocatesRow (statement_worded stated.Continue) (borrowed_view value.now)) }
 {
     check_keys(alloc, value, &["k", "attrs"])?;
     let attributes = attributes_member(alloc, numbering, value, "attrs")?;
@@ -106,10 +106,10 @@ pub(crate) fn read_continue(
 pub(crate) fn read_discard(
     alloc: Global,
     numbering: &mut Numbering,
-    value: &Value,
+    value: &BorrowedValue<'_>,
 ) -> Result<Statement, Error>
-    ensures ok { IfOk result (λ e. ReadsStatement stated.Discard (view value.now) (statement_view e) numbering.old numbering.new) }
-    ensures place { IfErr result (LocatesRow (statement_worded stated.Discard) (view value.now)) }
+    ensures ok { IfOk result (λ e. ReadsStatement stated.Discard (borrowed_view value.now) (statement_view e) numbering.old numbering.new) }
+    ensures place { IfErr result (LocatesRow (statement_worded stated.Discard) (borrowed_view value.now)) }
 {
     check_keys(alloc, value, &["k", "attrs"])?;
     let attributes = attributes_member(alloc, numbering, value, "attrs")?;
@@ -120,10 +120,10 @@ pub(crate) fn read_discard(
 pub(crate) fn read_return(
     alloc: Global,
     numbering: &mut Numbering,
-    value: &Value,
+    value: &BorrowedValue<'_>,
 ) -> Result<Statement, Error>
-    ensures ok { IfOk result (λ e. ReadsStatement stated.Return (view value.now) (statement_view e) numbering.old numbering.new) }
-    ensures place { IfErr result (LocatesRow (statement_worded stated.Return) (view value.now)) }
+    ensures ok { IfOk result (λ e. ReadsStatement stated.Return (borrowed_view value.now) (statement_view e) numbering.old numbering.new) }
+    ensures place { IfErr result (LocatesRow (statement_worded stated.Return) (borrowed_view value.now)) }
 {
     check_keys(alloc, value, &["k", "attrs", "expr"])?;
     let attributes = attributes_member(alloc, numbering, value, "attrs")?;
@@ -138,10 +138,10 @@ pub(crate) fn read_return(
 pub(crate) fn read_call_statement(
     alloc: Global,
     numbering: &mut Numbering,
-    value: &Value,
+    value: &BorrowedValue<'_>,
 ) -> Result<Statement, Error>
-    ensures ok { IfOk result (λ e. ReadsStatement stated.Call (view value.now) (statement_view e) numbering.old numbering.new) }
-    ensures place { IfErr result (LocatesRow (statement_worded stated.Call) (view value.now)) }
+    ensures ok { IfOk result (λ e. ReadsStatement stated.Call (borrowed_view value.now) (statement_view e) numbering.old numbering.new) }
+    ensures place { IfErr result (LocatesRow (statement_worded stated.Call) (borrowed_view value.now)) }
 {
     check_keys(alloc, value, &["k", "attrs", "call"])?;
     let attributes = attributes_member(alloc, numbering, value, "attrs")?;

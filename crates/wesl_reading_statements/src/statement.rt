@@ -1,7 +1,7 @@
 //! Reading statements and blocks (WGSL, "Statements").
 ghost use Rattle.std.specs.Prelude.{IfOk, IfErr, codes};
 ghost use Rattle.std.specs.Box.{box_value};
-ghost use Rattle.serde_json.specs.View.{view};
+ghost use Rattle.wesl_borrowed.specs.View.{borrowed_view};
 ghost use Rattle.wesl_syntax.specs.Tree.{clauses, list, statements};
 ghost use Rattle.wesl_syntax.specs.View.{clause_view, compound_view, continuing_view, else_if_view, else_view, listed, optional as option_view, statement_tree, statement_view};
 ghost use Rattle.wesl_form.specs.Schema.{a_body, a_clause, a_continuing, a_statement, an_elif, an_else, list_of, node as node_form};
@@ -18,8 +18,8 @@ use crate::simple::{
     read_increment, read_return,
 };
 use crate::words::{StatementWord, statement_word};
-use serde_json::Value;
 use std::alloc::Global;
+use wesl_borrowed::BorrowedValue;
 use wesl_names::Error;
 use wesl_reading::{
     Numbering, attributes_member, check_keys, expression_member, optional_expression, required,
@@ -35,10 +35,10 @@ use wesl_syntax::{
 pub(crate) fn read_statement(
     alloc: Global,
     numbering: &mut Numbering,
-    value: &Value,
+    value: &BorrowedValue<'_>,
 ) -> Result<StatementNode, Error>
-    ensures ok { IfOk result (λ e. Reads (node_form a_statement) (view value.now) (statement_tree e) numbering.old numbering.new) }
-    ensures place { IfErr result (Locates (node_form a_statement) (view value.now)) }
+    ensures ok { IfOk result (λ e. Reads (node_form a_statement) (borrowed_view value.now) (statement_tree e) numbering.old numbering.new) }
+    ensures place { IfErr result (Locates (node_form a_statement) (borrowed_view value.now)) }
 {
     let word = statement_word_of(alloc, value)?;
     match read_worded(alloc, numbering, value, word) {
@@ -48,9 +48,9 @@ pub(crate) fn read_statement(
 }
 
 // The word at `k`.
-fn statement_word_of(alloc: Global, value: &Value) -> Result<StatementWord, Error>
-    ensures word { IfOk result (λ w. HasWord (statement_text w) (view value.now)) }
-    ensures place { IfErr result (Locates (node_form a_statement) (view value.now)) }
+fn statement_word_of(alloc: Global, value: &BorrowedValue<'_>) -> Result<StatementWord, Error>
+    ensures word { IfOk result (λ w. HasWord (statement_text w) (borrowed_view value.now)) }
+    ensures place { IfErr result (Locates (node_form a_statement) (borrowed_view value.now)) }
 {
     let word = required(alloc, value, "k")?;
     match word.as_str().and_then(statement_word) {
@@ -63,11 +63,11 @@ fn statement_word_of(alloc: Global, value: &Value) -> Result<StatementWord, Erro
 fn read_worded(
     alloc: Global,
     numbering: &mut Numbering,
-    value: &Value,
+    value: &BorrowedValue<'_>,
     word: StatementWord,
 ) -> Result<Statement, Error>
-    ensures ok { IfOk result (λ e. ReadsStatement word (view value.now) (statement_view e) numbering.old numbering.new) }
-    ensures place { IfErr result (LocatesRow (statement_worded word) (view value.now)) }
+    ensures ok { IfOk result (λ e. ReadsStatement word (borrowed_view value.now) (statement_view e) numbering.old numbering.new) }
+    ensures place { IfErr result (LocatesRow (statement_worded word) (borrowed_view value.now)) }
 {
     match word {
         StatementWord::Block => read_block(alloc, numbering, value),
@@ -92,9 +92,13 @@ fn read_worded(
 }
 
 #[cycle(statements)]
-fn read_block(alloc: Global, numbering: &mut Numbering, value: &Value) -> Result<Statement, Error>
-    ensures ok { IfOk result (λ e. ReadsStatement stated.Block (view value.now) (statement_view e) numbering.old numbering.new) }
-    ensures place { IfErr result (LocatesRow (statement_worded stated.Block) (view value.now)) }
+fn read_block(
+    alloc: Global,
+    numbering: &mut Numbering,
+    value: &BorrowedValue<'_>,
+) -> Result<Statement, Error>
+    ensures ok { IfOk result (λ e. ReadsStatement stated.Block (borrowed_view value.now) (statement_view e) numbering.old numbering.new) }
+    ensures place { IfErr result (LocatesRow (statement_worded stated.Block) (borrowed_view value.now)) }
 {
     check_keys(alloc, value, &["k", "attrs", "stmts"])?;
     let attributes = attributes_member(alloc, numbering, value, "attrs")?;
@@ -106,9 +110,13 @@ fn read_block(alloc: Global, numbering: &mut Numbering, value: &Value) -> Result
 }
 
 #[cycle(statements)]
-fn read_if(alloc: Global, numbering: &mut Numbering, value: &Value) -> Result<Statement, Error>
-    ensures ok { IfOk result (λ e. ReadsStatement stated.If (view value.now) (statement_view e) numbering.old numbering.new) }
-    ensures place { IfErr result (LocatesRow (statement_worded stated.If) (view value.now)) }
+fn read_if(
+    alloc: Global,
+    numbering: &mut Numbering,
+    value: &BorrowedValue<'_>,
+) -> Result<Statement, Error>
+    ensures ok { IfOk result (λ e. ReadsStatement stated.If (borrowed_view value.now) (statement_view e) numbering.old numbering.new) }
+    ensures place { IfErr result (LocatesRow (statement_worded stated.If) (borrowed_view value.now)) }
 {
     check_keys(
         alloc,
@@ -129,9 +137,13 @@ fn read_if(alloc: Global, numbering: &mut Numbering, value: &Value) -> Result<St
 }
 
 #[cycle(statements)]
-fn read_switch(alloc: Global, numbering: &mut Numbering, value: &Value) -> Result<Statement, Error>
-    ensures ok { IfOk result (λ e. ReadsStatement stated.Switch (view value.now) (statement_view e) numbering.old numbering.new) }
-    ensures place { IfErr result (LocatesRow (statement_worded stated.Switch) (view value.now)) }
+fn read_switch(
+    alloc: Global,
+    numbering: &mut Numbering,
+    value: &BorrowedValue<'_>,
+) -> Result<Statement, Error>
+    ensures ok { IfOk result (λ e. ReadsStatement stated.Switch (borrowed_view value.now) (statement_view e) numbering.old numbering.new) }
+    ensures place { IfErr result (LocatesRow (statement_worded stated.Switch) (borrowed_view value.now)) }
 {
     check_keys(
         alloc,
@@ -151,9 +163,13 @@ fn read_switch(alloc: Global, numbering: &mut Numbering, value: &Value) -> Resul
 }
 
 #[cycle(statements)]
-fn read_loop(alloc: Global, numbering: &mut Numbering, value: &Value) -> Result<Statement, Error>
-    ensures ok { IfOk result (λ e. ReadsStatement stated.Loop (view value.now) (statement_view e) numbering.old numbering.new) }
-    ensures place { IfErr result (LocatesRow (statement_worded stated.Loop) (view value.now)) }
+fn read_loop(
+    alloc: Global,
+    numbering: &mut Numbering,
+    value: &BorrowedValue<'_>,
+) -> Result<Statement, Error>
+    ensures ok { IfOk result (λ e. ReadsStatement stated.Loop (borrowed_view value.now) (statement_view e) numbering.old numbering.new) }
+    ensures place { IfErr result (LocatesRow (statement_worded stated.Loop) (borrowed_view value.now)) }
 {
     check_keys(alloc, value, &["k", "attrs", "body", "continuing"])?;
     let attributes = attributes_member(alloc, numbering, value, "attrs")?;
@@ -167,9 +183,13 @@ fn read_loop(alloc: Global, numbering: &mut Numbering, value: &Value) -> Result<
 }
 
 #[cycle(statements)]
-fn read_for(alloc: Global, numbering: &mut Numbering, value: &Value) -> Result<Statement, Error>
-    ensures ok { IfOk result (λ e. ReadsStatement stated.For (view value.now) (statement_view e) numbering.old numbering.new) }
-    ensures place { IfErr result (LocatesRow (statement_worded stated.For) (view value.now)) }
+fn read_for(
+    alloc: Global,
+    numbering: &mut Numbering,
+    value: &BorrowedValue<'_>,
+) -> Result<Statement, Error>
+    ensures ok { IfOk result (λ e. ReadsStatement stated.For (borrowed_view value.now) (statement_view e) numbering.old numbering.new) }
+    ensures place { IfErr result (LocatesRow (statement_worded stated.For) (borrowed_view value.now)) }
 {
     check_keys(
         alloc,
@@ -191,9 +211,13 @@ fn read_for(alloc: Global, numbering: &mut Numbering, value: &Value) -> Result<S
 }
 
 #[cycle(statements)]
-fn read_while(alloc: Global, numbering: &mut Numbering, value: &Value) -> Result<Statement, Error>
-    ensures ok { IfOk result (λ e. ReadsStatement stated.While (view value.now) (statement_view e) numbering.old numbering.new) }
-    ensures place { IfErr result (LocatesRow (statement_worded stated.While) (view value.now)) }
+fn read_while(
+    alloc: Global,
+    numbering: &mut Numbering,
+    value: &BorrowedValue<'_>,
+) -> Result<Statement, Error>
+    ensures ok { IfOk result (λ e. ReadsStatement stated.While (borrowed_view value.now) (statement_view e) numbering.old numbering.new) }
+    ensures place { IfErr result (LocatesRow (statement_worded stated.While) (borrowed_view value.now)) }
 {
     check_keys(alloc, value, &["k", "attrs", "cond", "body"])?;
     let attributes = attributes_member(alloc, numbering, value, "attrs")?;
@@ -211,10 +235,10 @@ fn read_while(alloc: Global, numbering: &mut Numbering, value: &Value) -> Result
 pub fn body_member(
     alloc: Global,
     numbering: &mut Numbering,
-    value: &Value,
+    value: &BorrowedValue<'_>,
 ) -> Result<CompoundStatement, Error>
-    ensures ok { IfOk result (λ e. ReadsNeeded (codes "body") (node_form a_body) (view value.now) (compound_view e) numbering.old numbering.new) }
-    ensures place { IfErr result (LocatesMember (codes "body") (node_form a_body) (view value.now)) }
+    ensures ok { IfOk result (λ e. ReadsNeeded (codes "body") (node_form a_body) (borrowed_view value.now) (compound_view e) numbering.old numbering.new) }
+    ensures place { IfErr result (LocatesMember (codes "body") (node_form a_body) (borrowed_view value.now)) }
 {
     let member = required(alloc, value, "body")?;
     match read_body(alloc, numbering, member) {
@@ -227,10 +251,10 @@ pub fn body_member(
 fn read_body(
     alloc: Global,
     numbering: &mut Numbering,
-    value: &Value,
+    value: &BorrowedValue<'_>,
 ) -> Result<CompoundStatement, Error>
-    ensures ok { IfOk result (λ e. Reads (node_form a_body) (view value.now) (compound_view e) numbering.old numbering.new) }
-    ensures place { IfErr result (Locates (node_form a_body) (view value.now)) }
+    ensures ok { IfOk result (λ e. Reads (node_form a_body) (borrowed_view value.now) (compound_view e) numbering.old numbering.new) }
+    ensures place { IfErr result (Locates (node_form a_body) (borrowed_view value.now)) }
 {
     check_keys(alloc, value, &["attrs", "stmts"])?;
     let attributes = attributes_member(alloc, numbering, value, "attrs")?;
@@ -246,10 +270,10 @@ fn read_body(
 fn statements_member(
     alloc: Global,
     numbering: &mut Numbering,
-    value: &Value,
+    value: &BorrowedValue<'_>,
 ) -> Result<Vec<StatementNode>, Error>
-    ensures ok { IfOk result (λ e. ReadsMany (codes "stmts") (list_of statements a_statement) (view value.now) (listed statement_tree statements e) numbering.old numbering.new) }
-    ensures place { IfErr result (LocatesInside (codes "stmts") (list_of statements a_statement) (view value.now)) }
+    ensures ok { IfOk result (λ e. ReadsMany (codes "stmts") (list_of statements a_statement) (borrowed_view value.now) (listed statement_tree statements e) numbering.old numbering.new) }
+    ensures place { IfErr result (LocatesInside (codes "stmts") (list_of statements a_statement) (borrowed_view value.now)) }
 {
     let Some(member) = value.get("stmts") else {
         return Ok(Vec::new(alloc));
@@ -264,10 +288,10 @@ fn statements_member(
 fn read_statements(
     alloc: Global,
     numbering: &mut Numbering,
-    value: &Value,
+    value: &BorrowedValue<'_>,
 ) -> Result<Vec<StatementNode>, Error>
-    ensures ok { IfOk result (λ e. Reads (list_of statements a_statement) (view value.now) (listed statement_tree statements e) numbering.old numbering.new) }
-    ensures place { IfErr result (Locates (list_of statements a_statement) (view value.now)) }
+    ensures ok { IfOk result (λ e. Reads (list_of statements a_statement) (borrowed_view value.now) (listed statement_tree statements e) numbering.old numbering.new) }
+    ensures place { IfErr result (Locates (list_of statements a_statement) (borrowed_view value.now)) }
 {
     let Some(items) = value.as_array() else {
         return Err(wrong(alloc));
@@ -287,11 +311,11 @@ fn read_statements(
 fn optional_statement(
     alloc: Global,
     numbering: &mut Numbering,
-    value: &Value,
+    value: &BorrowedValue<'_>,
     key: &str,
 ) -> Result<Option<Box<StatementNode>>, Error>
-    ensures ok { IfOk result (λ e. ReadsMay key.now (node_form a_statement) (view value.now) (option_view (λ s. statement_tree (box_value s)) e) numbering.old numbering.new) }
-    ensures place { IfErr result (LocatesInside key.now (node_form a_statement) (view value.now)) }
+    ensures ok { IfOk result (λ e. ReadsMay key.now (node_form a_statement) (borrowed_view value.now) (option_view (λ s. statement_tree (box_value s)) e) numbering.old numbering.new) }
+    ensures place { IfErr result (LocatesInside key.now (node_form a_statement) (borrowed_view value.now)) }
 {
     let Some(member) = value.get(key) else {
         return Ok(None);
@@ -307,10 +331,10 @@ fn optional_statement(
 fn elifs_member(
     alloc: Global,
     numbering: &mut Numbering,
-    value: &Value,
+    value: &BorrowedValue<'_>,
 ) -> Result<Vec<ElseIfClause>, Error>
-    ensures ok { IfOk result (λ e. ReadsMany (codes "elifs") (list_of list an_elif) (view value.now) (listed else_if_view list e) numbering.old numbering.new) }
-    ensures place { IfErr result (LocatesInside (codes "elifs") (list_of list an_elif) (view value.now)) }
+    ensures ok { IfOk result (λ e. ReadsMany (codes "elifs") (list_of list an_elif) (borrowed_view value.now) (listed else_if_view list e) numbering.old numbering.new) }
+    ensures place { IfErr result (LocatesInside (codes "elifs") (list_of list an_elif) (borrowed_view value.now)) }
 {
     let Some(member) = value.get("elifs") else {
         return Ok(Vec::new(alloc));
@@ -325,10 +349,10 @@ fn elifs_member(
 fn read_elifs(
     alloc: Global,
     numbering: &mut Numbering,
-    value: &Value,
+    value: &BorrowedValue<'_>,
 ) -> Result<Vec<ElseIfClause>, Error>
-    ensures ok { IfOk result (λ e. Reads (list_of list an_elif) (view value.now) (listed else_if_view list e) numbering.old numbering.new) }
-    ensures place { IfErr result (Locates (list_of list an_elif) (view value.now)) }
+    ensures ok { IfOk result (λ e. Reads (list_of list an_elif) (borrowed_view value.now) (listed else_if_view list e) numbering.old numbering.new) }
+    ensures place { IfErr result (Locates (list_of list an_elif) (borrowed_view value.now)) }
 {
     let Some(items) = value.as_array() else {
         return Err(wrong(alloc));
@@ -344,9 +368,13 @@ fn read_elifs(
 }
 
 #[cycle(statements)]
-fn read_elif(alloc: Global, numbering: &mut Numbering, value: &Value) -> Result<ElseIfClause, Error>
-    ensures ok { IfOk result (λ e. Reads (node_form an_elif) (view value.now) (else_if_view e) numbering.old numbering.new) }
-    ensures place { IfErr result (Locates (node_form an_elif) (view value.now)) }
+fn read_elif(
+    alloc: Global,
+    numbering: &mut Numbering,
+    value: &BorrowedValue<'_>,
+) -> Result<ElseIfClause, Error>
+    ensures ok { IfOk result (λ e. Reads (node_form an_elif) (borrowed_view value.now) (else_if_view e) numbering.old numbering.new) }
+    ensures place { IfErr result (Locates (node_form an_elif) (borrowed_view value.now)) }
 {
     check_keys(alloc, value, &["attrs", "cond", "body"])?;
     let attributes = attributes_member(alloc, numbering, value, "attrs")?;
@@ -364,10 +392,10 @@ fn read_elif(alloc: Global, numbering: &mut Numbering, value: &Value) -> Result<
 fn optional_else(
     alloc: Global,
     numbering: &mut Numbering,
-    value: &Value,
+    value: &BorrowedValue<'_>,
 ) -> Result<Option<ElseClause>, Error>
-    ensures ok { IfOk result (λ e. ReadsMay (codes "else") (node_form an_else) (view value.now) (option_view else_view e) numbering.old numbering.new) }
-    ensures place { IfErr result (LocatesInside (codes "else") (node_form an_else) (view value.now)) }
+    ensures ok { IfOk result (λ e. ReadsMay (codes "else") (node_form an_else) (borrowed_view value.now) (option_view else_view e) numbering.old numbering.new) }
+    ensures place { IfErr result (LocatesInside (codes "else") (node_form an_else) (borrowed_view value.now)) }
 {
     let Some(member) = value.get("else") else {
         return Ok(None);
@@ -379,9 +407,13 @@ fn optional_else(
 }
 
 #[cycle(statements)]
-fn read_else(alloc: Global, numbering: &mut Numbering, value: &Value) -> Result<ElseClause, Error>
-    ensures ok { IfOk result (λ e. Reads (node_form an_else) (view value.now) (else_view e) numbering.old numbering.new) }
-    ensures place { IfErr result (Locates (node_form an_else) (view value.now)) }
+fn read_else(
+    alloc: Global,
+    numbering: &mut Numbering,
+    value: &BorrowedValue<'_>,
+) -> Result<ElseClause, Error>
+    ensures ok { IfOk result (λ e. Reads (node_form an_else) (borrowed_view value.now) (else_view e) numbering.old numbering.new) }
+    ensures place { IfErr result (Locates (node_form an_else) (borrowed_view value.now)) }
 {
     check_keys(alloc, value, &["attrs", "body"])?;
     let attributes = attributes_member(alloc, numbering, value, "attrs")?;
@@ -394,10 +426,10 @@ fn read_else(alloc: Global, numbering: &mut Numbering, value: &Value) -> Result<
 fn clauses_member(
     alloc: Global,
     numbering: &mut Numbering,
-    value: &Value,
+    value: &BorrowedValue<'_>,
 ) -> Result<Vec<SwitchClause>, Error>
-    ensures ok { IfOk result (λ e. ReadsMany (codes "clauses") (list_of clauses a_clause) (view value.now) (listed clause_view clauses e) numbering.old numbering.new) }
-    ensures place { IfErr result (LocatesInside (codes "clauses") (list_of clauses a_clause) (view value.now)) }
+    ensures ok { IfOk result (λ e. ReadsMany (codes "clauses") (list_of clauses a_clause) (borrowed_view value.now) (listed clause_view clauses e) numbering.old numbering.new) }
+    ensures place { IfErr result (LocatesInside (codes "clauses") (list_of clauses a_clause) (borrowed_view value.now)) }
 {
     let Some(member) = value.get("clauses") else {
         return Ok(Vec::new(alloc));
@@ -412,10 +444,10 @@ fn clauses_member(
 fn read_clauses(
     alloc: Global,
     numbering: &mut Numbering,
-    value: &Value,
+    value: &BorrowedValue<'_>,
 ) -> Result<Vec<SwitchClause>, Error>
-    ensures ok { IfOk result (λ e. Reads (list_of clauses a_clause) (view value.now) (listed clause_view clauses e) numbering.old numbering.new) }
-    ensures place { IfErr result (Locates (list_of clauses a_clause) (view value.now)) }
+    ensures ok { IfOk result (λ e. Reads (list_of clauses a_clause) (borrowed_view value.now) (listed clause_view clauses e) numbering.old numbering.new) }
+    ensures place { IfErr result (Locates (list_of clauses a_clause) (borrowed_view value.now)) }
 {
     let Some(items) = value.as_array() else {
         return Err(wrong(alloc));
@@ -434,10 +466,10 @@ fn read_clauses(
 fn read_clause(
     alloc: Global,
     numbering: &mut Numbering,
-    value: &Value,
+    value: &BorrowedValue<'_>,
 ) -> Result<SwitchClause, Error>
-    ensures ok { IfOk result (λ e. Reads (node_form a_clause) (view value.now) (clause_view e) numbering.old numbering.new) }
-    ensures place { IfErr result (Locates (node_form a_clause) (view value.now)) }
+    ensures ok { IfOk result (λ e. Reads (node_form a_clause) (borrowed_view value.now) (clause_view e) numbering.old numbering.new) }
+    ensures place { IfErr result (Locates (node_form a_clause) (borrowed_view value.now)) }
 {
     check_keys(alloc, value, &["attrs", "cases", "body"])?;
     let attributes = attributes_member(alloc, numbering, value, "attrs")?;
@@ -455,10 +487,10 @@ fn read_clause(
 fn optional_continuing(
     alloc: Global,
     numbering: &mut Numbering,
-    value: &Value,
+    value: &BorrowedValue<'_>,
 ) -> Result<Option<ContinuingStatement>, Error>
-    ensures ok { IfOk result (λ e. ReadsMay (codes "continuing") (node_form a_continuing) (view value.now) (option_view continuing_view e) numbering.old numbering.new) }
-    ensures place { IfErr result (LocatesInside (codes "continuing") (node_form a_continuing) (view value.now)) }
+    ensures ok { IfOk result (λ e. ReadsMay (codes "continuing") (node_form a_continuing) (borrowed_view value.now) (option_view continuing_view e) numbering.old numbering.new) }
+    ensures place { IfErr result (LocatesInside (codes "continuing") (node_form a_continuing) (borrowed_view value.now)) }
 {
     let Some(member) = value.get("continuing") else {
         return Ok(None);
@@ -473,10 +505,10 @@ fn optional_continuing(
 fn read_continuing(
     alloc: Global,
     numbering: &mut Numbering,
-    value: &Value,
+    value: &BorrowedValue<'_>,
 ) -> Result<ContinuingStatement, Error>
-    ensures ok { IfOk result (λ e. Reads (node_form a_continuing) (view value.now) (continuing_view e) numbering.old numbering.new) }
-    ensures place { IfErr result (Locates (node_form a_continuing) (view value.now)) }
+    ensures ok { IfOk result (λ e. Reads (node_form a_continuing) (borrowed_view value.now) (continuing_view e) numbering.old numbering.new) }
+    ensures place { IfErr result (Locates (node_form a_continuing) (borrowed_view value.now)) }
 {
     check_keys(alloc, value, &["attrs", "body", "break_if"])?;
     let attributes = attributes_member(alloc, numbering, value, "attrs")?;

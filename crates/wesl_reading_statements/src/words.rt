@@ -1,7 +1,7 @@
 //! The words of statements, and of what stands in modules and in functions.
 ghost use Rattle.std.specs.Prelude.{◌≡◌, Some, None, IfOk, IfErr, IfSome, codes, option_map, option_and_then};
 ghost use Rattle.serde_json.specs.Find.{get};
-ghost use Rattle.serde_json.specs.View.{view};
+ghost use Rattle.wesl_borrowed.specs.View.{borrowed_view};
 ghost use Rattle.wesl_syntax.specs.Tree.{Kind, access, assignment, space};
 ghost use Rattle.wesl_form.specs.Nodes.{declared_words, statement_words};
 ghost use Rattle.wesl_form.specs.Schema.{look};
@@ -10,8 +10,8 @@ ghost use Rattle.wesl_form.specs.Reading.{word_in};
 ghost use Rattle.wesl_reading.specs.Faults.{LocatesHere, LocatesText};
 ghost use Rattle.wesl_reading_statements.specs.Forms.{declared_of, declared_text, statement_of, statement_text};
 
-use serde_json::Value;
 use std::alloc::Global;
+use wesl_borrowed::BorrowedValue;
 use wesl_names::Error;
 use wesl_reading::{required, under, wrong};
 use wesl_syntax::{AccessMode, AddressSpace, AssignmentOperator};
@@ -140,9 +140,12 @@ fn access_mode(text: &str) -> Option<AccessMode>
     }
 }
 
-fn assignment_operator_of(alloc: Global, value: &Value) -> Result<AssignmentOperator, Error>
-    ensures ok { IfOk result (λ o. word_in assignment_words (view value.now) ≡ Some (assignment o)) }
-    ensures place { IfErr result (LocatesHere (word_in assignment_words (view value.now))) }
+fn assignment_operator_of(
+    alloc: Global,
+    value: &BorrowedValue<'_>,
+) -> Result<AssignmentOperator, Error>
+    ensures ok { IfOk result (λ o. word_in assignment_words (borrowed_view value.now) ≡ Some (assignment o)) }
+    ensures place { IfErr result (LocatesHere (word_in assignment_words (borrowed_view value.now))) }
 {
     match value.as_str().and_then(assignment_operator) {
         Some(operator) => Ok(operator),
@@ -150,9 +153,9 @@ fn assignment_operator_of(alloc: Global, value: &Value) -> Result<AssignmentOper
     }
 }
 
-fn address_space_of(alloc: Global, value: &Value) -> Result<AddressSpace, Error>
-    ensures ok { IfOk result (λ o. word_in space_words (view value.now) ≡ Some (space o)) }
-    ensures place { IfErr result (LocatesHere (word_in space_words (view value.now))) }
+fn address_space_of(alloc: Global, value: &BorrowedValue<'_>) -> Result<AddressSpace, Error>
+    ensures ok { IfOk result (λ o. word_in space_words (borrowed_view value.now) ≡ Some (space o)) }
+    ensures place { IfErr result (LocatesHere (word_in space_words (borrowed_view value.now))) }
 {
     match value.as_str().and_then(address_space) {
         Some(space) => Ok(space),
@@ -161,9 +164,9 @@ fn address_space_of(alloc: Global, value: &Value) -> Result<AddressSpace, Error>
 }
 
 /// The access mode that a word is.
-pub(crate) fn access_mode_of(alloc: Global, value: &Value) -> Result<AccessMode, Error>
-    ensures ok { IfOk result (λ o. word_in access_words (view value.now) ≡ Some (access o)) }
-    ensures place { IfErr result (LocatesHere (word_in access_words (view value.now))) }
+pub(crate) fn access_mode_of(alloc: Global, value: &BorrowedValue<'_>) -> Result<AccessMode, Error>
+    ensures ok { IfOk result (λ o. word_in access_words (borrowed_view value.now) ≡ Some (access o)) }
+    ensures place { IfErr result (LocatesHere (word_in access_words (borrowed_view value.now))) }
 {
     match value.as_str().and_then(access_mode) {
         Some(mode) => Ok(mode),
@@ -172,9 +175,12 @@ pub(crate) fn access_mode_of(alloc: Global, value: &Value) -> Result<AccessMode,
 }
 
 /// The operator of an assignment, at `op`.
-pub(crate) fn assignment_member(alloc: Global, value: &Value) -> Result<AssignmentOperator, Error>
-    ensures ok { IfOk result (λ o. option_and_then (word_in assignment_words) (get (codes "op") (view value.now)) ≡ Some (assignment o)) }
-    ensures place { IfErr result (LocatesText (word_in assignment_words) (codes "op") (view value.now)) }
+pub(crate) fn assignment_member(
+    alloc: Global,
+    value: &BorrowedValue<'_>,
+) -> Result<AssignmentOperator, Error>
+    ensures ok { IfOk result (λ o. option_and_then (word_in assignment_words) (get (codes "op") (borrowed_view value.now)) ≡ Some (assignment o)) }
+    ensures place { IfErr result (LocatesText (word_in assignment_words) (codes "op") (borrowed_view value.now)) }
 {
     let member = required(alloc, value, "op")?;
     match assignment_operator_of(alloc, member) {
@@ -184,9 +190,9 @@ pub(crate) fn assignment_member(alloc: Global, value: &Value) -> Result<Assignme
 }
 
 /// The address space at `space`.
-pub(crate) fn space_member(alloc: Global, value: &Value) -> Result<AddressSpace, Error>
-    ensures ok { IfOk result (λ o. option_and_then (word_in space_words) (get (codes "space") (view value.now)) ≡ Some (space o)) }
-    ensures place { IfErr result (LocatesText (word_in space_words) (codes "space") (view value.now)) }
+pub(crate) fn space_member(alloc: Global, value: &BorrowedValue<'_>) -> Result<AddressSpace, Error>
+    ensures ok { IfOk result (λ o. option_and_then (word_in space_words) (get (codes "space") (borrowed_view value.now)) ≡ Some (space o)) }
+    ensures place { IfErr result (LocatesText (word_in space_words) (codes "space") (borrowed_view value.now)) }
 {
     let member = required(alloc, value, "space")?;
     match address_space_of(alloc, member) {

@@ -1,6 +1,6 @@
 //! Reading the declarations of a module (WGSL, "Declaration and Scope").
 ghost use Rattle.std.specs.Prelude.{◌≡◌, IfOk, IfErr, codes};
-ghost use Rattle.serde_json.specs.View.{view};
+ghost use Rattle.wesl_borrowed.specs.View.{borrowed_view};
 ghost use Rattle.wesl_syntax.specs.Tree.{declaration_node, declarations, member_node, members, parameters};
 ghost use Rattle.wesl_syntax.specs.View.{declarations_tree, global_view, listed, member_view, parameter_view, placed};
 ghost use Rattle.wesl_form.specs.Schema.{a_declaration, a_member, a_parameter, list_of, node as node_form};
@@ -12,8 +12,8 @@ ghost use Rattle.wesl_reading_unit.specs.declared.words.DeclarationWord.TheVaria
 ghost use Rattle.wesl_reading_unit.specs.Forms.{ReadsDeclaration, declaration_text, declaration_worded};
 
 use crate::words::{DeclarationWord, declaration_word};
-use serde_json::Value;
 use std::alloc::Global;
+use wesl_borrowed::BorrowedValue;
 use wesl_names::Error;
 use wesl_reading::{
     Numbering, attributes_member, check_keys, optional_type, required, type_member, under,
@@ -31,10 +31,10 @@ use wesl_syntax::{
 pub(crate) fn declarations_member(
     alloc: Global,
     numbering: &mut Numbering,
-    value: &Value,
+    value: &BorrowedValue<'_>,
 ) -> Result<Vec<GlobalDeclarationNode>, Error>
-    ensures ok { IfOk result (λ e. ReadsMany (codes "declarations") (list_of declarations a_declaration) (view value.now) (declarations_tree e) numbering.old numbering.new) }
-    ensures place { IfErr result (LocatesInside (codes "declarations") (list_of declarations a_declaration) (view value.now)) }
+    ensures ok { IfOk result (λ e. ReadsMany (codes "declarations") (list_of declarations a_declaration) (borrowed_view value.now) (declarations_tree e) numbering.old numbering.new) }
+    ensures place { IfErr result (LocatesInside (codes "declarations") (list_of declarations a_declaration) (borrowed_view value.now)) }
 {
     let Some(member) = value.get("declarations") else {
         return Ok(Vec::new(alloc));
@@ -48,10 +48,10 @@ pub(crate) fn declarations_member(
 fn read_declarations(
     alloc: Global,
     numbering: &mut Numbering,
-    value: &Value,
+    value: &BorrowedValue<'_>,
 ) -> Result<Vec<GlobalDeclarationNode>, Error>
-    ensures ok { IfOk result (λ e. Reads (list_of declarations a_declaration) (view value.now) (declarations_tree e) numbering.old numbering.new) }
-    ensures place { IfErr result (Locates (list_of declarations a_declaration) (view value.now)) }
+    ensures ok { IfOk result (λ e. Reads (list_of declarations a_declaration) (borrowed_view value.now) (declarations_tree e) numbering.old numbering.new) }
+    ensures place { IfErr result (Locates (list_of declarations a_declaration) (borrowed_view value.now)) }
 {
     let Some(items) = value.as_array() else {
         return Err(wrong(alloc));
@@ -69,10 +69,10 @@ fn read_declarations(
 fn read_declaration(
     alloc: Global,
     numbering: &mut Numbering,
-    value: &Value,
+    value: &BorrowedValue<'_>,
 ) -> Result<GlobalDeclarationNode, Error>
-    ensures ok { IfOk result (λ e. Reads (node_form a_declaration) (view value.now) (placed global_view declaration_node e) numbering.old numbering.new) }
-    ensures place { IfErr result (Locates (node_form a_declaration) (view value.now)) }
+    ensures ok { IfOk result (λ e. Reads (node_form a_declaration) (borrowed_view value.now) (placed global_view declaration_node e) numbering.old numbering.new) }
+    ensures place { IfErr result (Locates (node_form a_declaration) (borrowed_view value.now)) }
 {
     let word = declaration_word_of(alloc, value)?;
     match read_worded(alloc, numbering, value, word) {
@@ -82,9 +82,9 @@ fn read_declaration(
 }
 
 // The word at `k`.
-fn declaration_word_of(alloc: Global, value: &Value) -> Result<DeclarationWord, Error>
-    ensures word { IfOk result (λ w. HasWord (declaration_text w) (view value.now)) }
-    ensures place { IfErr result (Locates (node_form a_declaration) (view value.now)) }
+fn declaration_word_of(alloc: Global, value: &BorrowedValue<'_>) -> Result<DeclarationWord, Error>
+    ensures word { IfOk result (λ w. HasWord (declaration_text w) (borrowed_view value.now)) }
+    ensures place { IfErr result (Locates (node_form a_declaration) (borrowed_view value.now)) }
 {
     let word = required(alloc, value, "k")?;
     match word.as_str().and_then(declaration_word) {
@@ -96,11 +96,11 @@ fn declaration_word_of(alloc: Global, value: &Value) -> Result<DeclarationWord, 
 fn read_worded(
     alloc: Global,
     numbering: &mut Numbering,
-    value: &Value,
+    value: &BorrowedValue<'_>,
     word: DeclarationWord,
 ) -> Result<GlobalDeclaration, Error>
-    ensures ok { IfOk result (λ e. ReadsDeclaration word (view value.now) (global_view e) numbering.old numbering.new) }
-    ensures place { IfErr result (LocatesRow (declaration_worded word) (view value.now)) }
+    ensures ok { IfOk result (λ e. ReadsDeclaration word (borrowed_view value.now) (global_view e) numbering.old numbering.new) }
+    ensures place { IfErr result (LocatesRow (declaration_worded word) (borrowed_view value.now)) }
 {
     match word {
         DeclarationWord::Alias => read_alias(alloc, numbering, value),
@@ -127,10 +127,10 @@ fn global_of(declared: Declared) -> GlobalDeclaration
 fn read_alias(
     alloc: Global,
     numbering: &mut Numbering,
-    value: &Value,
+    value: &BorrowedValue<'_>,
 ) -> Result<GlobalDeclaration, Error>
-    ensures ok { IfOk result (λ e. ReadsDeclaration globals.Alias (view value.now) (global_view e) numbering.old numbering.new) }
-    ensures place { IfErr result (LocatesRow (declaration_worded globals.Alias) (view value.now)) }
+    ensures ok { IfOk result (λ e. ReadsDeclaration globals.Alias (borrowed_view value.now) (global_view e) numbering.old numbering.new) }
+    ensures place { IfErr result (LocatesRow (declaration_worded globals.Alias) (borrowed_view value.now)) }
 {
     check_keys(alloc, value, &["k", "attrs", "name", "ty"])?;
     let attributes = attributes_member(alloc, numbering, value, "attrs")?;
@@ -146,10 +146,10 @@ fn read_alias(
 fn read_struct(
     alloc: Global,
     numbering: &mut Numbering,
-    value: &Value,
+    value: &BorrowedValue<'_>,
 ) -> Result<GlobalDeclaration, Error>
-    ensures ok { IfOk result (λ e. ReadsDeclaration globals.Struct (view value.now) (global_view e) numbering.old numbering.new) }
-    ensures place { IfErr result (LocatesRow (declaration_worded globals.Struct) (view value.now)) }
+    ensures ok { IfOk result (λ e. ReadsDeclaration globals.Struct (borrowed_view value.now) (global_view e) numbering.old numbering.new) }
+    ensures place { IfErr result (LocatesRow (declaration_worded globals.Struct) (borrowed_view value.now)) }
 {
     check_keys(alloc, value, &["k", "attrs", "name", "members"])?;
     let attributes = attributes_member(alloc, numbering, value, "attrs")?;
@@ -165,10 +165,10 @@ fn read_struct(
 fn read_function(
     alloc: Global,
     numbering: &mut Numbering,
-    value: &Value,
+    value: &BorrowedValue<'_>,
 ) -> Result<GlobalDeclaration, Error>
-    ensures ok { IfOk result (λ e. ReadsDeclaration globals.Function (view value.now) (global_view e) numbering.old numbering.new) }
-    ensures place { IfErr result (LocatesRow (declaration_worded globals.Function) (view value.now)) }
+    ensures ok { IfOk result (λ e. ReadsDeclaration globals.Function (borrowed_view value.now) (global_view e) numbering.old numbering.new) }
+    ensures place { IfErr result (LocatesRow (declaration_worded globals.Function) (borrowed_view value.now)) }
 {
     check_keys(
         alloc,
@@ -195,10 +195,10 @@ fn read_function(
 fn members_member(
     alloc: Global,
     numbering: &mut Numbering,
-    value: &Value,
+    value: &BorrowedValue<'_>,
 ) -> Result<Vec<StructMemberNode>, Error>
-    ensures ok { IfOk result (λ e. ReadsMany (codes "members") (list_of members a_member) (view value.now) (listed (placed member_view member_node) members e) numbering.old numbering.new) }
-    ensures place { IfErr result (LocatesInside (codes "members") (list_of members a_member) (view value.now)) }
+    ensures ok { IfOk result (λ e. ReadsMany (codes "members") (list_of members a_member) (borrowed_view value.now) (listed (placed member_view member_node) members e) numbering.old numbering.new) }
+    ensures place { IfErr result (LocatesInside (codes "members") (list_of members a_member) (borrowed_view value.now)) }
 {
     let Some(member) = value.get("members") else {
         return Ok(Vec::new(alloc));
@@ -212,10 +212,10 @@ fn members_member(
 fn read_members(
     alloc: Global,
     numbering: &mut Numbering,
-    value: &Value,
+    value: &BorrowedValue<'_>,
 ) -> Result<Vec<StructMemberNode>, Error>
-    ensures ok { IfOk result (λ e. Reads (list_of members a_member) (view value.now) (listed (placed member_view member_node) members e) numbering.old numbering.new) }
-    ensures place { IfErr result (Locates (list_of members a_member) (view value.now)) }
+    ensures ok { IfOk result (λ e. Reads (list_of members a_member) (borrowed_view value.now) (listed (placed member_view member_node) members e) numbering.old numbering.new) }
+    ensures place { IfErr result (Locates (list_of members a_member) (borrowed_view value.now)) }
 {
     let Some(items) = value.as_array() else {
         return Err(wrong(alloc));
@@ -233,10 +233,10 @@ fn read_members(
 fn read_member(
     alloc: Global,
     numbering: &mut Numbering,
-    value: &Value,
+    value: &BorrowedValue<'_>,
 ) -> Result<StructMemberNode, Error>
-    ensures ok { IfOk result (λ e. Reads (node_form a_member) (view value.now) (placed member_view member_node e) numbering.old numbering.new) }
-    ensures place { IfErr result (Locates (node_form a_member) (view value.now)) }
+    ensures ok { IfOk result (λ e. Reads (node_form a_member) (borrowed_view value.now) (placed member_view member_node e) numbering.old numbering.new) }
+    ensures place { IfErr result (Locates (node_form a_member) (borrowed_view value.now)) }
 {
     check_keys(alloc, value, &["attrs", "name", "ty"])?;
     let attributes = attributes_member(alloc, numbering, value, "attrs")?;
@@ -253,10 +253,10 @@ fn read_member(
 fn parameters_member(
     alloc: Global,
     numbering: &mut Numbering,
-    value: &Value,
+    value: &BorrowedValue<'_>,
 ) -> Result<Vec<FormalParameter>, Error>
-    ensures ok { IfOk result (λ e. ReadsMany (codes "params") (list_of parameters a_parameter) (view value.now) (listed parameter_view parameters e) numbering.old numbering.new) }
-    ensures place { IfErr result (LocatesInside (codes "params") (list_of parameters a_parameter) (view value.now)) }
+    ensures ok { IfOk result (λ e. ReadsMany (codes "params") (list_of parameters a_parameter) (borrowed_view value.now) (listed parameter_view parameters e) numbering.old numbering.new) }
+    ensures place { IfErr result (LocatesInside (codes "params") (list_of parameters a_parameter) (borrowed_view value.now)) }
 {
     let Some(member) = value.get("params") else {
         return Ok(Vec::new(alloc));
@@ -270,10 +270,10 @@ fn parameters_member(
 fn read_parameters(
     alloc: Global,
     numbering: &mut Numbering,
-    value: &Value,
+    value: &BorrowedValue<'_>,
 ) -> Result<Vec<FormalParameter>, Error>
-    ensures ok { IfOk result (λ e. Reads (list_of parameters a_parameter) (view value.now) (listed parameter_view parameters e) numbering.old numbering.new) }
-    ensures place { IfErr result (Locates (list_of parameters a_parameter) (view value.now)) }
+    ensures ok { IfOk result (λ e. Reads (list_of parameters a_parameter) (borrowed_view value.now) (listed parameter_view parameters e) numbering.old numbering.new) }
+    ensures place { IfErr result (Locates (list_of parameters a_parameter) (borrowed_view value.now)) }
 {
     let Some(items) = value.as_array() else {
         return Err(wrong(alloc));
@@ -291,10 +291,10 @@ fn read_parameters(
 fn read_parameter(
     alloc: Global,
     numbering: &mut Numbering,
-    value: &Value,
+    value: &BorrowedValue<'_>,
 ) -> Result<FormalParameter, Error>
-    ensures ok { IfOk result (λ e. Reads (node_form a_parameter) (view value.now) (parameter_view e) numbering.old numbering.new) }
-    ensures place { IfErr result (Locates (node_form a_parameter) (view value.now)) }
+    ensures ok { IfOk result (λ e. Reads (node_form a_parameter) (borrowed_view value.now) (parameter_view e) numbering.old numbering.new) }
+    ensures place { IfErr result (Locates (node_form a_parameter) (borrowed_view value.now)) }
 {
     check_keys(alloc, value, &["attrs", "name", "ty"])?;
     let attributes = attributes_member(alloc, numbering, value, "attrs")?;

@@ -1,6 +1,6 @@
 //! Reading directives (WGSL, "Directives").
 ghost use Rattle.std.specs.Prelude.{IfOk, IfErr, codes};
-ghost use Rattle.serde_json.specs.View.{view};
+ghost use Rattle.wesl_borrowed.specs.View.{borrowed_view};
 ghost use Rattle.wesl_syntax.specs.Tree.{directive_list, directive_node};
 ghost use Rattle.wesl_syntax.specs.View.{directive_view, directives_tree, placed};
 ghost use Rattle.wesl_form.specs.Schema.{a_directive, list_of, node as node_form};
@@ -11,8 +11,8 @@ ghost use Rattle.wesl_reading_unit.specs.declared.words.DirectiveWord.TheVariant
 ghost use Rattle.wesl_reading_unit.specs.Forms.{ReadsDirective, directive_text, directive_worded};
 
 use crate::words::{DirectiveWord, directive_word};
-use serde_json::Value;
 use std::alloc::Global;
+use wesl_borrowed::BorrowedValue;
 use wesl_names::Error;
 use wesl_reading::{
     Numbering, attributes_member, check_keys, names_member, required, under, under_index, unplaced,
@@ -25,10 +25,10 @@ use wesl_syntax::{GlobalDirective, GlobalDirectiveNode};
 pub(crate) fn directives_member(
     alloc: Global,
     numbering: &mut Numbering,
-    value: &Value,
+    value: &BorrowedValue<'_>,
 ) -> Result<Vec<GlobalDirectiveNode>, Error>
-    ensures ok { IfOk result (λ e. ReadsMany (codes "directives") (list_of directive_list a_directive) (view value.now) (directives_tree e) numbering.old numbering.new) }
-    ensures place { IfErr result (LocatesInside (codes "directives") (list_of directive_list a_directive) (view value.now)) }
+    ensures ok { IfOk result (λ e. ReadsMany (codes "directives") (list_of directive_list a_directive) (borrowed_view value.now) (directives_tree e) numbering.old numbering.new) }
+    ensures place { IfErr result (LocatesInside (codes "directives") (list_of directive_list a_directive) (borrowed_view value.now)) }
 {
     let Some(member) = value.get("directives") else {
         return Ok(Vec::new(alloc));
@@ -42,10 +42,10 @@ pub(crate) fn directives_member(
 fn read_directives(
     alloc: Global,
     numbering: &mut Numbering,
-    value: &Value,
+    value: &BorrowedValue<'_>,
 ) -> Result<Vec<GlobalDirectiveNode>, Error>
-    ensures ok { IfOk result (λ e. Reads (list_of directive_list a_directive) (view value.now) (directives_tree e) numbering.old numbering.new) }
-    ensures place { IfErr result (Locates (list_of directive_list a_directive) (view value.now)) }
+    ensures ok { IfOk result (λ e. Reads (list_of directive_list a_directive) (borrowed_view value.now) (directives_tree e) numbering.old numbering.new) }
+    ensures place { IfErr result (Locates (list_of directive_list a_directive) (borrowed_view value.now)) }
 {
     let Some(items) = value.as_array() else {
         return Err(wrong(alloc));
@@ -63,10 +63,10 @@ fn read_directives(
 fn read_directive(
     alloc: Global,
     numbering: &mut Numbering,
-    value: &Value,
+    value: &BorrowedValue<'_>,
 ) -> Result<GlobalDirectiveNode, Error>
-    ensures ok { IfOk result (λ e. Reads (node_form a_directive) (view value.now) (placed directive_view directive_node e) numbering.old numbering.new) }
-    ensures place { IfErr result (Locates (node_form a_directive) (view value.now)) }
+    ensures ok { IfOk result (λ e. Reads (node_form a_directive) (borrowed_view value.now) (placed directive_view directive_node e) numbering.old numbering.new) }
+    ensures place { IfErr result (Locates (node_form a_directive) (borrowed_view value.now)) }
 {
     let word = directive_word_of(alloc, value)?;
     match read_worded(alloc, numbering, value, word) {
@@ -76,9 +76,9 @@ fn read_directive(
 }
 
 // The word at `k`.
-fn directive_word_of(alloc: Global, value: &Value) -> Result<DirectiveWord, Error>
-    ensures word { IfOk result (λ w. HasWord (directive_text w) (view value.now)) }
-    ensures place { IfErr result (Locates (node_form a_directive) (view value.now)) }
+fn directive_word_of(alloc: Global, value: &BorrowedValue<'_>) -> Result<DirectiveWord, Error>
+    ensures word { IfOk result (λ w. HasWord (directive_text w) (borrowed_view value.now)) }
+    ensures place { IfErr result (Locates (node_form a_directive) (borrowed_view value.now)) }
 {
     let word = required(alloc, value, "k")?;
     match word.as_str().and_then(directive_word) {
@@ -90,11 +90,11 @@ fn directive_word_of(alloc: Global, value: &Value) -> Result<DirectiveWord, Erro
 fn read_worded(
     alloc: Global,
     numbering: &mut Numbering,
-    value: &Value,
+    value: &BorrowedValue<'_>,
     word: DirectiveWord,
 ) -> Result<GlobalDirective, Error>
-    ensures ok { IfOk result (λ e. ReadsDirective word (view value.now) (directive_view e) numbering.old numbering.new) }
-    ensures place { IfErr result (LocatesRow (directive_worded word) (view value.now)) }
+    ensures ok { IfOk result (λ e. ReadsDirective word (borrowed_view value.now) (directive_view e) numbering.old numbering.new) }
+    ensures place { IfErr result (LocatesRow (directive_worded word) (borrowed_view value.now)) }
 {
     match word {
         DirectiveWord::Enable => read_enable(alloc, numbering, value),
@@ -106,10 +106,10 @@ fn read_worded(
 fn read_enable(
     alloc: Global,
     numbering: &mut Numbering,
-    value: &Value,
+    value: &BorrowedValue<'_>,
 ) -> Result<GlobalDirective, Error>
-    ensures ok { IfOk result (λ e. ReadsDirective directed.Enable (view value.now) (directive_view e) numbering.old numbering.new) }
-    ensures place { IfErr result (LocatesRow (directive_worded directed.Enable) (view value.now)) }
+    ensures ok { IfOk result (λ e. ReadsDirective directed.Enable (borrowed_view value.now) (directive_view e) numbering.old numbering.new) }
+    ensures place { IfErr result (LocatesRow (directive_worded directed.Enable) (borrowed_view value.now)) }
 {
     check_keys(alloc, value, &["k", "attrs", "names"])?;
     let attributes = attributes_member(alloc, numbering, value, "attrs")?;
@@ -120,10 +120,10 @@ fn read_enable(
 fn read_requires(
     alloc: Global,
     numbering: &mut Numbering,
-    value: &Value,
+    value: &BorrowedValue<'_>,
 ) -> Result<GlobalDirective, Error>
-    ensures ok { IfOk result (λ e. ReadsDirective directed.Requires (view value.now) (directive_view e) numbering.old numbering.new) }
-    ensures place { IfErr result (LocatesRow (directive_worded directed.Requires) (view value.now)) }
+    ensures ok { IfOk result (λ e. ReadsDirective directed.Requires (borrowed_view value.now) (directive_view e) numbering.old numbering.new) }
+    ensures place { IfErr result (LocatesRow (directive_worded directed.Requires) (borrowed_view value.now)) }
 {
     check_keys(alloc, value, &["k", "attrs", "names"])?;
     let attributes = attributes_member(alloc, numbering, value, "attrs")?;
@@ -134,10 +134,10 @@ fn read_requires(
 fn read_diagnostic(
     alloc: Global,
     numbering: &mut Numbering,
-    value: &Value,
+    value: &BorrowedValue<'_>,
 ) -> Result<GlobalDirective, Error>
-    ensures ok { IfOk result (λ e. ReadsDirective directed.Diagnostic (view value.now) (directive_view e) numbering.old numbering.new) }
-    ensures place { IfErr result (LocatesRow (directive_worded directed.Diagnostic) (view value.now)) }
+    ensures ok { IfOk result (λ e. ReadsDirective directed.Diagnostic (borrowed_view value.now) (directive_view e) numbering.old numbering.new) }
+    ensures place { IfErr result (LocatesRow (directive_worded directed.Diagnostic) (borrowed_view value.now)) }
 {
     check_keys(alloc, value, &["k", "attrs", "severity", "rule"])?;
     let attributes = attributes_member(alloc, numbering, value, "attrs")?;

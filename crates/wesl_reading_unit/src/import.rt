@@ -1,15 +1,15 @@
 //! Reading imports (WESL, "Imports").
 ghost use Rattle.std.specs.Prelude.{◌≡◌, IfOk, IfErr, codes, is_some, false, true};
 ghost use Rattle.serde_json.specs.Find.{get};
-ghost use Rattle.serde_json.specs.View.{view};
+ghost use Rattle.wesl_borrowed.specs.View.{borrowed_view};
 ghost use Rattle.wesl_syntax.specs.Tree.{binder, import_node, imports, list};
 ghost use Rattle.wesl_syntax.specs.View.{content_view, entry_view, ident_tree, import_view, imports_tree, item_view, listed, optional as option_view, placed};
 ghost use Rattle.wesl_form.specs.Schema.{a_content, an_entry, an_ident, an_import, leaf, list_of, node as node_form};
 ghost use Rattle.wesl_reading.specs.Faults.{Locates, LocatesInside, LocatesMember};
 ghost use Rattle.wesl_reading.specs.Numbers.{Reads, ReadsMany, ReadsMay, ReadsNeeded};
 
-use serde_json::Value;
 use std::alloc::Global;
+use wesl_borrowed::BorrowedValue;
 use wesl_names::{Error, Ident};
 use wesl_reading::{
     Numbering, attributes_member, check_keys, name_member, name_of, names_member, optional_path,
@@ -21,10 +21,10 @@ use wesl_syntax::{Import, ImportContent, ImportItem, ImportStatement, ImportStat
 pub(crate) fn imports_member(
     alloc: Global,
     numbering: &mut Numbering,
-    value: &Value,
+    value: &BorrowedValue<'_>,
 ) -> Result<Vec<ImportStatementNode>, Error>
-    ensures ok { IfOk result (λ e. ReadsMany (codes "imports") (list_of imports an_import) (view value.now) (imports_tree e) numbering.old numbering.new) }
-    ensures place { IfErr result (LocatesInside (codes "imports") (list_of imports an_import) (view value.now)) }
+    ensures ok { IfOk result (λ e. ReadsMany (codes "imports") (list_of imports an_import) (borrowed_view value.now) (imports_tree e) numbering.old numbering.new) }
+    ensures place { IfErr result (LocatesInside (codes "imports") (list_of imports an_import) (borrowed_view value.now)) }
 {
     let Some(member) = value.get("imports") else {
         return Ok(Vec::new(alloc));
@@ -38,10 +38,10 @@ pub(crate) fn imports_member(
 fn read_imports(
     alloc: Global,
     numbering: &mut Numbering,
-    value: &Value,
+    value: &BorrowedValue<'_>,
 ) -> Result<Vec<ImportStatementNode>, Error>
-    ensures ok { IfOk result (λ e. Reads (list_of imports an_import) (view value.now) (imports_tree e) numbering.old numbering.new) }
-    ensures place { IfErr result (Locates (list_of imports an_import) (view value.now)) }
+    ensures ok { IfOk result (λ e. Reads (list_of imports an_import) (borrowed_view value.now) (imports_tree e) numbering.old numbering.new) }
+    ensures place { IfErr result (Locates (list_of imports an_import) (borrowed_view value.now)) }
 {
     let Some(items) = value.as_array() else {
         return Err(wrong(alloc));
@@ -59,10 +59,10 @@ fn read_imports(
 fn read_import(
     alloc: Global,
     numbering: &mut Numbering,
-    value: &Value,
+    value: &BorrowedValue<'_>,
 ) -> Result<ImportStatementNode, Error>
-    ensures ok { IfOk result (λ e. Reads (node_form an_import) (view value.now) (placed import_view import_node e) numbering.old numbering.new) }
-    ensures place { IfErr result (Locates (node_form an_import) (view value.now)) }
+    ensures ok { IfOk result (λ e. Reads (node_form an_import) (borrowed_view value.now) (placed import_view import_node e) numbering.old numbering.new) }
+    ensures place { IfErr result (Locates (node_form an_import) (borrowed_view value.now)) }
 {
     check_keys(alloc, value, &["attrs", "path", "content"])?;
     let attributes = attributes_member(alloc, numbering, value, "attrs")?;
@@ -80,10 +80,10 @@ fn read_import(
 fn content_member(
     alloc: Global,
     numbering: &mut Numbering,
-    value: &Value,
+    value: &BorrowedValue<'_>,
 ) -> Result<ImportContent, Error>
-    ensures ok { IfOk result (λ e. ReadsNeeded (codes "content") (node_form a_content) (view value.now) (content_view e) numbering.old numbering.new) }
-    ensures place { IfErr result (LocatesMember (codes "content") (node_form a_content) (view value.now)) }
+    ensures ok { IfOk result (λ e. ReadsNeeded (codes "content") (node_form a_content) (borrowed_view value.now) (content_view e) numbering.old numbering.new) }
+    ensures place { IfErr result (LocatesMember (codes "content") (node_form a_content) (borrowed_view value.now)) }
 {
     let member = required(alloc, value, "content")?;
     match read_content(alloc, numbering, member) {
@@ -97,10 +97,10 @@ fn content_member(
 fn read_content(
     alloc: Global,
     numbering: &mut Numbering,
-    value: &Value,
+    value: &BorrowedValue<'_>,
 ) -> Result<ImportContent, Error>
-    ensures ok { IfOk result (λ e. Reads (node_form a_content) (view value.now) (content_view e) numbering.old numbering.new) }
-    ensures place { IfErr result (Locates (node_form a_content) (view value.now)) }
+    ensures ok { IfOk result (λ e. Reads (node_form a_content) (borrowed_view value.now) (content_view e) numbering.old numbering.new) }
+    ensures place { IfErr result (Locates (node_form a_content) (borrowed_view value.now)) }
 {
     if value.get("list").is_some() {
         read_collection(alloc, numbering, value)
@@ -114,11 +114,11 @@ fn read_content(
 fn read_collection(
     alloc: Global,
     numbering: &mut Numbering,
-    value: &Value,
+    value: &BorrowedValue<'_>,
 ) -> Result<ImportContent, Error>
-    requires { is_some (get (codes "list") (view value.now)) ≡ true }
-    ensures ok { IfOk result (λ e. Reads (node_form a_content) (view value.now) (content_view e) numbering.old numbering.new) }
-    ensures place { IfErr result (Locates (node_form a_content) (view value.now)) }
+    requires { is_some (get (codes "list") (borrowed_view value.now)) ≡ true }
+    ensures ok { IfOk result (λ e. Reads (node_form a_content) (borrowed_view value.now) (content_view e) numbering.old numbering.new) }
+    ensures place { IfErr result (Locates (node_form a_content) (borrowed_view value.now)) }
 {
     check_keys(alloc, value, &["list"])?;
     let entries = entries_member(alloc, numbering, value)?;
@@ -130,10 +130,10 @@ fn read_collection(
 fn entries_member(
     alloc: Global,
     numbering: &mut Numbering,
-    value: &Value,
+    value: &BorrowedValue<'_>,
 ) -> Result<Vec<Import>, Error>
-    ensures ok { IfOk result (λ e. ReadsNeeded (codes "list") (list_of list an_entry) (view value.now) (listed entry_view list e) numbering.old numbering.new) }
-    ensures place { IfErr result (LocatesMember (codes "list") (list_of list an_entry) (view value.now)) }
+    ensures ok { IfOk result (λ e. ReadsNeeded (codes "list") (list_of list an_entry) (borrowed_view value.now) (listed entry_view list e) numbering.old numbering.new) }
+    ensures place { IfErr result (LocatesMember (codes "list") (list_of list an_entry) (borrowed_view value.now)) }
 {
     let member = required(alloc, value, "list")?;
     match read_entries(alloc, numbering, member) {
@@ -146,10 +146,10 @@ fn entries_member(
 fn read_entries(
     alloc: Global,
     numbering: &mut Numbering,
-    value: &Value,
+    value: &BorrowedValue<'_>,
 ) -> Result<Vec<Import>, Error>
-    ensures ok { IfOk result (λ e. Reads (list_of list an_entry) (view value.now) (listed entry_view list e) numbering.old numbering.new) }
-    ensures place { IfErr result (Locates (list_of list an_entry) (view value.now)) }
+    ensures ok { IfOk result (λ e. Reads (list_of list an_entry) (borrowed_view value.now) (listed entry_view list e) numbering.old numbering.new) }
+    ensures place { IfErr result (Locates (list_of list an_entry) (borrowed_view value.now)) }
 {
     let Some(items) = value.as_array() else {
         return Err(wrong(alloc));
@@ -165,9 +165,13 @@ fn read_entries(
 }
 
 #[cycle(contents)]
-fn read_entry(alloc: Global, numbering: &mut Numbering, value: &Value) -> Result<Import, Error>
-    ensures ok { IfOk result (λ e. Reads (node_form an_entry) (view value.now) (entry_view e) numbering.old numbering.new) }
-    ensures place { IfErr result (Locates (node_form an_entry) (view value.now)) }
+fn read_entry(
+    alloc: Global,
+    numbering: &mut Numbering,
+    value: &BorrowedValue<'_>,
+) -> Result<Import, Error>
+    ensures ok { IfOk result (λ e. Reads (node_form an_entry) (borrowed_view value.now) (entry_view e) numbering.old numbering.new) }
+    ensures place { IfErr result (Locates (node_form an_entry) (borrowed_view value.now)) }
 {
     check_keys(alloc, value, &["path", "content"])?;
     let path = names_member(alloc, value, "path")?;
@@ -176,10 +180,14 @@ fn read_entry(alloc: Global, numbering: &mut Numbering, value: &Value) -> Result
 }
 
 // One item, whose own name is bound here only where it has no other.
-fn read_item(alloc: Global, numbering: &mut Numbering, value: &Value) -> Result<ImportItem, Error>
-    requires { is_some (get (codes "list") (view value.now)) ≡ false }
-    ensures ok { IfOk result (λ e. Reads (node_form a_content) (view value.now) (item_view e) numbering.old numbering.new) }
-    ensures place { IfErr result (Locates (node_form a_content) (view value.now)) }
+fn read_item(
+    alloc: Global,
+    numbering: &mut Numbering,
+    value: &BorrowedValue<'_>,
+) -> Result<ImportItem, Error>
+    requires { is_some (get (codes "list") (borrowed_view value.now)) ≡ false }
+    ensures ok { IfOk result (λ e. Reads (node_form a_content) (borrowed_view value.now) (item_view e) numbering.old numbering.new) }
+    ensures place { IfErr result (Locates (node_form a_content) (borrowed_view value.now)) }
 {
     check_keys(alloc, value, &["item", "as"])?;
     let ident = numbering.number(alloc, name_member(alloc, value, "item")?)?;
@@ -191,11 +199,11 @@ fn read_item(alloc: Global, numbering: &mut Numbering, value: &Value) -> Result<
 fn optional_rename(
     alloc: Global,
     numbering: &mut Numbering,
-    value: &Value,
+    value: &BorrowedValue<'_>,
 ) -> Result<Option<Ident>, Error>
-    ensures ok { IfOk result (λ e. ReadsMay (codes "as") (leaf (an_ident binder)) (view value.now) (option_view (ident_tree binder) e) numbering.old numbering.new) }
-    ensures there { IfOk result (λ e. is_some e ≡ is_some (get (codes "as") (view value.now))) }
-    ensures place { IfErr result (LocatesInside (codes "as") (leaf (an_ident binder)) (view value.now)) }
+    ensures ok { IfOk result (λ e. ReadsMay (codes "as") (leaf (an_ident binder)) (borrowed_view value.now) (option_view (ident_tree binder) e) numbering.old numbering.new) }
+    ensures there { IfOk result (λ e. is_some e ≡ is_some (get (codes "as") (borrowed_view value.now))) }
+    ensures place { IfErr result (LocatesInside (codes "as") (leaf (an_ident binder)) (borrowed_view value.now)) }
 {
     let Some(member) = value.get("as") else {
         return Ok(None);

@@ -1,6 +1,6 @@
 //! Reading units.
 ghost use Rattle.std.specs.Prelude.{IfOk, IfErr};
-ghost use Rattle.serde_json.specs.View.{view};
+ghost use Rattle.wesl_borrowed.specs.View.{borrowed_view};
 ghost use Rattle.wesl_form.specs.Nodes.{whole_form};
 ghost use Rattle.wesl_form.specs.Units.{IsBrokenUnit, IsNoUnit, IsUnitOf};
 ghost use Rattle.wesl_tree.specs.Translation.{unit_view};
@@ -9,8 +9,8 @@ ghost use Rattle.wesl_reading.specs.Faults.{IfPlace};
 use crate::declaration::declarations_member;
 use crate::directive::directives_member;
 use crate::import::imports_member;
-use serde_json::Value;
 use std::alloc::Global;
+use wesl_borrowed::BorrowedValue;
 use wesl_reading::{Numbering, check_keys, wrong};
 use wesl_tree::{Error, TranslationUnit};
 
@@ -20,17 +20,17 @@ use wesl_tree::{Error, TranslationUnit};
 /// stands for no unit is refused with `BadTree`, which holds the JSON Pointer of a value that is wrong: of an object
 /// with an unknown key or without a key that it needs, of an unknown word, of an empty name, of a number, or of a value
 /// of another kind than its place asks for. Otherwise it is refused for want of memory alone.
-pub fn unit_of_value(alloc: Global, value: &Value) -> Result<TranslationUnit, Error>
-    ensures unit { IfOk result (λ u. IsUnitOf whole_form (view value.now) (unit_view u)) }
-    ensures place { IfErr result (λ e. IfPlace e (IsBrokenUnit whole_form (view value.now))) }
-    ensures unread { IfErr result (λ e. IfPlace e (λ _. IsNoUnit whole_form (view value.now))) }
+pub fn unit_of_value(alloc: Global, value: &BorrowedValue<'_>) -> Result<TranslationUnit, Error>
+    ensures unit { IfOk result (λ u. IsUnitOf whole_form (borrowed_view value.now) (unit_view u)) }
+    ensures place { IfErr result (λ e. IfPlace e (IsBrokenUnit whole_form (borrowed_view value.now))) }
+    ensures unread { IfErr result (λ e. IfPlace e (λ _. IsNoUnit whole_form (borrowed_view value.now))) }
 {
     read_unit(alloc, value)
 }
 
-fn read_unit(alloc: Global, value: &Value) -> Result<TranslationUnit, Error>
-    ensures unit { IfOk result (λ u. IsUnitOf whole_form (view value.now) (unit_view u)) }
-    ensures place { IfErr result (λ e. IfPlace e (IsBrokenUnit whole_form (view value.now))) }
+fn read_unit(alloc: Global, value: &BorrowedValue<'_>) -> Result<TranslationUnit, Error>
+    ensures unit { IfOk result (λ u. IsUnitOf whole_form (borrowed_view value.now) (unit_view u)) }
+    ensures place { IfErr result (λ e. IfPlace e (IsBrokenUnit whole_form (borrowed_view value.now))) }
 {
     check_keys(alloc, value, &["imports", "directives", "declarations"])?;
     let mut numbering = Numbering::new(alloc);

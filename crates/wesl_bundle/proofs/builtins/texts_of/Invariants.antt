@@ -1,6 +1,6 @@
 use Rattle.std.proofs.Common.{◌≡◌, Some, map, take, string_bytes}
 use Rattle.serde_json.specs.Find.{as_str}
-use Rattle.serde_json.specs.View.{items_view}
+use Rattle.wesl_borrowed.specs.View.{items_view}
 use Rattle.wesl_bundle.specs.Reading.{items_in}
 use Rattle.wesl_bundle.proofs.builtins.texts_of.Given as goal
 

@@ -1,5 +1,5 @@
 use Rattle.std.proofs.Common.{refl, codes, rules}
-use Rattle.serde_json.specs.View.{view}
+use Rattle.wesl_borrowed.specs.View.{borrowed_view}
 use Rattle.wesl_bundle.specs.Forms.{a_module, a_path, required}
 use Rattle.wesl_bundle.specs.Broken.{Locates}
 use Rattle.wesl_bundle.proofs.Places.{Locates-field}
@@ -7,5 +7,5 @@ use Rattle.wesl_bundle.proofs.bundle.module_of.Goals as goal
 
 pub returns-in_err-path-clause-place : goal.returns-in_err-path-clause-place
 returns-in_err-path-clause-place c =
-    let located : Locates a_module (view c.args.value.now) c.in_err-path.field-0.0 = Locates-field a_module (required (codes "path") a_path) _ _ (λ h. h) refl c.in_err-path.ensures.place in
+    let located : Locates a_module (borrowed_view c.args.value.now) c.in_err-path.field-0.0 = Locates-field a_module (required (codes "path") a_path) _ _ (λ h. h) refl c.in_err-path.ensures.place in
     search rules

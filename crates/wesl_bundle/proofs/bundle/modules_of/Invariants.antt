@@ -1,5 +1,5 @@
 use Rattle.std.proofs.Common.{◌≡◌, Some, map, take}
-use Rattle.serde_json.specs.View.{items_view}
+use Rattle.wesl_borrowed.specs.View.{items_view}
 use Rattle.wesl_bundle.specs.Bundle.{module_in}
 use Rattle.wesl_bundle.specs.Reading.{items_in}
 use Rattle.wesl_bundle.specs.Views.{module_view}

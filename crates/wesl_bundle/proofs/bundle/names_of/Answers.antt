@@ -2,7 +2,7 @@ use Rattle.std.proofs.Common.{◌≡◌, ◌∷◌, [], ◌++◌, Some, map, str
 use Rattle.std.proofs.lemmas.Grind.{common_steps}
 use Rattle.std.proofs.lemmas.List.{map-append}
 use Rattle.serde_json.specs.Find.{as_array}
-use Rattle.serde_json.specs.View.{view, items_view}
+use Rattle.wesl_borrowed.specs.View.{borrowed_view, items_view}
 use Rattle.wesl_bundle.specs.Forms.{a_name}
 use Rattle.wesl_bundle.specs.Reading.{name_in}
 use Rattle.wesl_bundle.proofs.Places.{Locates-item}
@@ -12,8 +12,8 @@ use Rattle.wesl_bundle.proofs.bundle.names_of.Goals as goal
 pub returns-in-Err-clause-place : goal.returns-in-Err-clause-place
 returns-in-Err-clause-place c =
     let vs = c.deref-item-items.result.now in
-    let is : as_array (view c.args.value.now) ≡ Some (items_view vs) = search rules in
-    Locates-item a_name c.loop-index.index _ (view c.item-item.result) c.in-Err.error _ (item-at _ vs c.loop-index.index c.item-item.result is (search rules) (search rules)) c.in-Err.ensures.place c.under_index.ensures
+    let is : as_array (borrowed_view c.args.value.now) ≡ Some (items_view vs) = search rules in
+    Locates-item a_name c.loop-index.index _ (borrowed_view c.item-item.result) c.in-Err.error _ (item-at _ vs c.loop-index.index c.item-item.result is (search rules) (search rules)) c.in-Err.ensures.place c.under_index.ensures
 
 pub loop-index-preserved : goal.loop-index-preserved
 loop-index-preserved c =

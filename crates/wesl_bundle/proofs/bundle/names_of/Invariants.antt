@@ -1,5 +1,5 @@
 use Rattle.std.proofs.Common.{◌≡◌, Some, map, take, string_bytes}
-use Rattle.serde_json.specs.View.{items_view}
+use Rattle.wesl_borrowed.specs.View.{items_view}
 use Rattle.wesl_bundle.specs.Reading.{items_in, name_in}
 use Rattle.wesl_bundle.proofs.bundle.names_of.Given as goal
 

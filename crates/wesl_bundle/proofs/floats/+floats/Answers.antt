@@ -7,7 +7,7 @@ use Rattle.wesl_pointer.specs.Keys.{HasMember}
 use Rattle.wesl_pointer.specs.Pointer.{key}
 use Rattle.wesl_bundle.specs.Broken.{IsUnder}
 use Rattle.wesl_bundle.proofs.Places.{HasFloatAt-item, HasFloatAt-member}
-use Rattle.wesl_bundle.proofs.Readings.{item-found, floats-turn, floats-member, HasMember-middle}
+use Rattle.wesl_bundle.proofs.Wholes.{item-found, floats-turn, floats-member, HasMember-middle}
 use Rattle.wesl_bundle.proofs.floats.+floats.Goals as goal
 
 pub check_items-returns-in-Err-clause-place : goal.check_items-returns-in-Err-clause-place

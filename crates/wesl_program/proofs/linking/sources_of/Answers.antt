@@ -10,7 +10,7 @@ loop-package-preserved c =
     let l = c.loop-package in
     let one = c.in-Some.package in
     let before = l.sources.packages.packages.items in
-    let local : c.add_package.new.self.local.modules.now ≡ c.args.modules.now = search rules in
+    let local : c.add_package.new.self.local.modules ≡ c.args.modules = search rules in
     let more : ArePackagesOf (packages_of (map package_view l.yielded ++ package_view one ∷ [])) (before ++ c.in_ok-package_of.field-0 ∷ []) =
     packages-more (map package_view l.yielded) before (package_view one) c.in_ok-package_of.field-0 l.invariant.1 c.in_ok-package_of.ensures.held in (
       local,

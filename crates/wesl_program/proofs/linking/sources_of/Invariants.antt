@@ -4,4 +4,4 @@ use Rattle.wesl_program.specs.PackageTexts.{ArePackagesOf}
 use Rattle.wesl_program.proofs.linking.sources_of.Given as goal
 
 abbrev pub invariant-loop-package : goal.invariant-loop-package
-invariant-loop-package l = (l.sources.local.modules.now ≡ l.modules) × ArePackagesOf (packages_view l.yielded) l.sources.packages.packages.items
+invariant-loop-package l = (l.sources.local.modules ≡ l.fn.modules) × ArePackagesOf (packages_view l.yielded) l.sources.packages.packages.items

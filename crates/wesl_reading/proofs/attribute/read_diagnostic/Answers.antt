@@ -1,6 +1,6 @@
 use Rattle.std.proofs.Common.{◌≡◌, true, false, codes, string_bytes, option_map, refl, ap, rules}
 use Rattle.serde_json.specs.Find.{as_str}
-use Rattle.serde_json.specs.View.{view}
+use Rattle.wesl_borrowed.specs.View.{borrowed_view}
 use Rattle.wesl_syntax.specs.Tree.{text}
 use Rattle.wesl_form.specs.Schema.{node, an_attribute, a_text}
 use Rattle.wesl_form.specs.Reading.{known_keys}
@@ -16,24 +16,24 @@ use Rattle.wesl_reading.proofs.attribute.read_diagnostic.Goals as goal
 
 pub returns-in_err-check_keys-clause-place : goal.returns-in_err-check_keys-clause-place
 returns-in_err-check_keys-clause-place c =
-    let wrong : has_only (known_keys (attribute_of attribs.Diagnostic).row (view c.args.value.now)) (view c.args.value.now) ≡ false = c.in_err-check_keys.ensures.err in
-    exit (Locates (node an_attribute) (view c.args.value.now)) c.from_residual.result c.in_err-check_keys.field-0.0 c.from_residual.ensures.1
-    (attribute-keys attribs.Diagnostic (view c.args.value.now) c.requires c.in_err-check_keys.field-0.0 wrong c.in_err-check_keys.ensures.place)
+    let wrong : has_only (known_keys (attribute_of attribs.Diagnostic).row (borrowed_view c.args.value.now)) (borrowed_view c.args.value.now) ≡ false = c.in_err-check_keys.ensures.err in
+    exit (Locates (node an_attribute) (borrowed_view c.args.value.now)) c.from_residual.result c.in_err-check_keys.field-0.0 c.from_residual.ensures.1
+    (attribute-keys attribs.Diagnostic (borrowed_view c.args.value.now) c.requires c.in_err-check_keys.field-0.0 wrong c.in_err-check_keys.ensures.place)
 
 pub returns-in_err-text_member-clause-place : goal.returns-in_err-text_member-clause-place
 returns-in_err-text_member-clause-place c =
-    exit (Locates (node an_attribute) (view c.args.value.now)) c.from_residual-in_err-text_member.result c.in_err-text_member.field-0.0 c.from_residual-in_err-text_member.ensures.1
-    (attribute-text attribs.Diagnostic (view c.args.value.now) c.requires as_str (codes "severity") a_text c.in_err-text_member.field-0.0 refl (λ v h. ap (option_map text) h) c.in_err-text_member.ensures.place)
+    exit (Locates (node an_attribute) (borrowed_view c.args.value.now)) c.from_residual-in_err-text_member.result c.in_err-text_member.field-0.0 c.from_residual-in_err-text_member.ensures.1
+    (attribute-text attribs.Diagnostic (borrowed_view c.args.value.now) c.requires as_str (codes "severity") a_text c.in_err-text_member.field-0.0 refl (λ v h. ap (option_map text) h) c.in_err-text_member.ensures.place)
 
 pub returns-in_err-text_member-2-clause-place : goal.returns-in_err-text_member-2-clause-place
 returns-in_err-text_member-2-clause-place c =
-    exit (Locates (node an_attribute) (view c.args.value.now)) c.from_residual-in_err-text_member-2.result c.in_err-text_member-2.field-0.0 c.from_residual-in_err-text_member-2.ensures.1
-    (attribute-text attribs.Diagnostic (view c.args.value.now) c.requires as_str (codes "rule") a_text c.in_err-text_member-2.field-0.0 refl (λ v h. ap (option_map text) h) c.in_err-text_member-2.ensures.place)
+    exit (Locates (node an_attribute) (borrowed_view c.args.value.now)) c.from_residual-in_err-text_member-2.result c.in_err-text_member-2.field-0.0 c.from_residual-in_err-text_member-2.ensures.1
+    (attribute-text attribs.Diagnostic (borrowed_view c.args.value.now) c.requires as_str (codes "rule") a_text c.in_err-text_member-2.field-0.0 refl (λ v h. ap (option_map text) h) c.in_err-text_member-2.ensures.place)
 
 pub returns-clause-ok : goal.returns-clause-ok
 returns-clause-ok c = λ names.
-    let known : has_only (known_keys (attribute_of attribs.Diagnostic).row (view c.args.value.now)) (view c.args.value.now) ≡ true = c.in_ok-check_keys.ensures.ok in
-    let severity = text-member as_str a_text text (codes "severity") (view c.args.value.now) (string_bytes c.in_ok-severity.severity) (text (string_bytes c.in_ok-severity.severity)) names (λ v. refl) (plain-text (string_bytes c.in_ok-severity.severity)) (search rules) in
-    let rule = text-member as_str a_text text (codes "rule") (view c.args.value.now) (string_bytes c.in_ok-rule.rule) (text (string_bytes c.in_ok-rule.rule)) names (λ v. refl) (plain-text (string_bytes c.in_ok-rule.rule)) (search rules) in
-    let read = attribute-reads attribs.Diagnostic (view c.args.value.now) c.requires _ names names known (needs-then severity (needs-then rule (none-then (view c.args.value.now) names))) in
+    let known : has_only (known_keys (attribute_of attribs.Diagnostic).row (borrowed_view c.args.value.now)) (borrowed_view c.args.value.now) ≡ true = c.in_ok-check_keys.ensures.ok in
+    let severity = text-member as_str a_text text (codes "severity") (borrowed_view c.args.value.now) (string_bytes c.in_ok-severity.severity) (text (string_bytes c.in_ok-severity.severity)) names (λ v. refl) (plain-text (string_bytes c.in_ok-severity.severity)) (search rules) in
+    let rule = text-member as_str a_text text (codes "rule") (borrowed_view c.args.value.now) (string_bytes c.in_ok-rule.rule) (text (string_bytes c.in_ok-rule.rule)) names (λ v. refl) (plain-text (string_bytes c.in_ok-rule.rule)) (search rules) in
+    let read = attribute-reads attribs.Diagnostic (borrowed_view c.args.value.now) c.requires _ names names known (needs-then severity (needs-then rule (none-then (borrowed_view c.args.value.now) names))) in
     same-reads read (search rules)

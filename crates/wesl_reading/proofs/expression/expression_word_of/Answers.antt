@@ -1,6 +1,6 @@
 use Rattle.std.proofs.Common.{sym, ◌≡◌, Some, None, codes, rules}
 use Rattle.serde_json.specs.Find.{get}
-use Rattle.serde_json.specs.View.{view}
+use Rattle.wesl_borrowed.specs.View.{borrowed_view}
 use Rattle.wesl_form.specs.Schema.{an_expression}
 use Rattle.wesl_form.specs.Nodes.{nodes_of}
 use Rattle.wesl_reading.proofs.Expressions.{no-expression}
@@ -9,6 +9,6 @@ use Rattle.wesl_reading.proofs.expression.expression_word_of.Goals as goal
 
 pub returns-in-None-clause-place : goal.returns-in-None-clause-place
 returns-in-None-clause-place c =
-    let found : get (codes "k") (view c.args.value.now) ≡ Some (view c.in-Some.word.now) = sym c.in-Some.ensures in
-    let none : nodes_of an_expression (view c.args.value.now) ≡ None = no-expression (view c.args.value.now) (view c.in-Some.word.now) found (search rules) in
-    unknown-word an_expression (view c.args.value.now) (view c.in-Some.word.now) c.wrong.result c.under.result found none c.wrong.ensures c.under.ensures
+    let found : get (codes "k") (borrowed_view c.args.value.now) ≡ Some (borrowed_view c.in-Some.word.now) = sym c.in-Some.ensures in
+    let none : nodes_of an_expression (borrowed_view c.args.value.now) ≡ None = no-expression (borrowed_view c.args.value.now) (borrowed_view c.in-Some.word.now) found (search rules) in
+    unknown-word an_expression (borrowed_view c.args.value.now) (borrowed_view c.in-Some.word.now) c.wrong.result c.under.result found none c.wrong.ensures c.under.ensures

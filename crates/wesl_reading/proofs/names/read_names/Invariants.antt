@@ -1,5 +1,5 @@
 use Rattle.std.proofs.Common.{◌≡◌, Some, take, map, string_bytes}
-use Rattle.serde_json.specs.View.{items_view}
+use Rattle.wesl_borrowed.specs.View.{items_view}
 use Rattle.wesl_form.specs.Reading.{name_in, texts_in}
 use Rattle.wesl_reading.proofs.names.read_names.Given as goal
 

@@ -1,4 +1,4 @@
-use Rattle.serde_json.specs.View.{view}
+use Rattle.wesl_borrowed.specs.View.{borrowed_view}
 use Rattle.std.proofs.Common.{codes, false, refl, rules, true, ◌≡◌}
 use Rattle.wesl_form.specs.Reading.{known_keys}
 use Rattle.wesl_pointer.specs.Keys.{has_only}
@@ -16,7 +16,7 @@ use Rattle.wesl_reading_statements.proofs.declared.read_value.Goals as goal
 
 pub returns-in_err-check_keys-clause-place : goal.returns-in_err-check_keys-clause-place
 returns-in_err-check_keys-clause-place c =
-    let d = view c.args.value.now in
+    let d = borrowed_view c.args.value.now in
     let e = c.in_err-check_keys.field-0.0 in
     let wrong : has_only (known_keys (declared_worded (declareds.Value c.args.word)) d) d ≡ false = c.in_err-check_keys.ensures.err in
     exit (LocatesRow (declared_worded (declareds.Value c.args.word)) d) c.from_residual.result e c.from_residual.ensures.1
@@ -24,35 +24,35 @@ returns-in_err-check_keys-clause-place c =
 
 pub returns-in_err-attributes-clause-place : goal.returns-in_err-attributes-clause-place
 returns-in_err-attributes-clause-place c =
-    let d = view c.args.value.now in
+    let d = borrowed_view c.args.value.now in
     let e = c.in_err-attributes.field-0.0 in
     exit (LocatesRow (declared_worded (declareds.Value c.args.word)) d) c.from_residual-in_err-attributes.result e c.from_residual-in_err-attributes.ensures.1
     (row-inside (declared_worded (declareds.Value c.args.word)) (codes "attrs") false (list_of attributes an_attribute) d e refl c.in_err-attributes.ensures.place)
 
 pub returns-in_err-ident-clause-place : goal.returns-in_err-ident-clause-place
 returns-in_err-ident-clause-place c =
-    let d = view c.args.value.now in
+    let d = borrowed_view c.args.value.now in
     let e = c.in_err-ident.field-0.0 in
     exit (LocatesRow (declared_worded (declareds.Value c.args.word)) d) c.from_residual-in_err-ident.result e c.from_residual-in_err-ident.ensures.1
     (row-member (declared_worded (declareds.Value c.args.word)) (codes "name") (leaf (an_ident binder)) d e refl c.in_err-ident.ensures.place)
 
 pub returns-in_err-ty-clause-place : goal.returns-in_err-ty-clause-place
 returns-in_err-ty-clause-place c =
-    let d = view c.args.value.now in
+    let d = borrowed_view c.args.value.now in
     let e = c.in_err-ty.field-0.0 in
     exit (LocatesRow (declared_worded (declareds.Value c.args.word)) d) c.from_residual-in_err-ty.result e c.from_residual-in_err-ty.ensures.1
     (row-inside (declared_worded (declareds.Value c.args.word)) (codes "ty") false (node a_type) d e refl c.in_err-ty.ensures.place)
 
 pub returns-in_err-initializer-clause-place : goal.returns-in_err-initializer-clause-place
 returns-in_err-initializer-clause-place c =
-    let d = view c.args.value.now in
+    let d = borrowed_view c.args.value.now in
     let e = c.in_err-initializer.field-0.0 in
     exit (LocatesRow (declared_worded (declareds.Value c.args.word)) d) c.from_residual-in_err-initializer.result e c.from_residual-in_err-initializer.ensures.1
     (row-inside (declared_worded (declareds.Value c.args.word)) (codes "init") false (node an_expression) d e refl c.in_err-initializer.ensures.place)
 
 pub returns-clause-ok : goal.returns-clause-ok
 returns-clause-ok c =
-    let d = view c.args.value.now in
+    let d = borrowed_view c.args.value.now in
     let known : has_only (known_keys (declared_worded (declareds.Value c.args.word)) d) d ≡ true = c.in_ok-check_keys.ensures.ok in
     let rest = (needs-then c.in_ok-ident.ensures.ok (may-then c.in_ok-ty.ensures.ok (may-then c.in_ok-initializer.ensures.ok (none-then d _)))) in
     same-worded (worded-reads known (plain-kind declaration) refl (many-then c.in_ok-attributes.ensures.ok (inner-then (plain-kind (value_kind c.args.word)) refl (none-then d _) rest))) (search rules)

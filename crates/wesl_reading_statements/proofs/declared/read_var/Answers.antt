@@ -1,5 +1,5 @@
 use Rattle.serde_json.specs.Find.{get}
-use Rattle.serde_json.specs.View.{view}
+use Rattle.wesl_borrowed.specs.View.{borrowed_view}
 use Rattle.std.proofs.Common.{None, Some, ap, codes, false, refl, true, ◌∙◌, ◌≡◌}
 use Rattle.wesl_form.specs.Reading.{known_keys}
 use Rattle.wesl_pointer.specs.Keys.{has_only}
@@ -22,7 +22,7 @@ use Rattle.wesl_reading_statements.proofs.declared.read_var.Goals as goal
 
 pub returns-in_err-check_keys-clause-place : goal.returns-in_err-check_keys-clause-place
 returns-in_err-check_keys-clause-place c =
-    let d = view c.args.value.now in
+    let d = borrowed_view c.args.value.now in
     let e = c.in_err-check_keys.field-0.0 in
     let absent : get (codes "space") d ≡ None = no-member (get (codes "space") d) c.requires in
     let same = var-keys d absent in
@@ -32,7 +32,7 @@ returns-in_err-check_keys-clause-place c =
 
 pub returns-in_err-attributes-clause-place : goal.returns-in_err-attributes-clause-place
 returns-in_err-attributes-clause-place c =
-    let d = view c.args.value.now in
+    let d = borrowed_view c.args.value.now in
     let e = c.in_err-attributes.field-0.0 in
     let absent : get (codes "space") d ≡ None = no-member (get (codes "space") d) c.requires in
     let there : find_field (codes "attrs") (fields (declared_worded declareds.Var) d) ≡ Some (field (codes "attrs") false (list_of attributes an_attribute)) = ap (find_field (codes "attrs")) (var-fields d absent) in
@@ -41,7 +41,7 @@ returns-in_err-attributes-clause-place c =
 
 pub returns-in_err-ident-clause-place : goal.returns-in_err-ident-clause-place
 returns-in_err-ident-clause-place c =
-    let d = view c.args.value.now in
+    let d = borrowed_view c.args.value.now in
     let e = c.in_err-ident.field-0.0 in
     let absent : get (codes "space") d ≡ None = no-member (get (codes "space") d) c.requires in
     let there : find_field (codes "name") (fields (declared_worded declareds.Var) d) ≡ Some (field (codes "name") true (leaf (an_ident binder))) = ap (find_field (codes "name")) (var-fields d absent) in
@@ -50,7 +50,7 @@ returns-in_err-ident-clause-place c =
 
 pub returns-in_err-ty-clause-place : goal.returns-in_err-ty-clause-place
 returns-in_err-ty-clause-place c =
-    let d = view c.args.value.now in
+    let d = borrowed_view c.args.value.now in
     let e = c.in_err-ty.field-0.0 in
     let absent : get (codes "space") d ≡ None = no-member (get (codes "space") d) c.requires in
     let there : find_field (codes "ty") (fields (declared_worded declareds.Var) d) ≡ Some (field (codes "ty") false (node a_type)) = ap (find_field (codes "ty")) (var-fields d absent) in
@@ -59,7 +59,7 @@ returns-in_err-ty-clause-place c =
 
 pub returns-in_err-initializer-clause-place : goal.returns-in_err-initializer-clause-place
 returns-in_err-initializer-clause-place c =
-    let d = view c.args.value.now in
+    let d = borrowed_view c.args.value.now in
     let e = c.in_err-initializer.field-0.0 in
     let absent : get (codes "space") d ≡ None = no-member (get (codes "space") d) c.requires in
     let there : find_field (codes "init") (fields (declared_worded declareds.Var) d) ≡ Some (field (codes "init") false (node an_expression)) = ap (find_field (codes "init")) (var-fields d absent) in
@@ -68,7 +68,7 @@ returns-in_err-initializer-clause-place c =
 
 pub returns-clause-ok : goal.returns-clause-ok
 returns-clause-ok c =
-    let d = view c.args.value.now in
+    let d = borrowed_view c.args.value.now in
     let absent : get (codes "space") d ≡ None = no-member (get (codes "space") d) c.requires in
     let known : has_only (known_keys (declared_worded declareds.Var) d) d ≡ true = ap (λ ks. has_only ks d) (var-keys d absent) ∙ c.in_ok-check_keys.ensures.ok in
     let rest = (needs-then c.in_ok-ident.ensures.ok (may-then c.in_ok-ty.ensures.ok (may-then c.in_ok-initializer.ensures.ok (none-then d _)))) in

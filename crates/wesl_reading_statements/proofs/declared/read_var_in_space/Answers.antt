@@ -1,5 +1,5 @@
 use Rattle.serde_json.specs.Find.{get}
-use Rattle.serde_json.specs.View.{view}
+use Rattle.wesl_borrowed.specs.View.{borrowed_view}
 use Rattle.std.proofs.Common.{Some, ap, codes, false, refl, true, ◌∙◌, ◌≡◌}
 use Rattle.wesl_form.specs.Reading.{known_keys, word_in}
 use Rattle.wesl_pointer.specs.Keys.{has_only}
@@ -24,7 +24,7 @@ use Rattle.wesl_reading_statements.proofs.declared.read_var_in_space.Goals as go
 
 pub returns-in_err-check_keys-clause-place : goal.returns-in_err-check_keys-clause-place
 returns-in_err-check_keys-clause-place c =
-    let d = view c.args.value.now in
+    let d = borrowed_view c.args.value.now in
     let e = c.in_err-check_keys.field-0.0 in
     let wrong : has_only (known_keys (declared_worded declareds.Var) d) d ≡ false = ap (λ ks. has_only ks d) (space-keys d c.requires) ∙ c.in_err-check_keys.ensures.err in
     exit (LocatesRow (declared_worded declareds.Var) d) c.from_residual.result e c.from_residual.ensures.1
@@ -32,7 +32,7 @@ returns-in_err-check_keys-clause-place c =
 
 pub returns-in_err-attributes-clause-place : goal.returns-in_err-attributes-clause-place
 returns-in_err-attributes-clause-place c =
-    let d = view c.args.value.now in
+    let d = borrowed_view c.args.value.now in
     let e = c.in_err-attributes.field-0.0 in
     let there : find_field (codes "attrs") (fields (declared_worded declareds.Var) d) ≡ Some (field (codes "attrs") false (list_of attributes an_attribute)) = ap (find_field (codes "attrs")) (space-fields d c.requires) in
     exit (LocatesRow (declared_worded declareds.Var) d) c.from_residual-in_err-attributes.result e c.from_residual-in_err-attributes.ensures.1
@@ -40,7 +40,7 @@ returns-in_err-attributes-clause-place c =
 
 pub returns-in_err-space-clause-place : goal.returns-in_err-space-clause-place
 returns-in_err-space-clause-place c =
-    let d = view c.args.value.now in
+    let d = borrowed_view c.args.value.now in
     let e = c.in_err-space.field-0.0 in
     let there : find_field (codes "space") (fields (declared_worded declareds.Var) d) ≡ Some (field (codes "space") true (leaf (one_of space_words))) = ap (find_field (codes "space")) (space-fields d c.requires) in
     exit (LocatesRow (declared_worded declareds.Var) d) c.from_residual-in_err-space.result e c.from_residual-in_err-space.ensures.1
@@ -48,7 +48,7 @@ returns-in_err-space-clause-place c =
 
 pub returns-in_err-access-clause-place : goal.returns-in_err-access-clause-place
 returns-in_err-access-clause-place c =
-    let d = view c.args.value.now in
+    let d = borrowed_view c.args.value.now in
     let e = c.in_err-access.field-0.0 in
     let there : find_field (codes "access") (fields (declared_worded declareds.Var) d) ≡ Some (field (codes "access") false (leaf (one_of access_words))) = ap (find_field (codes "access")) (space-fields d c.requires) in
     exit (LocatesRow (declared_worded declareds.Var) d) c.from_residual-in_err-access.result e c.from_residual-in_err-access.ensures.1
@@ -56,7 +56,7 @@ returns-in_err-access-clause-place c =
 
 pub returns-in_err-ident-clause-place : goal.returns-in_err-ident-clause-place
 returns-in_err-ident-clause-place c =
-    let d = view c.args.value.now in
+    let d = borrowed_view c.args.value.now in
     let e = c.in_err-ident.field-0.0 in
     let there : find_field (codes "name") (fields (declared_worded declareds.Var) d) ≡ Some (field (codes "name") true (leaf (an_ident binder))) = ap (find_field (codes "name")) (space-fields d c.requires) in
     exit (LocatesRow (declared_worded declareds.Var) d) c.from_residual-in_err-ident.result e c.from_residual-in_err-ident.ensures.1
@@ -64,7 +64,7 @@ returns-in_err-ident-clause-place c =
 
 pub returns-in_err-ty-clause-place : goal.returns-in_err-ty-clause-place
 returns-in_err-ty-clause-place c =
-    let d = view c.args.value.now in
+    let d = borrowed_view c.args.value.now in
     let e = c.in_err-ty.field-0.0 in
     let there : find_field (codes "ty") (fields (declared_worded declareds.Var) d) ≡ Some (field (codes "ty") false (node a_type)) = ap (find_field (codes "ty")) (space-fields d c.requires) in
     exit (LocatesRow (declared_worded declareds.Var) d) c.from_residual-in_err-ty.result e c.from_residual-in_err-ty.ensures.1
@@ -72,7 +72,7 @@ returns-in_err-ty-clause-place c =
 
 pub returns-in_err-initializer-clause-place : goal.returns-in_err-initializer-clause-place
 returns-in_err-initializer-clause-place c =
-    let d = view c.args.value.now in
+    let d = borrowed_view c.args.value.now in
     let e = c.in_err-initializer.field-0.0 in
     let there : find_field (codes "init") (fields (declared_worded declareds.Var) d) ≡ Some (field (codes "init") false (node an_expression)) = ap (find_field (codes "init")) (space-fields d c.requires) in
     exit (LocatesRow (declared_worded declareds.Var) d) c.from_residual-in_err-initializer.result e c.from_residual-in_err-initializer.ensures.1
@@ -80,7 +80,7 @@ returns-in_err-initializer-clause-place c =
 
 pub returns-clause-ok : goal.returns-clause-ok
 returns-clause-ok c =
-    let d = view c.args.value.now in
+    let d = borrowed_view c.args.value.now in
     let found = a-member (get (codes "space") d) c.requires in
     let known : has_only (known_keys (declared_worded declareds.Var) d) d ≡ true = ap (λ ks. has_only ks d) (space-keys d c.requires) ∙ c.in_ok-check_keys.ensures.ok in
     let rest = (needs-then c.in_ok-ident.ensures.ok (may-then c.in_ok-ty.ensures.ok (may-then c.in_ok-initializer.ensures.ok (none-then d _)))) in

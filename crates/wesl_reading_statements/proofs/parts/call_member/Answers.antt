@@ -1,4 +1,4 @@
-use Rattle.serde_json.specs.View.{view}
+use Rattle.wesl_borrowed.specs.View.{borrowed_view}
 use Rattle.std.proofs.Common.{codes}
 use Rattle.wesl_form.specs.Schema.{a_call, node}
 use Rattle.wesl_reading.proofs.Places.{inside-under, member-inside}
@@ -7,9 +7,9 @@ use Rattle.wesl_reading_statements.proofs.parts.call_member.Goals as goal
 
 pub returns-in-Ok-clause-ok : goal.returns-in-Ok-clause-ok
 returns-in-Ok-clause-ok c =
-    needed-there (codes "call") (node a_call) (view c.args.value.now) (view c.in_ok-member.member.now) _ _ _ c.in_ok-member.ensures.ok c.in-Ok.ensures.ok
+    needed-there (codes "call") (node a_call) (borrowed_view c.args.value.now) (borrowed_view c.in_ok-member.member.now) _ _ _ c.in_ok-member.ensures.ok c.in-Ok.ensures.ok
 
 pub returns-in-Err-clause-place : goal.returns-in-Err-clause-place
 returns-in-Err-clause-place c =
-    let d = view c.args.value.now in
-    member-inside (codes "call") (node a_call) d c.under.result (inside-under (codes "call") (node a_call) d (view c.in_ok-member.member.now) c.in-Err.error c.under.result c.in_ok-member.ensures.ok c.in-Err.ensures.place c.under.ensures)
+    let d = borrowed_view c.args.value.now in
+    member-inside (codes "call") (node a_call) d c.under.result (inside-under (codes "call") (node a_call) d (borrowed_view c.in_ok-member.member.now) c.in-Err.error c.under.result c.in_ok-member.ensures.ok c.in-Err.ensures.place c.under.ensures)

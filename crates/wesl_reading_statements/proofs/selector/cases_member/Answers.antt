@@ -1,5 +1,5 @@
 use Rattle.serde_json.specs.Find.{get}
-use Rattle.serde_json.specs.View.{view}
+use Rattle.wesl_borrowed.specs.View.{borrowed_view}
 use Rattle.std.proofs.Common.{sym, Some, codes, ◌≡◌}
 use Rattle.wesl_form.specs.Schema.{a_case, list_of}
 use Rattle.wesl_reading.proofs.Places.{inside-under}
@@ -9,12 +9,12 @@ use Rattle.wesl_reading_statements.proofs.selector.cases_member.Goals as goal
 
 pub returns-in-Ok-clause-ok : goal.returns-in-Ok-clause-ok
 returns-in-Ok-clause-ok c =
-    let d = view c.args.value.now in
-    let found : get (codes "cases") d ≡ Some (view c.in-Some.member.now) = sym c.in-Some.ensures in
-    many-there (codes "cases") (list_of list a_case) d (view c.in-Some.member.now) _ _ _ found c.in-Ok.ensures.ok
+    let d = borrowed_view c.args.value.now in
+    let found : get (codes "cases") d ≡ Some (borrowed_view c.in-Some.member.now) = sym c.in-Some.ensures in
+    many-there (codes "cases") (list_of list a_case) d (borrowed_view c.in-Some.member.now) _ _ _ found c.in-Ok.ensures.ok
 
 pub returns-in-Err-clause-place : goal.returns-in-Err-clause-place
 returns-in-Err-clause-place c =
-    let d = view c.args.value.now in
-    let found : get (codes "cases") d ≡ Some (view c.in-Some.member.now) = sym c.in-Some.ensures in
-    inside-under (codes "cases") (list_of list a_case) d (view c.in-Some.member.now) c.in-Err.error c.under.result found c.in-Err.ensures.place c.under.ensures
+    let d = borrowed_view c.args.value.now in
+    let found : get (codes "cases") d ≡ Some (borrowed_view c.in-Some.member.now) = sym c.in-Some.ensures in
+    inside-under (codes "cases") (list_of list a_case) d (borrowed_view c.in-Some.member.now) c.in-Err.error c.under.result found c.in-Err.ensures.place c.under.ensures

@@ -1,5 +1,5 @@
 use Rattle.serde_json.specs.Find.{get}
-use Rattle.serde_json.specs.View.{view}
+use Rattle.wesl_borrowed.specs.View.{borrowed_view}
 use Rattle.std.proofs.Common.{sym, Some, codes, ◌≡◌}
 use Rattle.wesl_form.specs.Schema.{a_break_if, node}
 use Rattle.wesl_reading.proofs.Places.{inside-under}
@@ -8,12 +8,12 @@ use Rattle.wesl_reading_statements.proofs.selector.optional_break_if.Goals as go
 
 pub returns-in-Ok-clause-ok : goal.returns-in-Ok-clause-ok
 returns-in-Ok-clause-ok c =
-    let d = view c.args.value.now in
-    let found : get (codes "break_if") d ≡ Some (view c.in-Some.member.now) = sym c.in-Some.ensures in
-    may-there (codes "break_if") (node a_break_if) d (view c.in-Some.member.now) _ _ _ found c.in-Ok.ensures.ok
+    let d = borrowed_view c.args.value.now in
+    let found : get (codes "break_if") d ≡ Some (borrowed_view c.in-Some.member.now) = sym c.in-Some.ensures in
+    may-there (codes "break_if") (node a_break_if) d (borrowed_view c.in-Some.member.now) _ _ _ found c.in-Ok.ensures.ok
 
 pub returns-in-Err-clause-place : goal.returns-in-Err-clause-place
 returns-in-Err-clause-place c =
-    let d = view c.args.value.now in
-    let found : get (codes "break_if") d ≡ Some (view c.in-Some.member.now) = sym c.in-Some.ensures in
-    inside-under (codes "break_if") (node a_break_if) d (view c.in-Some.member.now) c.in-Err.error c.under.result found c.in-Err.ensures.place c.under.ensures
+    let d = borrowed_view c.args.value.now in
+    let found : get (codes "break_if") d ≡ Some (borrowed_view c.in-Some.member.now) = sym c.in-Some.ensures in
+    inside-under (codes "break_if") (node a_break_if) d (borrowed_view c.in-Some.member.now) c.in-Err.error c.under.result found c.in-Err.ensures.place c.under.ensures

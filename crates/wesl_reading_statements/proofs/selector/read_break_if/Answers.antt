@@ -1,4 +1,4 @@
-use Rattle.serde_json.specs.View.{view}
+use Rattle.wesl_borrowed.specs.View.{borrowed_view}
 use Rattle.std.proofs.Common.{codes, false, refl, true, ◌≡◌}
 use Rattle.wesl_form.specs.Nodes.{attrs, operand}
 use Rattle.wesl_form.specs.Reading.{known_keys}
@@ -14,7 +14,7 @@ use Rattle.wesl_reading_statements.proofs.selector.read_break_if.Goals as goal
 
 pub returns-in_err-check_keys-clause-place : goal.returns-in_err-check_keys-clause-place
 returns-in_err-check_keys-clause-place c =
-    let d = view c.args.value.now in
+    let d = borrowed_view c.args.value.now in
     let e = c.in_err-check_keys.field-0.0 in
     let wrong : has_only (known_keys (attrs operand) d) d ≡ false = c.in_err-check_keys.ensures.err in
     exit (Locates (node a_break_if) d) c.from_residual.result e c.from_residual.ensures.1
@@ -22,7 +22,7 @@ returns-in_err-check_keys-clause-place c =
 
 pub returns-in_err-attributes-clause-place : goal.returns-in_err-attributes-clause-place
 returns-in_err-attributes-clause-place c =
-    let d = view c.args.value.now in
+    let d = borrowed_view c.args.value.now in
     let e = c.in_err-attributes.field-0.0 in
     let known : has_only (known_keys (attrs operand) d) d ≡ true = c.in_ok-check_keys.ensures.ok in
     exit (Locates (node a_break_if) d) c.from_residual-in_err-attributes.result e c.from_residual-in_err-attributes.ensures.1
@@ -30,7 +30,7 @@ returns-in_err-attributes-clause-place c =
 
 pub returns-in_err-expression-clause-place : goal.returns-in_err-expression-clause-place
 returns-in_err-expression-clause-place c =
-    let d = view c.args.value.now in
+    let d = borrowed_view c.args.value.now in
     let e = c.in_err-expression.field-0.0 in
     let known : has_only (known_keys (attrs operand) d) d ≡ true = c.in_ok-check_keys.ensures.ok in
     exit (Locates (node a_break_if) d) c.from_residual-in_err-expression.result e c.from_residual-in_err-expression.ensures.1
@@ -38,6 +38,6 @@ returns-in_err-expression-clause-place c =
 
 pub returns-clause-ok : goal.returns-clause-ok
 returns-clause-ok c =
-    let d = view c.args.value.now in
+    let d = borrowed_view c.args.value.now in
     let known : has_only (known_keys (attrs operand) d) d ≡ true = c.in_ok-check_keys.ensures.ok in
     bare-reads a_break_if break_if (attrs operand) d refl _ _ _ known (many-then c.in_ok-attributes.ensures.ok (needs-then c.in_ok-expression.ensures.ok (none-then d _)))

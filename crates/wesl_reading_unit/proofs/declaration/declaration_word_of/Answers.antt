@@ -1,5 +1,5 @@
 use Rattle.serde_json.specs.Find.{as_str, get}
-use Rattle.serde_json.specs.View.{view}
+use Rattle.wesl_borrowed.specs.View.{borrowed_view}
 use Rattle.std.proofs.Common.{None, Some, codes, option_and_then, refl, rules, ◌≡◌}
 use Rattle.wesl_form.specs.Schema.{a_declaration, node}
 use Rattle.wesl_reading.specs.Faults.{Locates}
@@ -10,7 +10,7 @@ use Rattle.wesl_reading_unit.proofs.declaration.declaration_word_of.Goals as goa
 
 pub returns-in_err-word-clause-place : goal.returns-in_err-word-clause-place
 returns-in_err-word-clause-place c =
-    let d = view c.args.value.now in
+    let d = borrowed_view c.args.value.now in
     let e = c.in_err-word.field-0.0 in
     let lacks : get (codes "k") d ≡ None = search rules in
     let located : Locates (node a_declaration) d e = no-word a_declaration declaration_words d refl refl e lacks c.in_err-word.ensures.place in
@@ -18,8 +18,8 @@ returns-in_err-word-clause-place c =
 
 pub returns-in-None-clause-place : goal.returns-in-None-clause-place
 returns-in-None-clause-place c =
-    let d = view c.args.value.now in
-    let v = view c.in_ok-word.word.now in
+    let d = borrowed_view c.args.value.now in
+    let v = borrowed_view c.in_ok-word.word.now in
     let found : get (codes "k") d ≡ Some v = search rules in
     let none : option_and_then (look declaration_words) (as_str v) ≡ None = search rules in
     wrong-word a_declaration declaration_words d refl refl v c.wrong.result c.under.result found none c.wrong.ensures c.under.ensures

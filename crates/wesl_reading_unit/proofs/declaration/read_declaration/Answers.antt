@@ -1,4 +1,4 @@
-use Rattle.serde_json.specs.View.{view}
+use Rattle.wesl_borrowed.specs.View.{borrowed_view}
 use Rattle.std.proofs.Common.{ap, refl, sym}
 use Rattle.wesl_form.specs.Schema.{a_declaration, fixed}
 use Rattle.wesl_reading.proofs.Steps.{same-reads}
@@ -13,12 +13,12 @@ use Rattle.wesl_reading_unit.proofs.declaration.read_declaration.Goals as goal
 
 pub returns-in-Ok-clause-ok : goal.returns-in-Ok-clause-ok
 returns-in-Ok-clause-ok c =
-    let d = view c.args.value.now in
+    let d = borrowed_view c.args.value.now in
     let word = c.in_ok-word.word in
     same-reads (node-reads a_declaration declaration_node declaration_words (declaration_text word) (fixed (kind (declaration_kind word))) (declaration_row word) d c.in_ok-word.ensures.word (declaration-looked word) refl (global_view c.in-Ok.declaration) _ _ (declaration-marked word) c.in-Ok.ensures.ok) (sym (ap (placed global_view declaration_node) c.unplaced.ensures))
 
 pub returns-in-Err-clause-place : goal.returns-in-Err-clause-place
 returns-in-Err-clause-place c =
-    let d = view c.args.value.now in
+    let d = borrowed_view c.args.value.now in
     let word = c.in_ok-word.word in
     node-place a_declaration declaration_node declaration_words (declaration_text word) (fixed (kind (declaration_kind word))) (declaration_row word) d c.in_ok-word.ensures.word (declaration-looked word) refl c.in-Err.error c.in-Err.ensures.place

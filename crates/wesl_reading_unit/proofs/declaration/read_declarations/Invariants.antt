@@ -1,5 +1,5 @@
 use Rattle.serde_json.specs.Data.{depth}
-use Rattle.serde_json.specs.View.{items_view, view}
+use Rattle.wesl_borrowed.specs.View.{borrowed_view, items_view}
 use Rattle.std.proofs.Common.{map, take}
 use Rattle.wesl_form.specs.Nodes.{whole_form}
 use Rattle.wesl_form.specs.Reading.{items_in, reading}
@@ -11,4 +11,4 @@ use Rattle.wesl_reading_unit.proofs.declaration.read_declarations.Given as goal
 
 abbrev pub invariant-loop-index : goal.invariant-loop-index
 invariant-loop-index l =
-    AreReadAs (λ n. items_in (reading whole_form n (node a_declaration)) (items_view (take l.index l.item-items))) (depth (view l.value)) (forest_of (map (placed global_view declaration_node) l.declarations.items)) l.initial.numbering l.numbering
+    AreReadAs (λ n. items_in (reading whole_form n (node a_declaration)) (items_view (take l.index l.item-items))) (depth (borrowed_view l.value)) (forest_of (map (placed global_view declaration_node) l.declarations.items)) l.initial.numbering l.numbering

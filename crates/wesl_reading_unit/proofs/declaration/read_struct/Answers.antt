@@ -1,4 +1,4 @@
-use Rattle.serde_json.specs.View.{view}
+use Rattle.wesl_borrowed.specs.View.{borrowed_view}
 use Rattle.std.proofs.Common.{codes, false, refl, rules, true, ◌≡◌}
 use Rattle.wesl_form.specs.Reading.{known_keys}
 use Rattle.wesl_pointer.specs.Keys.{has_only}
@@ -15,7 +15,7 @@ use Rattle.wesl_reading_unit.proofs.declaration.read_struct.Goals as goal
 
 pub returns-in_err-check_keys-clause-place : goal.returns-in_err-check_keys-clause-place
 returns-in_err-check_keys-clause-place c =
-    let d = view c.args.value.now in
+    let d = borrowed_view c.args.value.now in
     let e = c.in_err-check_keys.field-0.0 in
     let wrong : has_only (known_keys (declaration_worded globals.Struct) d) d ≡ false = search rules in
     let located : LocatesRow (declaration_worded globals.Struct) d e = row-keys (declaration_worded globals.Struct) d e wrong c.in_err-check_keys.ensures.place in
@@ -23,27 +23,27 @@ returns-in_err-check_keys-clause-place c =
 
 pub returns-in_err-attributes-clause-place : goal.returns-in_err-attributes-clause-place
 returns-in_err-attributes-clause-place c =
-    let d = view c.args.value.now in
+    let d = borrowed_view c.args.value.now in
     let e = c.in_err-attributes.field-0.0 in
     let located : LocatesRow (declaration_worded globals.Struct) d e = row-inside (declaration_worded globals.Struct) (codes "attrs") false (list_of attributes an_attribute) d e refl c.in_err-attributes.ensures.place in
     search rules
 
 pub returns-in_err-ident-clause-place : goal.returns-in_err-ident-clause-place
 returns-in_err-ident-clause-place c =
-    let d = view c.args.value.now in
+    let d = borrowed_view c.args.value.now in
     let e = c.in_err-ident.field-0.0 in
     let located : LocatesRow (declaration_worded globals.Struct) d e = row-member (declaration_worded globals.Struct) (codes "name") (leaf (an_ident binder)) d e refl c.in_err-ident.ensures.place in
     search rules
 
 pub returns-in_err-members-clause-place : goal.returns-in_err-members-clause-place
 returns-in_err-members-clause-place c =
-    let d = view c.args.value.now in
+    let d = borrowed_view c.args.value.now in
     let e = c.in_err-members.field-0.0 in
     let located : LocatesRow (declaration_worded globals.Struct) d e = row-inside (declaration_worded globals.Struct) (codes "members") false (list_of members a_member) d e refl c.in_err-members.ensures.place in
     search rules
 
 pub returns-clause-ok : goal.returns-clause-ok
 returns-clause-ok c =
-    let d = view c.args.value.now in
+    let d = borrowed_view c.args.value.now in
     let known : has_only (known_keys (declaration_worded globals.Struct) d) d ≡ true = search rules in
     worded-reads known (plain-kind struct) refl (many-then c.in_ok-attributes.ensures.ok (needs-then c.in_ok-ident.ensures.ok (many-then c.in_ok-members.ensures.ok (none-then d _))))

@@ -1,5 +1,5 @@
 use Rattle.serde_json.specs.Find.{get}
-use Rattle.serde_json.specs.View.{view}
+use Rattle.wesl_borrowed.specs.View.{borrowed_view}
 use Rattle.std.proofs.Common.{Some, codes, rules, ◌≡◌}
 use Rattle.wesl_form.specs.Schema.{a_directive, list_of}
 use Rattle.wesl_reading.proofs.Places.{inside-under}
@@ -9,12 +9,12 @@ use Rattle.wesl_reading_unit.proofs.directive.directives_member.Goals as goal
 
 pub returns-in-Ok-clause-ok : goal.returns-in-Ok-clause-ok
 returns-in-Ok-clause-ok c =
-    let d = view c.args.value.now in
-    let found : get (codes "directives") d ≡ Some (view c.in-Some.member.now) = search rules in
-    many-there (codes "directives") (list_of directive_list a_directive) d (view c.in-Some.member.now) _ _ _ found c.in-Ok.ensures.ok
+    let d = borrowed_view c.args.value.now in
+    let found : get (codes "directives") d ≡ Some (borrowed_view c.in-Some.member.now) = search rules in
+    many-there (codes "directives") (list_of directive_list a_directive) d (borrowed_view c.in-Some.member.now) _ _ _ found c.in-Ok.ensures.ok
 
 pub returns-in-Err-clause-place : goal.returns-in-Err-clause-place
 returns-in-Err-clause-place c =
-    let d = view c.args.value.now in
-    let found : get (codes "directives") d ≡ Some (view c.in-Some.member.now) = search rules in
-    inside-under (codes "directives") (list_of directive_list a_directive) d (view c.in-Some.member.now) c.in-Err.error c.under.result found c.in-Err.ensures.place c.under.ensures
+    let d = borrowed_view c.args.value.now in
+    let found : get (codes "directives") d ≡ Some (borrowed_view c.in-Some.member.now) = search rules in
+    inside-under (codes "directives") (list_of directive_list a_directive) d (borrowed_view c.in-Some.member.now) c.in-Err.error c.under.result found c.in-Err.ensures.place c.under.ensures

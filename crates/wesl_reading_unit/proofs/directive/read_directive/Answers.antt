@@ -1,4 +1,4 @@
-use Rattle.serde_json.specs.View.{view}
+use Rattle.wesl_borrowed.specs.View.{borrowed_view}
 use Rattle.std.proofs.Common.{ap, refl, sym}
 use Rattle.wesl_form.specs.Schema.{a_directive, fixed}
 use Rattle.wesl_reading.proofs.Steps.{same-reads}
@@ -13,12 +13,12 @@ use Rattle.wesl_reading_unit.proofs.directive.read_directive.Goals as goal
 
 pub returns-in-Ok-clause-ok : goal.returns-in-Ok-clause-ok
 returns-in-Ok-clause-ok c =
-    let d = view c.args.value.now in
+    let d = borrowed_view c.args.value.now in
     let word = c.in_ok-word.word in
     same-reads (node-reads a_directive directive_node directive_words (directive_text word) (fixed (kind (directive_kind word))) (directive_row word) d c.in_ok-word.ensures.word (directive-looked word) refl (directive_view c.in-Ok.directive) _ _ (directive-marked word) c.in-Ok.ensures.ok) (sym (ap (placed directive_view directive_node) c.unplaced.ensures))
 
 pub returns-in-Err-clause-place : goal.returns-in-Err-clause-place
 returns-in-Err-clause-place c =
-    let d = view c.args.value.now in
+    let d = borrowed_view c.args.value.now in
     let word = c.in_ok-word.word in
     node-place a_directive directive_node directive_words (directive_text word) (fixed (kind (directive_kind word))) (directive_row word) d c.in_ok-word.ensures.word (directive-looked word) refl c.in-Err.error c.in-Err.ensures.place

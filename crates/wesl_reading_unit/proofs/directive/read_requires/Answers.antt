@@ -1,4 +1,4 @@
-use Rattle.serde_json.specs.View.{view}
+use Rattle.wesl_borrowed.specs.View.{borrowed_view}
 use Rattle.std.proofs.Common.{codes, false, refl, rules, true, ◌≡◌}
 use Rattle.wesl_form.specs.Reading.{known_keys}
 use Rattle.wesl_pointer.specs.Keys.{has_only}
@@ -15,7 +15,7 @@ use Rattle.wesl_reading_unit.proofs.directive.read_requires.Goals as goal
 
 pub returns-in_err-check_keys-clause-place : goal.returns-in_err-check_keys-clause-place
 returns-in_err-check_keys-clause-place c =
-    let d = view c.args.value.now in
+    let d = borrowed_view c.args.value.now in
     let e = c.in_err-check_keys.field-0.0 in
     let wrong : has_only (known_keys (directive_worded directed.Requires) d) d ≡ false = search rules in
     let located : LocatesRow (directive_worded directed.Requires) d e = row-keys (directive_worded directed.Requires) d e wrong c.in_err-check_keys.ensures.place in
@@ -23,20 +23,20 @@ returns-in_err-check_keys-clause-place c =
 
 pub returns-in_err-attributes-clause-place : goal.returns-in_err-attributes-clause-place
 returns-in_err-attributes-clause-place c =
-    let d = view c.args.value.now in
+    let d = borrowed_view c.args.value.now in
     let e = c.in_err-attributes.field-0.0 in
     let located : LocatesRow (directive_worded directed.Requires) d e = row-inside (directive_worded directed.Requires) (codes "attrs") false (list_of attributes an_attribute) d e refl c.in_err-attributes.ensures.place in
     search rules
 
 pub returns-in_err-names-clause-place : goal.returns-in_err-names-clause-place
 returns-in_err-names-clause-place c =
-    let d = view c.args.value.now in
+    let d = borrowed_view c.args.value.now in
     let e = c.in_err-names.field-0.0 in
     let located : LocatesRow (directive_worded directed.Requires) d e = row-inside (directive_worded directed.Requires) (codes "names") false (leaf some_names) d e refl c.in_err-names.ensures.place in
     search rules
 
 pub returns-clause-ok : goal.returns-clause-ok
 returns-clause-ok c =
-    let d = view c.args.value.now in
+    let d = borrowed_view c.args.value.now in
     let known : has_only (known_keys (directive_worded directed.Requires) d) d ≡ true = search rules in
     worded-reads known (plain-kind requires_directive) refl (many-then c.in_ok-attributes.ensures.ok (many-then (c.in_ok-names.ensures.ok _) (none-then d _)))

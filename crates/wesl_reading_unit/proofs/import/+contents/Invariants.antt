@@ -1,5 +1,5 @@
 use Rattle.serde_json.specs.Data.{depth}
-use Rattle.serde_json.specs.View.{items_view, view}
+use Rattle.wesl_borrowed.specs.View.{borrowed_view, items_view}
 use Rattle.std.proofs.Common.{map, take, ◌*◌, ◌+◌}
 use Rattle.wesl_form.specs.Nodes.{whole_form}
 use Rattle.wesl_form.specs.Reading.{items_in, reading}
@@ -10,23 +10,23 @@ use Rattle.wesl_syntax.specs.View.{entry_view}
 use Rattle.wesl_reading_unit.proofs.import.+contents.Given as goal
 
 abbrev pub decreases-content_member : goal.decreases-content_member
-decreases-content_member l = 10 * depth (view l.value.now) + 3
+decreases-content_member l = 10 * depth (borrowed_view l.value.now) + 3
 
 abbrev pub decreases-read_content : goal.decreases-read_content
-decreases-read_content l = 10 * depth (view l.value.now) + 9
+decreases-read_content l = 10 * depth (borrowed_view l.value.now) + 9
 
 abbrev pub decreases-read_collection : goal.decreases-read_collection
-decreases-read_collection l = 10 * depth (view l.value.now) + 8
+decreases-read_collection l = 10 * depth (borrowed_view l.value.now) + 8
 
 abbrev pub decreases-entries_member : goal.decreases-entries_member
-decreases-entries_member l = 10 * depth (view l.value.now) + 3
+decreases-entries_member l = 10 * depth (borrowed_view l.value.now) + 3
 
 abbrev pub decreases-read_entries : goal.decreases-read_entries
-decreases-read_entries l = 10 * depth (view l.value.now) + 2
+decreases-read_entries l = 10 * depth (borrowed_view l.value.now) + 2
 
 abbrev pub decreases-read_entry : goal.decreases-read_entry
-decreases-read_entry l = 10 * depth (view l.value.now) + 7
+decreases-read_entry l = 10 * depth (borrowed_view l.value.now) + 7
 
 abbrev pub invariant-read_entries-loop-index : goal.invariant-read_entries-loop-index
 invariant-read_entries-loop-index l =
-    AreReadAs (λ n. items_in (reading whole_form n (node an_entry)) (items_view (take l.index l.item-items))) (depth (view l.value)) (forest_of (map entry_view l.entries.items)) l.initial.numbering l.numbering
+    AreReadAs (λ n. items_in (reading whole_form n (node an_entry)) (items_view (take l.index l.item-items))) (depth (borrowed_view l.value)) (forest_of (map entry_view l.entries.items)) l.initial.numbering l.numbering

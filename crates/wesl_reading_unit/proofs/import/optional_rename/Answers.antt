@@ -1,5 +1,5 @@
 use Rattle.serde_json.specs.Find.{get}
-use Rattle.serde_json.specs.View.{view}
+use Rattle.wesl_borrowed.specs.View.{borrowed_view}
 use Rattle.std.proofs.Common.{Some, ap, codes, option_map, rules, ◌≡◌}
 use Rattle.wesl_form.specs.Reading.{name_in}
 use Rattle.wesl_form.specs.Schema.{an_ident, leaf}
@@ -11,8 +11,8 @@ use Rattle.wesl_reading_unit.proofs.import.optional_rename.Goals as goal
 
 pub returns-in_ok-number-in-Ok-clause-ok : goal.returns-in_ok-number-in-Ok-clause-ok
 returns-in_ok-number-in-Ok-clause-ok c =
-    let d = view c.args.value.now in
-    let v = view c.in-Some.member.now in
+    let d = borrowed_view c.args.value.now in
+    let v = borrowed_view c.in-Some.member.now in
     let found : get (codes "as") d ≡ Some v = search rules in
     let a = c.args.numbering.now in
     let b = c.number.new.self in
@@ -20,6 +20,6 @@ returns-in_ok-number-in-Ok-clause-ok c =
 
 pub returns-in-Err-clause-place : goal.returns-in-Err-clause-place
 returns-in-Err-clause-place c =
-    let d = view c.args.value.now in
-    let found : get (codes "as") d ≡ Some (view c.in-Some.member.now) = search rules in
-    leaf-under name_in (codes "as") (an_ident binder) d (view c.in-Some.member.now) c.in-Err.error c.under.result found (λ x h. ap (option_map (ident binder)) h) c.in-Err.ensures.place c.under.ensures
+    let d = borrowed_view c.args.value.now in
+    let found : get (codes "as") d ≡ Some (borrowed_view c.in-Some.member.now) = search rules in
+    leaf-under name_in (codes "as") (an_ident binder) d (borrowed_view c.in-Some.member.now) c.in-Err.error c.under.result found (λ x h. ap (option_map (ident binder)) h) c.in-Err.ensures.place c.under.ensures

@@ -1,6 +1,6 @@
 use Rattle.serde_json.specs.Data.{depth, items_depth}
 use Rattle.serde_json.specs.Find.{as_array}
-use Rattle.serde_json.specs.View.{items_view, view}
+use Rattle.wesl_borrowed.specs.View.{borrowed_view, items_view}
 use Rattle.std.proofs.Common.{Some, arith, rules, ◌<◌, ◌≡◌, ◌≤◌}
 use Rattle.wesl_form.specs.Schema.{an_import}
 use Rattle.wesl_reading.proofs.Depths.{array-depth, item-at, item-depth}
@@ -13,19 +13,19 @@ use Rattle.wesl_reading_unit.proofs.import.read_imports.Goals as goal
 pub returns-in-Err-clause-place : goal.returns-in-Err-clause-place
 returns-in-Err-clause-place c =
     let vs = c.deref-item-items.result.now in
-    let is : as_array (view c.args.value.now) ≡ Some (items_view vs) = search rules in
-    item-under imports an_import c.loop-index.index (view c.args.value.now) (view c.item-item.result) c.in-Err.error c.under_index.result (item-at _ vs c.loop-index.index c.item-item.result is (search rules) (search rules)) c.in-Err.ensures.place c.under_index.ensures
+    let is : as_array (borrowed_view c.args.value.now) ≡ Some (items_view vs) = search rules in
+    item-under imports an_import c.loop-index.index (borrowed_view c.args.value.now) (borrowed_view c.item-item.result) c.in-Err.error c.under_index.result (item-at _ vs c.loop-index.index c.item-item.result is (search rules) (search rules)) c.in-Err.ensures.place c.under_index.ensures
 
 pub loop-index-preserved : goal.loop-index-preserved
 loop-index-preserved c =
     let vs = c.deref-item-items.result.now in
-    let is : as_array (view c.args.value.now) ≡ Some (items_view vs) = search rules in
-    let below : depth (view c.item-item.result) ≤ items_depth (items_view vs) = item-depth vs c.loop-index.index c.item-item.result (search rules) (search rules) in
-    let deep : items_depth (items_view vs) < depth (view c.args.value.now) = array-depth _ _ is in
-    items-turn (placed import_view import_node) an_import vs c.loop-index.index c.item-item.result (depth (view c.args.value.now)) c.args.numbering.now c.loop-index.numbering c.read_import.new.numbering c.loop-index.imports.items c.push.new.self.items c.in-Ok.import (search rules) (search rules) (search rules) (omega arith) c.loop-index.invariant c.in-Ok.ensures.ok.form
+    let is : as_array (borrowed_view c.args.value.now) ≡ Some (items_view vs) = search rules in
+    let below : depth (borrowed_view c.item-item.result) ≤ items_depth (items_view vs) = item-depth vs c.loop-index.index c.item-item.result (search rules) (search rules) in
+    let deep : items_depth (items_view vs) < depth (borrowed_view c.args.value.now) = array-depth _ _ is in
+    items-turn (placed import_view import_node) an_import vs c.loop-index.index c.item-item.result (depth (borrowed_view c.args.value.now)) c.args.numbering.now c.loop-index.numbering c.read_import.new.numbering c.loop-index.imports.items c.push.new.self.items c.in-Ok.import (search rules) (search rules) (search rules) (omega arith) c.loop-index.invariant c.in-Ok.ensures.ok.form
 
 pub returns-clause-ok : goal.returns-clause-ok
 returns-clause-ok c =
     let vs = c.deref-item-items.result.now in
-    let is : as_array (view c.args.value.now) ≡ Some (items_view vs) = search rules in
-    record { form = items-whole imports an_import (view c.args.value.now) vs c.loop-index.index _ _ _ is (search rules) c.loop-index.invariant }
+    let is : as_array (borrowed_view c.args.value.now) ≡ Some (items_view vs) = search rules in
+    record { form = items-whole imports an_import (borrowed_view c.args.value.now) vs c.loop-index.index _ _ _ is (search rules) c.loop-index.invariant }

@@ -1,5 +1,5 @@
 use Rattle.serde_json.specs.Find.{get}
-use Rattle.serde_json.specs.View.{view}
+use Rattle.wesl_borrowed.specs.View.{borrowed_view}
 use Rattle.std.proofs.Common.{ap, codes, false, option_map, refl, rules, sym, true, ◌≡◌}
 use Rattle.std.specs.Option.{is_some}
 use Rattle.wesl_form.specs.Reading.{known_keys, name_in}
@@ -15,7 +15,7 @@ use Rattle.wesl_reading_unit.proofs.import.read_item.Goals as goal
 
 pub returns-in_err-check_keys-clause-place : goal.returns-in_err-check_keys-clause-place
 returns-in_err-check_keys-clause-place c =
-    let d = view c.args.value.now in
+    let d = borrowed_view c.args.value.now in
     let e = c.in_err-check_keys.field-0.0 in
     let wrong : has_only (known_keys (item_row d) d) d ≡ false = search rules in
     let located : Locates (node a_content) d e = bare-keys a_content import_item (item_row d) d (content-item d c.requires) e refl wrong c.in_err-check_keys.ensures.place in
@@ -23,7 +23,7 @@ returns-in_err-check_keys-clause-place c =
 
 pub returns-in_err-name_member-clause-place : goal.returns-in_err-name_member-clause-place
 returns-in_err-name_member-clause-place c =
-    let d = view c.args.value.now in
+    let d = borrowed_view c.args.value.now in
     let e = c.in_err-name_member.field-0.0 in
     let known : has_only (known_keys (item_row d) d) d ≡ true = search rules in
     let located : Locates (node a_content) d e = bare-place a_content import_item (item_row d) d (content-item d c.requires) e known (row-text (item_row d) (name_in) (codes "item") (an_ident (role_in d)) d e refl (λ v h. ap (option_map (ident (role_in d))) h) c.in_err-name_member.ensures.place) in
@@ -31,7 +31,7 @@ returns-in_err-name_member-clause-place c =
 
 pub returns-in_err-rename-clause-place : goal.returns-in_err-rename-clause-place
 returns-in_err-rename-clause-place c =
-    let d = view c.args.value.now in
+    let d = borrowed_view c.args.value.now in
     let e = c.in_err-rename.field-0.0 in
     let known : has_only (known_keys (item_row d) d) d ≡ true = search rules in
     let located : Locates (node a_content) d e = bare-place a_content import_item (item_row d) d (content-item d c.requires) e known (row-inside (item_row d) (codes "as") false (leaf (an_ident binder)) d e refl c.in_err-rename.ensures.place) in
@@ -39,7 +39,7 @@ returns-in_err-rename-clause-place c =
 
 pub returns-clause-ok : goal.returns-clause-ok
 returns-clause-ok c =
-    let d = view c.args.value.now in
+    let d = borrowed_view c.args.value.now in
     let i = c.in_ok-ident.ident in
     let r = c.in_ok-rename.rename in
     let known : has_only (known_keys (item_row d) d) d ≡ true = search rules in

@@ -1,4 +1,4 @@
-use Rattle.serde_json.specs.View.{view}
+use Rattle.wesl_borrowed.specs.View.{borrowed_view}
 use Rattle.std.proofs.Common.{[], codes, false, refl, rules, subst, sym, true, ◌∙◌, ◌≡◌}
 use Rattle.wesl_form.specs.Nodes.{whole_form}
 use Rattle.wesl_form.specs.Reading.{known_keys}
@@ -21,7 +21,7 @@ use Rattle.wesl_reading_unit.proofs.unit.read_unit.Goals as goal
 
 pub returns-in_err-check_keys-clause-place : goal.returns-in_err-check_keys-clause-place
 returns-in_err-check_keys-clause-place c =
-    let d = view c.args.value.now in
+    let d = borrowed_view c.args.value.now in
     let e = c.in_err-check_keys.field-0.0 in
     let wrong : has_only (known_keys (unit_row) d) d ≡ false = search rules in
     let located : Locates (node a_unit) d e = bare-keys a_unit unit unit_row d refl e refl wrong c.in_err-check_keys.ensures.place in
@@ -29,7 +29,7 @@ returns-in_err-check_keys-clause-place c =
 
 pub returns-in_err-imports-clause-place : goal.returns-in_err-imports-clause-place
 returns-in_err-imports-clause-place c =
-    let d = view c.args.value.now in
+    let d = borrowed_view c.args.value.now in
     let e = c.in_err-imports.field-0.0 in
     let known : has_only (known_keys (unit_row) d) d ≡ true = search rules in
     let located : Locates (node a_unit) d e = bare-place a_unit unit unit_row d refl e known (row-inside (unit_row) (codes "imports") false (list_of imports an_import) d e refl c.in_err-imports.ensures.place) in
@@ -37,7 +37,7 @@ returns-in_err-imports-clause-place c =
 
 pub returns-in_err-directives-clause-place : goal.returns-in_err-directives-clause-place
 returns-in_err-directives-clause-place c =
-    let d = view c.args.value.now in
+    let d = borrowed_view c.args.value.now in
     let e = c.in_err-directives.field-0.0 in
     let known : has_only (known_keys (unit_row) d) d ≡ true = search rules in
     let located : Locates (node a_unit) d e = bare-place a_unit unit unit_row d refl e known (row-inside (unit_row) (codes "directives") false (list_of directive_list a_directive) d e refl c.in_err-directives.ensures.place) in
@@ -45,7 +45,7 @@ returns-in_err-directives-clause-place c =
 
 pub returns-in_err-declarations-clause-place : goal.returns-in_err-declarations-clause-place
 returns-in_err-declarations-clause-place c =
-    let d = view c.args.value.now in
+    let d = borrowed_view c.args.value.now in
     let e = c.in_err-declarations.field-0.0 in
     let known : has_only (known_keys (unit_row) d) d ≡ true = search rules in
     let located : Locates (node a_unit) d e = bare-place a_unit unit unit_row d refl e known (row-inside (unit_row) (codes "declarations") false (list_of declarations a_declaration) d e refl c.in_err-declarations.ensures.place) in
@@ -53,7 +53,7 @@ returns-in_err-declarations-clause-place c =
 
 pub returns-in-Some-clause-unit : goal.returns-in-Some-clause-unit
 returns-in-Some-clause-unit c =
-    let d = view c.args.value.now in
+    let d = borrowed_view c.args.value.now in
     let i = imports_tree c.in_ok-imports.imports in
     let r = directives_tree c.in_ok-directives.directives in
     let g = declarations_tree c.in_ok-declarations.declarations in
@@ -66,7 +66,7 @@ returns-in-Some-clause-unit c =
 
 pub returns-in-None-clause-place : goal.returns-in-None-clause-place
 returns-in-None-clause-place c =
-    let d = view c.args.value.now in
+    let d = borrowed_view c.args.value.now in
     let i = imports_tree c.in_ok-imports.imports in
     let r = directives_tree c.in_ok-directives.directives in
     let g = declarations_tree c.in_ok-declarations.declarations in

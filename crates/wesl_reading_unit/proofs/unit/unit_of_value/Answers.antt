@@ -1,4 +1,4 @@
-use Rattle.serde_json.specs.View.{view}
+use Rattle.wesl_borrowed.specs.View.{borrowed_view}
 use Rattle.wesl_form.specs.Nodes.{whole_form}
 use Rattle.wesl_form.specs.Schema.{node}
 use Rattle.std.proofs.lemmas.Result.{IfErr-weaker}
@@ -10,5 +10,5 @@ use Rattle.wesl_reading_unit.proofs.unit.unit_of_value.Goals as goal
 
 pub returns-clause-unread : goal.returns-clause-unread
 returns-clause-unread c =
-    let d = view c.args.value.now in
+    let d = borrowed_view c.args.value.now in
     IfErr-weaker c.read_unit.result _ _ (λ e h. IfPlace-more (IsBrokenUnit whole_form d) (λ _. IsNoUnit whole_form d) e (λ place w. whole_form_refuses w.0 (node a_unit) d w.2) h) c.read_unit.ensures.place

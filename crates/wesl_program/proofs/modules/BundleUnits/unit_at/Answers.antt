@@ -1,7 +1,12 @@
-use Rattle.std.proofs.Common.{option_map, sym, ap, ◌∙◌}
-use Rattle.serde_json.specs.View.{view}
+use Rattle.std.proofs.Common.{◌≡◌, Option, Some, None, option_map, Bor, refl, sym, ap, ◌∙◌}
+use Rattle.wesl_borrowed.specs.View.{borrowed_view}
+use Rattle.wesl_borrowed.specs.declared.value.BorrowedValue.{BorrowedValue}
 use Rattle.wesl_program.proofs.Units.{value_at-lookup}
 use Rattle.wesl_program.proofs.modules.BundleUnits.unit_at.Goals as goal
 
+lent : (r : Option (Bor BorrowedValue)) → option_map (λ v. borrowed_view v.now) r ≡ option_map borrowed_view (option_map (λ v. v.now) r)
+lent None = refl
+lent (Some v) = refl
+
 pub returns : goal.returns
-returns c = ap (option_map (λ v. view v.now)) (c.copied.ensures ∙ c.get.ensures.value) ∙ sym (value_at-lookup c.args.path.now c.args.self.now.units.entries)
+returns c = lent c.get.result ∙ ap (option_map borrowed_view) c.get.ensures.value ∙ sym (value_at-lookup c.args.path.now c.args.self.now.units.entries)
