@@ -3,7 +3,7 @@ use Rattle.std.proofs.Common.{◌≡◌, ℕ, ◌+◌, ◌<◌, ◌≤◌, List,
 use Rattle.std.proofs.lemmas.List.{map-append}
 use Rattle.std.proofs.lemmas.Grind.{common_steps}
 use Rattle.wesl_syntax.specs.Tree.{Kind, Tree, Forest, end, before, forest_of, branch, kind}
-use Rattle.wesl_renumber.specs.Renumbered.{renumbered, after, renumbered_tree, after_tree}
+use Rattle.wesl_copies.specs.Renumbered.{renumbered, after, renumbered_tree, after_tree}
 
 -- trees, and a forest after them
 abbrev pub joined : List Tree → Forest → Forest

@@ -8,32 +8,20 @@ use Rattle.wesl_names.specs.Path.{Text}
 use Rattle.wesl_syntax.specs.Tree.{Tree, Forest, end, tree, branch, identifiers, respell, respell_forest, forest_below, tree_below, imports as imports_kind}
 use Rattle.wesl_syntax.specs.Unit.{UnitOf, UnitView, forest_of_unit, trees_of, name_in, spelled, unit_below}
 use Rattle.wesl_syntax.specs.Numbers.{AreNumbers, number_at}
-use Rattle.wesl_renumber.specs.Renumbered.{renumbered, renumbered_tree, after, after_tree}
+use Rattle.wesl_copies.specs.Renumbered.{renumbered, renumbered_tree, after_tree}
+use Rattle.wesl_renumber.specs.Leaves.{are_leaves}
+use Rattle.wesl_renumber.proofs.Taken.{numbers_are, taken}
+use Rattle.wesl_renumber.proofs.Units.{each_below}
 use Rattle.wesl_assembly.specs.Pathless.{without_paths}
 use Rattle.wesl_assembly.specs.Linked.{printed_unit, IsLinkedAs}
 use Rattle.wesl_assembly.proofs.Pathless.{same_identifiers, respelled_without}
 use Rattle.wesl_assembly.proofs.Replaced.{replaced_twice, identifiers_replaced}
 use Rattle.wesl_assembly.proofs.Units.{one_unit}
-use Rattle.wesl_assembly.proofs.Renumbered.{same_shape, taken, EachBelow, now_below, none_below}
+use Rattle.wesl_assembly.proofs.Renumbered.{same_shape}
 use Rattle.wesl_assembly.proofs.Numbering.{Numbered, at_number}
 
 abbrev forget : {I : Type 0} → I → Unit {0}
 forget i = tt
-
-no_numbers : (ns : List ℕ) → length ns ≡ 0 → ns ≡ []
-no_numbers [] h = refl
-no_numbers (n ∷ ns) h = absurd (omega (arith, h))
-
-no_more : {X : Type 0} (xs : List X) → xs ++ [] ≡ xs
-no_more [] = refl
-no_more (x ∷ xs) = ap (λ ys. x ∷ ys) (no_more xs)
-
--- where there are as many numbers as identifiers, they are the identifiers
-numbers_are : (f : Forest) (ns : List ℕ) → length ns ≡ length (identifiers f) → identifiers (renumbered f ns) ≡ ns
-numbers_are f ns h =
-    let t = taken f ns (omega (arith, h)) in
-    let none : after f ns ≡ [] = no_numbers (after f ns) (omega (arith, h, t.many)) in
-    sym (no_more (identifiers (renumbered f ns))) ∙ (ap (λ xs. identifiers (renumbered f ns) ++ xs) (sym none) ∙ t.splits)
 
 pub same_length : {X Y : Type 0} (f : X → Y) (xs : List X) → length (map f xs) ≡ length xs
 same_length f [] = refl
@@ -55,14 +43,14 @@ module _ {K : Type 0} (print : K → Text) (nothing : K) (silent : print nothing
   name_of_number (x ∷ xs) zero = refl
   name_of_number (x ∷ xs) (suc n) = name_of_number xs n
 
-  pub linked_as : (nodes : UnitOf ℕ) (seen ks : List K) (ns : List ℕ) (unit : UnitView) → AreNumbers ks ns → map (at_number nothing seen) ns ≡ ks → AreAllUsed (length seen) ns → length ks ≡ length (identifiers (forest_of_unit nodes))
+  pub linked_as : (nodes : UnitOf ℕ) (seen ks : List K) (ns : List ℕ) (unit : UnitView) → are_leaves (forest_of_unit nodes) ≡ true → AreNumbers ks ns → map (at_number nothing seen) ns ≡ ks → AreAllUsed (length seen) ns → length ks ≡ length (identifiers (forest_of_unit nodes))
       → unit.names ≡ map print seen → forest_of_unit (trees_of unit) ≡ without_paths (renumbered (forest_of_unit nodes) ns) → IsLinkedAs print nodes ks unit
-  linked_as nodes seen ks ns unit are leads used all names trees =
+  linked_as nodes seen ks ns unit leaves are leads used all names trees =
       let f = forest_of_unit nodes in
       let x = forest_of_unit (trees_of unit) in
       let h : ℕ → K = at_number nothing seen in
       let linked : UnitOf K = record { imports = respell h unit.imports; directives = respell h unit.directives; declarations = respell h unit.declarations } in
-      let numbers_is : identifiers x ≡ ns = ap identifiers trees ∙ (same_identifiers (renumbered f ns) ∙ numbers_are f ns (are.one_each ∙ all)) in
+      let numbers_is : identifiers x ≡ ns = ap identifiers trees ∙ (same_identifiers (renumbered f ns) ∙ numbers_are f ns leaves (sym (are.one_each ∙ all))) in
       record {
         linked = linked;
         same_shape =
@@ -112,18 +100,8 @@ module _ {K : Type 0} (nothing : K) where
 
 -- ---- a unit with other numbers
 
-each_below : (n : ℕ) (ns : List ℕ) → All (λ m. m < n) ns → EachBelow n ns
-each_below n [] h = tt
-each_below n (m ∷ ms) h = (h 0 m (omega arith), each_below n ms (λ k d l. h (suc k) d (omega (arith, l))))
-
-no_list : {X : Type 0} (xs : List X) → length xs ≡ 0 → xs ≡ []
-no_list [] h = refl
-no_list (x ∷ xs) h = absurd (omega (arith, h))
-
-still_below : (n : ℕ) (f : Forest) (ns : List ℕ) → length ns ≡ length (identifiers f) → All (λ m. m < n) ns → forest_below n (renumbered f ns) ≡ true
-still_below zero f [] h b = none_below zero f [] (no_list (identifiers f) (sym h))
-still_below zero f (m ∷ ms) h b = absurd (omega (arith, (each_below zero (m ∷ ms) b).0))
-still_below (suc n) f ns h b = (now_below (suc n) (omega arith) f ns (each_below (suc n) ns b)).0
+still_below : (n : ℕ) (f : Forest) (ns : List ℕ) → are_leaves f ≡ true → length ns ≡ length (identifiers f) → All (λ m. m < n) ns → forest_below n (renumbered f ns) ≡ true
+still_below n f ns l h b = ((taken f ns l (omega (arith, h))).below n (each_below n ns b)).0
 
 three : (a b c : Bool) → (a && (b && (c && true))) ≡ true → (a && b && c) ≡ true
 three true true true h = refl
@@ -139,10 +117,10 @@ pub made : (names : List Text) (ns r : List ℕ) (td te i d e : Tree) → i ≡ 
     → forest_of_unit (trees_of (record { names = names; imports = i; directives = d; declarations = e })) ≡ renumbered (forest_of_unit (record { imports = branch imports_kind []; directives = td; declarations = te })) ns
 made names ns r td te i d e p q s t = rw (p, q, t, s) refl
 
-pub all_named : (names : List Text) (ns : List ℕ) (nodes : UnitOf ℕ) (w : UnitView) → w.names ≡ names → forest_of_unit (trees_of w) ≡ renumbered (forest_of_unit nodes) ns → length ns ≡ length (identifiers (forest_of_unit nodes)) → All (λ m. m < length names) ns → unit_below w ≡ true
-all_named names ns nodes w n f h b =
+pub all_named : (names : List Text) (ns : List ℕ) (nodes : UnitOf ℕ) (w : UnitView) → are_leaves (forest_of_unit nodes) ≡ true → w.names ≡ names → forest_of_unit (trees_of w) ≡ renumbered (forest_of_unit nodes) ns → length ns ≡ length (identifiers (forest_of_unit nodes)) → All (λ m. m < length names) ns → unit_below w ≡ true
+all_named names ns nodes w l n f h b =
     parts_below (length w.names) w.imports w.directives w.declarations
-    (subst (λ k. forest_below k (forest_of_unit (trees_of w)) ≡ true) (sym (ap length n)) (subst (λ g. forest_below (length names) g ≡ true) (sym f) (still_below (length names) (forest_of_unit nodes) ns h b)))
+    (subst (λ k. forest_below k (forest_of_unit (trees_of w)) ≡ true) (sym (ap length n)) (subst (λ g. forest_below (length names) g ≡ true) (sym f) (still_below (length names) (forest_of_unit nodes) ns l h b)))
 
 pub some_if : {X : Type 0} (r : Option X) (b : Bool) (Q : X → Type 0) → MatchOption r (b ≡ false) Q → b ≡ true → IsSome r
 some_if None b Q h e = let f : true ≡ false = sym e ∙ h in cc

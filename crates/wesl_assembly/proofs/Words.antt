@@ -10,7 +10,6 @@ use Rattle.wesl_syntax.specs.declared.span.Spanned.{Spanned}
 use Rattle.wesl_syntax.specs.declared.declaration.GlobalDirective.{GlobalDirective}
 use Rattle.wesl_assembly.specs.Denotations.{free_name}
 use Rattle.wesl_assembly.specs.Views.{Meaning}
-use Rattle.wesl_assembly.proofs.Renumbered.{EachBelow}
 
 abbrev node_tree : Spanned GlobalDirective → Tree
 node_tree = placed directive_view directive_node
@@ -33,6 +32,10 @@ each_below n (e ∷ ds) zero d h l = (both (tree_below n (node_tree e)) (forest_
 each_below n (e ∷ ds) (suc i) d h l = each_below n ds i d (both (tree_below n (node_tree e)) (forest_below n (forest_of (map node_tree ds))) h).1 (omega (arith, l))
 
 -- ---- words
+
+abbrev EachBelow : ℕ → List ℕ → Type 0
+EachBelow n [] = Unit {0}
+EachBelow n (m ∷ ms) = (m < n) × EachBelow n ms
 
 each_joined : (n : ℕ) (xs ys : List ℕ) → EachBelow n xs → EachBelow n ys → EachBelow n (xs ++ ys)
 each_joined n [] ys a b = b

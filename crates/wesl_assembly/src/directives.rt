@@ -10,7 +10,7 @@ ghost use Rattle.wesl_assembly.specs.Views.{denotation_view};
 
 use crate::denotation::Denotation;
 use std::alloc::Global;
-use wesl_copies::copy_global_directive_node;
+use wesl_copies::Copying;
 use wesl_names::{Error, Names};
 use wesl_occurrences::words_of;
 use wesl_spelling::same_directives;
@@ -41,6 +41,14 @@ fn words<'a>(
     Ok(words)
 }
 
+/// An equal copy of a directive.
+fn copied(alloc: Global, directive: &GlobalDirectiveNode) -> Result<GlobalDirectiveNode, Error>
+    ensures equal { IfOk result (λ copy. placed directive_view directive_node copy ≡ placed directive_view directive_node directive.now) }
+    ensures refused { IfErr result (λ e. e ≡ error.Memory) }
+{
+    Copying::of(alloc).directive_node(directive)
+}
+
 /// Whether two directives are one as they are spelled.
 pub(crate) fn are_equal(
     alloc: Global,
@@ -52,8 +60,8 @@ pub(crate) fn are_equal(
     ensures equal { IfOk result (λ same. IsTrue same ↔ (spelled_directive left_names.now left.now ≡ spelled_directive right_names.now right.now)) }
     ensures refused { IfErr result (λ e. e ≡ error.Memory) }
 {
-    let left = vec![in alloc; copy_global_directive_node(alloc, left)?]?;
-    let right = vec![in alloc; copy_global_directive_node(alloc, right)?]?;
+    let left = vec![in alloc; copied(alloc, left)?]?;
+    let right = vec![in alloc; copied(alloc, right)?]?;
     Ok(same_directives(left_names, &left, right_names, &right))
 }
 

@@ -6,7 +6,7 @@ ghost use Rattle.wesl_syntax.specs.Tree.{branch, directive_list, declarations as
 ghost use Rattle.wesl_syntax.specs.Unit.{forest_of_unit, trees_of};
 ghost use Rattle.wesl_syntax.specs.View.{directives_tree, declarations_tree};
 ghost use Rattle.wesl_tree.specs.Translation.{unit_view};
-ghost use Rattle.wesl_renumber.specs.Renumbered as numbered;
+ghost use Rattle.wesl_copies.specs.Renumbered as numbered;
 ghost use Rattle.wesl_assembly.specs.Denotations.{printed_as};
 ghost use Rattle.wesl_assembly.specs.Linked.{directive_ref_tree, declaration_ref_tree, nodes_of, IsLinkedAs};
 ghost use Rattle.wesl_assembly.specs.Views.{denotation_view};
@@ -15,13 +15,13 @@ use crate::denotation::{Denotation, Printing};
 use crate::numbers::{names, numbers};
 use crate::paths::drop_paths;
 use std::alloc::Global;
-use wesl_renumber::Renumbering;
+use wesl_copies::Copying;
 use wesl_syntax::{GlobalDeclarationNode, GlobalDirectiveNode};
 use wesl_tree::{Error, Names, TranslationUnit};
 
 /// Copies of directives, whose identifiers take the next numbers.
 fn copied_directives(
-    renumbering: &mut Renumbering<'_>,
+    renumbering: &mut Copying<'_>,
     directives: &[&GlobalDirectiveNode],
 ) -> Result<Vec<GlobalDirectiveNode>, Error>
     ensures tree { IfOk result (λ copies. directives_tree copies ≡ numbered.renumbered_tree (branch directive_list (map directive_ref_tree directives.now)) renumbering.old.rest.now) }
@@ -37,7 +37,7 @@ fn copied_directives(
 
 /// Copies of declarations, whose identifiers take the next numbers.
 fn copied_declarations(
-    renumbering: &mut Renumbering<'_>,
+    renumbering: &mut Copying<'_>,
     declarations: &[&GlobalDeclarationNode],
 ) -> Result<Vec<GlobalDeclarationNode>, Error>
     ensures tree { IfOk result (λ copies. declarations_tree copies ≡ numbered.renumbered_tree (branch declarations_kind (map declaration_ref_tree declarations.now)) renumbering.old.rest.now) }
@@ -65,7 +65,7 @@ fn renumbered(
     ensures trees { IfOk result (λ unit. forest_of_unit (trees_of (unit_view unit)) ≡ numbered.renumbered (forest_of_unit (nodes_of directives.now declarations.now)) given.now) }
     ensures refused { IfErr result (λ e. e ≡ error.Memory) }
 {
-    let mut renumbering = Renumbering { alloc, rest: given };
+    let mut renumbering = Copying { alloc, rest: given };
     let directives = copied_directives(&mut renumbering, directives)?;
     let declarations = copied_declarations(&mut renumbering, declarations)?;
     let imports = Vec::new(alloc);

@@ -9,8 +9,8 @@ ghost use Rattle.wesl_syntax.specs.Tree.{before, branch, clauses as clauses_kind
 ghost use Rattle.wesl_syntax.specs.View.{clause_view, compound_view, continuing_view, else_if_view, else_view, if_view, optional, statement_tree, statement_view};
 
 use std::alloc::Global;
-use wesl_chains::{Chain, check_both, check_list, closes, stays};
-use wesl_formula::Features;
+use wesl_chains::{check_both, check_list, closes, stays};
+use wesl_formula::{Chain, Features};
 use wesl_names::{Error, Names};
 use wesl_syntax::{
     CompoundStatement, ContinuingStatement, ElseClause, ElseIfClause, IfClause, Statement,

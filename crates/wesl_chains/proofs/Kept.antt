@@ -4,7 +4,7 @@ use Rattle.std.specs.List.{flat_map}
 use Rattle.std.proofs.lemmas.List.{map-append}
 use Rattle.wesl_chains.specs.Conditions.{first_condition}
 use Rattle.wesl_syntax.specs.Tree.{end, tree}
-use Rattle.wesl_chains.specs.declared.chain.Role.{Role}
+use Rattle.wesl_formula.specs.declared.chain.Role.{Role}
 use Rattle.wesl_chains.specs.Chains.{Judged, follows_on, holds, is_node, is_branch, branch, is_not_false, until, up_to_true, first_role, later_role, attach, chains, live, headed, later, residual_chain, residual_list, staying}
 use Rattle.wesl_chains.specs.Lists.{Element, element}
 use Rattle.wesl_chains.proofs.ChainStages.{holds-yes, holds-no}

@@ -2,7 +2,7 @@
 use Rattle.std.proofs.Common.{◌≡◌, Bool, true, false, not, ◌&&◌, cond, List, [], ◌∷◌, ◌++◌, map, refl, sym, ap, ◌∙◌, subst}
 use Rattle.std.proofs.lemmas.List.{map-append}
 use Rattle.std.specs.List.{flat_map}
-use Rattle.wesl_chains.specs.declared.chain.Role.{Role}
+use Rattle.wesl_formula.specs.declared.chain.Role.{Role}
 use Rattle.wesl_chains.specs.Chains.{residual_list, staying}
 use Rattle.wesl_chains.specs.Conditions.{is_statements, is_list, is_void, recast}
 use Rattle.wesl_chains.specs.Faults.{Stands, here, inside, beside, list_faults, list_at, closed_list, conditions, conditions_of, place_faults, condition_faults, opens}

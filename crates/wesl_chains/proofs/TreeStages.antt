@@ -3,11 +3,11 @@ use Rattle.std.proofs.Common.{◌≡◌, List, ◌∷◌, ◌++◌, map, Bool, t
 use mathlib.Core.Path.{fun_ext}
 use Rattle.wesl_formula.specs.declared.features.Truth.{Truth}
 use Rattle.wesl_formula.specs.declared.features.Truth.TheVariants.{Yes, No, Undecided}
-use Rattle.wesl_chains.specs.declared.chain.Role.{Role}
+use Rattle.wesl_formula.specs.declared.chain.Role.{Role}
 use Rattle.wesl_formula.specs.Answers.{Answers, or_else, in_stages}
 use Rattle.wesl_chains.specs.Chains.{is_branch, branch, residual_list}
 use Rattle.wesl_chains.specs.Conditions.{is_void}
-use Rattle.wesl_chains.specs.Following.{fate, kept_after, decided_after}
+use Rattle.wesl_formula.specs.Branch.{fate, kept_after, decided_after}
 use Rattle.wesl_chains.proofs.Walk.{enact, scan}
 use Rattle.wesl_chains.specs.Lists.{Element, element, elements, back}
 use Rattle.wesl_syntax.specs.Unit.{UnitOf}

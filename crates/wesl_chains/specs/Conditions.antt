@@ -1,6 +1,6 @@
 -- The condition of a node of a tree, and the node in a role.
 use Rattle.std.specs.Prelude.{List, [], ◌∷◌, Bool, true, false, cond}
-use Rattle.wesl_chains.specs.declared.chain.Role.{Role}
+use Rattle.wesl_formula.specs.declared.chain.Role.{Role}
 use Rattle.wesl_chains.specs.Chains.{Condition, none, on, else_on, otherwise, recast_condition}
 use Rattle.wesl_formula.specs.Answers.{Answers}
 use Rattle.wesl_formula.specs.Formulas.{Spot, other, nowhere, spots, spot, written}

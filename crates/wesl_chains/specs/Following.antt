@@ -1,32 +1,7 @@
 -- How a list goes on after a chain: what has become of the branches before decides with the next one.
-use Rattle.std.specs.Prelude.{◌≡◌, List, ◌∷◌, ◌++◌, Bool, true, false, cond, Option, Some, None}
-use Rattle.wesl_chains.specs.declared.chain.Role.{Role}
-use Rattle.wesl_chains.specs.declared.chain.Role.TheVariants.{Plain, If, Elif, Else}
+use Rattle.std.specs.Prelude.{◌≡◌, List, ◌∷◌, ◌++◌, Bool, cond}
 use Rattle.wesl_chains.specs.Chains.{Judged, residual_after}
 use Rattle.wesl_formula.specs.Answers.{Answers}
-use Rattle.wesl_formula.specs.declared.features.Truth.{Truth}
-use Rattle.wesl_formula.specs.declared.features.Truth.TheVariants.{Yes, No, Undecided}
-
--- how a branch stays, if it does: one of its chain is kept, one was true
-abbrev pub fate : Bool → Bool → Truth → Option Role
-fate kept true t = None
-fate kept false No = None
-fate false false Yes = Some Plain
-fate true false Yes = Some Else
-fate false false Undecided = Some If
-fate true false Undecided = Some Elif
-
-abbrev pub kept_after : Bool → Bool → Truth → Bool
-kept_after kept true t = kept
-kept_after kept false No = kept
-kept_after kept false Yes = true
-kept_after kept false Undecided = true
-
-abbrev pub decided_after : Bool → Truth → Bool
-decided_after true t = true
-decided_after false No = false
-decided_after false Yes = true
-decided_after false Undecided = false
 
 module _ {I N : Type 0} (J : Judged I N) where
   -- how a beginning of a list is taken, whatever follows

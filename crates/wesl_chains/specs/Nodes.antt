@@ -1,6 +1,6 @@
 -- The nodes of the code as nodes of a judged list.
 use Rattle.std.specs.Prelude.{ℕ, Bool, true, false, cond, List, [], ◌∷◌, map, Option, Some, None}
-use Rattle.wesl_chains.specs.declared.chain.Role.{Role}
+use Rattle.wesl_formula.specs.declared.chain.Role.{Role}
 use Rattle.wesl_chains.specs.declared.conditions.Condition.{Condition as Lent}
 use Rattle.wesl_chains.specs.declared.conditions.Condition.TheVariants as lent
 use Rattle.wesl_chains.specs.Chains.{Condition, none, on, else_on, otherwise, recast_condition}

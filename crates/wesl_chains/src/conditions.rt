@@ -8,9 +8,8 @@ ghost use Rattle.wesl_formula.specs.Residual.{residual};
 ghost use Rattle.wesl_syntax.specs.Tree.{before, end};
 ghost use Rattle.wesl_syntax.specs.View.{attribute_view, expression_view};
 
-use crate::chain::Role;
 use std::mem;
-use wesl_formula::{Features, Truth, decided, simplify};
+use wesl_formula::{Features, Role, Truth, decided, simplify};
 use wesl_names::Names;
 use wesl_syntax::{
     Attribute, AttributeNode, Attributes, Expression, ExpressionNode, Literal, Spanned,

@@ -2,14 +2,12 @@
 //! "ConditionalTranslation").
 #![tactic(auto)]
 
-mod chain;
 mod conditions;
 mod faults;
 mod laws;
 mod lists;
 mod nodes;
 
-pub use chain::{Chain, Role};
 pub use faults::{check_both, check_list};
 pub use laws::{
     law_of_both_stages, law_of_bounds, law_of_choices, law_of_faults, law_of_later_stages,

@@ -8,9 +8,8 @@ ghost use Rattle.wesl_chains.specs.Nodes.{answers, as_element, attributes_forest
 ghost use Rattle.wesl_chains.specs.Following.{AreTurns, Ends, IsTurn};
 ghost use Rattle.wesl_syntax.specs.Tree.{Tree, before, end, forest_of};
 
-use crate::chain::{Chain, Role};
 use crate::conditions::{follows_on, holds};
-use wesl_formula::Features;
+use wesl_formula::{Chain, Features, Role};
 use wesl_names::Names;
 use wesl_syntax::AttributeNode;
 

@@ -6,10 +6,9 @@ ghost use Rattle.wesl_syntax.specs.Tree.{before, declaration_node, directive_nod
 ghost use Rattle.wesl_syntax.specs.Unit.{begins_void};
 ghost use Rattle.wesl_syntax.specs.View.{break_if_view, clause_view, compound_view, continuing_view, directive_view, global_view, import_view, member_view, parameter_view, placed, statement_tree, statement_view};
 
-use crate::chain::Role;
 use crate::conditions::recast;
 use crate::lists::Conditional;
-use wesl_formula::Features;
+use wesl_formula::{Features, Role};
 use wesl_names::Names;
 use wesl_syntax::{
     AttributeNode, BreakIfStatement, CompoundStatement, ContinuingStatement, FormalParameter,

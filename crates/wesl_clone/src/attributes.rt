@@ -6,7 +6,7 @@ ghost use Rattle.wesl_syntax.specs.View.{attribute_view, placed};
 
 use crate::TryClone;
 use std::alloc::Global;
-use wesl_copies::{copy_attribute, copy_attribute_node};
+use wesl_copies::Copying;
 use wesl_names::Error;
 use wesl_syntax::{Attribute, Spanned};
 
@@ -15,7 +15,7 @@ impl TryClone for Attribute {
         ensures equal { IfOk result (λ copy. attribute_view copy ≡ attribute_view self.now) }
         ensures refused { IfErr result (λ e. e ≡ error.Memory) }
     {
-        copy_attribute(alloc, self)
+        Copying::of(alloc).attribute(self)
     }
 }
 
@@ -24,6 +24,6 @@ impl TryClone for Spanned<Attribute> {
         ensures equal { IfOk result (λ copy. placed attribute_view attribute_node copy ≡ placed attribute_view attribute_node self.now) }
         ensures refused { IfErr result (λ e. e ≡ error.Memory) }
     {
-        copy_attribute_node(alloc, self)
+        Copying::of(alloc).attribute_node(self)
     }
 }

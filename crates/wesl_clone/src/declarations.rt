@@ -6,12 +6,7 @@ ghost use Rattle.wesl_syntax.specs.View.{alias_view, assert_view, declaration_vi
 
 use crate::TryClone;
 use std::alloc::Global;
-use wesl_copies::{
-    copy_const_assert, copy_declaration, copy_formal_parameter, copy_function,
-    copy_global_declaration, copy_global_declaration_node, copy_global_directive,
-    copy_global_directive_node, copy_struct, copy_struct_member, copy_struct_member_node,
-    copy_type_alias,
-};
+use wesl_copies::Copying;
 use wesl_names::Error;
 use wesl_syntax::{
     ConstAssert, Declaration, FormalParameter, Function, GlobalDeclaration, GlobalDirective,
@@ -23,7 +18,7 @@ impl TryClone for GlobalDirective {
         ensures equal { IfOk result (λ copy. directive_view copy ≡ directive_view self.now) }
         ensures refused { IfErr result (λ e. e ≡ error.Memory) }
     {
-        copy_global_directive(alloc, self)
+        Copying::of(alloc).directive(self)
     }
 }
 
@@ -32,7 +27,7 @@ impl TryClone for Spanned<GlobalDirective> {
         ensures equal { IfOk result (λ copy. placed directive_view directive_node copy ≡ placed directive_view directive_node self.now) }
         ensures refused { IfErr result (λ e. e ≡ error.Memory) }
     {
-        copy_global_directive_node(alloc, self)
+        Copying::of(alloc).directive_node(self)
     }
 }
 
@@ -41,7 +36,7 @@ impl TryClone for Declaration {
         ensures equal { IfOk result (λ copy. declaration_view copy ≡ declaration_view self.now) }
         ensures refused { IfErr result (λ e. e ≡ error.Memory) }
     {
-        copy_declaration(alloc, self)
+        Copying::of(alloc).declaration(self)
     }
 }
 
@@ -50,7 +45,7 @@ impl TryClone for TypeAlias {
         ensures equal { IfOk result (λ copy. alias_view copy ≡ alias_view self.now) }
         ensures refused { IfErr result (λ e. e ≡ error.Memory) }
     {
-        copy_type_alias(alloc, self)
+        Copying::of(alloc).alias(self)
     }
 }
 
@@ -59,7 +54,7 @@ impl TryClone for StructMember {
         ensures equal { IfOk result (λ copy. member_view copy ≡ member_view self.now) }
         ensures refused { IfErr result (λ e. e ≡ error.Memory) }
     {
-        copy_struct_member(alloc, self)
+        Copying::of(alloc).member(self)
     }
 }
 
@@ -68,7 +63,7 @@ impl TryClone for Spanned<StructMember> {
         ensures equal { IfOk result (λ copy. placed member_view member_node copy ≡ placed member_view member_node self.now) }
         ensures refused { IfErr result (λ e. e ≡ error.Memory) }
     {
-        copy_struct_member_node(alloc, self)
+        Copying::of(alloc).member_node(self)
     }
 }
 
@@ -77,7 +72,7 @@ impl TryClone for Struct {
         ensures equal { IfOk result (λ copy. struct_view copy ≡ struct_view self.now) }
         ensures refused { IfErr result (λ e. e ≡ error.Memory) }
     {
-        copy_struct(alloc, self)
+        Copying::of(alloc).structure(self)
     }
 }
 
@@ -86,7 +81,7 @@ impl TryClone for FormalParameter {
         ensures equal { IfOk result (λ copy. parameter_view copy ≡ parameter_view self.now) }
         ensures refused { IfErr result (λ e. e ≡ error.Memory) }
     {
-        copy_formal_parameter(alloc, self)
+        Copying::of(alloc).parameter(self)
     }
 }
 
@@ -95,7 +90,7 @@ impl TryClone for Function {
         ensures equal { IfOk result (λ copy. function_view copy ≡ function_view self.now) }
         ensures refused { IfErr result (λ e. e ≡ error.Memory) }
     {
-        copy_function(alloc, self)
+        Copying::of(alloc).function(self)
     }
 }
 
@@ -104,7 +99,7 @@ impl TryClone for ConstAssert {
         ensures equal { IfOk result (λ copy. assert_view copy ≡ assert_view self.now) }
         ensures refused { IfErr result (λ e. e ≡ error.Memory) }
     {
-        copy_const_assert(alloc, self)
+        Copying::of(alloc).assertion(self)
     }
 }
 
@@ -113,7 +108,7 @@ impl TryClone for GlobalDeclaration {
         ensures equal { IfOk result (λ copy. global_view copy ≡ global_view self.now) }
         ensures refused { IfErr result (λ e. e ≡ error.Memory) }
     {
-        copy_global_declaration(alloc, self)
+        Copying::of(alloc).global(self)
     }
 }
 
@@ -122,6 +117,6 @@ impl TryClone for Spanned<GlobalDeclaration> {
         ensures equal { IfOk result (λ copy. placed global_view declaration_node copy ≡ placed global_view declaration_node self.now) }
         ensures refused { IfErr result (λ e. e ≡ error.Memory) }
     {
-        copy_global_declaration_node(alloc, self)
+        Copying::of(alloc).global_node(self)
     }
 }

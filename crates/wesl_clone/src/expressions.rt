@@ -5,10 +5,7 @@ ghost use Rattle.wesl_syntax.specs.View.{argument_view, call_view, expression_tr
 
 use crate::TryClone;
 use std::alloc::Global;
-use wesl_copies::{
-    copy_expression, copy_expression_node, copy_function_call, copy_literal, copy_template_arg,
-    copy_type_expression,
-};
+use wesl_copies::{Copying, copy_literal};
 use wesl_names::Error;
 use wesl_syntax::{Expression, FunctionCall, Literal, Spanned, TemplateArg, TypeExpression};
 
@@ -26,7 +23,7 @@ impl TryClone for Expression {
         ensures equal { IfOk result (λ copy. expression_view copy ≡ expression_view self.now) }
         ensures refused { IfErr result (λ e. e ≡ error.Memory) }
     {
-        copy_expression(alloc, self)
+        Copying::of(alloc).expression(self)
     }
 }
 
@@ -35,7 +32,7 @@ impl TryClone for Spanned<Expression> {
         ensures equal { IfOk result (λ copy. expression_tree copy ≡ expression_tree self.now) }
         ensures refused { IfErr result (λ e. e ≡ error.Memory) }
     {
-        copy_expression_node(alloc, self)
+        Copying::of(alloc).node(self)
     }
 }
 
@@ -44,7 +41,7 @@ impl TryClone for FunctionCall {
         ensures equal { IfOk result (λ copy. call_view copy ≡ call_view self.now) }
         ensures refused { IfErr result (λ e. e ≡ error.Memory) }
     {
-        copy_function_call(alloc, self)
+        Copying::of(alloc).call(self)
     }
 }
 
@@ -53,7 +50,7 @@ impl TryClone for TypeExpression {
         ensures equal { IfOk result (λ copy. type_view copy ≡ type_view self.now) }
         ensures refused { IfErr result (λ e. e ≡ error.Memory) }
     {
-        copy_type_expression(alloc, self)
+        Copying::of(alloc).type_expression(self)
     }
 }
 
@@ -62,6 +59,6 @@ impl TryClone for TemplateArg {
         ensures equal { IfOk result (λ copy. argument_view copy ≡ argument_view self.now) }
         ensures refused { IfErr result (λ e. e ≡ error.Memory) }
     {
-        copy_template_arg(alloc, self)
+        Copying::of(alloc).argument(self)
     }
 }

@@ -6,10 +6,7 @@ ghost use Rattle.wesl_syntax.specs.View.{content_view, entry_view, import_view, 
 
 use crate::TryClone;
 use std::alloc::Global;
-use wesl_copies::{
-    copy_import, copy_import_content, copy_import_item, copy_import_statement,
-    copy_import_statement_node,
-};
+use wesl_copies::Copying;
 use wesl_names::Error;
 use wesl_syntax::{Import, ImportContent, ImportItem, ImportStatement, Spanned};
 
@@ -18,7 +15,7 @@ impl TryClone for ImportStatement {
         ensures equal { IfOk result (λ copy. import_view copy ≡ import_view self.now) }
         ensures refused { IfErr result (λ e. e ≡ error.Memory) }
     {
-        copy_import_statement(alloc, self)
+        Copying::of(alloc).import(self)
     }
 }
 
@@ -27,7 +24,7 @@ impl TryClone for Spanned<ImportStatement> {
         ensures equal { IfOk result (λ copy. placed import_view import_node copy ≡ placed import_view import_node self.now) }
         ensures refused { IfErr result (λ e. e ≡ error.Memory) }
     {
-        copy_import_statement_node(alloc, self)
+        Copying::of(alloc).import_node(self)
     }
 }
 
@@ -36,7 +33,7 @@ impl TryClone for ImportItem {
         ensures equal { IfOk result (λ copy. item_view copy ≡ item_view self.now) }
         ensures refused { IfErr result (λ e. e ≡ error.Memory) }
     {
-        copy_import_item(alloc, self)
+        Copying::of(alloc).item(self)
     }
 }
 
@@ -45,7 +42,7 @@ impl TryClone for ImportContent {
         ensures equal { IfOk result (λ copy. content_view copy ≡ content_view self.now) }
         ensures refused { IfErr result (λ e. e ≡ error.Memory) }
     {
-        copy_import_content(alloc, self)
+        Copying::of(alloc).content(self)
     }
 }
 
@@ -54,6 +51,6 @@ impl TryClone for Import {
         ensures equal { IfOk result (λ copy. entry_view copy ≡ entry_view self.now) }
         ensures refused { IfErr result (λ e. e ≡ error.Memory) }
     {
-        copy_import(alloc, self)
+        Copying::of(alloc).entry(self)
     }
 }

@@ -5,11 +5,7 @@ ghost use Rattle.wesl_syntax.specs.View.{break_if_view, clause_view, compound_vi
 
 use crate::TryClone;
 use std::alloc::Global;
-use wesl_copies::{
-    copy_break_if_statement, copy_case_selector, copy_compound_statement,
-    copy_continuing_statement, copy_else_clause, copy_else_if_clause, copy_if_clause,
-    copy_statement, copy_statement_node, copy_switch_clause,
-};
+use wesl_copies::Copying;
 use wesl_names::Error;
 use wesl_syntax::{
     BreakIfStatement, CaseSelector, CompoundStatement, ContinuingStatement, ElseClause,
@@ -21,7 +17,7 @@ impl TryClone for Statement {
         ensures equal { IfOk result (λ copy. statement_view copy ≡ statement_view self.now) }
         ensures refused { IfErr result (λ e. e ≡ error.Memory) }
     {
-        copy_statement(alloc, self)
+        Copying::of(alloc).statement(self)
     }
 }
 
@@ -30,7 +26,7 @@ impl TryClone for Spanned<Statement> {
         ensures equal { IfOk result (λ copy. statement_tree copy ≡ statement_tree self.now) }
         ensures refused { IfErr result (λ e. e ≡ error.Memory) }
     {
-        copy_statement_node(alloc, self)
+        Copying::of(alloc).statement_node(self)
     }
 }
 
@@ -39,7 +35,7 @@ impl TryClone for CompoundStatement {
         ensures equal { IfOk result (λ copy. compound_view copy ≡ compound_view self.now) }
         ensures refused { IfErr result (λ e. e ≡ error.Memory) }
     {
-        copy_compound_statement(alloc, self)
+        Copying::of(alloc).compound(self)
     }
 }
 
@@ -48,7 +44,7 @@ impl TryClone for IfClause {
         ensures equal { IfOk result (λ copy. if_view copy ≡ if_view self.now) }
         ensures refused { IfErr result (λ e. e ≡ error.Memory) }
     {
-        copy_if_clause(alloc, self)
+        Copying::of(alloc).if_clause(self)
     }
 }
 
@@ -57,7 +53,7 @@ impl TryClone for ElseIfClause {
         ensures equal { IfOk result (λ copy. else_if_view copy ≡ else_if_view self.now) }
         ensures refused { IfErr result (λ e. e ≡ error.Memory) }
     {
-        copy_else_if_clause(alloc, self)
+        Copying::of(alloc).else_if_clause(self)
     }
 }
 
@@ -66,7 +62,7 @@ impl TryClone for ElseClause {
         ensures equal { IfOk result (λ copy. else_view copy ≡ else_view self.now) }
         ensures refused { IfErr result (λ e. e ≡ error.Memory) }
     {
-        copy_else_clause(alloc, self)
+        Copying::of(alloc).else_clause(self)
     }
 }
 
@@ -75,7 +71,7 @@ impl TryClone for CaseSelector {
         ensures equal { IfOk result (λ copy. selector_view copy ≡ selector_view self.now) }
         ensures refused { IfErr result (λ e. e ≡ error.Memory) }
     {
-        copy_case_selector(alloc, self)
+        Copying::of(alloc).selector(self)
     }
 }
 
@@ -84,7 +80,7 @@ impl TryClone for SwitchClause {
         ensures equal { IfOk result (λ copy. clause_view copy ≡ clause_view self.now) }
         ensures refused { IfErr result (λ e. e ≡ error.Memory) }
     {
-        copy_switch_clause(alloc, self)
+        Copying::of(alloc).clause(self)
     }
 }
 
@@ -93,7 +89,7 @@ impl TryClone for ContinuingStatement {
         ensures equal { IfOk result (λ copy. continuing_view copy ≡ continuing_view self.now) }
         ensures refused { IfErr result (λ e. e ≡ error.Memory) }
     {
-        copy_continuing_statement(alloc, self)
+        Copying::of(alloc).continuing(self)
     }
 }
 
@@ -102,6 +98,6 @@ impl TryClone for BreakIfStatement {
         ensures equal { IfOk result (λ copy. break_if_view copy ≡ break_if_view self.now) }
         ensures refused { IfErr result (λ e. e ≡ error.Memory) }
     {
-        copy_break_if_statement(alloc, self)
+        Copying::of(alloc).break_if(self)
     }
 }

@@ -5,7 +5,7 @@ ghost use Rattle.wesl_tree.specs.Translation.{unit_view};
 
 use crate::TryClone;
 use std::alloc::Global;
-use wesl_copies::{copy_declarations, copy_directives, copy_import_statements};
+use wesl_copies::Copying;
 use wesl_names::Error;
 use wesl_tree::TranslationUnit;
 
@@ -15,9 +15,9 @@ impl TryClone for TranslationUnit {
         ensures refused { IfErr result (λ e. e ≡ error.Memory) }
     {
         let names = self.names().try_clone(alloc)?;
-        let imports = copy_import_statements(alloc, self.imports())?;
-        let directives = copy_directives(alloc, self.global_directives())?;
-        let declarations = copy_declarations(alloc, self.global_declarations())?;
+        let imports = Copying::of(alloc).imports(self.imports())?;
+        let directives = Copying::of(alloc).directives(self.global_directives())?;
+        let declarations = Copying::of(alloc).globals(self.global_declarations())?;
         match TranslationUnit::from_parts(names, imports, directives, declarations) {
             Some(unit) => Ok(unit),
             None => unreachable!(),

@@ -1,3 +1,3 @@
-pub mod Views
-pub mod Copies
+pub mod Kept
 pub mod Listed
+pub mod Views

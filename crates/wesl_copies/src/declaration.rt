@@ -1,269 +1,203 @@
-//! Copies of directives and declarations.
-ghost use Rattle.std.specs.Prelude.{◌≡◌, IfOk, IfErr};
+//! Copies of declarations.
+ghost use Rattle.std.specs.Prelude.{◌≡◌, IfOk, IfErr, OnOk};
 ghost use Rattle.wesl_names.specs.declared.errors.Error as error;
-ghost use Rattle.wesl_syntax.specs.Tree.{declaration_node, directive_node, member_node, members, parameters};
-ghost use Rattle.wesl_syntax.specs.View.{alias_view, assert_view, declaration_view, declarations_tree, directive_view, directives_tree, function_view, global_view, listed, member_view, parameter_view, placed, struct_view};
+ghost use Rattle.wesl_syntax.specs.Tree.{declaration_node, member_node, members, parameters};
+ghost use Rattle.wesl_syntax.specs.View.{alias_view, assert_view, declaration_view, declarations_tree, function_view, global_view, listed, member_view, parameter_view, placed, struct_view};
+ghost use Rattle.wesl_copies.specs.Renumbered.{renumbered_tree, after_tree};
 
-use crate::attribute::copy_attributes;
-use crate::expression::{
-    copy_expression_node, copy_optional_expression, copy_optional_type, copy_type_expression,
-};
-use crate::statement::copy_compound_statement;
-use crate::text::copy_texts;
-use std::alloc::Global;
+use crate::copying::Copying;
 use wesl_names::Error;
 use wesl_syntax::{
     ConstAssert, Declaration, FormalParameter, Function, GlobalDeclaration, GlobalDeclarationNode,
-    GlobalDirective, GlobalDirectiveNode, Spanned, Struct, StructMember, StructMemberNode,
-    TypeAlias,
+    Spanned, Struct, StructMember, StructMemberNode, TypeAlias,
 };
 
-/// An equal copy, spans too. Refused for want of memory alone.
-pub fn copy_global_directive(
-    alloc: Global,
-    directive: &GlobalDirective,
-) -> Result<GlobalDirective, Error>
-    ensures equal { IfOk result (λ copy. directive_view copy ≡ directive_view directive.now) }
-    ensures refused { IfErr result (λ e. e ≡ error.Memory) }
-{
-    match directive {
-        GlobalDirective::Diagnostic {
-            attributes,
-            severity,
-            rule,
-        } => Ok(GlobalDirective::Diagnostic {
-            attributes: copy_attributes(alloc, attributes)?,
-            severity: String::from_str(alloc, severity)?,
-            rule: String::from_str(alloc, rule)?,
-        }),
-        GlobalDirective::Enable { attributes, names } => Ok(GlobalDirective::Enable {
-            attributes: copy_attributes(alloc, attributes)?,
-            names: copy_texts(alloc, names)?,
-        }),
-        GlobalDirective::Requires { attributes, names } => Ok(GlobalDirective::Requires {
-            attributes: copy_attributes(alloc, attributes)?,
-            names: copy_texts(alloc, names)?,
-        }),
+impl<'a> Copying<'a> {
+    /// A copy of a declaration.
+    pub fn declaration(&mut self, declaration: &Declaration) -> Result<Declaration, Error>
+        ensures tree { IfOk result (λ copy. declaration_view copy ≡ renumbered_tree (declaration_view declaration.now) self.old.rest.now) }
+        ensures rest { OnOk result (self.new.rest.now ≡ after_tree (declaration_view declaration.now) self.old.rest.now) }
+        ensures refused { IfErr result (λ e. e ≡ error.Memory) }
+    {
+        Ok(Declaration {
+            attributes: self.attributes(&declaration.attributes)?,
+            kind: declaration.kind,
+            ident: self.number(declaration.ident),
+            ty: self.optional_type(&declaration.ty)?,
+            initializer: self.optional_node(&declaration.initializer)?,
+        })
     }
-}
 
-/// An equal copy, spans too. Refused for want of memory alone.
-pub fn copy_global_directive_node(
-    alloc: Global,
-    node: &GlobalDirectiveNode,
-) -> Result<GlobalDirectiveNode, Error>
-    ensures equal { IfOk result (λ copy. placed directive_view directive_node copy ≡ placed directive_view directive_node node.now) }
-    ensures refused { IfErr result (λ e. e ≡ error.Memory) }
-{
-    Ok(Spanned {
-        node: copy_global_directive(alloc, &node.node)?,
-        span: node.span,
-    })
-}
-
-/// A copy of the directives of a module, spans too. Refused for want of memory alone.
-pub fn copy_directives(
-    alloc: Global,
-    directives: &Vec<GlobalDirectiveNode>,
-) -> Result<Vec<GlobalDirectiveNode>, Error>
-    ensures equal { IfOk result (λ copies. directives_tree copies ≡ directives_tree directives.now) }
-    ensures refused { IfErr result (λ e. e ≡ error.Memory) }
-{
-    let mut copies = Vec::with_capacity(alloc, directives.len())?;
-    for directive in directives {
-        copies.push(copy_global_directive_node(alloc, directive)?)?;
+    /// A copy of a type alias.
+    pub fn alias(&mut self, alias: &TypeAlias) -> Result<TypeAlias, Error>
+        ensures tree { IfOk result (λ copy. alias_view copy ≡ renumbered_tree (alias_view alias.now) self.old.rest.now) }
+        ensures rest { OnOk result (self.new.rest.now ≡ after_tree (alias_view alias.now) self.old.rest.now) }
+        ensures refused { IfErr result (λ e. e ≡ error.Memory) }
+    {
+        Ok(TypeAlias {
+            attributes: self.attributes(&alias.attributes)?,
+            ident: self.number(alias.ident),
+            ty: self.type_expression(&alias.ty)?,
+        })
     }
-    Ok(copies)
-}
 
-/// An equal copy, spans too. Refused for want of memory alone.
-pub fn copy_declaration(alloc: Global, declaration: &Declaration) -> Result<Declaration, Error>
-    ensures equal { IfOk result (λ copy. declaration_view copy ≡ declaration_view declaration.now) }
-    ensures refused { IfErr result (λ e. e ≡ error.Memory) }
-{
-    Ok(Declaration {
-        attributes: copy_attributes(alloc, &declaration.attributes)?,
-        kind: declaration.kind,
-        ident: declaration.ident,
-        ty: copy_optional_type(alloc, &declaration.ty)?,
-        initializer: copy_optional_expression(alloc, &declaration.initializer)?,
-    })
-}
-
-/// An equal copy, spans too. Refused for want of memory alone.
-pub fn copy_type_alias(alloc: Global, alias: &TypeAlias) -> Result<TypeAlias, Error>
-    ensures equal { IfOk result (λ copy. alias_view copy ≡ alias_view alias.now) }
-    ensures refused { IfErr result (λ e. e ≡ error.Memory) }
-{
-    Ok(TypeAlias {
-        attributes: copy_attributes(alloc, &alias.attributes)?,
-        ident: alias.ident,
-        ty: copy_type_expression(alloc, &alias.ty)?,
-    })
-}
-
-/// An equal copy, spans too. Refused for want of memory alone.
-pub fn copy_struct_member(alloc: Global, member: &StructMember) -> Result<StructMember, Error>
-    ensures equal { IfOk result (λ copy. member_view copy ≡ member_view member.now) }
-    ensures refused { IfErr result (λ e. e ≡ error.Memory) }
-{
-    Ok(StructMember {
-        attributes: copy_attributes(alloc, &member.attributes)?,
-        name: String::from_str(alloc, &member.name)?,
-        ty: copy_type_expression(alloc, &member.ty)?,
-    })
-}
-
-/// An equal copy, spans too. Refused for want of memory alone.
-pub fn copy_struct_member_node(
-    alloc: Global,
-    node: &StructMemberNode,
-) -> Result<StructMemberNode, Error>
-    ensures equal { IfOk result (λ copy. placed member_view member_node copy ≡ placed member_view member_node node.now) }
-    ensures refused { IfErr result (λ e. e ≡ error.Memory) }
-{
-    Ok(Spanned {
-        node: copy_struct_member(alloc, &node.node)?,
-        span: node.span,
-    })
-}
-
-/// A copy of the members of a structure, spans too. Refused for want of memory alone.
-fn copy_members(
-    alloc: Global,
-    nodes: &Vec<StructMemberNode>,
-) -> Result<Vec<StructMemberNode>, Error>
-    ensures equal { IfOk result (λ copies. listed (placed member_view member_node) members copies ≡ listed (placed member_view member_node) members nodes.now) }
-    ensures refused { IfErr result (λ e. e ≡ error.Memory) }
-{
-    let mut copies = Vec::with_capacity(alloc, nodes.len())?;
-    for node in nodes {
-        copies.push(copy_struct_member_node(alloc, node)?)?;
+    /// A copy of a member of a structure.
+    pub fn member(&mut self, member: &StructMember) -> Result<StructMember, Error>
+        ensures tree { IfOk result (λ copy. member_view copy ≡ renumbered_tree (member_view member.now) self.old.rest.now) }
+        ensures rest { OnOk result (self.new.rest.now ≡ after_tree (member_view member.now) self.old.rest.now) }
+        ensures refused { IfErr result (λ e. e ≡ error.Memory) }
+    {
+        Ok(StructMember {
+            attributes: self.attributes(&member.attributes)?,
+            name: String::from_str(self.alloc, &member.name)?,
+            ty: self.type_expression(&member.ty)?,
+        })
     }
-    Ok(copies)
-}
 
-/// An equal copy, spans too. Refused for want of memory alone.
-pub fn copy_struct(alloc: Global, structure: &Struct) -> Result<Struct, Error>
-    ensures equal { IfOk result (λ copy. struct_view copy ≡ struct_view structure.now) }
-    ensures refused { IfErr result (λ e. e ≡ error.Memory) }
-{
-    Ok(Struct {
-        attributes: copy_attributes(alloc, &structure.attributes)?,
-        ident: structure.ident,
-        members: copy_members(alloc, &structure.members)?,
-    })
-}
-
-/// An equal copy, spans too. Refused for want of memory alone.
-pub fn copy_formal_parameter(
-    alloc: Global,
-    parameter: &FormalParameter,
-) -> Result<FormalParameter, Error>
-    ensures equal { IfOk result (λ copy. parameter_view copy ≡ parameter_view parameter.now) }
-    ensures refused { IfErr result (λ e. e ≡ error.Memory) }
-{
-    Ok(FormalParameter {
-        attributes: copy_attributes(alloc, &parameter.attributes)?,
-        ident: parameter.ident,
-        ty: copy_type_expression(alloc, &parameter.ty)?,
-    })
-}
-
-/// A copy of the parameters of a function, spans too. Refused for want of memory alone.
-fn copy_parameters(
-    alloc: Global,
-    formals: &Vec<FormalParameter>,
-) -> Result<Vec<FormalParameter>, Error>
-    ensures equal { IfOk result (λ copies. listed parameter_view parameters copies ≡ listed parameter_view parameters formals.now) }
-    ensures refused { IfErr result (λ e. e ≡ error.Memory) }
-{
-    let mut copies = Vec::with_capacity(alloc, formals.len())?;
-    for parameter in formals {
-        copies.push(copy_formal_parameter(alloc, parameter)?)?;
+    /// A copy of a member of a structure.
+    pub fn member_node(&mut self, node: &StructMemberNode) -> Result<StructMemberNode, Error>
+        ensures tree { IfOk result (λ copy. placed member_view member_node copy ≡ renumbered_tree (placed member_view member_node node.now) self.old.rest.now) }
+        ensures rest { OnOk result (self.new.rest.now ≡ after_tree (placed member_view member_node node.now) self.old.rest.now) }
+        ensures refused { IfErr result (λ e. e ≡ error.Memory) }
+    {
+        Ok(Spanned {
+            node: self.member(&node.node)?,
+            span: node.span,
+        })
     }
-    Ok(copies)
-}
 
-/// An equal copy, spans too. Refused for want of memory alone.
-pub fn copy_function(alloc: Global, function: &Function) -> Result<Function, Error>
-    ensures equal { IfOk result (λ copy. function_view copy ≡ function_view function.now) }
-    ensures refused { IfErr result (λ e. e ≡ error.Memory) }
-{
-    Ok(Function {
-        attributes: copy_attributes(alloc, &function.attributes)?,
-        ident: function.ident,
-        parameters: copy_parameters(alloc, &function.parameters)?,
-        return_attributes: copy_attributes(alloc, &function.return_attributes)?,
-        return_type: copy_optional_type(alloc, &function.return_type)?,
-        body: copy_compound_statement(alloc, &function.body)?,
-    })
-}
-
-/// An equal copy, spans too. Refused for want of memory alone.
-pub fn copy_const_assert(alloc: Global, assertion: &ConstAssert) -> Result<ConstAssert, Error>
-    ensures equal { IfOk result (λ copy. assert_view copy ≡ assert_view assertion.now) }
-    ensures refused { IfErr result (λ e. e ≡ error.Memory) }
-{
-    Ok(ConstAssert {
-        attributes: copy_attributes(alloc, &assertion.attributes)?,
-        expression: copy_expression_node(alloc, &assertion.expression)?,
-    })
-}
-
-/// An equal copy, spans too. Refused for want of memory alone.
-pub fn copy_global_declaration(
-    alloc: Global,
-    declaration: &GlobalDeclaration,
-) -> Result<GlobalDeclaration, Error>
-    ensures equal { IfOk result (λ copy. global_view copy ≡ global_view declaration.now) }
-    ensures refused { IfErr result (λ e. e ≡ error.Memory) }
-{
-    match declaration {
-        GlobalDeclaration::Void => Ok(GlobalDeclaration::Void),
-        GlobalDeclaration::Declaration(declaration) => Ok(GlobalDeclaration::Declaration(
-            copy_declaration(alloc, declaration)?,
-        )),
-        GlobalDeclaration::TypeAlias(alias) => Ok(GlobalDeclaration::TypeAlias(copy_type_alias(
-            alloc, alias,
-        )?)),
-        GlobalDeclaration::Struct(structure) => Ok(GlobalDeclaration::Struct(copy_struct(
-            alloc, structure,
-        )?)),
-        GlobalDeclaration::Function(function) => Ok(GlobalDeclaration::Function(copy_function(
-            alloc, function,
-        )?)),
-        GlobalDeclaration::ConstAssert(assertion) => Ok(GlobalDeclaration::ConstAssert(
-            copy_const_assert(alloc, assertion)?,
-        )),
+    fn members(&mut self, all: &Vec<StructMemberNode>) -> Result<Vec<StructMemberNode>, Error>
+        ensures tree { IfOk result (λ copy. listed (placed member_view member_node) members copy ≡ renumbered_tree (listed (placed member_view member_node) members all.now) self.old.rest.now) }
+        ensures rest { OnOk result (self.new.rest.now ≡ after_tree (listed (placed member_view member_node) members all.now) self.old.rest.now) }
+        ensures refused { IfErr result (λ e. e ≡ error.Memory) }
+    {
+        let mut copies = Vec::with_capacity(self.alloc, all.len())?;
+        for member in all {
+            copies.push(self.member_node(member)?)?;
+        }
+        Ok(copies)
     }
-}
 
-/// An equal copy, spans too. Refused for want of memory alone.
-pub fn copy_global_declaration_node(
-    alloc: Global,
-    node: &GlobalDeclarationNode,
-) -> Result<GlobalDeclarationNode, Error>
-    ensures equal { IfOk result (λ copy. placed global_view declaration_node copy ≡ placed global_view declaration_node node.now) }
-    ensures refused { IfErr result (λ e. e ≡ error.Memory) }
-{
-    Ok(Spanned {
-        node: copy_global_declaration(alloc, &node.node)?,
-        span: node.span,
-    })
-}
-
-/// A copy of the declarations of a module, spans too. Refused for want of memory alone.
-pub fn copy_declarations(
-    alloc: Global,
-    declarations: &Vec<GlobalDeclarationNode>,
-) -> Result<Vec<GlobalDeclarationNode>, Error>
-    ensures equal { IfOk result (λ copies. declarations_tree copies ≡ declarations_tree declarations.now) }
-    ensures refused { IfErr result (λ e. e ≡ error.Memory) }
-{
-    let mut copies = Vec::with_capacity(alloc, declarations.len())?;
-    for declaration in declarations {
-        copies.push(copy_global_declaration_node(alloc, declaration)?)?;
+    /// A copy of a structure.
+    pub fn structure(&mut self, structure: &Struct) -> Result<Struct, Error>
+        ensures tree { IfOk result (λ copy. struct_view copy ≡ renumbered_tree (struct_view structure.now) self.old.rest.now) }
+        ensures rest { OnOk result (self.new.rest.now ≡ after_tree (struct_view structure.now) self.old.rest.now) }
+        ensures refused { IfErr result (λ e. e ≡ error.Memory) }
+    {
+        Ok(Struct {
+            attributes: self.attributes(&structure.attributes)?,
+            ident: self.number(structure.ident),
+            members: self.members(&structure.members)?,
+        })
     }
-    Ok(copies)
+
+    /// A copy of a parameter of a function.
+    pub fn parameter(&mut self, parameter: &FormalParameter) -> Result<FormalParameter, Error>
+        ensures tree { IfOk result (λ copy. parameter_view copy ≡ renumbered_tree (parameter_view parameter.now) self.old.rest.now) }
+        ensures rest { OnOk result (self.new.rest.now ≡ after_tree (parameter_view parameter.now) self.old.rest.now) }
+        ensures refused { IfErr result (λ e. e ≡ error.Memory) }
+    {
+        Ok(FormalParameter {
+            attributes: self.attributes(&parameter.attributes)?,
+            ident: self.number(parameter.ident),
+            ty: self.type_expression(&parameter.ty)?,
+        })
+    }
+
+    fn parameters(&mut self, all: &Vec<FormalParameter>) -> Result<Vec<FormalParameter>, Error>
+        ensures tree { IfOk result (λ copy. listed parameter_view parameters copy ≡ renumbered_tree (listed parameter_view parameters all.now) self.old.rest.now) }
+        ensures rest { OnOk result (self.new.rest.now ≡ after_tree (listed parameter_view parameters all.now) self.old.rest.now) }
+        ensures refused { IfErr result (λ e. e ≡ error.Memory) }
+    {
+        let mut copies = Vec::with_capacity(self.alloc, all.len())?;
+        for parameter in all {
+            copies.push(self.parameter(parameter)?)?;
+        }
+        Ok(copies)
+    }
+
+    /// A copy of a function.
+    pub fn function(&mut self, function: &Function) -> Result<Function, Error>
+        ensures tree { IfOk result (λ copy. function_view copy ≡ renumbered_tree (function_view function.now) self.old.rest.now) }
+        ensures rest { OnOk result (self.new.rest.now ≡ after_tree (function_view function.now) self.old.rest.now) }
+        ensures refused { IfErr result (λ e. e ≡ error.Memory) }
+    {
+        Ok(Function {
+            attributes: self.attributes(&function.attributes)?,
+            ident: self.number(function.ident),
+            parameters: self.parameters(&function.parameters)?,
+            return_attributes: self.attributes(&function.return_attributes)?,
+            return_type: self.optional_type(&function.return_type)?,
+            body: self.compound(&function.body)?,
+        })
+    }
+
+    /// A copy of an assertion.
+    pub fn assertion(&mut self, assertion: &ConstAssert) -> Result<ConstAssert, Error>
+        ensures tree { IfOk result (λ copy. assert_view copy ≡ renumbered_tree (assert_view assertion.now) self.old.rest.now) }
+        ensures rest { OnOk result (self.new.rest.now ≡ after_tree (assert_view assertion.now) self.old.rest.now) }
+        ensures refused { IfErr result (λ e. e ≡ error.Memory) }
+    {
+        Ok(ConstAssert {
+            attributes: self.attributes(&assertion.attributes)?,
+            expression: self.node(&assertion.expression)?,
+        })
+    }
+
+    /// A copy of a global declaration.
+    pub fn global(&mut self, declaration: &GlobalDeclaration) -> Result<GlobalDeclaration, Error>
+        ensures tree { IfOk result (λ copy. global_view copy ≡ renumbered_tree (global_view declaration.now) self.old.rest.now) }
+        ensures rest { OnOk result (self.new.rest.now ≡ after_tree (global_view declaration.now) self.old.rest.now) }
+        ensures refused { IfErr result (λ e. e ≡ error.Memory) }
+    {
+        match declaration {
+            GlobalDeclaration::Void => Ok(GlobalDeclaration::Void),
+            GlobalDeclaration::Declaration(declaration) => Ok(GlobalDeclaration::Declaration(
+                self.declaration(declaration)?,
+            )),
+            GlobalDeclaration::TypeAlias(alias) => {
+                Ok(GlobalDeclaration::TypeAlias(self.alias(alias)?))
+            }
+            GlobalDeclaration::Struct(structure) => {
+                Ok(GlobalDeclaration::Struct(self.structure(structure)?))
+            }
+            GlobalDeclaration::Function(function) => {
+                Ok(GlobalDeclaration::Function(self.function(function)?))
+            }
+            GlobalDeclaration::ConstAssert(assertion) => {
+                Ok(GlobalDeclaration::ConstAssert(self.assertion(assertion)?))
+            }
+        }
+    }
+
+    /// A copy of a global declaration.
+    pub fn global_node(
+        &mut self,
+        node: &GlobalDeclarationNode,
+    ) -> Result<GlobalDeclarationNode, Error>
+        ensures tree { IfOk result (λ copy. placed global_view declaration_node copy ≡ renumbered_tree (placed global_view declaration_node node.now) self.old.rest.now) }
+        ensures rest { OnOk result (self.new.rest.now ≡ after_tree (placed global_view declaration_node node.now) self.old.rest.now) }
+        ensures refused { IfErr result (λ e. e ≡ error.Memory) }
+    {
+        Ok(Spanned {
+            node: self.global(&node.node)?,
+            span: node.span,
+        })
+    }
+
+    /// A copy of global declarations.
+    pub fn globals(
+        &mut self,
+        declarations: &Vec<GlobalDeclarationNode>,
+    ) -> Result<Vec<GlobalDeclarationNode>, Error>
+        ensures tree { IfOk result (λ copy. declarations_tree copy ≡ renumbered_tree (declarations_tree declarations.now) self.old.rest.now) }
+        ensures rest { OnOk result (self.new.rest.now ≡ after_tree (declarations_tree declarations.now) self.old.rest.now) }
+        ensures refused { IfErr result (λ e. e ≡ error.Memory) }
+    {
+        let mut copies = Vec::with_capacity(self.alloc, declarations.len())?;
+        for declaration in declarations {
+            copies.push(self.global_node(declaration)?)?;
+        }
+        Ok(copies)
+    }
 }

@@ -1,12 +1,4 @@
-mod Trees
-mod OfLiterals
-mod OfExpressions
-mod OfAttributes
-mod OfDeclarations
-mod OfImports
-mod OfSelectors
-mod OfStatementLayers
-mod OfStatementCases
-mod OfStatementSteps
-mod OfStatements
-mod OfFunctions
+pub mod Trees
+pub mod OfLiterals
+pub mod OfExpressions
+pub mod OfAttributes

@@ -1,28 +1,11 @@
-//! Equality of nodes: two nodes are equal where they say the same by the numbers of their identifiers, wherever each stands in
-//! its source.
+//! Equality of expressions, types and attributes: two nodes are equal where they say the same by the numbers of their
+//! identifiers, wherever each stands in its source. `wesl_equal_statements` has the other nodes.
 #![tactic(auto)]
 
 mod attributes;
-mod declarations;
 mod expressions;
-mod functions;
-mod imports;
-mod statements;
 
 pub use attributes::equal_attributes;
-pub use declarations::{
-    equal_const_asserts, equal_declarations, equal_directives, equal_members, equal_parameters,
-    equal_structs, equal_type_aliases,
-};
 pub use expressions::{
     equal_calls, equal_expressions, equal_literals, equal_template_arguments, equal_types,
-};
-pub use functions::{equal_functions, equal_global_declarations};
-pub use imports::{
-    equal_import_contents, equal_import_items, equal_import_statements, equal_imports,
-};
-pub use statements::{
-    equal_break_if_statements, equal_case_selectors, equal_compound_statements,
-    equal_continuing_statements, equal_else_clauses, equal_else_if_clauses, equal_if_clauses,
-    equal_statements, equal_switch_clauses,
 };

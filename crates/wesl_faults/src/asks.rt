@@ -1,14 +1,9 @@
 //! Which paths a link asks its resolver for.
-ghost use Rattle.std.specs.Prelude.{◌≡◌, false};
-ghost use Rattle.wesl_names.specs.Path.{path_view, is_relative};
-
-use crate::resolvers::path;
 use std::alloc::Global;
-use std::test::Fail;
-use wesl_json::JsonText;
 use wesl_link::resolve_lazy;
 use wesl_names::{ModulePath, ResolveError};
-use wesl_resolve::{Resolver, UnitText, VirtualResolver};
+use wesl_resolve::Resolver;
+use wesl_row::{Answer, Object, Row};
 use wesl_tree::TranslationUnit;
 
 /// Asks another resolver, and keeps the paths that it was asked for.
@@ -56,56 +51,28 @@ impl<R: Resolver> Resolver for Counting<R> {
     }
 }
 
-// How many modules a link of the root has.
-fn modules_linked(
-    alloc: Global,
-    root: TranslationUnit,
-    main: &ModulePath,
-    resolver: &mut Counting<VirtualResolver<JsonText>>,
-) -> Result<usize, Fail>
-    requires { is_relative (path_view main.now) ≡ false }
-{
-    let resolutions = resolve_lazy(alloc, &["sum"], root, main, resolver, 1000)?;
-    Ok(resolutions.module_order(alloc)?.len())
+/// How often each path was asked for.
+fn times(alloc: Global, asked: &[String]) -> Answer {
+    let mut times = Object::new(alloc);
+    for path in asked {
+        let count = asked.iter().filter(|other| *other == path).count();
+        times.number(path.as_str(), count);
+    }
+    times.end()
 }
 
-/// Two modules import from a third, and the root from both and from itself: each path is asked for once, and the root's
-/// never (`asks_twice`).
-#[test]
-fn each_path_is_asked_for_once(rt: HostRuntime) -> Result<(), Fail> {
-    let alloc = rt.alloc();
-    let mut modules = VirtualResolver::new(alloc, JsonText);
-    let rows = [
-        (
-            "package::a",
-            r#"{"imports":[{"path":"package::c","content":{"item":"z"}}],"declarations":[{"k":"const","name":"x","init":"z"}]}"#,
-        ),
-        (
-            "package::b",
-            r#"{"imports":[{"path":"package::c","content":{"item":"z"}}],"declarations":[{"k":"const","name":"y","init":"z"}]}"#,
-        ),
-        (
-            "package::c",
-            r#"{"imports":[{"path":"package::main","content":{"item":"w"}}],"declarations":[{"k":"const","name":"z","init":"w"}]}"#,
-        ),
-    ];
-    for (at, text) in rows {
-        modules.add_module(path(alloc, at)?, String::from_str(alloc, text)?)?;
-    }
-    let root = JsonText.read(
-        alloc,
-        r#"{"imports":[{"path":"package::a","content":{"item":"x"}},{"path":"package::b","content":{"item":"y"}},{"path":"package::gone","content":{"item":"v"}}],"declarations":[{"k":"const","name":"sum","init":{"k":"binary","op":"+","left":"x","right":"y"}},{"k":"const","name":"w","init":true}]}"#,
-    )?;
+/// How often a lazy link of a row's modules asks for each path, and how many modules it has.
+pub fn counted(row: Row<'_>) -> Answer {
+    let keep = row.texts("keep")?;
+    let path = row.rooted("path")?;
+    let root = row.unit("unit")?;
     let mut counting = Counting {
-        inner: modules,
-        asked: Vec::new(alloc),
+        inner: row.modules("modules")?,
+        asked: Vec::new(row.alloc),
     };
-    let main = path(alloc, "package::main")?;
-    let modules = modules_linked(alloc, root, &main, &mut counting)?;
-    assert_eq!(rt; modules, 4);
-    assert_eq!(rt; counting.asked.len(), 3);
-    for at in ["package::a", "package::b", "package::c"] {
-        assert!(rt; counting.asked.iter().any(|asked| asked.as_str() == at));
-    }
-    Ok(())
+    let found = resolve_lazy(row.alloc, &keep, root, &path, &mut counting, 1000)?;
+    let mut answer = Object::new(row.alloc);
+    answer.put("asked", times(row.alloc, &counting.asked));
+    answer.number("modules", found.module_order(row.alloc)?.len());
+    answer.end()
 }

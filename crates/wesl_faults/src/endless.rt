@@ -1,14 +1,10 @@
 //! A resolver that never runs out of modules, and one that never has memory.
-ghost use Rattle.std.specs.Prelude.{◌≡◌, false};
-ghost use Rattle.wesl_names.specs.Path.{path_view, is_relative};
-
-use crate::resolvers::path;
 use std::alloc::Global;
-use std::test::Fail;
 use wesl_json::JsonText;
-use wesl_link::{Resolutions, resolve_eager, resolve_lazy};
-use wesl_names::{Diagnostic, Error, ModulePath, ResolveError};
+use wesl_link::{resolve_eager, resolve_lazy};
+use wesl_names::{Error, ModulePath, ResolveError};
 use wesl_resolve::{Preprocessor, Resolver, Router, UnitText};
+use wesl_row::{Answer, Row, of_diagnostic, text_value};
 use wesl_tree::TranslationUnit;
 
 /// What every module of the endless resolver says, and the root too: its assertion needs a name of the module below it.
@@ -86,100 +82,71 @@ impl Resolver for Starved {
     }
 }
 
-/// A link of the root, whose assertion needs a name of `package::m::m`, with no more than five modules.
-fn linked<R: Resolver>(
-    alloc: Global,
-    resolver: &mut R,
-    is_eager: bool,
-) -> Result<Result<Resolutions, Diagnostic>, Fail>
+/// What is told of a link of the root, whose assertion needs a name of the module below it: lazily, or eagerly where the row
+/// says so, with no more than `limit` modules.
+fn linked<R: Resolver>(row: Row<'_>, resolver: &mut R) -> Answer
     requires { R.ready resolver.old }
-    ensures { R.ready resolver.new }
 {
-    let root = JsonText.read(alloc, BELOW)?;
-    let at = path(alloc, "package::m")?;
-    if is_eager {
-        Ok(resolve_eager(alloc, root, &at, resolver, 5))
+    let at = row.rooted("path")?;
+    let root = JsonText.read(row.alloc, BELOW)?;
+    let limit = row.number("limit", 1000);
+    let found = if row.has("eager") {
+        resolve_eager(row.alloc, root, &at, resolver, limit)
     } else {
-        Ok(resolve_lazy(alloc, &[], root, &at, resolver, 5))
-    }
-}
-
-/// Whether a link ended at the limit of five modules.
-fn is_at_the_limit(found: &Result<Resolutions, Diagnostic>) -> bool {
+        resolve_lazy(row.alloc, &[], root, &at, resolver, limit)
+    };
     match found {
-        Ok(_) => false,
-        Err(told) => matches!(told.error, Error::ModuleLimit(5)),
+        Ok(_) => text_value(row.alloc, Some("linked")),
+        Err(refusal) => of_diagnostic(row.alloc, &refusal),
     }
 }
 
-/// Whether a lazy link and an eager one end at the limit of five modules.
-fn ends_at_the_limit<R: Resolver>(alloc: Global, resolver: &mut R) -> Result<bool, Fail>
-    requires { R.ready resolver.old }
-    ensures { R.ready resolver.new }
-{
-    let lazy = linked(alloc, resolver, false)?;
-    let eager = linked(alloc, resolver, true)?;
-    Ok(is_at_the_limit(&lazy) && is_at_the_limit(&eager))
+/// What is told of a link where a box mounted at the row's `path` hands out a module at every path.
+fn endless_mount(row: Row<'_>) -> Answer {
+    let mut router: Router = Router::new(row.alloc);
+    router.mount_resolver(row.rooted("path")?, Box::new(row.alloc, Endless)?)?;
+    linked(row, &mut router)
 }
 
-#[test]
-fn a_limit_ends_links_without_end(rt: HostRuntime) -> Result<(), Fail> {
-    assert!(rt; ends_at_the_limit(rt.alloc(), &mut Endless)?);
-    Ok(())
+/// What is told of a link where a box that is the fallback hands out a module at every path.
+fn endless_fallback(row: Row<'_>) -> Answer {
+    let mut router: Router = Router::new(row.alloc);
+    router.mount_fallback_resolver(Box::new(row.alloc, Endless)?);
+    linked(row, &mut router)
 }
 
-#[test]
-fn a_limit_ends_links_without_end_by_a_mount_in_a_box(rt: HostRuntime) -> Result<(), Fail> {
-    let alloc = rt.alloc();
-    let mut router: Router = Router::new(alloc);
-    router.mount_resolver(path(alloc, "package::m")?, Box::new(alloc, Endless)?)?;
-    assert!(rt; ends_at_the_limit(alloc, &mut router)?);
-    Ok(())
+/// What is told of a link where a box mounted at the row's `path` wants memory at every path.
+fn starved_mount(row: Row<'_>) -> Answer {
+    let mut router: Router = Router::new(row.alloc);
+    router.mount_resolver(row.rooted("path")?, Box::new(row.alloc, Starved)?)?;
+    linked(row, &mut router)
 }
 
-#[test]
-fn a_limit_ends_links_without_end_by_a_fallback_in_a_box(rt: HostRuntime) -> Result<(), Fail> {
-    let alloc = rt.alloc();
-    let mut router: Router = Router::new(alloc);
-    router.mount_fallback_resolver(Box::new(alloc, Endless)?);
-    assert!(rt; ends_at_the_limit(alloc, &mut router)?);
-    Ok(())
-}
-
-/// Whether a link was refused for want of memory, and for nothing else.
-fn is_want_of_memory(found: &Result<Resolutions, Diagnostic>) -> bool {
-    match found {
-        Ok(_) => false,
-        Err(told) => matches!(told.error, Error::Memory),
+/// What is told of a link where a module is handed out at every path, by the resolver itself or within a router.
+pub fn without_end(row: Row<'_>) -> Answer {
+    match row.text("within") {
+        "mount" => endless_mount(row),
+        "fallback" => endless_fallback(row),
+        _ => linked(row, &mut Endless),
     }
 }
 
-/// Whether a lazy link and an eager one are refused for want of memory.
-fn wants_memory<R: Resolver>(alloc: Global, resolver: &mut R) -> Result<bool, Fail>
-    requires { R.ready resolver.old }
-    ensures { R.ready resolver.new }
-{
-    let lazy = linked(alloc, resolver, false)?;
-    let eager = linked(alloc, resolver, true)?;
-    Ok(is_want_of_memory(&lazy) && is_want_of_memory(&eager))
+/// What is told of a link where the resolver wants memory at every path.
+pub fn without_memory(row: Row<'_>) -> Answer {
+    match row.text("within") {
+        "mount" => starved_mount(row),
+        "preprocessor" => linked(
+            row,
+            &mut Preprocessor::new(Starved, |unit: TranslationUnit| Ok(unit)),
+        ),
+        _ => linked(row, &mut Starved),
+    }
 }
 
-#[test]
-fn want_of_memory_stays_what_it_is(rt: HostRuntime) -> Result<(), Fail> {
-    let alloc = rt.alloc();
-    assert!(rt; wants_memory(alloc, &mut Starved)?);
-    let mut within = Preprocessor::new(Starved, |unit: TranslationUnit| Ok(unit));
-    assert!(rt; wants_memory(alloc, &mut within)?);
-    let mut refusing = Preprocessor::new(Endless, |_unit: TranslationUnit| Err(Error::Memory));
-    assert!(rt; wants_memory(alloc, &mut refusing)?);
-    Ok(())
-}
-
-#[test]
-fn want_of_memory_stays_what_it_is_by_a_mount_in_a_box(rt: HostRuntime) -> Result<(), Fail> {
-    let alloc = rt.alloc();
-    let mut router: Router = Router::new(alloc);
-    router.mount_resolver(path(alloc, "package::m")?, Box::new(alloc, Starved)?)?;
-    assert!(rt; wants_memory(alloc, &mut router)?);
-    Ok(())
+/// What is told of a link where the function that changes units wants memory.
+pub fn refused_by_function(row: Row<'_>) -> Answer {
+    linked(
+        row,
+        &mut Preprocessor::new(Endless, |_unit: TranslationUnit| Err(Error::Memory)),
+    )
 }

@@ -1,63 +1,60 @@
 //! Conversions of errors, and their texts.
 use std::alloc::Global;
-use std::test::Fail;
 use wesl_names::{Diagnostic, Error, ImportError, ModulePath, ResolveError, ValidateError};
+use wesl_row::{Answer, List, located, of_error};
 
-#[test]
-fn converts_errors(rt: HostRuntime) {
-    assert!(rt; matches!(Error::of_resolve(ResolveError::Memory), Error::Memory));
-    let missing = ResolveError::ModuleNotFound(
-        ModulePath::new_root(rt.alloc()),
-        String::new(rt.alloc()),
-    );
-    assert!(rt;
-        matches!(
-            Error::of_resolve(missing),
-            Error::Import(ImportError::ResolveError(_))
-        )
-    );
-    let diagnostic = Diagnostic::of(Error::NotJson);
-    assert!(rt; matches!(diagnostic.error, Error::NotJson) && diagnostic.module.is_none());
+/// What want of memory of a resolver, and a module that it does not find, are as errors, and an error as a diagnostic.
+pub fn converted(alloc: Global) -> Answer {
+    let missing = ResolveError::ModuleNotFound(ModulePath::new_root(alloc), String::new(alloc));
+    let mut errors = List::new(alloc);
+    errors.put(of_error(alloc, &Error::of_resolve(ResolveError::Memory)));
+    errors.put(of_error(alloc, &Error::of_resolve(missing)));
+    errors.put(located(alloc, &Diagnostic::of(Error::NotJson)));
+    errors.end()
 }
 
-fn path(alloc: Global, text: &str) -> Result<ModulePath, Fail> {
+fn path(alloc: Global, text: &str) -> Result<ModulePath, anyhow::Error> {
     match ModulePath::parse(alloc, text)? {
         Some(path) => Ok(path),
-        None => Err("no path".into()),
+        None => Err(anyhow::anyhow!("no path")),
     }
 }
 
-#[test]
-fn errors_say_what_they_hold(rt: HostRuntime) -> Result<(), Fail> {
-    let alloc = rt.alloc();
-    let missing = ImportError::MissingDecl(
-        path(alloc, "super::super::a")?,
-        String::from_str(alloc, "x")?,
-    );
-    let private = ImportError::Private(String::from_str(alloc, "x")?, path(alloc, "p/q::a::b")?);
-    let absent = ResolveError::ModuleNotFound(
-        path(alloc, "self")?,
-        String::from_str(alloc, "no such file")?,
-    );
-    assert!(rt; missing.to_string(alloc)?.as_str() == "no declaration `x` in `super::super::a`");
-    assert!(rt; private.to_string(alloc)?.as_str() == "`x` of `p/q::a::b` is private");
-    assert!(rt; absent.to_string(alloc)?.as_str() == "module not found: `self` (no such file)");
-    Ok(())
+fn missing(alloc: Global) -> Result<ImportError, anyhow::Error> {
+    let path = path(alloc, "super::super::a")?;
+    Ok(ImportError::MissingDecl(path, String::from_str(alloc, "x")?))
 }
 
-#[test]
-fn diagnostics_say_where(rt: HostRuntime) -> Result<(), Fail> {
-    let alloc = rt.alloc();
+fn private(alloc: Global) -> Result<ImportError, anyhow::Error> {
+    let path = path(alloc, "p/q::a::b")?;
+    Ok(ImportError::Private(String::from_str(alloc, "x")?, path))
+}
+
+fn absent(alloc: Global) -> Result<ResolveError, anyhow::Error> {
+    let path = path(alloc, "self")?;
+    let reason = String::from_str(alloc, "no such file")?;
+    Ok(ResolveError::ModuleNotFound(path, reason))
+}
+
+/// The texts of errors, which say what they hold.
+pub fn told(alloc: Global) -> Answer {
+    let mut texts = List::new(alloc);
+    texts.text(missing(alloc)?.to_string(alloc)?.as_str());
+    texts.text(private(alloc)?.to_string(alloc)?.as_str());
+    texts.text(absent(alloc)?.to_string(alloc)?.as_str());
+    texts.end()
+}
+
+/// The texts of a diagnostic that says no place, of one that says where, and of the latter within the refusal of a module.
+pub fn told_where(alloc: Global) -> Answer {
     let unknown = ValidateError::UndefinedSymbol(String::from_str(alloc, "x")?);
     let mut diagnostic = Diagnostic::of(Error::from(unknown));
-    assert!(rt; diagnostic.to_string(alloc)?.as_str() == "undefined symbol `x`");
+    let mut texts = List::new(alloc);
+    texts.text(diagnostic.to_string(alloc)?.as_str());
     diagnostic.module = Some(path(alloc, "package::a")?);
     diagnostic.declaration = Some(String::from_str(alloc, "f")?);
-    let refused = ResolveError::from(Box::new(alloc, diagnostic)?);
-    let error = Error::of_resolve(refused);
-    assert!(rt;
-        error.to_string(alloc)?.as_str()
-            == "module refused: in `package::a`: in `f`: undefined symbol `x`"
-    );
-    Ok(())
+    texts.text(diagnostic.to_string(alloc)?.as_str());
+    let refused = Error::of_resolve(ResolveError::from(Box::new(alloc, diagnostic)?));
+    texts.text(refused.to_string(alloc)?.as_str());
+    texts.end()
 }

@@ -1,12 +1,12 @@
 //! Nodes that no JSON form has: with spans, and with identifiers without a name.
 use std::alloc::Global;
-use std::test::Fail;
 use wesl_clone::TryClone;
+use wesl_row::{Answer, Object, Row, text_value};
 use wesl_syntax::{
     Declaration, DeclarationKind, Expression, GlobalDeclaration, Spanned, Statement, StatementNode,
     TypeExpression, law_of_equality,
 };
-use wesl_tree::{Error, Ident, Names, Span, TranslationUnit};
+use wesl_tree::{Ident, Names, Span, TranslationUnit};
 
 /// `break;` at a place
 fn leaving(alloc: Global, start: u32) -> StatementNode {
@@ -18,15 +18,18 @@ fn leaving(alloc: Global, start: u32) -> StatementNode {
     }
 }
 
-#[test]
-fn a_copy_has_the_span_and_equality_ignores_it(rt: HostRuntime) -> Result<(), Fail> {
-    let alloc = rt.alloc();
+/// Whether a copy of a node has its span and is equal to it, and whether a node elsewhere is equal too.
+pub fn copied(alloc: Global) -> Answer {
     let node = leaving(alloc, 5);
     let copy = node.try_clone(alloc)?;
-    assert_eq!(rt; copy.span, node.span);
-    assert!(rt; copy == node);
-    assert!(rt; law_of_equality(&copy, &leaving(alloc, 6)));
-    Ok(())
+    let mut answer = Object::new(alloc);
+    answer.flag("equal", copy == node);
+    answer.flag(
+        "equal_elsewhere",
+        law_of_equality(&copy, &leaving(alloc, 6)),
+    );
+    answer.flag("same_span", copy.span == node.span);
+    answer.end()
 }
 
 fn placed<T>(node: T) -> Spanned<T> {
@@ -36,42 +39,44 @@ fn placed<T>(node: T) -> Spanned<T> {
     }
 }
 
-/// `const declared = used;` in a table of these names
-fn unit(
-    alloc: Global,
-    texts: &[&str],
-    declared: usize,
-    used: usize,
-) -> Result<Option<TranslationUnit>, Error> {
-    let mut names = Names::new(alloc);
-    for text in texts {
-        let _ = names.add(text)?;
-    }
+/// `const declared = used;`
+fn constant(alloc: Global, declared: usize, used: usize) -> GlobalDeclaration {
     let reference = placed(Expression::TypeOrIdentifier(TypeExpression {
         path: None,
         ident: Ident(used),
         template_args: None,
     }));
-    let constant = placed(GlobalDeclaration::Declaration(Declaration {
+    GlobalDeclaration::Declaration(Declaration {
         attributes: Vec::new(alloc),
         kind: DeclarationKind::Const,
         ident: Ident(declared),
         ty: None,
         initializer: Some(reference),
-    }));
-    Ok(TranslationUnit::from_parts(
-        names,
-        Vec::new(alloc),
-        Vec::new(alloc),
-        vec![in alloc; constant]?,
-    ))
+    })
 }
 
-#[test]
-fn refuses_identifiers_without_a_name(rt: HostRuntime) -> Result<(), Fail> {
-    let alloc = rt.alloc();
-    assert!(rt; unit(alloc, &[], 0, 0)?.is_none());
-    assert!(rt; unit(alloc, &["a"], 0, 1)?.is_none());
-    assert!(rt; unit(alloc, &["a"], 0, 0)?.is_some());
-    Ok(())
+/// A table of the texts `names`.
+fn table(row: Row<'_>) -> Result<Names, anyhow::Error> {
+    let mut names = Names::new(row.alloc);
+    for text in &row.texts("names")? {
+        let _ = names.add(text)?;
+    }
+    Ok(names)
+}
+
+/// Whether the constant of these numbers (`declared`, `used`) is a unit over the names of a row, where each has a name.
+pub fn made(row: Row<'_>) -> Answer {
+    let alloc = row.alloc;
+    let constant = constant(alloc, row.number("declared", 0), row.number("used", 0));
+    let declarations = vec![in alloc; placed(constant)]?;
+    let made = TranslationUnit::from_parts(
+        table(row)?,
+        Vec::new(alloc),
+        Vec::new(alloc),
+        declarations,
+    );
+    match made {
+        Some(_) => text_value(alloc, Some("a unit")),
+        None => text_value(alloc, Some("none")),
+    }
 }

@@ -1,12 +1,12 @@
 //! Resolvers in boxes, and a resolver whose units a stored function changes.
-ghost use Rattle.std.specs.Prelude.{◌≡◌, false, IfOk};
-ghost use Rattle.wesl_names.specs.Path.{path_view, is_relative};
+ghost use Rattle.std.specs.Prelude.{◌≡◌};
 ghost use Rattle.wesl_syntax.specs.Unit.{spelled, empty_unit};
 
+use serde_json::Value;
 use std::alloc::Global;
-use std::test::Fail;
-use wesl_names::{Diagnostic, Error, ModulePath, ResolveError};
+use wesl_names::{Diagnostic, Error, ResolveError};
 use wesl_resolve::{Preprocessor, Resolver, Router, UnitText, VirtualResolver};
+use wesl_row::{Answer, List, Object, Row, located, of_error, rooted, text_value};
 use wesl_tree::TranslationUnit;
 
 /// Every text but `bad` and `large` says the empty unit; for `large` there is no memory.
@@ -43,114 +43,80 @@ impl UnitText for Empty {
     ghost reads_back = { λ s u v text paths printed read. read ∙ sym printed };
 }
 
-/// A path that is not relative.
-pub(crate) fn path(alloc: Global, text: &str) -> Result<ModulePath, Fail>
-    ensures { IfOk result (λ p. is_relative (path_view p) ≡ false) }
-{
-    let path = ModulePath::parse(alloc, text)?.ok_or("no path")?;
-    if path.is_relative() {
-        return Err("relative".into());
-    }
-    Ok(path)
-}
-
-fn source<R: Resolver>(alloc: Global, resolver: &mut R, text: &str) -> Result<String, Fail>
-    requires { R.ready resolver.old }
-    ensures { R.ready resolver.new }
-{
-    let path = path(alloc, text)?;
-    Ok(resolver.resolve_source(alloc, &path)?)
-}
-
-/// Whether the resolver gives these sources at these paths.
-fn gives<R: Resolver>(
+/// A resolver that has this source at the path of this text.
+fn holding(
     alloc: Global,
-    resolver: &mut R,
-    rows: &[(&'static str, &'static str)],
-) -> Result<bool, Fail>
-    requires { R.ready resolver.old }
-    ensures { R.ready resolver.new }
-{
-    for (at, text) in rows {
-        if source(alloc, resolver, at)?.as_str() != *text {
-            return Ok(false);
-        }
-    }
-    Ok(true)
-}
-
-/// What is told of a module that is refused.
-fn told<R: Resolver>(alloc: Global, resolver: &mut R, text: &str) -> Result<Box<Diagnostic>, Fail>
-    requires { R.ready resolver.old }
-    ensures { R.ready resolver.new }
-{
-    let path = path(alloc, text)?;
-    match resolver.resolve_module(alloc, &path) {
-        Err(ResolveError::Error(diagnostic)) => Ok(diagnostic),
-        _ => Err("not refused".into()),
-    }
-}
-
-fn modules(
-    alloc: Global,
-    rows: &[(&'static str, &'static str)],
-) -> Result<VirtualResolver<Empty>, Fail> {
+    path: &str,
+    source: &str,
+) -> Result<VirtualResolver<Empty>, anyhow::Error> {
     let mut modules = VirtualResolver::new(alloc, Empty);
-    for (at, source) in rows {
-        modules.add_module(path(alloc, at)?, String::from_str(alloc, source)?)?;
-    }
+    modules.add_module(rooted(alloc, path)?, String::from_str(alloc, source)?)?;
     Ok(modules)
 }
 
-#[test]
-fn routes_to_boxes(rt: HostRuntime) -> Result<(), Fail> {
-    let alloc = rt.alloc();
-    let mut router: Router = Router::new(alloc);
-    let mounted = Box::new(alloc, modules(alloc, &[("package::b", "mounted")])?)?;
-    let fallback = Box::new(alloc, modules(alloc, &[("package::a", "fallback")])?)?;
-    router.mount_resolver(path(alloc, "package::a")?, mounted)?;
-    router.mount_fallback_resolver(fallback);
-    let rows = [("package::a::b", "mounted"), ("a::a", "fallback")];
-    assert!(rt; gives(alloc, &mut router, &rows)?);
-    Ok(())
-}
-
-#[test]
-fn preprocesses_units(rt: HostRuntime) -> Result<(), Fail> {
-    let alloc = rt.alloc();
-    let mut held = modules(alloc, &[("package::a", "a")])?;
-    let mut refusing = Preprocessor::new(&mut held, |_unit: TranslationUnit| {
-        Err(Error::NotNormalType)
-    });
-    let told = told(alloc, &mut refusing, "package::a")?;
-    assert!(rt; matches!(told.error, Error::NotNormalType) && told.source.is_none());
-    assert!(rt; told.module == Some(path(alloc, "package::a")?) && told.display.is_none());
-    assert_eq!(rt; source(alloc, &mut refusing, "package::a")?.as_str(), "a");
-    let mut passing = Preprocessor::new(held, |unit: TranslationUnit| Ok(unit));
-    let unit = passing.resolve_module(alloc, &path(alloc, "package::a")?)?;
-    assert!(rt; unit.same_spelling(&TranslationUnit::new(alloc)));
-    Ok(())
-}
-
-/// Whether a resolver refuses a module for want of memory, and for nothing else.
-fn wants_memory<R: Resolver>(alloc: Global, resolver: &mut R, text: &str) -> Result<bool, Fail>
+/// The source that a resolver gives at the path of this text.
+fn source<R: Resolver>(alloc: Global, resolver: &mut R, path: &str) -> Answer
     requires { R.ready resolver.old }
     ensures { R.ready resolver.new }
 {
-    let path = path(alloc, text)?;
-    Ok(matches!(
-        resolver.resolve_module(alloc, &path),
-        Err(ResolveError::Memory)
-    ))
+    let path = rooted(alloc, path)?;
+    let source = resolver.resolve_source(alloc, &path)?;
+    text_value(alloc, Some(source.as_str()))
 }
 
-#[test]
-fn want_of_memory_of_a_reading_or_a_function_stays_what_it_is(rt: HostRuntime) -> Result<(), Fail> {
-    let alloc = rt.alloc();
-    let mut held = modules(alloc, &[("package::a", "large"), ("package::b", "b")])?;
-    assert!(rt; wants_memory(alloc, &mut held, "package::a")?);
-    assert!(rt; !wants_memory(alloc, &mut held, "package::b")?);
+/// The source at the row's `path`, by a router over boxes: at `package::a` one that has `package::b`, and as the fallback
+/// one that has `package::a`.
+pub fn routed(row: Row<'_>) -> Answer {
+    let alloc = row.alloc;
+    let mut router: Router = Router::new(alloc);
+    let mounted = Box::new(alloc, holding(alloc, "package::b", "mounted")?)?;
+    let fallback = Box::new(alloc, holding(alloc, "package::a", "fallback")?)?;
+    router.mount_resolver(rooted(alloc, "package::a")?, mounted)?;
+    router.mount_fallback_resolver(fallback);
+    source(alloc, &mut router, row.text("path"))
+}
+
+/// What is told of the module at this path: whether it is the empty unit, or its refusal, with the module, the source and
+/// the display name.
+fn told<R: Resolver>(alloc: Global, resolver: &mut R, path: &str) -> Answer
+    requires { R.ready resolver.old }
+    ensures { R.ready resolver.new }
+{
+    let path = rooted(alloc, path)?;
+    match resolver.resolve_module(alloc, &path) {
+        Ok(unit) => Ok(Value::Bool(unit.same_spelling(&TranslationUnit::new(alloc)))),
+        Err(ResolveError::Error(diagnostic)) => located(alloc, &diagnostic),
+        Err(error) => of_error(alloc, &Error::of_resolve(error)),
+    }
+}
+
+/// What a preprocessor tells of the module `package::a`: one whose function refuses every unit, whose sources stay, and one
+/// whose function leaves it as it is.
+pub fn preprocessed(row: Row<'_>) -> Answer {
+    let alloc = row.alloc;
+    let mut held = holding(alloc, "package::a", "a")?;
+    let mut refusing = Preprocessor::new(
+        &mut held,
+        |_unit: TranslationUnit| Err(Error::NotNormalType),
+    );
+    let mut answer = Object::new(alloc);
+    answer.put("refused", told(alloc, &mut refusing, "package::a"));
+    answer.put("source", source(alloc, &mut refusing, "package::a"));
+    let mut passing = Preprocessor::new(held, |unit: TranslationUnit| Ok(unit));
+    answer.put("passed", told(alloc, &mut passing, "package::a"));
+    answer.end()
+}
+
+/// What is told of a module where its reading wants memory, where it is read, and where a function that changes it wants
+/// memory.
+pub fn unread(row: Row<'_>) -> Answer {
+    let alloc = row.alloc;
+    let mut large = holding(alloc, "package::a", "large")?;
+    let mut held = holding(alloc, "package::a", "a")?;
+    let mut outcomes = List::new(alloc);
+    outcomes.put(told(alloc, &mut large, "package::a"));
+    outcomes.put(told(alloc, &mut held, "package::a"));
     let mut refusing = Preprocessor::new(held, |_unit: TranslationUnit| Err(Error::Memory));
-    assert!(rt; wants_memory(alloc, &mut refusing, "package::b")?);
-    Ok(())
+    outcomes.put(told(alloc, &mut refusing, "package::a"));
+    outcomes.end()
 }

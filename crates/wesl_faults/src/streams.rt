@@ -1,7 +1,9 @@
 //! Readers and writers that fail, and bytes that are no text.
+use serde_json::Value;
+use std::alloc::Global;
 use std::io::{self, Read, Write};
-use std::test::Fail;
 use wesl::{Outcome, RunError, run};
+use wesl_row::Answer;
 
 const BUNDLE: &[u8] = b"{\"root\":\"package::m\"}";
 
@@ -55,70 +57,60 @@ impl Write for SlowWriter {
     }
 }
 
-#[test]
-fn writes_nothing_after_a_failed_read(rt: HostRuntime) -> Result<(), Fail> {
+/// Whether a run whose reader fails at each call in turn ends so, with nothing written.
+pub fn unread(alloc: Global) -> Answer {
+    let mut is_silent = true;
     for fails_at in 0..BUNDLE.len() {
         let mut reader = SlowReader { given: 0, fails_at };
-        let mut writer = Vec::new(rt.alloc());
-        assert_eq!(rt;
-            run(rt.alloc(), &mut reader, &mut writer),
-            Err(RunError::Input)
-        );
-        assert!(rt; writer.is_empty());
+        let mut writer = Vec::new(alloc);
+        let ended = run(alloc, &mut reader, &mut writer);
+        is_silent &= ended == Err(RunError::Input) && writer.is_empty();
     }
-    Ok(())
+    Ok(Value::Bool(is_silent))
 }
 
-#[test]
-fn reads_and_writes_a_byte_at_a_time(rt: HostRuntime) -> Result<(), Fail> {
+/// Whether a run that reads and writes a byte at a time writes the line.
+pub fn slow(alloc: Global) -> Answer {
     let mut reader = SlowReader {
         given: 0,
         fails_at: usize::MAX,
     };
     let mut writer = SlowWriter {
-        taken: Vec::new(rt.alloc()),
+        taken: Vec::new(alloc),
         stops_at: usize::MAX,
         fails: true,
     };
-    assert_eq!(rt;
-        run(rt.alloc(), &mut reader, &mut writer),
-        Ok(Outcome::Refused)
-    );
-    assert_eq!(rt; writer.taken.as_slice(), LINE);
-    Ok(())
+    let ended = run(alloc, &mut reader, &mut writer);
+    Ok(Value::Bool(ended == Ok(Outcome::Refused) && writer.taken.as_slice() == LINE))
 }
 
-#[test]
-fn leaves_a_beginning_of_the_line_after_a_failed_write(rt: HostRuntime) -> Result<(), Fail> {
+/// Whether a run whose writer stops at this byte ends so, with the beginning of the line written.
+fn leaves_a_beginning(alloc: Global, stops_at: usize, fails: bool) -> bool {
+    let mut reader = BUNDLE;
+    let mut writer = SlowWriter {
+        taken: Vec::new(alloc),
+        stops_at,
+        fails,
+    };
+    let ended = run(alloc, &mut reader, &mut writer);
+    ended == Err(RunError::Output) && LINE.get(..stops_at) == Some(writer.taken.as_slice())
+}
+
+/// Whether a run whose writer fails, or takes nothing, at each byte in turn leaves the beginning of the line.
+pub fn unwritten(alloc: Global) -> Answer {
+    let mut is_beginning = true;
     for stops_at in 0..LINE.len() {
-        for fails in [false, true] {
-            let mut reader = BUNDLE;
-            let mut writer = SlowWriter {
-                taken: Vec::new(rt.alloc()),
-                stops_at,
-                fails,
-            };
-            assert_eq!(rt;
-                run(rt.alloc(), &mut reader, &mut writer),
-                Err(RunError::Output)
-            );
-            assert_eq!(rt; writer.taken.as_slice(), &LINE[..stops_at]);
-        }
+        is_beginning &= leaves_a_beginning(alloc, stops_at, false);
+        is_beginning &= leaves_a_beginning(alloc, stops_at, true);
     }
-    Ok(())
+    Ok(Value::Bool(is_beginning))
 }
 
-#[test]
-fn bytes_that_are_no_text_are_no_json(rt: HostRuntime) -> Result<(), Fail> {
+/// The line of bytes that are no text, as a text.
+pub fn no_text(alloc: Global) -> Answer {
     let mut reader: &[u8] = &[34, 255, 34];
-    let mut writer = Vec::new(rt.alloc());
-    assert_eq!(rt;
-        run(rt.alloc(), &mut reader, &mut writer),
-        Ok(Outcome::Refused)
-    );
-    assert_eq!(rt;
-        writer.as_slice(),
-        b"{\"args\":[],\"fault\":\"NotJson\"}\n".as_slice()
-    );
-    Ok(())
+    let mut writer = Vec::new(alloc);
+    let ended = run(alloc, &mut reader, &mut writer);
+    let is_line = writer.as_slice() == b"{\"args\":[],\"fault\":\"NotJson\"}\n".as_slice();
+    Ok(Value::Bool(ended == Ok(Outcome::Refused) && is_line))
 }

@@ -6,3 +6,4 @@ pub mod Residual
 pub mod Faults
 pub mod Evaluation
 pub mod Step
+pub mod Branch

@@ -12,7 +12,7 @@ use crate::features::Features;
 use crate::formula::simplify;
 use crate::judge::check_formula;
 use std::alloc::Global;
-use wesl_copies::copy_expression;
+use wesl_copies::Copying;
 use wesl_names::{Diagnostic, Names};
 use wesl_syntax::{Expression, ExpressionNode};
 
@@ -31,7 +31,7 @@ pub fn eval_attr(
     ensures refused { IfErr result (λ told. IsRefused names.now (formula_faults (by_number names.now (answer_to features.now)) (form (expression_view expression.now.node))) (out-Diagnostic told).error) }
 {
     check_formula(alloc, &expression.node, names, features)?;
-    let mut left = copy_expression(alloc, &expression.node)?;
+    let mut left = Copying::of(alloc).expression(&expression.node)?;
     simplify(&mut left, names, features);
     Ok(left)
 }

@@ -1,5 +1,5 @@
 -- Identifiers have nothing below them, in the trees of all nodes.
-use Rattle.std.proofs.Common.{◌≡◌, Bool, true, ◌&&◌, List, [], ◌∷◌, map, refl, sym, subst}
+use Rattle.std.proofs.Common.{◌≡◌, true, ◌&&◌, List, [], ◌∷◌, map, refl, sym, subst}
 use Rattle.std.specs.Prelude.{Option, Some, None, Vec}
 use Rattle.std.specs.declared.alloc.Global.{Global}
 use Rattle.wesl_names.specs.declared.path.ModulePath.{ModulePath}

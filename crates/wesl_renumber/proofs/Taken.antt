@@ -5,7 +5,7 @@ use Rattle.std.proofs.lemmas.List.{map-append}
 use Rattle.wesl_syntax.specs.Tree.{Label, LabelOf, Forest, ForestOf, end, tree, kind, at, ident, text, texts, truth, unary, binary, assignment, space, access, path, identifiers, respell_forest, forest_below}
 use Rattle.wesl_syntax.specs.Unit.{UnitOf, forest_of_unit}
 use Rattle.wesl_renumber.specs.Leaves.{are_leaves, KeepsSpelling}
-use Rattle.wesl_renumber.specs.Renumbered.{renumbered, after}
+use Rattle.wesl_copies.specs.Renumbered.{renumbered, after}
 
 pub both : (a b : Bool) → (a && b) ≡ true → (a ≡ true) × (b ≡ true)
 both true b h = (refl, h)

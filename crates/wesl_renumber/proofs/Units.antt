@@ -9,7 +9,8 @@ use Rattle.wesl_syntax.specs.Tree.{Tree, end, tree, identifiers, forest_below, t
 use Rattle.wesl_syntax.specs.Unit.{UnitView, forest_of_unit, trees_of, numbers, name_in, spelled, unit_below}
 use Rattle.wesl_tree.specs.Translation.{unit_view}
 use Rattle.wesl_tree.specs.declared.unit.TranslationUnit.{TranslationUnit}
-use Rattle.wesl_renumber.specs.Renumbered.{renumbered, renumbered_tree, after_tree, HasSameNodes}
+use Rattle.wesl_copies.specs.Renumbered.{renumbered, renumbered_tree, after_tree}
+use Rattle.wesl_renumber.specs.Nodes.{HasSameNodes}
 use Rattle.wesl_renumber.specs.Leaves.{are_leaves}
 use Rattle.wesl_renumber.proofs.Taken.{all_below, taken, numbers_are, respelled, one_unit}
 use Rattle.wesl_renumber.proofs.Leaves.{imports_leafy, directives_leafy, declarations_leafy}
@@ -45,7 +46,7 @@ same_spelling v w names ns l r e =
     ∙ (ap (respell_forest (name_in names)) (forest_is v w names ns r)
     ∙ (respelled (name_in names) (name_in v.names) (forest_of_unit (trees_of v)) ns [] l (e ∙ sym (no_more (map (name_in v.names) (numbers v))))).0))
 
-each_below : (n : ℕ) (ns : List ℕ) → All (λ m. m < n) ns → all_below n ns ≡ true
+pub each_below : (n : ℕ) (ns : List ℕ) → All (λ m. m < n) ns → all_below n ns ≡ true
 each_below n [] h = refl
 each_below n (m ∷ ms) h =
     let e : nat_lt m n ≡ true = (Decides-ltb m n).1 (h 0 m (omega arith)) in

@@ -1,6 +1,5 @@
 -- Where identifiers stand in the trees of nodes.
 use Rattle.std.specs.Prelude.{◌≡◌, ℕ, Bool, true, false, ◌&&◌, List, length, map}
-use Rattle.std.specs.Global.{Vec}
 use Rattle.wesl_names.specs.Path.{Text}
 use Rattle.wesl_syntax.specs.Tree.{LabelOf, ForestOf, Forest, end, tree, ident, identifiers, forest_of, import_node, directive_node, declaration_node, respell_forest}
 use Rattle.wesl_syntax.specs.View.{placed, import_view, directive_view, global_view}
@@ -8,7 +7,7 @@ use Rattle.wesl_syntax.specs.declared.span.Spanned.{Spanned}
 use Rattle.wesl_syntax.specs.declared.import.ImportStatement.{ImportStatement}
 use Rattle.wesl_syntax.specs.declared.declaration.GlobalDirective.{GlobalDirective}
 use Rattle.wesl_syntax.specs.declared.declaration.GlobalDeclaration.{GlobalDeclaration}
-use Rattle.wesl_renumber.specs.Renumbered.{renumbered}
+use Rattle.wesl_copies.specs.Renumbered.{renumbered}
 
 module _ {I : Type 0} where
   -- an identifier has nothing below it

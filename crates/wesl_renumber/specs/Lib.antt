@@ -1,2 +1,3 @@
 pub mod Leaves
-pub mod Renumbered
+pub mod Nodes
+pub use Rattle.wesl_copies.specs.Renumbered

@@ -4,10 +4,10 @@ ghost use Rattle.std.specs.List.{All};
 ghost use Rattle.wesl_names.specs.declared.errors.Error as error;
 ghost use Rattle.wesl_syntax.specs.Unit.{numbers, name_in, spelled};
 ghost use Rattle.wesl_tree.specs.Translation.{unit_view};
-ghost use Rattle.wesl_renumber.specs.Renumbered.{HasSameNodes};
+ghost use Rattle.wesl_renumber.specs.Nodes.{HasSameNodes};
 
-use crate::renumber::Renumbering;
 use std::alloc::Global;
+use wesl_copies::Copying;
 use wesl_tree::{Error, Names, TranslationUnit};
 
 /// A copy of a module with another table of names, in which the identifiers have the given numbers, in document
@@ -29,9 +29,9 @@ pub fn renumbered(
     ensures names { IfOk result (λ copy. (unit_view copy).names ≡ names) }
     ensures refused { IfErr result (λ e. e ≡ error.Memory) }
 {
-    let mut renumbering = Renumbering { alloc, rest: given };
-    let imports = renumbering.imports(unit.imports())?;
-    let directives = renumbering.directives(unit.global_directives())?;
-    let declarations = renumbering.globals(unit.global_declarations())?;
+    let mut copying = Copying { alloc, rest: given };
+    let imports = copying.imports(unit.imports())?;
+    let directives = copying.directives(unit.global_directives())?;
+    let declarations = copying.globals(unit.global_declarations())?;
     Ok(TranslationUnit::from_parts(names, imports, directives, declarations).unwrap())
 }

@@ -1,8 +1,8 @@
-//! What the programs of rows share: what a row says under its keys, and answers as values.
+//! What the crates of rows share: what a row says under its keys, and answers as values.
 //!
-//! A row is a JSON object that names itself (`row`) and a public call (`call`), and holds the call's inputs. What is not
-//! there, or of another kind, is read as the empty text, the empty list or the number that is given for it; a path or a
-//! unit that is not there is an error.
+//! A row is a JSON object that names itself (`row`), the crate of its call (`of`, where that is not `wesl_rows`) and a
+//! public call (`call`), and holds the call's inputs. What is not there, or of another kind, is read as the empty text, the
+//! empty list or the number that is given for it; a path or a unit that is not there is an error.
 #![tactic(auto)]
 
 mod answers;

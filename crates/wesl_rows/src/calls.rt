@@ -1,9 +1,20 @@
-//! The calls by their names: what is not among the calls of one list is looked up in the next.
+//! The calls by their names: those of the crate that a row names, if it does; what is not among the calls of one list is
+//! looked up in the next.
 use crate::{builtins, conditions, features, mappers, maps, paths, program};
 use wesl_row::{Answer, Row, text_value};
 
-/// What the call of a row answers.
+/// What the call of a row answers: a call of the crate that its key `of` names, or else of this one.
 pub fn answered(row: Row<'_>) -> Answer {
+    match row.text("of") {
+        "trees" => wesl_tree_rows::answered(row),
+        "links" => wesl_link_rows::answered(row),
+        "faults" => wesl_faults::answered(row),
+        _ => of_programs(row),
+    }
+}
+
+/// Calls of the program and of names that are built in.
+fn of_programs(row: Row<'_>) -> Answer {
     match row.text("call") {
         "wesl::run" => program::ran(row),
         "wesl::run on each beginning" => program::refused_beginnings(row),

@@ -1,6 +1,6 @@
-//! Rows of whole bundles, conditions, paths, source maps and built-in names as data. Each line of standard input is a JSON
-//! object that names a row and a public call, and holds the call's inputs; the line that is written for it holds what the
-//! call answers. The last line is their count.
+//! Rows as data: of whole bundles, conditions, paths, source maps and built-in names, and those of `wesl_link_rows` and
+//! `wesl_tree_rows`. Each line of standard input is a JSON object that names a row and a public call, and holds the call's
+//! inputs; the line that is written for it holds what the call answers. The last line is their count.
 #![tactic(auto)]
 
 mod builtins;

@@ -4,7 +4,7 @@ ghost use Rattle.std.specs.List.{Contains};
 ghost use Rattle.wesl_names.specs.declared.errors.Error as error;
 ghost use Rattle.wesl_syntax.specs.Unit.{numbers, spelled};
 ghost use Rattle.wesl_occurrences.specs.Occurrences.{occurrences};
-ghost use Rattle.wesl_renumber.specs.Renumbered.{HasSameNodes};
+ghost use Rattle.wesl_renumber.specs.Nodes.{HasSameNodes};
 ghost use Rattle.wesl_scope.specs.EntryPoints.{entry_points_of};
 ghost use Rattle.wesl_syntax.specs.Numbers.{AreNumbers};
 ghost use Rattle.wesl_meanings.specs.Scopes.{keys};

@@ -24,8 +24,8 @@ fn of_copies(row: Row<'_>, call: &str) -> Answer {
         "TranslationUnit::same_spelling" => copies::same_spelling(row),
         "== of the lists of units" => copies::lists_compared(row),
         "TranslationUnit::try_clone" => copies::unit_copied(row),
-        "copy_attributes and copy_statements" => copies::lists_copied(row),
-        "copy_expressions" => copies::arguments_copied(row),
+        "Copying::attributes and Copying::statements" => copies::lists_copied(row),
+        "Copying::nodes" => copies::arguments_copied(row),
         "Visit::visit" | "Visit::visit_rec" | "Visit::rewrite" | "Visit::rewrite_rec" => {
             visits::answered(row, call)
         }

@@ -3,7 +3,7 @@ use crate::units::numbered;
 use serde_json::Value;
 use std::alloc::Global;
 use wesl_clone::TryClone;
-use wesl_copies::{copy_attributes, copy_expressions, copy_statements};
+use wesl_copies::Copying;
 use wesl_row::{Answer, Object, Row};
 use wesl_tree::{Error, Expression, Function, GlobalDeclaration, TranslationUnit};
 
@@ -54,8 +54,9 @@ pub fn unit_copied(row: Row<'_>) -> Answer {
 
 /// Whether copies of a function's attributes and statements are equal to them.
 fn has_equal_copies(alloc: Global, function: &Function) -> Result<bool, Error> {
-    let attributes = copy_attributes(alloc, &function.attributes)?;
-    let statements = copy_statements(alloc, &function.body.statements)?;
+    let mut copying = Copying::of(alloc);
+    let attributes = copying.attributes(&function.attributes)?;
+    let statements = copying.statements(&function.body.statements)?;
     Ok(attributes == function.attributes && statements == function.body.statements)
 }
 
@@ -80,7 +81,7 @@ fn has_equal_arguments(alloc: Global, declaration: &GlobalDeclaration) -> Result
     };
     match &assertion.expression.node {
         Expression::FunctionCall(call) => {
-            Ok(copy_expressions(alloc, &call.arguments)? == call.arguments)
+            Ok(Copying::of(alloc).nodes(&call.arguments)? == call.arguments)
         }
         _ => Ok(false),
     }

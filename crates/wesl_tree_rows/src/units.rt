@@ -1,8 +1,8 @@
 //! Units: their JSON form, their texts and their parts.
 use serde_json::Value;
 use std::alloc::Global;
+use wesl_copies::Copying;
 use wesl_json::{JsonText, unit_of_value, value_of_unit};
-use wesl_renumber::Renumbering;
 use wesl_resolve::UnitText;
 use wesl_row::{Answer, Object, Row, names_value, of_diagnostic, of_error};
 use wesl_tree::{GlobalDirective, Names, Span, Spanned, TranslationUnit};
@@ -141,13 +141,13 @@ fn renumbered(
     unit: &TranslationUnit,
 ) -> Result<Option<TranslationUnit>, anyhow::Error> {
     let given = row.numbers("numbers")?;
-    let mut renumbering = Renumbering {
+    let mut copying = Copying {
         alloc: row.alloc,
         rest: given.as_slice(),
     };
-    let imports = renumbering.imports(unit.imports())?;
-    let directives = renumbering.directives(unit.global_directives())?;
-    let declarations = renumbering.globals(unit.global_declarations())?;
+    let imports = copying.imports(unit.imports())?;
+    let directives = copying.directives(unit.global_directives())?;
+    let declarations = copying.globals(unit.global_declarations())?;
     Ok(TranslationUnit::from_parts(names_of(row)?, imports, directives, declarations))
 }
 

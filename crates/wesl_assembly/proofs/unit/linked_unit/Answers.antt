@@ -5,9 +5,10 @@ use Rattle.wesl_assembly.specs.Denotations.{free_name, printed_as}
 use Rattle.wesl_assembly.specs.Linked.{nodes_of}
 use Rattle.wesl_assembly.specs.Pathless.{without_paths}
 use Rattle.wesl_assembly.specs.Views.{Meaning, denotation_view}
-use Rattle.wesl_renumber.specs.Renumbered.{renumbered}
+use Rattle.wesl_copies.specs.Renumbered.{renumbered}
 use Rattle.wesl_syntax.specs.Unit.{forest_of_unit}
 use Rattle.wesl_names.specs.Path.{Text}
+use Rattle.wesl_assembly.proofs.Renumbered.{nodes_leafy}
 use Rattle.wesl_assembly.proofs.Whole.{linked_as, same_length}
 use Rattle.wesl_assembly.proofs.unit.linked_unit.Goals as goal
 
@@ -16,7 +17,7 @@ returns-clause-linked g c =
     let print : Meaning → Text = printed_as (g.P.Printing.printed c.args.printing.now) in
     let ds = c.args.denotations.now in
     let nodes = nodes_of c.args.directives.now c.args.declarations.now in
-    linked_as print (free_name []) refl nodes (map denotation_view c.in_ok-given.different.keys) (map denotation_view ds) c.in_ok-given.given.items (unit_view c.drop_paths.new.unit)
+    linked_as print (free_name []) refl nodes (map denotation_view c.in_ok-given.different.keys) (map denotation_view ds) c.in_ok-given.given.items (unit_view c.drop_paths.new.unit) (nodes_leafy c.args.directives.now c.args.declarations.now)
     c.in_ok-given.ensures.numbers c.in_ok-given.ensures.leads c.in_ok-given.ensures.used (same_length denotation_view ds ∙ c.requires.one_each)
     (c.in_ok-drop_paths.ensures.names ∙ (c.in_ok-unit.ensures.names ∙ (c.in_ok-names.ensures.names ∙ ap (λ ks. map print (map denotation_view ks)) c.as_slice.ensures.keys)))
     (c.in_ok-drop_paths.ensures.pathless ∙ (ap without_paths c.in_ok-unit.ensures.trees ∙ ap (λ ns. without_paths (renumbered (forest_of_unit nodes) ns)) c.deref.ensures.value))

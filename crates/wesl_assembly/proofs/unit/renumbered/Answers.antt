@@ -4,6 +4,7 @@ use Rattle.wesl_syntax.specs.Unit.{forest_of_unit, trees_of}
 use Rattle.wesl_syntax.specs.View.{imports_tree, directives_tree, declarations_tree, placed, import_view}
 use Rattle.wesl_tree.specs.Parts.{parts_view}
 use Rattle.wesl_assembly.specs.Linked.{nodes_of}
+use Rattle.wesl_assembly.proofs.Renumbered.{nodes_leafy}
 use Rattle.wesl_assembly.proofs.Whole.{made, all_named, some_if, some_of}
 use Rattle.wesl_assembly.proofs.unit.renumbered.Goals as goal
 
@@ -13,7 +14,7 @@ unwrap-requires c =
     let none : imports_tree c.new-imports.result ≡ branch imports_kind [] = ap (λ xs. branch imports_kind (map (placed import_view import_node) xs)) c.new-imports.ensures.items in
     let f = made c.args.names c.args.given.now c.copied_directives.new.renumbering.rest.now (nodes_of c.args.directives.now c.args.declarations.now).directives (nodes_of c.args.directives.now c.args.declarations.now).declarations (imports_tree c.new-imports.result) (directives_tree c.in_ok-directives.directives) (declarations_tree c.in_ok-declarations.declarations)
     none c.in_ok-directives.ensures.tree c.in_ok-directives.ensures.rest c.in_ok-declarations.ensures.tree in
-    some_if c.from_parts.result _ _ c.from_parts.ensures (all_named c.args.names c.args.given.now (nodes_of c.args.directives.now c.args.declarations.now) w refl f c.requires.one_each c.requires.below)
+    some_if c.from_parts.result _ _ c.from_parts.ensures (all_named c.args.names c.args.given.now (nodes_of c.args.directives.now c.args.declarations.now) w (nodes_leafy c.args.directives.now c.args.declarations.now) refl f c.requires.one_each c.requires.below)
 
 pub returns-clause-names : goal.returns-clause-names
 returns-clause-names c = ap (λ v. v.names) (some_of c.from_parts.result c.unwrap.result _ _ c.unwrap.ensures c.from_parts.ensures).0

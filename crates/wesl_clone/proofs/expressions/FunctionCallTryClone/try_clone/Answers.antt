@@ -1,5 +1,6 @@
-use Rattle.std.proofs.Common.{rules}
+use Rattle.wesl_syntax.specs.View.{call_view}
+use Rattle.wesl_copies.proofs.Kept.{equal_copies}
 use Rattle.wesl_clone.proofs.expressions.FunctionCallTryClone.try_clone.Goals as goal
 
 pub returns-clause-equal : goal.returns-clause-equal
-returns-clause-equal c = search rules
+returns-clause-equal c = equal_copies call_view (call_view c.args.self.now) c.of.result.rest.now c.call.result c.of.ensures.keeps c.call.ensures.tree

@@ -1,5 +1,6 @@
-use Rattle.std.proofs.Common.{rules}
+use Rattle.wesl_syntax.specs.View.{selector_view}
+use Rattle.wesl_copies.proofs.Kept.{equal_copies}
 use Rattle.wesl_clone.proofs.statements.CaseSelectorTryClone.try_clone.Goals as goal
 
 pub returns-clause-equal : goal.returns-clause-equal
-returns-clause-equal c = search rules
+returns-clause-equal c = equal_copies selector_view (selector_view c.args.self.now) c.of.result.rest.now c.selector.result c.of.ensures.keeps c.selector.ensures.tree

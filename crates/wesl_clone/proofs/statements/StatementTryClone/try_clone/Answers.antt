@@ -1,5 +1,6 @@
-use Rattle.std.proofs.Common.{rules}
+use Rattle.wesl_syntax.specs.View.{statement_view}
+use Rattle.wesl_copies.proofs.Kept.{equal_copies}
 use Rattle.wesl_clone.proofs.statements.StatementTryClone.try_clone.Goals as goal
 
 pub returns-clause-equal : goal.returns-clause-equal
-returns-clause-equal c = search rules
+returns-clause-equal c = equal_copies statement_view (statement_view c.args.self.now) c.of.result.rest.now c.statement.result c.of.ensures.keeps c.statement.ensures.tree

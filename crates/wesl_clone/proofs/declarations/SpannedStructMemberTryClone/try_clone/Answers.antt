@@ -1,0 +1,7 @@
+use Rattle.wesl_syntax.specs.Tree.{member_node}
+use Rattle.wesl_syntax.specs.View.{placed, member_view}
+use Rattle.wesl_copies.proofs.Kept.{equal_copies}
+use Rattle.wesl_clone.proofs.declarations.SpannedStructMemberTryClone.try_clone.Goals as goal
+
+pub returns-clause-equal : goal.returns-clause-equal
+returns-clause-equal c = equal_copies (placed member_view member_node) (placed member_view member_node c.args.self.now) c.of.result.rest.now c.member_node.result c.of.ensures.keeps c.member_node.ensures.tree

@@ -1,0 +1,8 @@
+mod OfDeclarations
+mod OfImports
+mod OfSelectors
+mod OfStatementLayers
+mod OfStatementCases
+mod OfStatementSteps
+mod OfStatements
+mod OfFunctions

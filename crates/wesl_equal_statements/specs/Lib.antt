@@ -1,0 +1,1 @@
+pub use Rattle.wesl_equal.specs.Numbered
