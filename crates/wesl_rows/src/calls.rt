@@ -1,6 +1,7 @@
 //! The calls by their names: those of the crate that a row names, if it does; what is not among the calls of one list is
 //! looked up in the next.
 use crate::{builtins, conditions, features, mappers, maps, paths, program};
+use serde_json::Value;
 use wesl_row::{Answer, Row, text_value};
 
 /// What the call of a row answers: a call of the crate that its key `of` names, or else of this one.
@@ -9,8 +10,14 @@ pub fn answered(row: Row<'_>) -> Answer {
         "trees" => wesl_tree_rows::answered(row),
         "links" => wesl_link_rows::answered(row),
         "faults" => wesl_faults::answered(row),
+        "example" => example(row),
         _ => of_programs(row),
     }
+}
+
+/// What the caller of the linker tells of the `text`.
+fn example(row: Row<'_>) -> Answer {
+    Ok(Value::String(wesl_example::told(row.alloc, row.text("text"))?))
 }
 
 /// Calls of the program and of names that are built in.

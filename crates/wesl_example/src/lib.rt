@@ -1,12 +1,11 @@
-//! A caller of the linker: it links modules that it holds itself, and prints the linked unit as JSON.
+//! A caller of the linker: it links modules that it holds itself, and answers the linked unit as JSON.
 //!
-//! Standard input is a JSON object with a tree for the text of each module's path. The root is `package::main`, and `main`
-//! is kept of it.
+//! Its input is the text of a JSON object with a tree for the text of each module's path. The root is `package::main`, and
+//! `main` is kept of it.
 #![tactic(auto)]
 
 use serde_json::Value;
 use std::alloc::Global;
-use std::io;
 use wesl_clash::names_clash;
 use wesl_cond::{Feature, Features};
 use wesl_conditional::link_under;
@@ -96,16 +95,18 @@ fn linked(alloc: Global, modules: Trees) -> Result<TranslationUnit, Diagnostic> 
     Ok(found.assemble(alloc, true)?)
 }
 
-fn main(rt: HostRuntime) -> Result<(), anyhow::Error> {
-    let alloc = rt.alloc();
-    let text = io::read_to_string(alloc, rt.stdin())?;
-    let trees = Value::from_str(alloc, text.as_str())?;
+/// The linked unit as a line, and whether its names clash as another.
+fn lines(alloc: Global, unit: &TranslationUnit) -> Result<String, anyhow::Error> {
+    let clash = names_clash(alloc, unit)?;
+    let line = value_of_unit(alloc, unit)?.to_string(alloc)?;
+    Ok(format!(in alloc; "{line}\nnames clash: {clash}")?)
+}
+
+/// What is told of the modules of a text: the lines of the linked unit, or its refusal.
+pub fn told(alloc: Global, text: &str) -> Result<String, anyhow::Error> {
+    let trees = Value::from_str(alloc, text)?;
     match linked(alloc, Trees { trees }) {
-        Ok(unit) => {
-            println!(rt; "{}", value_of_unit(alloc, &unit)?.to_string(alloc)?)?;
-            println!(rt; "names clash: {}", names_clash(alloc, &unit)?)?;
-        }
-        Err(refusal) => println!(rt; "refused: {refusal}")?,
+        Ok(unit) => lines(alloc, &unit),
+        Err(refusal) => Ok(format!(in alloc; "refused: {refusal}")?),
     }
-    Ok(())
 }
