@@ -12,4 +12,3 @@ pub mod SideBySide
 mod Thinned
 mod Words
 mod OneMore
-mod Copied

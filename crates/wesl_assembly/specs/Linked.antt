@@ -18,12 +18,19 @@ directive_ref_tree d = placed directive_view directive_node d.now
 abbrev pub declaration_ref_tree : Bor (Spanned GlobalDeclaration) → Tree
 declaration_ref_tree g = placed global_view declaration_node g.now
 
+-- the trees of such lists
+abbrev pub directive_refs_tree : List (Bor (Spanned GlobalDirective)) → Tree
+directive_refs_tree ds = branch directive_list (map directive_ref_tree ds)
+
+abbrev pub declaration_refs_tree : List (Bor (Spanned GlobalDeclaration)) → Tree
+declaration_refs_tree gs = branch declarations_kind (map declaration_ref_tree gs)
+
 -- directives and declarations, and no imports
 abbrev pub nodes_of : List (Bor (Spanned GlobalDirective)) → List (Bor (Spanned GlobalDeclaration)) → UnitOf ℕ
 nodes_of ds gs = record {
   imports = branch imports_kind [];
-  directives = branch directive_list (map directive_ref_tree ds);
-  declarations = branch declarations_kind (map declaration_ref_tree gs);
+  directives = directive_refs_tree ds;
+  declarations = declaration_refs_tree gs;
 }
 
 -- all but which identifiers trees have, and spans

@@ -46,7 +46,9 @@ fn copied(alloc: Global, directive: &GlobalDirectiveNode) -> Result<GlobalDirect
     ensures equal { IfOk result (λ copy. placed directive_view directive_node copy ≡ placed directive_view directive_node directive.now) }
     ensures refused { IfErr result (λ e. e ≡ error.Memory) }
 {
-    Copying::of(alloc).directive_node(directive)
+    let mut copying = Copying::of(alloc);
+    let copy = copying.directive_node(directive);
+    copying.end(copy)
 }
 
 /// Whether two directives are one as they are spelled.

@@ -1,14 +1,15 @@
 //! The unit of nodes whose identifiers stand for something.
-ghost use Rattle.std.specs.Prelude.{◌≡◌, ◌<◌, length, map, IfOk, IfErr, OnOk};
+ghost use Rattle.std.specs.Prelude.{◌≡◌, ◌<◌, length, map, IfOk, IfErr};
 ghost use Rattle.std.specs.List.{All};
 ghost use Rattle.wesl_names.specs.declared.errors.Error as error;
-ghost use Rattle.wesl_syntax.specs.Tree.{branch, directive_list, declarations as declarations_kind, identifiers};
+ghost use Rattle.wesl_syntax.specs.Tree.{identifiers};
 ghost use Rattle.wesl_syntax.specs.Unit.{forest_of_unit, trees_of};
 ghost use Rattle.wesl_syntax.specs.View.{directives_tree, declarations_tree};
 ghost use Rattle.wesl_tree.specs.Translation.{unit_view};
+ghost use Rattle.wesl_copies.specs.Copied.{Copied};
 ghost use Rattle.wesl_copies.specs.Renumbered as numbered;
 ghost use Rattle.wesl_assembly.specs.Denotations.{printed_as};
-ghost use Rattle.wesl_assembly.specs.Linked.{directive_ref_tree, declaration_ref_tree, nodes_of, IsLinkedAs};
+ghost use Rattle.wesl_assembly.specs.Linked.{directive_refs_tree, declaration_refs_tree, nodes_of, IsLinkedAs};
 ghost use Rattle.wesl_assembly.specs.Views.{denotation_view};
 
 use crate::denotation::{Denotation, Printing};
@@ -21,34 +22,32 @@ use wesl_tree::{Error, Names, TranslationUnit};
 
 /// Copies of directives, whose identifiers take the next numbers.
 fn copied_directives(
-    renumbering: &mut Copying<'_>,
+    copying: &mut Copying<'_>,
     directives: &[&GlobalDirectiveNode],
-) -> Result<Vec<GlobalDirectiveNode>, Error>
-    ensures tree { IfOk result (λ copies. directives_tree copies ≡ numbered.renumbered_tree (branch directive_list (map directive_ref_tree directives.now)) renumbering.old.rest.now) }
-    ensures rest { OnOk result (renumbering.new.rest.now ≡ numbered.after_tree (branch directive_list (map directive_ref_tree directives.now)) renumbering.old.rest.now) }
-    ensures refused { IfErr result (λ e. e ≡ error.Memory) }
+) -> Vec<GlobalDirectiveNode>
+    ensures { Copied copying.old copying.new (directive_refs_tree directives.now) (directives_tree result) }
 {
-    let mut copies = Vec::with_capacity(renumbering.alloc, directives.len())?;
+    let mut copies = copying.list(directives.len());
     for directive in directives {
-        copies.push(renumbering.directive_node(directive)?)?;
+        let copy = copying.directive_node(directive);
+        copying.push(&mut copies, copy);
     }
-    Ok(copies)
+    copies
 }
 
 /// Copies of declarations, whose identifiers take the next numbers.
 fn copied_declarations(
-    renumbering: &mut Copying<'_>,
+    copying: &mut Copying<'_>,
     declarations: &[&GlobalDeclarationNode],
-) -> Result<Vec<GlobalDeclarationNode>, Error>
-    ensures tree { IfOk result (λ copies. declarations_tree copies ≡ numbered.renumbered_tree (branch declarations_kind (map declaration_ref_tree declarations.now)) renumbering.old.rest.now) }
-    ensures rest { OnOk result (renumbering.new.rest.now ≡ numbered.after_tree (branch declarations_kind (map declaration_ref_tree declarations.now)) renumbering.old.rest.now) }
-    ensures refused { IfErr result (λ e. e ≡ error.Memory) }
+) -> Vec<GlobalDeclarationNode>
+    ensures { Copied copying.old copying.new (declaration_refs_tree declarations.now) (declarations_tree result) }
 {
-    let mut copies = Vec::with_capacity(renumbering.alloc, declarations.len())?;
+    let mut copies = copying.list(declarations.len());
     for declaration in declarations {
-        copies.push(renumbering.global_node(declaration)?)?;
+        let copy = copying.global_node(declaration);
+        copying.push(&mut copies, copy);
     }
-    Ok(copies)
+    copies
 }
 
 /// The unit of copies of these nodes, without imports, whose identifiers have these numbers.
@@ -65,9 +64,14 @@ fn renumbered(
     ensures trees { IfOk result (λ unit. forest_of_unit (trees_of (unit_view unit)) ≡ numbered.renumbered (forest_of_unit (nodes_of directives.now declarations.now)) given.now) }
     ensures refused { IfErr result (λ e. e ≡ error.Memory) }
 {
-    let mut renumbering = Copying { alloc, rest: given };
-    let directives = copied_directives(&mut renumbering, directives)?;
-    let declarations = copied_declarations(&mut renumbering, declarations)?;
+    let mut copying = Copying {
+        alloc,
+        rest: given,
+        is_refused: false,
+    };
+    let directives = copied_directives(&mut copying, directives);
+    let declarations = copied_declarations(&mut copying, declarations);
+    let (directives, declarations) = copying.end((directives, declarations))?;
     let imports = Vec::new(alloc);
     Ok(TranslationUnit::from_parts(names, imports, directives, declarations).unwrap())
 }

@@ -15,7 +15,9 @@ impl TryClone for Attribute {
         ensures equal { IfOk result (λ copy. attribute_view copy ≡ attribute_view self.now) }
         ensures refused { IfErr result (λ e. e ≡ error.Memory) }
     {
-        Copying::of(alloc).attribute(self)
+        let mut copying = Copying::of(alloc);
+        let copy = copying.attribute(self);
+        copying.end(copy)
     }
 }
 
@@ -24,6 +26,8 @@ impl TryClone for Spanned<Attribute> {
         ensures equal { IfOk result (λ copy. placed attribute_view attribute_node copy ≡ placed attribute_view attribute_node self.now) }
         ensures refused { IfErr result (λ e. e ≡ error.Memory) }
     {
-        Copying::of(alloc).attribute_node(self)
+        let mut copying = Copying::of(alloc);
+        let copy = copying.attribute_node(self);
+        copying.end(copy)
     }
 }

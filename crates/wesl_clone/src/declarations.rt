@@ -18,7 +18,9 @@ impl TryClone for GlobalDirective {
         ensures equal { IfOk result (λ copy. directive_view copy ≡ directive_view self.now) }
         ensures refused { IfErr result (λ e. e ≡ error.Memory) }
     {
-        Copying::of(alloc).directive(self)
+        let mut copying = Copying::of(alloc);
+        let copy = copying.directive(self);
+        copying.end(copy)
     }
 }
 
@@ -27,7 +29,9 @@ impl TryClone for Spanned<GlobalDirective> {
         ensures equal { IfOk result (λ copy. placed directive_view directive_node copy ≡ placed directive_view directive_node self.now) }
         ensures refused { IfErr result (λ e. e ≡ error.Memory) }
     {
-        Copying::of(alloc).directive_node(self)
+        let mut copying = Copying::of(alloc);
+        let copy = copying.directive_node(self);
+        copying.end(copy)
     }
 }
 
@@ -36,7 +40,9 @@ impl TryClone for Declaration {
         ensures equal { IfOk result (λ copy. declaration_view copy ≡ declaration_view self.now) }
         ensures refused { IfErr result (λ e. e ≡ error.Memory) }
     {
-        Copying::of(alloc).declaration(self)
+        let mut copying = Copying::of(alloc);
+        let copy = copying.declaration(self);
+        copying.end(copy)
     }
 }
 
@@ -45,7 +51,9 @@ impl TryClone for TypeAlias {
         ensures equal { IfOk result (λ copy. alias_view copy ≡ alias_view self.now) }
         ensures refused { IfErr result (λ e. e ≡ error.Memory) }
     {
-        Copying::of(alloc).alias(self)
+        let mut copying = Copying::of(alloc);
+        let copy = copying.alias(self);
+        copying.end(copy)
     }
 }
 
@@ -54,7 +62,9 @@ impl TryClone for StructMember {
         ensures equal { IfOk result (λ copy. member_view copy ≡ member_view self.now) }
         ensures refused { IfErr result (λ e. e ≡ error.Memory) }
     {
-        Copying::of(alloc).member(self)
+        let mut copying = Copying::of(alloc);
+        let copy = copying.member(self);
+        copying.end(copy)
     }
 }
 
@@ -63,7 +73,9 @@ impl TryClone for Spanned<StructMember> {
         ensures equal { IfOk result (λ copy. placed member_view member_node copy ≡ placed member_view member_node self.now) }
         ensures refused { IfErr result (λ e. e ≡ error.Memory) }
     {
-        Copying::of(alloc).member_node(self)
+        let mut copying = Copying::of(alloc);
+        let copy = copying.member_node(self);
+        copying.end(copy)
     }
 }
 
@@ -72,7 +84,9 @@ impl TryClone for Struct {
         ensures equal { IfOk result (λ copy. struct_view copy ≡ struct_view self.now) }
         ensures refused { IfErr result (λ e. e ≡ error.Memory) }
     {
-        Copying::of(alloc).structure(self)
+        let mut copying = Copying::of(alloc);
+        let copy = copying.structure(self);
+        copying.end(copy)
     }
 }
 
@@ -81,7 +95,9 @@ impl TryClone for FormalParameter {
         ensures equal { IfOk result (λ copy. parameter_view copy ≡ parameter_view self.now) }
         ensures refused { IfErr result (λ e. e ≡ error.Memory) }
     {
-        Copying::of(alloc).parameter(self)
+        let mut copying = Copying::of(alloc);
+        let copy = copying.parameter(self);
+        copying.end(copy)
     }
 }
 
@@ -90,7 +106,9 @@ impl TryClone for Function {
         ensures equal { IfOk result (λ copy. function_view copy ≡ function_view self.now) }
         ensures refused { IfErr result (λ e. e ≡ error.Memory) }
     {
-        Copying::of(alloc).function(self)
+        let mut copying = Copying::of(alloc);
+        let copy = copying.function(self);
+        copying.end(copy)
     }
 }
 
@@ -99,7 +117,9 @@ impl TryClone for ConstAssert {
         ensures equal { IfOk result (λ copy. assert_view copy ≡ assert_view self.now) }
         ensures refused { IfErr result (λ e. e ≡ error.Memory) }
     {
-        Copying::of(alloc).assertion(self)
+        let mut copying = Copying::of(alloc);
+        let copy = copying.assertion(self);
+        copying.end(copy)
     }
 }
 
@@ -108,7 +128,9 @@ impl TryClone for GlobalDeclaration {
         ensures equal { IfOk result (λ copy. global_view copy ≡ global_view self.now) }
         ensures refused { IfErr result (λ e. e ≡ error.Memory) }
     {
-        Copying::of(alloc).global(self)
+        let mut copying = Copying::of(alloc);
+        let copy = copying.global(self);
+        copying.end(copy)
     }
 }
 
@@ -117,6 +139,8 @@ impl TryClone for Spanned<GlobalDeclaration> {
         ensures equal { IfOk result (λ copy. placed global_view declaration_node copy ≡ placed global_view declaration_node self.now) }
         ensures refused { IfErr result (λ e. e ≡ error.Memory) }
     {
-        Copying::of(alloc).global_node(self)
+        let mut copying = Copying::of(alloc);
+        let copy = copying.global_node(self);
+        copying.end(copy)
     }
 }

@@ -5,7 +5,7 @@ ghost use Rattle.wesl_syntax.specs.View.{argument_view, call_view, expression_tr
 
 use crate::TryClone;
 use std::alloc::Global;
-use wesl_copies::{Copying, copy_literal};
+use wesl_copies::Copying;
 use wesl_names::Error;
 use wesl_syntax::{Expression, FunctionCall, Literal, Spanned, TemplateArg, TypeExpression};
 
@@ -14,7 +14,9 @@ impl TryClone for Literal {
         ensures equal { IfOk result (λ copy. literal_tree copy ≡ literal_tree self.now) }
         ensures refused { IfErr result (λ e. e ≡ error.Memory) }
     {
-        copy_literal(alloc, self)
+        let mut copying = Copying::of(alloc);
+        let copy = copying.literal(self);
+        copying.end(copy)
     }
 }
 
@@ -23,7 +25,9 @@ impl TryClone for Expression {
         ensures equal { IfOk result (λ copy. expression_view copy ≡ expression_view self.now) }
         ensures refused { IfErr result (λ e. e ≡ error.Memory) }
     {
-        Copying::of(alloc).expression(self)
+        let mut copying = Copying::of(alloc);
+        let copy = copying.expression(self);
+        copying.end(copy)
     }
 }
 
@@ -32,7 +36,9 @@ impl TryClone for Spanned<Expression> {
         ensures equal { IfOk result (λ copy. expression_tree copy ≡ expression_tree self.now) }
         ensures refused { IfErr result (λ e. e ≡ error.Memory) }
     {
-        Copying::of(alloc).node(self)
+        let mut copying = Copying::of(alloc);
+        let copy = copying.node(self);
+        copying.end(copy)
     }
 }
 
@@ -41,7 +47,9 @@ impl TryClone for FunctionCall {
         ensures equal { IfOk result (λ copy. call_view copy ≡ call_view self.now) }
         ensures refused { IfErr result (λ e. e ≡ error.Memory) }
     {
-        Copying::of(alloc).call(self)
+        let mut copying = Copying::of(alloc);
+        let copy = copying.call(self);
+        copying.end(copy)
     }
 }
 
@@ -50,7 +58,9 @@ impl TryClone for TypeExpression {
         ensures equal { IfOk result (λ copy. type_view copy ≡ type_view self.now) }
         ensures refused { IfErr result (λ e. e ≡ error.Memory) }
     {
-        Copying::of(alloc).type_expression(self)
+        let mut copying = Copying::of(alloc);
+        let copy = copying.type_expression(self);
+        copying.end(copy)
     }
 }
 
@@ -59,6 +69,8 @@ impl TryClone for TemplateArg {
         ensures equal { IfOk result (λ copy. argument_view copy ≡ argument_view self.now) }
         ensures refused { IfErr result (λ e. e ≡ error.Memory) }
     {
-        Copying::of(alloc).argument(self)
+        let mut copying = Copying::of(alloc);
+        let copy = copying.argument(self);
+        copying.end(copy)
     }
 }

@@ -15,7 +15,9 @@ impl TryClone for ImportStatement {
         ensures equal { IfOk result (λ copy. import_view copy ≡ import_view self.now) }
         ensures refused { IfErr result (λ e. e ≡ error.Memory) }
     {
-        Copying::of(alloc).import(self)
+        let mut copying = Copying::of(alloc);
+        let copy = copying.import(self);
+        copying.end(copy)
     }
 }
 
@@ -24,7 +26,9 @@ impl TryClone for Spanned<ImportStatement> {
         ensures equal { IfOk result (λ copy. placed import_view import_node copy ≡ placed import_view import_node self.now) }
         ensures refused { IfErr result (λ e. e ≡ error.Memory) }
     {
-        Copying::of(alloc).import_node(self)
+        let mut copying = Copying::of(alloc);
+        let copy = copying.import_node(self);
+        copying.end(copy)
     }
 }
 
@@ -33,7 +37,9 @@ impl TryClone for ImportItem {
         ensures equal { IfOk result (λ copy. item_view copy ≡ item_view self.now) }
         ensures refused { IfErr result (λ e. e ≡ error.Memory) }
     {
-        Copying::of(alloc).item(self)
+        let mut copying = Copying::of(alloc);
+        let copy = copying.item(self);
+        copying.end(copy)
     }
 }
 
@@ -42,7 +48,9 @@ impl TryClone for ImportContent {
         ensures equal { IfOk result (λ copy. content_view copy ≡ content_view self.now) }
         ensures refused { IfErr result (λ e. e ≡ error.Memory) }
     {
-        Copying::of(alloc).content(self)
+        let mut copying = Copying::of(alloc);
+        let copy = copying.content(self);
+        copying.end(copy)
     }
 }
 
@@ -51,6 +59,8 @@ impl TryClone for Import {
         ensures equal { IfOk result (λ copy. entry_view copy ≡ entry_view self.now) }
         ensures refused { IfErr result (λ e. e ≡ error.Memory) }
     {
-        Copying::of(alloc).entry(self)
+        let mut copying = Copying::of(alloc);
+        let copy = copying.entry(self);
+        copying.end(copy)
     }
 }

@@ -17,7 +17,9 @@ impl TryClone for Statement {
         ensures equal { IfOk result (λ copy. statement_view copy ≡ statement_view self.now) }
         ensures refused { IfErr result (λ e. e ≡ error.Memory) }
     {
-        Copying::of(alloc).statement(self)
+        let mut copying = Copying::of(alloc);
+        let copy = copying.statement(self);
+        copying.end(copy)
     }
 }
 
@@ -26,7 +28,9 @@ impl TryClone for Spanned<Statement> {
         ensures equal { IfOk result (λ copy. statement_tree copy ≡ statement_tree self.now) }
         ensures refused { IfErr result (λ e. e ≡ error.Memory) }
     {
-        Copying::of(alloc).statement_node(self)
+        let mut copying = Copying::of(alloc);
+        let copy = copying.statement_node(self);
+        copying.end(copy)
     }
 }
 
@@ -35,7 +39,9 @@ impl TryClone for CompoundStatement {
         ensures equal { IfOk result (λ copy. compound_view copy ≡ compound_view self.now) }
         ensures refused { IfErr result (λ e. e ≡ error.Memory) }
     {
-        Copying::of(alloc).compound(self)
+        let mut copying = Copying::of(alloc);
+        let copy = copying.compound(self);
+        copying.end(copy)
     }
 }
 
@@ -44,7 +50,9 @@ impl TryClone for IfClause {
         ensures equal { IfOk result (λ copy. if_view copy ≡ if_view self.now) }
         ensures refused { IfErr result (λ e. e ≡ error.Memory) }
     {
-        Copying::of(alloc).if_clause(self)
+        let mut copying = Copying::of(alloc);
+        let copy = copying.if_clause(self);
+        copying.end(copy)
     }
 }
 
@@ -53,7 +61,9 @@ impl TryClone for ElseIfClause {
         ensures equal { IfOk result (λ copy. else_if_view copy ≡ else_if_view self.now) }
         ensures refused { IfErr result (λ e. e ≡ error.Memory) }
     {
-        Copying::of(alloc).else_if_clause(self)
+        let mut copying = Copying::of(alloc);
+        let copy = copying.else_if_clause(self);
+        copying.end(copy)
     }
 }
 
@@ -62,7 +72,9 @@ impl TryClone for ElseClause {
         ensures equal { IfOk result (λ copy. else_view copy ≡ else_view self.now) }
         ensures refused { IfErr result (λ e. e ≡ error.Memory) }
     {
-        Copying::of(alloc).else_clause(self)
+        let mut copying = Copying::of(alloc);
+        let copy = copying.else_clause(self);
+        copying.end(copy)
     }
 }
 
@@ -71,7 +83,9 @@ impl TryClone for CaseSelector {
         ensures equal { IfOk result (λ copy. selector_view copy ≡ selector_view self.now) }
         ensures refused { IfErr result (λ e. e ≡ error.Memory) }
     {
-        Copying::of(alloc).selector(self)
+        let mut copying = Copying::of(alloc);
+        let copy = copying.selector(self);
+        copying.end(copy)
     }
 }
 
@@ -80,7 +94,9 @@ impl TryClone for SwitchClause {
         ensures equal { IfOk result (λ copy. clause_view copy ≡ clause_view self.now) }
         ensures refused { IfErr result (λ e. e ≡ error.Memory) }
     {
-        Copying::of(alloc).clause(self)
+        let mut copying = Copying::of(alloc);
+        let copy = copying.clause(self);
+        copying.end(copy)
     }
 }
 
@@ -89,7 +105,9 @@ impl TryClone for ContinuingStatement {
         ensures equal { IfOk result (λ copy. continuing_view copy ≡ continuing_view self.now) }
         ensures refused { IfErr result (λ e. e ≡ error.Memory) }
     {
-        Copying::of(alloc).continuing(self)
+        let mut copying = Copying::of(alloc);
+        let copy = copying.continuing(self);
+        copying.end(copy)
     }
 }
 
@@ -98,6 +116,8 @@ impl TryClone for BreakIfStatement {
         ensures equal { IfOk result (λ copy. break_if_view copy ≡ break_if_view self.now) }
         ensures refused { IfErr result (λ e. e ≡ error.Memory) }
     {
-        Copying::of(alloc).break_if(self)
+        let mut copying = Copying::of(alloc);
+        let copy = copying.break_if(self);
+        copying.end(copy)
     }
 }

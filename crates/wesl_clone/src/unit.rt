@@ -15,9 +15,11 @@ impl TryClone for TranslationUnit {
         ensures refused { IfErr result (λ e. e ≡ error.Memory) }
     {
         let names = self.names().try_clone(alloc)?;
-        let imports = Copying::of(alloc).imports(self.imports())?;
-        let directives = Copying::of(alloc).directives(self.global_directives())?;
-        let declarations = Copying::of(alloc).globals(self.global_declarations())?;
+        let mut copying = Copying::of(alloc);
+        let imports = copying.imports(self.imports());
+        let directives = copying.directives(self.global_directives());
+        let declarations = copying.globals(self.global_declarations());
+        let (imports, directives, declarations) = copying.end((imports, directives, declarations))?;
         match TranslationUnit::from_parts(names, imports, directives, declarations) {
             Some(unit) => Ok(unit),
             None => unreachable!(),

@@ -1,6 +1,9 @@
 pub mod Labels
-pub mod Walks
+pub mod Adds
 pub mod Seen
-pub mod Views
+pub mod Expressions
+pub mod Statements
+pub mod Parts
 pub mod Words
 pub mod Joined
+pub mod Ends

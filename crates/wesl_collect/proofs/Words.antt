@@ -1,5 +1,5 @@
 -- What is found in formulas, imports and directives.
-use Rattle.std.proofs.Common.{◌≡◌, Bool, true, false, ◌&&◌, List, [], ◌∷◌, ◌++◌, map, refl, sym, ap, ◌∙◌, subst, Option, None, Some, Vec, Global, if◌then◌else◌}
+use Rattle.std.proofs.Common.{◌≡◌, Bool, true, false, List, [], ◌∷◌, ◌++◌, map, refl, sym, ap, ◌∙◌, Option, None, Some, Vec, Global, if◌then◌else◌}
 use Rattle.wesl_names.specs.declared.path.ModulePath.{ModulePath}
 use Rattle.wesl_syntax.specs.Tree.{Forest, Tree, end, tree, before, forest_of, kind, attributes, attribute_node, if_attribute, elif_attribute}
 use Rattle.wesl_syntax.specs.Nodes.{without_attributes}
@@ -12,41 +12,46 @@ use Rattle.wesl_syntax.specs.declared.expression.Expression.{Expression}
 use Rattle.wesl_syntax.specs.declared.import.ImportStatement.{ImportStatement}
 use Rattle.wesl_syntax.specs.declared.span.Spanned.{Spanned}
 use Rattle.wesl_kinds.specs.Sought.{Sought, expressions, types, statements, attribute_lists}
-use Rattle.wesl_collect.specs.Walk.{chosen, found, itself, passes_words, sight}
-use Rattle.wesl_kinds.specs.Held.{all_of, flat_label, hollow_label, AttributesAreFlat, ContentsAreHollow}
+use Rattle.wesl_collect.specs.Walk.{chosen, found_in, itself, passes_words, sight}
+use Rattle.wesl_kinds.specs.Held.{all_of, flat_label, hollow_label}
+use Rattle.wesl_kinds.proofs.Words.{attribute_flat, content_hollow}
 use Rattle.wesl_collect.proofs.Labels.{no_attributes, no_statements, nothing_in, plain_of, sight_plain, sight_whole, without_none}
+
+-- what is found in a tree, itself too
+abbrev pub found : Sought → Bool → Tree → List Tree
+found k deep t = found_in k deep (before t end)
 
 abbrev flat : Forest → Bool
 flat = all_of flat_label
 
-attributes_flat : AttributesAreFlat → (xs : List (Spanned Attribute)) → flat (forest_of (map (placed attribute_view attribute_node) xs)) ≡ true
-attributes_flat law [] = refl
-attributes_flat law (x ∷ xs) = rw (law x.node, attributes_flat law xs) refl
+attributes_flat : (xs : List (Spanned Attribute)) → flat (forest_of (map (placed attribute_view attribute_node) xs)) ≡ true
+attributes_flat [] = refl
+attributes_flat (x ∷ xs) = rw (attribute_flat x.node, attributes_flat xs) refl
 
 abbrev hollow : Forest → Bool
 hollow = all_of hollow_label
 
-operand_flat : AttributesAreFlat → (e : Spanned Expression) → flat (before (expression_tree e) end) ≡ true
-operand_flat law e = law (attr.If e)
+operand_flat : (e : Spanned Expression) → flat (before (expression_tree e) end) ≡ true
+operand_flat e = attribute_flat (attr.If e)
 
 -- formulas hold expressions and types alone, which are passed over there
-if_found : AttributesAreFlat → (k : Sought) (deep : Bool) (e : Spanned Expression) → found k deep (operand_tree if_attribute e) ≡ []
-if_found law expressions deep e = refl
-if_found law types deep e = refl
-if_found law statements deep e = ap (λ l. l ++ []) (no_statements deep (before (expression_tree e) end) (operand_flat law e))
-if_found law attribute_lists deep e = ap (λ l. l ++ []) (no_attributes deep (before (expression_tree e) end) (operand_flat law e))
+if_found : (k : Sought) (deep : Bool) (e : Spanned Expression) → found k deep (operand_tree if_attribute e) ≡ []
+if_found expressions deep e = refl
+if_found types deep e = refl
+if_found statements deep e = ap (λ l. l ++ []) (no_statements deep (before (expression_tree e) end) (operand_flat e))
+if_found attribute_lists deep e = ap (λ l. l ++ []) (no_attributes deep (before (expression_tree e) end) (operand_flat e))
 
-elif_found : AttributesAreFlat → (k : Sought) (deep : Bool) (e : Spanned Expression) → found k deep (operand_tree elif_attribute e) ≡ []
-elif_found law expressions deep e = refl
-elif_found law types deep e = refl
-elif_found law statements deep e = ap (λ l. l ++ []) (no_statements deep (before (expression_tree e) end) (operand_flat law e))
-elif_found law attribute_lists deep e = ap (λ l. l ++ []) (no_attributes deep (before (expression_tree e) end) (operand_flat law e))
+elif_found : (k : Sought) (deep : Bool) (e : Spanned Expression) → found k deep (operand_tree elif_attribute e) ≡ []
+elif_found expressions deep e = refl
+elif_found types deep e = refl
+elif_found statements deep e = ap (λ l. l ++ []) (no_statements deep (before (expression_tree e) end) (operand_flat e))
+elif_found attribute_lists deep e = ap (λ l. l ++ []) (no_attributes deep (before (expression_tree e) end) (operand_flat e))
 
-pub if_formula : AttributesAreFlat → (k : Sought) (deep : Bool) (a : Attribute) (e : Spanned Expression) → a ≡ attr.If e → found k deep (attribute_view a) ≡ []
-if_formula law k deep a e is = ap (λ x. found k deep (attribute_view x)) is ∙ if_found law k deep e
+pub if_formula : (k : Sought) (deep : Bool) (a : Attribute) (e : Spanned Expression) → a ≡ attr.If e → found k deep (attribute_view a) ≡ []
+if_formula k deep a e is = ap (λ x. found k deep (attribute_view x)) is ∙ if_found k deep e
 
-pub elif_formula : AttributesAreFlat → (k : Sought) (deep : Bool) (a : Attribute) (e : Spanned Expression) → a ≡ attr.Elif e → found k deep (attribute_view a) ≡ []
-elif_formula law k deep a e is = ap (λ x. found k deep (attribute_view x)) is ∙ elif_found law k deep e
+pub elif_formula : (k : Sought) (deep : Bool) (a : Attribute) (e : Spanned Expression) → a ≡ attr.Elif e → found k deep (attribute_view a) ≡ []
+elif_formula k deep a e is = ap (λ x. found k deep (attribute_view x)) is ∙ elif_found k deep e
 
 -- attributes before what has no node: they alone are found, and nothing in them
 list_alone : (deep : Bool) (t : Tree) (below rest : List Tree) → below ≡ [] → rest ≡ [] → ((t ∷ (if deep then below else [])) ++ rest) ++ [] ≡ t ∷ []
@@ -67,17 +72,17 @@ path_hollow : (p : Option ModulePath) (f : Forest) → hollow f ≡ true → hol
 path_hollow None f h = h
 path_hollow (Some p) f h = h
 
-pub import_found : AttributesAreFlat → ContentsAreHollow → (k : Sought) (deep : Bool) (i : ImportStatement) → found k deep (import_view i) ≡ itself k (attributes_tree i.attributes)
-import_found flat_law hollow_law k deep i =
-    words_found k deep (attributes_tree i.attributes).children (before (optional path_tree i.path) (before (content_view i.content) end)) (attributes_flat flat_law i.attributes.items)
-    (path_hollow i.path (before (content_view i.content) end) (rw (hollow_law i.content) refl))
+pub import_found : (k : Sought) (deep : Bool) (i : ImportStatement) → found k deep (import_view i) ≡ itself k (attributes_tree i.attributes)
+import_found k deep i =
+    words_found k deep (attributes_tree i.attributes).children (before (optional path_tree i.path) (before (content_view i.content) end)) (attributes_flat i.attributes.items)
+    (path_hollow i.path (before (content_view i.content) end) (rw (content_hollow i.content) refl))
 
 abbrev pub directive_attributes : GlobalDirective → Vec (Spanned Attribute) Global
 directive_attributes (directives.Diagnostic a s r) = a
 directive_attributes (directives.Enable a ns) = a
 directive_attributes (directives.Requires a ns) = a
 
-pub directive_found : AttributesAreFlat → (k : Sought) (deep : Bool) (d : GlobalDirective) → itself k (attributes_tree (directive_attributes d)) ≡ found k deep (directive_view d)
-directive_found law k deep (directives.Diagnostic a s r) = sym (words_found k deep (attributes_tree a).children (before (text_tree s) (before (text_tree r) end)) (attributes_flat law a.items) refl)
-directive_found law k deep (directives.Enable a ns) = sym (words_found k deep (attributes_tree a).children (before (names_tree ns) end) (attributes_flat law a.items) refl)
-directive_found law k deep (directives.Requires a ns) = sym (words_found k deep (attributes_tree a).children (before (names_tree ns) end) (attributes_flat law a.items) refl)
+pub directive_found : (k : Sought) (deep : Bool) (d : GlobalDirective) → itself k (attributes_tree (directive_attributes d)) ≡ found k deep (directive_view d)
+directive_found k deep (directives.Diagnostic a s r) = sym (words_found k deep (attributes_tree a).children (before (text_tree s) (before (text_tree r) end)) (attributes_flat a.items) refl)
+directive_found k deep (directives.Enable a ns) = sym (words_found k deep (attributes_tree a).children (before (names_tree ns) end) (attributes_flat a.items) refl)
+directive_found k deep (directives.Requires a ns) = sym (words_found k deep (attributes_tree a).children (before (names_tree ns) end) (attributes_flat a.items) refl)

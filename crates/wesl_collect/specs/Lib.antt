@@ -1,3 +1,4 @@
 pub mod Seen
 pub mod Walk
 pub mod Lent
+pub mod Adds

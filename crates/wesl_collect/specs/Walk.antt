@@ -1,5 +1,5 @@
 -- One walk over a tree, which finds the nodes of a kind. Labels come first, so that it goes on at each label whatever is looked for.
-use Rattle.std.specs.Prelude.{◌≡◌, Bool, true, false, List, [], ◌∷◌, ◌++◌, if◌then◌else◌}
+use Rattle.std.specs.Prelude.{Bool, true, false, List, [], ◌∷◌, ◌++◌, if◌then◌else◌}
 use Rattle.wesl_syntax.specs.Tree.{Label, Forest, Tree, end, tree, before, kind, if_attribute, elif_attribute, import_statement, diagnostic_directive, enable_directive, requires_directive}
 use Rattle.wesl_syntax.specs.Nodes.{without_attributes}
 use Rattle.wesl_kinds.specs.Picks.{picks}
@@ -36,10 +36,6 @@ chosen k deep (tree l children others) =
 abbrev pub found_in : Sought → Bool → Forest → List Tree
 found_in k deep f = chosen k deep (sight k f)
 
--- those that are found in a tree, itself too
-abbrev pub found : Sought → Bool → Tree → List Tree
-found k deep t = found_in k deep (before t end)
-
 -- the tree, where it is of the kind
 abbrev pub itself : Sought → Tree → List Tree
 itself k t = if picks k t.label then t ∷ [] else []
@@ -51,8 +47,3 @@ goes_on k deep l = if picks k l then deep else true
 -- those that are found strictly below a node
 abbrev pub strictly : Sought → Bool → Tree → List Tree
 strictly k deep t = chosen k deep (inside (sight k (before t end)))
-
--- A node of one of the four kinds is no word, and is seen whole where it is of the kind that is looked for.
-pub record IsSeen (k : Sought) (t : Tree) : Type 0 where
-  pub below : (f : Forest) → sight_below k t.label f ≡ f
-  pub whole : picks k t.label ≡ true → sight k t.children ≡ t.children

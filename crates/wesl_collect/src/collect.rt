@@ -1,6 +1,5 @@
 //! One walk over a tree, which collects the nodes of a kind in document order.
 pub(crate) mod attribute;
 pub(crate) mod declaration;
-mod enter;
 pub(crate) mod expression;
 pub(crate) mod statement;

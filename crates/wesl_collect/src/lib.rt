@@ -2,6 +2,7 @@
 #![tactic(auto)]
 
 mod collect;
+mod collected;
 
 pub use collect::attribute::in_attribute;
 pub use collect::declaration::{
@@ -10,3 +11,4 @@ pub use collect::declaration::{
 };
 pub use collect::expression::{in_expression, in_type};
 pub use collect::statement::{in_assert, in_declaration, in_else, in_statement};
+pub use collected::Collected;

@@ -1,9 +1,10 @@
 -- Where no numbers are given, each identifier keeps its own.
-use Rattle.std.proofs.Common.{◌≡◌, ℕ, List, [], refl, ◌∙◌, ap}
-use Rattle.std.specs.Prelude.{Result, IfOk}
-use Rattle.std.proofs.lemmas.Result.{IfOk-weaker}
+use Rattle.std.proofs.Common.{◌≡◌, false, [], refl, ◌∙◌, ap}
+use Rattle.std.specs.Prelude.{Err, IfOk, Ok, OnOk, Result}
 use Rattle.wesl_syntax.specs.Tree.{Label, Forest, Tree, end, tree, kind, at, ident, text, texts, truth, unary, binary, assignment, space, access, path}
-use Rattle.wesl_copies.specs.Renumbered.{relabelled, left, after, renumbered, renumbered_tree}
+use Rattle.wesl_copies.specs.Copied.{Copied}
+use Rattle.wesl_copies.specs.Renumbered.{relabelled, left, after, after_tree, renumbered, renumbered_tree}
+use Rattle.wesl_copies.specs.declared.copying.Copying.{Copying}
 
 label_kept : (l : Label) → relabelled l [] ≡ l
 label_kept (kind k) = refl
@@ -51,9 +52,14 @@ tree_kept : (t : Tree) → renumbered_tree t [] ≡ t
 tree_kept t = rw (label_kept t.label, kept t.children) refl
 
 -- so a copy is equal
-pub equal_copy : (t c : Tree) (ns : List ℕ) → ns ≡ [] → c ≡ renumbered_tree t ns → c ≡ t
-equal_copy t c ns none is = is ∙ (ap (renumbered_tree t) none ∙ tree_kept t)
+pub equal_copy : {old new : Copying} {t c : Tree} → old.rest.now ≡ [] → Copied old new t c → new.is_refused ≡ false → c ≡ t
+equal_copy {old} {new} {t} none copied noted = copied.tree noted ∙ (ap (renumbered_tree t) none ∙ tree_kept t)
 
--- as a copier answers that was given no numbers
-pub equal_copies : {X E : Type 0} (view : X → Tree) (t : Tree) (ns : List ℕ) (r : Result X E) → ns ≡ [] → IfOk r (λ c. view c ≡ renumbered_tree t ns) → IfOk r (λ c. view c ≡ t)
-equal_copies view t ns r none = IfOk-weaker r (λ c. view c ≡ renumbered_tree t ns) (λ c. view c ≡ t) (λ c. equal_copy t (view c) ns none)
+-- and none are left after it
+pub none_given : {old new : Copying} {t c : Tree} → old.rest.now ≡ [] → Copied old new t c → new.is_refused ≡ false → new.rest.now ≡ []
+none_given {old} {new} {t} none copied noted = copied.rest noted ∙ (ap (after_tree t) none ∙ (ap (left t.label []) (none_after t.children) ∙ none_left t.label))
+
+-- as it is answered at the end
+pub equal_copies : {X E : Type 0} (view : X → Tree) {old new : Copying} {t : Tree} {c : X} (r : Result X E) → old.rest.now ≡ [] → Copied old new t (view c) → IfOk r (λ d. d ≡ c) → OnOk r (new.is_refused ≡ false) → IfOk r (λ d. view d ≡ t)
+equal_copies view (Err e) none copied given noted = tt
+equal_copies view (Ok d) none copied given noted = ap view given ∙ equal_copy none copied noted

@@ -1,27 +1,22 @@
 -- The trees of the nodes that hold lists or optional nodes of their own cycle, by the trees of their parts.
-use Rattle.std.proofs.Common.{◌≡◌, ℕ, List, [], ◌∷◌, rules, ◌∙◌, ap, sym, refl, Global, None, Option, Some, String}
+use Rattle.std.proofs.Common.{◌≡◌, [], ◌∷◌, rules, ◌∙◌, ap, sym, None, Option, Some}
 use mathlib.Core.List.{map-map}
-use Rattle.std.specs.Prelude.{string_bytes}
 use Rattle.std.specs.Box.{box_value}
 use Rattle.std.specs.Global.{Box, Vec}
 use Rattle.wesl_names.specs.declared.names.Ident.{Ident}
 use Rattle.wesl_names.specs.declared.path.ModulePath.{ModulePath}
-use Rattle.wesl_copies.specs.Renumbered.{after_tree, next_number, other_numbers, renumbered_tree}
-use Rattle.wesl_names.specs.declared.span.Span.{Span}
-use Rattle.wesl_syntax.specs.Tree.{assignment, at, before, binary, branch, break, call, call_expression, call_statement, clauses, compound, compound_statement, continue, continuing, decrement, discard, else_clause, else_if_clause, end, for_loop, forest_of, if_clause, if_statement, increment, indexing, Kind, Label, list, loop, named_component, parenthesized, reference, return, statement_node, statements, switch, switch_clause, template_argument, Tree, type_expression, type_or_identifier, unary, while_loop}
-use Rattle.wesl_syntax.specs.View.{argument_step, argument_view, assert_view, attributes_tree, break_if_view, call_step, call_view, clause_step, clause_view, compound_step, compound_view, continuing_step, continuing_view, declaration_view, else_if_step, else_if_view, else_step, else_view, expression_step, expression_tree, expression_view, ident_tree, if_step, if_view, listed, optional, path_tree, selector_view, statement_step, statement_tree, statement_view, text_tree, type_step, type_view}
+use Rattle.wesl_copies.proofs.Parts.{labelled}
+use Rattle.wesl_syntax.specs.Tree.{assignment, branch, break, call, call_statement, clauses, compound, compound_statement, continue, continuing, decrement, discard, else_clause, else_if_clause, for_loop, if_clause, if_statement, increment, list, loop, reference, return, statements, switch, switch_clause, Tree, type_expression, while_loop}
+use Rattle.wesl_syntax.specs.View.{argument_step, argument_view, assert_view, attributes_tree, break_if_view, call_step, call_view, clause_step, clause_view, compound_step, compound_view, continuing_step, continuing_view, declaration_view, else_if_step, else_if_view, else_step, else_view, expression_step, expression_tree, ident_tree, if_step, if_view, listed, optional, path_tree, selector_view, statement_step, statement_tree, statement_view, type_step, type_view}
 use Rattle.wesl_syntax.specs.declared.attribute.Attribute.{Attribute}
 use Rattle.wesl_syntax.specs.declared.declaration.ConstAssert.{ConstAssert}
 use Rattle.wesl_syntax.specs.declared.declaration.Declaration.{Declaration}
-use Rattle.wesl_syntax.specs.declared.expression.BinaryOperator.{BinaryOperator}
 use Rattle.wesl_syntax.specs.declared.expression.Expression.{Expression}
-use Rattle.wesl_syntax.specs.declared.expression.Expression as expressions
-use Rattle.wesl_syntax.specs.declared.expression.Expression.TheFolds.{fold_out-FunctionCall, fold_out-TemplateArg, fold-roll-FunctionCall, fold-roll-TemplateArg, fold-roll-TypeExpression}
+use Rattle.wesl_syntax.specs.declared.expression.Expression.TheFolds.{fold_out-FunctionCall, fold-roll-FunctionCall, fold-roll-TypeExpression}
 use Rattle.wesl_syntax.specs.declared.expression.Expression.TheViews.{roll-out-TypeExpression}
 use Rattle.wesl_syntax.specs.declared.expression.FunctionCall.{FunctionCall, out-FunctionCall, roll-FunctionCall}
-use Rattle.wesl_syntax.specs.declared.expression.TemplateArg.{out-TemplateArg, roll-TemplateArg, TemplateArg}
+use Rattle.wesl_syntax.specs.declared.expression.TemplateArg.{TemplateArg}
 use Rattle.wesl_syntax.specs.declared.expression.TypeExpression.{out-TypeExpression, roll-TypeExpression, TypeExpression}
-use Rattle.wesl_syntax.specs.declared.expression.UnaryOperator.{UnaryOperator}
 use Rattle.wesl_syntax.specs.declared.span.Spanned.{Spanned}
 use Rattle.wesl_syntax.specs.declared.statement.AssignmentOperator.{AssignmentOperator}
 use Rattle.wesl_syntax.specs.declared.statement.BreakIfStatement.{BreakIfStatement}
@@ -41,36 +36,6 @@ view_call c = fold_out-FunctionCall Tree Tree Tree Tree expression_step call_ste
 
 pub view_call_of : (t : TypeExpression) (v : Vec (Spanned Expression)) → call_view (roll-FunctionCall (record { ty = t; arguments = v })) ≡ branch call (type_view t ∷ listed expression_tree list v ∷ [])
 view_call_of t v = fold-roll-FunctionCall Tree Tree Tree Tree expression_step call_step argument_step type_step (record { ty = t; arguments = v }) ∙ simp map-map
-
-abbrev pub labelled : Label → List Tree → Tree
-labelled l ts = record { label = l; children = forest_of ts }
-
-pub view_parenthesized : (e : Box (Spanned Expression)) → expression_view (expressions.Parenthesized e) ≡ branch parenthesized (expression_tree (box_value e) ∷ [])
-view_parenthesized e = search (rules, expressions.the_lemmas)
-
-pub view_named : (b : Box (Spanned Expression)) (n : String Global) → expression_view (expressions.NamedComponent b n) ≡ branch named_component (expression_tree (box_value b) ∷ text_tree n ∷ [])
-view_named b n = search (rules, expressions.the_lemmas)
-
-pub view_indexing : (b i : Box (Spanned Expression)) → expression_view (expressions.Indexing b i) ≡ branch indexing (expression_tree (box_value b) ∷ expression_tree (box_value i) ∷ [])
-view_indexing b i = search (rules, expressions.the_lemmas)
-
-pub view_unary : (o : UnaryOperator) (e : Box (Spanned Expression)) → expression_view (expressions.Unary o e) ≡ labelled (unary o) (expression_tree (box_value e) ∷ [])
-view_unary o e = search (rules, expressions.the_lemmas)
-
-pub view_binary : (o : BinaryOperator) (l r : Box (Spanned Expression)) → expression_view (expressions.Binary o l r) ≡ labelled (binary o) (expression_tree (box_value l) ∷ expression_tree (box_value r) ∷ [])
-view_binary o l r = search (rules, expressions.the_lemmas)
-
-pub view_call_expression : (c : FunctionCall) → expression_view (expressions.FunctionCall c) ≡ branch call_expression (call_view c ∷ [])
-view_call_expression c = search (rules, expressions.the_lemmas)
-
-pub view_name : (t : TypeExpression) → expression_view (expressions.TypeOrIdentifier t) ≡ branch type_or_identifier (type_view t ∷ [])
-view_name t = search (rules, expressions.the_lemmas)
-
-pub view_argument : (a : TemplateArg) → argument_view a ≡ branch template_argument (expression_tree (out-TemplateArg a).expression ∷ [])
-view_argument a = fold_out-TemplateArg Tree Tree Tree Tree expression_step call_step argument_step type_step a
-
-pub view_argument_of : (e : Spanned Expression) → argument_view (roll-TemplateArg (record { expression = e })) ≡ branch template_argument (expression_tree e ∷ [])
-view_argument_of e = fold-roll-TemplateArg Tree Tree Tree Tree expression_step call_step argument_step type_step (record { expression = e })
 
 pub view_type_of : (p : Option ModulePath) (i : Ident) (o : Option (Vec TemplateArg)) → type_view (roll-TypeExpression (record { path = p; ident = i; template_args = o }))
     ≡ branch type_expression (optional path_tree p ∷ ident_tree reference i ∷ optional (listed argument_view list) o ∷ [])
@@ -166,78 +131,3 @@ view_const_assert c = search (rules, the_lemmas)
 
 pub view_local : (d : Declaration) → statement_view (made.Declaration d) ≡ declaration_view d
 view_local d = search (rules, the_lemmas)
-
--- a node that takes numbers, and what it leaves
-pub record Took (old new : Tree) (before after : List ℕ) : Type 0 where
-  pub tree : new ≡ renumbered_tree old before
-  pub rest : after ≡ after_tree old before
-
-pub part : {A : Type 0} (view : A → Tree) (x y : A) (s r : List ℕ) → view y ≡ renumbered_tree (view x) s → r ≡ after_tree (view x) s → Took (view x) (view y) s r
-part view x y s r p q = record { tree = p; rest = q }
-
--- as seen by its parts
-pub seen : {x y x' y' : Tree} {s r : List ℕ} → x ≡ y → x' ≡ y' → Took y y' s r → Took x x' s r
-seen {x} {y} {x'} {y'} {s} {r} e f t = record { tree = f ∙ (t.tree ∙ ap (λ z. renumbered_tree z s) (sym e)); rest = t.rest ∙ ap (λ z. after_tree z s) (sym e) }
-
--- a node in a box
-pub boxed_part : (b d : Box (Spanned Expression)) (x y : Spanned Expression) (s r : List ℕ) → box_value d ≡ y → x ≡ box_value b → expression_tree y ≡ renumbered_tree (expression_tree x) s → r ≡ after_tree (expression_tree x) s
-    → Took (expression_tree (box_value b)) (expression_tree (box_value d)) s r
-boxed_part b d x y s r made is p q = record { tree = ap expression_tree made ∙ (p ∙ ap (λ z. renumbered_tree (expression_tree z) s) is); rest = q ∙ ap (λ z. after_tree (expression_tree z) s) is }
-
--- what has no identifier takes no number
-pub text_part : (n m : String Global) (s : List ℕ) → string_bytes m ≡ string_bytes n → Took (text_tree n) (text_tree m) s s
-text_part n m s e = record { tree = rw e refl; rest = refl }
-
-path_part : (p : Option ModulePath) (s : List ℕ) → Took (optional path_tree p) (optional path_tree p) s s
-path_part None s = record { tree = refl; rest = refl }
-path_part (Some p) s = record { tree = refl; rest = refl }
-
-pub same_path : (p q : Option ModulePath) (s : List ℕ) → optional path_tree q ≡ optional path_tree p → Took (optional path_tree p) (optional path_tree q) s s
-same_path p q s e = record { tree = e ∙ (path_part p s).tree; rest = (path_part p s).rest }
-
--- and an identifier takes one
-pub ident_part : (i j : Ident) (s r : List ℕ) → j.0 ≡ next_number i.0 s → r ≡ other_numbers s → Took (ident_tree reference i) (ident_tree reference j) s r
-ident_part i j s r e f = record { tree = rw e refl; rest = f }
-
-pub unary_part : (o : UnaryOperator) {a a' : Tree} {s s1 : List ℕ} → Took a a' s s1 → Took (labelled (unary o) (a ∷ [])) (labelled (unary o) (a' ∷ [])) s s1
-unary_part o p = record { tree = rw p.tree refl; rest = p.rest }
-
-pub binary_parts : (o : BinaryOperator) {a b a' b' : Tree} {s s1 s2 : List ℕ} → Took a a' s s1 → Took b b' s1 s2 → Took (labelled (binary o) (a ∷ b ∷ [])) (labelled (binary o) (a' ∷ b' ∷ [])) s s2
-binary_parts o p q = record { tree = rw (p.tree, q.tree, p.rest) refl; rest = rw (q.rest, p.rest) refl }
-
--- nodes whose parts take their numbers one after the other
-pub one_part : (k : Kind) {a a' : Tree} {s s1 : List ℕ} → Took a a' s s1 → Took (branch k (a ∷ [])) (branch k (a' ∷ [])) s s1
-one_part k p = record { tree = rw p.tree refl; rest = p.rest }
-
-pub two_parts : (k : Kind) {a b a' b' : Tree} {s s1 s2 : List ℕ} → Took a a' s s1 → Took b b' s1 s2 → Took (branch k (a ∷ b ∷ [])) (branch k (a' ∷ b' ∷ [])) s s2
-two_parts k p q = record { tree = rw (p.tree, q.tree, p.rest) refl; rest = rw (q.rest, p.rest) refl }
-
-pub three_parts : (k : Kind) {a b c a' b' c' : Tree} {s s1 s2 s3 : List ℕ} → Took a a' s s1 → Took b b' s1 s2 → Took c c' s2 s3 → Took (branch k (a ∷ b ∷ c ∷ [])) (branch k (a' ∷ b' ∷ c' ∷ [])) s s3
-three_parts k p q r = record { tree = rw (p.tree, q.tree, r.tree, q.rest, p.rest) refl; rest = rw (r.rest, q.rest, p.rest) refl }
-
-pub assigned : (o : AssignmentOperator) {a b c a' b' c' : Tree} {s s1 s2 s3 : List ℕ} → Took a a' s s1 → Took b b' s1 s2 → Took c c' s2 s3
-    → Took (labelled (assignment o) (a ∷ b ∷ c ∷ [])) (labelled (assignment o) (a' ∷ b' ∷ c' ∷ [])) s s3
-assigned o p q r = record { tree = rw (p.tree, q.tree, r.tree, q.rest, p.rest) refl; rest = rw (r.rest, q.rest, p.rest) refl }
-
-pub four_parts : (k : Kind) {a b c d a' b' c' d' : Tree} {s s1 s2 s3 s4 : List ℕ} → Took a a' s s1 → Took b b' s1 s2 → Took c c' s2 s3 → Took d d' s3 s4
-    → Took (branch k (a ∷ b ∷ c ∷ d ∷ [])) (branch k (a' ∷ b' ∷ c' ∷ d' ∷ [])) s s4
-four_parts k p q r t = record { tree = rw (p.tree, q.tree, r.tree, t.tree, r.rest, q.rest, p.rest) refl; rest = rw (t.rest, r.rest, q.rest, p.rest) refl }
-
-pub five_parts : (k : Kind) {a b c d i a' b' c' d' i' : Tree} {s s1 s2 s3 s4 s5 : List ℕ} → Took a a' s s1 → Took b b' s1 s2 → Took c c' s2 s3 → Took d d' s3 s4 → Took i i' s4 s5
-    → Took (branch k (a ∷ b ∷ c ∷ d ∷ i ∷ [])) (branch k (a' ∷ b' ∷ c' ∷ d' ∷ i' ∷ [])) s s5
-five_parts k p q r t u = record { tree = rw (p.tree, q.tree, r.tree, t.tree, u.tree, t.rest, r.rest, q.rest, p.rest) refl; rest = rw (u.rest, t.rest, r.rest, q.rest, p.rest) refl }
-
-abbrev placed_as : Span → Tree → Tree
-placed_as p t = record { label = at statement_node p.start p.end; children = before t end }
-
-abbrev pub inner_statement : Box (Spanned Statement) → Tree
-inner_statement s = statement_tree (box_value s)
-
--- a statement in a box
-pub boxed_statement : (b d : Box (Spanned Statement)) (n m : Statement) (p : Span) (s r : List ℕ) → box_value d ≡ record { node = n; span = p } → m ≡ (box_value b).node → p ≡ (box_value b).span
-    → statement_view n ≡ renumbered_tree (statement_view m) s → r ≡ after_tree (statement_view m) s → Took (inner_statement b) (inner_statement d) s r
-boxed_statement b d n m p s r made is place e f =
-    record {
-      tree = ap statement_tree made ∙ (ap (λ z. placed_as z (statement_view n)) place ∙ (ap (placed_as (box_value b).span) e ∙ ap (λ z. placed_as (box_value b).span (renumbered_tree (statement_view z) s)) is));
-      rest = f ∙ ap (λ z. after_tree (statement_view z) s) is;
-    }

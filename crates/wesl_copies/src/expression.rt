@@ -1,198 +1,183 @@
 //! Copies of expressions and types.
-ghost use Rattle.std.specs.Prelude.{◌≡◌, IfOk, IfErr, OnOk};
-ghost use Rattle.wesl_names.specs.declared.errors.Error as error;
+ghost use Rattle.std.specs.Prelude.{◌≡◌, true, IfNone, IfSome};
+ghost use Rattle.std.specs.Box.{box_value};
 ghost use Rattle.wesl_syntax.specs.Tree.{list};
-ghost use Rattle.wesl_syntax.specs.View.{argument_view, call_view, expression_tree, expression_view, listed, literal_tree, optional, type_view};
-ghost use Rattle.wesl_copies.specs.Renumbered.{renumbered_tree, after_tree};
+ghost use Rattle.wesl_syntax.specs.View.{argument_view, call_view, expression_tree, expression_view, listed, optional, type_view};
+ghost use Rattle.wesl_copies.specs.Copied.{Copies};
 
 use crate::copying::Copying;
-use std::alloc::Global;
-use wesl_names::Error;
 use wesl_syntax::{
     Expression, ExpressionNode, FunctionCall, Literal, Spanned, TemplateArg, TypeExpression,
 };
 
-/// An equal copy. Refused for want of memory alone.
-pub fn copy_literal(alloc: Global, literal: &Literal) -> Result<Literal, Error>
-    ensures equal { IfOk result (λ l. literal_tree l ≡ literal_tree literal.now) }
-    ensures refused { IfErr result (λ e. e ≡ error.Memory) }
-{
-    match literal {
-        Literal::Bool(value) => Ok(Literal::Bool(*value)),
-        Literal::Text(text) => Ok(Literal::Text(String::from_str(alloc, text)?)),
-    }
+/// What stands for an expression for which memory was wanting.
+fn wanting() -> Expression {
+    Expression::Literal(Literal::Bool(false))
 }
 
 impl<'a> Copying<'a> {
     /// A copy of an expression.
     #[cycle(expressions)]
-    pub fn expression(&mut self, expression: &Expression) -> Result<Expression, Error>
-        ensures tree { IfOk result (λ copy. expression_view copy ≡ renumbered_tree (expression_view expression.now) self.old.rest.now) }
-        ensures rest { OnOk result (self.new.rest.now ≡ after_tree (expression_view expression.now) self.old.rest.now) }
-        ensures refused { IfErr result (λ e. e ≡ error.Memory) }
+    pub fn expression(&mut self, expression: &Expression) -> Expression
+        ensures { Copies self.old self.new expression_view expression.now result }
     {
         match expression {
-            Expression::Literal(literal) => Ok(Expression::Literal(copy_literal(
-                self.alloc, literal,
-            )?)),
-            Expression::Parenthesized { expression } => Ok(Expression::Parenthesized {
-                expression: Box::new(self.alloc, self.node(expression)?)?,
-            }),
-            Expression::NamedComponent { base, component } => Ok(Expression::NamedComponent {
-                base: Box::new(self.alloc, self.node(base)?)?,
-                component: String::from_str(self.alloc, component)?,
-            }),
-            Expression::Indexing { base, index } => Ok(Expression::Indexing {
-                base: Box::new(self.alloc, self.node(base)?)?,
-                index: Box::new(self.alloc, self.node(index)?)?,
-            }),
-            Expression::Unary { operator, operand } => Ok(Expression::Unary {
-                operator: *operator,
-                operand: Box::new(self.alloc, self.node(operand)?)?,
-            }),
+            Expression::Literal(literal) => Expression::Literal(self.literal(literal)),
+            Expression::Parenthesized { expression } => match self.boxed(expression) {
+                Some(expression) => Expression::Parenthesized { expression },
+                None => wanting(),
+            },
+            Expression::NamedComponent { base, component } => match self.boxed(base) {
+                Some(base) => Expression::NamedComponent {
+                    base,
+                    component: self.text(component),
+                },
+                None => wanting(),
+            },
+            Expression::Indexing { base, index } => {
+                match (self.boxed(base), self.boxed(index)) {
+                    (Some(base), Some(index)) => Expression::Indexing { base, index },
+                    (_base, _index) => wanting(),
+                }
+            }
+            Expression::Unary { operator, operand } => match self.boxed(operand) {
+                Some(operand) => Expression::Unary {
+                    operator: *operator,
+                    operand,
+                },
+                None => wanting(),
+            },
             Expression::Binary {
                 operator,
                 left,
                 right,
-            } => Ok(Expression::Binary {
-                operator: *operator,
-                left: Box::new(self.alloc, self.node(left)?)?,
-                right: Box::new(self.alloc, self.node(right)?)?,
-            }),
-            Expression::FunctionCall(call) => Ok(Expression::FunctionCall(self.call(call)?)),
+            } => match (self.boxed(left), self.boxed(right)) {
+                (Some(left), Some(right)) => Expression::Binary {
+                    operator: *operator,
+                    left,
+                    right,
+                },
+                (_left, _right) => wanting(),
+            },
+            Expression::FunctionCall(call) => Expression::FunctionCall(self.call(call)),
             Expression::TypeOrIdentifier(ty) => {
-                Ok(Expression::TypeOrIdentifier(self.type_expression(ty)?))
+                Expression::TypeOrIdentifier(self.type_expression(ty))
             }
         }
     }
 
+    /// A copy of an expression in a box, unless memory was wanting.
+    #[cycle(expressions)]
+    fn boxed(&mut self, node: &ExpressionNode) -> Option<Box<ExpressionNode>>
+        ensures copied { IfSome result (λ copy. Copies self.old self.new expression_tree node.now (box_value copy)) }
+        ensures noted { IfNone result (self.new.is_refused ≡ true) }
+    {
+        let copy = self.node(node);
+        self.made(Box::new(self.alloc, copy))
+    }
+
     /// A copy of an expression.
     #[cycle(expressions)]
-    pub fn node(&mut self, node: &ExpressionNode) -> Result<ExpressionNode, Error>
-        ensures tree { IfOk result (λ copy. expression_tree copy ≡ renumbered_tree (expression_tree node.now) self.old.rest.now) }
-        ensures rest { OnOk result (self.new.rest.now ≡ after_tree (expression_tree node.now) self.old.rest.now) }
-        ensures refused { IfErr result (λ e. e ≡ error.Memory) }
+    pub fn node(&mut self, node: &ExpressionNode) -> ExpressionNode
+        ensures { Copies self.old self.new expression_tree node.now result }
     {
-        Ok(Spanned {
-            node: self.expression(&node.node)?,
+        Spanned {
+            node: self.expression(&node.node),
             span: node.span,
-        })
+        }
     }
 
     /// A copy of expressions.
     #[cycle(expressions)]
-    pub fn nodes(&mut self, nodes: &Vec<ExpressionNode>) -> Result<Vec<ExpressionNode>, Error>
-        ensures tree { IfOk result (λ copy. listed expression_tree list copy ≡ renumbered_tree (listed expression_tree list nodes.now) self.old.rest.now) }
-        ensures rest { OnOk result (self.new.rest.now ≡ after_tree (listed expression_tree list nodes.now) self.old.rest.now) }
-        ensures refused { IfErr result (λ e. e ≡ error.Memory) }
+    pub fn nodes(&mut self, nodes: &Vec<ExpressionNode>) -> Vec<ExpressionNode>
+        ensures { Copies self.old self.new (listed expression_tree list) nodes.now result }
     {
-        let mut copies = Vec::with_capacity(self.alloc, nodes.len())?;
+        let mut copies = self.list(nodes.len());
         for node in nodes {
-            copies.push(Spanned {
-                node: self.expression(&node.node)?,
+            let copy = Spanned {
+                node: self.expression(&node.node),
                 span: node.span,
-            })?;
+            };
+            self.push(&mut copies, copy);
         }
-        Ok(copies)
+        copies
     }
 
     /// A copy of a call.
     #[cycle(expressions)]
-    pub fn call(&mut self, call: &FunctionCall) -> Result<FunctionCall, Error>
-        ensures tree { IfOk result (λ copy. call_view copy ≡ renumbered_tree (call_view call.now) self.old.rest.now) }
-        ensures rest { OnOk result (self.new.rest.now ≡ after_tree (call_view call.now) self.old.rest.now) }
-        ensures refused { IfErr result (λ e. e ≡ error.Memory) }
+    pub fn call(&mut self, call: &FunctionCall) -> FunctionCall
+        ensures { Copies self.old self.new call_view call.now result }
     {
-        Ok(FunctionCall {
-            ty: self.type_expression(&call.ty)?,
-            arguments: self.nodes(&call.arguments)?,
-        })
+        FunctionCall {
+            ty: self.type_expression(&call.ty),
+            arguments: self.nodes(&call.arguments),
+        }
     }
 
     /// A copy of a type or a name.
     #[cycle(expressions)]
-    pub fn type_expression(&mut self, ty: &TypeExpression) -> Result<TypeExpression, Error>
-        ensures tree { IfOk result (λ copy. type_view copy ≡ renumbered_tree (type_view ty.now) self.old.rest.now) }
-        ensures rest { OnOk result (self.new.rest.now ≡ after_tree (type_view ty.now) self.old.rest.now) }
-        ensures refused { IfErr result (λ e. e ≡ error.Memory) }
+    pub fn type_expression(&mut self, ty: &TypeExpression) -> TypeExpression
+        ensures { Copies self.old self.new type_view ty.now result }
     {
-        let path = self.path(&ty.path)?;
-        let ident = self.number(ty.ident);
-        let template_args = match &ty.template_args {
-            None => None,
-            Some(arguments) => Some(self.arguments(arguments)?),
-        };
-        Ok(TypeExpression {
-            path,
-            ident,
-            template_args,
-        })
+        TypeExpression {
+            path: self.path(&ty.path),
+            ident: self.number(ty.ident),
+            template_args: match &ty.template_args {
+                None => None,
+                Some(arguments) => Some(self.arguments(arguments)),
+            },
+        }
     }
 
     /// A copy of a template argument.
     #[cycle(expressions)]
-    pub fn argument(&mut self, argument: &TemplateArg) -> Result<TemplateArg, Error>
-        ensures tree { IfOk result (λ copy. argument_view copy ≡ renumbered_tree (argument_view argument.now) self.old.rest.now) }
-        ensures rest { OnOk result (self.new.rest.now ≡ after_tree (argument_view argument.now) self.old.rest.now) }
-        ensures refused { IfErr result (λ e. e ≡ error.Memory) }
+    pub fn argument(&mut self, argument: &TemplateArg) -> TemplateArg
+        ensures { Copies self.old self.new argument_view argument.now result }
     {
-        Ok(TemplateArg {
-            expression: self.node(&argument.expression)?,
-        })
+        TemplateArg {
+            expression: self.node(&argument.expression),
+        }
     }
 
     #[cycle(expressions)]
-    fn arguments(&mut self, arguments: &Vec<TemplateArg>) -> Result<Vec<TemplateArg>, Error>
-        ensures tree { IfOk result (λ copy. listed argument_view list copy ≡ renumbered_tree (listed argument_view list arguments.now) self.old.rest.now) }
-        ensures rest { OnOk result (self.new.rest.now ≡ after_tree (listed argument_view list arguments.now) self.old.rest.now) }
-        ensures refused { IfErr result (λ e. e ≡ error.Memory) }
+    fn arguments(&mut self, arguments: &Vec<TemplateArg>) -> Vec<TemplateArg>
+        ensures { Copies self.old self.new (listed argument_view list) arguments.now result }
     {
-        let mut copies = Vec::with_capacity(self.alloc, arguments.len())?;
+        let mut copies = self.list(arguments.len());
         for argument in arguments {
-            copies.push(self.argument(argument)?)?;
+            let copy = self.argument(argument);
+            self.push(&mut copies, copy);
         }
-        Ok(copies)
+        copies
     }
 
-    pub(crate) fn optional_node(
-        &mut self,
-        node: &Option<ExpressionNode>,
-    ) -> Result<Option<ExpressionNode>, Error>
-        ensures tree { IfOk result (λ copy. optional expression_tree copy ≡ renumbered_tree (optional expression_tree node.now) self.old.rest.now) }
-        ensures rest { OnOk result (self.new.rest.now ≡ after_tree (optional expression_tree node.now) self.old.rest.now) }
-        ensures refused { IfErr result (λ e. e ≡ error.Memory) }
+    pub(crate) fn optional_node(&mut self, node: &Option<ExpressionNode>) -> Option<ExpressionNode>
+        ensures { Copies self.old self.new (optional expression_tree) node.now result }
     {
         match node {
-            None => Ok(None),
-            Some(node) => Ok(Some(self.node(node)?)),
+            None => None,
+            Some(node) => Some(self.node(node)),
         }
     }
 
-    pub(crate) fn optional_type(
-        &mut self,
-        ty: &Option<TypeExpression>,
-    ) -> Result<Option<TypeExpression>, Error>
-        ensures tree { IfOk result (λ copy. optional type_view copy ≡ renumbered_tree (optional type_view ty.now) self.old.rest.now) }
-        ensures rest { OnOk result (self.new.rest.now ≡ after_tree (optional type_view ty.now) self.old.rest.now) }
-        ensures refused { IfErr result (λ e. e ≡ error.Memory) }
+    pub(crate) fn optional_type(&mut self, ty: &Option<TypeExpression>) -> Option<TypeExpression>
+        ensures { Copies self.old self.new (optional type_view) ty.now result }
     {
         match ty {
-            None => Ok(None),
-            Some(ty) => Ok(Some(self.type_expression(ty)?)),
+            None => None,
+            Some(ty) => Some(self.type_expression(ty)),
         }
     }
 
     pub(crate) fn optional_nodes(
         &mut self,
         nodes: &Option<Vec<ExpressionNode>>,
-    ) -> Result<Option<Vec<ExpressionNode>>, Error>
-        ensures tree { IfOk result (λ copy. optional (listed expression_tree list) copy ≡ renumbered_tree (optional (listed expression_tree list) nodes.now) self.old.rest.now) }
-        ensures rest { OnOk result (self.new.rest.now ≡ after_tree (optional (listed expression_tree list) nodes.now) self.old.rest.now) }
-        ensures refused { IfErr result (λ e. e ≡ error.Memory) }
+    ) -> Option<Vec<ExpressionNode>>
+        ensures { Copies self.old self.new (optional (listed expression_tree list)) nodes.now result }
     {
         match nodes {
-            None => Ok(None),
-            Some(nodes) => Ok(Some(self.nodes(nodes)?)),
+            None => None,
+            Some(nodes) => Some(self.nodes(nodes)),
         }
     }
 }

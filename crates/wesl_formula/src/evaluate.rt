@@ -1,5 +1,5 @@
 //! What is left of the formula of a conditional attribute.
-ghost use Rattle.std.specs.Prelude.{◌≡◌, [], IfOk, IfErr, ◌⊎◌};
+ghost use Rattle.std.specs.Prelude.{◌≡◌, [], IfOk, IfErr};
 ghost use Rattle.wesl_formula.specs.Evaluation.{IsRefused};
 ghost use Rattle.wesl_formula.specs.Faults.{formula_faults};
 ghost use Rattle.wesl_formula.specs.Features.{answer_to, by_number, known};
@@ -31,7 +31,9 @@ pub fn eval_attr(
     ensures refused { IfErr result (λ told. IsRefused names.now (formula_faults (by_number names.now (answer_to features.now)) (form (expression_view expression.now.node))) (out-Diagnostic told).error) }
 {
     check_formula(alloc, &expression.node, names, features)?;
-    let mut left = Copying::of(alloc).expression(&expression.node)?;
+    let mut copying = Copying::of(alloc);
+    let copy = copying.expression(&expression.node);
+    let mut left = copying.end(copy)?;
     simplify(&mut left, names, features);
     Ok(left)
 }

@@ -1,11 +1,11 @@
 -- Each identifier of a tree has a name in the table.
-use Rattle.std.proofs.Common.{◌≡◌, ℕ, zero, suc, ◌+◌, ◌<◌, true, false, Bool, ◌&&◌, List, [], ◌∷◌, ◌++◌, map, arith, refl, subst, sym}
+use Rattle.std.proofs.Common.{◌≡◌, ℕ, zero, suc, ◌+◌, ◌<◌, true, false, Bool, ◌&&◌, List, [], ◌∷◌, map, arith, refl}
 use Rattle.std.specs.Prelude.{nat_lt, None}
 use Rattle.std.specs.List.{All}
 use Rattle.std.proofs.lemmas.Bool.Decides.{nat_tests}
 use Rattle.wesl_syntax.specs.Tree.{Label, Forest, end, tree, kind, at, ident, text, texts, truth, unary, binary, assignment, space, access, path, label_below, forest_below, tree_below}
 use Rattle.wesl_syntax.specs.Unit.{UnitOf, forest_of_unit}
-use Rattle.wesl_occurrences.specs.Occurrences.{Block, OccurrenceIn, Occurrence, Shape, of_other, shape_of, opens, Node, plain, node_by, here_in, after_field, count, blocks_in, blocks_at, occurrences_from}
+use Rattle.wesl_occurrences.specs.Occurrences.{Block, OccurrenceIn, of_other, shape_of, opens, Node, plain, node_by, here_in, after_field, count, blocks_in, blocks_at, occurrences_from}
 use Rattle.wesl_occurrences.specs.Ways.{told}
 use Rattle.wesl_occurrences.specs.Views.{occurrence_view}
 use Rattle.wesl_occurrences.specs.declared.occurrence.Occurrence as found

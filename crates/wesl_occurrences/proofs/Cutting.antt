@@ -2,7 +2,6 @@
 use Rattle.std.proofs.Common.{◌≡◌, ℕ, zero, suc, ◌+◌, List, [], ◌∷◌, ◌++◌, map, length, refl, sym, ◌∙◌, ap, subst, arith, length-append}
 use Rattle.std.proofs.lemmas.List.{length-map}
 use Rattle.std.specs.Prelude.{take, drop}
-use Rattle.wesl_names.specs.Path.{Text}
 use Rattle.wesl_syntax.specs.Tree.{LabelOf, ForestOf, TreeOf, trees, before, end, tree, kind, at, ident, text, texts, truth, unary, binary, assignment, space, access, path, identifiers, declarations}
 use Rattle.wesl_syntax.specs.Unit.{UnitOf, forest_of_unit}
 use Rattle.wesl_occurrences.specs.Occurrences.{Occurrence, occurrences}

@@ -1,8 +1,8 @@
 -- The names that a walk finds, after those found before.
-use Rattle.std.proofs.Common.{◌≡◌, ℕ, zero, suc, ◌+◌, ◌<◌, List, [], ◌∷◌, ◌++◌, map, length, get_or, drop, refl, sym, ap, ◌∙◌, arith, append_assoc, append-nil, length-append, add-one, drop-cons}
+use Rattle.std.proofs.Common.{◌≡◌, ℕ, zero, suc, ◌+◌, ◌<◌, List, [], ◌∷◌, ◌++◌, map, length, get_or, take, drop, refl, sym, ap, ◌∙◌, arith, append_assoc, append-nil, length-append, add-one, drop-cons}
 use mathlib.Core.List.{map-map}
 use Rattle.std.proofs.lemmas.List.{map-append, length-map}
-use Rattle.wesl_syntax.specs.Tree.{Label, LabelOf, ForestOf, TreeOf, Tree, Forest, trees, before, end, tree, forest_of, kind, at, ident, text, texts, truth, unary, binary, assignment, space, access, path, identifiers, declaration_node, directive_node}
+use Rattle.wesl_syntax.specs.Tree.{Label, TreeOf, Tree, Forest, trees, before, end, tree, forest_of, kind, at, ident, text, texts, truth, unary, binary, assignment, space, access, path, identifiers, declaration_node, directive_node}
 use Rattle.wesl_syntax.specs.View.{global_view, directive_view, placed}
 use Rattle.wesl_syntax.specs.declared.span.Spanned.{Spanned}
 use Rattle.wesl_syntax.specs.declared.declaration.GlobalDeclaration.{GlobalDeclaration}
@@ -122,3 +122,12 @@ words_found here s xs os d first e =
     ∙ (ap names e
     ∙ (walk_names (before t end) (all_of here) s
     ∙ (ap (λ u. names u ++ identifiers (before t end)) first ∙ sym (append-nil (identifiers (before t end))))))
+
+next_ident : (xs : List Occurrence) (i : ℕ) (x : Occurrence) → i < length xs → x ≡ get_or xs i x → map (λ o. o.ident.0) (take (suc i) xs) ≡ map (λ o. o.ident.0) (take i xs) ++ x.ident.0 ∷ []
+next_ident [] i x h is = absurd (omega arith)
+next_ident (y ∷ ys) zero x h is = ap (λ (z : Occurrence). z.ident.0 ∷ []) (sym is)
+next_ident (y ∷ ys) (suc i) x h is = ap (λ ns. y.ident.0 ∷ ns) (next_ident ys i x (omega arith) is)
+
+-- one more of them
+pub idents_taken : (xs : List Occurrence) (i : ℕ) (x : Occurrence) → i < length xs → x ≡ get_or xs i x → map (λ o. o.ident.0) (take (i + 1) xs) ≡ map (λ o. o.ident.0) (take i xs) ++ x.ident.0 ∷ []
+idents_taken xs i x h is = rw add-one (next_ident xs i x h is)

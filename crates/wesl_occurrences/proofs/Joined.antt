@@ -4,14 +4,14 @@ use Rattle.std.specs.Prelude.{Option, Some, None}
 use Rattle.std.proofs.lemmas.List.{map-append, length-map, append-nil}
 use Rattle.std.proofs.lemmas.Grind.{common_steps}
 use Rattle.std.proofs.lemmas.Bool.{cases_lt}
-use Rattle.wesl_syntax.specs.Tree.{Kind, Role, Label, Tree, Forest, end, tree, kind, at, ident, text, texts, truth, unary, binary, assignment, space, access, path, binder, reference, word}
-use Rattle.wesl_occurrences.specs.Occurrences.{Block, Standing, OccurrenceIn, Occurrence, Field, Shape, of_function, of_parameter, of_body, of_holder, of_loop, of_continuing, of_for, of_words, of_custom, of_type, of_value, of_globals, of_other, shape_of, fields, opens, Surroundings, Blocks, Declares, globally, a_parameter, a_value, Node, node_by, first_or, others_of, numbered, here_in, after_field, occurrence, count, blocks_in, blocks_at, occurrences_from}
+use Rattle.wesl_syntax.specs.Tree.{Role, Label, Tree, Forest, end, tree, kind, at, ident, text, texts, truth, unary, binary, assignment, space, access, path, binder, reference, word}
+use Rattle.wesl_occurrences.specs.Occurrences.{Block, OccurrenceIn, Occurrence, Shape, of_function, of_parameter, of_body, of_holder, of_loop, of_continuing, of_for, of_words, of_custom, of_type, of_value, of_globals, of_other, shape_of, opens, Surroundings, Declares, globally, a_parameter, a_value, Node, node_by, first_or, others_of, numbered, here_in, after_field, occurrence, count, blocks_in, blocks_at, occurrences_from}
 use Rattle.wesl_names.specs.Path.{Path}
 use Rattle.wesl_occurrences.specs.Walk.{Found, Here, State, Fields, numbers_at, opening, ended_as, ended_at, all_ended, closed, named_by, named_after, stepped, walk, walked, all_of, outermost, start}
 use Rattle.std.specs.List.{All}
 use Rattle.wesl_occurrences.specs.Views.{occurrence_view}
 use Rattle.wesl_occurrences.specs.declared.occurrence.Occurrence as found
-use Rattle.wesl_occurrences.specs.Ways.{AreNested, grown, ways, way, told, told_here, told_node}
+use Rattle.wesl_occurrences.specs.Ways.{AreNested, grown, way, told, told_here, told_node}
 
 abbrev pub Each : {X : Type 0} → (X → Type 0) → List X → Type 0
 Each P [] = Unit {0}

@@ -9,3 +9,5 @@ pub mod Nodes
 pub mod Outers
 pub mod Respelled
 pub mod Views
+pub mod Steps
+pub mod Unit

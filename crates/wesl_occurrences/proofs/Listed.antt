@@ -1,5 +1,5 @@
 -- A list of nodes, one node after the other.
-use Rattle.std.proofs.Common.{◌≡◌, ℕ, ◌+◌, ◌<◌, List, [], ◌∷◌, length, get_or, map, drop, refl, arith, add-one, drop-cons}
+use Rattle.std.proofs.Common.{◌≡◌, ℕ, ◌+◌, ◌<◌, List, [], length, get_or, map, drop, refl, add-one, drop-cons}
 use Rattle.std.specs.Prelude.{Some}
 use Rattle.wesl_syntax.specs.Tree.{Tree, forest_of, declaration_node}
 use Rattle.wesl_syntax.specs.View.{global_view, placed}

@@ -2,7 +2,7 @@
 use Rattle.std.proofs.Common.{◌≡◌, ℕ, suc, ◌+◌, List, [], ◌∷◌, ◌++◌, map, refl, ◌∙◌, ap}
 use Rattle.std.specs.Prelude.{None, false}
 use Rattle.std.proofs.lemmas.List.{map-append}
-use Rattle.wesl_syntax.specs.Tree.{LabelOf, ForestOf, end, tree, kind, at, ident, text, texts, truth, unary, binary, assignment, space, access, path, identifiers}
+use Rattle.wesl_syntax.specs.Tree.{ForestOf, end, tree, kind, at, ident, text, texts, truth, unary, binary, assignment, space, access, path, identifiers}
 use Rattle.wesl_syntax.specs.Unit.{UnitOf, forest_of_unit}
 use Rattle.wesl_occurrences.specs.Occurrences.{Block, Occurrence, Node, node_of, opened_by, here_in, after_field, blocks_at, plain, count, blocks_in, occurrences_from, occurrences}
 

@@ -1,9 +1,9 @@
 -- The walk over the nodes whose fields stand in several blocks, and over declarations.
-use Rattle.std.proofs.Common.{◌≡◌, ℕ, suc, ◌+◌, List, [], ◌∷◌, ◌++◌, length, refl, arith, length-append}
+use Rattle.std.proofs.Common.{◌≡◌, ℕ, suc, List, [], ◌∷◌, ◌++◌, length, refl, arith, length-append}
 use Rattle.std.specs.Prelude.{Some, None, Option}
 use Rattle.std.specs.Box.{box_value}
 use Rattle.std.specs.Global.{Box, Vec}
-use Rattle.wesl_syntax.specs.Tree.{Tree, branch, for_loop, compound, declaration, binder}
+use Rattle.wesl_syntax.specs.Tree.{Kind, Tree, forest_of, branch, statements, loop, continuing, for_loop, compound, declaration, binder}
 use Rattle.wesl_syntax.specs.View.{kind_tree, attributes_tree, ident_tree, optional, type_view, expression_tree, statement_tree}
 use Rattle.wesl_syntax.specs.declared.attribute.Attribute.{Attribute}
 use Rattle.wesl_syntax.specs.declared.expression.Expression.{Expression}
@@ -13,14 +13,25 @@ use Rattle.wesl_syntax.specs.declared.statement.Statement.{Statement}
 use Rattle.wesl_syntax.specs.declared.declaration.DeclarationKind.{DeclarationKind}
 use Rattle.wesl_syntax.specs.declared.declaration.DeclarationKind.TheVariants as kinds
 use Rattle.wesl_names.specs.declared.names.Ident.{Ident}
-use Rattle.wesl_occurrences.specs.Occurrences.{standing_in, declared, a_value}
-use Rattle.wesl_occurrences.specs.Walk.{Here, State, walked, ended_at}
-
-abbrev pub opened : Here → State → State
-opened here s = record s { outer = s.outer ++ here.block ∷ [] }
+use Rattle.wesl_occurrences.specs.Occurrences.{standing_in, declared, a_value, shape_of, of_holder}
+use Rattle.wesl_occurrences.specs.Walk.{Here, State, walked, walk, all_of, ended_at}
+use Rattle.wesl_occurrences.specs.Noted.{opened}
 
 abbrev pub holding : Here → State → Here
 holding here s = record here { held_block = length s.outer }
+
+-- the walk over these trees, one after the other
+abbrev pub through : Here → State → List Tree → State
+through here s ts = walk (all_of here) s (forest_of ts)
+
+-- a node that holds a body
+pub held_joined : (here h : Here) (s : State) (k : Kind) (ts : List Tree) → shape_of k ≡ of_holder → h ≡ holding here s → through h (opened here s) ts ≡ walked here s (branch k ts)
+held_joined here h s k ts shape e = rw (e, shape) refl
+
+-- a body, whose statements stand in the block that its holder opens
+pub body_joined : (here inside : Here) (s : State) (a : Vec (Spanned Attribute)) (bs : List Tree) → inside ≡ standing_in here.held_block here
+    → walked inside (walked here s (attributes_tree a)) (branch statements bs) ≡ walked here s (branch compound (attributes_tree a ∷ branch statements bs ∷ []))
+body_joined here inside s a bs e = rw e refl
 
 abbrev pub inner_statement : Box (Spanned Statement) → Tree
 inner_statement s = statement_tree (box_value s)
@@ -85,3 +96,16 @@ pub value_joined : (here : Here) (s s1 s2 s3 s4 s5 : State) (p : ℕ) (a : Vec (
     → s1 ≡ walked here s (attributes_tree a) → p ≡ length s1.found → s2 ≡ value_added here s1 x.0 → s3 ≡ walked here s2 (optional type_view t) → s4 ≡ walked here s3 (optional expression_tree e) → s5 ≡ value_ended p s4
     → s5 ≡ walked here s (value_tree a k x t e)
 value_joined here s s1 s2 s3 s4 s5 p a k x t e e1 ep e2 e3 e4 e5 = rw (e5, e4, e3, e2, ep, e1) (value_walked here s a k x t e)
+
+-- ---- loops
+
+module _ {X : Type 0} (view : X → Tree) where
+  pub loop_joined : (here h hi : Here) (s : State) (a : Vec (Spanned Attribute)) (bs : List Tree) (c : Option X) → h ≡ holding here s → hi ≡ standing_in h.held_block h
+      → walked hi (walked h (walked h (opened here s) (attributes_tree a)) (branch compound bs)) (optional view c) ≡ walked here s (branch loop (attributes_tree a ∷ branch compound bs ∷ optional view c ∷ []))
+  loop_joined here h hi s a bs None e ei = rw e refl
+  loop_joined here h hi s a bs (Some c) e ei = rw (ei, e) refl
+
+  pub continuing_joined : (here h hi : Here) (s : State) (a : Vec (Spanned Attribute)) (bs : List Tree) (c : Option X) → h ≡ holding here s → hi ≡ standing_in h.held_block h
+      → walked hi (walked h (walked h (opened here s) (attributes_tree a)) (branch compound bs)) (optional view c) ≡ walked here s (branch continuing (attributes_tree a ∷ branch compound bs ∷ optional view c ∷ []))
+  continuing_joined here h hi s a bs None e ei = rw e refl
+  continuing_joined here h hi s a bs (Some c) e ei = rw (ei, e) refl

@@ -1,13 +1,11 @@
 -- Names in place of numbers change nothing but the names.
-use Rattle.std.proofs.Common.{◌≡◌, ℕ, suc, ◌+◌, List, [], ◌∷◌, ◌++◌, map, refl, sym, ◌∙◌, ap}
+use Rattle.std.proofs.Common.{◌≡◌, ℕ, suc, ◌+◌, [], ◌∷◌, ◌++◌, map, refl, sym, ◌∙◌, ap}
 use Rattle.std.specs.Prelude.{None, false}
 use Rattle.std.proofs.lemmas.List.{map-append}
-use Rattle.wesl_names.specs.Path.{Path}
-use Rattle.wesl_syntax.specs.Tree.{Kind, ForestOf, Forest, end, tree, kind, at, ident, text, texts, truth, unary, binary, assignment, space, access, path, respell_label, respell_forest}
-use Rattle.wesl_syntax.specs.Unit.{UnitView, UnitOf, forest_of_unit, trees_of, spelled, name_in}
-use Rattle.wesl_names.specs.Path.{Text}
+use Rattle.wesl_syntax.specs.Tree.{Forest, end, tree, kind, at, ident, text, texts, truth, unary, binary, assignment, space, access, path, respell_forest}
+use Rattle.wesl_syntax.specs.Unit.{UnitView, forest_of_unit, trees_of, spelled, name_in}
 use Rattle.wesl_occurrences.specs.Laws.{renamed}
-use Rattle.wesl_occurrences.specs.Occurrences.{Block, OccurrenceIn, Occurrence, Shape, of_function, of_parameter, of_body, of_holder, of_loop, of_continuing, of_for, of_words, of_custom, of_type, of_value, of_globals, of_other, shape_of, fields, opens, Surroundings, Blocks, Node, field_in, entered, declares_in, first_declaration, path_of, plain, node_by, here_in, after_field, occurrence, count, blocks_in, blocks_at, occurrences_from, occurrences}
+use Rattle.wesl_occurrences.specs.Occurrences.{Block, Shape, of_function, of_parameter, of_body, of_holder, of_loop, of_continuing, of_for, of_words, of_custom, of_type, of_value, of_globals, of_other, shape_of, opens, Surroundings, Blocks, Node, path_of, plain, node_by, here_in, after_field, occurrence, count, blocks_in, blocks_at, occurrences_from, occurrences}
 
 module _ {J : Type 0} (g : ℕ → J) where
   count_same : (f : Forest) → count (respell_forest g f) ≡ count f

@@ -6,3 +6,4 @@ pub mod Identified
 pub mod Pieces
 pub mod Laws
 pub mod Outer
+pub mod Noted

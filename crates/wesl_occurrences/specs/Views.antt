@@ -1,5 +1,5 @@
 -- What the walk's values stand for.
-use Rattle.std.specs.Prelude.{ℕ, Option, List, map}
+use Rattle.std.specs.Prelude.{ℕ, map}
 use Rattle.std.specs.Option.{option_map}
 use Rattle.wesl_names.specs.Path.{path_view}
 use Rattle.wesl_occurrences.specs.Occurrences as spec

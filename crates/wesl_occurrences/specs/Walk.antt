@@ -1,7 +1,6 @@
 -- What one walk over a tree finds: blocks by their numbers, each with the block round it.
-use Rattle.std.specs.Prelude.{ℕ, zero, suc, Bool, true, false, ◌<◌, Option, Some, None, List, [], ◌∷◌, ◌++◌, length, slice_index_or, get_or, ◌==◌, if◌then◌else◌}
-use Rattle.wesl_names.specs.Path.{Path}
-use Rattle.wesl_syntax.specs.Tree.{LabelOf, Label, Forest, Tree, end, tree, kind, ident, binder, before}
+use Rattle.std.specs.Prelude.{ℕ, zero, suc, false, None, List, [], ◌∷◌, ◌++◌, length}
+use Rattle.wesl_syntax.specs.Tree.{Label, Forest, Tree, end, tree, ident, binder, before}
 use Rattle.wesl_occurrences.specs.Occurrences.{Standing, local, OccurrenceIn, Surroundings, Blocks, Node, Declares, a_value, globally, a_parameter, node_of, plain, here_in, after_field, occurrence, opened_by}
 
 abbrev pub Found : Type 0

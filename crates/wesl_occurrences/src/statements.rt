@@ -1,67 +1,60 @@
 //! The identifiers of statements.
-ghost use Rattle.std.specs.Prelude.{◌≡◌, OnOk};
 ghost use Rattle.std.specs.Box.{box_value};
 ghost use Rattle.wesl_syntax.specs.Tree.{list, clauses, statements};
 ghost use Rattle.wesl_syntax.specs.View.{statement_view, compound_view, continuing_view, else_view, else_if_view, if_view, clause_view, selector_view, break_if_view, statement_tree, listed, optional};
-ghost use Rattle.wesl_occurrences.specs.Walk.{walked};
-ghost use Rattle.wesl_occurrences.specs.Views.{state_of, here_view};
+ghost use Rattle.wesl_occurrences.specs.Views.{here_view};
+ghost use Rattle.wesl_occurrences.specs.Noted.{Walks};
 
 use crate::walk::{Here, Walk};
-use std::alloc::AllocError;
 use wesl_tree::{
     BreakIfStatement, CaseSelector, CompoundStatement, ContinuingStatement, ElseClause,
     ElseIfClause, IfClause, Statement, StatementNode, SwitchClause,
 };
 
 impl<'a> Walk<'a> {
-    fn selector(&mut self, here: Here, selector: &'a CaseSelector) -> Result<(), AllocError>
-        ensures { OnOk result (state_of self.new ≡ walked (here_view here) (state_of self.old) (selector_view selector.now)) }
+    fn selector(&mut self, here: &Here, selector: &'a CaseSelector)
+        ensures { Walks (here_view here.now) self.old self.new (selector_view selector.now) }
     {
         match selector {
-            CaseSelector::Default => Ok(()),
+            CaseSelector::Default => {}
             CaseSelector::Expression(e) => self.node(here, e),
         }
     }
 
-    fn selectors(&mut self, here: Here, selectors: &'a Vec<CaseSelector>) -> Result<(), AllocError>
-        ensures { OnOk result (state_of self.new ≡ walked (here_view here) (state_of self.old) (listed selector_view list selectors.now)) }
+    fn selectors(&mut self, here: &Here, selectors: &'a Vec<CaseSelector>)
+        ensures { Walks (here_view here.now) self.old self.new (listed selector_view list selectors.now) }
     {
         for selector in selectors {
-            self.selector(here, selector)?;
+            self.selector(here, selector);
         }
-        Ok(())
     }
 
-    fn break_if(&mut self, here: Here, break_if: &'a BreakIfStatement) -> Result<(), AllocError>
-        ensures { OnOk result (state_of self.new ≡ walked (here_view here) (state_of self.old) (break_if_view break_if.now)) }
+    fn break_if(&mut self, here: &Here, break_if: &'a BreakIfStatement)
+        ensures { Walks (here_view here.now) self.old self.new (break_if_view break_if.now) }
     {
-        self.attributes(here, &break_if.attributes)?;
-        self.node(here, &break_if.expression)
+        self.attributes(here, &break_if.attributes);
+        self.node(here, &break_if.expression);
     }
 
-    fn optional_break_if(
-        &mut self,
-        here: Here,
-        break_if: &'a Option<BreakIfStatement>,
-    ) -> Result<(), AllocError>
-        ensures { OnOk result (state_of self.new ≡ walked (here_view here) (state_of self.old) (optional break_if_view break_if.now)) }
+    fn optional_break_if(&mut self, here: &Here, break_if: &'a Option<BreakIfStatement>)
+        ensures { Walks (here_view here.now) self.old self.new (optional break_if_view break_if.now) }
     {
         match break_if {
-            None => Ok(()),
+            None => {}
             Some(break_if) => self.break_if(here, break_if),
         }
     }
 
     #[cycle(statements)]
     #[tactic(auto, using(crate::proofs::Views::view_if, crate::proofs::Views::view_switch, crate::proofs::Views::view_for))]
-    pub fn statement(&mut self, here: Here, statement: &'a Statement) -> Result<(), AllocError>
-        ensures { OnOk result (state_of self.new ≡ walked (here_view here) (state_of self.old) (statement_view statement.now)) }
+    pub fn statement(&mut self, here: &Here, statement: &'a Statement)
+        ensures { Walks (here_view here.now) self.old self.new (statement_view statement.now) }
     {
         match statement {
-            Statement::Void => Ok(()),
+            Statement::Void => {}
             Statement::Compound(body) => {
-                let here = self.open(here)?;
-                self.compound(here, body)
+                let here = self.open(here);
+                self.compound(&here, body);
             }
             Statement::Assignment {
                 attributes,
@@ -69,23 +62,20 @@ impl<'a> Walk<'a> {
                 lhs,
                 rhs,
             } => {
-                self.attributes(here, attributes)?;
-                self.node(here, lhs)?;
-                self.node(here, rhs)
+                self.attributes(here, attributes);
+                self.node(here, lhs);
+                self.node(here, rhs);
             }
             Statement::Increment {
                 attributes,
                 expression,
-            } => {
-                self.attributes(here, attributes)?;
-                self.node(here, expression)
             }
-            Statement::Decrement {
+            | Statement::Decrement {
                 attributes,
                 expression,
             } => {
-                self.attributes(here, attributes)?;
-                self.node(here, expression)
+                self.attributes(here, attributes);
+                self.node(here, expression);
             }
             Statement::If {
                 attributes,
@@ -93,10 +83,10 @@ impl<'a> Walk<'a> {
                 else_if_clauses,
                 else_clause,
             } => {
-                self.attributes(here, attributes)?;
-                self.if_clause(here, if_clause)?;
-                self.else_if_clauses(here, else_if_clauses)?;
-                self.optional_else_clause(here, else_clause)
+                self.attributes(here, attributes);
+                self.if_clause(here, if_clause);
+                self.else_if_clauses(here, else_if_clauses);
+                self.optional_else_clause(here, else_clause);
             }
             Statement::Switch {
                 attributes,
@@ -104,20 +94,20 @@ impl<'a> Walk<'a> {
                 body_attributes,
                 clauses,
             } => {
-                self.attributes(here, attributes)?;
-                self.node(here, expression)?;
-                self.attributes(here, body_attributes)?;
-                self.clauses(here, clauses)
+                self.attributes(here, attributes);
+                self.node(here, expression);
+                self.attributes(here, body_attributes);
+                self.clauses(here, clauses);
             }
             Statement::Loop {
                 attributes,
                 body,
                 continuing,
             } => {
-                let here = self.open(here)?;
-                self.attributes(here, attributes)?;
-                self.compound(here, body)?;
-                self.optional_continuing(here.inside(), continuing)
+                let here = self.open(here);
+                self.attributes(&here, attributes);
+                self.compound(&here, body);
+                self.optional_continuing(&here.inside(), continuing);
             }
             Statement::For {
                 attributes,
@@ -126,38 +116,38 @@ impl<'a> Walk<'a> {
                 update,
                 body,
             } => {
-                let here = self.open(here)?;
+                let here = self.open(here);
                 let inner = here.inside();
-                let below = self.open(inner)?;
-                self.attributes(here, attributes)?;
-                self.optional_statement(inner, initializer)?;
-                self.optional_node(inner, condition)?;
-                self.optional_statement(below.inside(), update)?;
-                self.compound(inner, body)
+                let below = self.open(&inner);
+                self.attributes(&here, attributes);
+                self.optional_statement(&inner, initializer);
+                self.optional_node(&inner, condition);
+                self.optional_statement(&below.inside(), update);
+                self.compound(&inner, body);
             }
             Statement::While {
                 attributes,
                 condition,
                 body,
             } => {
-                let here = self.open(here)?;
-                self.attributes(here, attributes)?;
-                self.node(here, condition)?;
-                self.compound(here, body)
+                let here = self.open(here);
+                self.attributes(&here, attributes);
+                self.node(&here, condition);
+                self.compound(&here, body);
             }
-            Statement::Break { attributes } => self.attributes(here, attributes),
-            Statement::Continue { attributes } => self.attributes(here, attributes),
+            Statement::Break { attributes }
+            | Statement::Continue { attributes }
+            | Statement::Discard { attributes } => self.attributes(here, attributes),
             Statement::Return {
                 attributes,
                 expression,
             } => {
-                self.attributes(here, attributes)?;
-                self.optional_node(here, expression)
+                self.attributes(here, attributes);
+                self.optional_node(here, expression);
             }
-            Statement::Discard { attributes } => self.attributes(here, attributes),
             Statement::FunctionCall { attributes, call } => {
-                self.attributes(here, attributes)?;
-                self.call(here, call)
+                self.attributes(here, attributes);
+                self.call(here, call);
             }
             Statement::ConstAssert(assertion) => self.assertion(here, assertion),
             Statement::Declaration(declaration) => self.declaration(here, declaration),
@@ -165,135 +155,116 @@ impl<'a> Walk<'a> {
     }
 
     #[cycle(statements)]
-    fn optional_statement(
-        &mut self,
-        here: Here,
-        node: &'a Option<Box<StatementNode>>,
-    ) -> Result<(), AllocError>
-        ensures { OnOk result (state_of self.new ≡ walked (here_view here) (state_of self.old) (optional (λ s. statement_tree (box_value s)) node.now)) }
+    fn optional_statement(&mut self, here: &Here, node: &'a Option<Box<StatementNode>>)
+        ensures { Walks (here_view here.now) self.old self.new (optional (λ s. statement_tree (box_value s)) node.now) }
     {
         match node {
-            None => Ok(()),
+            None => {}
             Some(node) => self.statement(here, &node.node),
         }
     }
 
     #[cycle(statements)]
     #[tactic(auto, using(crate::proofs::Views::view_compound))]
-    pub fn compound(&mut self, here: Here, body: &'a CompoundStatement) -> Result<(), AllocError>
-        ensures { OnOk result (state_of self.new ≡ walked (here_view here) (state_of self.old) (compound_view body.now)) }
+    pub fn compound(&mut self, here: &Here, body: &'a CompoundStatement)
+        ensures { Walks (here_view here.now) self.old self.new (compound_view body.now) }
     {
-        self.attributes(here, &body.attributes)?;
-        self.statements(here.inside(), &body.statements)
+        self.attributes(here, &body.attributes);
+        self.statements(&here.inside(), &body.statements);
     }
 
     #[cycle(statements)]
-    fn statements(&mut self, here: Here, nodes: &'a Vec<StatementNode>) -> Result<(), AllocError>
-        ensures { OnOk result (state_of self.new ≡ walked (here_view here) (state_of self.old) (listed statement_tree statements nodes.now)) }
+    fn statements(&mut self, here: &Here, nodes: &'a Vec<StatementNode>)
+        ensures { Walks (here_view here.now) self.old self.new (listed statement_tree statements nodes.now) }
     {
         for node in nodes {
-            self.statement(here, &node.node)?;
+            self.statement(here, &node.node);
         }
-        Ok(())
     }
 
     #[cycle(statements)]
-    fn if_clause(&mut self, here: Here, clause: &'a IfClause) -> Result<(), AllocError>
-        ensures { OnOk result (state_of self.new ≡ walked (here_view here) (state_of self.old) (if_view clause.now)) }
+    fn if_clause(&mut self, here: &Here, clause: &'a IfClause)
+        ensures { Walks (here_view here.now) self.old self.new (if_view clause.now) }
     {
-        let here = self.open(here)?;
-        self.node(here, &clause.expression)?;
-        self.compound(here, &clause.body)
+        let here = self.open(here);
+        self.node(&here, &clause.expression);
+        self.compound(&here, &clause.body);
     }
 
     #[cycle(statements)]
-    fn else_if_clause(&mut self, here: Here, clause: &'a ElseIfClause) -> Result<(), AllocError>
-        ensures { OnOk result (state_of self.new ≡ walked (here_view here) (state_of self.old) (else_if_view clause.now)) }
+    fn else_if_clause(&mut self, here: &Here, clause: &'a ElseIfClause)
+        ensures { Walks (here_view here.now) self.old self.new (else_if_view clause.now) }
     {
-        let here = self.open(here)?;
-        self.attributes(here, &clause.attributes)?;
-        self.node(here, &clause.expression)?;
-        self.compound(here, &clause.body)
+        let here = self.open(here);
+        self.attributes(&here, &clause.attributes);
+        self.node(&here, &clause.expression);
+        self.compound(&here, &clause.body);
     }
 
     #[cycle(statements)]
-    fn else_if_clauses(&mut self, here: Here, all: &'a Vec<ElseIfClause>) -> Result<(), AllocError>
-        ensures { OnOk result (state_of self.new ≡ walked (here_view here) (state_of self.old) (listed else_if_view list all.now)) }
+    fn else_if_clauses(&mut self, here: &Here, all: &'a Vec<ElseIfClause>)
+        ensures { Walks (here_view here.now) self.old self.new (listed else_if_view list all.now) }
     {
         for clause in all {
-            self.else_if_clause(here, clause)?;
+            self.else_if_clause(here, clause);
         }
-        Ok(())
     }
 
     #[cycle(statements)]
-    fn optional_else_clause(
-        &mut self,
-        here: Here,
-        clause: &'a Option<ElseClause>,
-    ) -> Result<(), AllocError>
-        ensures { OnOk result (state_of self.new ≡ walked (here_view here) (state_of self.old) (optional else_view clause.now)) }
+    fn optional_else_clause(&mut self, here: &Here, clause: &'a Option<ElseClause>)
+        ensures { Walks (here_view here.now) self.old self.new (optional else_view clause.now) }
     {
         match clause {
-            None => Ok(()),
+            None => {}
             Some(clause) => self.else_clause(here, clause),
         }
     }
 
     #[cycle(statements)]
-    fn else_clause(&mut self, here: Here, clause: &'a ElseClause) -> Result<(), AllocError>
-        ensures { OnOk result (state_of self.new ≡ walked (here_view here) (state_of self.old) (else_view clause.now)) }
+    fn else_clause(&mut self, here: &Here, clause: &'a ElseClause)
+        ensures { Walks (here_view here.now) self.old self.new (else_view clause.now) }
     {
-        let here = self.open(here)?;
-        self.attributes(here, &clause.attributes)?;
-        self.compound(here, &clause.body)
+        let here = self.open(here);
+        self.attributes(&here, &clause.attributes);
+        self.compound(&here, &clause.body);
     }
 
     #[cycle(statements)]
-    fn clause(&mut self, here: Here, clause: &'a SwitchClause) -> Result<(), AllocError>
-        ensures { OnOk result (state_of self.new ≡ walked (here_view here) (state_of self.old) (clause_view clause.now)) }
+    fn clause(&mut self, here: &Here, clause: &'a SwitchClause)
+        ensures { Walks (here_view here.now) self.old self.new (clause_view clause.now) }
     {
-        let here = self.open(here)?;
-        self.attributes(here, &clause.attributes)?;
-        self.selectors(here, &clause.case_selectors)?;
-        self.compound(here, &clause.body)
+        let here = self.open(here);
+        self.attributes(&here, &clause.attributes);
+        self.selectors(&here, &clause.case_selectors);
+        self.compound(&here, &clause.body);
     }
 
     #[cycle(statements)]
-    fn clauses(&mut self, here: Here, all: &'a Vec<SwitchClause>) -> Result<(), AllocError>
-        ensures { OnOk result (state_of self.new ≡ walked (here_view here) (state_of self.old) (listed clause_view clauses all.now)) }
+    fn clauses(&mut self, here: &Here, all: &'a Vec<SwitchClause>)
+        ensures { Walks (here_view here.now) self.old self.new (listed clause_view clauses all.now) }
     {
         for clause in all {
-            self.clause(here, clause)?;
+            self.clause(here, clause);
         }
-        Ok(())
     }
 
     #[cycle(statements)]
-    fn optional_continuing(
-        &mut self,
-        here: Here,
-        continuing: &'a Option<ContinuingStatement>,
-    ) -> Result<(), AllocError>
-        ensures { OnOk result (state_of self.new ≡ walked (here_view here) (state_of self.old) (optional continuing_view continuing.now)) }
+    fn optional_continuing(&mut self, here: &Here, continuing: &'a Option<ContinuingStatement>)
+        ensures { Walks (here_view here.now) self.old self.new (optional continuing_view continuing.now) }
     {
         match continuing {
-            None => Ok(()),
+            None => {}
             Some(continuing) => self.continuing(here, continuing),
         }
     }
 
     #[cycle(statements)]
-    fn continuing(
-        &mut self,
-        here: Here,
-        continuing: &'a ContinuingStatement,
-    ) -> Result<(), AllocError>
-        ensures { OnOk result (state_of self.new ≡ walked (here_view here) (state_of self.old) (continuing_view continuing.now)) }
+    fn continuing(&mut self, here: &Here, continuing: &'a ContinuingStatement)
+        ensures { Walks (here_view here.now) self.old self.new (continuing_view continuing.now) }
     {
-        let here = self.open(here)?;
-        self.attributes(here, &continuing.attributes)?;
-        self.compound(here, &continuing.body)?;
-        self.optional_break_if(here.inside(), &continuing.break_if)
+        let here = self.open(here);
+        self.attributes(&here, &continuing.attributes);
+        self.compound(&here, &continuing.body);
+        self.optional_break_if(&here.inside(), &continuing.break_if);
     }
 }

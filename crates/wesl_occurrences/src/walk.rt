@@ -1,12 +1,13 @@
 //! One walk over a module, which collects its identifiers and its blocks.
-ghost use Rattle.std.specs.Prelude.{◌≡◌, ◌∷◌, [], ◌++◌, length, OnOk, IfOk, true, false};
+ghost use Rattle.std.specs.Prelude.{◌≡◌, ◌∷◌, [], ◌++◌, length, true, false};
 ghost use Rattle.wesl_occurrences.specs.Occurrences.{standing_in, declared, a_value};
-ghost use Rattle.wesl_occurrences.specs.Walk.{outermost, start, ended_at};
+ghost use Rattle.wesl_occurrences.specs.Walk.{outermost, start};
 ghost use Rattle.wesl_occurrences.specs.Views.{state_of, here_view, standing_view};
+ghost use Rattle.wesl_occurrences.specs.Noted.{Becomes, IfKept, added, opened, ended};
 
 use crate::occurrence::{Occurrence, Standing};
-use std::alloc::{AllocError, Global};
-use wesl_tree::{Ident, ModulePath};
+use std::alloc::Global;
+use wesl_tree::Ident;
 
 /// What its surroundings say of a node.
 #[derive(Clone, Copy)]
@@ -41,19 +42,19 @@ impl Here {
     }
 
     /// In the block that the holder opens.
-    pub fn inside(self) -> Here
-        ensures { here_view result ≡ standing_in self.held_block (here_view self) }
+    pub fn inside(&self) -> Here
+        ensures { here_view result ≡ standing_in self.now.held_block (here_view self.now) }
     {
         Here {
             block: self.held_block,
             is_local: true,
-            ..self
+            ..*self
         }
     }
 
     /// How a name stands that a declaration declares here, before its end is known.
-    pub fn value_name<'a>(self) -> Standing<'a>
-        ensures { standing_view result ≡ declared a_value (here_view self) 0 }
+    pub fn value_name<'a>(&self) -> Standing<'a>
+        ensures { standing_view result ≡ declared a_value (here_view self.now) 0 }
     {
         if self.is_local {
             Standing::Local { end: 0 }
@@ -63,23 +64,23 @@ impl Here {
     }
 
     /// In the module's block.
-    pub fn in_module(self) -> Here
-        ensures { here_view result ≡ record (here_view self) { block = 0; is_local = false } }
+    pub fn in_module(&self) -> Here
+        ensures { here_view result ≡ record (here_view self.now) { block = 0; is_local = false } }
     {
         Here {
             block: 0,
             is_local: false,
-            ..self
+            ..*self
         }
     }
 
     /// Where all names are words.
-    pub fn in_words(self) -> Here
-        ensures { here_view result ≡ record (here_view self) { words = true } }
+    pub fn in_words(&self) -> Here
+        ensures { here_view result ≡ record (here_view self.now) { words = true } }
     {
         Here {
             words: true,
-            ..self
+            ..*self
         }
     }
 }
@@ -91,53 +92,56 @@ pub struct Walk<'a> {
     pub found: Vec<Occurrence<'a>>,
     /// of each block, by its number, the one round it
     pub outer: Vec<usize>,
+    /// whether memory was wanting, so that some of what there is was not taken down
+    pub is_refused: bool,
 }
 
 impl<'a> Walk<'a> {
     /// Nothing found yet, and the module's block alone.
-    pub fn new(alloc: Global) -> Result<Walk<'a>, AllocError>
-        ensures { IfOk result (λ walk. state_of walk ≡ start) }
+    pub fn new(alloc: Global) -> Walk<'a>
+        ensures { IfKept result (state_of result ≡ start) }
     {
-        Ok(Walk {
+        let mut outer = Vec::new(alloc);
+        let is_refused = outer.push(0).is_err();
+        Walk {
             found: Vec::new(alloc),
-            outer: vec![in alloc; 0]?,
-        })
+            outer,
+            is_refused,
+        }
     }
 
     /// An identifier that stands here.
-    pub fn add(
-        &mut self,
-        here: Here,
-        standing: Standing<'a>,
-        ident: Ident,
-    ) -> Result<(), AllocError>
-        ensures { OnOk result (state_of self.new ≡ (let s = state_of self.old in record s { found = s.found ++ record { role = standing_view standing.entry; name = ident.0; place = length s.found; block = here.block; declaration = here.declaration; excused = here.excused } ∷ [] })) }
+    pub fn add(&mut self, here: &Here, standing: Standing<'a>, ident: Ident)
+        ensures { Becomes self.old self.new (added (here_view here.now) (standing_view standing.entry) ident.0 (state_of self.old)) }
     {
         let place = self.found.len();
-        self.found.push(Occurrence {
+        let occurrence = Occurrence {
             standing,
             ident,
             place,
             block: here.block,
             declaration: here.declaration,
             is_excused: here.excused,
-        })?;
-        Ok(())
+        };
+        self.is_refused |= self.found.push(occurrence).is_err();
     }
 
     /// The same place, with a new block that the node there opens.
-    pub fn open(&mut self, here: Here) -> Result<Here, AllocError>
-        ensures here { IfOk result (λ h. here_view h ≡ record (here_view here) { held_block = length (state_of self.old).outer }) }
-        ensures opened { OnOk result (state_of self.new ≡ (let s = state_of self.old in record s { outer = s.outer ++ here.block ∷ [] })) }
+    pub fn open(&mut self, here: &Here) -> Here
+        ensures here { here_view result ≡ record (here_view here.now) { held_block = length (state_of self.old).outer } }
+        ensures opened { Becomes self.old self.new (opened (here_view here.now) (state_of self.old)) }
     {
         let held_block = self.outer.len();
-        self.outer.push(here.block)?;
-        Ok(Here { held_block, ..here })
+        self.is_refused |= self.outer.push(here.block).is_err();
+        Here {
+            held_block,
+            ..*here
+        }
     }
 
     /// The declaration of the name at this place has ended.
     pub fn end(&mut self, name: usize)
-        ensures { state_of self.new ≡ (let s = state_of self.old in record s { found = ended_at (length s.found) name s.found }) }
+        ensures { Becomes self.old self.new (ended name (state_of self.old)) }
     {
         let end = self.found.len();
         if name < end {

@@ -40,10 +40,13 @@ pub fn occurrences<'a>(alloc: Global, unit: &'a TranslationUnit) -> Result<Ident
     ensures refused { IfErr result (λ e. e ≡ error.Memory) }
 {
     let here = Here::outermost();
-    let mut walk = Walk::new(alloc)?;
-    walk.imports(here, unit.imports())?;
-    walk.directives(here, unit.global_directives())?;
-    let starts = walk.globals(alloc, here, unit.global_declarations())?;
+    let mut walk = Walk::new(alloc);
+    walk.imports(&here, unit.imports());
+    walk.directives(&here, unit.global_directives());
+    let starts = walk.globals(alloc, &here, unit.global_declarations());
+    if walk.is_refused {
+        return Err(Error::Memory);
+    }
     Ok(Identifiers {
         all: walk.found,
         outer: walk.outer,
@@ -56,9 +59,13 @@ fn idents(alloc: Global, found: &[Occurrence<'_>]) -> Result<Vec<Ident>, Error>
     ensures idents { IfOk result (λ idents. map (λ i. i.0) idents.items ≡ map (λ o. o.ident.0) found.now) }
     ensures refused { IfErr result (λ e. e ≡ error.Memory) }
 {
-    let mut idents = Vec::with_capacity(alloc, found.len())?;
+    let mut idents = Vec::new(alloc);
+    let mut is_refused = false;
     for occurrence in found {
-        idents.push(occurrence.ident)?;
+        is_refused |= idents.push(occurrence.ident).is_err();
+    }
+    if is_refused {
+        return Err(Error::Memory);
     }
     Ok(idents)
 }
@@ -68,7 +75,10 @@ pub fn words_of(alloc: Global, directive: &GlobalDirectiveNode) -> Result<Vec<Id
     ensures words { IfOk result (λ found. map (λ i. i.0) found.items ≡ identifiers (before (placed directive_view directive_node directive.now) end)) }
     ensures refused { IfErr result (λ e. e ≡ error.Memory) }
 {
-    let mut walk = Walk::new(alloc)?;
-    walk.directive(Here::outermost(), &directive.node)?;
+    let mut walk = Walk::new(alloc);
+    walk.directive(&Here::outermost(), &directive.node);
+    if walk.is_refused {
+        return Err(Error::Memory);
+    }
     idents(alloc, &walk.found)
 }

@@ -9,7 +9,9 @@ use Rattle.wesl_syntax.specs.Tree.{Tree, end, tree, identifiers, forest_below, t
 use Rattle.wesl_syntax.specs.Unit.{UnitView, forest_of_unit, trees_of, numbers, name_in, spelled, unit_below}
 use Rattle.wesl_tree.specs.Translation.{unit_view}
 use Rattle.wesl_tree.specs.declared.unit.TranslationUnit.{TranslationUnit}
+use Rattle.wesl_copies.specs.Copied.{Copied}
 use Rattle.wesl_copies.specs.Renumbered.{renumbered, renumbered_tree, after_tree}
+use Rattle.wesl_copies.specs.declared.copying.Copying.{Copying}
 use Rattle.wesl_renumber.specs.Nodes.{HasSameNodes}
 use Rattle.wesl_renumber.specs.Leaves.{are_leaves}
 use Rattle.wesl_renumber.proofs.Taken.{all_below, taken, numbers_are, respelled, one_unit}
@@ -77,10 +79,10 @@ pub some_of : {X : Type 0} (r : Option X) (x : X) (P : Type 0) (Q : X → Type 0
 some_of r x P Q e h = subst (λ o. MatchOption o P Q) e h
 
 -- from what the three copies are
-pub made : (v : UnitView) (names : List Text) (ns r1 r2 : List ℕ) (ti td te i d e : Tree) → ti ≡ v.imports → td ≡ v.directives → te ≡ v.declarations
+parted : (v : UnitView) (names : List Text) (ns r1 r2 : List ℕ) (ti td te i d e : Tree) → ti ≡ v.imports → td ≡ v.directives → te ≡ v.declarations
     → i ≡ renumbered_tree ti ns → r1 ≡ after_tree ti ns → d ≡ renumbered_tree td r1 → r2 ≡ after_tree td r1 → e ≡ renumbered_tree te r2
     → IsRenumbered v names ns (record { names = names; imports = i; directives = d; declarations = e })
-made v names ns r1 r2 ti td te i d e a b c p q s t u =
+parted v names ns r1 r2 ti td te i d e a b c p q s t u =
     let q1 : r1 ≡ after_tree v.imports ns = q ∙ ap (λ x. after_tree x ns) a in
     let t1 : r2 ≡ after_tree v.directives (after_tree v.imports ns) = t ∙ (ap (λ x. after_tree x r1) b ∙ ap (after_tree v.directives) q1) in
     record {
@@ -89,3 +91,12 @@ made v names ns r1 r2 ti td te i d e a b c p q s t u =
       directives_are = s ∙ (ap (λ x. renumbered_tree x r1) b ∙ ap (renumbered_tree v.directives) q1);
       declarations_are = u ∙ (ap (λ x. renumbered_tree x r2) c ∙ ap (renumbered_tree v.declarations) t1);
     }
+
+-- which were told at the end
+pub made : (v : UnitView) (names : List Text) {old first second new : Copying} {ti td te ci cd ce : Tree} (i d e : Tree) → ti ≡ v.imports → td ≡ v.directives → te ≡ v.declarations
+    → Copied old first ti ci → Copied first second td cd → Copied second new te ce → new.is_refused ≡ false → i ≡ ci → d ≡ cd → e ≡ ce
+    → IsRenumbered v names old.rest.now (record { names = names; imports = i; directives = d; declarations = e })
+made v names {old} {first} {second} i d e a b c p q r noted x y z =
+    let second_noted = r.noted noted in
+    let first_noted = q.noted second_noted in
+    parted v names old.rest.now first.rest.now second.rest.now _ _ _ i d e a b c (x ∙ p.tree first_noted) (p.rest first_noted) (y ∙ q.tree second_noted) (q.rest second_noted) (z ∙ r.tree noted)

@@ -29,9 +29,14 @@ pub fn renumbered(
     ensures names { IfOk result (λ copy. (unit_view copy).names ≡ names) }
     ensures refused { IfErr result (λ e. e ≡ error.Memory) }
 {
-    let mut copying = Copying { alloc, rest: given };
-    let imports = copying.imports(unit.imports())?;
-    let directives = copying.directives(unit.global_directives())?;
-    let declarations = copying.globals(unit.global_declarations())?;
+    let mut copying = Copying {
+        alloc,
+        rest: given,
+        is_refused: false,
+    };
+    let imports = copying.imports(unit.imports());
+    let directives = copying.directives(unit.global_directives());
+    let declarations = copying.globals(unit.global_declarations());
+    let (imports, directives, declarations) = copying.end((imports, directives, declarations))?;
     Ok(TranslationUnit::from_parts(names, imports, directives, declarations).unwrap())
 }

@@ -5,6 +5,10 @@ use Rattle.wesl_syntax.specs.Tree.{Tree}
 use Rattle.wesl_collect.specs.Lent.{views}
 use Rattle.wesl_visit.specs.Run.{Run, still, next, Begun}
 
+-- what is met is what is to be met
+pub all_met : {X : Type 0} (view : X → Tree) (xs ys : List (Bor X)) (zs ws : List Tree) → xs ≡ ys → views view ys ≡ zs → zs ≡ ws → views view xs ≡ ws
+all_met view xs ys zs ws e f h = ap (views view) e ∙ f ∙ h
+
 run_push : {S X : Type 0} {Steps : S → X → S → Type 0} {xs : List X} {x : X} {a b c : S} → Run Steps xs a b → Steps b x c → Run Steps (xs ++ x ∷ []) a c
 run_push still s = next s still
 run_push (next t r) s = next t (run_push r s)

@@ -6,10 +6,10 @@ ghost use Rattle.wesl_collect.specs.Walk.{strictly};
 
 use std::alloc::Global;
 use wesl_collect::{
-    in_alias, in_assert, in_attribute, in_declaration, in_declarations, in_directives,
+    Collected, in_alias, in_assert, in_attribute, in_declaration, in_declarations, in_directives,
     in_expression, in_function, in_global, in_imports, in_member, in_statement, in_struct, in_type,
 };
-use wesl_kinds::{Kind, law_of_variants};
+use wesl_kinds::Kind;
 use wesl_names::Error;
 use wesl_rewrite::Holder;
 use wesl_syntax::{
@@ -29,93 +29,89 @@ pub trait Collect: Holder {
 
 impl Collect for Expression {
     fn collect<'a, T: Kind>(&'a self, alloc: Global, deep: bool) -> Result<Vec<&'a T>, Error> {
-        law_of_variants();
-        let mut nodes = Vec::new(alloc);
-        in_expression(self, deep, &mut nodes)?;
-        Ok(nodes)
+        let mut found = Collected::new(alloc, deep);
+        in_expression(self, &mut found);
+        found.end()
     }
 }
 
 impl Collect for TypeExpression {
     fn collect<'a, T: Kind>(&'a self, alloc: Global, deep: bool) -> Result<Vec<&'a T>, Error> {
-        let mut nodes = Vec::new(alloc);
-        in_type(self, deep, &mut nodes)?;
-        Ok(nodes)
+        let mut found = Collected::new(alloc, deep);
+        in_type(self, &mut found);
+        found.end()
     }
 }
 
 impl Collect for Statement {
     fn collect<'a, T: Kind>(&'a self, alloc: Global, deep: bool) -> Result<Vec<&'a T>, Error> {
-        law_of_variants();
-        let mut nodes = Vec::new(alloc);
-        in_statement(self, deep, &mut nodes)?;
-        Ok(nodes)
+        let mut found = Collected::new(alloc, deep);
+        in_statement(self, &mut found);
+        found.end()
     }
 }
 
 impl Collect for Attribute {
     fn collect<'a, T: Kind>(&'a self, alloc: Global, deep: bool) -> Result<Vec<&'a T>, Error> {
-        law_of_variants();
-        let mut nodes = Vec::new(alloc);
-        in_attribute(self, deep, &mut nodes)?;
-        Ok(nodes)
+        let mut found = Collected::new(alloc, deep);
+        in_attribute(self, &mut found);
+        found.end()
     }
 }
 
 impl Collect for GlobalDeclaration {
     fn collect<'a, T: Kind>(&'a self, alloc: Global, deep: bool) -> Result<Vec<&'a T>, Error> {
-        law_of_variants();
-        let mut nodes = Vec::new(alloc);
-        in_global(self, deep, &mut nodes)?;
-        Ok(nodes)
+        let mut found = Collected::new(alloc, deep);
+        in_global(self, &mut found);
+        found.end()
     }
 }
 
 impl Collect for Declaration {
     fn collect<'a, T: Kind>(&'a self, alloc: Global, deep: bool) -> Result<Vec<&'a T>, Error> {
-        let mut nodes = Vec::new(alloc);
-        in_declaration(self, deep, &mut nodes)?;
-        Ok(nodes)
+        let mut found = Collected::new(alloc, deep);
+        in_declaration(self, &mut found);
+        found.end()
     }
 }
 
 impl Collect for TypeAlias {
     fn collect<'a, T: Kind>(&'a self, alloc: Global, deep: bool) -> Result<Vec<&'a T>, Error> {
-        let mut nodes = Vec::new(alloc);
-        in_alias(self, deep, &mut nodes)?;
-        Ok(nodes)
+        let mut found = Collected::new(alloc, deep);
+        in_alias(self, &mut found);
+        found.end()
     }
 }
 
 impl Collect for Struct {
     fn collect<'a, T: Kind>(&'a self, alloc: Global, deep: bool) -> Result<Vec<&'a T>, Error> {
-        let mut nodes = Vec::new(alloc);
-        in_struct(self, deep, &mut nodes)?;
-        Ok(nodes)
+        let mut found = Collected::new(alloc, deep);
+        in_struct(self, &mut found);
+        found.end()
     }
 }
 
 impl Collect for StructMember {
     fn collect<'a, T: Kind>(&'a self, alloc: Global, deep: bool) -> Result<Vec<&'a T>, Error> {
-        let mut nodes = Vec::new(alloc);
-        in_member(self, deep, &mut nodes)?;
-        Ok(nodes)
+        let mut found = Collected::new(alloc, deep);
+        in_member(self, &mut found);
+        found.end()
     }
 }
 
 impl Collect for Function {
     fn collect<'a, T: Kind>(&'a self, alloc: Global, deep: bool) -> Result<Vec<&'a T>, Error> {
-        let mut nodes = Vec::new(alloc);
-        in_function(self, deep, &mut nodes)?;
-        Ok(nodes)
+        let mut found = Collected::new(alloc, deep);
+        in_function(self, &mut found);
+        found.end()
     }
 }
 
 impl Collect for ConstAssert {
     fn collect<'a, T: Kind>(&'a self, alloc: Global, deep: bool) -> Result<Vec<&'a T>, Error> {
-        let mut nodes = Vec::new(alloc);
-        in_assert(self, deep, &mut nodes)?;
-        Ok(nodes)
+        let mut found = Collected::new(alloc, deep);
+        in_assert(self, &mut found);
+        found.end()
     }
 }
 
@@ -128,10 +124,10 @@ impl<N: Collect> Collect for Spanned<N> {
 
 impl Collect for TranslationUnit {
     fn collect<'a, T: Kind>(&'a self, alloc: Global, deep: bool) -> Result<Vec<&'a T>, Error> {
-        let mut nodes = Vec::new(alloc);
-        in_imports(self.imports(), deep, &mut nodes)?;
-        in_directives(self.global_directives(), deep, &mut nodes)?;
-        in_declarations(self.global_declarations(), deep, &mut nodes)?;
-        Ok(nodes)
+        let mut found = Collected::new(alloc, deep);
+        in_imports(self.imports(), &mut found);
+        in_directives(self.global_directives(), &mut found);
+        in_declarations(self.global_declarations(), &mut found);
+        found.end()
     }
 }

@@ -1,144 +1,100 @@
 //! What is collected in expressions and types.
-ghost use Rattle.std.specs.Prelude.{◌≡◌, ◌++◌, IfErr, IfOk};
-ghost use Rattle.wesl_names.specs.declared.errors.Error as error;
-ghost use Rattle.wesl_syntax.specs.Tree.{list};
-ghost use Rattle.wesl_syntax.specs.View.{argument_view, call_view, expression_tree, expression_view, listed, type_view};
-ghost use Rattle.wesl_collect.specs.Lent.{views};
-ghost use Rattle.wesl_collect.specs.Walk.{found, found_in};
+ghost use Rattle.wesl_syntax.specs.Tree.{before, end, forest_of};
+ghost use Rattle.std.specs.Prelude.{map};
+ghost use Rattle.wesl_syntax.specs.View.{argument_view, call_view, expression_tree, expression_view, type_view};
+ghost use Rattle.wesl_collect.specs.Adds.{Adds};
 
-use crate::collect::enter::enter;
-use wesl_kinds::{Kind, Node, law_of_expressions};
-use wesl_names::Error;
+use crate::collected::Collected;
+use wesl_kinds::{Kind, Node};
 use wesl_syntax::{Expression, ExpressionNode, FunctionCall, TemplateArg, TypeExpression};
 
 /// Adds the nodes of a kind in an expression, in document order. Refused for want of memory alone.
 #[cycle(collecting)]
-pub fn in_expression<'a, T: Kind>(
-    expression: &'a Expression,
-    deep: bool,
-    nodes: &mut Vec<&'a T>,
-) -> Result<(), Error>
-    ensures added { IfOk result (λ _. views T.view nodes.new.items ≡ views T.view nodes.old.items ++ found T.sought deep (expression_view expression.now)) }
-    ensures refused { IfErr result (λ e. e ≡ error.Memory) }
+pub fn in_expression<'a, T: Kind>(expression: &'a Expression, found: &mut Collected<'a, T>)
+    ensures { Adds T.sought T.view found.old (before (expression_view expression.now) end) found.new }
 {
     match expression {
-        Expression::Literal(_) => Ok(()),
-        Expression::Parenthesized { expression } => at_expression(expression, deep, nodes),
-        Expression::NamedComponent { base, component: _ } => at_expression(base, deep, nodes),
+        Expression::Literal(_) => {}
+        Expression::Parenthesized { expression } => at_expression(expression, found),
+        Expression::NamedComponent { base, component: _ } => at_expression(base, found),
         Expression::Indexing { base, index } => {
-            at_expression(base, deep, nodes)?;
-            at_expression(index, deep, nodes)
+            at_expression(base, found);
+            at_expression(index, found);
         }
         Expression::Unary {
             operator: _,
             operand,
-        } => at_expression(operand, deep, nodes),
+        } => at_expression(operand, found),
         Expression::Binary {
             operator: _,
             left,
             right,
         } => {
-            at_expression(left, deep, nodes)?;
-            at_expression(right, deep, nodes)
+            at_expression(left, found);
+            at_expression(right, found);
         }
-        Expression::FunctionCall(call) => in_call(call, deep, nodes),
-        Expression::TypeOrIdentifier(ty) => at_type(ty, deep, nodes),
+        Expression::FunctionCall(call) => in_call(call, found),
+        Expression::TypeOrIdentifier(ty) => at_type(ty, found),
     }
 }
 
 #[cycle(collecting)]
-pub(crate) fn at_expression<'a, T: Kind>(
-    node: &'a ExpressionNode,
-    deep: bool,
-    nodes: &mut Vec<&'a T>,
-) -> Result<(), Error>
-    ensures added { IfOk result (λ _. views T.view nodes.new.items ≡ views T.view nodes.old.items ++ found T.sought deep (expression_tree node.now)) }
-    ensures refused { IfErr result (λ e. e ≡ error.Memory) }
+pub(crate) fn at_expression<'a, T: Kind>(node: &'a ExpressionNode, found: &mut Collected<'a, T>)
+    ensures { Adds T.sought T.view found.old (before (expression_tree node.now) end) found.new }
 {
-    law_of_expressions();
-    if enter(Node::Expression(node), deep, nodes)? {
-        in_expression(&node.node, deep, nodes)
-    } else {
-        Ok(())
+    if found.enter(Node::Expression(node)) {
+        in_expression(&node.node, found);
     }
 }
 
 #[cycle(collecting)]
 pub(crate) fn at_expressions<'a, T: Kind>(
     expressions: &'a Vec<ExpressionNode>,
-    deep: bool,
-    nodes: &mut Vec<&'a T>,
-) -> Result<(), Error>
-    ensures added { IfOk result (λ _. views T.view nodes.new.items ≡ views T.view nodes.old.items ++ found T.sought deep (listed expression_tree list expressions.now)) }
-    ensures refused { IfErr result (λ e. e ≡ error.Memory) }
+    found: &mut Collected<'a, T>,
+)
+    ensures { Adds T.sought T.view found.old (forest_of (map expression_tree expressions.now.items)) found.new }
 {
-    law_of_expressions();
     for node in expressions {
-        if !enter(Node::Expression(node), deep, nodes)? {
+        if !found.enter(Node::Expression(node)) {
             continue;
         }
-        in_expression(&node.node, deep, nodes)?;
+        in_expression(&node.node, found);
     }
-    Ok(())
 }
 
 #[cycle(collecting)]
-pub(crate) fn in_call<'a, T: Kind>(
-    call: &'a FunctionCall,
-    deep: bool,
-    nodes: &mut Vec<&'a T>,
-) -> Result<(), Error>
-    ensures added { IfOk result (λ _. views T.view nodes.new.items ≡ views T.view nodes.old.items ++ found T.sought deep (call_view call.now)) }
-    ensures refused { IfErr result (λ e. e ≡ error.Memory) }
+pub(crate) fn in_call<'a, T: Kind>(call: &'a FunctionCall, found: &mut Collected<'a, T>)
+    ensures { Adds T.sought T.view found.old (before (call_view call.now) end) found.new }
 {
-    at_type(&call.ty, deep, nodes)?;
-    at_expressions(&call.arguments, deep, nodes)
+    at_type(&call.ty, found);
+    at_expressions(&call.arguments, found);
 }
 
 #[cycle(collecting)]
-pub(crate) fn at_type<'a, T: Kind>(
-    ty: &'a TypeExpression,
-    deep: bool,
-    nodes: &mut Vec<&'a T>,
-) -> Result<(), Error>
-    ensures added { IfOk result (λ _. views T.view nodes.new.items ≡ views T.view nodes.old.items ++ found T.sought deep (type_view ty.now)) }
-    ensures refused { IfErr result (λ e. e ≡ error.Memory) }
+pub(crate) fn at_type<'a, T: Kind>(ty: &'a TypeExpression, found: &mut Collected<'a, T>)
+    ensures { Adds T.sought T.view found.old (before (type_view ty.now) end) found.new }
 {
-    law_of_expressions();
-    if enter(Node::TypeExpression(ty), deep, nodes)? {
-        in_type(ty, deep, nodes)
-    } else {
-        Ok(())
+    if found.enter(Node::TypeExpression(ty)) {
+        in_type(ty, found);
     }
 }
 
 /// Adds those strictly below a type.
 #[cycle(collecting)]
-pub fn in_type<'a, T: Kind>(
-    ty: &'a TypeExpression,
-    deep: bool,
-    nodes: &mut Vec<&'a T>,
-) -> Result<(), Error>
-    ensures added { IfOk result (λ _. views T.view nodes.new.items ≡ views T.view nodes.old.items ++ found_in T.sought deep (type_view ty.now).children) }
-    ensures refused { IfErr result (λ e. e ≡ error.Memory) }
+pub fn in_type<'a, T: Kind>(ty: &'a TypeExpression, found: &mut Collected<'a, T>)
+    ensures { Adds T.sought T.view found.old (type_view ty.now).children found.new }
 {
     match &ty.template_args {
-        None => Ok(()),
-        Some(arguments) => in_arguments(arguments, deep, nodes),
+        None => {}
+        Some(arguments) => in_arguments(arguments, found),
     }
 }
 
 #[cycle(collecting)]
-fn in_arguments<'a, T: Kind>(
-    arguments: &'a Vec<TemplateArg>,
-    deep: bool,
-    nodes: &mut Vec<&'a T>,
-) -> Result<(), Error>
-    ensures added { IfOk result (λ _. views T.view nodes.new.items ≡ views T.view nodes.old.items ++ found T.sought deep (listed argument_view list arguments.now)) }
-    ensures refused { IfErr result (λ e. e ≡ error.Memory) }
+fn in_arguments<'a, T: Kind>(arguments: &'a Vec<TemplateArg>, found: &mut Collected<'a, T>)
+    ensures { Adds T.sought T.view found.old (forest_of (map argument_view arguments.now.items)) found.new }
 {
     for argument in arguments {
-        at_expression(&argument.expression, deep, nodes)?;
+        at_expression(&argument.expression, found);
     }
-    Ok(())
 }

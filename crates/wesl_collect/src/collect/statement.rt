@@ -1,125 +1,103 @@
 //! What is collected in statements.
-ghost use Rattle.std.specs.Prelude.{◌≡◌, ◌++◌, IfErr, IfOk};
-ghost use Rattle.wesl_names.specs.declared.errors.Error as error;
 ghost use Rattle.std.specs.Box.{box_value};
-ghost use Rattle.wesl_syntax.specs.Tree.{clauses as clauses_kind, list, statements as statements_kind};
-ghost use Rattle.wesl_syntax.specs.View.{assert_view, break_if_view, clause_view, compound_view, continuing_view, declaration_view, else_if_view, else_view, if_view, listed, optional, selector_view, statement_tree, statement_view};
-ghost use Rattle.wesl_collect.specs.Lent.{views};
-ghost use Rattle.wesl_collect.specs.Walk.{found};
+ghost use Rattle.std.specs.Prelude.{map};
+ghost use Rattle.wesl_syntax.specs.Tree.{before, end, forest_of};
+ghost use Rattle.wesl_syntax.specs.View.{assert_view, break_if_view, clause_view, compound_view, continuing_view, declaration_view, else_if_view, else_view, if_view, optional, selector_view, statement_tree, statement_view};
+ghost use Rattle.wesl_collect.specs.Adds.{Adds};
 
 use crate::collect::attribute::{at_attributes, at_optional_expression, at_optional_type};
-use crate::collect::enter::enter;
 use crate::collect::expression::{at_expression, in_call};
+use crate::collected::Collected;
 use wesl_kinds::{Kind, Node};
-use wesl_names::Error;
 use wesl_syntax::{
     BreakIfStatement, CaseSelector, CompoundStatement, ConstAssert, ContinuingStatement,
     Declaration, ElseClause, ElseIfClause, IfClause, Statement, StatementNode, SwitchClause,
 };
 
-/// Adds the nodes of a kind in a declaration, in document order. Refused for want of memory alone.
-pub fn in_declaration<'a, T: Kind>(
-    declaration: &'a Declaration,
-    deep: bool,
-    nodes: &mut Vec<&'a T>,
-) -> Result<(), Error>
-    ensures added { IfOk result (λ _. views T.view nodes.new.items ≡ views T.view nodes.old.items ++ found T.sought deep (declaration_view declaration.now)) }
-    ensures refused { IfErr result (λ e. e ≡ error.Memory) }
+/// Adds the nodes of a kind in a declaration, in document order.
+pub fn in_declaration<'a, T: Kind>(declaration: &'a Declaration, found: &mut Collected<'a, T>)
+    ensures { Adds T.sought T.view found.old (before (declaration_view declaration.now) end) found.new }
 {
-    at_attributes(&declaration.attributes, deep, nodes)?;
-    at_optional_type(&declaration.ty, deep, nodes)?;
-    at_optional_expression(&declaration.initializer, deep, nodes)
+    at_attributes(&declaration.attributes, found);
+    at_optional_type(&declaration.ty, found);
+    at_optional_expression(&declaration.initializer, found);
 }
 
 /// Adds those in a `const_assert`.
-pub fn in_assert<'a, T: Kind>(
-    assertion: &'a ConstAssert,
-    deep: bool,
-    nodes: &mut Vec<&'a T>,
-) -> Result<(), Error>
-    ensures added { IfOk result (λ _. views T.view nodes.new.items ≡ views T.view nodes.old.items ++ found T.sought deep (assert_view assertion.now)) }
-    ensures refused { IfErr result (λ e. e ≡ error.Memory) }
+pub fn in_assert<'a, T: Kind>(assertion: &'a ConstAssert, found: &mut Collected<'a, T>)
+    ensures { Adds T.sought T.view found.old (before (assert_view assertion.now) end) found.new }
 {
-    at_attributes(&assertion.attributes, deep, nodes)?;
-    at_expression(&assertion.expression, deep, nodes)
+    at_attributes(&assertion.attributes, found);
+    at_expression(&assertion.expression, found);
 }
 
-fn in_selector<'a, T: Kind>(
-    selector: &'a CaseSelector,
-    deep: bool,
-    nodes: &mut Vec<&'a T>,
-) -> Result<(), Error>
-    ensures added { IfOk result (λ _. views T.view nodes.new.items ≡ views T.view nodes.old.items ++ found T.sought deep (selector_view selector.now)) }
-    ensures refused { IfErr result (λ e. e ≡ error.Memory) }
+fn in_selector<'a, T: Kind>(selector: &'a CaseSelector, found: &mut Collected<'a, T>)
+    ensures { Adds T.sought T.view found.old (before (selector_view selector.now) end) found.new }
 {
     match selector {
-        CaseSelector::Default => Ok(()),
-        CaseSelector::Expression(value) => at_expression(value, deep, nodes),
+        CaseSelector::Default => {}
+        CaseSelector::Expression(value) => at_expression(value, found),
     }
 }
 
-fn in_selectors<'a, T: Kind>(
-    selectors: &'a Vec<CaseSelector>,
-    deep: bool,
-    nodes: &mut Vec<&'a T>,
-) -> Result<(), Error>
-    ensures added { IfOk result (λ _. views T.view nodes.new.items ≡ views T.view nodes.old.items ++ found T.sought deep (listed selector_view list selectors.now)) }
-    ensures refused { IfErr result (λ e. e ≡ error.Memory) }
+fn in_selectors<'a, T: Kind>(selectors: &'a Vec<CaseSelector>, found: &mut Collected<'a, T>)
+    ensures { Adds T.sought T.view found.old (forest_of (map selector_view selectors.now.items)) found.new }
 {
     for selector in selectors {
-        in_selector(selector, deep, nodes)?;
+        in_selector(selector, found);
     }
-    Ok(())
 }
 
-fn in_break_if<'a, T: Kind>(
-    break_if: &'a BreakIfStatement,
-    deep: bool,
-    nodes: &mut Vec<&'a T>,
-) -> Result<(), Error>
-    ensures added { IfOk result (λ _. views T.view nodes.new.items ≡ views T.view nodes.old.items ++ found T.sought deep (break_if_view break_if.now)) }
-    ensures refused { IfErr result (λ e. e ≡ error.Memory) }
+fn in_break_if<'a, T: Kind>(break_if: &'a BreakIfStatement, found: &mut Collected<'a, T>)
+    ensures { Adds T.sought T.view found.old (before (break_if_view break_if.now) end) found.new }
 {
-    at_attributes(&break_if.attributes, deep, nodes)?;
-    at_expression(&break_if.expression, deep, nodes)
+    at_attributes(&break_if.attributes, found);
+    at_expression(&break_if.expression, found);
+}
+
+fn in_optional_break_if<'a, T: Kind>(
+    break_if: &'a Option<BreakIfStatement>,
+    found: &mut Collected<'a, T>,
+)
+    ensures { Adds T.sought T.view found.old (before (optional break_if_view break_if.now) end) found.new }
+{
+    match break_if {
+        None => {}
+        Some(break_if) => in_break_if(break_if, found),
+    }
 }
 
 /// Adds those in a statement.
 #[cycle(collecting_statements)]
-pub fn in_statement<'a, T: Kind>(
-    statement: &'a Statement,
-    deep: bool,
-    nodes: &mut Vec<&'a T>,
-) -> Result<(), Error>
-    ensures added { IfOk result (λ _. views T.view nodes.new.items ≡ views T.view nodes.old.items ++ found T.sought deep (statement_view statement.now)) }
-    ensures refused { IfErr result (λ e. e ≡ error.Memory) }
+pub fn in_statement<'a, T: Kind>(statement: &'a Statement, found: &mut Collected<'a, T>)
+    ensures { Adds T.sought T.view found.old (before (statement_view statement.now) end) found.new }
 {
     match statement {
-        Statement::Void => Ok(()),
-        Statement::Compound(body) => in_compound(body, deep, nodes),
+        Statement::Void => {}
+        Statement::Compound(body) => in_compound(body, found),
         Statement::Assignment {
             attributes,
             operator: _,
             lhs,
             rhs,
         } => {
-            at_attributes(attributes, deep, nodes)?;
-            at_expression(lhs, deep, nodes)?;
-            at_expression(rhs, deep, nodes)
+            at_attributes(attributes, found);
+            at_expression(lhs, found);
+            at_expression(rhs, found);
         }
         Statement::Increment {
             attributes,
             expression,
         } => {
-            at_attributes(attributes, deep, nodes)?;
-            at_expression(expression, deep, nodes)
+            at_attributes(attributes, found);
+            at_expression(expression, found);
         }
         Statement::Decrement {
             attributes,
             expression,
         } => {
-            at_attributes(attributes, deep, nodes)?;
-            at_expression(expression, deep, nodes)
+            at_attributes(attributes, found);
+            at_expression(expression, found);
         }
         Statement::If {
             attributes,
@@ -127,10 +105,10 @@ pub fn in_statement<'a, T: Kind>(
             else_if_clauses,
             else_clause,
         } => {
-            at_attributes(attributes, deep, nodes)?;
-            in_if(if_clause, deep, nodes)?;
-            in_else_ifs(else_if_clauses, deep, nodes)?;
-            in_optional_else(else_clause, deep, nodes)
+            at_attributes(attributes, found);
+            in_if(if_clause, found);
+            in_else_ifs(else_if_clauses, found);
+            in_optional_else(else_clause, found);
         }
         Statement::Switch {
             attributes,
@@ -138,19 +116,19 @@ pub fn in_statement<'a, T: Kind>(
             body_attributes,
             clauses,
         } => {
-            at_attributes(attributes, deep, nodes)?;
-            at_expression(expression, deep, nodes)?;
-            at_attributes(body_attributes, deep, nodes)?;
-            in_clauses(clauses, deep, nodes)
+            at_attributes(attributes, found);
+            at_expression(expression, found);
+            at_attributes(body_attributes, found);
+            in_clauses(clauses, found);
         }
         Statement::Loop {
             attributes,
             body,
             continuing,
         } => {
-            at_attributes(attributes, deep, nodes)?;
-            in_compound(body, deep, nodes)?;
-            in_optional_continuing(continuing, deep, nodes)
+            at_attributes(attributes, found);
+            in_compound(body, found);
+            in_optional_continuing(continuing, found);
         }
         Statement::For {
             attributes,
@@ -159,216 +137,158 @@ pub fn in_statement<'a, T: Kind>(
             update,
             body,
         } => {
-            at_attributes(attributes, deep, nodes)?;
-            at_optional_statement(initializer, deep, nodes)?;
-            at_optional_expression(condition, deep, nodes)?;
-            at_optional_statement(update, deep, nodes)?;
-            in_compound(body, deep, nodes)
+            at_attributes(attributes, found);
+            at_optional_statement(initializer, found);
+            at_optional_expression(condition, found);
+            at_optional_statement(update, found);
+            in_compound(body, found);
         }
         Statement::While {
             attributes,
             condition,
             body,
         } => {
-            at_attributes(attributes, deep, nodes)?;
-            at_expression(condition, deep, nodes)?;
-            in_compound(body, deep, nodes)
+            at_attributes(attributes, found);
+            at_expression(condition, found);
+            in_compound(body, found);
         }
-        Statement::Break { attributes } => at_attributes(attributes, deep, nodes),
-        Statement::Continue { attributes } => at_attributes(attributes, deep, nodes),
+        Statement::Break { attributes } => at_attributes(attributes, found),
+        Statement::Continue { attributes } => at_attributes(attributes, found),
         Statement::Return {
             attributes,
             expression,
         } => {
-            at_attributes(attributes, deep, nodes)?;
-            at_optional_expression(expression, deep, nodes)
+            at_attributes(attributes, found);
+            at_optional_expression(expression, found);
         }
-        Statement::Discard { attributes } => at_attributes(attributes, deep, nodes),
+        Statement::Discard { attributes } => at_attributes(attributes, found),
         Statement::FunctionCall { attributes, call } => {
-            at_attributes(attributes, deep, nodes)?;
-            in_call(call, deep, nodes)
+            at_attributes(attributes, found);
+            in_call(call, found);
         }
-        Statement::ConstAssert(assertion) => in_assert(assertion, deep, nodes),
-        Statement::Declaration(declaration) => in_declaration(declaration, deep, nodes),
+        Statement::ConstAssert(assertion) => in_assert(assertion, found),
+        Statement::Declaration(declaration) => in_declaration(declaration, found),
     }
 }
 
 #[cycle(collecting_statements)]
 fn at_optional_statement<'a, T: Kind>(
     node: &'a Option<Box<StatementNode>>,
-    deep: bool,
-    nodes: &mut Vec<&'a T>,
-) -> Result<(), Error>
-    ensures added { IfOk result (λ _. views T.view nodes.new.items ≡ views T.view nodes.old.items ++ found T.sought deep (optional (λ s. statement_tree (box_value s)) node.now)) }
-    ensures refused { IfErr result (λ e. e ≡ error.Memory) }
+    found: &mut Collected<'a, T>,
+)
+    ensures { Adds T.sought T.view found.old (before (optional (λ s. statement_tree (box_value s)) node.now) end) found.new }
 {
     match node {
-        None => Ok(()),
+        None => {}
         Some(node) => {
-            if enter(Node::Statement(node), deep, nodes)? {
-                in_statement(&node.node, deep, nodes)
-            } else {
-                Ok(())
+            if found.enter(Node::Statement(node)) {
+                in_statement(&node.node, found);
             }
         }
     }
 }
 
 #[cycle(collecting_statements)]
-fn at_statements<'a, T: Kind>(
-    statements: &'a Vec<StatementNode>,
-    deep: bool,
-    nodes: &mut Vec<&'a T>,
-) -> Result<(), Error>
-    ensures added { IfOk result (λ _. views T.view nodes.new.items ≡ views T.view nodes.old.items ++ found T.sought deep (listed statement_tree statements_kind statements.now)) }
-    ensures refused { IfErr result (λ e. e ≡ error.Memory) }
+fn at_statements<'a, T: Kind>(statements: &'a Vec<StatementNode>, found: &mut Collected<'a, T>)
+    ensures { Adds T.sought T.view found.old (forest_of (map statement_tree statements.now.items)) found.new }
 {
     for node in statements {
-        if !enter(Node::Statement(node), deep, nodes)? {
+        if !found.enter(Node::Statement(node)) {
             continue;
         }
-        in_statement(&node.node, deep, nodes)?;
+        in_statement(&node.node, found);
     }
-    Ok(())
 }
 
 #[cycle(collecting_statements)]
-pub(crate) fn in_compound<'a, T: Kind>(
-    body: &'a CompoundStatement,
-    deep: bool,
-    nodes: &mut Vec<&'a T>,
-) -> Result<(), Error>
-    ensures added { IfOk result (λ _. views T.view nodes.new.items ≡ views T.view nodes.old.items ++ found T.sought deep (compound_view body.now)) }
-    ensures refused { IfErr result (λ e. e ≡ error.Memory) }
+pub(crate) fn in_compound<'a, T: Kind>(body: &'a CompoundStatement, found: &mut Collected<'a, T>)
+    ensures { Adds T.sought T.view found.old (before (compound_view body.now) end) found.new }
 {
-    at_attributes(&body.attributes, deep, nodes)?;
-    at_statements(&body.statements, deep, nodes)
+    at_attributes(&body.attributes, found);
+    at_statements(&body.statements, found);
 }
 
 #[cycle(collecting_statements)]
-fn in_if<'a, T: Kind>(clause: &'a IfClause, deep: bool, nodes: &mut Vec<&'a T>) -> Result<(), Error>
-    ensures added { IfOk result (λ _. views T.view nodes.new.items ≡ views T.view nodes.old.items ++ found T.sought deep (if_view clause.now)) }
-    ensures refused { IfErr result (λ e. e ≡ error.Memory) }
+fn in_if<'a, T: Kind>(clause: &'a IfClause, found: &mut Collected<'a, T>)
+    ensures { Adds T.sought T.view found.old (before (if_view clause.now) end) found.new }
 {
-    at_expression(&clause.expression, deep, nodes)?;
-    in_compound(&clause.body, deep, nodes)
+    at_expression(&clause.expression, found);
+    in_compound(&clause.body, found);
 }
 
 #[cycle(collecting_statements)]
-fn in_else_if<'a, T: Kind>(
-    clause: &'a ElseIfClause,
-    deep: bool,
-    nodes: &mut Vec<&'a T>,
-) -> Result<(), Error>
-    ensures added { IfOk result (λ _. views T.view nodes.new.items ≡ views T.view nodes.old.items ++ found T.sought deep (else_if_view clause.now)) }
-    ensures refused { IfErr result (λ e. e ≡ error.Memory) }
+fn in_else_if<'a, T: Kind>(clause: &'a ElseIfClause, found: &mut Collected<'a, T>)
+    ensures { Adds T.sought T.view found.old (before (else_if_view clause.now) end) found.new }
 {
-    at_attributes(&clause.attributes, deep, nodes)?;
-    at_expression(&clause.expression, deep, nodes)?;
-    in_compound(&clause.body, deep, nodes)
+    at_attributes(&clause.attributes, found);
+    at_expression(&clause.expression, found);
+    in_compound(&clause.body, found);
 }
 
 #[cycle(collecting_statements)]
-fn in_else_ifs<'a, T: Kind>(
-    clauses: &'a Vec<ElseIfClause>,
-    deep: bool,
-    nodes: &mut Vec<&'a T>,
-) -> Result<(), Error>
-    ensures added { IfOk result (λ _. views T.view nodes.new.items ≡ views T.view nodes.old.items ++ found T.sought deep (listed else_if_view list clauses.now)) }
-    ensures refused { IfErr result (λ e. e ≡ error.Memory) }
+fn in_else_ifs<'a, T: Kind>(clauses: &'a Vec<ElseIfClause>, found: &mut Collected<'a, T>)
+    ensures { Adds T.sought T.view found.old (forest_of (map else_if_view clauses.now.items)) found.new }
 {
     for clause in clauses {
-        in_else_if(clause, deep, nodes)?;
+        in_else_if(clause, found);
     }
-    Ok(())
 }
 
 /// Adds those in an `else` clause.
 #[cycle(collecting_statements)]
-pub fn in_else<'a, T: Kind>(
-    clause: &'a ElseClause,
-    deep: bool,
-    nodes: &mut Vec<&'a T>,
-) -> Result<(), Error>
-    ensures added { IfOk result (λ _. views T.view nodes.new.items ≡ views T.view nodes.old.items ++ found T.sought deep (else_view clause.now)) }
-    ensures refused { IfErr result (λ e. e ≡ error.Memory) }
+pub fn in_else<'a, T: Kind>(clause: &'a ElseClause, found: &mut Collected<'a, T>)
+    ensures { Adds T.sought T.view found.old (before (else_view clause.now) end) found.new }
 {
-    at_attributes(&clause.attributes, deep, nodes)?;
-    in_compound(&clause.body, deep, nodes)
+    at_attributes(&clause.attributes, found);
+    in_compound(&clause.body, found);
 }
 
 #[cycle(collecting_statements)]
-fn in_optional_else<'a, T: Kind>(
-    clause: &'a Option<ElseClause>,
-    deep: bool,
-    nodes: &mut Vec<&'a T>,
-) -> Result<(), Error>
-    ensures added { IfOk result (λ _. views T.view nodes.new.items ≡ views T.view nodes.old.items ++ found T.sought deep (optional else_view clause.now)) }
-    ensures refused { IfErr result (λ e. e ≡ error.Memory) }
+fn in_optional_else<'a, T: Kind>(clause: &'a Option<ElseClause>, found: &mut Collected<'a, T>)
+    ensures { Adds T.sought T.view found.old (before (optional else_view clause.now) end) found.new }
 {
     match clause {
-        None => Ok(()),
-        Some(clause) => in_else(clause, deep, nodes),
+        None => {}
+        Some(clause) => in_else(clause, found),
     }
 }
 
 #[cycle(collecting_statements)]
-fn in_clause<'a, T: Kind>(
-    clause: &'a SwitchClause,
-    deep: bool,
-    nodes: &mut Vec<&'a T>,
-) -> Result<(), Error>
-    ensures added { IfOk result (λ _. views T.view nodes.new.items ≡ views T.view nodes.old.items ++ found T.sought deep (clause_view clause.now)) }
-    ensures refused { IfErr result (λ e. e ≡ error.Memory) }
+fn in_clause<'a, T: Kind>(clause: &'a SwitchClause, found: &mut Collected<'a, T>)
+    ensures { Adds T.sought T.view found.old (before (clause_view clause.now) end) found.new }
 {
-    at_attributes(&clause.attributes, deep, nodes)?;
-    in_selectors(&clause.case_selectors, deep, nodes)?;
-    in_compound(&clause.body, deep, nodes)
+    at_attributes(&clause.attributes, found);
+    in_selectors(&clause.case_selectors, found);
+    in_compound(&clause.body, found);
 }
 
 #[cycle(collecting_statements)]
-fn in_clauses<'a, T: Kind>(
-    clauses: &'a Vec<SwitchClause>,
-    deep: bool,
-    nodes: &mut Vec<&'a T>,
-) -> Result<(), Error>
-    ensures added { IfOk result (λ _. views T.view nodes.new.items ≡ views T.view nodes.old.items ++ found T.sought deep (listed clause_view clauses_kind clauses.now)) }
-    ensures refused { IfErr result (λ e. e ≡ error.Memory) }
+fn in_clauses<'a, T: Kind>(clauses: &'a Vec<SwitchClause>, found: &mut Collected<'a, T>)
+    ensures { Adds T.sought T.view found.old (forest_of (map clause_view clauses.now.items)) found.new }
 {
     for clause in clauses {
-        in_clause(clause, deep, nodes)?;
+        in_clause(clause, found);
     }
-    Ok(())
 }
 
 #[cycle(collecting_statements)]
 fn in_optional_continuing<'a, T: Kind>(
     continuing: &'a Option<ContinuingStatement>,
-    deep: bool,
-    nodes: &mut Vec<&'a T>,
-) -> Result<(), Error>
-    ensures added { IfOk result (λ _. views T.view nodes.new.items ≡ views T.view nodes.old.items ++ found T.sought deep (optional continuing_view continuing.now)) }
-    ensures refused { IfErr result (λ e. e ≡ error.Memory) }
+    found: &mut Collected<'a, T>,
+)
+    ensures { Adds T.sought T.view found.old (before (optional continuing_view continuing.now) end) found.new }
 {
     match continuing {
-        None => Ok(()),
-        Some(continuing) => in_continuing(continuing, deep, nodes),
+        None => {}
+        Some(continuing) => in_continuing(continuing, found),
     }
 }
 
 #[cycle(collecting_statements)]
-fn in_continuing<'a, T: Kind>(
-    continuing: &'a ContinuingStatement,
-    deep: bool,
-    nodes: &mut Vec<&'a T>,
-) -> Result<(), Error>
-    ensures added { IfOk result (λ _. views T.view nodes.new.items ≡ views T.view nodes.old.items ++ found T.sought deep (continuing_view continuing.now)) }
-    ensures refused { IfErr result (λ e. e ≡ error.Memory) }
+fn in_continuing<'a, T: Kind>(continuing: &'a ContinuingStatement, found: &mut Collected<'a, T>)
+    ensures { Adds T.sought T.view found.old (before (continuing_view continuing.now) end) found.new }
 {
-    at_attributes(&continuing.attributes, deep, nodes)?;
-    in_compound(&continuing.body, deep, nodes)?;
-    match &continuing.break_if {
-        None => Ok(()),
-        Some(break_if) => in_break_if(break_if, deep, nodes),
-    }
+    at_attributes(&continuing.attributes, found);
+    in_compound(&continuing.body, found);
+    in_optional_break_if(&continuing.break_if, found);
 }

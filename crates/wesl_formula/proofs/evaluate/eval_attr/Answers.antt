@@ -11,7 +11,7 @@ pub returns-clause-left : goal.returns-clause-left
 returns-clause-left c =
     c.simplify.ensures
     ∙ ap (λ t. written (residual (known (by_number c.args.names.now (answer_to c.args.features.now))) (form t)))
-    (equal_copy (expression_view c.args.expression.now.node) (expression_view c.in_ok-left.left) c.of.result.rest.now c.of.ensures.keeps c.in_ok-left.ensures.tree)
+    (ap expression_view c.in_ok-left.ensures.given ∙ equal_copy c.of-copying.ensures.keeps c.expression-copy.ensures c.in_ok-left.ensures.noted)
 
 pub returns-clause-faultless : goal.returns-clause-faultless
 returns-clause-faultless c = search rules

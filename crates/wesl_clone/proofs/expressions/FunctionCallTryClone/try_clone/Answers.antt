@@ -3,4 +3,4 @@ use Rattle.wesl_copies.proofs.Kept.{equal_copies}
 use Rattle.wesl_clone.proofs.expressions.FunctionCallTryClone.try_clone.Goals as goal
 
 pub returns-clause-equal : goal.returns-clause-equal
-returns-clause-equal c = equal_copies call_view (call_view c.args.self.now) c.of.result.rest.now c.call.result c.of.ensures.keeps c.call.ensures.tree
+returns-clause-equal c = equal_copies call_view c.end.result c.of-copying.ensures.keeps c.call-copy.ensures c.end.ensures.given c.end.ensures.noted

@@ -3,4 +3,4 @@ use Rattle.wesl_copies.proofs.Kept.{equal_copies}
 use Rattle.wesl_clone.proofs.statements.ElseClauseTryClone.try_clone.Goals as goal
 
 pub returns-clause-equal : goal.returns-clause-equal
-returns-clause-equal c = equal_copies else_view (else_view c.args.self.now) c.of.result.rest.now c.else_clause.result c.of.ensures.keeps c.else_clause.ensures.tree
+returns-clause-equal c = equal_copies else_view c.end.result c.of-copying.ensures.keeps c.else_clause-copy.ensures c.end.ensures.given c.end.ensures.noted

@@ -1,11 +1,16 @@
-use Rattle.std.proofs.Common.{arith}
-use Rattle.wesl_collect.specs.Lent.{views}
-use Rattle.wesl_syntax.specs.View.{global_view, placed}
-use Rattle.wesl_syntax.specs.Tree.{declaration_node}
-use Rattle.wesl_collect.proofs.Walks.{list_found}
+use Rattle.std.proofs.Common.{arith, refl}
+use Rattle.wesl_syntax.specs.Tree.{at, declaration_node, declarations, kind}
+use Rattle.wesl_collect.proofs.Adds.{inside, walked_all, walked_next, walked_none}
 use Rattle.wesl_collect.proofs.collect.declaration.in_declarations.Goals as goal
 
-pub returns-clause-added : goal.returns-clause-added
-returns-clause-added g c =
-    list_found (placed global_view declaration_node) g.T.Kind.sought c.args.deep c.deref-declaration-items.result.now c.args.declarations.now.items c.loop-declaration.declaration-index (views g.T.Kind.view c.loop-declaration.nodes.items) (views g.T.Kind.view c.args.nodes.now.items)
-    (omega arith) c.deref-declaration-items.ensures.value c.loop-declaration.invariant
+pub loop-declaration-init : goal.loop-declaration-init
+loop-declaration-init g c =
+    walked_none
+
+pub loop-declaration-preserved : goal.loop-declaration-preserved
+loop-declaration-preserved g c =
+    walked_next c.declaration-item.result (omega arith) c.declaration-item.is c.loop-declaration.invariant (inside (at declaration_node _ _) refl (λ f. refl) c.in_global.ensures)
+
+pub returns : goal.returns
+returns g c =
+    inside (kind declarations) refl (λ f. refl) (walked_all (omega arith) c.deref-declaration-items.ensures.value c.loop-declaration.invariant)

@@ -1,11 +1,16 @@
-use Rattle.std.proofs.Common.{arith}
-use Rattle.wesl_collect.specs.Lent.{views}
-use Rattle.wesl_syntax.specs.View.{directive_view, placed}
-use Rattle.wesl_syntax.specs.Tree.{directive_node}
-use Rattle.wesl_collect.proofs.Walks.{list_found}
+use Rattle.std.proofs.Common.{arith, refl}
+use Rattle.wesl_syntax.specs.Tree.{at, directive_list, directive_node, kind}
+use Rattle.wesl_collect.proofs.Adds.{inside, walked_all, walked_next, walked_none}
 use Rattle.wesl_collect.proofs.collect.declaration.in_directives.Goals as goal
 
-pub returns-clause-added : goal.returns-clause-added
-returns-clause-added g c =
-    list_found (placed directive_view directive_node) g.T.Kind.sought c.args.deep c.deref-directive-items.result.now c.args.directives.now.items c.loop-directive.directive-index (views g.T.Kind.view c.loop-directive.nodes.items) (views g.T.Kind.view c.args.nodes.now.items)
-    (omega arith) c.deref-directive-items.ensures.value c.loop-directive.invariant
+pub loop-directive-init : goal.loop-directive-init
+loop-directive-init g c =
+    walked_none
+
+pub loop-directive-preserved : goal.loop-directive-preserved
+loop-directive-preserved g c =
+    walked_next c.directive-item.result (omega arith) c.directive-item.is c.loop-directive.invariant (inside (at directive_node _ _) refl (λ f. refl) c.in_directive.ensures)
+
+pub returns : goal.returns
+returns g c =
+    inside (kind directive_list) refl (λ f. refl) (walked_all (omega arith) c.deref-directive-items.ensures.value c.loop-directive.invariant)

@@ -1,11 +1,7 @@
-use Rattle.std.proofs.Common.{◌≡◌, ◌++◌, drop}
-use Rattle.wesl_collect.specs.Lent.{views}
-use Rattle.wesl_collect.proofs.Walks.{all_found}
-use Rattle.wesl_syntax.specs.View.{directive_view, placed}
 use Rattle.wesl_syntax.specs.Tree.{directive_node}
+use Rattle.wesl_syntax.specs.View.{directive_view, placed}
+use Rattle.wesl_collect.proofs.Adds.{Walked}
 use Rattle.wesl_collect.proofs.collect.declaration.in_directives.Given as goal
 
 abbrev pub invariant-loop-directive : goal.invariant-loop-directive
-invariant-loop-directive g l =
-    views g.T.Kind.view l.nodes.items ++ all_found (placed directive_view directive_node) g.T.Kind.sought l.deep (drop l.directive-index l.directive-items)
-    ≡ views g.T.Kind.view l.initial.nodes.items ++ all_found (placed directive_view directive_node) g.T.Kind.sought l.deep l.directive-items
+invariant-loop-directive g l = Walked g.T.Kind.sought g.T.Kind.view (placed directive_view directive_node) l.initial.found l.directive-items l.directive-index l.found

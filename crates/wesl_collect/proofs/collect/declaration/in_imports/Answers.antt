@@ -1,11 +1,16 @@
-use Rattle.std.proofs.Common.{arith}
-use Rattle.wesl_collect.specs.Lent.{views}
-use Rattle.wesl_syntax.specs.View.{import_view, placed}
-use Rattle.wesl_syntax.specs.Tree.{import_node}
-use Rattle.wesl_collect.proofs.Walks.{list_found}
+use Rattle.std.proofs.Common.{arith, refl}
+use Rattle.wesl_syntax.specs.Tree.{at, import_node, imports, kind}
+use Rattle.wesl_collect.proofs.Adds.{inside, walked_all, walked_next, walked_none}
 use Rattle.wesl_collect.proofs.collect.declaration.in_imports.Goals as goal
 
-pub returns-clause-added : goal.returns-clause-added
-returns-clause-added g c =
-    list_found (placed import_view import_node) g.T.Kind.sought c.args.deep c.deref-import-items.result.now c.args.imports.now.items c.loop-import.import-index (views g.T.Kind.view c.loop-import.nodes.items) (views g.T.Kind.view c.args.nodes.now.items)
-    (omega arith) c.deref-import-items.ensures.value c.loop-import.invariant
+pub loop-import-init : goal.loop-import-init
+loop-import-init g c =
+    walked_none
+
+pub loop-import-preserved : goal.loop-import-preserved
+loop-import-preserved g c =
+    walked_next c.import-item.result (omega arith) c.import-item.is c.loop-import.invariant (inside (at import_node _ _) refl (λ f. refl) c.in_import.ensures)
+
+pub returns : goal.returns
+returns g c =
+    inside (kind imports) refl (λ f. refl) (walked_all (omega arith) c.deref-import-items.ensures.value c.loop-import.invariant)

@@ -1,22 +1,14 @@
 use Rattle.wesl_syntax.specs.Tree.{directive_list, directive_node}
 use Rattle.wesl_syntax.specs.View.{directive_view, placed}
-use Rattle.wesl_copies.proofs.Listed.{all_left, all_listed, next_copied, next_left}
+use Rattle.wesl_copies.proofs.Listed.{all_copied, none_yet, one_more}
 use Rattle.wesl_copies.proofs.copying.Copying.directives.Goals as goal
+
+pub loop-directive-init : goal.loop-directive-init
+loop-directive-init c = none_yet (placed directive_view directive_node) (placed directive_view directive_node) _ _ _ _ c.list-copies.ensures.empty c.list-copies.ensures.noted
 
 pub loop-directive-preserved : goal.loop-directive-preserved
 loop-directive-preserved c =
-    let xs = c.deref-directive-items.result.now in
-    let x = c.directive-item.result in
-    let r = c.loop-directive.self.rest.now in
-    record {
-      copied = next_copied (placed directive_view directive_node) c.loop-directive.copies.items c.push.new.self.items xs c.loop-directive.directive-index x (c.in_ok-directive_node.field-0) r c.directive_node.new.self.rest.now _ c.loop-directive-test.true c.directive-item.is c.in_ok-push.ensures.items c.in_ok-directive_node.ensures.tree c.in_ok-directive_node.ensures.rest c.loop-directive.invariant.copied;
-      left = next_left (placed directive_view directive_node) xs c.loop-directive.directive-index x r c.directive_node.new.self.rest.now _ c.loop-directive-test.true c.directive-item.is c.in_ok-directive_node.ensures.rest c.loop-directive.invariant.left;
-    }
+    one_more (placed directive_view directive_node) (placed directive_view directive_node) c.loop-directive-test.true c.directive-item.is c.loop-directive.invariant c.directive_node-copy.ensures c.push.ensures.noted c.push.ensures.pushed
 
-pub returns-clause-tree : goal.returns-clause-tree
-returns-clause-tree c =
-    all_listed (placed directive_view directive_node) directive_list c.loop-directive.copies c.args.directives.now c.deref-directive-items.result.now c.loop-directive.directive-index c.args.self.now.rest.now c.loop-directive.self.rest.now c.deref-directive-items.ensures.value c.loop-directive-test.false c.loop-directive.invariant.copied
-
-pub returns-clause-rest : goal.returns-clause-rest
-returns-clause-rest c =
-    all_left (placed directive_view directive_node) directive_list c.args.directives.now c.deref-directive-items.result.now c.loop-directive.directive-index c.args.self.now.rest.now c.loop-directive.self.rest.now c.deref-directive-items.ensures.value c.loop-directive-test.false c.loop-directive.invariant.left
+pub returns : goal.returns
+returns c = all_copied (placed directive_view directive_node) (placed directive_view directive_node) directive_list c.args.directives.now c.loop-directive.copies c.loop-directive.invariant c.deref-directive-items.ensures.value c.loop-directive-test.false

@@ -1,9 +1,9 @@
-use Rattle.std.proofs.Common.{◌≡◌, OnOk, subst, sym}
+use Rattle.std.proofs.Common.{subst, sym}
 use Rattle.wesl_syntax.specs.View.{global_view}
-use Rattle.wesl_occurrences.specs.Walk.{walked}
-use Rattle.wesl_occurrences.specs.Views.{state_of, here_view}
+use Rattle.wesl_occurrences.specs.Views.{here_view}
+use Rattle.wesl_occurrences.specs.Noted.{Walks}
 use Rattle.wesl_occurrences.proofs.walk.Walk.global.Goals as goal
 
 pub returns-in-Function : goal.returns-in-Function
 returns-in-Function c =
-    subst (λ d. OnOk c.function.result (state_of c.function.new.self ≡ walked (here_view c.args.here) (state_of c.args.self.now) (global_view d))) (sym c.in-Function.is) c.function.ensures
+    subst (λ d. Walks (here_view c.args.here.now) c.args.self.now c.function.new.self (global_view d)) (sym c.in-Function.is) c.function.ensures

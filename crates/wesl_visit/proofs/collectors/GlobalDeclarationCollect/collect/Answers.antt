@@ -1,6 +1,7 @@
 use Rattle.wesl_syntax.specs.View.{global_view}
-use Rattle.wesl_collect.proofs.Walks.{found_alone, strict}
+use Rattle.wesl_kinds.proofs.Variants.{global_unpicked}
+use Rattle.wesl_collect.proofs.Ends.{listed_below}
 use Rattle.wesl_visit.proofs.collectors.GlobalDeclarationCollect.collect.Goals as goal
 
 pub returns-clause-listed : goal.returns-clause-listed
-returns-clause-listed g c = found_alone g.T.Kind.view _ _ _ _ c.new-nodes.ensures.items c.in_ok-in_global.ensures.added (strict g.T.Kind.sought c.args.deep (global_view c.args.self.now) (c.law_of_variants.ensures.declarations g.T.Kind.sought c.args.self.now))
+returns-clause-listed g c = listed_below (global_view c.args.self.now) c.end.result (global_unpicked g.T.Kind.sought c.args.self.now) c.new-found.ensures c.in_global.ensures c.end.ensures.listed

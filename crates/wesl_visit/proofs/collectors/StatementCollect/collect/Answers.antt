@@ -1,6 +1,7 @@
 use Rattle.wesl_syntax.specs.View.{statement_view}
-use Rattle.wesl_collect.proofs.Walks.{found_alone, strict}
+use Rattle.wesl_kinds.proofs.Variants.{statement_unpicked}
+use Rattle.wesl_collect.proofs.Ends.{listed_below}
 use Rattle.wesl_visit.proofs.collectors.StatementCollect.collect.Goals as goal
 
 pub returns-clause-listed : goal.returns-clause-listed
-returns-clause-listed g c = found_alone g.T.Kind.view _ _ _ _ c.new-nodes.ensures.items c.in_ok-in_statement.ensures.added (strict g.T.Kind.sought c.args.deep (statement_view c.args.self.now) (c.law_of_variants.ensures.statements g.T.Kind.sought c.args.self.now))
+returns-clause-listed g c = listed_below (statement_view c.args.self.now) c.end.result (statement_unpicked g.T.Kind.sought c.args.self.now) c.new-found.ensures c.in_statement.ensures c.end.ensures.listed

@@ -1,12 +1,12 @@
-use Rattle.std.proofs.Common.{◌≡◌, ◌∙◌, ap, subst, take, arith}
+use Rattle.std.proofs.Common.{◌∙◌, subst, take, true, arith}
 use Rattle.std.proofs.lemmas.List.{take_all}
 use Rattle.wesl_syntax.specs.Nodes.{all_nodes}
-use Rattle.wesl_collect.specs.Lent.{views}
 use Rattle.wesl_visit.specs.Run.{Run, still}
 use Rattle.wesl_collect.specs.Seen.{below}
+use Rattle.wesl_collect.specs.Walk.{strictly}
 use Rattle.wesl_kinds.specs.Sought.{test}
 use Rattle.wesl_collect.proofs.Joined.{all_found_below}
-use Rattle.wesl_visit.proofs.Runs.{begun_by, begun_none, on_err, run_more}
+use Rattle.wesl_visit.proofs.Runs.{all_met, begun_by, begun_none, on_err, run_more}
 use Rattle.wesl_visit.proofs.visits.Visit.visit_rec.Goals as goal
 
 pub returns-in_err-nodes-clause-begun : goal.returns-in_err-nodes-clause-begun
@@ -22,17 +22,13 @@ loop-node-preserved g c =
 
 pub returns-in_err-meet-clause-begun : goal.returns-in_err-meet-clause-begun
 returns-in_err-meet-clause-begun g c =
-    let xs = c.deref-node-items.result.now in
-    let ys = all_nodes (test g.T.Kind.sought) (below g.T.Kind.sought (g.Self.Holder.tree c.args.self.now)) in
-    let all : views g.T.Kind.view xs ≡ ys =
-    ap (views g.T.Kind.view) c.deref-node-items.ensures.value ∙ c.in_ok-nodes.ensures.listed ∙ all_found_below g.T.Kind.sought (g.Self.Holder.tree c.args.self.now) in
     on_err c.from_residual-in_err-meet.result
-    (begun_by g.V.Visitor.meets g.V.Visitor.unchanged g.T.Kind.view xs c.loop-node.node-index ys c.args.visitor.now c.loop-node.visitor c.meet.new.self all c.loop-node.invariant c.in_err-meet.ensures.kept)
+    (begun_by g.V.Visitor.meets g.V.Visitor.unchanged g.T.Kind.view c.deref-node-items.result.now c.loop-node.node-index (all_nodes (test g.T.Kind.sought) (below g.T.Kind.sought (g.Self.Holder.tree c.args.self.now))) c.args.visitor.now c.loop-node.visitor c.meet.new.self
+    (all_met g.T.Kind.view c.deref-node-items.result.now c.in_ok-nodes.nodes.items (strictly g.T.Kind.sought true (g.Self.Holder.tree c.args.self.now)) (all_nodes (test g.T.Kind.sought) (below g.T.Kind.sought (g.Self.Holder.tree c.args.self.now)))
+    c.deref-node-items.ensures.value c.in_ok-nodes.ensures.listed (all_found_below g.T.Kind.sought (g.Self.Holder.tree c.args.self.now))) c.loop-node.invariant c.in_err-meet.ensures.kept)
 
 pub returns-clause-met : goal.returns-clause-met
 returns-clause-met g c =
-    let xs = c.deref-node-items.result.now in
-    let ys = all_nodes (test g.T.Kind.sought) (below g.T.Kind.sought (g.Self.Holder.tree c.args.self.now)) in
-    let all : views g.T.Kind.view (take c.loop-node.node-index xs) ≡ ys =
-    ap (views g.T.Kind.view) (take_all c.loop-node.node-index xs (omega arith)) ∙ ap (views g.T.Kind.view) c.deref-node-items.ensures.value ∙ c.in_ok-nodes.ensures.listed ∙ all_found_below g.T.Kind.sought (g.Self.Holder.tree c.args.self.now) in
-    subst (λ zs. Run g.V.Visitor.meets zs c.args.visitor.now c.loop-node.visitor) all c.loop-node.invariant
+    subst (λ zs. Run g.V.Visitor.meets zs c.args.visitor.now c.loop-node.visitor)
+    (all_met g.T.Kind.view (take c.loop-node.node-index c.deref-node-items.result.now) c.in_ok-nodes.nodes.items (strictly g.T.Kind.sought true (g.Self.Holder.tree c.args.self.now)) (all_nodes (test g.T.Kind.sought) (below g.T.Kind.sought (g.Self.Holder.tree c.args.self.now)))
+    (take_all c.loop-node.node-index c.deref-node-items.result.now (omega arith) ∙ c.deref-node-items.ensures.value) c.in_ok-nodes.ensures.listed (all_found_below g.T.Kind.sought (g.Self.Holder.tree c.args.self.now))) c.loop-node.invariant
