@@ -1,31 +1,20 @@
--- What is left to show where a `?` ends a function, where a list begins, and where a function of the cycle calls another.
-use Rattle.std.proofs.Common.{◌≡◌, ℕ, ◌+◌, ◌*◌, ◌<◌, List, [], Result, Ok, Err, Vec, Global, map, sym, subst, refl, arith}
-use Rattle.std.specs.Prelude.{IfOk, IfErr, IsErrAnd, ltb, take, true, None}
+-- What is left to show where a list is not there, and where a function of the cycle calls another.
+use Rattle.std.proofs.Common.{◌≡◌, ℕ, ◌+◌, ◌*◌, ◌<◌, List, [], Vec, Global, map, sym, subst, refl, arith}
+use Rattle.std.specs.Prelude.{ltb, true, None}
 use borrow.Author.Tests.{ltb-true}
-use Rattle.serde_json.specs.Data.{Data, depth}
+use Rattle.serde_json.specs.Data.{Data}
 use Rattle.serde_json.specs.Find.{as_array, get}
-use Rattle.wesl_borrowed.specs.declared.value.BorrowedValue.{BorrowedValue}
 use Rattle.wesl_names.specs.Path.{Text}
 use Rattle.wesl_names.specs.declared.errors.Error as error
 use Rattle.wesl_form.specs.Nodes.{whole_form}
 use Rattle.wesl_form.specs.Place.{IsBroken}
 use Rattle.wesl_form.specs.Schema.{Name, list_of}
-use Rattle.wesl_reading.proofs.Lists.{items-none, items_read}
 use Rattle.wesl_reading.proofs.Places.{root}
 use Rattle.wesl_reading.proofs.Steps.{many-absent}
 use Rattle.wesl_reading.specs.Faults.{IsAtRoot, Locates}
-use Rattle.wesl_reading.specs.Numbers.{AreReadAs, ReadsMany}
-use Rattle.wesl_syntax.specs.Tree.{Kind, Tree, branch, forest_of}
+use Rattle.wesl_reading.specs.Numbers.{ReadsMany}
+use Rattle.wesl_syntax.specs.Tree.{Kind, Tree, branch}
 use Rattle.wesl_syntax.specs.View.{listed}
-
--- the error that a `?` returns
-pub exit : {T E : Type 0} (P : E → Type 0) (r : Result T E) (e : E) → IsErrAnd r (λ y. y ≡ e) → P e → IfErr r P
-exit P (Ok x) e is h = tt
-exit P (Err y) e is h = subst P (sym is) h
-
-pub no_value : {T E : Type 0} (P : T → Type 0) (Q : E → Type 0) (r : Result T E) → IsErrAnd r Q → IfOk r P
-no_value P Q (Ok x) is = absurd is
-no_value P Q (Err y) is = tt
 
 -- the measure of a call on the same value, and on a member of it
 pub to_next : (n k j t : ℕ) → 10 * n + j ≡ t → ltb k j ≡ true → 10 * n + k < t
@@ -34,13 +23,10 @@ to_next n k j t is low = omega (arith, ltb-true k j low)
 pub to_member : (a b k j t : ℕ) → 10 * b + j ≡ t → a < b → ltb k 10 ≡ true → 10 * a + k < t
 to_member a b k j t is below low = omega (arith, ltb-true k 10 low)
 
--- a list that is not there, one that is no list, and one of which nothing is read yet
+-- a list that is not there, and one that is no list
 module _ {A : Type 0} (f : A → Tree) (kd : Kind) (m : Name) (d : Data) (a : List Text) where
   pub none_listed : (k : Text) (v : Vec A Global) → get k d ≡ None → v.items ≡ [] → ReadsMany k (list_of kd m) d (listed f kd v) a a
   none_listed k v none empty = subst (λ l. ReadsMany k (list_of kd m) d (branch kd (map f l)) a a) (sym empty) (many-absent k kd m d a none)
-
-  pub none_read : (vs : List BorrowedValue) (l : List A) → l ≡ [] → AreReadAs (items_read m (take 0 vs)) (depth d) (forest_of (map f l)) a a
-  none_read vs l empty = subst (λ l. AreReadAs (items_read m (take 0 vs)) (depth d) (forest_of (map f l)) a a) (sym empty) (items-none m vs (depth d) a)
 
 pub no_list : (kd : Kind) (m : Name) (d : Data) (e : error.Error) → as_array d ≡ None → IsAtRoot e → Locates (list_of kd m) d e
 no_list kd m d e none is = root (IsBroken whole_form (list_of kd m) d) e is ([], refl, none)

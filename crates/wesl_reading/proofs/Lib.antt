@@ -6,6 +6,8 @@ pub mod Lists
 pub mod Members
 pub mod Steps
 pub mod Exits
+pub mod Wholes
+pub mod ReadLists
 pub mod Expressions
 pub mod Arguments
 pub mod Trees

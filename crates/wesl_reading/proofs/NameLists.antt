@@ -1,6 +1,8 @@
 -- What is read of a list of names.
-use Rattle.std.proofs.Common.{◌≡◌, ℕ, ◌+◌, ◌<◌, ◌≤◌, List, [], ◌∷◌, ◌++◌, length, get_or, map, take, Option, Some, None, option_map, option_and_then, String, Global, string_bytes, refl, sym, ap, ◌∙◌}
+use Rattle.std.proofs.Common.{◌≡◌, ℕ, ◌+◌, ◌<◌, ◌≤◌, List, [], ◌∷◌, ◌++◌, length, get_or, map, take, Option, Some, None, option_map, option_and_then, String, Vec, Result, Global, string_bytes, inl, inr, refl, sym, ap, ◌∙◌}
+use Rattle.std.specs.Prelude.{IfOk, IfErr}
 use Rattle.std.proofs.lemmas.List.{take_more, take_all}
+use Rattle.std.proofs.lemmas.Result.{IfOk-at_ok, IfErr-at_err, IfOk-weaker, IfErr-weaker}
 use Rattle.serde_json.specs.Data.{Data}
 use Rattle.serde_json.specs.Find.{at, as_array}
 use Rattle.wesl_borrowed.specs.View.{borrowed_view, items_view}
@@ -15,7 +17,9 @@ use Rattle.wesl_form.specs.Place.{IsBroken}
 use Rattle.wesl_pointer.specs.Pointer.{index, part_text}
 use Rattle.wesl_reading.specs.Faults.{IsUnderIndex, LocatesHere, Locates}
 use Rattle.wesl_reading.specs.Numbers.{Reads}
-use Rattle.wesl_reading.proofs.Places.{further}
+use Rattle.wesl_reading.specs.Parts.{IsItemFault, IsWithItem}
+use Rattle.wesl_reading.proofs.Depths.{item-at}
+use Rattle.wesl_reading.proofs.Places.{further, memory}
 use Rattle.wesl_reading.proofs.Rows.{plain-texts}
 use Rattle.wesl_reading.proofs.Steps.{leaf-reads}
 
@@ -48,3 +52,31 @@ pub name-under : (i : ℕ) (d v : Data) (inside outside : error.Error) → at i 
 name-under i d v inside outside found h u =
     further (index i) (λ place. (place ≡ []) × (name_in v ≡ None)) (IsBroken whole_form (leaf some_names) d) inside outside
     (λ place w. (index i ∷ [], ap (λ p. (47 ∷ part_text (index i)) ++ p) w.0, (v, found, ap (option_map text) w.1))) h u
+
+-- ---- the names before i are read, or there is a fault
+
+module _ (d : Data) (vs : List BorrowedValue) where
+  abbrev pub AreNamesRead : ℕ → Result (Vec (String Global) Global) error.Error → Type 0
+  AreNamesRead i list = IfOk list (λ xs. texts_in name_in (items_view (take i vs)) ≡ Some (map string_bytes xs.items)) × IfErr list (Locates (leaf some_names) d)
+
+  pub name-list-none : (list : Result (Vec (String Global) Global) error.Error) → IfOk list (λ xs. xs.items ≡ []) → IfErr list (λ e. e ≡ error.Memory) → AreNamesRead 0 list
+  name-list-none list empty refused = (
+    IfOk-weaker list (λ xs. xs.items ≡ []) (λ xs. texts_in name_in (items_view (take 0 vs)) ≡ Some (map string_bytes xs.items)) (λ xs none. ap (λ l. Some (map string_bytes l)) (sym none)) empty,
+    IfErr-weaker list (λ e. e ≡ error.Memory) (Locates (leaf some_names) d) (λ e is. memory (IsBroken whole_form (leaf some_names) d) e is) refused,
+  )
+
+  module _ (is : as_array d ≡ Some (items_view vs)) (i : ℕ) (v : BorrowedValue) (list : Result (Vec (String Global) Global) error.Error) (item : Result (String Global) error.Error) (within : i < length vs) (here : v ≡ get_or vs i v) (read : AreNamesRead i list) where
+    grown : (more : Vec (String Global) Global) → IfOk item (λ s. name_in (borrowed_view v) ≡ Some (string_bytes s)) → IsWithItem list item more → texts_in name_in (items_view (take (i + 1) vs)) ≡ Some (map string_bytes more.items)
+    grown more good (earlier, last, before, this, items) =
+        names-turn vs i v earlier.items more.items last within here items (IfOk-at_ok (λ xs. texts_in name_in (items_view (take i vs)) ≡ Some (map string_bytes xs.items)) before read.0) (IfOk-at_ok (λ s. name_in (borrowed_view v) ≡ Some (string_bytes s)) this good)
+
+    faulty : (e : error.Error) → IfErr item (LocatesHere (name_in (borrowed_view v))) → IsItemFault i list item e → Locates (leaf some_names) d e
+    faulty e bad (inl refused) = memory (IsBroken whole_form (leaf some_names) d) e refused
+    faulty e bad (inr (inl before)) = IfErr-at_err (Locates (leaf some_names) d) before read.1
+    faulty e bad (inr (inr (inner, this, under))) = name-under i d (borrowed_view v) inner e (item-at d vs i v is within here) (IfErr-at_err (LocatesHere (name_in (borrowed_view v))) this bad) under
+
+    pub name-list-turn : (more : Result (Vec (String Global) Global) error.Error) → IfOk item (λ s. name_in (borrowed_view v) ≡ Some (string_bytes s)) → IfErr item (LocatesHere (name_in (borrowed_view v))) → IfOk more (IsWithItem list item) → IfErr more (IsItemFault i list item) → AreNamesRead (i + 1) more
+    name-list-turn more good bad ok place = (
+      IfOk-weaker more (IsWithItem list item) (λ xs. texts_in name_in (items_view (take (i + 1) vs)) ≡ Some (map string_bytes xs.items)) (λ xs h. grown xs good h) ok,
+      IfErr-weaker more (IsItemFault i list item) (Locates (leaf some_names) d) (λ e h. faulty e bad h) place,
+    )

@@ -1,3 +1,4 @@
 pub mod Faults
 pub mod Numbers
 pub mod Forms
+pub mod Parts

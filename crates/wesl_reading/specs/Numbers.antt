@@ -3,11 +3,12 @@ use Rattle.std.specs.Prelude.{true, ◌≡◌, ◌⊎◌, ℕ, suc, ◌<◌, ◌
 use Rattle.serde_json.specs.Data.{Data, depth}
 use Rattle.serde_json.specs.Find.{get}
 use Rattle.wesl_names.specs.Path.{Text}
-use Rattle.wesl_syntax.specs.Tree.{Tree, Forest, before, end, identifiers, forest_below, respell, respell_forest}
+use Rattle.wesl_syntax.specs.Tree.{Tree, Forest, kind, type_expression, before, end, identifiers, forest_below, respell, respell_forest}
 use Rattle.wesl_syntax.specs.Unit.{name_in}
 use Rattle.wesl_form.specs.Schema.{Spelled, SpelledForest, Form, Row, Node}
-use Rattle.wesl_form.specs.Nodes.{short_type}
-use Rattle.wesl_form.specs.Reading.{reading, needed, optional, or_empty, empty_of, children_in, node_in}
+use Rattle.wesl_form.specs.Nodes.{short_type, type_row}
+use Rattle.wesl_form.specs.Reading.{known_keys, reading, needed, optional, or_empty, empty_of, children_in, node_in}
+use Rattle.wesl_pointer.specs.Keys.{has_only}
 use Rattle.wesl_form.specs.Units.{NumberedFrom, HasNoSpan, same_number}
 use Rattle.wesl_form.specs.Nodes.{whole_form}
 
@@ -62,6 +63,13 @@ ReadsNode nd d = IsReadAs (λ n. node_in (reading whole_form n) d nd) (depth d)
 -- a value that is no object is read as a type by its name alone
 pub record ReadsPlain (d : Data) (t : Tree) (old new : List Text) : Type 0 where
   pub plain : IsReadAs (λ n. short_type d) 0 t old new
+
+-- an object is read as a type, with a list of arguments or without one
+pub record ReadsType (d : Data) (t : Tree) (old new : List Text) : Type 0 where
+  pub children : Forest
+  pub is_type : t ≡ record { label = kind type_expression; children = children }
+  pub known : has_only (known_keys type_row d) d ≡ true
+  pub row_is : ReadsRow type_row d children old new
 
 -- ---- the same, each under a name of its own
 

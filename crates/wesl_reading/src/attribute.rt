@@ -11,7 +11,8 @@ ghost use Rattle.wesl_reading.specs.Forms.{HasWord, attribute_text, operand_kind
 ghost use Rattle.wesl_reading.specs.Numbers.{Reads, ReadsMany};
 
 use crate::expression::{expression_member, optional_expression, optional_expressions, unplaced};
-use crate::fields::{check_keys, name_member, required, text_member, under, under_index, wrong};
+use crate::fields::{own_name, own_text, under, wrong};
+use crate::joined::{both, only, room, with_item};
 use crate::names::names_member;
 use crate::numbering::Numbering;
 use crate::words::{AttributeWord, OperandWord, attribute_word};
@@ -50,14 +51,12 @@ fn read_attributes(
     let Some(items) = value.as_array() else {
         return Err(wrong(alloc));
     };
-    let mut attributes = Vec::with_capacity(alloc, items.len())?;
+    let mut attributes = room(alloc, items.len());
     for (index, item) in items.iter().enumerate() {
-        match read_attribute(alloc, numbering, item) {
-            Ok(attribute) => attributes.push(attribute)?,
-            Err(error) => return Err(under_index(alloc, error, index)),
-        }
+        let attribute = read_attribute(alloc, numbering, item);
+        attributes = with_item(alloc, attributes, index, attribute);
     }
-    Ok(attributes)
+    attributes
 }
 
 fn read_attribute(
@@ -74,7 +73,23 @@ fn read_attribute(
             None => Err(wrong(alloc)),
         };
     }
-    match attribute_word_of(alloc, value)? {
+    match attribute_word_of(alloc, value) {
+        Ok(word) => read_worded_attribute(alloc, numbering, value, word),
+        Err(error) => Err(error),
+    }
+}
+
+fn read_worded_attribute(
+    alloc: Global,
+    numbering: &mut Numbering,
+    value: &BorrowedValue<'_>,
+    word: AttributeWord,
+) -> Result<AttributeNode, Error>
+    requires { HasWord (attribute_text word) (borrowed_view value.now) }
+    ensures ok { IfOk result (λ e. Reads (node_form an_attribute) (borrowed_view value.now) (placed attribute_view attribute_node e) numbering.old numbering.new) }
+    ensures place { IfErr result (Locates (node_form an_attribute) (borrowed_view value.now)) }
+{
+    match word {
         AttributeWord::Operand(word) => read_operand(alloc, numbering, value, word),
         AttributeWord::WorkgroupSize => read_workgroup_size(alloc, numbering, value),
         AttributeWord::Builtin => read_builtin(alloc, value),
@@ -123,7 +138,9 @@ fn attribute_word_of(alloc: Global, value: &BorrowedValue<'_>) -> Result<Attribu
     ensures word { IfOk result (λ w. HasWord (attribute_text w) (borrowed_view value.now)) }
     ensures place { IfErr result (Locates (node_form an_attribute) (borrowed_view value.now)) }
 {
-    let word = required(alloc, value, "k")?;
+    let Some(word) = value.get("k") else {
+        return Err(wrong(alloc));
+    };
     match word.as_str().and_then(attribute_word) {
         Some(word) => Ok(word),
         None => Err(under(alloc, wrong(alloc), "k")),
@@ -140,9 +157,11 @@ fn read_operand(
     ensures ok { IfOk result (λ e. Reads (node_form an_attribute) (borrowed_view value.now) (placed attribute_view attribute_node e) numbering.old numbering.new) }
     ensures place { IfErr result (Locates (node_form an_attribute) (borrowed_view value.now)) }
 {
-    check_keys(alloc, value, &["k", "expr"])?;
-    let operand = expression_member(alloc, numbering, value, "expr")?;
-    Ok(unplaced(attribute_of(word, operand)))
+    let operand = expression_member(alloc, numbering, value, "expr");
+    match only(alloc, value, &["k", "expr"], operand) {
+        Ok(operand) => Ok(unplaced(attribute_of(word, operand))),
+        Err(error) => Err(error),
+    }
 }
 
 fn read_workgroup_size(
@@ -154,11 +173,16 @@ fn read_workgroup_size(
     ensures ok { IfOk result (λ e. Reads (node_form an_attribute) (borrowed_view value.now) (placed attribute_view attribute_node e) numbering.old numbering.new) }
     ensures place { IfErr result (Locates (node_form an_attribute) (borrowed_view value.now)) }
 {
-    check_keys(alloc, value, &["k", "x", "y", "z"])?;
-    let x = expression_member(alloc, numbering, value, "x")?;
-    let y = optional_expression(alloc, numbering, value, "y")?;
-    let z = optional_expression(alloc, numbering, value, "z")?;
-    Ok(unplaced(Attribute::WorkgroupSize { x, y, z }))
+    let x = expression_member(alloc, numbering, value, "x");
+    let y = optional_expression(alloc, numbering, value, "y");
+    let z = optional_expression(alloc, numbering, value, "z");
+    match only(alloc, value, &["k", "x", "y", "z"], both(x, both(y, z))) {
+        Ok((x, others)) => {
+            let (y, z) = others;
+            Ok(unplaced(Attribute::WorkgroupSize { x, y, z }))
+        }
+        Err(error) => Err(error),
+    }
 }
 
 fn read_builtin(alloc: Global, value: &BorrowedValue<'_>) -> Result<AttributeNode, Error>
@@ -166,9 +190,11 @@ fn read_builtin(alloc: Global, value: &BorrowedValue<'_>) -> Result<AttributeNod
     ensures ok { IfOk result (λ e. (names : List (List ℕ)) → Reads (node_form an_attribute) (borrowed_view value.now) (placed attribute_view attribute_node e) names names) }
     ensures place { IfErr result (Locates (node_form an_attribute) (borrowed_view value.now)) }
 {
-    check_keys(alloc, value, &["k", "name"])?;
-    let name = String::from_str(alloc, name_member(alloc, value, "name")?)?;
-    Ok(unplaced(Attribute::Builtin(name)))
+    let name = own_name(alloc, value, "name");
+    match only(alloc, value, &["k", "name"], name) {
+        Ok(name) => Ok(unplaced(Attribute::Builtin(name))),
+        Err(error) => Err(error),
+    }
 }
 
 fn read_diagnostic(alloc: Global, value: &BorrowedValue<'_>) -> Result<AttributeNode, Error>
@@ -176,10 +202,17 @@ fn read_diagnostic(alloc: Global, value: &BorrowedValue<'_>) -> Result<Attribute
     ensures ok { IfOk result (λ e. (names : List (List ℕ)) → Reads (node_form an_attribute) (borrowed_view value.now) (placed attribute_view attribute_node e) names names) }
     ensures place { IfErr result (Locates (node_form an_attribute) (borrowed_view value.now)) }
 {
-    check_keys(alloc, value, &["k", "severity", "rule"])?;
-    let severity = String::from_str(alloc, text_member(alloc, value, "severity")?)?;
-    let rule = String::from_str(alloc, text_member(alloc, value, "rule")?)?;
-    Ok(unplaced(Attribute::Diagnostic { severity, rule }))
+    let severity = own_text(alloc, value, "severity");
+    let rule = own_text(alloc, value, "rule");
+    match only(
+        alloc,
+        value,
+        &["k", "severity", "rule"],
+        both(severity, rule),
+    ) {
+        Ok((severity, rule)) => Ok(unplaced(Attribute::Diagnostic { severity, rule })),
+        Err(error) => Err(error),
+    }
 }
 
 fn read_custom(
@@ -191,10 +224,12 @@ fn read_custom(
     ensures ok { IfOk result (λ e. Reads (node_form an_attribute) (borrowed_view value.now) (placed attribute_view attribute_node e) numbering.old numbering.new) }
     ensures place { IfErr result (Locates (node_form an_attribute) (borrowed_view value.now)) }
 {
-    check_keys(alloc, value, &["k", "name", "args"])?;
-    let name = String::from_str(alloc, name_member(alloc, value, "name")?)?;
-    let arguments = optional_expressions(alloc, numbering, value, "args")?;
-    Ok(unplaced(Attribute::Custom { name, arguments }))
+    let name = own_name(alloc, value, "name");
+    let arguments = optional_expressions(alloc, numbering, value, "args");
+    match only(alloc, value, &["k", "name", "args"], both(name, arguments)) {
+        Ok((name, arguments)) => Ok(unplaced(Attribute::Custom { name, arguments })),
+        Err(error) => Err(error),
+    }
 }
 
 fn read_interpolate(alloc: Global, value: &BorrowedValue<'_>) -> Result<AttributeNode, Error>
@@ -202,7 +237,9 @@ fn read_interpolate(alloc: Global, value: &BorrowedValue<'_>) -> Result<Attribut
     ensures ok { IfOk result (λ e. (names : List (List ℕ)) → Reads (node_form an_attribute) (borrowed_view value.now) (placed attribute_view attribute_node e) names names) }
     ensures place { IfErr result (Locates (node_form an_attribute) (borrowed_view value.now)) }
 {
-    check_keys(alloc, value, &["k", "names"])?;
-    let names = names_member(alloc, value, "names")?;
-    Ok(unplaced(Attribute::Interpolate(names)))
+    let names = names_member(alloc, value, "names");
+    match only(alloc, value, &["k", "names"], names) {
+        Ok(names) => Ok(unplaced(Attribute::Interpolate(names))),
+        Err(error) => Err(error),
+    }
 }

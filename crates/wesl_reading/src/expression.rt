@@ -1,24 +1,27 @@
 //! Reading expressions and types.
-ghost use Rattle.std.specs.Prelude.{◌≡◌, List, [], ℕ, Some, None, IfOk, IfErr, codes, is_some, true};
+ghost use Rattle.std.specs.Prelude.{◌≡◌, ◌∷◌, List, [], ℕ, Some, None, Ok, Err, IfOk, IfErr, codes, is_some, true};
 ghost use Rattle.serde_json.specs.Find.{as_object, get};
 ghost use Rattle.wesl_borrowed.specs.View.{borrowed_view};
-ghost use Rattle.wesl_syntax.specs.Tree.{list};
+ghost use Rattle.wesl_syntax.specs.Tree.{branch, ident, leaf as leaf_tree, list, reference, template_argument};
+ghost use Rattle.wesl_form.specs.Nodes.{type_row};
+ghost use Rattle.wesl_form.specs.Reading.{name_in};
+ghost use Rattle.wesl_syntax.specs.declared.span.Spanned.{Spanned};
+ghost use Rattle.wesl_syntax.specs.declared.expression.Expression.{Expression as ExpressionValue};
 ghost use Rattle.wesl_syntax.specs.View.{argument_view, call_view, expression_tree, listed, optional as option_view, path_tree, type_view};
-ghost use Rattle.wesl_form.specs.Schema.{a_call, a_path, a_template_argument, a_type, an_expression, leaf, list_of, node as node_form};
-ghost use Rattle.wesl_reading.specs.Faults.{Locates, LocatesInside, LocatesMember, LocatesPlain};
+ghost use Rattle.wesl_form.specs.Schema.{a_call, a_path, a_template_argument, a_type, an_expression, an_ident, leaf, list_of, node as node_form};
+ghost use Rattle.wesl_reading.specs.Faults.{Locates, LocatesHere, LocatesInside, LocatesMember, LocatesPlain, LocatesRow, LocatesText};
 ghost use Rattle.wesl_reading.specs.Forms.{HasExpressionWord, HasWord};
-ghost use Rattle.wesl_reading.specs.Numbers.{Reads, ReadsMany, ReadsMay, ReadsNeeded, ReadsPlain};
+ghost use Rattle.wesl_reading.specs.Numbers.{IsNumbered, Reads, ReadsMany, ReadsMay, ReadsNeeded, ReadsPlain, ReadsType};
 
-use crate::fields::{
-    check_keys, literal_member, name_member, name_of, path_of, required, under, under_index, wrong,
-};
+use crate::fields::{name_member, name_of, own_literal, own_name, path_of, under, wrong};
+use crate::joined::{both, boxed, only, room, with_item};
 use crate::numbering::Numbering;
 use crate::words::{
     ExpressionWord, binary_operator_member, expression_word, unary_operator_member,
 };
 use std::alloc::Global;
 use wesl_borrowed::BorrowedValue;
-use wesl_names::{Error, ModulePath, Span};
+use wesl_names::{Error, Ident, ModulePath, Span};
 use wesl_syntax::{
     Expression, ExpressionNode, FunctionCall, Literal, Spanned, TemplateArg, TypeExpression,
 };
@@ -49,8 +52,10 @@ pub fn read_expression(
     if value.is_object() {
         return read_expression_object(alloc, numbering, value);
     }
-    let ty = read_plain_type(alloc, numbering, value)?;
-    Ok(unplaced(Expression::TypeOrIdentifier(ty)))
+    match read_plain_type(alloc, numbering, value) {
+        Ok(ty) => Ok(unplaced(Expression::TypeOrIdentifier(ty))),
+        Err(error) => Err(error),
+    }
 }
 
 #[cycle(expressions)]
@@ -63,15 +68,16 @@ fn read_expression_object(
     ensures ok { IfOk result (λ e. Reads (node_form an_expression) (borrowed_view value.now) (expression_tree e) numbering.old numbering.new) }
     ensures place { IfErr result (Locates (node_form an_expression) (borrowed_view value.now)) }
 {
-    match expression_word_of(alloc, value)? {
-        Some(ExpressionWord::Literal) => read_literal(alloc, value),
-        Some(ExpressionWord::Parenthesized) => read_parenthesized(alloc, numbering, value),
-        Some(ExpressionWord::NamedComponent) => read_component(alloc, numbering, value),
-        Some(ExpressionWord::Indexing) => read_indexing(alloc, numbering, value),
-        Some(ExpressionWord::Unary) => read_unary(alloc, numbering, value),
-        Some(ExpressionWord::Binary) => read_binary(alloc, numbering, value),
-        Some(ExpressionWord::FunctionCall) => read_call_expression(alloc, numbering, value),
-        None => read_type_or_identifier(alloc, numbering, value),
+    match expression_word_of(alloc, value) {
+        Ok(Some(ExpressionWord::Literal)) => read_literal(alloc, value),
+        Ok(Some(ExpressionWord::Parenthesized)) => read_parenthesized(alloc, numbering, value),
+        Ok(Some(ExpressionWord::NamedComponent)) => read_component(alloc, numbering, value),
+        Ok(Some(ExpressionWord::Indexing)) => read_indexing(alloc, numbering, value),
+        Ok(Some(ExpressionWord::Unary)) => read_unary(alloc, numbering, value),
+        Ok(Some(ExpressionWord::Binary)) => read_binary(alloc, numbering, value),
+        Ok(Some(ExpressionWord::FunctionCall)) => read_call_expression(alloc, numbering, value),
+        Ok(None) => read_type_or_identifier(alloc, numbering, value),
+        Err(error) => Err(error),
     }
 }
 
@@ -98,10 +104,11 @@ fn read_literal(alloc: Global, value: &BorrowedValue<'_>) -> Result<ExpressionNo
     ensures ok { IfOk result (λ e. (names : List (List ℕ)) → Reads (node_form an_expression) (borrowed_view value.now) (expression_tree e) names names) }
     ensures place { IfErr result (Locates (node_form an_expression) (borrowed_view value.now)) }
 {
-    check_keys(alloc, value, &["k", "text"])?;
-    let text = literal_member(alloc, value, "text")?;
-    let text = String::from_str(alloc, text)?;
-    Ok(unplaced(Expression::Literal(Literal::Text(text))))
+    let text = own_literal(alloc, value, "text");
+    match only(alloc, value, &["k", "text"], text) {
+        Ok(text) => Ok(unplaced(Expression::Literal(Literal::Text(text)))),
+        Err(error) => Err(error),
+    }
 }
 
 #[cycle(expressions)]
@@ -114,9 +121,11 @@ fn read_parenthesized(
     ensures ok { IfOk result (λ e. Reads (node_form an_expression) (borrowed_view value.now) (expression_tree e) numbering.old numbering.new) }
     ensures place { IfErr result (Locates (node_form an_expression) (borrowed_view value.now)) }
 {
-    check_keys(alloc, value, &["k", "expr"])?;
-    let expression = Box::new(alloc, expression_member(alloc, numbering, value, "expr")?)?;
-    Ok(unplaced(Expression::Parenthesized { expression }))
+    let expression = boxed(alloc, expression_member(alloc, numbering, value, "expr"));
+    match only(alloc, value, &["k", "expr"], expression) {
+        Ok(expression) => Ok(unplaced(Expression::Parenthesized { expression })),
+        Err(error) => Err(error),
+    }
 }
 
 #[cycle(expressions)]
@@ -129,10 +138,12 @@ fn read_component(
     ensures ok { IfOk result (λ e. Reads (node_form an_expression) (borrowed_view value.now) (expression_tree e) numbering.old numbering.new) }
     ensures place { IfErr result (Locates (node_form an_expression) (borrowed_view value.now)) }
 {
-    check_keys(alloc, value, &["k", "base", "name"])?;
-    let base = Box::new(alloc, expression_member(alloc, numbering, value, "base")?)?;
-    let component = String::from_str(alloc, name_member(alloc, value, "name")?)?;
-    Ok(unplaced(Expression::NamedComponent { base, component }))
+    let base = boxed(alloc, expression_member(alloc, numbering, value, "base"));
+    let component = own_name(alloc, value, "name");
+    match only(alloc, value, &["k", "base", "name"], both(base, component)) {
+        Ok((base, component)) => Ok(unplaced(Expression::NamedComponent { base, component })),
+        Err(error) => Err(error),
+    }
 }
 
 #[cycle(expressions)]
@@ -145,10 +156,12 @@ fn read_indexing(
     ensures ok { IfOk result (λ e. Reads (node_form an_expression) (borrowed_view value.now) (expression_tree e) numbering.old numbering.new) }
     ensures place { IfErr result (Locates (node_form an_expression) (borrowed_view value.now)) }
 {
-    check_keys(alloc, value, &["k", "base", "index"])?;
-    let base = Box::new(alloc, expression_member(alloc, numbering, value, "base")?)?;
-    let index = Box::new(alloc, expression_member(alloc, numbering, value, "index")?)?;
-    Ok(unplaced(Expression::Indexing { base, index }))
+    let base = boxed(alloc, expression_member(alloc, numbering, value, "base"));
+    let index = boxed(alloc, expression_member(alloc, numbering, value, "index"));
+    match only(alloc, value, &["k", "base", "index"], both(base, index)) {
+        Ok((base, index)) => Ok(unplaced(Expression::Indexing { base, index })),
+        Err(error) => Err(error),
+    }
 }
 
 #[cycle(expressions)]
@@ -161,10 +174,12 @@ fn read_unary(
     ensures ok { IfOk result (λ e. Reads (node_form an_expression) (borrowed_view value.now) (expression_tree e) numbering.old numbering.new) }
     ensures place { IfErr result (Locates (node_form an_expression) (borrowed_view value.now)) }
 {
-    check_keys(alloc, value, &["k", "op", "expr"])?;
-    let operator = unary_operator_member(alloc, value)?;
-    let operand = Box::new(alloc, expression_member(alloc, numbering, value, "expr")?)?;
-    Ok(unplaced(Expression::Unary { operator, operand }))
+    let operator = unary_operator_member(alloc, value);
+    let operand = boxed(alloc, expression_member(alloc, numbering, value, "expr"));
+    match only(alloc, value, &["k", "op", "expr"], both(operator, operand)) {
+        Ok((operator, operand)) => Ok(unplaced(Expression::Unary { operator, operand })),
+        Err(error) => Err(error),
+    }
 }
 
 #[cycle(expressions)]
@@ -177,15 +192,23 @@ fn read_binary(
     ensures ok { IfOk result (λ e. Reads (node_form an_expression) (borrowed_view value.now) (expression_tree e) numbering.old numbering.new) }
     ensures place { IfErr result (Locates (node_form an_expression) (borrowed_view value.now)) }
 {
-    check_keys(alloc, value, &["k", "op", "left", "right"])?;
-    let operator = binary_operator_member(alloc, value)?;
-    let left = Box::new(alloc, expression_member(alloc, numbering, value, "left")?)?;
-    let right = Box::new(alloc, expression_member(alloc, numbering, value, "right")?)?;
-    Ok(unplaced(Expression::Binary {
-        operator,
-        left,
-        right,
-    }))
+    let operator = binary_operator_member(alloc, value);
+    let left = boxed(alloc, expression_member(alloc, numbering, value, "left"));
+    let right = boxed(alloc, expression_member(alloc, numbering, value, "right"));
+    let operands = both(left, right);
+    match only(
+        alloc,
+        value,
+        &["k", "op", "left", "right"],
+        both(operator, operands),
+    ) {
+        Ok((operator, (left, right))) => Ok(unplaced(Expression::Binary {
+            operator,
+            left,
+            right,
+        })),
+        Err(error) => Err(error),
+    }
 }
 
 #[cycle(expressions)]
@@ -198,10 +221,14 @@ fn read_call_expression(
     ensures ok { IfOk result (λ e. Reads (node_form an_expression) (borrowed_view value.now) (expression_tree e) numbering.old numbering.new) }
     ensures place { IfErr result (Locates (node_form an_expression) (borrowed_view value.now)) }
 {
-    check_keys(alloc, value, &["k", "ty", "args"])?;
-    let ty = type_member(alloc, numbering, value, "ty")?;
-    let arguments = expressions_member(alloc, numbering, value, "args")?;
-    Ok(unplaced(Expression::FunctionCall(FunctionCall { ty, arguments })))
+    let ty = type_member(alloc, numbering, value, "ty");
+    let arguments = expressions_member(alloc, numbering, value, "args");
+    match only(alloc, value, &["k", "ty", "args"], both(ty, arguments)) {
+        Ok((ty, arguments)) => {
+            Ok(unplaced(Expression::FunctionCall(FunctionCall { ty, arguments })))
+        }
+        Err(error) => Err(error),
+    }
 }
 
 #[cycle(expressions)]
@@ -215,15 +242,10 @@ fn read_type_or_identifier(
     ensures ok { IfOk result (λ e. Reads (node_form an_expression) (borrowed_view value.now) (expression_tree e) numbering.old numbering.new) }
     ensures place { IfErr result (Locates (node_form an_expression) (borrowed_view value.now)) }
 {
-    check_keys(alloc, value, &["path", "name", "args"])?;
-    let path = optional_path(alloc, value)?;
-    let ident = numbering.number(alloc, name_member(alloc, value, "name")?)?;
-    let template_args = arguments_member(alloc, numbering, value)?;
-    Ok(unplaced(Expression::TypeOrIdentifier(TypeExpression {
-        path,
-        ident,
-        template_args,
-    })))
+    match read_type_object(alloc, numbering, value) {
+        Ok(ty) => Ok(unplaced(Expression::TypeOrIdentifier(ty))),
+        Err(error) => Err(error),
+    }
 }
 
 /// The expression at `key`, which must be there.
@@ -237,7 +259,9 @@ pub fn expression_member(
     ensures ok { IfOk result (λ e. ReadsNeeded key.now (node_form an_expression) (borrowed_view value.now) (expression_tree e) numbering.old numbering.new) }
     ensures place { IfErr result (LocatesMember key.now (node_form an_expression) (borrowed_view value.now)) }
 {
-    let member = required(alloc, value, key)?;
+    let Some(member) = value.get(key) else {
+        return Err(wrong(alloc));
+    };
     match read_expression(alloc, numbering, member) {
         Ok(expression) => Ok(expression),
         Err(error) => Err(under(alloc, error, key)),
@@ -277,14 +301,12 @@ pub fn read_expressions(
     let Some(items) = value.as_array() else {
         return Err(wrong(alloc));
     };
-    let mut expressions = Vec::with_capacity(alloc, items.len())?;
+    let mut expressions = room(alloc, items.len());
     for (index, item) in items.iter().enumerate() {
-        match read_expression(alloc, numbering, item) {
-            Ok(expression) => expressions.push(expression)?,
-            Err(error) => return Err(under_index(alloc, error, index)),
-        }
+        let expression = read_expression(alloc, numbering, item);
+        expressions = with_item(alloc, expressions, index, expression);
     }
-    Ok(expressions)
+    expressions
 }
 
 /// The type at `key`, which must be there.
@@ -298,7 +320,9 @@ pub fn type_member(
     ensures ok { IfOk result (λ e. ReadsNeeded key.now (node_form a_type) (borrowed_view value.now) (type_view e) numbering.old numbering.new) }
     ensures place { IfErr result (LocatesMember key.now (node_form a_type) (borrowed_view value.now)) }
 {
-    let member = required(alloc, value, key)?;
+    let Some(member) = value.get(key) else {
+        return Err(wrong(alloc));
+    };
     match read_type(alloc, numbering, member) {
         Ok(ty) => Ok(ty),
         Err(error) => Err(under(alloc, error, key)),
@@ -331,12 +355,29 @@ fn read_plain_type(
     ensures ok { IfOk result (λ e. ReadsPlain (borrowed_view value.now) (type_view e) numbering.old numbering.new) }
     ensures place { IfErr result (LocatesPlain (borrowed_view value.now)) }
 {
-    let name = name_of(alloc, value)?;
-    Ok(TypeExpression {
-        path: None,
-        ident: numbering.number(alloc, name)?,
-        template_args: None,
-    })
+    match number_of(alloc, numbering, value) {
+        Ok(ident) => Ok(TypeExpression {
+            path: None,
+            ident,
+            template_args: None,
+        }),
+        Err(error) => Err(error),
+    }
+}
+
+// The number of the name that a value is.
+fn number_of(
+    alloc: Global,
+    numbering: &mut Numbering,
+    value: &BorrowedValue<'_>,
+) -> Result<Ident, Error>
+    ensures ok { IfOk result (λ i. (s : List ℕ) × (name_in (borrowed_view value.now) ≡ Some s) × IsNumbered numbering.old s i.0 numbering.new) }
+    ensures place { IfErr result (LocatesHere (name_in (borrowed_view value.now))) }
+{
+    match name_of(alloc, value) {
+        Ok(name) => numbering.number(alloc, name),
+        Err(error) => Err(error),
+    }
 }
 
 #[cycle(expressions)]
@@ -345,19 +386,39 @@ fn read_type_object(
     numbering: &mut Numbering,
     value: &BorrowedValue<'_>,
 ) -> Result<TypeExpression, Error>
-    requires { is_some (as_object (borrowed_view value.now)) ≡ true }
-    ensures ok { IfOk result (λ e. Reads (node_form a_type) (borrowed_view value.now) (type_view e) numbering.old numbering.new) }
-    ensures place { IfErr result (Locates (node_form a_type) (borrowed_view value.now)) }
+    ensures ok { IfOk result (λ e. ReadsType (borrowed_view value.now) (type_view e) numbering.old numbering.new) }
+    ensures place { IfErr result (LocatesRow type_row (borrowed_view value.now)) }
 {
-    check_keys(alloc, value, &["path", "name", "args"])?;
-    let path = optional_path(alloc, value)?;
-    let ident = numbering.number(alloc, name_member(alloc, value, "name")?)?;
-    let template_args = arguments_member(alloc, numbering, value)?;
-    Ok(TypeExpression {
-        path,
-        ident,
-        template_args,
-    })
+    let path = optional_path(alloc, value);
+    let ident = reference_member(alloc, numbering, value);
+    let template_args = arguments_member(alloc, numbering, value);
+    let parts = both(path, both(ident, template_args));
+    match only(alloc, value, &["path", "name", "args"], parts) {
+        Ok((path, others)) => {
+            let (ident, template_args) = others;
+            Ok(TypeExpression {
+                path,
+                ident,
+                template_args,
+            })
+        }
+        Err(error) => Err(error),
+    }
+}
+
+// The name at `name`, by its number.
+fn reference_member(
+    alloc: Global,
+    numbering: &mut Numbering,
+    value: &BorrowedValue<'_>,
+) -> Result<Ident, Error>
+    ensures ok { IfOk result (λ e. ReadsNeeded (codes "name") (leaf (an_ident reference)) (borrowed_view value.now) (leaf_tree (ident reference e.0)) numbering.old numbering.new) }
+    ensures place { IfErr result (LocatesText name_in (codes "name") (borrowed_view value.now)) }
+{
+    match name_member(alloc, value, "name") {
+        Ok(name) => numbering.number(alloc, name),
+        Err(error) => Err(error),
+    }
 }
 
 /// The path at `path`, an option.
@@ -405,14 +466,22 @@ fn read_arguments(
     let Some(items) = value.as_array() else {
         return Err(wrong(alloc));
     };
-    let mut arguments = Vec::with_capacity(alloc, items.len())?;
+    let mut arguments = room(alloc, items.len());
     for (index, item) in items.iter().enumerate() {
-        match read_expression(alloc, numbering, item) {
-            Ok(expression) => arguments.push(TemplateArg { expression })?,
-            Err(error) => return Err(under_index(alloc, error, index)),
-        }
+        let argument = argument_of(read_expression(alloc, numbering, item));
+        arguments = with_item(alloc, arguments, index, argument);
     }
-    Ok(arguments)
+    arguments
+}
+
+fn argument_of(read: Result<ExpressionNode, Error>) -> Result<TemplateArg, Error>
+    ensures ok { IfOk result (λ a. (e : Spanned ExpressionValue) × (read ≡ Ok e) × (argument_view a ≡ branch template_argument (expression_tree e ∷ []))) }
+    ensures place { IfErr result (λ e. read ≡ Err e) }
+{
+    match read {
+        Ok(expression) => Ok(TemplateArg { expression }),
+        Err(error) => Err(error),
+    }
 }
 
 /// The call that an object is, without a word.
@@ -424,10 +493,12 @@ pub fn read_call(
     ensures ok { IfOk result (λ e. Reads (node_form a_call) (borrowed_view value.now) (call_view e) numbering.old numbering.new) }
     ensures place { IfErr result (Locates (node_form a_call) (borrowed_view value.now)) }
 {
-    check_keys(alloc, value, &["ty", "args"])?;
-    let ty = type_member(alloc, numbering, value, "ty")?;
-    let arguments = expressions_member(alloc, numbering, value, "args")?;
-    Ok(FunctionCall { ty, arguments })
+    let ty = type_member(alloc, numbering, value, "ty");
+    let arguments = expressions_member(alloc, numbering, value, "args");
+    match only(alloc, value, &["ty", "args"], both(ty, arguments)) {
+        Ok((ty, arguments)) => Ok(FunctionCall { ty, arguments }),
+        Err(error) => Err(error),
+    }
 }
 
 /// The expression at `key`, an option.

@@ -8,6 +8,7 @@ ghost use Rattle.std.specs.Str.{bytes_eq};
 ghost use Rattle.serde_json.specs.Find.{as_str, get};
 ghost use Rattle.wesl_borrowed.specs.View.{borrowed_view};
 ghost use Rattle.wesl_names.specs.Path.{path_view};
+ghost use Rattle.wesl_names.specs.declared.errors.Error as error;
 ghost use Rattle.wesl_form.specs.Reading.{name_in, literal_in, path_in};
 ghost use Rattle.wesl_pointer.specs.Keys.{all_known, has_only};
 ghost use Rattle.wesl_pointer.specs.Pointer.{escaped};
@@ -96,7 +97,9 @@ pub fn name_member<'a>(
     ensures ok { IfOk result (λ s. option_and_then name_in (get key.now (borrowed_view value.now)) ≡ Some s.now) }
     ensures place { IfErr result (LocatesText name_in key.now (borrowed_view value.now)) }
 {
-    let member = required(alloc, value, key)?;
+    let Some(member) = value.get(key) else {
+        return Err(wrong(alloc));
+    };
     match name_of(alloc, member) {
         Ok(name) => Ok(name),
         Err(error) => Err(under(alloc, error, key)),
@@ -123,7 +126,9 @@ pub fn literal_member<'a>(
     ensures ok { IfOk result (λ s. option_and_then literal_in (get key.now (borrowed_view value.now)) ≡ Some s.now) }
     ensures place { IfErr result (LocatesText literal_in key.now (borrowed_view value.now)) }
 {
-    let member = required(alloc, value, key)?;
+    let Some(member) = value.get(key) else {
+        return Err(wrong(alloc));
+    };
     match literal_of(alloc, member) {
         Ok(text) => Ok(text),
         Err(error) => Err(under(alloc, error, key)),
@@ -149,7 +154,9 @@ pub fn path_member(alloc: Global, value: &BorrowedValue<'_>, key: &str) -> Resul
     ensures ok { IfOk result (λ p. option_and_then path_in (get key.now (borrowed_view value.now)) ≡ Some (path_view p)) }
     ensures place { IfErr result (LocatesText path_in key.now (borrowed_view value.now)) }
 {
-    let member = required(alloc, value, key)?;
+    let Some(member) = value.get(key) else {
+        return Err(wrong(alloc));
+    };
     match path_of(alloc, member) {
         Ok(path) => Ok(path),
         Err(error) => Err(under(alloc, error, key)),
@@ -176,9 +183,70 @@ pub fn text_member<'a>(
     ensures ok { IfOk result (λ s. option_and_then as_str (get key.now (borrowed_view value.now)) ≡ Some s.now) }
     ensures place { IfErr result (LocatesText as_str key.now (borrowed_view value.now)) }
 {
-    let member = required(alloc, value, key)?;
+    let Some(member) = value.get(key) else {
+        return Err(wrong(alloc));
+    };
     match text_of(alloc, member) {
         Ok(text) => Ok(text),
         Err(error) => Err(under(alloc, error, key)),
+    }
+}
+
+// A text of its own.
+fn owned(alloc: Global, text: &str) -> Result<String, Error>
+    ensures text { IfOk result (λ s. string_bytes s ≡ text.now) }
+    ensures refused { IfErr result (λ e. e ≡ error.Memory) }
+{
+    match String::from_str(alloc, text) {
+        Ok(text) => Ok(text),
+        Err(_) => Err(Error::Memory),
+    }
+}
+
+/// The name that a value is, as a text of its own.
+pub(crate) fn own_name_of(alloc: Global, value: &BorrowedValue<'_>) -> Result<String, Error>
+    ensures ok { IfOk result (λ s. name_in (borrowed_view value.now) ≡ Some (string_bytes s)) }
+    ensures place { IfErr result (LocatesHere (name_in (borrowed_view value.now))) }
+{
+    match name_of(alloc, value) {
+        Ok(name) => owned(alloc, name),
+        Err(error) => Err(error),
+    }
+}
+
+/// The name at `key`, as a text of its own.
+pub(crate) fn own_name(alloc: Global, value: &BorrowedValue<'_>, key: &str) -> Result<String, Error>
+    ensures ok { IfOk result (λ s. option_and_then name_in (get key.now (borrowed_view value.now)) ≡ Some (string_bytes s)) }
+    ensures place { IfErr result (LocatesText name_in key.now (borrowed_view value.now)) }
+{
+    match name_member(alloc, value, key) {
+        Ok(text) => owned(alloc, text),
+        Err(error) => Err(error),
+    }
+}
+
+/// The text of the literal at `key`, as a text of its own.
+pub(crate) fn own_literal(
+    alloc: Global,
+    value: &BorrowedValue<'_>,
+    key: &str,
+) -> Result<String, Error>
+    ensures ok { IfOk result (λ s. option_and_then literal_in (get key.now (borrowed_view value.now)) ≡ Some (string_bytes s)) }
+    ensures place { IfErr result (LocatesText literal_in key.now (borrowed_view value.now)) }
+{
+    match literal_member(alloc, value, key) {
+        Ok(text) => owned(alloc, text),
+        Err(error) => Err(error),
+    }
+}
+
+/// The text at `key`, which may be empty, as a text of its own.
+pub(crate) fn own_text(alloc: Global, value: &BorrowedValue<'_>, key: &str) -> Result<String, Error>
+    ensures ok { IfOk result (λ s. option_and_then as_str (get key.now (borrowed_view value.now)) ≡ Some (string_bytes s)) }
+    ensures place { IfErr result (LocatesText as_str key.now (borrowed_view value.now)) }
+{
+    match text_member(alloc, value, key) {
+        Ok(text) => owned(alloc, text),
+        Err(error) => Err(error),
     }
 }

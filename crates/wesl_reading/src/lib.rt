@@ -4,6 +4,7 @@
 mod attribute;
 mod expression;
 mod fields;
+mod joined;
 mod names;
 mod numbering;
 mod words;
@@ -17,5 +18,6 @@ pub use expression::{
 pub use fields::{
     check_keys, name_member, name_of, path_member, required, text_member, under, under_index, wrong,
 };
+pub use joined::{both, boxed, inside, only, room, with_item};
 pub use names::names_member;
 pub use numbering::Numbering;

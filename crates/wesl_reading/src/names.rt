@@ -6,7 +6,8 @@ ghost use Rattle.wesl_form.specs.Schema.{leaf, some_names};
 ghost use Rattle.wesl_reading.specs.Faults.{Locates, LocatesInside};
 ghost use Rattle.wesl_reading.specs.Numbers.{Reads, ReadsMany};
 
-use crate::fields::{name_of, under, under_index, wrong};
+use crate::fields::{own_name_of, under, wrong};
+use crate::joined::{room, with_item};
 use std::alloc::Global;
 use wesl_borrowed::BorrowedValue;
 use wesl_names::Error;
@@ -36,12 +37,10 @@ fn read_names(alloc: Global, value: &BorrowedValue<'_>) -> Result<Vec<String>, E
     let Some(items) = value.as_array() else {
         return Err(wrong(alloc));
     };
-    let mut texts = Vec::with_capacity(alloc, items.len())?;
+    let mut texts = room(alloc, items.len());
     for (index, item) in items.iter().enumerate() {
-        match name_of(alloc, item) {
-            Ok(name) => texts.push(String::from_str(alloc, name)?)?,
-            Err(error) => return Err(under_index(alloc, error, index)),
-        }
+        let name = own_name_of(alloc, item);
+        texts = with_item(alloc, texts, index, name);
     }
-    Ok(texts)
+    texts
 }

@@ -10,7 +10,7 @@ ghost use Rattle.wesl_reading.specs.Faults.{LocatesHere, LocatesText};
 ghost use Rattle.wesl_form.specs.Nodes.{attribute_nodes, expression_words};
 ghost use Rattle.wesl_reading.specs.Forms.{attribute_of, attribute_text, expression_of, expression_text};
 
-use crate::fields::{required, under, wrong};
+use crate::fields::{under, wrong};
 use std::alloc::Global;
 use wesl_borrowed::BorrowedValue;
 use wesl_names::Error;
@@ -161,7 +161,9 @@ pub(crate) fn unary_operator_member(
     ensures ok { IfOk result (λ o. option_and_then (word_in unary_words) (get (codes "op") (borrowed_view value.now)) ≡ Some (unary o)) }
     ensures place { IfErr result (LocatesText (word_in unary_words) (codes "op") (borrowed_view value.now)) }
 {
-    let member = required(alloc, value, "op")?;
+    let Some(member) = value.get("op") else {
+        return Err(wrong(alloc));
+    };
     match unary_operator_of(alloc, member) {
         Ok(operator) => Ok(operator),
         Err(error) => Err(under(alloc, error, "op")),
@@ -176,7 +178,9 @@ pub(crate) fn binary_operator_member(
     ensures ok { IfOk result (λ o. option_and_then (word_in binary_words) (get (codes "op") (borrowed_view value.now)) ≡ Some (binary o)) }
     ensures place { IfErr result (LocatesText (word_in binary_words) (codes "op") (borrowed_view value.now)) }
 {
-    let member = required(alloc, value, "op")?;
+    let Some(member) = value.get("op") else {
+        return Err(wrong(alloc));
+    };
     match binary_operator_of(alloc, member) {
         Ok(operator) => Ok(operator),
         Err(error) => Err(under(alloc, error, "op")),

@@ -1,24 +1,22 @@
 -- What is left to show where a `?` ends a function, where a list begins, and where a function of the cycle calls another.
 use Rattle.std.proofs.Common.{◌≡◌, ℕ, ◌+◌, ◌*◌, ◌<◌, List, [], Result, Ok, Err, Vec, Global, map, sym, subst, refl, arith}
-use Rattle.std.specs.Prelude.{IfOk, IfErr, IsErrAnd, ltb, take, true, None}
+use Rattle.std.specs.Prelude.{IfOk, IfErr, IsErrAnd, ltb, true, None}
 use borrow.Author.Tests.{ltb-true}
-use Rattle.serde_json.specs.Data.{Data, depth}
+use Rattle.serde_json.specs.Data.{Data}
 use Rattle.serde_json.specs.Find.{as_array, get}
-use Rattle.wesl_borrowed.specs.declared.value.BorrowedValue.{BorrowedValue}
 use Rattle.wesl_names.specs.Path.{Text}
 use Rattle.wesl_names.specs.declared.errors.Error as error
 use Rattle.wesl_form.specs.Nodes.{whole_form}
 use Rattle.wesl_form.specs.Place.{IsBroken}
 use Rattle.wesl_form.specs.Schema.{Name, list_of}
-use Rattle.wesl_reading.proofs.Lists.{items-none, items_read}
 use Rattle.wesl_reading.proofs.Places.{root}
 use Rattle.wesl_reading.proofs.Steps.{many-absent}
 use Rattle.wesl_reading.specs.Faults.{IsAtRoot, Locates, LocatesRow}
-use Rattle.wesl_reading.specs.Numbers.{AreReadAs, ReadsMany}
+use Rattle.wesl_reading.specs.Numbers.{ReadsMany}
 use Rattle.wesl_reading_statements.specs.Forms.{ReadsStatement, statement_worded}
 use Rattle.wesl_reading_statements.specs.declared.words.StatementWord.{StatementWord}
 use Rattle.wesl_syntax.specs.declared.statement.Statement.{Statement}
-use Rattle.wesl_syntax.specs.Tree.{Kind, Tree, branch, forest_of}
+use Rattle.wesl_syntax.specs.Tree.{Kind, Tree, branch}
 use Rattle.wesl_syntax.specs.View.{listed, statement_view}
 
 -- the error that a `?` returns
@@ -37,13 +35,10 @@ to_next n k j t is low = omega (arith, ltb-true k j low)
 pub to_member : (a b k j t : ℕ) → 10 * b + j ≡ t → a < b → ltb k 10 ≡ true → 10 * a + k < t
 to_member a b k j t is below low = omega (arith, ltb-true k 10 low)
 
--- a list that is not there, one that is no list, and one of which nothing is read yet
+-- a list that is not there, and one that is no list
 module _ {A : Type 0} (f : A → Tree) (kd : Kind) (m : Name) (d : Data) (a : List Text) where
   pub none_listed : (k : Text) (v : Vec A Global) → get k d ≡ None → v.items ≡ [] → ReadsMany k (list_of kd m) d (listed f kd v) a a
   none_listed k v none empty = subst (λ l. ReadsMany k (list_of kd m) d (branch kd (map f l)) a a) (sym empty) (many-absent k kd m d a none)
-
-  pub none_read : (vs : List BorrowedValue) (l : List A) → l ≡ [] → AreReadAs (items_read m (take 0 vs)) (depth d) (forest_of (map f l)) a a
-  none_read vs l empty = subst (λ l. AreReadAs (items_read m (take 0 vs)) (depth d) (forest_of (map f l)) a a) (sym empty) (items-none m vs (depth d) a)
 
 pub no_list : (kd : Kind) (m : Name) (d : Data) (e : error.Error) → as_array d ≡ None → IsAtRoot e → Locates (list_of kd m) d e
 no_list kd m d e none is = root (IsBroken whole_form (list_of kd m) d) e is ([], refl, none)

@@ -1,3 +1,4 @@
+pub mod Several
 pub mod Named
 pub mod Worded
 pub mod Exits

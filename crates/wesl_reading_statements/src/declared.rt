@@ -13,13 +13,14 @@ ghost use Rattle.wesl_reading_statements.specs.declared.words.DeclaredWord.TheVa
 ghost use Rattle.wesl_reading_statements.specs.Forms.{ReadsDeclared, declared_worded, value_kind};
 ghost use Rattle.wesl_reading_statements.specs.Views.{declared_view};
 
+use crate::joined::{four, six};
 use crate::parts::binder_member;
 use crate::words::{DeclaredWord, ValueWord, access_mode_of, space_member};
 use std::alloc::Global;
 use wesl_borrowed::BorrowedValue;
 use wesl_names::Error;
 use wesl_reading::{
-    Numbering, attributes_member, check_keys, expression_member, optional_expression,
+    Numbering, attributes_member, both, check_keys, expression_member, only, optional_expression,
     optional_type, under,
 };
 use wesl_syntax::{AccessMode, ConstAssert, Declaration, DeclarationKind, Statement};
@@ -97,18 +98,21 @@ fn read_value(
     ensures ok { IfOk result (λ e. ReadsDeclared (declareds.Value word) (borrowed_view value.now) (declared_view e) numbering.old numbering.new) }
     ensures place { IfErr result (LocatesRow (declared_worded (declareds.Value word)) (borrowed_view value.now)) }
 {
-    check_keys(alloc, value, &["k", "attrs", "name", "ty", "init"])?;
-    let attributes = attributes_member(alloc, numbering, value, "attrs")?;
-    let ident = binder_member(alloc, numbering, value)?;
-    let ty = optional_type(alloc, numbering, value, "ty")?;
-    let initializer = optional_expression(alloc, numbering, value, "init")?;
-    Ok(Declared::Declaration(Declaration {
-        attributes,
-        kind: kind_of(word),
-        ident,
-        ty,
-        initializer,
-    }))
+    let attributes = attributes_member(alloc, numbering, value, "attrs");
+    let ident = binder_member(alloc, numbering, value);
+    let ty = optional_type(alloc, numbering, value, "ty");
+    let initializer = optional_expression(alloc, numbering, value, "init");
+    let parts = four(attributes, ident, ty, initializer);
+    match only(alloc, value, &["k", "attrs", "name", "ty", "init"], parts) {
+        Ok((attributes, ident, ty, initializer)) => Ok(Declared::Declaration(Declaration {
+            attributes,
+            kind: kind_of(word),
+            ident,
+            ty,
+            initializer,
+        })),
+        Err(error) => Err(error),
+    }
 }
 
 // A variable with no address space.
@@ -121,18 +125,21 @@ fn read_var(
     ensures ok { IfOk result (λ e. ReadsDeclared declareds.Var (borrowed_view value.now) (declared_view e) numbering.old numbering.new) }
     ensures place { IfErr result (LocatesRow (declared_worded declareds.Var) (borrowed_view value.now)) }
 {
-    check_keys(alloc, value, &["k", "attrs", "name", "ty", "init"])?;
-    let attributes = attributes_member(alloc, numbering, value, "attrs")?;
-    let ident = binder_member(alloc, numbering, value)?;
-    let ty = optional_type(alloc, numbering, value, "ty")?;
-    let initializer = optional_expression(alloc, numbering, value, "init")?;
-    Ok(Declared::Declaration(Declaration {
-        attributes,
-        kind: DeclarationKind::Var(None),
-        ident,
-        ty,
-        initializer,
-    }))
+    let attributes = attributes_member(alloc, numbering, value, "attrs");
+    let ident = binder_member(alloc, numbering, value);
+    let ty = optional_type(alloc, numbering, value, "ty");
+    let initializer = optional_expression(alloc, numbering, value, "init");
+    let parts = four(attributes, ident, ty, initializer);
+    match only(alloc, value, &["k", "attrs", "name", "ty", "init"], parts) {
+        Ok((attributes, ident, ty, initializer)) => Ok(Declared::Declaration(Declaration {
+            attributes,
+            kind: DeclarationKind::Var(None),
+            ident,
+            ty,
+            initializer,
+        })),
+        Err(error) => Err(error),
+    }
 }
 
 // A variable with an address space, and perhaps an access mode.
@@ -145,24 +152,30 @@ fn read_var_in_space(
     ensures ok { IfOk result (λ e. ReadsDeclared declareds.Var (borrowed_view value.now) (declared_view e) numbering.old numbering.new) }
     ensures place { IfErr result (LocatesRow (declared_worded declareds.Var) (borrowed_view value.now)) }
 {
-    check_keys(
+    let attributes = attributes_member(alloc, numbering, value, "attrs");
+    let space = space_member(alloc, value);
+    let access = optional_access(alloc, value);
+    let ident = binder_member(alloc, numbering, value);
+    let ty = optional_type(alloc, numbering, value, "ty");
+    let initializer = optional_expression(alloc, numbering, value, "init");
+    let parts = six(attributes, space, access, ident, ty, initializer);
+    match only(
         alloc,
         value,
         &["k", "attrs", "space", "access", "name", "ty", "init"],
-    )?;
-    let attributes = attributes_member(alloc, numbering, value, "attrs")?;
-    let space = space_member(alloc, value)?;
-    let access = optional_access(alloc, value)?;
-    let ident = binder_member(alloc, numbering, value)?;
-    let ty = optional_type(alloc, numbering, value, "ty")?;
-    let initializer = optional_expression(alloc, numbering, value, "init")?;
-    Ok(Declared::Declaration(Declaration {
-        attributes,
-        kind: DeclarationKind::Var(Some((space, access))),
-        ident,
-        ty,
-        initializer,
-    }))
+        parts,
+    ) {
+        Ok((attributes, space, access, ident, ty, initializer)) => Ok(Declared::Declaration(
+            Declaration {
+                attributes,
+                kind: DeclarationKind::Var(Some((space, access))),
+                ident,
+                ty,
+                initializer,
+            },
+        )),
+        Err(error) => Err(error),
+    }
 }
 
 // The access mode at `access`, an option.
@@ -187,11 +200,14 @@ fn read_assert(
     ensures ok { IfOk result (λ e. ReadsDeclared declareds.Assert (borrowed_view value.now) (declared_view e) numbering.old numbering.new) }
     ensures place { IfErr result (LocatesRow (declared_worded declareds.Assert) (borrowed_view value.now)) }
 {
-    check_keys(alloc, value, &["k", "attrs", "expr"])?;
-    let attributes = attributes_member(alloc, numbering, value, "attrs")?;
-    let expression = expression_member(alloc, numbering, value, "expr")?;
-    Ok(Declared::Assert(ConstAssert {
-        attributes,
-        expression,
-    }))
+    let attributes = attributes_member(alloc, numbering, value, "attrs");
+    let expression = expression_member(alloc, numbering, value, "expr");
+    let parts = both(attributes, expression);
+    match only(alloc, value, &["k", "attrs", "expr"], parts) {
+        Ok((attributes, expression)) => Ok(Declared::Assert(ConstAssert {
+            attributes,
+            expression,
+        })),
+        Err(error) => Err(error),
+    }
 }

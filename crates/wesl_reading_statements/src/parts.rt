@@ -10,7 +10,7 @@ ghost use Rattle.wesl_reading.specs.Numbers.{ReadsNeeded};
 use std::alloc::Global;
 use wesl_borrowed::BorrowedValue;
 use wesl_names::{Error, Ident};
-use wesl_reading::{Numbering, name_member, read_call, required, text_member, under};
+use wesl_reading::{Numbering, name_member, read_call, text_member, under, wrong};
 use wesl_syntax::FunctionCall;
 
 /// The declared name at `name`, by its number.
@@ -22,9 +22,10 @@ pub fn binder_member(
     ensures ok { IfOk result (λ e. ReadsNeeded (codes "name") (leaf (an_ident binder)) (borrowed_view value.now) (ident_tree binder e) numbering.old numbering.new) }
     ensures place { IfErr result (LocatesMember (codes "name") (leaf (an_ident binder)) (borrowed_view value.now)) }
 {
-    let name = name_member(alloc, value, "name")?;
-    let ident = numbering.number(alloc, name)?;
-    Ok(ident)
+    match name_member(alloc, value, "name") {
+        Ok(name) => numbering.number(alloc, name),
+        Err(error) => Err(error),
+    }
 }
 
 /// The name at `key`, as it is.
@@ -64,7 +65,9 @@ pub(crate) fn call_member(
     ensures ok { IfOk result (λ e. ReadsNeeded (codes "call") (node_form a_call) (borrowed_view value.now) (call_view e) numbering.old numbering.new) }
     ensures place { IfErr result (LocatesMember (codes "call") (node_form a_call) (borrowed_view value.now)) }
 {
-    let member = required(alloc, value, "call")?;
+    let Some(member) = value.get("call") else {
+        return Err(wrong(alloc));
+    };
     match read_call(alloc, numbering, member) {
         Ok(call) => Ok(call),
         Err(error) => Err(under(alloc, error, "call")),

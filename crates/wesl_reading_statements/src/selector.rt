@@ -12,8 +12,8 @@ use std::alloc::Global;
 use wesl_borrowed::BorrowedValue;
 use wesl_names::Error;
 use wesl_reading::{
-    Numbering, attributes_member, check_keys, expression_member, read_expression, under,
-    under_index, wrong,
+    Numbering, attributes_member, both, check_keys, expression_member, only, read_expression, room,
+    under, with_item, wrong,
 };
 use wesl_syntax::{BreakIfStatement, CaseSelector};
 
@@ -46,14 +46,12 @@ fn read_cases(
     let Some(items) = value.as_array() else {
         return Err(wrong(alloc));
     };
-    let mut cases = Vec::with_capacity(alloc, items.len())?;
+    let mut cases = room(alloc, items.len());
     for (index, item) in items.iter().enumerate() {
-        match read_case(alloc, numbering, item) {
-            Ok(case) => cases.push(case)?,
-            Err(error) => return Err(under_index(alloc, error, index)),
-        }
+        let case = read_case(alloc, numbering, item);
+        cases = with_item(alloc, cases, index, case);
     }
-    Ok(cases)
+    cases
 }
 
 // `default` by its word, or an expression.
@@ -120,11 +118,14 @@ fn read_break_if(
     ensures ok { IfOk result (λ e. Reads (node_form a_break_if) (borrowed_view value.now) (break_if_view e) numbering.old numbering.new) }
     ensures place { IfErr result (Locates (node_form a_break_if) (borrowed_view value.now)) }
 {
-    check_keys(alloc, value, &["attrs", "expr"])?;
-    let attributes = attributes_member(alloc, numbering, value, "attrs")?;
-    let expression = expression_member(alloc, numbering, value, "expr")?;
-    Ok(BreakIfStatement {
-        attributes,
-        expression,
-    })
+    let attributes = attributes_member(alloc, numbering, value, "attrs");
+    let expression = expression_member(alloc, numbering, value, "expr");
+    let parts = both(attributes, expression);
+    match only(alloc, value, &["attrs", "expr"], parts) {
+        Ok((attributes, expression)) => Ok(BreakIfStatement {
+            attributes,
+            expression,
+        }),
+        Err(error) => Err(error),
+    }
 }

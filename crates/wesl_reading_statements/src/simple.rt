@@ -6,13 +6,14 @@ ghost use Rattle.wesl_reading.specs.Faults.{LocatesRow};
 ghost use Rattle.wesl_reading_statements.specs.declared.words.StatementWord.TheVariants as stated;
 ghost use Rattle.wesl_reading_statements.specs.Forms.{ReadsStatement, statement_worded};
 
+use crate::joined::four;
 use crate::parts::call_member;
 use crate::words::assignment_member;
 use std::alloc::Global;
 use wesl_borrowed::BorrowedValue;
 use wesl_names::Error;
 use wesl_reading::{
-    Numbering, attributes_member, check_keys, expression_member, optional_expression,
+    Numbering, attributes_member, both, expression_member, only, optional_expression,
 };
 use wesl_syntax::Statement;
 
@@ -25,17 +26,20 @@ pub(crate) fn read_assignment(
     ensures ok { IfOk result (λ e. ReadsStatement stated.Assign (borrowed_view value.now) (statement_view e) numbering.old numbering.new) }
     ensures place { IfErr result (LocatesRow (statement_worded stated.Assign) (borrowed_view value.now)) }
 {
-    check_keys(alloc, value, &["k", "op", "attrs", "lhs", "rhs"])?;
-    let operator = assignment_member(alloc, value)?;
-    let attributes = attributes_member(alloc, numbering, value, "attrs")?;
-    let lhs = expression_member(alloc, numbering, value, "lhs")?;
-    let rhs = expression_member(alloc, numbering, value, "rhs")?;
-    Ok(Statement::Assignment {
-        attributes,
-        operator,
-        lhs,
-        rhs,
-    })
+    let operator = assignment_member(alloc, value);
+    let attributes = attributes_member(alloc, numbering, value, "attrs");
+    let lhs = expression_member(alloc, numbering, value, "lhs");
+    let rhs = expression_member(alloc, numbering, value, "rhs");
+    let parts = four(operator, attributes, lhs, rhs);
+    match only(alloc, value, &["k", "op", "attrs", "lhs", "rhs"], parts) {
+        Ok((operator, attributes, lhs, rhs)) => Ok(Statement::Assignment {
+            attributes,
+            operator,
+            lhs,
+            rhs,
+        }),
+        Err(error) => Err(error),
+    }
 }
 
 /// `expr++;`
@@ -47,13 +51,16 @@ pub(crate) fn read_increment(
     ensures ok { IfOk result (λ e. ReadsStatement stated.Increment (borrowed_view value.now) (statement_view e) numbering.old numbering.new) }
     ensures place { IfErr result (LocatesRow (statement_worded stated.Increment) (borrowed_view value.now)) }
 {
-    check_keys(alloc, value, &["k", "attrs", "expr"])?;
-    let attributes = attributes_member(alloc, numbering, value, "attrs")?;
-    let expression = expression_member(alloc, numbering, value, "expr")?;
-    Ok(Statement::Increment {
-        attributes,
-        expression,
-    })
+    let attributes = attributes_member(alloc, numbering, value, "attrs");
+    let expression = expression_member(alloc, numbering, value, "expr");
+    let parts = both(attributes, expression);
+    match only(alloc, value, &["k", "attrs", "expr"], parts) {
+        Ok((attributes, expression)) => Ok(Statement::Increment {
+            attributes,
+            expression,
+        }),
+        Err(error) => Err(error),
+    }
 }
 
 /// `expr--;`
@@ -65,13 +72,16 @@ pub(crate) fn read_decrement(
     ensures ok { IfOk result (λ e. ReadsStatement stated.Decrement (borrowed_view value.now) (statement_view e) numbering.old numbering.new) }
     ensures place { IfErr result (LocatesRow (statement_worded stated.Decrement) (borrowed_view value.now)) }
 {
-    check_keys(alloc, value, &["k", "attrs", "expr"])?;
-    let attributes = attributes_member(alloc, numbering, value, "attrs")?;
-    let expression = expression_member(alloc, numbering, value, "expr")?;
-    Ok(Statement::Decrement {
-        attributes,
-        expression,
-    })
+    let attributes = attributes_member(alloc, numbering, value, "attrs");
+    let expression = expression_member(alloc, numbering, value, "expr");
+    let parts = both(attributes, expression);
+    match only(alloc, value, &["k", "attrs", "expr"], parts) {
+        Ok((attributes, expression)) => Ok(Statement::Decrement {
+            attributes,
+            expression,
+        }),
+        Err(error) => Err(error),
+    }
 }
 
 /// `break;`
@@ -83,9 +93,11 @@ pub(crate) fn read_break(
     ensures ok { IfOk result (λ e. ReadsStatement stated.Break (borrowed_view value.now) (statement_view e) numbering.old numbering.new) }
     ensures place { IfErr result (LocatesRow (statement_worded stated.Break) (borrowed_view value.now)) }
 {
-    check_keys(alloc, value, &["k", "attrs"])?;
-    let attributes = attributes_member(alloc, numbering, value, "attrs")?;
-    Ok(Statement::Break { attributes })
+    let attributes = attributes_member(alloc, numbering, value, "attrs");
+    match only(alloc, value, &["k", "attrs"], attributes) {
+        Ok(attributes) => Ok(Statement::Break { attributes }),
+        Err(error) => Err(error),
+    }
 }
 
 /// `continue;`
@@ -97,9 +109,11 @@ pub(crate) fn read_continue(
     ensures ok { IfOk result (λ e. ReadsStatement stated.Continue (borrowed_view value.now) (statement_view e) numbering.old numbering.new) }
     ensures place { IfErr result (LocatesRow (statement_worded stated.Continue) (borrowed_view value.now)) }
 {
-    check_keys(alloc, value, &["k", "attrs"])?;
-    let attributes = attributes_member(alloc, numbering, value, "attrs")?;
-    Ok(Statement::Continue { attributes })
+    let attributes = attributes_member(alloc, numbering, value, "attrs");
+    match only(alloc, value, &["k", "attrs"], attributes) {
+        Ok(attributes) => Ok(Statement::Continue { attributes }),
+        Err(error) => Err(error),
+    }
 }
 
 /// `discard;`
@@ -111,9 +125,11 @@ pub(crate) fn read_discard(
     ensures ok { IfOk result (λ e. ReadsStatement stated.Discard (borrowed_view value.now) (statement_view e) numbering.old numbering.new) }
     ensures place { IfErr result (LocatesRow (statement_worded stated.Discard) (borrowed_view value.now)) }
 {
-    check_keys(alloc, value, &["k", "attrs"])?;
-    let attributes = attributes_member(alloc, numbering, value, "attrs")?;
-    Ok(Statement::Discard { attributes })
+    let attributes = attributes_member(alloc, numbering, value, "attrs");
+    match only(alloc, value, &["k", "attrs"], attributes) {
+        Ok(attributes) => Ok(Statement::Discard { attributes }),
+        Err(error) => Err(error),
+    }
 }
 
 /// `return;` or `return expr;`
@@ -125,13 +141,16 @@ pub(crate) fn read_return(
     ensures ok { IfOk result (λ e. ReadsStatement stated.Return (borrowed_view value.now) (statement_view e) numbering.old numbering.new) }
     ensures place { IfErr result (LocatesRow (statement_worded stated.Return) (borrowed_view value.now)) }
 {
-    check_keys(alloc, value, &["k", "attrs", "expr"])?;
-    let attributes = attributes_member(alloc, numbering, value, "attrs")?;
-    let expression = optional_expression(alloc, numbering, value, "expr")?;
-    Ok(Statement::Return {
-        attributes,
-        expression,
-    })
+    let attributes = attributes_member(alloc, numbering, value, "attrs");
+    let expression = optional_expression(alloc, numbering, value, "expr");
+    let parts = both(attributes, expression);
+    match only(alloc, value, &["k", "attrs", "expr"], parts) {
+        Ok((attributes, expression)) => Ok(Statement::Return {
+            attributes,
+            expression,
+        }),
+        Err(error) => Err(error),
+    }
 }
 
 /// `call;`
@@ -143,8 +162,11 @@ pub(crate) fn read_call_statement(
     ensures ok { IfOk result (λ e. ReadsStatement stated.Call (borrowed_view value.now) (statement_view e) numbering.old numbering.new) }
     ensures place { IfErr result (LocatesRow (statement_worded stated.Call) (borrowed_view value.now)) }
 {
-    check_keys(alloc, value, &["k", "attrs", "call"])?;
-    let attributes = attributes_member(alloc, numbering, value, "attrs")?;
-    let call = call_member(alloc, numbering, value)?;
-    Ok(Statement::FunctionCall { attributes, call })
+    let attributes = attributes_member(alloc, numbering, value, "attrs");
+    let call = call_member(alloc, numbering, value);
+    let parts = both(attributes, call);
+    match only(alloc, value, &["k", "attrs", "call"], parts) {
+        Ok((attributes, call)) => Ok(Statement::FunctionCall { attributes, call }),
+        Err(error) => Err(error),
+    }
 }

@@ -12,6 +12,7 @@ ghost use Rattle.wesl_reading_statements.specs.declared.words.StatementWord.TheV
 ghost use Rattle.wesl_reading_statements.specs.Forms.{ReadsStatement, statement_text, statement_worded};
 
 use crate::declared::{read_declared, statement_of};
+use crate::joined::{five, four, three};
 use crate::selector::{cases_member, optional_break_if};
 use crate::simple::{
     read_assignment, read_break, read_call_statement, read_continue, read_decrement, read_discard,
@@ -22,8 +23,8 @@ use std::alloc::Global;
 use wesl_borrowed::BorrowedValue;
 use wesl_names::Error;
 use wesl_reading::{
-    Numbering, attributes_member, check_keys, expression_member, optional_expression, required,
-    under, under_index, unplaced, wrong,
+    Numbering, attributes_member, both, boxed, expression_member, only, optional_expression, room,
+    under, unplaced, with_item, wrong,
 };
 use wesl_syntax::{
     CompoundStatement, ContinuingStatement, ElseClause, ElseIfClause, IfClause, Statement,
@@ -52,7 +53,9 @@ fn statement_word_of(alloc: Global, value: &BorrowedValue<'_>) -> Result<Stateme
     ensures word { IfOk result (λ w. HasWord (statement_text w) (borrowed_view value.now)) }
     ensures place { IfErr result (Locates (node_form a_statement) (borrowed_view value.now)) }
 {
-    let word = required(alloc, value, "k")?;
+    let Some(word) = value.get("k") else {
+        return Err(wrong(alloc));
+    };
     match word.as_str().and_then(statement_word) {
         Some(word) => Ok(word),
         None => Err(under(alloc, wrong(alloc), "k")),
@@ -100,13 +103,16 @@ fn read_block(
     ensures ok { IfOk result (λ e. ReadsStatement stated.Block (borrowed_view value.now) (statement_view e) numbering.old numbering.new) }
     ensures place { IfErr result (LocatesRow (statement_worded stated.Block) (borrowed_view value.now)) }
 {
-    check_keys(alloc, value, &["k", "attrs", "stmts"])?;
-    let attributes = attributes_member(alloc, numbering, value, "attrs")?;
-    let statements = statements_member(alloc, numbering, value)?;
-    Ok(Statement::Compound(CompoundStatement {
-        attributes,
-        statements,
-    }))
+    let attributes = attributes_member(alloc, numbering, value, "attrs");
+    let statements = statements_member(alloc, numbering, value);
+    let parts = both(attributes, statements);
+    match only(alloc, value, &["k", "attrs", "stmts"], parts) {
+        Ok((attributes, statements)) => Ok(Statement::Compound(CompoundStatement {
+            attributes,
+            statements,
+        })),
+        Err(error) => Err(error),
+    }
 }
 
 #[cycle(statements)]
@@ -118,22 +124,26 @@ fn read_if(
     ensures ok { IfOk result (λ e. ReadsStatement stated.If (borrowed_view value.now) (statement_view e) numbering.old numbering.new) }
     ensures place { IfErr result (LocatesRow (statement_worded stated.If) (borrowed_view value.now)) }
 {
-    check_keys(
+    let attributes = attributes_member(alloc, numbering, value, "attrs");
+    let expression = expression_member(alloc, numbering, value, "cond");
+    let body = body_member(alloc, numbering, value);
+    let else_if_clauses = elifs_member(alloc, numbering, value);
+    let else_clause = optional_else(alloc, numbering, value);
+    let parts = five(attributes, expression, body, else_if_clauses, else_clause);
+    match only(
         alloc,
         value,
         &["k", "attrs", "cond", "body", "elifs", "else"],
-    )?;
-    let attributes = attributes_member(alloc, numbering, value, "attrs")?;
-    let expression = expression_member(alloc, numbering, value, "cond")?;
-    let body = body_member(alloc, numbering, value)?;
-    let else_if_clauses = elifs_member(alloc, numbering, value)?;
-    let else_clause = optional_else(alloc, numbering, value)?;
-    Ok(Statement::If {
-        attributes,
-        if_clause: IfClause { expression, body },
-        else_if_clauses,
-        else_clause,
-    })
+        parts,
+    ) {
+        Ok((attributes, expression, body, else_if_clauses, else_clause)) => Ok(Statement::If {
+            attributes,
+            if_clause: IfClause { expression, body },
+            else_if_clauses,
+            else_clause,
+        }),
+        Err(error) => Err(error),
+    }
 }
 
 #[cycle(statements)]
@@ -145,21 +155,25 @@ fn read_switch(
     ensures ok { IfOk result (λ e. ReadsStatement stated.Switch (borrowed_view value.now) (statement_view e) numbering.old numbering.new) }
     ensures place { IfErr result (LocatesRow (statement_worded stated.Switch) (borrowed_view value.now)) }
 {
-    check_keys(
+    let attributes = attributes_member(alloc, numbering, value, "attrs");
+    let expression = expression_member(alloc, numbering, value, "expr");
+    let body_attributes = attributes_member(alloc, numbering, value, "body_attrs");
+    let clauses = clauses_member(alloc, numbering, value);
+    let parts = four(attributes, expression, body_attributes, clauses);
+    match only(
         alloc,
         value,
         &["k", "attrs", "expr", "body_attrs", "clauses"],
-    )?;
-    let attributes = attributes_member(alloc, numbering, value, "attrs")?;
-    let expression = expression_member(alloc, numbering, value, "expr")?;
-    let body_attributes = attributes_member(alloc, numbering, value, "body_attrs")?;
-    let clauses = clauses_member(alloc, numbering, value)?;
-    Ok(Statement::Switch {
-        attributes,
-        expression,
-        body_attributes,
-        clauses,
-    })
+        parts,
+    ) {
+        Ok((attributes, expression, body_attributes, clauses)) => Ok(Statement::Switch {
+            attributes,
+            expression,
+            body_attributes,
+            clauses,
+        }),
+        Err(error) => Err(error),
+    }
 }
 
 #[cycle(statements)]
@@ -171,15 +185,18 @@ fn read_loop(
     ensures ok { IfOk result (λ e. ReadsStatement stated.Loop (borrowed_view value.now) (statement_view e) numbering.old numbering.new) }
     ensures place { IfErr result (LocatesRow (statement_worded stated.Loop) (borrowed_view value.now)) }
 {
-    check_keys(alloc, value, &["k", "attrs", "body", "continuing"])?;
-    let attributes = attributes_member(alloc, numbering, value, "attrs")?;
-    let body = body_member(alloc, numbering, value)?;
-    let continuing = optional_continuing(alloc, numbering, value)?;
-    Ok(Statement::Loop {
-        attributes,
-        body,
-        continuing,
-    })
+    let attributes = attributes_member(alloc, numbering, value, "attrs");
+    let body = body_member(alloc, numbering, value);
+    let continuing = optional_continuing(alloc, numbering, value);
+    let parts = three(attributes, body, continuing);
+    match only(alloc, value, &["k", "attrs", "body", "continuing"], parts) {
+        Ok((attributes, body, continuing)) => Ok(Statement::Loop {
+            attributes,
+            body,
+            continuing,
+        }),
+        Err(error) => Err(error),
+    }
 }
 
 #[cycle(statements)]
@@ -191,23 +208,27 @@ fn read_for(
     ensures ok { IfOk result (λ e. ReadsStatement stated.For (borrowed_view value.now) (statement_view e) numbering.old numbering.new) }
     ensures place { IfErr result (LocatesRow (statement_worded stated.For) (borrowed_view value.now)) }
 {
-    check_keys(
+    let attributes = attributes_member(alloc, numbering, value, "attrs");
+    let initializer = optional_statement(alloc, numbering, value, "init");
+    let condition = optional_expression(alloc, numbering, value, "cond");
+    let update = optional_statement(alloc, numbering, value, "update");
+    let body = body_member(alloc, numbering, value);
+    let parts = five(attributes, initializer, condition, update, body);
+    match only(
         alloc,
         value,
         &["k", "attrs", "init", "cond", "update", "body"],
-    )?;
-    let attributes = attributes_member(alloc, numbering, value, "attrs")?;
-    let initializer = optional_statement(alloc, numbering, value, "init")?;
-    let condition = optional_expression(alloc, numbering, value, "cond")?;
-    let update = optional_statement(alloc, numbering, value, "update")?;
-    let body = body_member(alloc, numbering, value)?;
-    Ok(Statement::For {
-        attributes,
-        initializer,
-        condition,
-        update,
-        body,
-    })
+        parts,
+    ) {
+        Ok((attributes, initializer, condition, update, body)) => Ok(Statement::For {
+            attributes,
+            initializer,
+            condition,
+            update,
+            body,
+        }),
+        Err(error) => Err(error),
+    }
 }
 
 #[cycle(statements)]
@@ -219,15 +240,18 @@ fn read_while(
     ensures ok { IfOk result (λ e. ReadsStatement stated.While (borrowed_view value.now) (statement_view e) numbering.old numbering.new) }
     ensures place { IfErr result (LocatesRow (statement_worded stated.While) (borrowed_view value.now)) }
 {
-    check_keys(alloc, value, &["k", "attrs", "cond", "body"])?;
-    let attributes = attributes_member(alloc, numbering, value, "attrs")?;
-    let condition = expression_member(alloc, numbering, value, "cond")?;
-    let body = body_member(alloc, numbering, value)?;
-    Ok(Statement::While {
-        attributes,
-        condition,
-        body,
-    })
+    let attributes = attributes_member(alloc, numbering, value, "attrs");
+    let condition = expression_member(alloc, numbering, value, "cond");
+    let body = body_member(alloc, numbering, value);
+    let parts = three(attributes, condition, body);
+    match only(alloc, value, &["k", "attrs", "cond", "body"], parts) {
+        Ok((attributes, condition, body)) => Ok(Statement::While {
+            attributes,
+            condition,
+            body,
+        }),
+        Err(error) => Err(error),
+    }
 }
 
 /// The block at `body`, which must be there.
@@ -240,7 +264,9 @@ pub fn body_member(
     ensures ok { IfOk result (λ e. ReadsNeeded (codes "body") (node_form a_body) (borrowed_view value.now) (compound_view e) numbering.old numbering.new) }
     ensures place { IfErr result (LocatesMember (codes "body") (node_form a_body) (borrowed_view value.now)) }
 {
-    let member = required(alloc, value, "body")?;
+    let Some(member) = value.get("body") else {
+        return Err(wrong(alloc));
+    };
     match read_body(alloc, numbering, member) {
         Ok(body) => Ok(body),
         Err(error) => Err(under(alloc, error, "body")),
@@ -256,13 +282,16 @@ fn read_body(
     ensures ok { IfOk result (λ e. Reads (node_form a_body) (borrowed_view value.now) (compound_view e) numbering.old numbering.new) }
     ensures place { IfErr result (Locates (node_form a_body) (borrowed_view value.now)) }
 {
-    check_keys(alloc, value, &["attrs", "stmts"])?;
-    let attributes = attributes_member(alloc, numbering, value, "attrs")?;
-    let statements = statements_member(alloc, numbering, value)?;
-    Ok(CompoundStatement {
-        attributes,
-        statements,
-    })
+    let attributes = attributes_member(alloc, numbering, value, "attrs");
+    let statements = statements_member(alloc, numbering, value);
+    let parts = both(attributes, statements);
+    match only(alloc, value, &["attrs", "stmts"], parts) {
+        Ok((attributes, statements)) => Ok(CompoundStatement {
+            attributes,
+            statements,
+        }),
+        Err(error) => Err(error),
+    }
 }
 
 // The statements at `stmts`, a list.
@@ -296,14 +325,12 @@ fn read_statements(
     let Some(items) = value.as_array() else {
         return Err(wrong(alloc));
     };
-    let mut statements = Vec::with_capacity(alloc, items.len())?;
+    let mut statements = room(alloc, items.len());
     for (index, item) in items.iter().enumerate() {
-        match read_statement(alloc, numbering, item) {
-            Ok(statement) => statements.push(statement)?,
-            Err(error) => return Err(under_index(alloc, error, index)),
-        }
+        let statement = read_statement(alloc, numbering, item);
+        statements = with_item(alloc, statements, index, statement);
     }
-    Ok(statements)
+    statements
 }
 
 // The statement at `key`, an option.
@@ -320,8 +347,8 @@ fn optional_statement(
     let Some(member) = value.get(key) else {
         return Ok(None);
     };
-    match read_statement(alloc, numbering, member) {
-        Ok(statement) => Ok(Some(Box::new(alloc, statement)?)),
+    match boxed(alloc, read_statement(alloc, numbering, member)) {
+        Ok(statement) => Ok(Some(statement)),
         Err(error) => Err(under(alloc, error, key)),
     }
 }
@@ -357,14 +384,12 @@ fn read_elifs(
     let Some(items) = value.as_array() else {
         return Err(wrong(alloc));
     };
-    let mut clauses = Vec::with_capacity(alloc, items.len())?;
+    let mut clauses = room(alloc, items.len());
     for (index, item) in items.iter().enumerate() {
-        match read_elif(alloc, numbering, item) {
-            Ok(clause) => clauses.push(clause)?,
-            Err(error) => return Err(under_index(alloc, error, index)),
-        }
+        let clause = read_elif(alloc, numbering, item);
+        clauses = with_item(alloc, clauses, index, clause);
     }
-    Ok(clauses)
+    clauses
 }
 
 #[cycle(statements)]
@@ -376,15 +401,18 @@ fn read_elif(
     ensures ok { IfOk result (λ e. Reads (node_form an_elif) (borrowed_view value.now) (else_if_view e) numbering.old numbering.new) }
     ensures place { IfErr result (Locates (node_form an_elif) (borrowed_view value.now)) }
 {
-    check_keys(alloc, value, &["attrs", "cond", "body"])?;
-    let attributes = attributes_member(alloc, numbering, value, "attrs")?;
-    let expression = expression_member(alloc, numbering, value, "cond")?;
-    let body = body_member(alloc, numbering, value)?;
-    Ok(ElseIfClause {
-        attributes,
-        expression,
-        body,
-    })
+    let attributes = attributes_member(alloc, numbering, value, "attrs");
+    let expression = expression_member(alloc, numbering, value, "cond");
+    let body = body_member(alloc, numbering, value);
+    let parts = three(attributes, expression, body);
+    match only(alloc, value, &["attrs", "cond", "body"], parts) {
+        Ok((attributes, expression, body)) => Ok(ElseIfClause {
+            attributes,
+            expression,
+            body,
+        }),
+        Err(error) => Err(error),
+    }
 }
 
 // The clause at `else`, an option.
@@ -415,10 +443,13 @@ fn read_else(
     ensures ok { IfOk result (λ e. Reads (node_form an_else) (borrowed_view value.now) (else_view e) numbering.old numbering.new) }
     ensures place { IfErr result (Locates (node_form an_else) (borrowed_view value.now)) }
 {
-    check_keys(alloc, value, &["attrs", "body"])?;
-    let attributes = attributes_member(alloc, numbering, value, "attrs")?;
-    let body = body_member(alloc, numbering, value)?;
-    Ok(ElseClause { attributes, body })
+    let attributes = attributes_member(alloc, numbering, value, "attrs");
+    let body = body_member(alloc, numbering, value);
+    let parts = both(attributes, body);
+    match only(alloc, value, &["attrs", "body"], parts) {
+        Ok((attributes, body)) => Ok(ElseClause { attributes, body }),
+        Err(error) => Err(error),
+    }
 }
 
 // The clauses at `clauses`, a list.
@@ -452,14 +483,12 @@ fn read_clauses(
     let Some(items) = value.as_array() else {
         return Err(wrong(alloc));
     };
-    let mut clauses = Vec::with_capacity(alloc, items.len())?;
+    let mut clauses = room(alloc, items.len());
     for (index, item) in items.iter().enumerate() {
-        match read_clause(alloc, numbering, item) {
-            Ok(clause) => clauses.push(clause)?,
-            Err(error) => return Err(under_index(alloc, error, index)),
-        }
+        let clause = read_clause(alloc, numbering, item);
+        clauses = with_item(alloc, clauses, index, clause);
     }
-    Ok(clauses)
+    clauses
 }
 
 #[cycle(statements)]
@@ -471,15 +500,18 @@ fn read_clause(
     ensures ok { IfOk result (λ e. Reads (node_form a_clause) (borrowed_view value.now) (clause_view e) numbering.old numbering.new) }
     ensures place { IfErr result (Locates (node_form a_clause) (borrowed_view value.now)) }
 {
-    check_keys(alloc, value, &["attrs", "cases", "body"])?;
-    let attributes = attributes_member(alloc, numbering, value, "attrs")?;
-    let case_selectors = cases_member(alloc, numbering, value)?;
-    let body = body_member(alloc, numbering, value)?;
-    Ok(SwitchClause {
-        attributes,
-        case_selectors,
-        body,
-    })
+    let attributes = attributes_member(alloc, numbering, value, "attrs");
+    let case_selectors = cases_member(alloc, numbering, value);
+    let body = body_member(alloc, numbering, value);
+    let parts = three(attributes, case_selectors, body);
+    match only(alloc, value, &["attrs", "cases", "body"], parts) {
+        Ok((attributes, case_selectors, body)) => Ok(SwitchClause {
+            attributes,
+            case_selectors,
+            body,
+        }),
+        Err(error) => Err(error),
+    }
 }
 
 // What stands at `continuing`, an option.
@@ -510,13 +542,16 @@ fn read_continuing(
     ensures ok { IfOk result (λ e. Reads (node_form a_continuing) (borrowed_view value.now) (continuing_view e) numbering.old numbering.new) }
     ensures place { IfErr result (Locates (node_form a_continuing) (borrowed_view value.now)) }
 {
-    check_keys(alloc, value, &["attrs", "body", "break_if"])?;
-    let attributes = attributes_member(alloc, numbering, value, "attrs")?;
-    let body = body_member(alloc, numbering, value)?;
-    let break_if = optional_break_if(alloc, numbering, value)?;
-    Ok(ContinuingStatement {
-        attributes,
-        body,
-        break_if,
-    })
+    let attributes = attributes_member(alloc, numbering, value, "attrs");
+    let body = body_member(alloc, numbering, value);
+    let break_if = optional_break_if(alloc, numbering, value);
+    let parts = three(attributes, body, break_if);
+    match only(alloc, value, &["attrs", "body", "break_if"], parts) {
+        Ok((attributes, body, break_if)) => Ok(ContinuingStatement {
+            attributes,
+            body,
+            break_if,
+        }),
+        Err(error) => Err(error),
+    }
 }

@@ -13,7 +13,7 @@ ghost use Rattle.wesl_reading_statements.specs.Forms.{declared_of, declared_text
 use std::alloc::Global;
 use wesl_borrowed::BorrowedValue;
 use wesl_names::Error;
-use wesl_reading::{required, under, wrong};
+use wesl_reading::{under, wrong};
 use wesl_syntax::{AccessMode, AddressSpace, AssignmentOperator};
 
 /// The words at `k` of a declaration that has no address space.
@@ -182,7 +182,9 @@ pub(crate) fn assignment_member(
     ensures ok { IfOk result (λ o. option_and_then (word_in assignment_words) (get (codes "op") (borrowed_view value.now)) ≡ Some (assignment o)) }
     ensures place { IfErr result (LocatesText (word_in assignment_words) (codes "op") (borrowed_view value.now)) }
 {
-    let member = required(alloc, value, "op")?;
+    let Some(member) = value.get("op") else {
+        return Err(wrong(alloc));
+    };
     match assignment_operator_of(alloc, member) {
         Ok(operator) => Ok(operator),
         Err(error) => Err(under(alloc, error, "op")),
@@ -194,7 +196,9 @@ pub(crate) fn space_member(alloc: Global, value: &BorrowedValue<'_>) -> Result<A
     ensures ok { IfOk result (λ o. option_and_then (word_in space_words) (get (codes "space") (borrowed_view value.now)) ≡ Some (space o)) }
     ensures place { IfErr result (LocatesText (word_in space_words) (codes "space") (borrowed_view value.now)) }
 {
-    let member = required(alloc, value, "space")?;
+    let Some(member) = value.get("space") else {
+        return Err(wrong(alloc));
+    };
     match address_space_of(alloc, member) {
         Ok(space) => Ok(space),
         Err(error) => Err(under(alloc, error, "space")),

@@ -16,11 +16,11 @@ use std::alloc::Global;
 use wesl_borrowed::BorrowedValue;
 use wesl_names::Error;
 use wesl_reading::{
-    Numbering, attributes_member, check_keys, optional_type, required, type_member, under,
-    under_index, unplaced, wrong,
+    Numbering, attributes_member, only, optional_type, required, room, type_member, under,
+    unplaced, with_item, wrong,
 };
 use wesl_reading_statements::{
-    Declared, binder_member, body_member, plain_name_member, read_declared,
+    Declared, binder_member, body_member, plain_name_member, read_declared, six, three,
 };
 use wesl_syntax::{
     FormalParameter, Function, GlobalDeclaration, GlobalDeclarationNode, Struct, StructMember,
@@ -56,14 +56,12 @@ fn read_declarations(
     let Some(items) = value.as_array() else {
         return Err(wrong(alloc));
     };
-    let mut declarations = Vec::with_capacity(alloc, items.len())?;
+    let mut declarations = room(alloc, items.len());
     for (index, item) in items.iter().enumerate() {
-        match read_declaration(alloc, numbering, item) {
-            Ok(declaration) => declarations.push(declaration)?,
-            Err(error) => return Err(under_index(alloc, error, index)),
-        }
+        let declaration = read_declaration(alloc, numbering, item);
+        declarations = with_item(alloc, declarations, index, declaration);
     }
-    Ok(declarations)
+    declarations
 }
 
 fn read_declaration(
@@ -132,15 +130,18 @@ fn read_alias(
     ensures ok { IfOk result (λ e. ReadsDeclaration globals.Alias (borrowed_view value.now) (global_view e) numbering.old numbering.new) }
     ensures place { IfErr result (LocatesRow (declaration_worded globals.Alias) (borrowed_view value.now)) }
 {
-    check_keys(alloc, value, &["k", "attrs", "name", "ty"])?;
-    let attributes = attributes_member(alloc, numbering, value, "attrs")?;
-    let ident = binder_member(alloc, numbering, value)?;
-    let ty = type_member(alloc, numbering, value, "ty")?;
-    Ok(GlobalDeclaration::TypeAlias(TypeAlias {
-        attributes,
-        ident,
-        ty,
-    }))
+    let attributes = attributes_member(alloc, numbering, value, "attrs");
+    let ident = binder_member(alloc, numbering, value);
+    let ty = type_member(alloc, numbering, value, "ty");
+    let parts = three(attributes, ident, ty);
+    match only(alloc, value, &["k", "attrs", "name", "ty"], parts) {
+        Ok((attributes, ident, ty)) => Ok(GlobalDeclaration::TypeAlias(TypeAlias {
+            attributes,
+            ident,
+            ty,
+        })),
+        Err(error) => Err(error),
+    }
 }
 
 fn read_struct(
@@ -151,15 +152,18 @@ fn read_struct(
     ensures ok { IfOk result (λ e. ReadsDeclaration globals.Struct (borrowed_view value.now) (global_view e) numbering.old numbering.new) }
     ensures place { IfErr result (LocatesRow (declaration_worded globals.Struct) (borrowed_view value.now)) }
 {
-    check_keys(alloc, value, &["k", "attrs", "name", "members"])?;
-    let attributes = attributes_member(alloc, numbering, value, "attrs")?;
-    let ident = binder_member(alloc, numbering, value)?;
-    let members = members_member(alloc, numbering, value)?;
-    Ok(GlobalDeclaration::Struct(Struct {
-        attributes,
-        ident,
-        members,
-    }))
+    let attributes = attributes_member(alloc, numbering, value, "attrs");
+    let ident = binder_member(alloc, numbering, value);
+    let members = members_member(alloc, numbering, value);
+    let parts = three(attributes, ident, members);
+    match only(alloc, value, &["k", "attrs", "name", "members"], parts) {
+        Ok((attributes, ident, members)) => Ok(GlobalDeclaration::Struct(Struct {
+            attributes,
+            ident,
+            members,
+        })),
+        Err(error) => Err(error),
+    }
 }
 
 fn read_function(
@@ -170,25 +174,38 @@ fn read_function(
     ensures ok { IfOk result (λ e. ReadsDeclaration globals.Function (borrowed_view value.now) (global_view e) numbering.old numbering.new) }
     ensures place { IfErr result (LocatesRow (declaration_worded globals.Function) (borrowed_view value.now)) }
 {
-    check_keys(
-        alloc,
-        value,
-        &["k", "attrs", "name", "params", "ret_attrs", "ret", "body"],
-    )?;
-    let attributes = attributes_member(alloc, numbering, value, "attrs")?;
-    let ident = binder_member(alloc, numbering, value)?;
-    let parameters = parameters_member(alloc, numbering, value)?;
-    let return_attributes = attributes_member(alloc, numbering, value, "ret_attrs")?;
-    let return_type = optional_type(alloc, numbering, value, "ret")?;
-    let body = body_member(alloc, numbering, value)?;
-    Ok(GlobalDeclaration::Function(Function {
+    let attributes = attributes_member(alloc, numbering, value, "attrs");
+    let ident = binder_member(alloc, numbering, value);
+    let parameters = parameters_member(alloc, numbering, value);
+    let return_attributes = attributes_member(alloc, numbering, value, "ret_attrs");
+    let return_type = optional_type(alloc, numbering, value, "ret");
+    let body = body_member(alloc, numbering, value);
+    let parts = six(
         attributes,
         ident,
         parameters,
         return_attributes,
         return_type,
         body,
-    }))
+    );
+    match only(
+        alloc,
+        value,
+        &["k", "attrs", "name", "params", "ret_attrs", "ret", "body"],
+        parts,
+    ) {
+        Ok((attributes, ident, parameters, return_attributes, return_type, body)) => Ok(
+            GlobalDeclaration::Function(Function {
+                attributes,
+                ident,
+                parameters,
+                return_attributes,
+                return_type,
+                body,
+            }),
+        ),
+        Err(error) => Err(error),
+    }
 }
 
 // The members at `members`, a list.
@@ -220,14 +237,12 @@ fn read_members(
     let Some(items) = value.as_array() else {
         return Err(wrong(alloc));
     };
-    let mut members = Vec::with_capacity(alloc, items.len())?;
+    let mut members = room(alloc, items.len());
     for (index, item) in items.iter().enumerate() {
-        match read_member(alloc, numbering, item) {
-            Ok(member) => members.push(member)?,
-            Err(error) => return Err(under_index(alloc, error, index)),
-        }
+        let member = read_member(alloc, numbering, item);
+        members = with_item(alloc, members, index, member);
     }
-    Ok(members)
+    members
 }
 
 fn read_member(
@@ -238,15 +253,18 @@ fn read_member(
     ensures ok { IfOk result (λ e. Reads (node_form a_member) (borrowed_view value.now) (placed member_view member_node e) numbering.old numbering.new) }
     ensures place { IfErr result (Locates (node_form a_member) (borrowed_view value.now)) }
 {
-    check_keys(alloc, value, &["attrs", "name", "ty"])?;
-    let attributes = attributes_member(alloc, numbering, value, "attrs")?;
-    let name = plain_name_member(alloc, value, "name")?;
-    let ty = type_member(alloc, numbering, value, "ty")?;
-    Ok(unplaced(StructMember {
-        attributes,
-        name,
-        ty,
-    }))
+    let attributes = attributes_member(alloc, numbering, value, "attrs");
+    let name = plain_name_member(alloc, value, "name");
+    let ty = type_member(alloc, numbering, value, "ty");
+    let parts = three(attributes, name, ty);
+    match only(alloc, value, &["attrs", "name", "ty"], parts) {
+        Ok((attributes, name, ty)) => Ok(unplaced(StructMember {
+            attributes,
+            name,
+            ty,
+        })),
+        Err(error) => Err(error),
+    }
 }
 
 // The parameters at `params`, a list.
@@ -278,14 +296,12 @@ fn read_parameters(
     let Some(items) = value.as_array() else {
         return Err(wrong(alloc));
     };
-    let mut parameters = Vec::with_capacity(alloc, items.len())?;
+    let mut parameters = room(alloc, items.len());
     for (index, item) in items.iter().enumerate() {
-        match read_parameter(alloc, numbering, item) {
-            Ok(parameter) => parameters.push(parameter)?,
-            Err(error) => return Err(under_index(alloc, error, index)),
-        }
+        let parameter = read_parameter(alloc, numbering, item);
+        parameters = with_item(alloc, parameters, index, parameter);
     }
-    Ok(parameters)
+    parameters
 }
 
 fn read_parameter(
@@ -296,13 +312,16 @@ fn read_parameter(
     ensures ok { IfOk result (λ e. Reads (node_form a_parameter) (borrowed_view value.now) (parameter_view e) numbering.old numbering.new) }
     ensures place { IfErr result (Locates (node_form a_parameter) (borrowed_view value.now)) }
 {
-    check_keys(alloc, value, &["attrs", "name", "ty"])?;
-    let attributes = attributes_member(alloc, numbering, value, "attrs")?;
-    let ident = binder_member(alloc, numbering, value)?;
-    let ty = type_member(alloc, numbering, value, "ty")?;
-    Ok(FormalParameter {
-        attributes,
-        ident,
-        ty,
-    })
+    let attributes = attributes_member(alloc, numbering, value, "attrs");
+    let ident = binder_member(alloc, numbering, value);
+    let ty = type_member(alloc, numbering, value, "ty");
+    let parts = three(attributes, ident, ty);
+    match only(alloc, value, &["attrs", "name", "ty"], parts) {
+        Ok((attributes, ident, ty)) => Ok(FormalParameter {
+            attributes,
+            ident,
+            ty,
+        }),
+        Err(error) => Err(error),
+    }
 }

@@ -15,10 +15,10 @@ use std::alloc::Global;
 use wesl_borrowed::BorrowedValue;
 use wesl_names::Error;
 use wesl_reading::{
-    Numbering, attributes_member, check_keys, names_member, required, under, under_index, unplaced,
-    wrong,
+    Numbering, attributes_member, both, names_member, only, required, room, under, unplaced,
+    with_item, wrong,
 };
-use wesl_reading_statements::plain_text_member;
+use wesl_reading_statements::{plain_text_member, three};
 use wesl_syntax::{GlobalDirective, GlobalDirectiveNode};
 
 /// The directives at `directives`, a list.
@@ -50,14 +50,12 @@ fn read_directives(
     let Some(items) = value.as_array() else {
         return Err(wrong(alloc));
     };
-    let mut directives = Vec::with_capacity(alloc, items.len())?;
+    let mut directives = room(alloc, items.len());
     for (index, item) in items.iter().enumerate() {
-        match read_directive(alloc, numbering, item) {
-            Ok(directive) => directives.push(directive)?,
-            Err(error) => return Err(under_index(alloc, error, index)),
-        }
+        let directive = read_directive(alloc, numbering, item);
+        directives = with_item(alloc, directives, index, directive);
     }
-    Ok(directives)
+    directives
 }
 
 fn read_directive(
@@ -111,10 +109,13 @@ fn read_enable(
     ensures ok { IfOk result (λ e. ReadsDirective directed.Enable (borrowed_view value.now) (directive_view e) numbering.old numbering.new) }
     ensures place { IfErr result (LocatesRow (directive_worded directed.Enable) (borrowed_view value.now)) }
 {
-    check_keys(alloc, value, &["k", "attrs", "names"])?;
-    let attributes = attributes_member(alloc, numbering, value, "attrs")?;
-    let names = names_member(alloc, value, "names")?;
-    Ok(GlobalDirective::Enable { attributes, names })
+    let attributes = attributes_member(alloc, numbering, value, "attrs");
+    let names = names_member(alloc, value, "names");
+    let parts = both(attributes, names);
+    match only(alloc, value, &["k", "attrs", "names"], parts) {
+        Ok((attributes, names)) => Ok(GlobalDirective::Enable { attributes, names }),
+        Err(error) => Err(error),
+    }
 }
 
 fn read_requires(
@@ -125,10 +126,13 @@ fn read_requires(
     ensures ok { IfOk result (λ e. ReadsDirective directed.Requires (borrowed_view value.now) (directive_view e) numbering.old numbering.new) }
     ensures place { IfErr result (LocatesRow (directive_worded directed.Requires) (borrowed_view value.now)) }
 {
-    check_keys(alloc, value, &["k", "attrs", "names"])?;
-    let attributes = attributes_member(alloc, numbering, value, "attrs")?;
-    let names = names_member(alloc, value, "names")?;
-    Ok(GlobalDirective::Requires { attributes, names })
+    let attributes = attributes_member(alloc, numbering, value, "attrs");
+    let names = names_member(alloc, value, "names");
+    let parts = both(attributes, names);
+    match only(alloc, value, &["k", "attrs", "names"], parts) {
+        Ok((attributes, names)) => Ok(GlobalDirective::Requires { attributes, names }),
+        Err(error) => Err(error),
+    }
 }
 
 fn read_diagnostic(
@@ -139,13 +143,16 @@ fn read_diagnostic(
     ensures ok { IfOk result (λ e. ReadsDirective directed.Diagnostic (borrowed_view value.now) (directive_view e) numbering.old numbering.new) }
     ensures place { IfErr result (LocatesRow (directive_worded directed.Diagnostic) (borrowed_view value.now)) }
 {
-    check_keys(alloc, value, &["k", "attrs", "severity", "rule"])?;
-    let attributes = attributes_member(alloc, numbering, value, "attrs")?;
-    let severity = plain_text_member(alloc, value, "severity")?;
-    let rule = plain_text_member(alloc, value, "rule")?;
-    Ok(GlobalDirective::Diagnostic {
-        attributes,
-        severity,
-        rule,
-    })
+    let attributes = attributes_member(alloc, numbering, value, "attrs");
+    let severity = plain_text_member(alloc, value, "severity");
+    let rule = plain_text_member(alloc, value, "rule");
+    let parts = three(attributes, severity, rule);
+    match only(alloc, value, &["k", "attrs", "severity", "rule"], parts) {
+        Ok((attributes, severity, rule)) => Ok(GlobalDirective::Diagnostic {
+            attributes,
+            severity,
+            rule,
+        }),
+        Err(error) => Err(error),
+    }
 }

@@ -12,9 +12,10 @@ use std::alloc::Global;
 use wesl_borrowed::BorrowedValue;
 use wesl_names::{Error, Ident};
 use wesl_reading::{
-    Numbering, attributes_member, check_keys, name_member, name_of, names_member, optional_path,
-    required, under, under_index, unplaced, wrong,
+    Numbering, attributes_member, both, check_keys, name_member, name_of, names_member, only,
+    optional_path, required, room, under, unplaced, with_item, wrong,
 };
+use wesl_reading_statements::three;
 use wesl_syntax::{Import, ImportContent, ImportItem, ImportStatement, ImportStatementNode};
 
 /// The imports at `imports`, a list.
@@ -46,14 +47,12 @@ fn read_imports(
     let Some(items) = value.as_array() else {
         return Err(wrong(alloc));
     };
-    let mut imports = Vec::with_capacity(alloc, items.len())?;
+    let mut imports = room(alloc, items.len());
     for (index, item) in items.iter().enumerate() {
-        match read_import(alloc, numbering, item) {
-            Ok(import) => imports.push(import)?,
-            Err(error) => return Err(under_index(alloc, error, index)),
-        }
+        let import = read_import(alloc, numbering, item);
+        imports = with_item(alloc, imports, index, import);
     }
-    Ok(imports)
+    imports
 }
 
 fn read_import(
@@ -64,15 +63,18 @@ fn read_import(
     ensures ok { IfOk result (λ e. Reads (node_form an_import) (borrowed_view value.now) (placed import_view import_node e) numbering.old numbering.new) }
     ensures place { IfErr result (Locates (node_form an_import) (borrowed_view value.now)) }
 {
-    check_keys(alloc, value, &["attrs", "path", "content"])?;
-    let attributes = attributes_member(alloc, numbering, value, "attrs")?;
-    let path = optional_path(alloc, value)?;
-    let content = content_member(alloc, numbering, value)?;
-    Ok(unplaced(ImportStatement {
-        attributes,
-        path,
-        content,
-    }))
+    let attributes = attributes_member(alloc, numbering, value, "attrs");
+    let path = optional_path(alloc, value);
+    let content = content_member(alloc, numbering, value);
+    let parts = three(attributes, path, content);
+    match only(alloc, value, &["attrs", "path", "content"], parts) {
+        Ok((attributes, path, content)) => Ok(unplaced(ImportStatement {
+            attributes,
+            path,
+            content,
+        })),
+        Err(error) => Err(error),
+    }
 }
 
 // What is imported, at `content`.
@@ -120,9 +122,11 @@ fn read_collection(
     ensures ok { IfOk result (λ e. Reads (node_form a_content) (borrowed_view value.now) (content_view e) numbering.old numbering.new) }
     ensures place { IfErr result (Locates (node_form a_content) (borrowed_view value.now)) }
 {
-    check_keys(alloc, value, &["list"])?;
-    let entries = entries_member(alloc, numbering, value)?;
-    Ok(ImportContent::Collection(entries))
+    let entries = entries_member(alloc, numbering, value);
+    match only(alloc, value, &["list"], entries) {
+        Ok(entries) => Ok(ImportContent::Collection(entries)),
+        Err(error) => Err(error),
+    }
 }
 
 // The entries at `list`.
@@ -154,14 +158,12 @@ fn read_entries(
     let Some(items) = value.as_array() else {
         return Err(wrong(alloc));
     };
-    let mut entries = Vec::with_capacity(alloc, items.len())?;
+    let mut entries = room(alloc, items.len());
     for (index, item) in items.iter().enumerate() {
-        match read_entry(alloc, numbering, item) {
-            Ok(entry) => entries.push(entry)?,
-            Err(error) => return Err(under_index(alloc, error, index)),
-        }
+        let entry = read_entry(alloc, numbering, item);
+        entries = with_item(alloc, entries, index, entry);
     }
-    Ok(entries)
+    entries
 }
 
 #[cycle(contents)]
@@ -173,10 +175,13 @@ fn read_entry(
     ensures ok { IfOk result (λ e. Reads (node_form an_entry) (borrowed_view value.now) (entry_view e) numbering.old numbering.new) }
     ensures place { IfErr result (Locates (node_form an_entry) (borrowed_view value.now)) }
 {
-    check_keys(alloc, value, &["path", "content"])?;
-    let path = names_member(alloc, value, "path")?;
-    let content = content_member(alloc, numbering, value)?;
-    Ok(Import { path, content })
+    let path = names_member(alloc, value, "path");
+    let content = content_member(alloc, numbering, value);
+    let parts = both(path, content);
+    match only(alloc, value, &["path", "content"], parts) {
+        Ok((path, content)) => Ok(Import { path, content }),
+        Err(error) => Err(error),
+    }
 }
 
 // One item, whose own name is bound here only where it has no other.

@@ -10,23 +10,23 @@ use Rattle.wesl_reading.specs.declared.words.AttributeWord.TheVariants as attrib
 use Rattle.wesl_reading.proofs.Attributes.{attribute-keys, attribute-reads, attribute-text}
 use Rattle.wesl_reading.proofs.Rows.{plain-text}
 use Rattle.wesl_reading.proofs.Steps.{needs-then, none-then, same-reads, text-member}
-use Rattle.wesl_reading.proofs.Exits.{exit}
+use Rattle.std.proofs.lemmas.Result.{IfErr-weaker}
+use Rattle.wesl_reading.proofs.Wholes.{of-only, part}
 use Rattle.wesl_reading.proofs.attribute.read_builtin.Goals as goal
 
-pub returns-in_err-check_keys-clause-place : goal.returns-in_err-check_keys-clause-place
-returns-in_err-check_keys-clause-place c =
-    let wrong : has_only (known_keys (attribute_of attribs.Builtin).row (borrowed_view c.args.value.now)) (borrowed_view c.args.value.now) ≡ false = c.in_err-check_keys.ensures.err in
-    exit (Locates (node an_attribute) (borrowed_view c.args.value.now)) c.from_residual.result c.in_err-check_keys.field-0.0 c.from_residual.ensures.1
-    (attribute-keys attribs.Builtin (borrowed_view c.args.value.now) c.requires c.in_err-check_keys.field-0.0 wrong c.in_err-check_keys.ensures.place)
+pub returns-in-Err-clause-place : goal.returns-in-Err-clause-place
+returns-in-Err-clause-place c =
+    let d = borrowed_view c.args.value.now in
+    of-only (Locates (node an_attribute) d) _ c.own_name-name.result c.in-Err.error c.in-Err.ensures.place
+    (λ e unknown is. let wrong : has_only (known_keys (attribute_of attribs.Builtin).row d) d ≡ false = unknown in attribute-keys attribs.Builtin d c.requires e wrong is)
+    (λ only_known.
+    let name_fault = IfErr-weaker c.own_name-name.result _ (Locates (node an_attribute) d) (λ e h. attribute-text attribs.Builtin d c.requires name_in (codes "name") a_name e refl (λ v h. ap (option_map text) h) h) c.own_name-name.ensures.place in
+    name_fault)
 
-pub returns-in_err-name_member-clause-place : goal.returns-in_err-name_member-clause-place
-returns-in_err-name_member-clause-place c =
-    exit (Locates (node an_attribute) (borrowed_view c.args.value.now)) c.from_residual-in_err-name_member.result c.in_err-name_member.field-0.0 c.from_residual-in_err-name_member.ensures.1
-    (attribute-text attribs.Builtin (borrowed_view c.args.value.now) c.requires name_in (codes "name") a_name c.in_err-name_member.field-0.0 refl (λ v h. ap (option_map text) h) c.in_err-name_member.ensures.place)
-
-pub returns-clause-ok : goal.returns-clause-ok
-returns-clause-ok c = λ names.
-    let known : has_only (known_keys (attribute_of attribs.Builtin).row (borrowed_view c.args.value.now)) (borrowed_view c.args.value.now) ≡ true = c.in_ok-check_keys.ensures.ok in
-    let name = text-member name_in a_name text (codes "name") (borrowed_view c.args.value.now) (string_bytes c.in_ok-name.name) (text (string_bytes c.in_ok-name.name)) names (λ v. refl) (plain-text (string_bytes c.in_ok-name.name)) (search rules) in
+pub returns-in-Ok-clause-ok : goal.returns-in-Ok-clause-ok
+returns-in-Ok-clause-ok c = λ names.
+    let name_read = part _ c.own_name-name.result c.in-Ok.ensures.ok c.own_name-name.ensures.ok in
+    let known : has_only (known_keys (attribute_of attribs.Builtin).row (borrowed_view c.args.value.now)) (borrowed_view c.args.value.now) ≡ true = c.in-Ok.ensures.keys in
+    let name = text-member name_in a_name text (codes "name") (borrowed_view c.args.value.now) (string_bytes c.in-Ok.name) (text (string_bytes c.in-Ok.name)) names (λ v. refl) (plain-text (string_bytes c.in-Ok.name)) name_read in
     let read = attribute-reads attribs.Builtin (borrowed_view c.args.value.now) c.requires _ names names known (needs-then name (none-then (borrowed_view c.args.value.now) names)) in
     same-reads read (search rules)

@@ -8,22 +8,22 @@ use Rattle.wesl_reading.specs.Forms.{attribute_of}
 use Rattle.wesl_reading.specs.declared.words.AttributeWord.TheVariants as attribs
 use Rattle.wesl_reading.proofs.Attributes.{attribute-inside, attribute-keys, attribute-reads}
 use Rattle.wesl_reading.proofs.Steps.{many-then, none-then, same-reads}
-use Rattle.wesl_reading.proofs.Exits.{exit}
+use Rattle.std.proofs.lemmas.Result.{IfErr-weaker}
+use Rattle.wesl_reading.proofs.Wholes.{of-only, part}
 use Rattle.wesl_reading.proofs.attribute.read_interpolate.Goals as goal
 
-pub returns-in_err-check_keys-clause-place : goal.returns-in_err-check_keys-clause-place
-returns-in_err-check_keys-clause-place c =
-    let wrong : has_only (known_keys (attribute_of attribs.Interpolate).row (borrowed_view c.args.value.now)) (borrowed_view c.args.value.now) ≡ false = c.in_err-check_keys.ensures.err in
-    exit (Locates (node an_attribute) (borrowed_view c.args.value.now)) c.from_residual.result c.in_err-check_keys.field-0.0 c.from_residual.ensures.1
-    (attribute-keys attribs.Interpolate (borrowed_view c.args.value.now) c.requires c.in_err-check_keys.field-0.0 wrong c.in_err-check_keys.ensures.place)
+pub returns-in-Err-clause-place : goal.returns-in-Err-clause-place
+returns-in-Err-clause-place c =
+    let d = borrowed_view c.args.value.now in
+    of-only (Locates (node an_attribute) d) _ c.names_member-names.result c.in-Err.error c.in-Err.ensures.place
+    (λ e unknown is. let wrong : has_only (known_keys (attribute_of attribs.Interpolate).row d) d ≡ false = unknown in attribute-keys attribs.Interpolate d c.requires e wrong is)
+    (λ only_known.
+    let names_fault = IfErr-weaker c.names_member-names.result _ (Locates (node an_attribute) d) (λ e h. attribute-inside attribs.Interpolate d c.requires (codes "names") false (leaf some_names) e refl h) c.names_member-names.ensures.place in
+    names_fault)
 
-pub returns-in_err-names-clause-place : goal.returns-in_err-names-clause-place
-returns-in_err-names-clause-place c =
-    exit (Locates (node an_attribute) (borrowed_view c.args.value.now)) c.from_residual-in_err-names.result c.in_err-names.field-0.0 c.from_residual-in_err-names.ensures.1
-    (attribute-inside attribs.Interpolate (borrowed_view c.args.value.now) c.requires (codes "names") false (leaf some_names) c.in_err-names.field-0.0 refl c.in_err-names.ensures.place)
-
-pub returns-clause-ok : goal.returns-clause-ok
-returns-clause-ok c = λ names.
-    let known : has_only (known_keys (attribute_of attribs.Interpolate).row (borrowed_view c.args.value.now)) (borrowed_view c.args.value.now) ≡ true = c.in_ok-check_keys.ensures.ok in
-    let read = attribute-reads attribs.Interpolate (borrowed_view c.args.value.now) c.requires _ names names known (many-then (c.in_ok-names.ensures.ok names) (none-then (borrowed_view c.args.value.now) names)) in
+pub returns-in-Ok-clause-ok : goal.returns-in-Ok-clause-ok
+returns-in-Ok-clause-ok c = λ names.
+    let names_read = part _ c.names_member-names.result c.in-Ok.ensures.ok c.names_member-names.ensures.ok in
+    let known : has_only (known_keys (attribute_of attribs.Interpolate).row (borrowed_view c.args.value.now)) (borrowed_view c.args.value.now) ≡ true = c.in-Ok.ensures.keys in
+    let read = attribute-reads attribs.Interpolate (borrowed_view c.args.value.now) c.requires _ names names known (many-then (names_read names) (none-then (borrowed_view c.args.value.now) names)) in
     same-reads read (search rules)

@@ -8,22 +8,22 @@ use Rattle.wesl_reading.specs.Forms.{attribute_of}
 use Rattle.wesl_reading.specs.declared.words.AttributeWord.TheVariants as attribs
 use Rattle.wesl_reading.proofs.Attributes.{attribute-keys, attribute-member, attribute-reads}
 use Rattle.wesl_reading.proofs.Steps.{needs-then, none-then, same-reads}
-use Rattle.wesl_reading.proofs.Exits.{exit}
+use Rattle.std.proofs.lemmas.Result.{IfErr-weaker}
+use Rattle.wesl_reading.proofs.Wholes.{of-only, part}
 use Rattle.wesl_reading.proofs.attribute.read_operand.Goals as goal
 
-pub returns-in_err-check_keys-clause-place : goal.returns-in_err-check_keys-clause-place
-returns-in_err-check_keys-clause-place c =
-    let wrong : has_only (known_keys (attribute_of (attribs.Operand c.args.word)).row (borrowed_view c.args.value.now)) (borrowed_view c.args.value.now) ≡ false = c.in_err-check_keys.ensures.err in
-    exit (Locates (node an_attribute) (borrowed_view c.args.value.now)) c.from_residual.result c.in_err-check_keys.field-0.0 c.from_residual.ensures.1
-    (attribute-keys (attribs.Operand c.args.word) (borrowed_view c.args.value.now) c.requires c.in_err-check_keys.field-0.0 wrong c.in_err-check_keys.ensures.place)
+pub returns-in-Err-clause-place : goal.returns-in-Err-clause-place
+returns-in-Err-clause-place c =
+    let d = borrowed_view c.args.value.now in
+    of-only (Locates (node an_attribute) d) _ c.expression_member-operand.result c.in-Err.error c.in-Err.ensures.place
+    (λ e unknown is. let wrong : has_only (known_keys (attribute_of (attribs.Operand c.args.word)).row d) d ≡ false = unknown in attribute-keys (attribs.Operand c.args.word) d c.requires e wrong is)
+    (λ only_known.
+    let operand_fault = IfErr-weaker c.expression_member-operand.result _ (Locates (node an_attribute) d) (λ e h. attribute-member (attribs.Operand c.args.word) d c.requires (codes "expr") (node an_expression) e refl h) c.expression_member-operand.ensures.place in
+    operand_fault)
 
-pub returns-in_err-operand-clause-place : goal.returns-in_err-operand-clause-place
-returns-in_err-operand-clause-place c =
-    exit (Locates (node an_attribute) (borrowed_view c.args.value.now)) c.from_residual-in_err-operand.result c.in_err-operand.field-0.0 c.from_residual-in_err-operand.ensures.1
-    (attribute-member (attribs.Operand c.args.word) (borrowed_view c.args.value.now) c.requires (codes "expr") (node an_expression) c.in_err-operand.field-0.0 refl c.in_err-operand.ensures.place)
-
-pub returns-clause-ok : goal.returns-clause-ok
-returns-clause-ok c =
-    let known : has_only (known_keys (attribute_of (attribs.Operand c.args.word)).row (borrowed_view c.args.value.now)) (borrowed_view c.args.value.now) ≡ true = c.in_ok-check_keys.ensures.ok in
-    let read = attribute-reads (attribs.Operand c.args.word) (borrowed_view c.args.value.now) c.requires _ _ _ known (needs-then c.in_ok-operand.ensures.ok (none-then (borrowed_view c.args.value.now) _)) in
+pub returns-in-Ok-clause-ok : goal.returns-in-Ok-clause-ok
+returns-in-Ok-clause-ok c =
+    let operand_read = part _ c.expression_member-operand.result c.in-Ok.ensures.ok c.expression_member-operand.ensures.ok in
+    let known : has_only (known_keys (attribute_of (attribs.Operand c.args.word)).row (borrowed_view c.args.value.now)) (borrowed_view c.args.value.now) ≡ true = c.in-Ok.ensures.keys in
+    let read = attribute-reads (attribs.Operand c.args.word) (borrowed_view c.args.value.now) c.requires _ _ _ known (needs-then operand_read (none-then (borrowed_view c.args.value.now) _)) in
     same-reads read (search rules)

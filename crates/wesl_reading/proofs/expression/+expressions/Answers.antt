@@ -1,42 +1,41 @@
-use Rattle.std.proofs.Common.{◌∙◌, ◌≡◌, ◌<◌, ◌≤◌, Some, false, true, codes, string_bytes, refl, ap, sym, option_map, rules, arith}
-use Rattle.std.proofs.lemmas.Result.{IfOk-weaker}
-use Rattle.std.specs.Box.{box_value}
+use Rattle.std.proofs.Common.{◌∙◌, ◌≡◌, ◌<◌, ◌≤◌, ◌∷◌, [], Err, Some, false, true, codes, string_bytes, refl, ap, sym, option_map, rules, arith}
+use Rattle.std.proofs.lemmas.Result.{IfOk-weaker, IfErr-weaker, IfErr-at_err}
 use Rattle.std.specs.Option.{is_some}
 use Rattle.serde_json.specs.Data.{depth, items_depth}
 use Rattle.serde_json.specs.Find.{get, as_array, as_object}
 use Rattle.wesl_borrowed.specs.View.{borrowed_view, items_view}
-use Rattle.wesl_syntax.specs.Tree.{ident, list, reference, text}
+use Rattle.wesl_syntax.specs.Tree.{branch, ident, list, reference, text, type_or_identifier}
 use Rattle.wesl_syntax.specs.View.{expression_tree, argument_view, type_view}
-use Rattle.wesl_syntax.specs.declared.expression.TemplateArg.{roll-TemplateArg}
 use Rattle.wesl_form.specs.Schema.{node, leaf, an_expression, an_ident, a_path, a_type, a_name, a_template_argument, list_of, one_of}
-use Rattle.wesl_form.specs.Nodes.{type_or_identifier_node, type_row}
+use Rattle.wesl_form.specs.Nodes.{type_row}
 use Rattle.wesl_form.specs.Words.{unary_words, binary_words}
 use Rattle.wesl_form.specs.Reading.{known_keys, word_in, name_in}
 use Rattle.wesl_pointer.specs.Keys.{has_only}
-use Rattle.wesl_reading.specs.Faults.{Locates, LocatesMember}
+use Rattle.wesl_reading.specs.Faults.{Locates, LocatesRow}
 use Rattle.wesl_reading.specs.Forms.{expression_of}
 use Rattle.wesl_reading.specs.declared.words.ExpressionWord.TheVariants as words
-use Rattle.wesl_reading.specs.Numbers.{ReadsForm, ReadsNeeded}
+use Rattle.wesl_reading.specs.Numbers.{Reads}
 use Rattle.wesl_reading.proofs.Arguments.{argument-form, argument-place}
-use Rattle.wesl_reading.proofs.Depths.{get-depth, item-depth, array-depth, item-at}
-use Rattle.wesl_reading.proofs.Lists.{items-whole, items-turn}
-use Rattle.wesl_reading.proofs.Places.{member-lacks, item-under, row-inside, row-keys, row-text}
-use Rattle.wesl_reading.proofs.Rows.{same-tree}
-use Rattle.wesl_reading.proofs.Steps.{may-absent, ident-member, needed-there, may-there, many-there, plain-type-reads, same-reads, same-needed}
+use Rattle.wesl_reading.proofs.Depths.{get-depth, item-depth, array-depth}
+use Rattle.wesl_reading.proofs.Places.{member-lacks, row-inside, row-keys, row-text}
+use Rattle.wesl_reading.proofs.Steps.{may-absent, needed-there, may-there, many-there, plain-type-reads, same-reads}
 use Rattle.wesl_reading.proofs.Expressions.{call-reads, call-rows, expression-inside, expression-keys, expression-member, expression-text, type-expression-place, type-expression-reads, type-place, type-reads, type-rows, parenthesized-reads, component-reads, indexing-reads, unary-reads, binary-reads}
-use Rattle.wesl_reading.proofs.Trees.{made_argument, made_type, tree-made-call, tree-made-type, tree-parenthesized, tree-component, tree-indexing, tree-unary, tree-binary}
-use Rattle.wesl_names.specs.declared.errors.Error as error
-use Rattle.wesl_reading.proofs.Exits.{exit, no_list, no_value, none_listed, none_read, to_member, to_next}
+use Rattle.wesl_form.specs.Nodes.{whole_form}
+use Rattle.wesl_form.specs.Place.{IsBroken}
+use Rattle.wesl_reading.proofs.ReadLists.{list-none, list-turn, list-whole}
+use Rattle.wesl_reading.proofs.Wholes.{of-both, of-boxed, of-only, part}
+use Rattle.wesl_reading.proofs.Trees.{as_expression, tree-type, made_type, tree-made-call, tree-parenthesized, tree-component, tree-indexing, tree-unary, tree-binary}
+use Rattle.wesl_reading.proofs.Exits.{no_list, none_listed, to_member, to_next}
 use Rattle.wesl_reading.proofs.expression.+expressions.Goals as goal
 
 pub expression_member-read_expression-requires : goal.expression_member-read_expression-requires
 expression_member-read_expression-requires t c =
-    let low : depth (borrowed_view c.in_ok-member.member.now) < depth (borrowed_view c.args.value.now) = get-depth c.args.key.now _ _ c.in_ok-member.ensures.ok in
+    let low : depth (borrowed_view c.in-Some.member.now) < depth (borrowed_view c.args.value.now) = get-depth c.args.key.now _ _ (sym c.in-Some.ensures) in
     (omega arith, tt)
 
 pub type_member-read_type-requires : goal.type_member-read_type-requires
 type_member-read_type-requires t c =
-    let low : depth (borrowed_view c.in_ok-member.member.now) < depth (borrowed_view c.args.value.now) = get-depth c.args.key.now _ _ c.in_ok-member.ensures.ok in
+    let low : depth (borrowed_view c.in-Some.member.now) < depth (borrowed_view c.args.value.now) = get-depth c.args.key.now _ _ (sym c.in-Some.ensures) in
     (omega arith, tt)
 
 pub arguments_member-read_arguments-requires : goal.arguments_member-read_arguments-requires
@@ -57,63 +56,21 @@ read_arguments-read_expression-requires t c =
     let deep : items_depth (items_view vs) < depth (borrowed_view c.args.value.now) = array-depth _ _ is in
     (omega arith, tt)
 
-pub read_arguments-returns-in-Err-clause-place : goal.read_arguments-returns-in-Err-clause-place
-read_arguments-returns-in-Err-clause-place t c =
-    let vs = c.deref-item-items.result.now in
-    let is : as_array (borrowed_view c.args.value.now) ≡ Some (items_view vs) = sym c.in-Some.ensures ∙ ap (λ l. Some (items_view l)) (sym c.deref-item-items.ensures.value) in
-    item-under list a_template_argument c.loop-index.index (borrowed_view c.args.value.now) (borrowed_view c.item-item.result) c.in-Err.error c.under_index.result (item-at _ vs c.loop-index.index c.item-item.result is c.loop-index-test.true c.item-item.is) (argument-place (borrowed_view c.item-item.result) c.in-Err.error c.in-Err.ensures.place) c.under_index.ensures
-
-pub read_arguments-loop-index-preserved : goal.read_arguments-loop-index-preserved
-read_arguments-loop-index-preserved t c =
-    let vs = c.deref-item-items.result.now in
-    let is : as_array (borrowed_view c.args.value.now) ≡ Some (items_view vs) = sym c.in-Some.ensures ∙ ap (λ l. Some (items_view l)) (sym c.deref-item-items.ensures.value) in
-    let below : depth (borrowed_view c.item-item.result) ≤ items_depth (items_view vs) = item-depth vs c.loop-index.index c.item-item.result c.loop-index-test.true c.item-item.is in
-    let deep : items_depth (items_view vs) < depth (borrowed_view c.args.value.now) = array-depth _ _ is in
-    let x = roll-TemplateArg (record { expression = c.in-Ok.expression }) in
-    let item : ReadsForm (node a_template_argument) (borrowed_view c.item-item.result) (argument_view x) c.loop-index.numbering c.read_expression.new.numbering = same-tree (argument-form (borrowed_view c.item-item.result) (expression_tree c.in-Ok.expression) _ _ c.in-Ok.ensures.ok.form) (sym (made_argument c.in-Ok.expression)) in
-    items-turn argument_view a_template_argument vs c.loop-index.index c.item-item.result (depth (borrowed_view c.args.value.now)) c.args.numbering.now c.loop-index.numbering c.read_expression.new.numbering c.loop-index.arguments.items c.push.new.self.items x c.loop-index-test.true c.item-item.is c.in_ok-push-in-Ok.ensures.items (omega arith) c.loop-index.invariant item
-
-pub read_arguments-returns-clause-ok : goal.read_arguments-returns-clause-ok
-read_arguments-returns-clause-ok t c =
-    let vs = c.deref-item-items.result.now in
-    let is : as_array (borrowed_view c.args.value.now) ≡ Some (items_view vs) = sym c.in-Some.ensures ∙ ap (λ l. Some (items_view l)) (sym c.deref-item-items.ensures.value) in
-    record { form = items-whole list a_template_argument (borrowed_view c.args.value.now) vs c.loop-index.index _ _ _ is c.loop-index-test.false c.loop-index.invariant }
-
-pub read_expressions-read_expression-requires : goal.read_expressions-read_expression-requires
-read_expressions-read_expression-requires t c =
+pub read_expressions-read_expression-expression-requires : goal.read_expressions-read_expression-expression-requires
+read_expressions-read_expression-expression-requires t c =
     let vs = c.deref-item-items.result.now in
     let is : as_array (borrowed_view c.args.value.now) ≡ Some (items_view vs) = sym c.in-Some.ensures ∙ ap (λ l. Some (items_view l)) (sym c.deref-item-items.ensures.value) in
     let below : depth (borrowed_view c.item-item.result) ≤ items_depth (items_view vs) = item-depth vs c.loop-index.index c.item-item.result c.loop-index-test.true c.item-item.is in
     let deep : items_depth (items_view vs) < depth (borrowed_view c.args.value.now) = array-depth _ _ is in
     (omega arith, tt)
 
-pub read_expressions-returns-in-Err-clause-place : goal.read_expressions-returns-in-Err-clause-place
-read_expressions-returns-in-Err-clause-place t c =
-    let vs = c.deref-item-items.result.now in
-    let is : as_array (borrowed_view c.args.value.now) ≡ Some (items_view vs) = sym c.in-Some.ensures ∙ ap (λ l. Some (items_view l)) (sym c.deref-item-items.ensures.value) in
-    item-under list an_expression c.loop-index.index (borrowed_view c.args.value.now) (borrowed_view c.item-item.result) c.in-Err.error c.under_index.result (item-at _ vs c.loop-index.index c.item-item.result is c.loop-index-test.true c.item-item.is) c.in-Err.ensures.place c.under_index.ensures
-
-pub read_expressions-loop-index-preserved : goal.read_expressions-loop-index-preserved
-read_expressions-loop-index-preserved t c =
-    let vs = c.deref-item-items.result.now in
-    let is : as_array (borrowed_view c.args.value.now) ≡ Some (items_view vs) = sym c.in-Some.ensures ∙ ap (λ l. Some (items_view l)) (sym c.deref-item-items.ensures.value) in
-    let below : depth (borrowed_view c.item-item.result) ≤ items_depth (items_view vs) = item-depth vs c.loop-index.index c.item-item.result c.loop-index-test.true c.item-item.is in
-    let deep : items_depth (items_view vs) < depth (borrowed_view c.args.value.now) = array-depth _ _ is in
-    items-turn expression_tree an_expression vs c.loop-index.index c.item-item.result (depth (borrowed_view c.args.value.now)) c.args.numbering.now c.loop-index.numbering c.read_expression.new.numbering c.loop-index.expressions.items c.push.new.self.items c.in-Ok.expression c.loop-index-test.true c.item-item.is c.in_ok-push-in-Ok.ensures.items (omega arith) c.loop-index.invariant c.in-Ok.ensures.ok.form
-
-pub read_expressions-returns-clause-ok : goal.read_expressions-returns-clause-ok
-read_expressions-returns-clause-ok t c =
-    let vs = c.deref-item-items.result.now in
-    let is : as_array (borrowed_view c.args.value.now) ≡ Some (items_view vs) = sym c.in-Some.ensures ∙ ap (λ l. Some (items_view l)) (sym c.deref-item-items.ensures.value) in
-    record { form = items-whole list an_expression (borrowed_view c.args.value.now) vs c.loop-index.index _ _ _ is c.loop-index-test.false c.loop-index.invariant }
-
 pub expression_member-returns-in-Ok-clause-ok : goal.expression_member-returns-in-Ok-clause-ok
 expression_member-returns-in-Ok-clause-ok t c =
-    needed-there c.args.key.now (node an_expression) (borrowed_view c.args.value.now) (borrowed_view c.in_ok-member.member.now) _ _ _ c.in_ok-member.ensures.ok c.in-Ok.ensures.ok
+    needed-there c.args.key.now (node an_expression) (borrowed_view c.args.value.now) (borrowed_view c.in-Some.member.now) _ _ _ (sym c.in-Some.ensures) c.in-Ok.ensures.ok
 
 pub type_member-returns-in-Ok-clause-ok : goal.type_member-returns-in-Ok-clause-ok
 type_member-returns-in-Ok-clause-ok t c =
-    needed-there c.args.key.now (node a_type) (borrowed_view c.args.value.now) (borrowed_view c.in_ok-member.member.now) _ _ _ c.in_ok-member.ensures.ok c.in-Ok.ensures.ok
+    needed-there c.args.key.now (node a_type) (borrowed_view c.args.value.now) (borrowed_view c.in-Some.member.now) _ _ _ (sym c.in-Some.ensures) c.in-Ok.ensures.ok
 
 pub arguments_member-returns-in-Ok-clause-ok : goal.arguments_member-returns-in-Ok-clause-ok
 arguments_member-returns-in-Ok-clause-ok t c =
@@ -125,436 +82,9 @@ expressions_member-returns-in-Ok-clause-ok t c =
     let found : get c.args.key.now (borrowed_view c.args.value.now) ≡ Some (borrowed_view c.in-Some.member.now) = sym c.in-Some.ensures in
     many-there c.args.key.now (list_of list an_expression) (borrowed_view c.args.value.now) (borrowed_view c.in-Some.member.now) _ _ _ found c.in-Ok.ensures.ok
 
-pub read_parenthesized-returns-in_err-check_keys-clause-place : goal.read_parenthesized-returns-in_err-check_keys-clause-place
-read_parenthesized-returns-in_err-check_keys-clause-place t c =
-    let wrong : has_only (known_keys (expression_of words.Parenthesized).row (borrowed_view c.args.value.now)) (borrowed_view c.args.value.now) ≡ false = c.in_err-check_keys.ensures.err in
-    exit (Locates (node an_expression) (borrowed_view c.args.value.now)) c.from_residual.result c.in_err-check_keys.field-0.0 c.from_residual.ensures.1
-    (expression-keys words.Parenthesized (borrowed_view c.args.value.now) c.requires c.in_err-check_keys.field-0.0 wrong c.in_err-check_keys.ensures.place)
-
-pub read_component-returns-in_err-check_keys-clause-place : goal.read_component-returns-in_err-check_keys-clause-place
-read_component-returns-in_err-check_keys-clause-place t c =
-    let wrong : has_only (known_keys (expression_of words.NamedComponent).row (borrowed_view c.args.value.now)) (borrowed_view c.args.value.now) ≡ false = c.in_err-check_keys.ensures.err in
-    exit (Locates (node an_expression) (borrowed_view c.args.value.now)) c.from_residual.result c.in_err-check_keys.field-0.0 c.from_residual.ensures.1
-    (expression-keys words.NamedComponent (borrowed_view c.args.value.now) c.requires c.in_err-check_keys.field-0.0 wrong c.in_err-check_keys.ensures.place)
-
-pub read_indexing-returns-in_err-check_keys-clause-place : goal.read_indexing-returns-in_err-check_keys-clause-place
-read_indexing-returns-in_err-check_keys-clause-place t c =
-    let wrong : has_only (known_keys (expression_of words.Indexing).row (borrowed_view c.args.value.now)) (borrowed_view c.args.value.now) ≡ false = c.in_err-check_keys.ensures.err in
-    exit (Locates (node an_expression) (borrowed_view c.args.value.now)) c.from_residual.result c.in_err-check_keys.field-0.0 c.from_residual.ensures.1
-    (expression-keys words.Indexing (borrowed_view c.args.value.now) c.requires c.in_err-check_keys.field-0.0 wrong c.in_err-check_keys.ensures.place)
-
-pub read_unary-returns-in_err-check_keys-clause-place : goal.read_unary-returns-in_err-check_keys-clause-place
-read_unary-returns-in_err-check_keys-clause-place t c =
-    let wrong : has_only (known_keys (expression_of words.Unary).row (borrowed_view c.args.value.now)) (borrowed_view c.args.value.now) ≡ false = c.in_err-check_keys.ensures.err in
-    exit (Locates (node an_expression) (borrowed_view c.args.value.now)) c.from_residual.result c.in_err-check_keys.field-0.0 c.from_residual.ensures.1
-    (expression-keys words.Unary (borrowed_view c.args.value.now) c.requires c.in_err-check_keys.field-0.0 wrong c.in_err-check_keys.ensures.place)
-
-pub read_binary-returns-in_err-check_keys-clause-place : goal.read_binary-returns-in_err-check_keys-clause-place
-read_binary-returns-in_err-check_keys-clause-place t c =
-    let wrong : has_only (known_keys (expression_of words.Binary).row (borrowed_view c.args.value.now)) (borrowed_view c.args.value.now) ≡ false = c.in_err-check_keys.ensures.err in
-    exit (Locates (node an_expression) (borrowed_view c.args.value.now)) c.from_residual.result c.in_err-check_keys.field-0.0 c.from_residual.ensures.1
-    (expression-keys words.Binary (borrowed_view c.args.value.now) c.requires c.in_err-check_keys.field-0.0 wrong c.in_err-check_keys.ensures.place)
-
-pub read_parenthesized-returns-in_err-expression_member-clause-place : goal.read_parenthesized-returns-in_err-expression_member-clause-place
-read_parenthesized-returns-in_err-expression_member-clause-place t c =
-    exit (Locates (node an_expression) (borrowed_view c.args.value.now)) c.from_residual-in_err-expression_member.result c.in_err-expression_member.field-0.0 c.from_residual-in_err-expression_member.ensures.1
-    (expression-member words.Parenthesized (borrowed_view c.args.value.now) c.requires (codes "expr") (node an_expression) c.in_err-expression_member.field-0.0 refl c.in_err-expression_member.ensures.place)
-
-pub read_parenthesized-returns-clause-ok : goal.read_parenthesized-returns-clause-ok
-read_parenthesized-returns-clause-ok t c =
-    let known : has_only (known_keys (expression_of words.Parenthesized).row (borrowed_view c.args.value.now)) (borrowed_view c.args.value.now) ≡ true = c.in_ok-check_keys.ensures.ok in
-    let expression : ReadsNeeded (codes "expr") (node an_expression) (borrowed_view c.args.value.now) (expression_tree (box_value c.in_ok-expression.expression)) _ _ = same-needed c.in_ok-expression_member.ensures.ok (ap expression_tree (search rules)) in
-    same-reads (parenthesized-reads (borrowed_view c.args.value.now) _ _ _ c.requires known expression) (sym (tree-parenthesized c.unplaced.result c.in_ok-expression.expression c.unplaced.ensures))
-
-pub read_component-returns-in_err-expression_member-clause-place : goal.read_component-returns-in_err-expression_member-clause-place
-read_component-returns-in_err-expression_member-clause-place t c =
-    exit (Locates (node an_expression) (borrowed_view c.args.value.now)) c.from_residual-in_err-expression_member.result c.in_err-expression_member.field-0.0 c.from_residual-in_err-expression_member.ensures.1
-    (expression-member words.NamedComponent (borrowed_view c.args.value.now) c.requires (codes "base") (node an_expression) c.in_err-expression_member.field-0.0 refl c.in_err-expression_member.ensures.place)
-
-pub read_component-returns-in_err-name_member-clause-place : goal.read_component-returns-in_err-name_member-clause-place
-read_component-returns-in_err-name_member-clause-place t c =
-    exit (Locates (node an_expression) (borrowed_view c.args.value.now)) c.from_residual-in_err-name_member.result c.in_err-name_member.field-0.0 c.from_residual-in_err-name_member.ensures.1
-    (expression-text words.NamedComponent (borrowed_view c.args.value.now) c.requires name_in (codes "name") a_name c.in_err-name_member.field-0.0 refl (λ v h. ap (option_map text) h) c.in_err-name_member.ensures.place)
-
-pub read_component-returns-clause-ok : goal.read_component-returns-clause-ok
-read_component-returns-clause-ok t c =
-    let known : has_only (known_keys (expression_of words.NamedComponent).row (borrowed_view c.args.value.now)) (borrowed_view c.args.value.now) ≡ true = c.in_ok-check_keys.ensures.ok in
-    let base : ReadsNeeded (codes "base") (node an_expression) (borrowed_view c.args.value.now) (expression_tree (box_value c.in_ok-base.base)) _ _ = same-needed c.in_ok-expression_member.ensures.ok (ap expression_tree (search rules)) in
-    same-reads (component-reads (borrowed_view c.args.value.now) _ (string_bytes c.in_ok-component.component) _ _ c.requires known base (search rules)) (sym (tree-component c.unplaced.result c.in_ok-base.base c.in_ok-component.component c.unplaced.ensures))
-
-pub read_indexing-returns-in_err-expression_member-clause-place : goal.read_indexing-returns-in_err-expression_member-clause-place
-read_indexing-returns-in_err-expression_member-clause-place t c =
-    exit (Locates (node an_expression) (borrowed_view c.args.value.now)) c.from_residual-in_err-expression_member.result c.in_err-expression_member.field-0.0 c.from_residual-in_err-expression_member.ensures.1
-    (expression-member words.Indexing (borrowed_view c.args.value.now) c.requires (codes "base") (node an_expression) c.in_err-expression_member.field-0.0 refl c.in_err-expression_member.ensures.place)
-
-pub read_indexing-returns-in_err-expression_member-2-clause-place : goal.read_indexing-returns-in_err-expression_member-2-clause-place
-read_indexing-returns-in_err-expression_member-2-clause-place t c =
-    exit (Locates (node an_expression) (borrowed_view c.args.value.now)) c.from_residual-in_err-expression_member-2.result c.in_err-expression_member-2.field-0.0 c.from_residual-in_err-expression_member-2.ensures.1
-    (expression-member words.Indexing (borrowed_view c.args.value.now) c.requires (codes "index") (node an_expression) c.in_err-expression_member-2.field-0.0 refl c.in_err-expression_member-2.ensures.place)
-
-pub read_indexing-returns-clause-ok : goal.read_indexing-returns-clause-ok
-read_indexing-returns-clause-ok t c =
-    let known : has_only (known_keys (expression_of words.Indexing).row (borrowed_view c.args.value.now)) (borrowed_view c.args.value.now) ≡ true = c.in_ok-check_keys.ensures.ok in
-    let base : ReadsNeeded (codes "base") (node an_expression) (borrowed_view c.args.value.now) (expression_tree (box_value c.in_ok-base.base)) _ _ = same-needed c.in_ok-expression_member.ensures.ok (ap expression_tree (search rules)) in
-    let index : ReadsNeeded (codes "index") (node an_expression) (borrowed_view c.args.value.now) (expression_tree (box_value c.in_ok-index.index)) _ _ = same-needed c.in_ok-expression_member-2.ensures.ok (ap expression_tree (search rules)) in
-    same-reads (indexing-reads (borrowed_view c.args.value.now) _ _ _ _ _ c.requires known base index) (sym (tree-indexing c.unplaced.result c.in_ok-base.base c.in_ok-index.index c.unplaced.ensures))
-
-pub read_unary-returns-in_err-operator-clause-place : goal.read_unary-returns-in_err-operator-clause-place
-read_unary-returns-in_err-operator-clause-place t c =
-    exit (Locates (node an_expression) (borrowed_view c.args.value.now)) c.from_residual-in_err-operator.result c.in_err-operator.field-0.0 c.from_residual-in_err-operator.ensures.1
-    (expression-text words.Unary (borrowed_view c.args.value.now) c.requires (word_in unary_words) (codes "op") (one_of unary_words) c.in_err-operator.field-0.0 refl (λ v h. h) c.in_err-operator.ensures.place)
-
-pub read_unary-returns-in_err-expression_member-clause-place : goal.read_unary-returns-in_err-expression_member-clause-place
-read_unary-returns-in_err-expression_member-clause-place t c =
-    exit (Locates (node an_expression) (borrowed_view c.args.value.now)) c.from_residual-in_err-expression_member.result c.in_err-expression_member.field-0.0 c.from_residual-in_err-expression_member.ensures.1
-    (expression-member words.Unary (borrowed_view c.args.value.now) c.requires (codes "expr") (node an_expression) c.in_err-expression_member.field-0.0 refl c.in_err-expression_member.ensures.place)
-
-pub read_unary-returns-clause-ok : goal.read_unary-returns-clause-ok
-read_unary-returns-clause-ok t c =
-    let known : has_only (known_keys (expression_of words.Unary).row (borrowed_view c.args.value.now)) (borrowed_view c.args.value.now) ≡ true = c.in_ok-check_keys.ensures.ok in
-    let operand : ReadsNeeded (codes "expr") (node an_expression) (borrowed_view c.args.value.now) (expression_tree (box_value c.in_ok-operand.operand)) _ _ = same-needed c.in_ok-expression_member.ensures.ok (ap expression_tree (search rules)) in
-    same-reads (unary-reads (borrowed_view c.args.value.now) c.in_ok-operator.operator _ _ _ c.requires known c.in_ok-operator.ensures.ok operand) (sym (tree-unary c.unplaced.result c.in_ok-operator.operator c.in_ok-operand.operand c.unplaced.ensures))
-
-pub read_binary-returns-in_err-operator-clause-place : goal.read_binary-returns-in_err-operator-clause-place
-read_binary-returns-in_err-operator-clause-place t c =
-    exit (Locates (node an_expression) (borrowed_view c.args.value.now)) c.from_residual-in_err-operator.result c.in_err-operator.field-0.0 c.from_residual-in_err-operator.ensures.1
-    (expression-text words.Binary (borrowed_view c.args.value.now) c.requires (word_in binary_words) (codes "op") (one_of binary_words) c.in_err-operator.field-0.0 refl (λ v h. h) c.in_err-operator.ensures.place)
-
-pub read_binary-returns-in_err-expression_member-clause-place : goal.read_binary-returns-in_err-expression_member-clause-place
-read_binary-returns-in_err-expression_member-clause-place t c =
-    exit (Locates (node an_expression) (borrowed_view c.args.value.now)) c.from_residual-in_err-expression_member.result c.in_err-expression_member.field-0.0 c.from_residual-in_err-expression_member.ensures.1
-    (expression-member words.Binary (borrowed_view c.args.value.now) c.requires (codes "left") (node an_expression) c.in_err-expression_member.field-0.0 refl c.in_err-expression_member.ensures.place)
-
-pub read_binary-returns-in_err-expression_member-2-clause-place : goal.read_binary-returns-in_err-expression_member-2-clause-place
-read_binary-returns-in_err-expression_member-2-clause-place t c =
-    exit (Locates (node an_expression) (borrowed_view c.args.value.now)) c.from_residual-in_err-expression_member-2.result c.in_err-expression_member-2.field-0.0 c.from_residual-in_err-expression_member-2.ensures.1
-    (expression-member words.Binary (borrowed_view c.args.value.now) c.requires (codes "right") (node an_expression) c.in_err-expression_member-2.field-0.0 refl c.in_err-expression_member-2.ensures.place)
-
-pub read_binary-returns-clause-ok : goal.read_binary-returns-clause-ok
-read_binary-returns-clause-ok t c =
-    let known : has_only (known_keys (expression_of words.Binary).row (borrowed_view c.args.value.now)) (borrowed_view c.args.value.now) ≡ true = c.in_ok-check_keys.ensures.ok in
-    let left : ReadsNeeded (codes "left") (node an_expression) (borrowed_view c.args.value.now) (expression_tree (box_value c.in_ok-left.left)) _ _ = same-needed c.in_ok-expression_member.ensures.ok (ap expression_tree (search rules)) in
-    let right : ReadsNeeded (codes "right") (node an_expression) (borrowed_view c.args.value.now) (expression_tree (box_value c.in_ok-right.right)) _ _ = same-needed c.in_ok-expression_member-2.ensures.ok (ap expression_tree (search rules)) in
-    same-reads (binary-reads (borrowed_view c.args.value.now) c.in_ok-operator.operator _ _ _ _ _ c.requires known c.in_ok-operator.ensures.ok left right) (sym (tree-binary c.unplaced.result c.in_ok-operator.operator c.in_ok-left.left c.in_ok-right.right c.unplaced.ensures))
-
-pub read_call_expression-returns-in_err-check_keys-clause-place : goal.read_call_expression-returns-in_err-check_keys-clause-place
-read_call_expression-returns-in_err-check_keys-clause-place t c =
-    let wrong : has_only (known_keys (expression_of words.FunctionCall).row (borrowed_view c.args.value.now)) (borrowed_view c.args.value.now) ≡ false = c.in_err-check_keys.ensures.err in
-    exit (Locates (node an_expression) (borrowed_view c.args.value.now)) c.from_residual.result c.in_err-check_keys.field-0.0 c.from_residual.ensures.1
-    (expression-keys words.FunctionCall (borrowed_view c.args.value.now) c.requires c.in_err-check_keys.field-0.0 wrong c.in_err-check_keys.ensures.place)
-
-pub read_call_expression-returns-in_err-ty-clause-place : goal.read_call_expression-returns-in_err-ty-clause-place
-read_call_expression-returns-in_err-ty-clause-place t c =
-    exit (Locates (node an_expression) (borrowed_view c.args.value.now)) c.from_residual-in_err-ty.result c.in_err-ty.field-0.0 c.from_residual-in_err-ty.ensures.1
-    (expression-member words.FunctionCall (borrowed_view c.args.value.now) c.requires (codes "ty") (node a_type) c.in_err-ty.field-0.0 refl c.in_err-ty.ensures.place)
-
-pub read_call_expression-returns-in_err-arguments-clause-place : goal.read_call_expression-returns-in_err-arguments-clause-place
-read_call_expression-returns-in_err-arguments-clause-place t c =
-    exit (Locates (node an_expression) (borrowed_view c.args.value.now)) c.from_residual-in_err-arguments.result c.in_err-arguments.field-0.0 c.from_residual-in_err-arguments.ensures.1
-    (expression-inside words.FunctionCall (borrowed_view c.args.value.now) c.requires (codes "args") false (list_of list an_expression) c.in_err-arguments.field-0.0 refl c.in_err-arguments.ensures.place)
-
-pub read_call_expression-returns-clause-ok : goal.read_call_expression-returns-clause-ok
-read_call_expression-returns-clause-ok t c =
-    let known : has_only (known_keys (expression_of words.FunctionCall).row (borrowed_view c.args.value.now)) (borrowed_view c.args.value.now) ≡ true = c.in_ok-check_keys.ensures.ok in
-    let rows = call-rows (borrowed_view c.args.value.now) _ _ _ _ _ c.in_ok-ty.ensures.ok c.in_ok-arguments.ensures.ok in
-    same-reads (call-reads (borrowed_view c.args.value.now) _ _ _ c.requires known rows) (sym (tree-made-call c.unplaced.result c.in_ok-ty.ty c.in_ok-arguments.arguments c.unplaced.ensures))
-
-pub read_type_or_identifier-returns-in_err-check_keys-clause-place : goal.read_type_or_identifier-returns-in_err-check_keys-clause-place
-read_type_or_identifier-returns-in_err-check_keys-clause-place t c =
-    let wrong : has_only (known_keys type_or_identifier_node.row (borrowed_view c.args.value.now)) (borrowed_view c.args.value.now) ≡ false = c.in_err-check_keys.ensures.err in
-    exit (Locates (node an_expression) (borrowed_view c.args.value.now)) c.from_residual.result c.in_err-check_keys.field-0.0 c.from_residual.ensures.1
-    (type-expression-place (borrowed_view c.args.value.now) c.in_err-check_keys.field-0.0 c.requires.object c.requires.unmarked (row-keys type_or_identifier_node.row (borrowed_view c.args.value.now) c.in_err-check_keys.field-0.0 wrong c.in_err-check_keys.ensures.place))
-
-pub read_type_or_identifier-returns-in_err-path-clause-place : goal.read_type_or_identifier-returns-in_err-path-clause-place
-read_type_or_identifier-returns-in_err-path-clause-place t c =
-    exit (Locates (node an_expression) (borrowed_view c.args.value.now)) c.from_residual-in_err-path.result c.in_err-path.field-0.0 c.from_residual-in_err-path.ensures.1
-    (type-expression-place (borrowed_view c.args.value.now) c.in_err-path.field-0.0 c.requires.object c.requires.unmarked (row-inside type_or_identifier_node.row (codes "path") false (leaf a_path) (borrowed_view c.args.value.now) c.in_err-path.field-0.0 refl c.in_err-path.ensures.place))
-
-pub read_type_or_identifier-returns-in_err-name_member-clause-place : goal.read_type_or_identifier-returns-in_err-name_member-clause-place
-read_type_or_identifier-returns-in_err-name_member-clause-place t c =
-    exit (Locates (node an_expression) (borrowed_view c.args.value.now)) c.from_residual-in_err-name_member.result c.in_err-name_member.field-0.0 c.from_residual-in_err-name_member.ensures.1
-    (type-expression-place (borrowed_view c.args.value.now) c.in_err-name_member.field-0.0 c.requires.object c.requires.unmarked (row-text type_or_identifier_node.row name_in (codes "name") (an_ident reference) (borrowed_view c.args.value.now) c.in_err-name_member.field-0.0 refl (λ v h. ap (option_map (ident reference)) h) c.in_err-name_member.ensures.place))
-
-pub read_type_or_identifier-returns-in_err-template_args-clause-place : goal.read_type_or_identifier-returns-in_err-template_args-clause-place
-read_type_or_identifier-returns-in_err-template_args-clause-place t c =
-    exit (Locates (node an_expression) (borrowed_view c.args.value.now)) c.from_residual-in_err-template_args.result c.in_err-template_args.field-0.0 c.from_residual-in_err-template_args.ensures.1
-    (type-expression-place (borrowed_view c.args.value.now) c.in_err-template_args.field-0.0 c.requires.object c.requires.unmarked (row-inside type_or_identifier_node.row (codes "args") false (list_of list a_template_argument) (borrowed_view c.args.value.now) c.in_err-template_args.field-0.0 refl c.in_err-template_args.ensures.place))
-
-pub read_type_or_identifier-returns-clause-ok : goal.read_type_or_identifier-returns-clause-ok
-read_type_or_identifier-returns-clause-ok t c =
-    let known : has_only (known_keys type_or_identifier_node.row (borrowed_view c.args.value.now)) (borrowed_view c.args.value.now) ≡ true = c.in_ok-check_keys.ensures.ok in
-    let name = ident-member reference (codes "name") (borrowed_view c.args.value.now) c.in_ok-name_member.field-0.now c.in_ok-ident.ident.0 c.args.numbering.now c.number.new.self c.in_ok-name_member.ensures.ok c.in_ok-ident.ensures.number in
-    let rows = type-rows (borrowed_view c.args.value.now) _ _ _ _ _ _ _ (c.in_ok-path.ensures.ok c.args.numbering.now) name c.in_ok-template_args.ensures.ok in
-    same-reads (type-expression-reads (borrowed_view c.args.value.now) _ _ _ c.requires.object c.requires.unmarked known rows) (sym (tree-made-type c.unplaced.result c.in_ok-path.path c.in_ok-ident.ident c.in_ok-template_args.template_args c.unplaced.ensures))
-
-pub read_type_object-returns-in_err-check_keys-clause-place : goal.read_type_object-returns-in_err-check_keys-clause-place
-read_type_object-returns-in_err-check_keys-clause-place t c =
-    let wrong : has_only (known_keys type_row (borrowed_view c.args.value.now)) (borrowed_view c.args.value.now) ≡ false = c.in_err-check_keys.ensures.err in
-    exit (Locates (node a_type) (borrowed_view c.args.value.now)) c.from_residual.result c.in_err-check_keys.field-0.0 c.from_residual.ensures.1
-    (type-place (borrowed_view c.args.value.now) c.in_err-check_keys.field-0.0 c.requires (row-keys type_row (borrowed_view c.args.value.now) c.in_err-check_keys.field-0.0 wrong c.in_err-check_keys.ensures.place))
-
-pub read_type_object-returns-in_err-path-clause-place : goal.read_type_object-returns-in_err-path-clause-place
-read_type_object-returns-in_err-path-clause-place t c =
-    exit (Locates (node a_type) (borrowed_view c.args.value.now)) c.from_residual-in_err-path.result c.in_err-path.field-0.0 c.from_residual-in_err-path.ensures.1
-    (type-place (borrowed_view c.args.value.now) c.in_err-path.field-0.0 c.requires (row-inside type_row (codes "path") false (leaf a_path) (borrowed_view c.args.value.now) c.in_err-path.field-0.0 refl c.in_err-path.ensures.place))
-
-pub read_type_object-returns-in_err-name_member-clause-place : goal.read_type_object-returns-in_err-name_member-clause-place
-read_type_object-returns-in_err-name_member-clause-place t c =
-    exit (Locates (node a_type) (borrowed_view c.args.value.now)) c.from_residual-in_err-name_member.result c.in_err-name_member.field-0.0 c.from_residual-in_err-name_member.ensures.1
-    (type-place (borrowed_view c.args.value.now) c.in_err-name_member.field-0.0 c.requires (row-text type_row name_in (codes "name") (an_ident reference) (borrowed_view c.args.value.now) c.in_err-name_member.field-0.0 refl (λ v h. ap (option_map (ident reference)) h) c.in_err-name_member.ensures.place))
-
-pub read_type_object-returns-in_err-template_args-clause-place : goal.read_type_object-returns-in_err-template_args-clause-place
-read_type_object-returns-in_err-template_args-clause-place t c =
-    exit (Locates (node a_type) (borrowed_view c.args.value.now)) c.from_residual-in_err-template_args.result c.in_err-template_args.field-0.0 c.from_residual-in_err-template_args.ensures.1
-    (type-place (borrowed_view c.args.value.now) c.in_err-template_args.field-0.0 c.requires (row-inside type_row (codes "args") false (list_of list a_template_argument) (borrowed_view c.args.value.now) c.in_err-template_args.field-0.0 refl c.in_err-template_args.ensures.place))
-
-pub read_type_object-returns-clause-ok : goal.read_type_object-returns-clause-ok
-read_type_object-returns-clause-ok t c =
-    let known : has_only (known_keys type_row (borrowed_view c.args.value.now)) (borrowed_view c.args.value.now) ≡ true = c.in_ok-check_keys.ensures.ok in
-    let name = ident-member reference (codes "name") (borrowed_view c.args.value.now) c.in_ok-name_member.field-0.now c.in_ok-ident.ident.0 c.args.numbering.now c.number.new.self c.in_ok-name_member.ensures.ok c.in_ok-ident.ensures.number in
-    let rows = type-rows (borrowed_view c.args.value.now) _ _ _ _ _ _ _ (c.in_ok-path.ensures.ok c.args.numbering.now) name c.in_ok-template_args.ensures.ok in
-    same-reads (type-reads (borrowed_view c.args.value.now) _ _ _ c.requires known rows) (sym (made_type c.in_ok-path.path c.in_ok-ident.ident c.in_ok-template_args.template_args))
-
-pub read_type-returns-else-is_object-clause-ok : goal.read_type-returns-else-is_object-clause-ok
-read_type-returns-else-is_object-clause-ok t c =
-    let no_object : is_some (as_object (borrowed_view c.args.value.now)) ≡ false = search rules in
-    IfOk-weaker c.read_plain_type.result _ _ (λ e h. plain-type-reads (borrowed_view c.args.value.now) (type_view e) c.args.numbering.now c.read_plain_type.new.numbering no_object h) c.read_plain_type.ensures.ok
-
-pub read_parenthesized-returns-in_err-check_keys-clause-ok : goal.read_parenthesized-returns-in_err-check_keys-clause-ok
-read_parenthesized-returns-in_err-check_keys-clause-ok t c =
-    no_value _ _ c.from_residual.result c.from_residual.ensures.1
-
-pub read_parenthesized-returns-in_err-expression_member-clause-ok : goal.read_parenthesized-returns-in_err-expression_member-clause-ok
-read_parenthesized-returns-in_err-expression_member-clause-ok t c =
-    no_value _ _ c.from_residual-in_err-expression_member.result c.from_residual-in_err-expression_member.ensures.1
-
-pub read_parenthesized-returns-in_err-expression-clause-ok : goal.read_parenthesized-returns-in_err-expression-clause-ok
-read_parenthesized-returns-in_err-expression-clause-ok t c =
-    no_value _ _ c.from_residual-in_err-expression.result c.from_residual-in_err-expression.ensures.1
-
-pub read_parenthesized-returns-in_err-expression-clause-place : goal.read_parenthesized-returns-in_err-expression-clause-place
-read_parenthesized-returns-in_err-expression-clause-place t c =
-    exit (Locates (node an_expression) (borrowed_view c.args.value.now)) c.from_residual-in_err-expression.result error.Memory c.from_residual-in_err-expression.ensures.1 tt
-
-pub read_component-returns-in_err-check_keys-clause-ok : goal.read_component-returns-in_err-check_keys-clause-ok
-read_component-returns-in_err-check_keys-clause-ok t c =
-    no_value _ _ c.from_residual.result c.from_residual.ensures.1
-
-pub read_component-returns-in_err-expression_member-clause-ok : goal.read_component-returns-in_err-expression_member-clause-ok
-read_component-returns-in_err-expression_member-clause-ok t c =
-    no_value _ _ c.from_residual-in_err-expression_member.result c.from_residual-in_err-expression_member.ensures.1
-
-pub read_component-returns-in_err-base-clause-ok : goal.read_component-returns-in_err-base-clause-ok
-read_component-returns-in_err-base-clause-ok t c =
-    no_value _ _ c.from_residual-in_err-base.result c.from_residual-in_err-base.ensures.1
-
-pub read_component-returns-in_err-base-clause-place : goal.read_component-returns-in_err-base-clause-place
-read_component-returns-in_err-base-clause-place t c =
-    exit (Locates (node an_expression) (borrowed_view c.args.value.now)) c.from_residual-in_err-base.result error.Memory c.from_residual-in_err-base.ensures.1 tt
-
-pub read_component-returns-in_err-name_member-clause-ok : goal.read_component-returns-in_err-name_member-clause-ok
-read_component-returns-in_err-name_member-clause-ok t c =
-    no_value _ _ c.from_residual-in_err-name_member.result c.from_residual-in_err-name_member.ensures.1
-
-pub read_component-returns-in_err-component-clause-ok : goal.read_component-returns-in_err-component-clause-ok
-read_component-returns-in_err-component-clause-ok t c =
-    no_value _ _ c.from_residual-in_err-component.result c.from_residual-in_err-component.ensures.1
-
-pub read_component-returns-in_err-component-clause-place : goal.read_component-returns-in_err-component-clause-place
-read_component-returns-in_err-component-clause-place t c =
-    exit (Locates (node an_expression) (borrowed_view c.args.value.now)) c.from_residual-in_err-component.result error.Memory c.from_residual-in_err-component.ensures.1 tt
-
-pub read_indexing-returns-in_err-check_keys-clause-ok : goal.read_indexing-returns-in_err-check_keys-clause-ok
-read_indexing-returns-in_err-check_keys-clause-ok t c =
-    no_value _ _ c.from_residual.result c.from_residual.ensures.1
-
-pub read_indexing-returns-in_err-expression_member-clause-ok : goal.read_indexing-returns-in_err-expression_member-clause-ok
-read_indexing-returns-in_err-expression_member-clause-ok t c =
-    no_value _ _ c.from_residual-in_err-expression_member.result c.from_residual-in_err-expression_member.ensures.1
-
-pub read_indexing-returns-in_err-base-clause-ok : goal.read_indexing-returns-in_err-base-clause-ok
-read_indexing-returns-in_err-base-clause-ok t c =
-    no_value _ _ c.from_residual-in_err-base.result c.from_residual-in_err-base.ensures.1
-
-pub read_indexing-returns-in_err-base-clause-place : goal.read_indexing-returns-in_err-base-clause-place
-read_indexing-returns-in_err-base-clause-place t c =
-    exit (Locates (node an_expression) (borrowed_view c.args.value.now)) c.from_residual-in_err-base.result error.Memory c.from_residual-in_err-base.ensures.1 tt
-
-pub read_indexing-returns-in_err-expression_member-2-clause-ok : goal.read_indexing-returns-in_err-expression_member-2-clause-ok
-read_indexing-returns-in_err-expression_member-2-clause-ok t c =
-    no_value _ _ c.from_residual-in_err-expression_member-2.result c.from_residual-in_err-expression_member-2.ensures.1
-
-pub read_indexing-returns-in_err-index-clause-ok : goal.read_indexing-returns-in_err-index-clause-ok
-read_indexing-returns-in_err-index-clause-ok t c =
-    no_value _ _ c.from_residual-in_err-index.result c.from_residual-in_err-index.ensures.1
-
-pub read_indexing-returns-in_err-index-clause-place : goal.read_indexing-returns-in_err-index-clause-place
-read_indexing-returns-in_err-index-clause-place t c =
-    exit (Locates (node an_expression) (borrowed_view c.args.value.now)) c.from_residual-in_err-index.result error.Memory c.from_residual-in_err-index.ensures.1 tt
-
-pub read_unary-returns-in_err-check_keys-clause-ok : goal.read_unary-returns-in_err-check_keys-clause-ok
-read_unary-returns-in_err-check_keys-clause-ok t c =
-    no_value _ _ c.from_residual.result c.from_residual.ensures.1
-
-pub read_unary-returns-in_err-operator-clause-ok : goal.read_unary-returns-in_err-operator-clause-ok
-read_unary-returns-in_err-operator-clause-ok t c =
-    no_value _ _ c.from_residual-in_err-operator.result c.from_residual-in_err-operator.ensures.1
-
-pub read_unary-returns-in_err-expression_member-clause-ok : goal.read_unary-returns-in_err-expression_member-clause-ok
-read_unary-returns-in_err-expression_member-clause-ok t c =
-    no_value _ _ c.from_residual-in_err-expression_member.result c.from_residual-in_err-expression_member.ensures.1
-
-pub read_unary-returns-in_err-operand-clause-ok : goal.read_unary-returns-in_err-operand-clause-ok
-read_unary-returns-in_err-operand-clause-ok t c =
-    no_value _ _ c.from_residual-in_err-operand.result c.from_residual-in_err-operand.ensures.1
-
-pub read_unary-returns-in_err-operand-clause-place : goal.read_unary-returns-in_err-operand-clause-place
-read_unary-returns-in_err-operand-clause-place t c =
-    exit (Locates (node an_expression) (borrowed_view c.args.value.now)) c.from_residual-in_err-operand.result error.Memory c.from_residual-in_err-operand.ensures.1 tt
-
-pub read_binary-returns-in_err-check_keys-clause-ok : goal.read_binary-returns-in_err-check_keys-clause-ok
-read_binary-returns-in_err-check_keys-clause-ok t c =
-    no_value _ _ c.from_residual.result c.from_residual.ensures.1
-
-pub read_binary-returns-in_err-operator-clause-ok : goal.read_binary-returns-in_err-operator-clause-ok
-read_binary-returns-in_err-operator-clause-ok t c =
-    no_value _ _ c.from_residual-in_err-operator.result c.from_residual-in_err-operator.ensures.1
-
-pub read_binary-returns-in_err-expression_member-clause-ok : goal.read_binary-returns-in_err-expression_member-clause-ok
-read_binary-returns-in_err-expression_member-clause-ok t c =
-    no_value _ _ c.from_residual-in_err-expression_member.result c.from_residual-in_err-expression_member.ensures.1
-
-pub read_binary-returns-in_err-left-clause-ok : goal.read_binary-returns-in_err-left-clause-ok
-read_binary-returns-in_err-left-clause-ok t c =
-    no_value _ _ c.from_residual-in_err-left.result c.from_residual-in_err-left.ensures.1
-
-pub read_binary-returns-in_err-left-clause-place : goal.read_binary-returns-in_err-left-clause-place
-read_binary-returns-in_err-left-clause-place t c =
-    exit (Locates (node an_expression) (borrowed_view c.args.value.now)) c.from_residual-in_err-left.result error.Memory c.from_residual-in_err-left.ensures.1 tt
-
-pub read_binary-returns-in_err-expression_member-2-clause-ok : goal.read_binary-returns-in_err-expression_member-2-clause-ok
-read_binary-returns-in_err-expression_member-2-clause-ok t c =
-    no_value _ _ c.from_residual-in_err-expression_member-2.result c.from_residual-in_err-expression_member-2.ensures.1
-
-pub read_binary-returns-in_err-right-clause-ok : goal.read_binary-returns-in_err-right-clause-ok
-read_binary-returns-in_err-right-clause-ok t c =
-    no_value _ _ c.from_residual-in_err-right.result c.from_residual-in_err-right.ensures.1
-
-pub read_binary-returns-in_err-right-clause-place : goal.read_binary-returns-in_err-right-clause-place
-read_binary-returns-in_err-right-clause-place t c =
-    exit (Locates (node an_expression) (borrowed_view c.args.value.now)) c.from_residual-in_err-right.result error.Memory c.from_residual-in_err-right.ensures.1 tt
-
-pub read_call_expression-returns-in_err-check_keys-clause-ok : goal.read_call_expression-returns-in_err-check_keys-clause-ok
-read_call_expression-returns-in_err-check_keys-clause-ok t c =
-    no_value _ _ c.from_residual.result c.from_residual.ensures.1
-
-pub read_call_expression-returns-in_err-ty-clause-ok : goal.read_call_expression-returns-in_err-ty-clause-ok
-read_call_expression-returns-in_err-ty-clause-ok t c =
-    no_value _ _ c.from_residual-in_err-ty.result c.from_residual-in_err-ty.ensures.1
-
-pub read_call_expression-returns-in_err-arguments-clause-ok : goal.read_call_expression-returns-in_err-arguments-clause-ok
-read_call_expression-returns-in_err-arguments-clause-ok t c =
-    no_value _ _ c.from_residual-in_err-arguments.result c.from_residual-in_err-arguments.ensures.1
-
-pub read_type_or_identifier-returns-in_err-check_keys-clause-ok : goal.read_type_or_identifier-returns-in_err-check_keys-clause-ok
-read_type_or_identifier-returns-in_err-check_keys-clause-ok t c =
-    no_value _ _ c.from_residual.result c.from_residual.ensures.1
-
-pub read_type_or_identifier-returns-in_err-path-clause-ok : goal.read_type_or_identifier-returns-in_err-path-clause-ok
-read_type_or_identifier-returns-in_err-path-clause-ok t c =
-    no_value _ _ c.from_residual-in_err-path.result c.from_residual-in_err-path.ensures.1
-
-pub read_type_or_identifier-returns-in_err-name_member-clause-ok : goal.read_type_or_identifier-returns-in_err-name_member-clause-ok
-read_type_or_identifier-returns-in_err-name_member-clause-ok t c =
-    no_value _ _ c.from_residual-in_err-name_member.result c.from_residual-in_err-name_member.ensures.1
-
-pub read_type_or_identifier-returns-in_err-ident-clause-ok : goal.read_type_or_identifier-returns-in_err-ident-clause-ok
-read_type_or_identifier-returns-in_err-ident-clause-ok t c =
-    no_value _ _ c.from_residual-in_err-ident.result c.from_residual-in_err-ident.ensures.1
-
-pub read_type_or_identifier-returns-in_err-template_args-clause-ok : goal.read_type_or_identifier-returns-in_err-template_args-clause-ok
-read_type_or_identifier-returns-in_err-template_args-clause-ok t c =
-    no_value _ _ c.from_residual-in_err-template_args.result c.from_residual-in_err-template_args.ensures.1
-
-pub read_type_object-returns-in_err-check_keys-clause-ok : goal.read_type_object-returns-in_err-check_keys-clause-ok
-read_type_object-returns-in_err-check_keys-clause-ok t c =
-    no_value _ _ c.from_residual.result c.from_residual.ensures.1
-
-pub read_type_object-returns-in_err-path-clause-ok : goal.read_type_object-returns-in_err-path-clause-ok
-read_type_object-returns-in_err-path-clause-ok t c =
-    no_value _ _ c.from_residual-in_err-path.result c.from_residual-in_err-path.ensures.1
-
-pub read_type_object-returns-in_err-name_member-clause-ok : goal.read_type_object-returns-in_err-name_member-clause-ok
-read_type_object-returns-in_err-name_member-clause-ok t c =
-    no_value _ _ c.from_residual-in_err-name_member.result c.from_residual-in_err-name_member.ensures.1
-
-pub read_type_object-returns-in_err-ident-clause-ok : goal.read_type_object-returns-in_err-ident-clause-ok
-read_type_object-returns-in_err-ident-clause-ok t c =
-    no_value _ _ c.from_residual-in_err-ident.result c.from_residual-in_err-ident.ensures.1
-
-pub read_type_object-returns-in_err-template_args-clause-ok : goal.read_type_object-returns-in_err-template_args-clause-ok
-read_type_object-returns-in_err-template_args-clause-ok t c =
-    no_value _ _ c.from_residual-in_err-template_args.result c.from_residual-in_err-template_args.ensures.1
-
-pub expression_member-returns-in_err-member-clause-ok : goal.expression_member-returns-in_err-member-clause-ok
-expression_member-returns-in_err-member-clause-ok t c =
-    no_value _ _ c.from_residual.result c.from_residual.ensures.1
-
-pub expression_member-returns-in_err-member-clause-place : goal.expression_member-returns-in_err-member-clause-place
-expression_member-returns-in_err-member-clause-place t c =
-    exit (LocatesMember c.args.key.now (node an_expression) (borrowed_view c.args.value.now)) c.from_residual.result c.in_err-member.field-0.0 c.from_residual.ensures.1 (member-lacks c.args.key.now (node an_expression) (borrowed_view c.args.value.now) c.in_err-member.field-0.0 c.in_err-member.ensures.err c.in_err-member.ensures.place)
-
-pub type_member-returns-in_err-member-clause-ok : goal.type_member-returns-in_err-member-clause-ok
-type_member-returns-in_err-member-clause-ok t c =
-    no_value _ _ c.from_residual.result c.from_residual.ensures.1
-
-pub type_member-returns-in_err-member-clause-place : goal.type_member-returns-in_err-member-clause-place
-type_member-returns-in_err-member-clause-place t c =
-    exit (LocatesMember c.args.key.now (node a_type) (borrowed_view c.args.value.now)) c.from_residual.result c.in_err-member.field-0.0 c.from_residual.ensures.1 (member-lacks c.args.key.now (node a_type) (borrowed_view c.args.value.now) c.in_err-member.field-0.0 c.in_err-member.ensures.err c.in_err-member.ensures.place)
-
-pub read_arguments-returns-in_err-arguments-clause-ok : goal.read_arguments-returns-in_err-arguments-clause-ok
-read_arguments-returns-in_err-arguments-clause-ok t c =
-    no_value _ _ c.from_residual.result c.from_residual.ensures.1
-
-pub read_arguments-returns-in_err-arguments-clause-place : goal.read_arguments-returns-in_err-arguments-clause-place
-read_arguments-returns-in_err-arguments-clause-place t c =
-    exit (Locates (list_of list a_template_argument) (borrowed_view c.args.value.now)) c.from_residual.result error.Memory c.from_residual.ensures.1 tt
-
-pub read_expressions-returns-in_err-expressions-clause-ok : goal.read_expressions-returns-in_err-expressions-clause-ok
-read_expressions-returns-in_err-expressions-clause-ok t c =
-    no_value _ _ c.from_residual.result c.from_residual.ensures.1
-
-pub read_expressions-returns-in_err-expressions-clause-place : goal.read_expressions-returns-in_err-expressions-clause-place
-read_expressions-returns-in_err-expressions-clause-place t c =
-    exit (Locates (list_of list an_expression) (borrowed_view c.args.value.now)) c.from_residual.result error.Memory c.from_residual.ensures.1 tt
-
-pub read_arguments-returns-in_err-push-in-Ok-clause-ok : goal.read_arguments-returns-in_err-push-in-Ok-clause-ok
-read_arguments-returns-in_err-push-in-Ok-clause-ok t c =
-    no_value _ _ c.from_residual-in_err-push-in-Ok.result c.from_residual-in_err-push-in-Ok.ensures.1
-
-pub read_arguments-returns-in_err-push-in-Ok-clause-place : goal.read_arguments-returns-in_err-push-in-Ok-clause-place
-read_arguments-returns-in_err-push-in-Ok-clause-place t c =
-    exit (Locates (list_of list a_template_argument) (borrowed_view c.args.value.now)) c.from_residual-in_err-push-in-Ok.result error.Memory c.from_residual-in_err-push-in-Ok.ensures.1 tt
-
-pub read_arguments-loop-index-init : goal.read_arguments-loop-index-init
-read_arguments-loop-index-init t c =
-    none_read argument_view list a_template_argument (borrowed_view c.args.value.now) c.args.numbering.now c.deref-item-items.result.now c.in_ok-arguments.arguments.items c.in_ok-arguments.ensures.items
-
 pub read_arguments-returns-in_default-clause-place : goal.read_arguments-returns-in_default-clause-place
 read_arguments-returns-in_default-clause-place t c =
     no_list list a_template_argument (borrowed_view c.args.value.now) c.wrong.result (sym c.in_default.ensures) c.wrong.ensures
-
-pub read_expressions-returns-in_err-push-in-Ok-clause-ok : goal.read_expressions-returns-in_err-push-in-Ok-clause-ok
-read_expressions-returns-in_err-push-in-Ok-clause-ok t c =
-    no_value _ _ c.from_residual-in_err-push-in-Ok.result c.from_residual-in_err-push-in-Ok.ensures.1
-
-pub read_expressions-returns-in_err-push-in-Ok-clause-place : goal.read_expressions-returns-in_err-push-in-Ok-clause-place
-read_expressions-returns-in_err-push-in-Ok-clause-place t c =
-    exit (Locates (list_of list an_expression) (borrowed_view c.args.value.now)) c.from_residual-in_err-push-in-Ok.result error.Memory c.from_residual-in_err-push-in-Ok.ensures.1 tt
-
-pub read_expressions-loop-index-init : goal.read_expressions-loop-index-init
-read_expressions-loop-index-init t c =
-    none_read expression_tree list an_expression (borrowed_view c.args.value.now) c.args.numbering.now c.deref-item-items.result.now c.in_ok-expressions.expressions.items c.in_ok-expressions.ensures.items
 
 pub read_expressions-returns-in_default-clause-place : goal.read_expressions-returns-in_default-clause-place
 read_expressions-returns-in_default-clause-place t c =
@@ -596,18 +126,214 @@ pub read_binary-expression_member-requires-2 : goal.read_binary-expression_membe
 read_binary-expression_member-requires-2 t c =
     (to_next (depth (borrowed_view c.args.value.now)) 3 7 t c.decreases refl, tt)
 
-pub read_call_expression-type_member-requires : goal.read_call_expression-type_member-requires
-read_call_expression-type_member-requires t c =
+pub read_call_expression-type_member-ty-requires : goal.read_call_expression-type_member-ty-requires
+read_call_expression-type_member-ty-requires t c =
     (to_next (depth (borrowed_view c.args.value.now)) 3 7 t c.decreases refl, tt)
 
-pub read_call_expression-expressions_member-requires : goal.read_call_expression-expressions_member-requires
-read_call_expression-expressions_member-requires t c =
+pub read_call_expression-expressions_member-arguments-requires : goal.read_call_expression-expressions_member-arguments-requires
+read_call_expression-expressions_member-arguments-requires t c =
     (to_next (depth (borrowed_view c.args.value.now)) 3 7 t c.decreases refl, tt)
 
-pub read_type_or_identifier-arguments_member-requires : goal.read_type_or_identifier-arguments_member-requires
-read_type_or_identifier-arguments_member-requires t c =
-    (to_next (depth (borrowed_view c.args.value.now)) 3 7 t c.decreases refl, tt)
+pub read_indexing-returns-in-Ok-clause-ok : goal.read_indexing-returns-in-Ok-clause-ok
+read_indexing-returns-in-Ok-clause-ok t c =
+    let d = borrowed_view c.args.value.now in
+    let known : has_only (known_keys (expression_of words.Indexing).row d) d ≡ true = c.in-Ok.ensures.keys in
+    let parts = part _ c.both.result c.in-Ok.ensures.ok c.both.ensures.ok in
+    let base = part _ c.expression_member.result (part _ c.boxed-base.result parts.0 c.boxed-base.ensures.ok) c.expression_member.ensures.ok in
+    let index = part _ c.expression_member-2.result (part _ c.boxed-index.result parts.1 c.boxed-index.ensures.ok) c.expression_member-2.ensures.ok in
+    same-reads (indexing-reads d _ _ _ _ _ c.requires known base index) (sym (tree-indexing c.unplaced.result c.in-Ok.base c.in-Ok.index c.unplaced.ensures))
 
-pub read_type_object-arguments_member-requires : goal.read_type_object-arguments_member-requires
-read_type_object-arguments_member-requires t c =
-    (to_next (depth (borrowed_view c.args.value.now)) 3 7 t c.decreases refl, tt)
+pub read_indexing-returns-in-Err-clause-place : goal.read_indexing-returns-in-Err-clause-place
+read_indexing-returns-in-Err-clause-place t c =
+    let d = borrowed_view c.args.value.now in
+    let base = IfErr-weaker c.expression_member.result _ (Locates (node an_expression) d) (λ e h. expression-member words.Indexing d c.requires (codes "base") (node an_expression) e refl h) c.expression_member.ensures.place in
+    let index = IfErr-weaker c.expression_member-2.result _ (Locates (node an_expression) d) (λ e h. expression-member words.Indexing d c.requires (codes "index") (node an_expression) e refl h) c.expression_member-2.ensures.place in
+    let both = of-both (Locates (node an_expression) d) c.both.result c.boxed-base.result c.boxed-index.result c.both.ensures.place (of-boxed (IsBroken whole_form (node an_expression) d) c.boxed-base.result c.expression_member.result c.boxed-base.ensures.place base) (of-boxed (IsBroken whole_form (node an_expression) d) c.boxed-index.result c.expression_member-2.result c.boxed-index.ensures.place index) in
+    of-only (Locates (node an_expression) d) _ c.both.result c.in-Err.error c.in-Err.ensures.place (expression-keys words.Indexing d c.requires) (λ known. both)
+
+pub read_unary-returns-in-Ok-clause-ok : goal.read_unary-returns-in-Ok-clause-ok
+read_unary-returns-in-Ok-clause-ok t c =
+    let d = borrowed_view c.args.value.now in
+    let known : has_only (known_keys (expression_of words.Unary).row d) d ≡ true = c.in-Ok.ensures.keys in
+    let parts = part _ c.both.result c.in-Ok.ensures.ok c.both.ensures.ok in
+    let operator = part _ c.unary_operator_member-operator.result parts.0 c.unary_operator_member-operator.ensures.ok in
+    let operand = part _ c.expression_member.result (part _ c.boxed-operand.result parts.1 c.boxed-operand.ensures.ok) c.expression_member.ensures.ok in
+    same-reads (unary-reads d c.in-Ok.operator _ _ _ c.requires known operator operand) (sym (tree-unary c.unplaced.result c.in-Ok.operator c.in-Ok.operand c.unplaced.ensures))
+
+pub read_unary-returns-in-Err-clause-place : goal.read_unary-returns-in-Err-clause-place
+read_unary-returns-in-Err-clause-place t c =
+    let d = borrowed_view c.args.value.now in
+    let operator = IfErr-weaker c.unary_operator_member-operator.result _ (Locates (node an_expression) d) (λ e h. expression-text words.Unary d c.requires (word_in unary_words) (codes "op") (one_of unary_words) e refl (λ v n. n) h) c.unary_operator_member-operator.ensures.place in
+    let operand = IfErr-weaker c.expression_member.result _ (Locates (node an_expression) d) (λ e h. expression-member words.Unary d c.requires (codes "expr") (node an_expression) e refl h) c.expression_member.ensures.place in
+    let both = of-both (Locates (node an_expression) d) c.both.result c.unary_operator_member-operator.result c.boxed-operand.result c.both.ensures.place operator (of-boxed (IsBroken whole_form (node an_expression) d) c.boxed-operand.result c.expression_member.result c.boxed-operand.ensures.place operand) in
+    of-only (Locates (node an_expression) d) _ c.both.result c.in-Err.error c.in-Err.ensures.place (expression-keys words.Unary d c.requires) (λ known. both)
+
+pub read_binary-returns-in-Ok-clause-ok : goal.read_binary-returns-in-Ok-clause-ok
+read_binary-returns-in-Ok-clause-ok t c =
+    let d = borrowed_view c.args.value.now in
+    let known : has_only (known_keys (expression_of words.Binary).row d) d ≡ true = c.in-Ok.ensures.keys in
+    let parts = part _ c.both.result c.in-Ok.ensures.ok c.both.ensures.ok in
+    let operands = part _ c.both-operands.result parts.1 c.both-operands.ensures.ok in
+    let operator = part _ c.binary_operator_member-operator.result parts.0 c.binary_operator_member-operator.ensures.ok in
+    let left = part _ c.expression_member.result (part _ c.boxed-left.result operands.0 c.boxed-left.ensures.ok) c.expression_member.ensures.ok in
+    let right = part _ c.expression_member-2.result (part _ c.boxed-right.result operands.1 c.boxed-right.ensures.ok) c.expression_member-2.ensures.ok in
+    same-reads (binary-reads d c.in-Ok.operator _ _ _ _ _ c.requires known operator left right) (sym (tree-binary c.unplaced.result c.in-Ok.operator c.in-Ok.left c.in-Ok.right c.unplaced.ensures))
+
+pub read_binary-returns-in-Err-clause-place : goal.read_binary-returns-in-Err-clause-place
+read_binary-returns-in-Err-clause-place t c =
+    let d = borrowed_view c.args.value.now in
+    let operator = IfErr-weaker c.binary_operator_member-operator.result _ (Locates (node an_expression) d) (λ e h. expression-text words.Binary d c.requires (word_in binary_words) (codes "op") (one_of binary_words) e refl (λ v n. n) h) c.binary_operator_member-operator.ensures.place in
+    let left = IfErr-weaker c.expression_member.result _ (Locates (node an_expression) d) (λ e h. expression-member words.Binary d c.requires (codes "left") (node an_expression) e refl h) c.expression_member.ensures.place in
+    let right = IfErr-weaker c.expression_member-2.result _ (Locates (node an_expression) d) (λ e h. expression-member words.Binary d c.requires (codes "right") (node an_expression) e refl h) c.expression_member-2.ensures.place in
+    let operands = of-both (Locates (node an_expression) d) c.both-operands.result c.boxed-left.result c.boxed-right.result c.both-operands.ensures.place (of-boxed (IsBroken whole_form (node an_expression) d) c.boxed-left.result c.expression_member.result c.boxed-left.ensures.place left) (of-boxed (IsBroken whole_form (node an_expression) d) c.boxed-right.result c.expression_member-2.result c.boxed-right.ensures.place right) in
+    let both = of-both (Locates (node an_expression) d) c.both.result c.binary_operator_member-operator.result c.both-operands.result c.both.ensures.place operator operands in
+    of-only (Locates (node an_expression) d) _ c.both.result c.in-Err.error c.in-Err.ensures.place (expression-keys words.Binary d c.requires) (λ known. both)
+
+pub read_call_expression-returns-in-Ok-clause-ok : goal.read_call_expression-returns-in-Ok-clause-ok
+read_call_expression-returns-in-Ok-clause-ok t c =
+    let d = borrowed_view c.args.value.now in
+    let known : has_only (known_keys (expression_of words.FunctionCall).row d) d ≡ true = c.in-Ok.ensures.keys in
+    let parts = part _ c.both.result c.in-Ok.ensures.ok c.both.ensures.ok in
+    let ty = part _ c.type_member-ty.result parts.0 c.type_member-ty.ensures.ok in
+    let arguments = part _ c.expressions_member-arguments.result parts.1 c.expressions_member-arguments.ensures.ok in
+    same-reads (call-reads d _ _ _ c.requires known (call-rows d _ _ _ _ _ ty arguments)) (sym (tree-made-call c.unplaced.result c.in-Ok.ty c.in-Ok.arguments c.unplaced.ensures))
+
+pub read_call_expression-returns-in-Err-clause-place : goal.read_call_expression-returns-in-Err-clause-place
+read_call_expression-returns-in-Err-clause-place t c =
+    let d = borrowed_view c.args.value.now in
+    let ty = IfErr-weaker c.type_member-ty.result _ (Locates (node an_expression) d) (λ e h. expression-member words.FunctionCall d c.requires (codes "ty") (node a_type) e refl h) c.type_member-ty.ensures.place in
+    let arguments = IfErr-weaker c.expressions_member-arguments.result _ (Locates (node an_expression) d) (λ e h. expression-inside words.FunctionCall d c.requires (codes "args") false (list_of list an_expression) e refl h) c.expressions_member-arguments.ensures.place in
+    let both = of-both (Locates (node an_expression) d) c.both.result c.type_member-ty.result c.expressions_member-arguments.result c.both.ensures.place ty arguments in
+    of-only (Locates (node an_expression) d) _ c.both.result c.in-Err.error c.in-Err.ensures.place (expression-keys words.FunctionCall d c.requires) (λ known. both)
+
+pub read_arguments-loop-index-init : goal.read_arguments-loop-index-init
+read_arguments-loop-index-init t c =
+    list-none argument_view list a_template_argument (borrowed_view c.args.value.now) c.deref-item-items.result.now c.args.numbering.now c.room-arguments.result c.room-arguments.ensures.ok c.room-arguments.ensures.refused
+
+pub read_arguments-loop-index-preserved : goal.read_arguments-loop-index-preserved
+read_arguments-loop-index-preserved t c =
+    let vs = c.deref-item-items.result.now in
+    let is : as_array (borrowed_view c.args.value.now) ≡ Some (items_view vs) = sym c.in-Some.ensures ∙ ap (λ l. Some (items_view l)) (sym c.deref-item-items.ensures.value) in
+    let v = borrowed_view c.item-item.result in
+    let item = IfOk-weaker c.argument_of-argument.result _ (λ x. Reads (node a_template_argument) v (argument_view x) c.loop-index.numbering c.read_expression.new.numbering) (λ x h. same-reads (record { form = argument-form v (expression_tree h.0) _ _ (part (λ y. Reads (node an_expression) v (expression_tree y) c.loop-index.numbering c.read_expression.new.numbering) c.read_expression.result h.1 c.read_expression.ensures.ok).form }) (sym h.2)) c.argument_of-argument.ensures.ok in
+    let fault = IfErr-weaker c.argument_of-argument.result (λ e. c.read_expression.result ≡ Err e) (Locates (node a_template_argument) v) (λ e told. argument-place v e (IfErr-at_err (Locates (node an_expression) v) told c.read_expression.ensures.place)) c.argument_of-argument.ensures.place in
+    list-turn argument_view list a_template_argument (borrowed_view c.args.value.now) vs is c.loop-index.index c.item-item.result c.args.numbering.now c.loop-index.numbering c.read_expression.new.numbering c.loop-index.arguments c.argument_of-argument.result c.loop-index-test.true c.item-item.is c.loop-index.invariant c.with_item-arguments.result item fault c.with_item-arguments.ensures.ok c.with_item-arguments.ensures.place
+
+pub read_arguments-returns-clause-ok : goal.read_arguments-returns-clause-ok
+read_arguments-returns-clause-ok t c =
+    let vs = c.deref-item-items.result.now in
+    let is : as_array (borrowed_view c.args.value.now) ≡ Some (items_view vs) = sym c.in-Some.ensures ∙ ap (λ l. Some (items_view l)) (sym c.deref-item-items.ensures.value) in
+    list-whole argument_view list a_template_argument (borrowed_view c.args.value.now) vs is c.loop-index.index _ _ c.loop-index.arguments c.loop-index-test.false c.loop-index.invariant
+
+pub read_arguments-returns-clause-place : goal.read_arguments-returns-clause-place
+read_arguments-returns-clause-place t c = c.loop-index.invariant.1
+
+pub read_expressions-loop-index-init : goal.read_expressions-loop-index-init
+read_expressions-loop-index-init t c =
+    list-none expression_tree list an_expression (borrowed_view c.args.value.now) c.deref-item-items.result.now c.args.numbering.now c.room-expressions.result c.room-expressions.ensures.ok c.room-expressions.ensures.refused
+
+pub read_expressions-loop-index-preserved : goal.read_expressions-loop-index-preserved
+read_expressions-loop-index-preserved t c =
+    let vs = c.deref-item-items.result.now in
+    let is : as_array (borrowed_view c.args.value.now) ≡ Some (items_view vs) = sym c.in-Some.ensures ∙ ap (λ l. Some (items_view l)) (sym c.deref-item-items.ensures.value) in
+    list-turn expression_tree list an_expression (borrowed_view c.args.value.now) vs is c.loop-index.index c.item-item.result c.args.numbering.now c.loop-index.numbering c.read_expression-expression.new.numbering c.loop-index.expressions c.read_expression-expression.result c.loop-index-test.true c.item-item.is c.loop-index.invariant c.with_item-expressions.result c.read_expression-expression.ensures.ok c.read_expression-expression.ensures.place c.with_item-expressions.ensures.ok c.with_item-expressions.ensures.place
+
+pub read_expressions-returns-clause-ok : goal.read_expressions-returns-clause-ok
+read_expressions-returns-clause-ok t c =
+    let vs = c.deref-item-items.result.now in
+    let is : as_array (borrowed_view c.args.value.now) ≡ Some (items_view vs) = sym c.in-Some.ensures ∙ ap (λ l. Some (items_view l)) (sym c.deref-item-items.ensures.value) in
+    list-whole expression_tree list an_expression (borrowed_view c.args.value.now) vs is c.loop-index.index _ _ c.loop-index.expressions c.loop-index-test.false c.loop-index.invariant
+
+pub read_expressions-returns-clause-place : goal.read_expressions-returns-clause-place
+read_expressions-returns-clause-place t c = c.loop-index.invariant.1
+
+pub read_parenthesized-returns-in-Ok-clause-ok : goal.read_parenthesized-returns-in-Ok-clause-ok
+read_parenthesized-returns-in-Ok-clause-ok t c =
+    let d = borrowed_view c.args.value.now in
+    let known : has_only (known_keys (expression_of words.Parenthesized).row d) d ≡ true = c.in-Ok.ensures.keys in
+    let expression = part _ c.expression_member.result (part _ c.boxed-expression.result c.in-Ok.ensures.ok c.boxed-expression.ensures.ok) c.expression_member.ensures.ok in
+    same-reads (parenthesized-reads d _ _ _ c.requires known expression) (sym (tree-parenthesized c.unplaced.result c.in-Ok.expression c.unplaced.ensures))
+
+pub read_parenthesized-returns-in-Err-clause-place : goal.read_parenthesized-returns-in-Err-clause-place
+read_parenthesized-returns-in-Err-clause-place t c =
+    let d = borrowed_view c.args.value.now in
+    let expression = IfErr-weaker c.expression_member.result _ (Locates (node an_expression) d) (λ e h. expression-member words.Parenthesized d c.requires (codes "expr") (node an_expression) e refl h) c.expression_member.ensures.place in
+    of-only (Locates (node an_expression) d) _ c.boxed-expression.result c.in-Err.error c.in-Err.ensures.place (expression-keys words.Parenthesized d c.requires) (λ known. of-boxed (IsBroken whole_form (node an_expression) d) c.boxed-expression.result c.expression_member.result c.boxed-expression.ensures.place expression)
+
+pub read_component-returns-in-Ok-clause-ok : goal.read_component-returns-in-Ok-clause-ok
+read_component-returns-in-Ok-clause-ok t c =
+    let d = borrowed_view c.args.value.now in
+    let known : has_only (known_keys (expression_of words.NamedComponent).row d) d ≡ true = c.in-Ok.ensures.keys in
+    let parts = part _ c.both.result c.in-Ok.ensures.ok c.both.ensures.ok in
+    let base = part _ c.expression_member.result (part _ c.boxed-base.result parts.0 c.boxed-base.ensures.ok) c.expression_member.ensures.ok in
+    let component = part _ c.own_name-component.result parts.1 c.own_name-component.ensures.ok in
+    same-reads (component-reads d _ (string_bytes c.in-Ok.component) _ _ c.requires known base component) (sym (tree-component c.unplaced.result c.in-Ok.base c.in-Ok.component c.unplaced.ensures))
+
+pub read_component-returns-in-Err-clause-place : goal.read_component-returns-in-Err-clause-place
+read_component-returns-in-Err-clause-place t c =
+    let d = borrowed_view c.args.value.now in
+    let base = IfErr-weaker c.expression_member.result _ (Locates (node an_expression) d) (λ e h. expression-member words.NamedComponent d c.requires (codes "base") (node an_expression) e refl h) c.expression_member.ensures.place in
+    let component = IfErr-weaker c.own_name-component.result _ (Locates (node an_expression) d) (λ e h. expression-text words.NamedComponent d c.requires name_in (codes "name") a_name e refl (λ v n. ap (option_map text) n) h) c.own_name-component.ensures.place in
+    let both = of-both (Locates (node an_expression) d) c.both.result c.boxed-base.result c.own_name-component.result c.both.ensures.place (of-boxed (IsBroken whole_form (node an_expression) d) c.boxed-base.result c.expression_member.result c.boxed-base.ensures.place base) component in
+    of-only (Locates (node an_expression) d) _ c.both.result c.in-Err.error c.in-Err.ensures.place (expression-keys words.NamedComponent d c.requires) (λ known. both)
+
+pub read_type_object-arguments_member-template_args-requires : goal.read_type_object-arguments_member-template_args-requires
+read_type_object-arguments_member-template_args-requires t c =
+    (to_next (depth (borrowed_view c.args.value.now)) 3 6 t c.decreases refl, tt)
+
+pub read_type_object-returns-in-Ok-clause-ok : goal.read_type_object-returns-in-Ok-clause-ok
+read_type_object-returns-in-Ok-clause-ok t c =
+    let d = borrowed_view c.args.value.now in
+    let parts = part _ c.both-parts.result c.in-Ok.ensures.ok c.both-parts.ensures.ok in
+    let others = part _ c.both.result parts.1 c.both.ensures.ok in
+    let path = part _ c.optional_path-path.result parts.0 c.optional_path-path.ensures.ok in
+    let ident = part _ c.reference_member-ident.result others.0 c.reference_member-ident.ensures.ok in
+    let template_args = part _ c.arguments_member-template_args.result others.1 c.arguments_member-template_args.ensures.ok in
+    let rows = type-rows d _ _ _ _ _ _ _ (path c.args.numbering.now) ident template_args in
+    record { children = _; is_type = made_type c.in-Ok.path c.in-Ok.others.0 c.in-Ok.others.1; known = c.in-Ok.ensures.keys; row_is = rows.row_is }
+
+pub read_type_object-returns-in-Err-clause-place : goal.read_type_object-returns-in-Err-clause-place
+read_type_object-returns-in-Err-clause-place t c =
+    let d = borrowed_view c.args.value.now in
+    let path = IfErr-weaker c.optional_path-path.result _ (LocatesRow type_row d) (λ e h. row-inside type_row (codes "path") false (leaf a_path) d e refl h) c.optional_path-path.ensures.place in
+    let ident_fault = IfErr-weaker c.reference_member-ident.result _ (LocatesRow type_row d) (λ e h. row-text type_row name_in (codes "name") (an_ident reference) d e refl (λ v n. ap (option_map (ident reference)) n) h) c.reference_member-ident.ensures.place in
+    let template_args = IfErr-weaker c.arguments_member-template_args.result _ (LocatesRow type_row d) (λ e h. row-inside type_row (codes "args") false (list_of list a_template_argument) d e refl h) c.arguments_member-template_args.ensures.place in
+    let others = of-both (LocatesRow type_row d) c.both.result c.reference_member-ident.result c.arguments_member-template_args.result c.both.ensures.place ident_fault template_args in
+    let all = of-both (LocatesRow type_row d) c.both-parts.result c.optional_path-path.result c.both.result c.both-parts.ensures.place path others in
+    of-only (LocatesRow type_row d) _ c.both-parts.result c.in-Err.error c.in-Err.ensures.place (λ e wrong is. row-keys type_row d e wrong is) (λ known. all)
+
+pub read_type_or_identifier-read_type_object-requires : goal.read_type_or_identifier-read_type_object-requires
+read_type_or_identifier-read_type_object-requires t c =
+    (to_next (depth (borrowed_view c.args.value.now)) 6 7 t c.decreases refl, tt)
+
+pub read_type_or_identifier-returns-in-Ok-clause-ok : goal.read_type_or_identifier-returns-in-Ok-clause-ok
+read_type_or_identifier-returns-in-Ok-clause-ok t c =
+    let h = c.in-Ok.ensures.ok in
+    same-reads (type-expression-reads (borrowed_view c.args.value.now) _ _ _ c.requires.object c.requires.unmarked h.known (record { row_is = h.row_is })) (sym (tree-type c.unplaced.result c.in-Ok.ty c.unplaced.ensures ∙ ap (λ u. as_expression (branch type_or_identifier (u ∷ []))) h.is_type))
+
+pub read_type_or_identifier-returns-in-Err-clause-place : goal.read_type_or_identifier-returns-in-Err-clause-place
+read_type_or_identifier-returns-in-Err-clause-place t c =
+    type-expression-place (borrowed_view c.args.value.now) c.in-Err.error c.requires.object c.requires.unmarked c.in-Err.ensures.place
+
+pub read_type-returns-then-is_object-clause-ok : goal.read_type-returns-then-is_object-clause-ok
+read_type-returns-then-is_object-clause-ok t c =
+    let object : is_some (as_object (borrowed_view c.args.value.now)) ≡ true = search rules in
+    IfOk-weaker c.read_type_object.result _ _ (λ e h. same-reads (type-reads (borrowed_view c.args.value.now) _ _ _ object h.known (record { row_is = h.row_is })) (sym h.is_type)) c.read_type_object.ensures.ok
+
+pub read_type-returns-then-is_object-clause-place : goal.read_type-returns-then-is_object-clause-place
+read_type-returns-then-is_object-clause-place t c =
+    let object : is_some (as_object (borrowed_view c.args.value.now)) ≡ true = search rules in
+    IfErr-weaker c.read_type_object.result _ _ (λ e h. type-place (borrowed_view c.args.value.now) e object h) c.read_type_object.ensures.place
+
+pub read_type-returns-else-is_object-clause-ok : goal.read_type-returns-else-is_object-clause-ok
+read_type-returns-else-is_object-clause-ok t c =
+    let no_object : is_some (as_object (borrowed_view c.args.value.now)) ≡ false = search rules in
+    IfOk-weaker c.read_plain_type.result _ _ (λ e h. plain-type-reads (borrowed_view c.args.value.now) (type_view e) c.args.numbering.now c.read_plain_type.new.numbering no_object h) c.read_plain_type.ensures.ok
+
+pub expression_member-returns-in_default-clause-place : goal.expression_member-returns-in_default-clause-place
+expression_member-returns-in_default-clause-place t c =
+    member-lacks c.args.key.now (node an_expression) (borrowed_view c.args.value.now) c.wrong.result (sym c.in_default.ensures) c.wrong.ensures
+
+pub type_member-returns-in_default-clause-place : goal.type_member-returns-in_default-clause-place
+type_member-returns-in_default-clause-place t c =
+    member-lacks c.args.key.now (node a_type) (borrowed_view c.args.value.now) c.wrong.result (sym c.in_default.ensures) c.wrong.ensures

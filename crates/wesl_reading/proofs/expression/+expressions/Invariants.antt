@@ -1,12 +1,10 @@
-use Rattle.std.proofs.Common.{◌+◌, ◌*◌, take, map}
+use Rattle.std.proofs.Common.{◌+◌, ◌*◌}
 use Rattle.serde_json.specs.Data.{depth}
-use Rattle.wesl_borrowed.specs.View.{borrowed_view, items_view}
-use Rattle.wesl_syntax.specs.Tree.{forest_of}
+use Rattle.wesl_borrowed.specs.View.{borrowed_view}
+use Rattle.wesl_syntax.specs.Tree.{list}
 use Rattle.wesl_syntax.specs.View.{argument_view, expression_tree}
-use Rattle.wesl_form.specs.Schema.{node, a_template_argument, an_expression}
-use Rattle.wesl_form.specs.Nodes.{whole_form}
-use Rattle.wesl_form.specs.Reading.{reading, items_in}
-use Rattle.wesl_reading.specs.Numbers.{AreReadAs}
+use Rattle.wesl_form.specs.Schema.{a_template_argument, an_expression}
+use Rattle.wesl_reading.proofs.ReadLists.{IsListRead}
 use Rattle.wesl_reading.proofs.expression.+expressions.Given as goal
 
 abbrev pub decreases-read_expression : goal.decreases-read_expression
@@ -40,7 +38,7 @@ abbrev pub decreases-read_type : goal.decreases-read_type
 decreases-read_type l = 10 * depth (borrowed_view l.value.now) + 8
 
 abbrev pub decreases-read_type_object : goal.decreases-read_type_object
-decreases-read_type_object l = 10 * depth (borrowed_view l.value.now) + 7
+decreases-read_type_object l = 10 * depth (borrowed_view l.value.now) + 6
 
 abbrev pub decreases-expression_member : goal.decreases-expression_member
 decreases-expression_member l = 10 * depth (borrowed_view l.value.now) + 3
@@ -62,8 +60,8 @@ decreases-read_arguments l = 10 * depth (borrowed_view l.value.now) + 2
 
 abbrev pub invariant-read_arguments-loop-index : goal.invariant-read_arguments-loop-index
 invariant-read_arguments-loop-index l =
-    AreReadAs (λ n. items_in (reading whole_form n (node a_template_argument)) (items_view (take l.index l.item-items))) (depth (borrowed_view l.value)) (forest_of (map argument_view l.arguments.items)) l.initial.numbering l.numbering
+    IsListRead argument_view list a_template_argument (borrowed_view l.value) l.item-items l.index l.initial.numbering l.numbering l.arguments
 
 abbrev pub invariant-read_expressions-loop-index : goal.invariant-read_expressions-loop-index
 invariant-read_expressions-loop-index l =
-    AreReadAs (λ n. items_in (reading whole_form n (node an_expression)) (items_view (take l.index l.item-items))) (depth (borrowed_view l.value)) (forest_of (map expression_tree l.expressions.items)) l.initial.numbering l.numbering
+    IsListRead expression_tree list an_expression (borrowed_view l.value) l.item-items l.index l.initial.numbering l.numbering l.expressions

@@ -10,28 +10,24 @@ use Rattle.wesl_reading.proofs.Expressions.{bare-call-keys, bare-call-place, bar
 use Rattle.wesl_reading.proofs.Places.{row-inside, row-member}
 use Rattle.wesl_reading.proofs.Steps.{same-reads}
 use Rattle.wesl_reading.proofs.Trees.{made_call}
-use Rattle.wesl_reading.proofs.Exits.{exit}
+use Rattle.std.proofs.lemmas.Result.{IfErr-weaker}
+use Rattle.wesl_reading.proofs.Wholes.{of-both, of-only, part}
 use Rattle.wesl_reading.proofs.expression.read_call.Goals as goal
 
-pub returns-in_err-check_keys-clause-place : goal.returns-in_err-check_keys-clause-place
-returns-in_err-check_keys-clause-place c =
-    let wrong : has_only (known_keys call_row (borrowed_view c.args.value.now)) (borrowed_view c.args.value.now) ≡ false = c.in_err-check_keys.ensures.err in
-    exit (Locates (node a_call) (borrowed_view c.args.value.now)) c.from_residual.result c.in_err-check_keys.field-0.0 c.from_residual.ensures.1
-    (bare-call-keys (borrowed_view c.args.value.now) c.in_err-check_keys.field-0.0 wrong c.in_err-check_keys.ensures.place)
+pub returns-in-Err-clause-place : goal.returns-in-Err-clause-place
+returns-in-Err-clause-place c =
+    let d = borrowed_view c.args.value.now in
+    of-only (Locates (node a_call) d) _ c.both.result c.in-Err.error c.in-Err.ensures.place
+    (λ e unknown is. let wrong : has_only (known_keys call_row d) d ≡ false = unknown in bare-call-keys d e wrong is)
+    (λ only_known.
+    let ty_fault = IfErr-weaker c.type_member-ty.result _ (Locates (node a_call) d) (λ e h. let known : has_only (known_keys call_row d) d ≡ true = only_known in bare-call-place d e known (row-member call_row (codes "ty") (node a_type) d e refl h)) c.type_member-ty.ensures.place in
+    let arguments_fault = IfErr-weaker c.expressions_member-arguments.result _ (Locates (node a_call) d) (λ e h. let known : has_only (known_keys call_row d) d ≡ true = only_known in bare-call-place d e known (row-inside call_row (codes "args") false (list_of list an_expression) d e refl h)) c.expressions_member-arguments.ensures.place in
+    of-both (Locates (node a_call) d) c.both.result c.type_member-ty.result c.expressions_member-arguments.result c.both.ensures.place ty_fault arguments_fault)
 
-pub returns-in_err-ty-clause-place : goal.returns-in_err-ty-clause-place
-returns-in_err-ty-clause-place c =
-    let known : has_only (known_keys call_row (borrowed_view c.args.value.now)) (borrowed_view c.args.value.now) ≡ true = c.in_ok-check_keys.ensures.ok in
-    exit (Locates (node a_call) (borrowed_view c.args.value.now)) c.from_residual-in_err-ty.result c.in_err-ty.field-0.0 c.from_residual-in_err-ty.ensures.1
-    (bare-call-place (borrowed_view c.args.value.now) c.in_err-ty.field-0.0 known (row-member call_row (codes "ty") (node a_type) (borrowed_view c.args.value.now) c.in_err-ty.field-0.0 refl c.in_err-ty.ensures.place))
-
-pub returns-in_err-arguments-clause-place : goal.returns-in_err-arguments-clause-place
-returns-in_err-arguments-clause-place c =
-    let known : has_only (known_keys call_row (borrowed_view c.args.value.now)) (borrowed_view c.args.value.now) ≡ true = c.in_ok-check_keys.ensures.ok in
-    exit (Locates (node a_call) (borrowed_view c.args.value.now)) c.from_residual-in_err-arguments.result c.in_err-arguments.field-0.0 c.from_residual-in_err-arguments.ensures.1
-    (bare-call-place (borrowed_view c.args.value.now) c.in_err-arguments.field-0.0 known (row-inside call_row (codes "args") false (list_of list an_expression) (borrowed_view c.args.value.now) c.in_err-arguments.field-0.0 refl c.in_err-arguments.ensures.place))
-
-pub returns-clause-ok : goal.returns-clause-ok
-returns-clause-ok c =
-    let known : has_only (known_keys call_row (borrowed_view c.args.value.now)) (borrowed_view c.args.value.now) ≡ true = c.in_ok-check_keys.ensures.ok in
-    same-reads (bare-call-reads (borrowed_view c.args.value.now) _ _ _ known (call-rows (borrowed_view c.args.value.now) _ _ _ _ _ c.in_ok-ty.ensures.ok c.in_ok-arguments.ensures.ok)) (sym (made_call c.in_ok-ty.ty c.in_ok-arguments.arguments))
+pub returns-in-Ok-clause-ok : goal.returns-in-Ok-clause-ok
+returns-in-Ok-clause-ok c =
+    let parts = part _ c.both.result c.in-Ok.ensures.ok c.both.ensures.ok in
+    let ty_read = part _ c.type_member-ty.result parts.0 c.type_member-ty.ensures.ok in
+    let arguments_read = part _ c.expressions_member-arguments.result parts.1 c.expressions_member-arguments.ensures.ok in
+    let known : has_only (known_keys call_row (borrowed_view c.args.value.now)) (borrowed_view c.args.value.now) ≡ true = c.in-Ok.ensures.keys in
+    same-reads (bare-call-reads (borrowed_view c.args.value.now) _ _ _ known (call-rows (borrowed_view c.args.value.now) _ _ _ _ _ ty_read arguments_read)) (sym (made_call c.in-Ok.ty c.in-Ok.arguments))

@@ -5,6 +5,8 @@ use Rattle.wesl_reading.proofs.Members.{plain-type}
 use Rattle.wesl_reading.proofs.Trees.{made_type}
 use Rattle.wesl_reading.proofs.expression.read_plain_type.Goals as goal
 
-pub returns-clause-ok : goal.returns-clause-ok
-returns-clause-ok c =
-    subst (λ t. ReadsPlain (borrowed_view c.args.value.now) t c.args.numbering.now c.number.new.self) (sym (made_type None c.in_ok-number.field-0 None)) (plain-type (borrowed_view c.args.value.now) c.in_ok-name.name.now c.in_ok-number.field-0.0 _ _ c.in_ok-name.ensures.ok c.in_ok-number.ensures.number)
+pub returns-in-Ok-clause-ok : goal.returns-in-Ok-clause-ok
+returns-in-Ok-clause-ok c =
+    let d = borrowed_view c.args.value.now in
+    let named = c.in-Ok.ensures.ok in
+    subst (λ t. ReadsPlain d t c.args.numbering.now c.number_of.new.numbering) (sym (made_type None c.in-Ok.ident None)) (plain-type d named.0 c.in-Ok.ident.0 _ _ named.1 named.2)

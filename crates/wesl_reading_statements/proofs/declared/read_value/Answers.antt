@@ -11,48 +11,31 @@ use Rattle.wesl_reading_statements.proofs.Worded.{same-worded, worded-reads}
 use Rattle.wesl_reading_statements.specs.Forms.{declared_worded, value_kind}
 use Rattle.wesl_syntax.specs.Tree.{attributes, binder, declaration}
 use Rattle.wesl_reading_statements.specs.declared.words.DeclaredWord.TheVariants as declareds
-use Rattle.wesl_reading_statements.proofs.Exits.{exit}
+use Rattle.std.proofs.lemmas.Result.{IfErr-weaker}
+use Rattle.wesl_reading_statements.proofs.Several.{of-four}
+use Rattle.wesl_reading.proofs.Wholes.{of-only, part}
 use Rattle.wesl_reading_statements.proofs.declared.read_value.Goals as goal
 
-pub returns-in_err-check_keys-clause-place : goal.returns-in_err-check_keys-clause-place
-returns-in_err-check_keys-clause-place c =
+pub returns-in-Err-clause-place : goal.returns-in-Err-clause-place
+returns-in-Err-clause-place c =
     let d = borrowed_view c.args.value.now in
-    let e = c.in_err-check_keys.field-0.0 in
-    let wrong : has_only (known_keys (declared_worded (declareds.Value c.args.word)) d) d ≡ false = c.in_err-check_keys.ensures.err in
-    exit (LocatesRow (declared_worded (declareds.Value c.args.word)) d) c.from_residual.result e c.from_residual.ensures.1
-    (row-keys (declared_worded (declareds.Value c.args.word)) d e wrong c.in_err-check_keys.ensures.place)
+    of-only (LocatesRow (declared_worded (declareds.Value c.args.word)) d) _ c.four-parts.result c.in-Err.error c.in-Err.ensures.place
+    (λ e unknown is. let wrong : has_only (known_keys (declared_worded (declareds.Value c.args.word)) d) d ≡ false = unknown in row-keys (declared_worded (declareds.Value c.args.word)) d e wrong is)
+    (λ only_known.
+    let attributes_fault = IfErr-weaker c.attributes_member-attributes.result _ (LocatesRow (declared_worded (declareds.Value c.args.word)) d) (λ e h. row-inside (declared_worded (declareds.Value c.args.word)) (codes "attrs") false (list_of attributes an_attribute) d e refl h) c.attributes_member-attributes.ensures.place in
+    let ident_fault = IfErr-weaker c.binder_member-ident.result _ (LocatesRow (declared_worded (declareds.Value c.args.word)) d) (λ e h. row-member (declared_worded (declareds.Value c.args.word)) (codes "name") (leaf (an_ident binder)) d e refl h) c.binder_member-ident.ensures.place in
+    let ty_fault = IfErr-weaker c.optional_type-ty.result _ (LocatesRow (declared_worded (declareds.Value c.args.word)) d) (λ e h. row-inside (declared_worded (declareds.Value c.args.word)) (codes "ty") false (node a_type) d e refl h) c.optional_type-ty.ensures.place in
+    let initializer_fault = IfErr-weaker c.optional_expression-initializer.result _ (LocatesRow (declared_worded (declareds.Value c.args.word)) d) (λ e h. row-inside (declared_worded (declareds.Value c.args.word)) (codes "init") false (node an_expression) d e refl h) c.optional_expression-initializer.ensures.place in
+    of-four (LocatesRow (declared_worded (declareds.Value c.args.word)) d) c.four-parts.result c.attributes_member-attributes.result c.binder_member-ident.result c.optional_type-ty.result c.optional_expression-initializer.result c.four-parts.ensures.place attributes_fault ident_fault ty_fault initializer_fault)
 
-pub returns-in_err-attributes-clause-place : goal.returns-in_err-attributes-clause-place
-returns-in_err-attributes-clause-place c =
+pub returns-in-Ok-clause-ok : goal.returns-in-Ok-clause-ok
+returns-in-Ok-clause-ok c =
     let d = borrowed_view c.args.value.now in
-    let e = c.in_err-attributes.field-0.0 in
-    exit (LocatesRow (declared_worded (declareds.Value c.args.word)) d) c.from_residual-in_err-attributes.result e c.from_residual-in_err-attributes.ensures.1
-    (row-inside (declared_worded (declareds.Value c.args.word)) (codes "attrs") false (list_of attributes an_attribute) d e refl c.in_err-attributes.ensures.place)
-
-pub returns-in_err-ident-clause-place : goal.returns-in_err-ident-clause-place
-returns-in_err-ident-clause-place c =
-    let d = borrowed_view c.args.value.now in
-    let e = c.in_err-ident.field-0.0 in
-    exit (LocatesRow (declared_worded (declareds.Value c.args.word)) d) c.from_residual-in_err-ident.result e c.from_residual-in_err-ident.ensures.1
-    (row-member (declared_worded (declareds.Value c.args.word)) (codes "name") (leaf (an_ident binder)) d e refl c.in_err-ident.ensures.place)
-
-pub returns-in_err-ty-clause-place : goal.returns-in_err-ty-clause-place
-returns-in_err-ty-clause-place c =
-    let d = borrowed_view c.args.value.now in
-    let e = c.in_err-ty.field-0.0 in
-    exit (LocatesRow (declared_worded (declareds.Value c.args.word)) d) c.from_residual-in_err-ty.result e c.from_residual-in_err-ty.ensures.1
-    (row-inside (declared_worded (declareds.Value c.args.word)) (codes "ty") false (node a_type) d e refl c.in_err-ty.ensures.place)
-
-pub returns-in_err-initializer-clause-place : goal.returns-in_err-initializer-clause-place
-returns-in_err-initializer-clause-place c =
-    let d = borrowed_view c.args.value.now in
-    let e = c.in_err-initializer.field-0.0 in
-    exit (LocatesRow (declared_worded (declareds.Value c.args.word)) d) c.from_residual-in_err-initializer.result e c.from_residual-in_err-initializer.ensures.1
-    (row-inside (declared_worded (declareds.Value c.args.word)) (codes "init") false (node an_expression) d e refl c.in_err-initializer.ensures.place)
-
-pub returns-clause-ok : goal.returns-clause-ok
-returns-clause-ok c =
-    let d = borrowed_view c.args.value.now in
-    let known : has_only (known_keys (declared_worded (declareds.Value c.args.word)) d) d ≡ true = c.in_ok-check_keys.ensures.ok in
-    let rest = (needs-then c.in_ok-ident.ensures.ok (may-then c.in_ok-ty.ensures.ok (may-then c.in_ok-initializer.ensures.ok (none-then d _)))) in
-    same-worded (worded-reads known (plain-kind declaration) refl (many-then c.in_ok-attributes.ensures.ok (inner-then (plain-kind (value_kind c.args.word)) refl (none-then d _) rest))) (search rules)
+    let parts = part _ c.four-parts.result c.in-Ok.ensures.ok c.four-parts.ensures.ok in
+    let attributes_read = part _ c.attributes_member-attributes.result parts.0 c.attributes_member-attributes.ensures.ok in
+    let ident_read = part _ c.binder_member-ident.result parts.1 c.binder_member-ident.ensures.ok in
+    let ty_read = part _ c.optional_type-ty.result parts.2 c.optional_type-ty.ensures.ok in
+    let initializer_read = part _ c.optional_expression-initializer.result parts.3 c.optional_expression-initializer.ensures.ok in
+    let known : has_only (known_keys (declared_worded (declareds.Value c.args.word)) d) d ≡ true = c.in-Ok.ensures.keys in
+    let rest = (needs-then ident_read (may-then ty_read (may-then initializer_read (none-then d _)))) in
+    same-worded (worded-reads known (plain-kind declaration) refl (many-then attributes_read (inner-then (plain-kind (value_kind c.args.word)) refl (none-then d _) rest))) (search rules)

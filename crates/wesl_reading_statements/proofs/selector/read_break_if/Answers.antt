@@ -9,35 +9,25 @@ use Rattle.wesl_reading.proofs.Places.{row-inside, row-member}
 use Rattle.wesl_reading.proofs.Steps.{many-then, needs-then, none-then}
 use Rattle.wesl_reading.specs.Faults.{Locates}
 use Rattle.wesl_syntax.specs.Tree.{attributes, break_if}
-use Rattle.wesl_reading_statements.proofs.Exits.{exit}
+use Rattle.std.proofs.lemmas.Result.{IfErr-weaker}
+use Rattle.wesl_reading.proofs.Wholes.{of-both, of-only, part}
 use Rattle.wesl_reading_statements.proofs.selector.read_break_if.Goals as goal
 
-pub returns-in_err-check_keys-clause-place : goal.returns-in_err-check_keys-clause-place
-returns-in_err-check_keys-clause-place c =
+pub returns-in-Err-clause-place : goal.returns-in-Err-clause-place
+returns-in-Err-clause-place c =
     let d = borrowed_view c.args.value.now in
-    let e = c.in_err-check_keys.field-0.0 in
-    let wrong : has_only (known_keys (attrs operand) d) d ≡ false = c.in_err-check_keys.ensures.err in
-    exit (Locates (node a_break_if) d) c.from_residual.result e c.from_residual.ensures.1
-    (bare-keys a_break_if break_if (attrs operand) d refl e refl wrong c.in_err-check_keys.ensures.place)
+    of-only (Locates (node a_break_if) d) _ c.both-parts.result c.in-Err.error c.in-Err.ensures.place
+    (λ e unknown is. let wrong : has_only (known_keys (attrs operand) d) d ≡ false = unknown in bare-keys a_break_if break_if (attrs operand) d refl e refl wrong is)
+    (λ only_known.
+    let attributes_fault = IfErr-weaker c.attributes_member-attributes.result _ (Locates (node a_break_if) d) (λ e h. let known : has_only (known_keys (attrs operand) d) d ≡ true = only_known in bare-place a_break_if break_if (attrs operand) d refl e known (row-inside (attrs operand) (codes "attrs") false (list_of attributes an_attribute) d e refl h)) c.attributes_member-attributes.ensures.place in
+    let expression_fault = IfErr-weaker c.expression_member-expression.result _ (Locates (node a_break_if) d) (λ e h. let known : has_only (known_keys (attrs operand) d) d ≡ true = only_known in bare-place a_break_if break_if (attrs operand) d refl e known (row-member (attrs operand) (codes "expr") (node an_expression) d e refl h)) c.expression_member-expression.ensures.place in
+    of-both (Locates (node a_break_if) d) c.both-parts.result c.attributes_member-attributes.result c.expression_member-expression.result c.both-parts.ensures.place attributes_fault expression_fault)
 
-pub returns-in_err-attributes-clause-place : goal.returns-in_err-attributes-clause-place
-returns-in_err-attributes-clause-place c =
+pub returns-in-Ok-clause-ok : goal.returns-in-Ok-clause-ok
+returns-in-Ok-clause-ok c =
     let d = borrowed_view c.args.value.now in
-    let e = c.in_err-attributes.field-0.0 in
-    let known : has_only (known_keys (attrs operand) d) d ≡ true = c.in_ok-check_keys.ensures.ok in
-    exit (Locates (node a_break_if) d) c.from_residual-in_err-attributes.result e c.from_residual-in_err-attributes.ensures.1
-    (bare-place a_break_if break_if (attrs operand) d refl e known (row-inside (attrs operand) (codes "attrs") false (list_of attributes an_attribute) d e refl c.in_err-attributes.ensures.place))
-
-pub returns-in_err-expression-clause-place : goal.returns-in_err-expression-clause-place
-returns-in_err-expression-clause-place c =
-    let d = borrowed_view c.args.value.now in
-    let e = c.in_err-expression.field-0.0 in
-    let known : has_only (known_keys (attrs operand) d) d ≡ true = c.in_ok-check_keys.ensures.ok in
-    exit (Locates (node a_break_if) d) c.from_residual-in_err-expression.result e c.from_residual-in_err-expression.ensures.1
-    (bare-place a_break_if break_if (attrs operand) d refl e known (row-member (attrs operand) (codes "expr") (node an_expression) d e refl c.in_err-expression.ensures.place))
-
-pub returns-clause-ok : goal.returns-clause-ok
-returns-clause-ok c =
-    let d = borrowed_view c.args.value.now in
-    let known : has_only (known_keys (attrs operand) d) d ≡ true = c.in_ok-check_keys.ensures.ok in
-    bare-reads a_break_if break_if (attrs operand) d refl _ _ _ known (many-then c.in_ok-attributes.ensures.ok (needs-then c.in_ok-expression.ensures.ok (none-then d _)))
+    let parts = part _ c.both-parts.result c.in-Ok.ensures.ok c.both-parts.ensures.ok in
+    let attributes_read = part _ c.attributes_member-attributes.result parts.0 c.attributes_member-attributes.ensures.ok in
+    let expression_read = part _ c.expression_member-expression.result parts.1 c.expression_member-expression.ensures.ok in
+    let known : has_only (known_keys (attrs operand) d) d ≡ true = c.in-Ok.ensures.keys in
+    bare-reads a_break_if break_if (attrs operand) d refl _ _ _ known (many-then attributes_read (needs-then expression_read (none-then d _)))

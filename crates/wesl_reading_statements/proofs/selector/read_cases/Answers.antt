@@ -1,31 +1,27 @@
-use Rattle.serde_json.specs.Data.{depth, items_depth}
+use Rattle.std.proofs.Common.{sym, ap, ◌∙◌, Some, ◌≡◌}
 use Rattle.serde_json.specs.Find.{as_array}
 use Rattle.wesl_borrowed.specs.View.{borrowed_view, items_view}
-use Rattle.std.proofs.Common.{sym, ap, ◌∙◌, Some, arith, ◌<◌, ◌≡◌, ◌≤◌}
 use Rattle.wesl_form.specs.Schema.{a_case}
-use Rattle.wesl_reading.proofs.Depths.{array-depth, item-at, item-depth}
-use Rattle.wesl_reading.proofs.Lists.{items-turn, items-whole}
-use Rattle.wesl_reading.proofs.Places.{item-under}
 use Rattle.wesl_syntax.specs.Tree.{list}
 use Rattle.wesl_syntax.specs.View.{selector_view}
+use Rattle.wesl_reading.proofs.ReadLists.{list-none, list-turn, list-whole}
 use Rattle.wesl_reading_statements.proofs.selector.read_cases.Goals as goal
 
-pub returns-in-Err-clause-place : goal.returns-in-Err-clause-place
-returns-in-Err-clause-place c =
-    let vs = c.deref-item-items.result.now in
-    let is : as_array (borrowed_view c.args.value.now) ≡ Some (items_view vs) = sym c.in-Some.ensures ∙ ap (λ l. Some (items_view l)) (sym c.deref-item-items.ensures.value) in
-    item-under list a_case c.loop-index.index (borrowed_view c.args.value.now) (borrowed_view c.item-item.result) c.in-Err.error c.under_index.result (item-at _ vs c.loop-index.index c.item-item.result is c.loop-index-test.true c.item-item.is) c.in-Err.ensures.place c.under_index.ensures
+pub loop-index-init : goal.loop-index-init
+loop-index-init c =
+    list-none selector_view list a_case (borrowed_view c.args.value.now) c.deref-item-items.result.now c.args.numbering.now c.room-cases.result c.room-cases.ensures.ok c.room-cases.ensures.refused
 
 pub loop-index-preserved : goal.loop-index-preserved
 loop-index-preserved c =
     let vs = c.deref-item-items.result.now in
     let is : as_array (borrowed_view c.args.value.now) ≡ Some (items_view vs) = sym c.in-Some.ensures ∙ ap (λ l. Some (items_view l)) (sym c.deref-item-items.ensures.value) in
-    let below : depth (borrowed_view c.item-item.result) ≤ items_depth (items_view vs) = item-depth vs c.loop-index.index c.item-item.result c.loop-index-test.true c.item-item.is in
-    let deep : items_depth (items_view vs) < depth (borrowed_view c.args.value.now) = array-depth _ _ is in
-    items-turn selector_view a_case vs c.loop-index.index c.item-item.result (depth (borrowed_view c.args.value.now)) c.args.numbering.now c.loop-index.numbering c.read_case.new.numbering c.loop-index.cases.items c.push.new.self.items c.in-Ok.case c.loop-index-test.true c.item-item.is c.in_ok-push-in-Ok.ensures.items (omega arith) c.loop-index.invariant c.in-Ok.ensures.ok.form
+    list-turn selector_view list a_case (borrowed_view c.args.value.now) vs is c.loop-index.index c.item-item.result c.args.numbering.now c.loop-index.numbering c.read_case-case.new.numbering c.loop-index.cases c.read_case-case.result c.loop-index-test.true c.item-item.is c.loop-index.invariant c.with_item-cases.result c.read_case-case.ensures.ok c.read_case-case.ensures.place c.with_item-cases.ensures.ok c.with_item-cases.ensures.place
 
 pub returns-clause-ok : goal.returns-clause-ok
 returns-clause-ok c =
     let vs = c.deref-item-items.result.now in
     let is : as_array (borrowed_view c.args.value.now) ≡ Some (items_view vs) = sym c.in-Some.ensures ∙ ap (λ l. Some (items_view l)) (sym c.deref-item-items.ensures.value) in
-    record { form = items-whole list a_case (borrowed_view c.args.value.now) vs c.loop-index.index _ _ _ is c.loop-index-test.false c.loop-index.invariant }
+    list-whole selector_view list a_case (borrowed_view c.args.value.now) vs is c.loop-index.index _ _ c.loop-index.cases c.loop-index-test.false c.loop-index.invariant
+
+pub returns-clause-place : goal.returns-clause-place
+returns-clause-place c = c.loop-index.invariant.1

@@ -13,47 +13,30 @@ use Rattle.wesl_reading_statements.proofs.Worded.{same-worded, worded-reads}
 use Rattle.wesl_reading_statements.specs.Forms.{statement_worded}
 use Rattle.wesl_syntax.specs.Tree.{attributes}
 use Rattle.wesl_reading_statements.specs.declared.words.StatementWord.TheVariants as stated
-use Rattle.wesl_reading_statements.proofs.Exits.{exit}
+use Rattle.std.proofs.lemmas.Result.{IfErr-weaker}
+use Rattle.wesl_reading_statements.proofs.Several.{of-four}
+use Rattle.wesl_reading.proofs.Wholes.{of-only, part}
 use Rattle.wesl_reading_statements.proofs.simple.read_assignment.Goals as goal
 
-pub returns-in_err-check_keys-clause-place : goal.returns-in_err-check_keys-clause-place
-returns-in_err-check_keys-clause-place c =
+pub returns-in-Err-clause-place : goal.returns-in-Err-clause-place
+returns-in-Err-clause-place c =
     let d = borrowed_view c.args.value.now in
-    let e = c.in_err-check_keys.field-0.0 in
-    let wrong : has_only (known_keys (statement_worded stated.Assign) d) d ≡ false = c.in_err-check_keys.ensures.err in
-    exit (LocatesRow (statement_worded stated.Assign) d) c.from_residual.result e c.from_residual.ensures.1
-    (row-keys (statement_worded stated.Assign) d e wrong c.in_err-check_keys.ensures.place)
+    of-only (LocatesRow (statement_worded stated.Assign) d) _ c.four-parts.result c.in-Err.error c.in-Err.ensures.place
+    (λ e unknown is. let wrong : has_only (known_keys (statement_worded stated.Assign) d) d ≡ false = unknown in row-keys (statement_worded stated.Assign) d e wrong is)
+    (λ only_known.
+    let operator_fault = IfErr-weaker c.assignment_member-operator.result _ (LocatesRow (statement_worded stated.Assign) d) (λ e h. row-text (statement_worded stated.Assign) (word_in assignment_words) (codes "op") (one_of assignment_words) d e refl (λ v h. h) h) c.assignment_member-operator.ensures.place in
+    let attributes_fault = IfErr-weaker c.attributes_member-attributes.result _ (LocatesRow (statement_worded stated.Assign) d) (λ e h. row-inside (statement_worded stated.Assign) (codes "attrs") false (list_of attributes an_attribute) d e refl h) c.attributes_member-attributes.ensures.place in
+    let lhs_fault = IfErr-weaker c.expression_member-lhs.result _ (LocatesRow (statement_worded stated.Assign) d) (λ e h. row-member (statement_worded stated.Assign) (codes "lhs") (node an_expression) d e refl h) c.expression_member-lhs.ensures.place in
+    let rhs_fault = IfErr-weaker c.expression_member-rhs.result _ (LocatesRow (statement_worded stated.Assign) d) (λ e h. row-member (statement_worded stated.Assign) (codes "rhs") (node an_expression) d e refl h) c.expression_member-rhs.ensures.place in
+    of-four (LocatesRow (statement_worded stated.Assign) d) c.four-parts.result c.assignment_member-operator.result c.attributes_member-attributes.result c.expression_member-lhs.result c.expression_member-rhs.result c.four-parts.ensures.place operator_fault attributes_fault lhs_fault rhs_fault)
 
-pub returns-in_err-operator-clause-place : goal.returns-in_err-operator-clause-place
-returns-in_err-operator-clause-place c =
+pub returns-in-Ok-clause-ok : goal.returns-in-Ok-clause-ok
+returns-in-Ok-clause-ok c =
     let d = borrowed_view c.args.value.now in
-    let e = c.in_err-operator.field-0.0 in
-    exit (LocatesRow (statement_worded stated.Assign) d) c.from_residual-in_err-operator.result e c.from_residual-in_err-operator.ensures.1
-    (row-text (statement_worded stated.Assign) (word_in assignment_words) (codes "op") (one_of assignment_words) d e refl (λ v h. h) c.in_err-operator.ensures.place)
-
-pub returns-in_err-attributes-clause-place : goal.returns-in_err-attributes-clause-place
-returns-in_err-attributes-clause-place c =
-    let d = borrowed_view c.args.value.now in
-    let e = c.in_err-attributes.field-0.0 in
-    exit (LocatesRow (statement_worded stated.Assign) d) c.from_residual-in_err-attributes.result e c.from_residual-in_err-attributes.ensures.1
-    (row-inside (statement_worded stated.Assign) (codes "attrs") false (list_of attributes an_attribute) d e refl c.in_err-attributes.ensures.place)
-
-pub returns-in_err-lhs-clause-place : goal.returns-in_err-lhs-clause-place
-returns-in_err-lhs-clause-place c =
-    let d = borrowed_view c.args.value.now in
-    let e = c.in_err-lhs.field-0.0 in
-    exit (LocatesRow (statement_worded stated.Assign) d) c.from_residual-in_err-lhs.result e c.from_residual-in_err-lhs.ensures.1
-    (row-member (statement_worded stated.Assign) (codes "lhs") (node an_expression) d e refl c.in_err-lhs.ensures.place)
-
-pub returns-in_err-rhs-clause-place : goal.returns-in_err-rhs-clause-place
-returns-in_err-rhs-clause-place c =
-    let d = borrowed_view c.args.value.now in
-    let e = c.in_err-rhs.field-0.0 in
-    exit (LocatesRow (statement_worded stated.Assign) d) c.from_residual-in_err-rhs.result e c.from_residual-in_err-rhs.ensures.1
-    (row-member (statement_worded stated.Assign) (codes "rhs") (node an_expression) d e refl c.in_err-rhs.ensures.place)
-
-pub returns-clause-ok : goal.returns-clause-ok
-returns-clause-ok c =
-    let d = borrowed_view c.args.value.now in
-    let known : has_only (known_keys (statement_worded stated.Assign) d) d ≡ true = c.in_ok-check_keys.ensures.ok in
-    same-worded (worded-reads known (plain-assignment c.in_ok-operator.operator) c.in_ok-operator.ensures.ok (many-then c.in_ok-attributes.ensures.ok (needs-then c.in_ok-lhs.ensures.ok (needs-then c.in_ok-rhs.ensures.ok (none-then d _))))) (sym (view-assignment c.in_ok-attributes.attributes c.in_ok-operator.operator c.in_ok-lhs.lhs c.in_ok-rhs.rhs))
+    let parts = part _ c.four-parts.result c.in-Ok.ensures.ok c.four-parts.ensures.ok in
+    let operator_read = part _ c.assignment_member-operator.result parts.0 c.assignment_member-operator.ensures.ok in
+    let attributes_read = part _ c.attributes_member-attributes.result parts.1 c.attributes_member-attributes.ensures.ok in
+    let lhs_read = part _ c.expression_member-lhs.result parts.2 c.expression_member-lhs.ensures.ok in
+    let rhs_read = part _ c.expression_member-rhs.result parts.3 c.expression_member-rhs.ensures.ok in
+    let known : has_only (known_keys (statement_worded stated.Assign) d) d ≡ true = c.in-Ok.ensures.keys in
+    same-worded (worded-reads known (plain-assignment c.in-Ok.operator) operator_read (many-then attributes_read (needs-then lhs_read (needs-then rhs_read (none-then d _))))) (sym (view-assignment c.in-Ok.attributes c.in-Ok.operator c.in-Ok.lhs c.in-Ok.rhs))

@@ -12,26 +12,22 @@ use Rattle.wesl_reading_statements.proofs.Worded.{same-worded, worded-reads}
 use Rattle.wesl_reading_statements.specs.Forms.{statement_worded}
 use Rattle.wesl_syntax.specs.Tree.{attributes, discard}
 use Rattle.wesl_reading_statements.specs.declared.words.StatementWord.TheVariants as stated
-use Rattle.wesl_reading_statements.proofs.Exits.{exit}
+use Rattle.std.proofs.lemmas.Result.{IfErr-weaker}
+use Rattle.wesl_reading.proofs.Wholes.{of-only, part}
 use Rattle.wesl_reading_statements.proofs.simple.read_discard.Goals as goal
 
-pub returns-in_err-check_keys-clause-place : goal.returns-in_err-check_keys-clause-place
-returns-in_err-check_keys-clause-place c =
+pub returns-in-Err-clause-place : goal.returns-in-Err-clause-place
+returns-in-Err-clause-place c =
     let d = borrowed_view c.args.value.now in
-    let e = c.in_err-check_keys.field-0.0 in
-    let wrong : has_only (known_keys (statement_worded stated.Discard) d) d ≡ false = c.in_err-check_keys.ensures.err in
-    exit (LocatesRow (statement_worded stated.Discard) d) c.from_residual.result e c.from_residual.ensures.1
-    (row-keys (statement_worded stated.Discard) d e wrong c.in_err-check_keys.ensures.place)
+    of-only (LocatesRow (statement_worded stated.Discard) d) _ c.attributes_member-attributes.result c.in-Err.error c.in-Err.ensures.place
+    (λ e unknown is. let wrong : has_only (known_keys (statement_worded stated.Discard) d) d ≡ false = unknown in row-keys (statement_worded stated.Discard) d e wrong is)
+    (λ only_known.
+    let attributes_fault = IfErr-weaker c.attributes_member-attributes.result _ (LocatesRow (statement_worded stated.Discard) d) (λ e h. row-inside (statement_worded stated.Discard) (codes "attrs") false (list_of attributes an_attribute) d e refl h) c.attributes_member-attributes.ensures.place in
+    attributes_fault)
 
-pub returns-in_err-attributes-clause-place : goal.returns-in_err-attributes-clause-place
-returns-in_err-attributes-clause-place c =
+pub returns-in-Ok-clause-ok : goal.returns-in-Ok-clause-ok
+returns-in-Ok-clause-ok c =
     let d = borrowed_view c.args.value.now in
-    let e = c.in_err-attributes.field-0.0 in
-    exit (LocatesRow (statement_worded stated.Discard) d) c.from_residual-in_err-attributes.result e c.from_residual-in_err-attributes.ensures.1
-    (row-inside (statement_worded stated.Discard) (codes "attrs") false (list_of attributes an_attribute) d e refl c.in_err-attributes.ensures.place)
-
-pub returns-clause-ok : goal.returns-clause-ok
-returns-clause-ok c =
-    let d = borrowed_view c.args.value.now in
-    let known : has_only (known_keys (statement_worded stated.Discard) d) d ≡ true = c.in_ok-check_keys.ensures.ok in
-    same-worded (worded-reads known (plain-kind discard) refl (many-then c.in_ok-attributes.ensures.ok (none-then d _))) (sym (view-discard c.in_ok-attributes.attributes))
+    let attributes_read = part _ c.attributes_member-attributes.result c.in-Ok.ensures.ok c.attributes_member-attributes.ensures.ok in
+    let known : has_only (known_keys (statement_worded stated.Discard) d) d ≡ true = c.in-Ok.ensures.keys in
+    same-worded (worded-reads known (plain-kind discard) refl (many-then attributes_read (none-then d _))) (sym (view-discard c.in-Ok.attributes))

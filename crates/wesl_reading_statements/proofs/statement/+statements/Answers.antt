@@ -1,20 +1,18 @@
-use Rattle.wesl_names.specs.declared.errors.Error as error
-use Rattle.wesl_reading_statements.proofs.Exits.{exit, no_list, no_value, none_listed, none_read, same_word, same_word_place, to_member, to_next}
+use Rattle.wesl_reading_statements.proofs.Exits.{exit, no_list, no_value, none_listed, same_word, same_word_place, to_member, to_next}
 use Rattle.serde_json.specs.Data.{depth, items_depth}
 use Rattle.serde_json.specs.Find.{as_array, get}
 use Rattle.wesl_borrowed.specs.View.{borrowed_view, items_view}
-use Rattle.std.proofs.Common.{Some, ap, ◌∙◌, arith, codes, false, refl, rules, subst, sym, true, ◌<◌, ◌≡◌, ◌≤◌}
+use Rattle.std.proofs.Common.{Some, ap, ◌∙◌, arith, codes, false, refl, subst, sym, true, ◌<◌, ◌≡◌, ◌≤◌}
 use Rattle.wesl_form.specs.Nodes.{attrs, body_row, condition_row}
 use Rattle.wesl_form.specs.Reading.{known_keys}
 use Rattle.wesl_pointer.specs.Keys.{has_only}
 use Rattle.wesl_form.specs.Schema.{a_body, a_break_if, a_case, a_clause, a_continuing, a_statement, an_attribute, an_elif, an_else, an_expression, list_of, many, may, needs, node, nothing}
-use Rattle.wesl_reading.proofs.Depths.{array-depth, get-depth, item-at, item-depth}
+use Rattle.wesl_reading.proofs.Depths.{array-depth, get-depth, item-depth}
 use Rattle.wesl_reading.proofs.Expressions.{bare-keys, bare-place, bare-reads}
-use Rattle.wesl_reading.proofs.Lists.{items-turn, items-whole}
-use Rattle.wesl_reading.proofs.Places.{member-lacks, inside-under, item-under, member-inside, row-inside, row-keys, row-member}
+use Rattle.wesl_reading.proofs.Places.{member-lacks, inside-under, member-inside, row-inside, row-keys, row-member}
 use Rattle.wesl_reading.proofs.Rows.{plain-kind}
 use Rattle.wesl_reading.proofs.Steps.{may-absent, inner-then, many-then, many-there, may-then, may-there, needed-there, needs-then, none-then, same-reads}
-use Rattle.wesl_reading.specs.Faults.{Locates, LocatesInside, LocatesMember, LocatesRow}
+use Rattle.wesl_reading.specs.Faults.{Locates, LocatesRow}
 use Rattle.wesl_reading_statements.proofs.Named.{statement-looked, statement-marked}
 use Rattle.wesl_reading_statements.proofs.Views.{made-block, made-clause, made-continuing, made-elif, made-else, view-block, view-for, view-if, view-loop, view-switch, view-while}
 use Rattle.wesl_reading_statements.proofs.Worded.{node-place, node-reads, same-worded, worded-reads}
@@ -24,289 +22,28 @@ use Rattle.wesl_syntax.specs.View.{clause_view, else_if_view, statement_tree, st
 use Rattle.wesl_reading_statements.specs.declared.words.StatementWord.TheVariants as stated
 use Rattle.wesl_form.specs.Nodes.{statement_words}
 use Rattle.wesl_reading_statements.specs.Forms.{statement_head, statement_row}
+use Rattle.std.proofs.lemmas.Result.{IfErr-at_err, IfErr-weaker}
+use Rattle.wesl_reading.proofs.Wholes.{of-both, of-boxed, of-only, part}
+use Rattle.wesl_reading_statements.proofs.Several.{of-three, of-four, of-five}
+use Rattle.wesl_reading.proofs.ReadLists.{list-none, list-turn, list-whole}
+use Rattle.wesl_form.specs.Nodes.{whole_form}
+use Rattle.wesl_form.specs.Place.{IsBroken}
+use Rattle.wesl_reading.proofs.Places.{member-lacks}
 use Rattle.wesl_reading_statements.proofs.statement.+statements.Goals as goal
-
-pub read_block-returns-in_err-check_keys-clause-place : goal.read_block-returns-in_err-check_keys-clause-place
-read_block-returns-in_err-check_keys-clause-place t c =
-    let d = borrowed_view c.args.value.now in
-    let e = c.in_err-check_keys.field-0.0 in
-    let wrong : has_only (known_keys (statement_worded stated.Block) d) d ≡ false = c.in_err-check_keys.ensures.err in
-    exit (LocatesRow (statement_worded stated.Block) d) c.from_residual.result e c.from_residual.ensures.1
-    (row-keys (statement_worded stated.Block) d e wrong c.in_err-check_keys.ensures.place)
-
-pub read_block-returns-in_err-attributes-clause-place : goal.read_block-returns-in_err-attributes-clause-place
-read_block-returns-in_err-attributes-clause-place t c =
-    let d = borrowed_view c.args.value.now in
-    let e = c.in_err-attributes.field-0.0 in
-    exit (LocatesRow (statement_worded stated.Block) d) c.from_residual-in_err-attributes.result e c.from_residual-in_err-attributes.ensures.1
-    (row-inside (statement_worded stated.Block) (codes "attrs") false (list_of attributes an_attribute) d e refl c.in_err-attributes.ensures.place)
-
-pub read_block-returns-in_err-statements-clause-place : goal.read_block-returns-in_err-statements-clause-place
-read_block-returns-in_err-statements-clause-place t c =
-    let d = borrowed_view c.args.value.now in
-    let e = c.in_err-statements.field-0.0 in
-    exit (LocatesRow (statement_worded stated.Block) d) c.from_residual-in_err-statements.result e c.from_residual-in_err-statements.ensures.1
-    (row-inside (statement_worded stated.Block) (codes "stmts") false (list_of statements a_statement) d e refl c.in_err-statements.ensures.place)
-
-pub read_block-returns-clause-ok : goal.read_block-returns-clause-ok
-read_block-returns-clause-ok t c =
-    let d = borrowed_view c.args.value.now in
-    let known : has_only (known_keys (statement_worded stated.Block) d) d ≡ true = c.in_ok-check_keys.ensures.ok in
-    same-worded (worded-reads known (plain-kind compound_statement) refl (inner-then (plain-kind compound) refl (many-then c.in_ok-attributes.ensures.ok (many-then c.in_ok-statements.ensures.ok (none-then d _))) (none-then d _))) (sym (view-block c.in_ok-attributes.attributes c.in_ok-statements.statements))
-
-pub read_if-returns-in_err-check_keys-clause-place : goal.read_if-returns-in_err-check_keys-clause-place
-read_if-returns-in_err-check_keys-clause-place t c =
-    let d = borrowed_view c.args.value.now in
-    let e = c.in_err-check_keys.field-0.0 in
-    let wrong : has_only (known_keys (statement_worded stated.If) d) d ≡ false = c.in_err-check_keys.ensures.err in
-    exit (LocatesRow (statement_worded stated.If) d) c.from_residual.result e c.from_residual.ensures.1
-    (row-keys (statement_worded stated.If) d e wrong c.in_err-check_keys.ensures.place)
-
-pub read_if-returns-in_err-attributes-clause-place : goal.read_if-returns-in_err-attributes-clause-place
-read_if-returns-in_err-attributes-clause-place t c =
-    let d = borrowed_view c.args.value.now in
-    let e = c.in_err-attributes.field-0.0 in
-    exit (LocatesRow (statement_worded stated.If) d) c.from_residual-in_err-attributes.result e c.from_residual-in_err-attributes.ensures.1
-    (row-inside (statement_worded stated.If) (codes "attrs") false (list_of attributes an_attribute) d e refl c.in_err-attributes.ensures.place)
-
-pub read_if-returns-in_err-expression-clause-place : goal.read_if-returns-in_err-expression-clause-place
-read_if-returns-in_err-expression-clause-place t c =
-    let d = borrowed_view c.args.value.now in
-    let e = c.in_err-expression.field-0.0 in
-    exit (LocatesRow (statement_worded stated.If) d) c.from_residual-in_err-expression.result e c.from_residual-in_err-expression.ensures.1
-    (row-member (statement_worded stated.If) (codes "cond") (node an_expression) d e refl c.in_err-expression.ensures.place)
-
-pub read_if-returns-in_err-body-clause-place : goal.read_if-returns-in_err-body-clause-place
-read_if-returns-in_err-body-clause-place t c =
-    let d = borrowed_view c.args.value.now in
-    let e = c.in_err-body.field-0.0 in
-    exit (LocatesRow (statement_worded stated.If) d) c.from_residual-in_err-body.result e c.from_residual-in_err-body.ensures.1
-    (row-member (statement_worded stated.If) (codes "body") (node a_body) d e refl c.in_err-body.ensures.place)
-
-pub read_if-returns-in_err-else_if_clauses-clause-place : goal.read_if-returns-in_err-else_if_clauses-clause-place
-read_if-returns-in_err-else_if_clauses-clause-place t c =
-    let d = borrowed_view c.args.value.now in
-    let e = c.in_err-else_if_clauses.field-0.0 in
-    exit (LocatesRow (statement_worded stated.If) d) c.from_residual-in_err-else_if_clauses.result e c.from_residual-in_err-else_if_clauses.ensures.1
-    (row-inside (statement_worded stated.If) (codes "elifs") false (list_of list an_elif) d e refl c.in_err-else_if_clauses.ensures.place)
-
-pub read_if-returns-in_err-else_clause-clause-place : goal.read_if-returns-in_err-else_clause-clause-place
-read_if-returns-in_err-else_clause-clause-place t c =
-    let d = borrowed_view c.args.value.now in
-    let e = c.in_err-else_clause.field-0.0 in
-    exit (LocatesRow (statement_worded stated.If) d) c.from_residual-in_err-else_clause.result e c.from_residual-in_err-else_clause.ensures.1
-    (row-inside (statement_worded stated.If) (codes "else") false (node an_else) d e refl c.in_err-else_clause.ensures.place)
-
-pub read_if-returns-clause-ok : goal.read_if-returns-clause-ok
-read_if-returns-clause-ok t c =
-    let d = borrowed_view c.args.value.now in
-    let known : has_only (known_keys (statement_worded stated.If) d) d ≡ true = c.in_ok-check_keys.ensures.ok in
-    same-worded (worded-reads known (plain-kind if_statement) refl (many-then c.in_ok-attributes.ensures.ok (inner-then (plain-kind if_clause) refl (needs-then c.in_ok-expression.ensures.ok (needs-then c.in_ok-body.ensures.ok (none-then d _))) (many-then c.in_ok-else_if_clauses.ensures.ok (may-then c.in_ok-else_clause.ensures.ok (none-then d _)))))) (sym (view-if c.in_ok-attributes.attributes c.in_ok-expression.expression c.in_ok-body.body c.in_ok-else_if_clauses.else_if_clauses c.in_ok-else_clause.else_clause))
-
-pub read_switch-returns-in_err-check_keys-clause-place : goal.read_switch-returns-in_err-check_keys-clause-place
-read_switch-returns-in_err-check_keys-clause-place t c =
-    let d = borrowed_view c.args.value.now in
-    let e = c.in_err-check_keys.field-0.0 in
-    let wrong : has_only (known_keys (statement_worded stated.Switch) d) d ≡ false = c.in_err-check_keys.ensures.err in
-    exit (LocatesRow (statement_worded stated.Switch) d) c.from_residual.result e c.from_residual.ensures.1
-    (row-keys (statement_worded stated.Switch) d e wrong c.in_err-check_keys.ensures.place)
-
-pub read_switch-returns-in_err-attributes-clause-place : goal.read_switch-returns-in_err-attributes-clause-place
-read_switch-returns-in_err-attributes-clause-place t c =
-    let d = borrowed_view c.args.value.now in
-    let e = c.in_err-attributes.field-0.0 in
-    exit (LocatesRow (statement_worded stated.Switch) d) c.from_residual-in_err-attributes.result e c.from_residual-in_err-attributes.ensures.1
-    (row-inside (statement_worded stated.Switch) (codes "attrs") false (list_of attributes an_attribute) d e refl c.in_err-attributes.ensures.place)
-
-pub read_switch-returns-in_err-expression-clause-place : goal.read_switch-returns-in_err-expression-clause-place
-read_switch-returns-in_err-expression-clause-place t c =
-    let d = borrowed_view c.args.value.now in
-    let e = c.in_err-expression.field-0.0 in
-    exit (LocatesRow (statement_worded stated.Switch) d) c.from_residual-in_err-expression.result e c.from_residual-in_err-expression.ensures.1
-    (row-member (statement_worded stated.Switch) (codes "expr") (node an_expression) d e refl c.in_err-expression.ensures.place)
-
-pub read_switch-returns-in_err-body_attributes-clause-place : goal.read_switch-returns-in_err-body_attributes-clause-place
-read_switch-returns-in_err-body_attributes-clause-place t c =
-    let d = borrowed_view c.args.value.now in
-    let e = c.in_err-body_attributes.field-0.0 in
-    exit (LocatesRow (statement_worded stated.Switch) d) c.from_residual-in_err-body_attributes.result e c.from_residual-in_err-body_attributes.ensures.1
-    (row-inside (statement_worded stated.Switch) (codes "body_attrs") false (list_of attributes an_attribute) d e refl c.in_err-body_attributes.ensures.place)
-
-pub read_switch-returns-in_err-clauses-clause-place : goal.read_switch-returns-in_err-clauses-clause-place
-read_switch-returns-in_err-clauses-clause-place t c =
-    let d = borrowed_view c.args.value.now in
-    let e = c.in_err-clauses.field-0.0 in
-    exit (LocatesRow (statement_worded stated.Switch) d) c.from_residual-in_err-clauses.result e c.from_residual-in_err-clauses.ensures.1
-    (row-inside (statement_worded stated.Switch) (codes "clauses") false (list_of clauses a_clause) d e refl c.in_err-clauses.ensures.place)
-
-pub read_switch-returns-clause-ok : goal.read_switch-returns-clause-ok
-read_switch-returns-clause-ok t c =
-    let d = borrowed_view c.args.value.now in
-    let known : has_only (known_keys (statement_worded stated.Switch) d) d ≡ true = c.in_ok-check_keys.ensures.ok in
-    same-worded (worded-reads known (plain-kind switch) refl (many-then c.in_ok-attributes.ensures.ok (needs-then c.in_ok-expression.ensures.ok (many-then c.in_ok-body_attributes.ensures.ok (many-then c.in_ok-clauses.ensures.ok (none-then d _)))))) (sym (view-switch c.in_ok-attributes.attributes c.in_ok-expression.expression c.in_ok-body_attributes.body_attributes c.in_ok-clauses.clauses))
-
-pub read_loop-returns-in_err-check_keys-clause-place : goal.read_loop-returns-in_err-check_keys-clause-place
-read_loop-returns-in_err-check_keys-clause-place t c =
-    let d = borrowed_view c.args.value.now in
-    let e = c.in_err-check_keys.field-0.0 in
-    let wrong : has_only (known_keys (statement_worded stated.Loop) d) d ≡ false = c.in_err-check_keys.ensures.err in
-    exit (LocatesRow (statement_worded stated.Loop) d) c.from_residual.result e c.from_residual.ensures.1
-    (row-keys (statement_worded stated.Loop) d e wrong c.in_err-check_keys.ensures.place)
-
-pub read_loop-returns-in_err-attributes-clause-place : goal.read_loop-returns-in_err-attributes-clause-place
-read_loop-returns-in_err-attributes-clause-place t c =
-    let d = borrowed_view c.args.value.now in
-    let e = c.in_err-attributes.field-0.0 in
-    exit (LocatesRow (statement_worded stated.Loop) d) c.from_residual-in_err-attributes.result e c.from_residual-in_err-attributes.ensures.1
-    (row-inside (statement_worded stated.Loop) (codes "attrs") false (list_of attributes an_attribute) d e refl c.in_err-attributes.ensures.place)
-
-pub read_loop-returns-in_err-body-clause-place : goal.read_loop-returns-in_err-body-clause-place
-read_loop-returns-in_err-body-clause-place t c =
-    let d = borrowed_view c.args.value.now in
-    let e = c.in_err-body.field-0.0 in
-    exit (LocatesRow (statement_worded stated.Loop) d) c.from_residual-in_err-body.result e c.from_residual-in_err-body.ensures.1
-    (row-member (statement_worded stated.Loop) (codes "body") (node a_body) d e refl c.in_err-body.ensures.place)
-
-pub read_loop-returns-in_err-continuing-clause-place : goal.read_loop-returns-in_err-continuing-clause-place
-read_loop-returns-in_err-continuing-clause-place t c =
-    let d = borrowed_view c.args.value.now in
-    let e = c.in_err-continuing.field-0.0 in
-    exit (LocatesRow (statement_worded stated.Loop) d) c.from_residual-in_err-continuing.result e c.from_residual-in_err-continuing.ensures.1
-    (row-inside (statement_worded stated.Loop) (codes "continuing") false (node a_continuing) d e refl c.in_err-continuing.ensures.place)
-
-pub read_loop-returns-clause-ok : goal.read_loop-returns-clause-ok
-read_loop-returns-clause-ok t c =
-    let d = borrowed_view c.args.value.now in
-    let known : has_only (known_keys (statement_worded stated.Loop) d) d ≡ true = c.in_ok-check_keys.ensures.ok in
-    same-worded (worded-reads known (plain-kind loop) refl (many-then c.in_ok-attributes.ensures.ok (needs-then c.in_ok-body.ensures.ok (may-then c.in_ok-continuing.ensures.ok (none-then d _))))) (sym (view-loop c.in_ok-attributes.attributes c.in_ok-body.body c.in_ok-continuing.continuing))
-
-pub read_for-returns-in_err-check_keys-clause-place : goal.read_for-returns-in_err-check_keys-clause-place
-read_for-returns-in_err-check_keys-clause-place t c =
-    let d = borrowed_view c.args.value.now in
-    let e = c.in_err-check_keys.field-0.0 in
-    let wrong : has_only (known_keys (statement_worded stated.For) d) d ≡ false = c.in_err-check_keys.ensures.err in
-    exit (LocatesRow (statement_worded stated.For) d) c.from_residual.result e c.from_residual.ensures.1
-    (row-keys (statement_worded stated.For) d e wrong c.in_err-check_keys.ensures.place)
-
-pub read_for-returns-in_err-attributes-clause-place : goal.read_for-returns-in_err-attributes-clause-place
-read_for-returns-in_err-attributes-clause-place t c =
-    let d = borrowed_view c.args.value.now in
-    let e = c.in_err-attributes.field-0.0 in
-    exit (LocatesRow (statement_worded stated.For) d) c.from_residual-in_err-attributes.result e c.from_residual-in_err-attributes.ensures.1
-    (row-inside (statement_worded stated.For) (codes "attrs") false (list_of attributes an_attribute) d e refl c.in_err-attributes.ensures.place)
-
-pub read_for-returns-in_err-initializer-clause-place : goal.read_for-returns-in_err-initializer-clause-place
-read_for-returns-in_err-initializer-clause-place t c =
-    let d = borrowed_view c.args.value.now in
-    let e = c.in_err-initializer.field-0.0 in
-    exit (LocatesRow (statement_worded stated.For) d) c.from_residual-in_err-initializer.result e c.from_residual-in_err-initializer.ensures.1
-    (row-inside (statement_worded stated.For) (codes "init") false (node a_statement) d e refl c.in_err-initializer.ensures.place)
-
-pub read_for-returns-in_err-condition-clause-place : goal.read_for-returns-in_err-condition-clause-place
-read_for-returns-in_err-condition-clause-place t c =
-    let d = borrowed_view c.args.value.now in
-    let e = c.in_err-condition.field-0.0 in
-    exit (LocatesRow (statement_worded stated.For) d) c.from_residual-in_err-condition.result e c.from_residual-in_err-condition.ensures.1
-    (row-inside (statement_worded stated.For) (codes "cond") false (node an_expression) d e refl c.in_err-condition.ensures.place)
-
-pub read_for-returns-in_err-update-clause-place : goal.read_for-returns-in_err-update-clause-place
-read_for-returns-in_err-update-clause-place t c =
-    let d = borrowed_view c.args.value.now in
-    let e = c.in_err-update.field-0.0 in
-    exit (LocatesRow (statement_worded stated.For) d) c.from_residual-in_err-update.result e c.from_residual-in_err-update.ensures.1
-    (row-inside (statement_worded stated.For) (codes "update") false (node a_statement) d e refl c.in_err-update.ensures.place)
-
-pub read_for-returns-in_err-body-clause-place : goal.read_for-returns-in_err-body-clause-place
-read_for-returns-in_err-body-clause-place t c =
-    let d = borrowed_view c.args.value.now in
-    let e = c.in_err-body.field-0.0 in
-    exit (LocatesRow (statement_worded stated.For) d) c.from_residual-in_err-body.result e c.from_residual-in_err-body.ensures.1
-    (row-member (statement_worded stated.For) (codes "body") (node a_body) d e refl c.in_err-body.ensures.place)
-
-pub read_for-returns-clause-ok : goal.read_for-returns-clause-ok
-read_for-returns-clause-ok t c =
-    let d = borrowed_view c.args.value.now in
-    let known : has_only (known_keys (statement_worded stated.For) d) d ≡ true = c.in_ok-check_keys.ensures.ok in
-    same-worded (worded-reads known (plain-kind for_loop) refl (many-then c.in_ok-attributes.ensures.ok (may-then c.in_ok-initializer.ensures.ok (may-then c.in_ok-condition.ensures.ok (may-then c.in_ok-update.ensures.ok (needs-then c.in_ok-body.ensures.ok (none-then d _))))))) (sym (view-for c.in_ok-attributes.attributes c.in_ok-initializer.initializer c.in_ok-condition.condition c.in_ok-update.update c.in_ok-body.body))
-
-pub read_while-returns-in_err-check_keys-clause-place : goal.read_while-returns-in_err-check_keys-clause-place
-read_while-returns-in_err-check_keys-clause-place t c =
-    let d = borrowed_view c.args.value.now in
-    let e = c.in_err-check_keys.field-0.0 in
-    let wrong : has_only (known_keys (statement_worded stated.While) d) d ≡ false = c.in_err-check_keys.ensures.err in
-    exit (LocatesRow (statement_worded stated.While) d) c.from_residual.result e c.from_residual.ensures.1
-    (row-keys (statement_worded stated.While) d e wrong c.in_err-check_keys.ensures.place)
-
-pub read_while-returns-in_err-attributes-clause-place : goal.read_while-returns-in_err-attributes-clause-place
-read_while-returns-in_err-attributes-clause-place t c =
-    let d = borrowed_view c.args.value.now in
-    let e = c.in_err-attributes.field-0.0 in
-    exit (LocatesRow (statement_worded stated.While) d) c.from_residual-in_err-attributes.result e c.from_residual-in_err-attributes.ensures.1
-    (row-inside (statement_worded stated.While) (codes "attrs") false (list_of attributes an_attribute) d e refl c.in_err-attributes.ensures.place)
-
-pub read_while-returns-in_err-condition-clause-place : goal.read_while-returns-in_err-condition-clause-place
-read_while-returns-in_err-condition-clause-place t c =
-    let d = borrowed_view c.args.value.now in
-    let e = c.in_err-condition.field-0.0 in
-    exit (LocatesRow (statement_worded stated.While) d) c.from_residual-in_err-condition.result e c.from_residual-in_err-condition.ensures.1
-    (row-member (statement_worded stated.While) (codes "cond") (node an_expression) d e refl c.in_err-condition.ensures.place)
-
-pub read_while-returns-in_err-body-clause-place : goal.read_while-returns-in_err-body-clause-place
-read_while-returns-in_err-body-clause-place t c =
-    let d = borrowed_view c.args.value.now in
-    let e = c.in_err-body.field-0.0 in
-    exit (LocatesRow (statement_worded stated.While) d) c.from_residual-in_err-body.result e c.from_residual-in_err-body.ensures.1
-    (row-member (statement_worded stated.While) (codes "body") (node a_body) d e refl c.in_err-body.ensures.place)
-
-pub read_while-returns-clause-ok : goal.read_while-returns-clause-ok
-read_while-returns-clause-ok t c =
-    let d = borrowed_view c.args.value.now in
-    let known : has_only (known_keys (statement_worded stated.While) d) d ≡ true = c.in_ok-check_keys.ensures.ok in
-    same-worded (worded-reads known (plain-kind while_loop) refl (many-then c.in_ok-attributes.ensures.ok (needs-then c.in_ok-condition.ensures.ok (needs-then c.in_ok-body.ensures.ok (none-then d _))))) (sym (view-while c.in_ok-attributes.attributes c.in_ok-condition.condition c.in_ok-body.body))
 
 pub body_member-read_body-requires : goal.body_member-read_body-requires
 body_member-read_body-requires t c =
-    let low : depth (borrowed_view c.in_ok-member.member.now) < depth (borrowed_view c.args.value.now) = get-depth (codes "body") _ _ c.in_ok-member.ensures.ok in
+    let low : depth (borrowed_view c.in-Some.member.now) < depth (borrowed_view c.args.value.now) = get-depth (codes "body") _ _ (sym c.in-Some.ensures) in
     (to_member _ _ 7 3 t c.decreases low refl, tt)
 
 pub body_member-returns-in-Ok-clause-ok : goal.body_member-returns-in-Ok-clause-ok
 body_member-returns-in-Ok-clause-ok t c =
-    needed-there (codes "body") (node a_body) (borrowed_view c.args.value.now) (borrowed_view c.in_ok-member.member.now) _ _ _ c.in_ok-member.ensures.ok c.in-Ok.ensures.ok
+    needed-there (codes "body") (node a_body) (borrowed_view c.args.value.now) (borrowed_view c.in-Some.member.now) _ _ _ (sym c.in-Some.ensures) c.in-Ok.ensures.ok
 
 pub body_member-returns-in-Err-clause-place : goal.body_member-returns-in-Err-clause-place
 body_member-returns-in-Err-clause-place t c =
     let d = borrowed_view c.args.value.now in
-    member-inside (codes "body") (node a_body) d c.under.result (inside-under (codes "body") (node a_body) d (borrowed_view c.in_ok-member.member.now) c.in-Err.error c.under.result c.in_ok-member.ensures.ok c.in-Err.ensures.place c.under.ensures)
-
-pub read_body-returns-in_err-check_keys-clause-place : goal.read_body-returns-in_err-check_keys-clause-place
-read_body-returns-in_err-check_keys-clause-place t c =
-    let d = borrowed_view c.args.value.now in
-    let e = c.in_err-check_keys.field-0.0 in
-    let wrong : has_only (known_keys (body_row) d) d ≡ false = c.in_err-check_keys.ensures.err in
-    exit (Locates (node a_body) d) c.from_residual.result e c.from_residual.ensures.1
-    (bare-keys a_body compound (body_row) d refl e refl wrong c.in_err-check_keys.ensures.place)
-
-pub read_body-returns-in_err-attributes-clause-place : goal.read_body-returns-in_err-attributes-clause-place
-read_body-returns-in_err-attributes-clause-place t c =
-    let d = borrowed_view c.args.value.now in
-    let e = c.in_err-attributes.field-0.0 in
-    let known : has_only (known_keys (body_row) d) d ≡ true = c.in_ok-check_keys.ensures.ok in
-    exit (Locates (node a_body) d) c.from_residual-in_err-attributes.result e c.from_residual-in_err-attributes.ensures.1
-    (bare-place a_body compound (body_row) d refl e known (row-inside (body_row) (codes "attrs") false (list_of attributes an_attribute) d e refl c.in_err-attributes.ensures.place))
-
-pub read_body-returns-in_err-statements-clause-place : goal.read_body-returns-in_err-statements-clause-place
-read_body-returns-in_err-statements-clause-place t c =
-    let d = borrowed_view c.args.value.now in
-    let e = c.in_err-statements.field-0.0 in
-    let known : has_only (known_keys (body_row) d) d ≡ true = c.in_ok-check_keys.ensures.ok in
-    exit (Locates (node a_body) d) c.from_residual-in_err-statements.result e c.from_residual-in_err-statements.ensures.1
-    (bare-place a_body compound (body_row) d refl e known (row-inside (body_row) (codes "stmts") false (list_of statements a_statement) d e refl c.in_err-statements.ensures.place))
-
-pub read_body-returns-clause-ok : goal.read_body-returns-clause-ok
-read_body-returns-clause-ok t c =
-    let d = borrowed_view c.args.value.now in
-    let known : has_only (known_keys (body_row) d) d ≡ true = c.in_ok-check_keys.ensures.ok in
-    same-reads (bare-reads a_body compound (body_row) d refl _ _ _ known (many-then c.in_ok-attributes.ensures.ok (many-then c.in_ok-statements.ensures.ok (none-then d _)))) (sym (made-block c.in_ok-attributes.attributes c.in_ok-statements.statements))
+    member-inside (codes "body") (node a_body) d c.under.result (inside-under (codes "body") (node a_body) d (borrowed_view c.in-Some.member.now) c.in-Err.error c.under.result (sym c.in-Some.ensures) c.in-Err.ensures.place c.under.ensures)
 
 pub statements_member-read_statements-requires : goal.statements_member-read_statements-requires
 statements_member-read_statements-requires t c =
@@ -326,33 +63,13 @@ statements_member-returns-in-Err-clause-place t c =
     let found : get (codes "stmts") d ≡ Some (borrowed_view c.in-Some.member.now) = sym c.in-Some.ensures in
     inside-under (codes "stmts") (list_of statements a_statement) d (borrowed_view c.in-Some.member.now) c.in-Err.error c.under.result found c.in-Err.ensures.place c.under.ensures
 
-pub read_statements-read_statement-requires : goal.read_statements-read_statement-requires
-read_statements-read_statement-requires t c =
+pub read_statements-read_statement-statement-requires : goal.read_statements-read_statement-statement-requires
+read_statements-read_statement-statement-requires t c =
     let vs = c.deref-item-items.result.now in
     let is : as_array (borrowed_view c.args.value.now) ≡ Some (items_view vs) = sym c.in-Some.ensures ∙ ap (λ l. Some (items_view l)) (sym c.deref-item-items.ensures.value) in
     let below : depth (borrowed_view c.item-item.result) ≤ items_depth (items_view vs) = item-depth vs c.loop-index.index c.item-item.result c.loop-index-test.true c.item-item.is in
     let deep : items_depth (items_view vs) < depth (borrowed_view c.args.value.now) = array-depth _ _ is in
     (omega arith, tt)
-
-pub read_statements-returns-in-Err-clause-place : goal.read_statements-returns-in-Err-clause-place
-read_statements-returns-in-Err-clause-place t c =
-    let vs = c.deref-item-items.result.now in
-    let is : as_array (borrowed_view c.args.value.now) ≡ Some (items_view vs) = sym c.in-Some.ensures ∙ ap (λ l. Some (items_view l)) (sym c.deref-item-items.ensures.value) in
-    item-under statements a_statement c.loop-index.index (borrowed_view c.args.value.now) (borrowed_view c.item-item.result) c.in-Err.error c.under_index.result (item-at _ vs c.loop-index.index c.item-item.result is c.loop-index-test.true c.item-item.is) c.in-Err.ensures.place c.under_index.ensures
-
-pub read_statements-loop-index-preserved : goal.read_statements-loop-index-preserved
-read_statements-loop-index-preserved t c =
-    let vs = c.deref-item-items.result.now in
-    let is : as_array (borrowed_view c.args.value.now) ≡ Some (items_view vs) = sym c.in-Some.ensures ∙ ap (λ l. Some (items_view l)) (sym c.deref-item-items.ensures.value) in
-    let below : depth (borrowed_view c.item-item.result) ≤ items_depth (items_view vs) = item-depth vs c.loop-index.index c.item-item.result c.loop-index-test.true c.item-item.is in
-    let deep : items_depth (items_view vs) < depth (borrowed_view c.args.value.now) = array-depth _ _ is in
-    items-turn statement_tree a_statement vs c.loop-index.index c.item-item.result (depth (borrowed_view c.args.value.now)) c.args.numbering.now c.loop-index.numbering c.read_statement.new.numbering c.loop-index.statements.items c.push.new.self.items c.in-Ok.statement c.loop-index-test.true c.item-item.is c.in_ok-push-in-Ok.ensures.items (omega arith) c.loop-index.invariant c.in-Ok.ensures.ok.form
-
-pub read_statements-returns-clause-ok : goal.read_statements-returns-clause-ok
-read_statements-returns-clause-ok t c =
-    let vs = c.deref-item-items.result.now in
-    let is : as_array (borrowed_view c.args.value.now) ≡ Some (items_view vs) = sym c.in-Some.ensures ∙ ap (λ l. Some (items_view l)) (sym c.deref-item-items.ensures.value) in
-    record { form = items-whole statements a_statement (borrowed_view c.args.value.now) vs c.loop-index.index _ _ _ is c.loop-index-test.false c.loop-index.invariant }
 
 pub optional_statement-read_statement-requires : goal.optional_statement-read_statement-requires
 optional_statement-read_statement-requires t c =
@@ -360,17 +77,18 @@ optional_statement-read_statement-requires t c =
     let low : depth (borrowed_view c.in-Some.member.now) < depth (borrowed_view c.args.value.now) = get-depth c.args.key.now _ _ (sym c.in-Some.ensures) in
     (omega arith, tt)
 
-pub optional_statement-returns-in_ok-new-in-Ok-clause-ok : goal.optional_statement-returns-in_ok-new-in-Ok-clause-ok
-optional_statement-returns-in_ok-new-in-Ok-clause-ok t c =
+pub optional_statement-returns-in-Ok-clause-ok : goal.optional_statement-returns-in-Ok-clause-ok
+optional_statement-returns-in-Ok-clause-ok t c =
     let d = borrowed_view c.args.value.now in
     let found : get c.args.key.now d ≡ Some (borrowed_view c.in-Some.member.now) = sym c.in-Some.ensures in
-    may-there c.args.key.now (node a_statement) d (borrowed_view c.in-Some.member.now) _ _ _ found (same-reads c.in-Ok.ensures.ok (ap statement_tree (search rules)))
+    may-there c.args.key.now (node a_statement) d (borrowed_view c.in-Some.member.now) _ _ _ found (part _ c.read_statement.result c.in-Ok.ensures.ok c.read_statement.ensures.ok)
 
 pub optional_statement-returns-in-Err-clause-place : goal.optional_statement-returns-in-Err-clause-place
 optional_statement-returns-in-Err-clause-place t c =
     let d = borrowed_view c.args.value.now in
     let found : get c.args.key.now d ≡ Some (borrowed_view c.in-Some.member.now) = sym c.in-Some.ensures in
-    inside-under c.args.key.now (node a_statement) d (borrowed_view c.in-Some.member.now) c.in-Err.error c.under.result found c.in-Err.ensures.place c.under.ensures
+    let place = IfErr-at_err (Locates (node a_statement) (borrowed_view c.in-Some.member.now)) c.in-Err.is (of-boxed (IsBroken whole_form (node a_statement) (borrowed_view c.in-Some.member.now)) c.boxed.result c.read_statement.result c.boxed.ensures.place c.read_statement.ensures.place) in
+    inside-under c.args.key.now (node a_statement) d (borrowed_view c.in-Some.member.now) c.in-Err.error c.under.result found place c.under.ensures
 
 pub elifs_member-read_elifs-requires : goal.elifs_member-read_elifs-requires
 elifs_member-read_elifs-requires t c =
@@ -390,71 +108,13 @@ elifs_member-returns-in-Err-clause-place t c =
     let found : get (codes "elifs") d ≡ Some (borrowed_view c.in-Some.member.now) = sym c.in-Some.ensures in
     inside-under (codes "elifs") (list_of list an_elif) d (borrowed_view c.in-Some.member.now) c.in-Err.error c.under.result found c.in-Err.ensures.place c.under.ensures
 
-pub read_elifs-read_elif-requires : goal.read_elifs-read_elif-requires
-read_elifs-read_elif-requires t c =
+pub read_elifs-read_elif-clause-requires : goal.read_elifs-read_elif-clause-requires
+read_elifs-read_elif-clause-requires t c =
     let vs = c.deref-item-items.result.now in
     let is : as_array (borrowed_view c.args.value.now) ≡ Some (items_view vs) = sym c.in-Some.ensures ∙ ap (λ l. Some (items_view l)) (sym c.deref-item-items.ensures.value) in
     let below : depth (borrowed_view c.item-item.result) ≤ items_depth (items_view vs) = item-depth vs c.loop-index.index c.item-item.result c.loop-index-test.true c.item-item.is in
     let deep : items_depth (items_view vs) < depth (borrowed_view c.args.value.now) = array-depth _ _ is in
     (omega arith, tt)
-
-pub read_elifs-returns-in-Err-clause-place : goal.read_elifs-returns-in-Err-clause-place
-read_elifs-returns-in-Err-clause-place t c =
-    let vs = c.deref-item-items.result.now in
-    let is : as_array (borrowed_view c.args.value.now) ≡ Some (items_view vs) = sym c.in-Some.ensures ∙ ap (λ l. Some (items_view l)) (sym c.deref-item-items.ensures.value) in
-    item-under list an_elif c.loop-index.index (borrowed_view c.args.value.now) (borrowed_view c.item-item.result) c.in-Err.error c.under_index.result (item-at _ vs c.loop-index.index c.item-item.result is c.loop-index-test.true c.item-item.is) c.in-Err.ensures.place c.under_index.ensures
-
-pub read_elifs-loop-index-preserved : goal.read_elifs-loop-index-preserved
-read_elifs-loop-index-preserved t c =
-    let vs = c.deref-item-items.result.now in
-    let is : as_array (borrowed_view c.args.value.now) ≡ Some (items_view vs) = sym c.in-Some.ensures ∙ ap (λ l. Some (items_view l)) (sym c.deref-item-items.ensures.value) in
-    let below : depth (borrowed_view c.item-item.result) ≤ items_depth (items_view vs) = item-depth vs c.loop-index.index c.item-item.result c.loop-index-test.true c.item-item.is in
-    let deep : items_depth (items_view vs) < depth (borrowed_view c.args.value.now) = array-depth _ _ is in
-    items-turn else_if_view an_elif vs c.loop-index.index c.item-item.result (depth (borrowed_view c.args.value.now)) c.args.numbering.now c.loop-index.numbering c.read_elif.new.numbering c.loop-index.clauses.items c.push.new.self.items c.in-Ok.clause c.loop-index-test.true c.item-item.is c.in_ok-push-in-Ok.ensures.items (omega arith) c.loop-index.invariant c.in-Ok.ensures.ok.form
-
-pub read_elifs-returns-clause-ok : goal.read_elifs-returns-clause-ok
-read_elifs-returns-clause-ok t c =
-    let vs = c.deref-item-items.result.now in
-    let is : as_array (borrowed_view c.args.value.now) ≡ Some (items_view vs) = sym c.in-Some.ensures ∙ ap (λ l. Some (items_view l)) (sym c.deref-item-items.ensures.value) in
-    record { form = items-whole list an_elif (borrowed_view c.args.value.now) vs c.loop-index.index _ _ _ is c.loop-index-test.false c.loop-index.invariant }
-
-pub read_elif-returns-in_err-check_keys-clause-place : goal.read_elif-returns-in_err-check_keys-clause-place
-read_elif-returns-in_err-check_keys-clause-place t c =
-    let d = borrowed_view c.args.value.now in
-    let e = c.in_err-check_keys.field-0.0 in
-    let wrong : has_only (known_keys (attrs condition_row) d) d ≡ false = c.in_err-check_keys.ensures.err in
-    exit (Locates (node an_elif) d) c.from_residual.result e c.from_residual.ensures.1
-    (bare-keys an_elif else_if_clause (attrs condition_row) d refl e refl wrong c.in_err-check_keys.ensures.place)
-
-pub read_elif-returns-in_err-attributes-clause-place : goal.read_elif-returns-in_err-attributes-clause-place
-read_elif-returns-in_err-attributes-clause-place t c =
-    let d = borrowed_view c.args.value.now in
-    let e = c.in_err-attributes.field-0.0 in
-    let known : has_only (known_keys (attrs condition_row) d) d ≡ true = c.in_ok-check_keys.ensures.ok in
-    exit (Locates (node an_elif) d) c.from_residual-in_err-attributes.result e c.from_residual-in_err-attributes.ensures.1
-    (bare-place an_elif else_if_clause (attrs condition_row) d refl e known (row-inside (attrs condition_row) (codes "attrs") false (list_of attributes an_attribute) d e refl c.in_err-attributes.ensures.place))
-
-pub read_elif-returns-in_err-expression-clause-place : goal.read_elif-returns-in_err-expression-clause-place
-read_elif-returns-in_err-expression-clause-place t c =
-    let d = borrowed_view c.args.value.now in
-    let e = c.in_err-expression.field-0.0 in
-    let known : has_only (known_keys (attrs condition_row) d) d ≡ true = c.in_ok-check_keys.ensures.ok in
-    exit (Locates (node an_elif) d) c.from_residual-in_err-expression.result e c.from_residual-in_err-expression.ensures.1
-    (bare-place an_elif else_if_clause (attrs condition_row) d refl e known (row-member (attrs condition_row) (codes "cond") (node an_expression) d e refl c.in_err-expression.ensures.place))
-
-pub read_elif-returns-in_err-body-clause-place : goal.read_elif-returns-in_err-body-clause-place
-read_elif-returns-in_err-body-clause-place t c =
-    let d = borrowed_view c.args.value.now in
-    let e = c.in_err-body.field-0.0 in
-    let known : has_only (known_keys (attrs condition_row) d) d ≡ true = c.in_ok-check_keys.ensures.ok in
-    exit (Locates (node an_elif) d) c.from_residual-in_err-body.result e c.from_residual-in_err-body.ensures.1
-    (bare-place an_elif else_if_clause (attrs condition_row) d refl e known (row-member (attrs condition_row) (codes "body") (node a_body) d e refl c.in_err-body.ensures.place))
-
-pub read_elif-returns-clause-ok : goal.read_elif-returns-clause-ok
-read_elif-returns-clause-ok t c =
-    let d = borrowed_view c.args.value.now in
-    let known : has_only (known_keys (attrs condition_row) d) d ≡ true = c.in_ok-check_keys.ensures.ok in
-    same-reads (bare-reads an_elif else_if_clause (attrs condition_row) d refl _ _ _ known (many-then c.in_ok-attributes.ensures.ok (needs-then c.in_ok-expression.ensures.ok (needs-then c.in_ok-body.ensures.ok (none-then d _))))) (sym (made-elif c.in_ok-attributes.attributes c.in_ok-expression.expression c.in_ok-body.body))
 
 pub optional_else-read_else-requires : goal.optional_else-read_else-requires
 optional_else-read_else-requires t c =
@@ -474,36 +134,6 @@ optional_else-returns-in-Err-clause-place t c =
     let found : get (codes "else") d ≡ Some (borrowed_view c.in-Some.member.now) = sym c.in-Some.ensures in
     inside-under (codes "else") (node an_else) d (borrowed_view c.in-Some.member.now) c.in-Err.error c.under.result found c.in-Err.ensures.place c.under.ensures
 
-pub read_else-returns-in_err-check_keys-clause-place : goal.read_else-returns-in_err-check_keys-clause-place
-read_else-returns-in_err-check_keys-clause-place t c =
-    let d = borrowed_view c.args.value.now in
-    let e = c.in_err-check_keys.field-0.0 in
-    let wrong : has_only (known_keys (attrs (needs (codes "body") (node a_body) nothing)) d) d ≡ false = c.in_err-check_keys.ensures.err in
-    exit (Locates (node an_else) d) c.from_residual.result e c.from_residual.ensures.1
-    (bare-keys an_else else_clause (attrs (needs (codes "body") (node a_body) nothing)) d refl e refl wrong c.in_err-check_keys.ensures.place)
-
-pub read_else-returns-in_err-attributes-clause-place : goal.read_else-returns-in_err-attributes-clause-place
-read_else-returns-in_err-attributes-clause-place t c =
-    let d = borrowed_view c.args.value.now in
-    let e = c.in_err-attributes.field-0.0 in
-    let known : has_only (known_keys (attrs (needs (codes "body") (node a_body) nothing)) d) d ≡ true = c.in_ok-check_keys.ensures.ok in
-    exit (Locates (node an_else) d) c.from_residual-in_err-attributes.result e c.from_residual-in_err-attributes.ensures.1
-    (bare-place an_else else_clause (attrs (needs (codes "body") (node a_body) nothing)) d refl e known (row-inside (attrs (needs (codes "body") (node a_body) nothing)) (codes "attrs") false (list_of attributes an_attribute) d e refl c.in_err-attributes.ensures.place))
-
-pub read_else-returns-in_err-body-clause-place : goal.read_else-returns-in_err-body-clause-place
-read_else-returns-in_err-body-clause-place t c =
-    let d = borrowed_view c.args.value.now in
-    let e = c.in_err-body.field-0.0 in
-    let known : has_only (known_keys (attrs (needs (codes "body") (node a_body) nothing)) d) d ≡ true = c.in_ok-check_keys.ensures.ok in
-    exit (Locates (node an_else) d) c.from_residual-in_err-body.result e c.from_residual-in_err-body.ensures.1
-    (bare-place an_else else_clause (attrs (needs (codes "body") (node a_body) nothing)) d refl e known (row-member (attrs (needs (codes "body") (node a_body) nothing)) (codes "body") (node a_body) d e refl c.in_err-body.ensures.place))
-
-pub read_else-returns-clause-ok : goal.read_else-returns-clause-ok
-read_else-returns-clause-ok t c =
-    let d = borrowed_view c.args.value.now in
-    let known : has_only (known_keys (attrs (needs (codes "body") (node a_body) nothing)) d) d ≡ true = c.in_ok-check_keys.ensures.ok in
-    same-reads (bare-reads an_else else_clause (attrs (needs (codes "body") (node a_body) nothing)) d refl _ _ _ known (many-then c.in_ok-attributes.ensures.ok (needs-then c.in_ok-body.ensures.ok (none-then d _)))) (sym (made-else c.in_ok-attributes.attributes c.in_ok-body.body))
-
 pub clauses_member-read_clauses-requires : goal.clauses_member-read_clauses-requires
 clauses_member-read_clauses-requires t c =
     let d = borrowed_view c.args.value.now in
@@ -522,71 +152,13 @@ clauses_member-returns-in-Err-clause-place t c =
     let found : get (codes "clauses") d ≡ Some (borrowed_view c.in-Some.member.now) = sym c.in-Some.ensures in
     inside-under (codes "clauses") (list_of clauses a_clause) d (borrowed_view c.in-Some.member.now) c.in-Err.error c.under.result found c.in-Err.ensures.place c.under.ensures
 
-pub read_clauses-read_clause-requires : goal.read_clauses-read_clause-requires
-read_clauses-read_clause-requires t c =
+pub read_clauses-read_clause-clause-requires : goal.read_clauses-read_clause-clause-requires
+read_clauses-read_clause-clause-requires t c =
     let vs = c.deref-item-items.result.now in
     let is : as_array (borrowed_view c.args.value.now) ≡ Some (items_view vs) = sym c.in-Some.ensures ∙ ap (λ l. Some (items_view l)) (sym c.deref-item-items.ensures.value) in
     let below : depth (borrowed_view c.item-item.result) ≤ items_depth (items_view vs) = item-depth vs c.loop-index.index c.item-item.result c.loop-index-test.true c.item-item.is in
     let deep : items_depth (items_view vs) < depth (borrowed_view c.args.value.now) = array-depth _ _ is in
     (omega arith, tt)
-
-pub read_clauses-returns-in-Err-clause-place : goal.read_clauses-returns-in-Err-clause-place
-read_clauses-returns-in-Err-clause-place t c =
-    let vs = c.deref-item-items.result.now in
-    let is : as_array (borrowed_view c.args.value.now) ≡ Some (items_view vs) = sym c.in-Some.ensures ∙ ap (λ l. Some (items_view l)) (sym c.deref-item-items.ensures.value) in
-    item-under clauses a_clause c.loop-index.index (borrowed_view c.args.value.now) (borrowed_view c.item-item.result) c.in-Err.error c.under_index.result (item-at _ vs c.loop-index.index c.item-item.result is c.loop-index-test.true c.item-item.is) c.in-Err.ensures.place c.under_index.ensures
-
-pub read_clauses-loop-index-preserved : goal.read_clauses-loop-index-preserved
-read_clauses-loop-index-preserved t c =
-    let vs = c.deref-item-items.result.now in
-    let is : as_array (borrowed_view c.args.value.now) ≡ Some (items_view vs) = sym c.in-Some.ensures ∙ ap (λ l. Some (items_view l)) (sym c.deref-item-items.ensures.value) in
-    let below : depth (borrowed_view c.item-item.result) ≤ items_depth (items_view vs) = item-depth vs c.loop-index.index c.item-item.result c.loop-index-test.true c.item-item.is in
-    let deep : items_depth (items_view vs) < depth (borrowed_view c.args.value.now) = array-depth _ _ is in
-    items-turn clause_view a_clause vs c.loop-index.index c.item-item.result (depth (borrowed_view c.args.value.now)) c.args.numbering.now c.loop-index.numbering c.read_clause.new.numbering c.loop-index.clauses.items c.push.new.self.items c.in-Ok.clause c.loop-index-test.true c.item-item.is c.in_ok-push-in-Ok.ensures.items (omega arith) c.loop-index.invariant c.in-Ok.ensures.ok.form
-
-pub read_clauses-returns-clause-ok : goal.read_clauses-returns-clause-ok
-read_clauses-returns-clause-ok t c =
-    let vs = c.deref-item-items.result.now in
-    let is : as_array (borrowed_view c.args.value.now) ≡ Some (items_view vs) = sym c.in-Some.ensures ∙ ap (λ l. Some (items_view l)) (sym c.deref-item-items.ensures.value) in
-    record { form = items-whole clauses a_clause (borrowed_view c.args.value.now) vs c.loop-index.index _ _ _ is c.loop-index-test.false c.loop-index.invariant }
-
-pub read_clause-returns-in_err-check_keys-clause-place : goal.read_clause-returns-in_err-check_keys-clause-place
-read_clause-returns-in_err-check_keys-clause-place t c =
-    let d = borrowed_view c.args.value.now in
-    let e = c.in_err-check_keys.field-0.0 in
-    let wrong : has_only (known_keys (attrs (many (codes "cases") (list_of list a_case) (needs (codes "body") (node a_body) nothing))) d) d ≡ false = c.in_err-check_keys.ensures.err in
-    exit (Locates (node a_clause) d) c.from_residual.result e c.from_residual.ensures.1
-    (bare-keys a_clause switch_clause (attrs (many (codes "cases") (list_of list a_case) (needs (codes "body") (node a_body) nothing))) d refl e refl wrong c.in_err-check_keys.ensures.place)
-
-pub read_clause-returns-in_err-attributes-clause-place : goal.read_clause-returns-in_err-attributes-clause-place
-read_clause-returns-in_err-attributes-clause-place t c =
-    let d = borrowed_view c.args.value.now in
-    let e = c.in_err-attributes.field-0.0 in
-    let known : has_only (known_keys (attrs (many (codes "cases") (list_of list a_case) (needs (codes "body") (node a_body) nothing))) d) d ≡ true = c.in_ok-check_keys.ensures.ok in
-    exit (Locates (node a_clause) d) c.from_residual-in_err-attributes.result e c.from_residual-in_err-attributes.ensures.1
-    (bare-place a_clause switch_clause (attrs (many (codes "cases") (list_of list a_case) (needs (codes "body") (node a_body) nothing))) d refl e known (row-inside (attrs (many (codes "cases") (list_of list a_case) (needs (codes "body") (node a_body) nothing))) (codes "attrs") false (list_of attributes an_attribute) d e refl c.in_err-attributes.ensures.place))
-
-pub read_clause-returns-in_err-case_selectors-clause-place : goal.read_clause-returns-in_err-case_selectors-clause-place
-read_clause-returns-in_err-case_selectors-clause-place t c =
-    let d = borrowed_view c.args.value.now in
-    let e = c.in_err-case_selectors.field-0.0 in
-    let known : has_only (known_keys (attrs (many (codes "cases") (list_of list a_case) (needs (codes "body") (node a_body) nothing))) d) d ≡ true = c.in_ok-check_keys.ensures.ok in
-    exit (Locates (node a_clause) d) c.from_residual-in_err-case_selectors.result e c.from_residual-in_err-case_selectors.ensures.1
-    (bare-place a_clause switch_clause (attrs (many (codes "cases") (list_of list a_case) (needs (codes "body") (node a_body) nothing))) d refl e known (row-inside (attrs (many (codes "cases") (list_of list a_case) (needs (codes "body") (node a_body) nothing))) (codes "cases") false (list_of list a_case) d e refl c.in_err-case_selectors.ensures.place))
-
-pub read_clause-returns-in_err-body-clause-place : goal.read_clause-returns-in_err-body-clause-place
-read_clause-returns-in_err-body-clause-place t c =
-    let d = borrowed_view c.args.value.now in
-    let e = c.in_err-body.field-0.0 in
-    let known : has_only (known_keys (attrs (many (codes "cases") (list_of list a_case) (needs (codes "body") (node a_body) nothing))) d) d ≡ true = c.in_ok-check_keys.ensures.ok in
-    exit (Locates (node a_clause) d) c.from_residual-in_err-body.result e c.from_residual-in_err-body.ensures.1
-    (bare-place a_clause switch_clause (attrs (many (codes "cases") (list_of list a_case) (needs (codes "body") (node a_body) nothing))) d refl e known (row-member (attrs (many (codes "cases") (list_of list a_case) (needs (codes "body") (node a_body) nothing))) (codes "body") (node a_body) d e refl c.in_err-body.ensures.place))
-
-pub read_clause-returns-clause-ok : goal.read_clause-returns-clause-ok
-read_clause-returns-clause-ok t c =
-    let d = borrowed_view c.args.value.now in
-    let known : has_only (known_keys (attrs (many (codes "cases") (list_of list a_case) (needs (codes "body") (node a_body) nothing))) d) d ≡ true = c.in_ok-check_keys.ensures.ok in
-    same-reads (bare-reads a_clause switch_clause (attrs (many (codes "cases") (list_of list a_case) (needs (codes "body") (node a_body) nothing))) d refl _ _ _ known (many-then c.in_ok-attributes.ensures.ok (many-then c.in_ok-case_selectors.ensures.ok (needs-then c.in_ok-body.ensures.ok (none-then d _))))) (sym (made-clause c.in_ok-attributes.attributes c.in_ok-case_selectors.case_selectors c.in_ok-body.body))
 
 pub optional_continuing-read_continuing-requires : goal.optional_continuing-read_continuing-requires
 optional_continuing-read_continuing-requires t c =
@@ -606,44 +178,6 @@ optional_continuing-returns-in-Err-clause-place t c =
     let found : get (codes "continuing") d ≡ Some (borrowed_view c.in-Some.member.now) = sym c.in-Some.ensures in
     inside-under (codes "continuing") (node a_continuing) d (borrowed_view c.in-Some.member.now) c.in-Err.error c.under.result found c.in-Err.ensures.place c.under.ensures
 
-pub read_continuing-returns-in_err-check_keys-clause-place : goal.read_continuing-returns-in_err-check_keys-clause-place
-read_continuing-returns-in_err-check_keys-clause-place t c =
-    let d = borrowed_view c.args.value.now in
-    let e = c.in_err-check_keys.field-0.0 in
-    let wrong : has_only (known_keys (attrs (needs (codes "body") (node a_body) (may (codes "break_if") (node a_break_if) nothing))) d) d ≡ false = c.in_err-check_keys.ensures.err in
-    exit (Locates (node a_continuing) d) c.from_residual.result e c.from_residual.ensures.1
-    (bare-keys a_continuing continuing (attrs (needs (codes "body") (node a_body) (may (codes "break_if") (node a_break_if) nothing))) d refl e refl wrong c.in_err-check_keys.ensures.place)
-
-pub read_continuing-returns-in_err-attributes-clause-place : goal.read_continuing-returns-in_err-attributes-clause-place
-read_continuing-returns-in_err-attributes-clause-place t c =
-    let d = borrowed_view c.args.value.now in
-    let e = c.in_err-attributes.field-0.0 in
-    let known : has_only (known_keys (attrs (needs (codes "body") (node a_body) (may (codes "break_if") (node a_break_if) nothing))) d) d ≡ true = c.in_ok-check_keys.ensures.ok in
-    exit (Locates (node a_continuing) d) c.from_residual-in_err-attributes.result e c.from_residual-in_err-attributes.ensures.1
-    (bare-place a_continuing continuing (attrs (needs (codes "body") (node a_body) (may (codes "break_if") (node a_break_if) nothing))) d refl e known (row-inside (attrs (needs (codes "body") (node a_body) (may (codes "break_if") (node a_break_if) nothing))) (codes "attrs") false (list_of attributes an_attribute) d e refl c.in_err-attributes.ensures.place))
-
-pub read_continuing-returns-in_err-body-clause-place : goal.read_continuing-returns-in_err-body-clause-place
-read_continuing-returns-in_err-body-clause-place t c =
-    let d = borrowed_view c.args.value.now in
-    let e = c.in_err-body.field-0.0 in
-    let known : has_only (known_keys (attrs (needs (codes "body") (node a_body) (may (codes "break_if") (node a_break_if) nothing))) d) d ≡ true = c.in_ok-check_keys.ensures.ok in
-    exit (Locates (node a_continuing) d) c.from_residual-in_err-body.result e c.from_residual-in_err-body.ensures.1
-    (bare-place a_continuing continuing (attrs (needs (codes "body") (node a_body) (may (codes "break_if") (node a_break_if) nothing))) d refl e known (row-member (attrs (needs (codes "body") (node a_body) (may (codes "break_if") (node a_break_if) nothing))) (codes "body") (node a_body) d e refl c.in_err-body.ensures.place))
-
-pub read_continuing-returns-in_err-break_if-clause-place : goal.read_continuing-returns-in_err-break_if-clause-place
-read_continuing-returns-in_err-break_if-clause-place t c =
-    let d = borrowed_view c.args.value.now in
-    let e = c.in_err-break_if.field-0.0 in
-    let known : has_only (known_keys (attrs (needs (codes "body") (node a_body) (may (codes "break_if") (node a_break_if) nothing))) d) d ≡ true = c.in_ok-check_keys.ensures.ok in
-    exit (Locates (node a_continuing) d) c.from_residual-in_err-break_if.result e c.from_residual-in_err-break_if.ensures.1
-    (bare-place a_continuing continuing (attrs (needs (codes "body") (node a_body) (may (codes "break_if") (node a_break_if) nothing))) d refl e known (row-inside (attrs (needs (codes "body") (node a_body) (may (codes "break_if") (node a_break_if) nothing))) (codes "break_if") false (node a_break_if) d e refl c.in_err-break_if.ensures.place))
-
-pub read_continuing-returns-clause-ok : goal.read_continuing-returns-clause-ok
-read_continuing-returns-clause-ok t c =
-    let d = borrowed_view c.args.value.now in
-    let known : has_only (known_keys (attrs (needs (codes "body") (node a_body) (may (codes "break_if") (node a_break_if) nothing))) d) d ≡ true = c.in_ok-check_keys.ensures.ok in
-    same-reads (bare-reads a_continuing continuing (attrs (needs (codes "body") (node a_body) (may (codes "break_if") (node a_break_if) nothing))) d refl _ _ _ known (many-then c.in_ok-attributes.ensures.ok (needs-then c.in_ok-body.ensures.ok (may-then c.in_ok-break_if.ensures.ok (none-then d _))))) (sym (made-continuing c.in_ok-attributes.attributes c.in_ok-body.body c.in_ok-break_if.break_if))
-
 pub read_statement-returns-in-Ok-clause-ok : goal.read_statement-returns-in-Ok-clause-ok
 read_statement-returns-in-Ok-clause-ok t c =
     let d = borrowed_view c.args.value.now in
@@ -655,10 +189,6 @@ read_statement-returns-in-Err-clause-place t c =
     let d = borrowed_view c.args.value.now in
     let word = c.in_ok-word.word in
     node-place a_statement statement_node statement_words (statement_text word) (statement_head word) (statement_row word) d c.in_ok-word.ensures.word (statement-looked word) refl c.in-Err.error c.in-Err.ensures.place
-
-pub body_member-returns-in_err-member-clause-ok : goal.body_member-returns-in_err-member-clause-ok
-body_member-returns-in_err-member-clause-ok t c =
-    no_value _ _ c.from_residual.result c.from_residual.ensures.1
 
 pub clauses_member-returns-in_default-clause-ok : goal.clauses_member-returns-in_default-clause-ok
 clauses_member-returns-in_default-clause-ok t c =
@@ -680,265 +210,69 @@ pub optional_statement-returns-in_default-clause-ok : goal.optional_statement-re
 optional_statement-returns-in_default-clause-ok t c =
     may-absent c.args.key.now (node a_statement) (borrowed_view c.args.value.now) c.args.numbering.now (sym c.in_default.ensures)
 
-pub optional_statement-returns-in_err-new-in-Ok-clause-ok : goal.optional_statement-returns-in_err-new-in-Ok-clause-ok
-optional_statement-returns-in_err-new-in-Ok-clause-ok t c =
-    no_value _ _ c.from_residual.result c.from_residual.ensures.1
-
-pub optional_statement-returns-in_err-new-in-Ok-clause-place : goal.optional_statement-returns-in_err-new-in-Ok-clause-place
-optional_statement-returns-in_err-new-in-Ok-clause-place t c =
-    exit (LocatesInside c.args.key.now (node a_statement) (borrowed_view c.args.value.now)) c.from_residual.result error.Memory c.from_residual.ensures.1 tt
-
-pub read_block-returns-in_err-check_keys-clause-ok : goal.read_block-returns-in_err-check_keys-clause-ok
-read_block-returns-in_err-check_keys-clause-ok t c =
-    no_value _ _ c.from_residual.result c.from_residual.ensures.1
-
-pub read_block-returns-in_err-attributes-clause-ok : goal.read_block-returns-in_err-attributes-clause-ok
-read_block-returns-in_err-attributes-clause-ok t c =
-    no_value _ _ c.from_residual-in_err-attributes.result c.from_residual-in_err-attributes.ensures.1
-
-pub read_block-statements_member-requires : goal.read_block-statements_member-requires
-read_block-statements_member-requires t c =
+pub read_block-statements_member-statements-requires : goal.read_block-statements_member-statements-requires
+read_block-statements_member-statements-requires t c =
     (to_next (depth (borrowed_view c.args.value.now)) 3 7 t c.decreases refl, tt)
 
-pub read_block-returns-in_err-statements-clause-ok : goal.read_block-returns-in_err-statements-clause-ok
-read_block-returns-in_err-statements-clause-ok t c =
-    no_value _ _ c.from_residual-in_err-statements.result c.from_residual-in_err-statements.ensures.1
-
-pub read_body-returns-in_err-check_keys-clause-ok : goal.read_body-returns-in_err-check_keys-clause-ok
-read_body-returns-in_err-check_keys-clause-ok t c =
-    no_value _ _ c.from_residual.result c.from_residual.ensures.1
-
-pub read_body-returns-in_err-attributes-clause-ok : goal.read_body-returns-in_err-attributes-clause-ok
-read_body-returns-in_err-attributes-clause-ok t c =
-    no_value _ _ c.from_residual-in_err-attributes.result c.from_residual-in_err-attributes.ensures.1
-
-pub read_body-statements_member-requires : goal.read_body-statements_member-requires
-read_body-statements_member-requires t c =
+pub read_body-statements_member-statements-requires : goal.read_body-statements_member-statements-requires
+read_body-statements_member-statements-requires t c =
     (to_next (depth (borrowed_view c.args.value.now)) 3 7 t c.decreases refl, tt)
 
-pub read_body-returns-in_err-statements-clause-ok : goal.read_body-returns-in_err-statements-clause-ok
-read_body-returns-in_err-statements-clause-ok t c =
-    no_value _ _ c.from_residual-in_err-statements.result c.from_residual-in_err-statements.ensures.1
-
-pub read_clause-returns-in_err-check_keys-clause-ok : goal.read_clause-returns-in_err-check_keys-clause-ok
-read_clause-returns-in_err-check_keys-clause-ok t c =
-    no_value _ _ c.from_residual.result c.from_residual.ensures.1
-
-pub read_clause-returns-in_err-attributes-clause-ok : goal.read_clause-returns-in_err-attributes-clause-ok
-read_clause-returns-in_err-attributes-clause-ok t c =
-    no_value _ _ c.from_residual-in_err-attributes.result c.from_residual-in_err-attributes.ensures.1
-
-pub read_clause-returns-in_err-case_selectors-clause-ok : goal.read_clause-returns-in_err-case_selectors-clause-ok
-read_clause-returns-in_err-case_selectors-clause-ok t c =
-    no_value _ _ c.from_residual-in_err-case_selectors.result c.from_residual-in_err-case_selectors.ensures.1
-
-pub read_clause-body_member-requires : goal.read_clause-body_member-requires
-read_clause-body_member-requires t c =
+pub read_clause-body_member-body-requires : goal.read_clause-body_member-body-requires
+read_clause-body_member-body-requires t c =
     (to_next (depth (borrowed_view c.args.value.now)) 3 7 t c.decreases refl, tt)
-
-pub read_clause-returns-in_err-body-clause-ok : goal.read_clause-returns-in_err-body-clause-ok
-read_clause-returns-in_err-body-clause-ok t c =
-    no_value _ _ c.from_residual-in_err-body.result c.from_residual-in_err-body.ensures.1
 
 pub read_clauses-returns-in_default-clause-place : goal.read_clauses-returns-in_default-clause-place
 read_clauses-returns-in_default-clause-place t c =
     no_list clauses a_clause (borrowed_view c.args.value.now) c.wrong.result (sym c.in_default.ensures) c.wrong.ensures
 
-pub read_clauses-returns-in_err-clauses-clause-ok : goal.read_clauses-returns-in_err-clauses-clause-ok
-read_clauses-returns-in_err-clauses-clause-ok t c =
-    no_value _ _ c.from_residual.result c.from_residual.ensures.1
-
-pub read_clauses-returns-in_err-clauses-clause-place : goal.read_clauses-returns-in_err-clauses-clause-place
-read_clauses-returns-in_err-clauses-clause-place t c =
-    exit (Locates (list_of clauses a_clause) (borrowed_view c.args.value.now)) c.from_residual.result error.Memory c.from_residual.ensures.1 tt
-
-pub read_clauses-loop-index-init : goal.read_clauses-loop-index-init
-read_clauses-loop-index-init t c =
-    none_read clause_view clauses a_clause (borrowed_view c.args.value.now) c.args.numbering.now c.deref-item-items.result.now c.in_ok-clauses.clauses.items c.in_ok-clauses.ensures.items
-
-pub read_clauses-returns-in_err-push-in-Ok-clause-ok : goal.read_clauses-returns-in_err-push-in-Ok-clause-ok
-read_clauses-returns-in_err-push-in-Ok-clause-ok t c =
-    no_value _ _ c.from_residual-in_err-push-in-Ok.result c.from_residual-in_err-push-in-Ok.ensures.1
-
-pub read_clauses-returns-in_err-push-in-Ok-clause-place : goal.read_clauses-returns-in_err-push-in-Ok-clause-place
-read_clauses-returns-in_err-push-in-Ok-clause-place t c =
-    exit (Locates (list_of clauses a_clause) (borrowed_view c.args.value.now)) c.from_residual-in_err-push-in-Ok.result error.Memory c.from_residual-in_err-push-in-Ok.ensures.1 tt
-
-pub read_continuing-returns-in_err-check_keys-clause-ok : goal.read_continuing-returns-in_err-check_keys-clause-ok
-read_continuing-returns-in_err-check_keys-clause-ok t c =
-    no_value _ _ c.from_residual.result c.from_residual.ensures.1
-
-pub read_continuing-returns-in_err-attributes-clause-ok : goal.read_continuing-returns-in_err-attributes-clause-ok
-read_continuing-returns-in_err-attributes-clause-ok t c =
-    no_value _ _ c.from_residual-in_err-attributes.result c.from_residual-in_err-attributes.ensures.1
-
-pub read_continuing-body_member-requires : goal.read_continuing-body_member-requires
-read_continuing-body_member-requires t c =
+pub read_continuing-body_member-body-requires : goal.read_continuing-body_member-body-requires
+read_continuing-body_member-body-requires t c =
     (to_next (depth (borrowed_view c.args.value.now)) 3 7 t c.decreases refl, tt)
 
-pub read_continuing-returns-in_err-body-clause-ok : goal.read_continuing-returns-in_err-body-clause-ok
-read_continuing-returns-in_err-body-clause-ok t c =
-    no_value _ _ c.from_residual-in_err-body.result c.from_residual-in_err-body.ensures.1
-
-pub read_continuing-returns-in_err-break_if-clause-ok : goal.read_continuing-returns-in_err-break_if-clause-ok
-read_continuing-returns-in_err-break_if-clause-ok t c =
-    no_value _ _ c.from_residual-in_err-break_if.result c.from_residual-in_err-break_if.ensures.1
-
-pub read_elif-returns-in_err-check_keys-clause-ok : goal.read_elif-returns-in_err-check_keys-clause-ok
-read_elif-returns-in_err-check_keys-clause-ok t c =
-    no_value _ _ c.from_residual.result c.from_residual.ensures.1
-
-pub read_elif-returns-in_err-attributes-clause-ok : goal.read_elif-returns-in_err-attributes-clause-ok
-read_elif-returns-in_err-attributes-clause-ok t c =
-    no_value _ _ c.from_residual-in_err-attributes.result c.from_residual-in_err-attributes.ensures.1
-
-pub read_elif-returns-in_err-expression-clause-ok : goal.read_elif-returns-in_err-expression-clause-ok
-read_elif-returns-in_err-expression-clause-ok t c =
-    no_value _ _ c.from_residual-in_err-expression.result c.from_residual-in_err-expression.ensures.1
-
-pub read_elif-body_member-requires : goal.read_elif-body_member-requires
-read_elif-body_member-requires t c =
+pub read_elif-body_member-body-requires : goal.read_elif-body_member-body-requires
+read_elif-body_member-body-requires t c =
     (to_next (depth (borrowed_view c.args.value.now)) 3 7 t c.decreases refl, tt)
-
-pub read_elif-returns-in_err-body-clause-ok : goal.read_elif-returns-in_err-body-clause-ok
-read_elif-returns-in_err-body-clause-ok t c =
-    no_value _ _ c.from_residual-in_err-body.result c.from_residual-in_err-body.ensures.1
 
 pub read_elifs-returns-in_default-clause-place : goal.read_elifs-returns-in_default-clause-place
 read_elifs-returns-in_default-clause-place t c =
     no_list list an_elif (borrowed_view c.args.value.now) c.wrong.result (sym c.in_default.ensures) c.wrong.ensures
 
-pub read_elifs-returns-in_err-clauses-clause-ok : goal.read_elifs-returns-in_err-clauses-clause-ok
-read_elifs-returns-in_err-clauses-clause-ok t c =
-    no_value _ _ c.from_residual.result c.from_residual.ensures.1
-
-pub read_elifs-returns-in_err-clauses-clause-place : goal.read_elifs-returns-in_err-clauses-clause-place
-read_elifs-returns-in_err-clauses-clause-place t c =
-    exit (Locates (list_of list an_elif) (borrowed_view c.args.value.now)) c.from_residual.result error.Memory c.from_residual.ensures.1 tt
-
-pub read_elifs-loop-index-init : goal.read_elifs-loop-index-init
-read_elifs-loop-index-init t c =
-    none_read else_if_view list an_elif (borrowed_view c.args.value.now) c.args.numbering.now c.deref-item-items.result.now c.in_ok-clauses.clauses.items c.in_ok-clauses.ensures.items
-
-pub read_elifs-returns-in_err-push-in-Ok-clause-ok : goal.read_elifs-returns-in_err-push-in-Ok-clause-ok
-read_elifs-returns-in_err-push-in-Ok-clause-ok t c =
-    no_value _ _ c.from_residual-in_err-push-in-Ok.result c.from_residual-in_err-push-in-Ok.ensures.1
-
-pub read_elifs-returns-in_err-push-in-Ok-clause-place : goal.read_elifs-returns-in_err-push-in-Ok-clause-place
-read_elifs-returns-in_err-push-in-Ok-clause-place t c =
-    exit (Locates (list_of list an_elif) (borrowed_view c.args.value.now)) c.from_residual-in_err-push-in-Ok.result error.Memory c.from_residual-in_err-push-in-Ok.ensures.1 tt
-
-pub read_else-returns-in_err-check_keys-clause-ok : goal.read_else-returns-in_err-check_keys-clause-ok
-read_else-returns-in_err-check_keys-clause-ok t c =
-    no_value _ _ c.from_residual.result c.from_residual.ensures.1
-
-pub read_else-returns-in_err-attributes-clause-ok : goal.read_else-returns-in_err-attributes-clause-ok
-read_else-returns-in_err-attributes-clause-ok t c =
-    no_value _ _ c.from_residual-in_err-attributes.result c.from_residual-in_err-attributes.ensures.1
-
-pub read_else-body_member-requires : goal.read_else-body_member-requires
-read_else-body_member-requires t c =
+pub read_else-body_member-body-requires : goal.read_else-body_member-body-requires
+read_else-body_member-body-requires t c =
     (to_next (depth (borrowed_view c.args.value.now)) 3 7 t c.decreases refl, tt)
 
-pub read_else-returns-in_err-body-clause-ok : goal.read_else-returns-in_err-body-clause-ok
-read_else-returns-in_err-body-clause-ok t c =
-    no_value _ _ c.from_residual-in_err-body.result c.from_residual-in_err-body.ensures.1
-
-pub read_for-returns-in_err-check_keys-clause-ok : goal.read_for-returns-in_err-check_keys-clause-ok
-read_for-returns-in_err-check_keys-clause-ok t c =
-    no_value _ _ c.from_residual.result c.from_residual.ensures.1
-
-pub read_for-returns-in_err-attributes-clause-ok : goal.read_for-returns-in_err-attributes-clause-ok
-read_for-returns-in_err-attributes-clause-ok t c =
-    no_value _ _ c.from_residual-in_err-attributes.result c.from_residual-in_err-attributes.ensures.1
-
-pub read_for-optional_statement-requires : goal.read_for-optional_statement-requires
-read_for-optional_statement-requires t c =
+pub read_for-optional_statement-initializer-requires : goal.read_for-optional_statement-initializer-requires
+read_for-optional_statement-initializer-requires t c =
     (to_next (depth (borrowed_view c.args.value.now)) 3 7 t c.decreases refl, tt)
 
-pub read_for-returns-in_err-initializer-clause-ok : goal.read_for-returns-in_err-initializer-clause-ok
-read_for-returns-in_err-initializer-clause-ok t c =
-    no_value _ _ c.from_residual-in_err-initializer.result c.from_residual-in_err-initializer.ensures.1
-
-pub read_for-returns-in_err-condition-clause-ok : goal.read_for-returns-in_err-condition-clause-ok
-read_for-returns-in_err-condition-clause-ok t c =
-    no_value _ _ c.from_residual-in_err-condition.result c.from_residual-in_err-condition.ensures.1
-
-pub read_for-optional_statement-requires-2 : goal.read_for-optional_statement-requires-2
-read_for-optional_statement-requires-2 t c =
+pub read_for-optional_statement-update-requires : goal.read_for-optional_statement-update-requires
+read_for-optional_statement-update-requires t c =
     (to_next (depth (borrowed_view c.args.value.now)) 3 7 t c.decreases refl, tt)
 
-pub read_for-returns-in_err-update-clause-ok : goal.read_for-returns-in_err-update-clause-ok
-read_for-returns-in_err-update-clause-ok t c =
-    no_value _ _ c.from_residual-in_err-update.result c.from_residual-in_err-update.ensures.1
-
-pub read_for-body_member-requires : goal.read_for-body_member-requires
-read_for-body_member-requires t c =
+pub read_for-body_member-body-requires : goal.read_for-body_member-body-requires
+read_for-body_member-body-requires t c =
     (to_next (depth (borrowed_view c.args.value.now)) 3 7 t c.decreases refl, tt)
 
-pub read_for-returns-in_err-body-clause-ok : goal.read_for-returns-in_err-body-clause-ok
-read_for-returns-in_err-body-clause-ok t c =
-    no_value _ _ c.from_residual-in_err-body.result c.from_residual-in_err-body.ensures.1
-
-pub read_if-returns-in_err-check_keys-clause-ok : goal.read_if-returns-in_err-check_keys-clause-ok
-read_if-returns-in_err-check_keys-clause-ok t c =
-    no_value _ _ c.from_residual.result c.from_residual.ensures.1
-
-pub read_if-returns-in_err-attributes-clause-ok : goal.read_if-returns-in_err-attributes-clause-ok
-read_if-returns-in_err-attributes-clause-ok t c =
-    no_value _ _ c.from_residual-in_err-attributes.result c.from_residual-in_err-attributes.ensures.1
-
-pub read_if-returns-in_err-expression-clause-ok : goal.read_if-returns-in_err-expression-clause-ok
-read_if-returns-in_err-expression-clause-ok t c =
-    no_value _ _ c.from_residual-in_err-expression.result c.from_residual-in_err-expression.ensures.1
-
-pub read_if-body_member-requires : goal.read_if-body_member-requires
-read_if-body_member-requires t c =
+pub read_if-body_member-body-requires : goal.read_if-body_member-body-requires
+read_if-body_member-body-requires t c =
     (to_next (depth (borrowed_view c.args.value.now)) 3 7 t c.decreases refl, tt)
 
-pub read_if-returns-in_err-body-clause-ok : goal.read_if-returns-in_err-body-clause-ok
-read_if-returns-in_err-body-clause-ok t c =
-    no_value _ _ c.from_residual-in_err-body.result c.from_residual-in_err-body.ensures.1
-
-pub read_if-elifs_member-requires : goal.read_if-elifs_member-requires
-read_if-elifs_member-requires t c =
+pub read_if-elifs_member-else_if_clauses-requires : goal.read_if-elifs_member-else_if_clauses-requires
+read_if-elifs_member-else_if_clauses-requires t c =
     (to_next (depth (borrowed_view c.args.value.now)) 3 7 t c.decreases refl, tt)
 
-pub read_if-returns-in_err-else_if_clauses-clause-ok : goal.read_if-returns-in_err-else_if_clauses-clause-ok
-read_if-returns-in_err-else_if_clauses-clause-ok t c =
-    no_value _ _ c.from_residual-in_err-else_if_clauses.result c.from_residual-in_err-else_if_clauses.ensures.1
-
-pub read_if-optional_else-requires : goal.read_if-optional_else-requires
-read_if-optional_else-requires t c =
+pub read_if-optional_else-else_clause-requires : goal.read_if-optional_else-else_clause-requires
+read_if-optional_else-else_clause-requires t c =
     (to_next (depth (borrowed_view c.args.value.now)) 3 7 t c.decreases refl, tt)
 
-pub read_if-returns-in_err-else_clause-clause-ok : goal.read_if-returns-in_err-else_clause-clause-ok
-read_if-returns-in_err-else_clause-clause-ok t c =
-    no_value _ _ c.from_residual-in_err-else_clause.result c.from_residual-in_err-else_clause.ensures.1
-
-pub read_loop-returns-in_err-check_keys-clause-ok : goal.read_loop-returns-in_err-check_keys-clause-ok
-read_loop-returns-in_err-check_keys-clause-ok t c =
-    no_value _ _ c.from_residual.result c.from_residual.ensures.1
-
-pub read_loop-returns-in_err-attributes-clause-ok : goal.read_loop-returns-in_err-attributes-clause-ok
-read_loop-returns-in_err-attributes-clause-ok t c =
-    no_value _ _ c.from_residual-in_err-attributes.result c.from_residual-in_err-attributes.ensures.1
-
-pub read_loop-body_member-requires : goal.read_loop-body_member-requires
-read_loop-body_member-requires t c =
+pub read_loop-body_member-body-requires : goal.read_loop-body_member-body-requires
+read_loop-body_member-body-requires t c =
     (to_next (depth (borrowed_view c.args.value.now)) 3 7 t c.decreases refl, tt)
 
-pub read_loop-returns-in_err-body-clause-ok : goal.read_loop-returns-in_err-body-clause-ok
-read_loop-returns-in_err-body-clause-ok t c =
-    no_value _ _ c.from_residual-in_err-body.result c.from_residual-in_err-body.ensures.1
-
-pub read_loop-optional_continuing-requires : goal.read_loop-optional_continuing-requires
-read_loop-optional_continuing-requires t c =
+pub read_loop-optional_continuing-continuing-requires : goal.read_loop-optional_continuing-continuing-requires
+read_loop-optional_continuing-continuing-requires t c =
     (to_next (depth (borrowed_view c.args.value.now)) 3 7 t c.decreases refl, tt)
-
-pub read_loop-returns-in_err-continuing-clause-ok : goal.read_loop-returns-in_err-continuing-clause-ok
-read_loop-returns-in_err-continuing-clause-ok t c =
-    no_value _ _ c.from_residual-in_err-continuing.result c.from_residual-in_err-continuing.ensures.1
 
 pub read_statement-returns-in_err-word-clause-ok : goal.read_statement-returns-in_err-word-clause-ok
 read_statement-returns-in_err-word-clause-ok t c =
@@ -952,69 +286,13 @@ pub read_statements-returns-in_default-clause-place : goal.read_statements-retur
 read_statements-returns-in_default-clause-place t c =
     no_list statements a_statement (borrowed_view c.args.value.now) c.wrong.result (sym c.in_default.ensures) c.wrong.ensures
 
-pub read_statements-returns-in_err-statements-clause-ok : goal.read_statements-returns-in_err-statements-clause-ok
-read_statements-returns-in_err-statements-clause-ok t c =
-    no_value _ _ c.from_residual.result c.from_residual.ensures.1
-
-pub read_statements-returns-in_err-statements-clause-place : goal.read_statements-returns-in_err-statements-clause-place
-read_statements-returns-in_err-statements-clause-place t c =
-    exit (Locates (list_of statements a_statement) (borrowed_view c.args.value.now)) c.from_residual.result error.Memory c.from_residual.ensures.1 tt
-
-pub read_statements-loop-index-init : goal.read_statements-loop-index-init
-read_statements-loop-index-init t c =
-    none_read statement_tree statements a_statement (borrowed_view c.args.value.now) c.args.numbering.now c.deref-item-items.result.now c.in_ok-statements.statements.items c.in_ok-statements.ensures.items
-
-pub read_statements-returns-in_err-push-in-Ok-clause-ok : goal.read_statements-returns-in_err-push-in-Ok-clause-ok
-read_statements-returns-in_err-push-in-Ok-clause-ok t c =
-    no_value _ _ c.from_residual-in_err-push-in-Ok.result c.from_residual-in_err-push-in-Ok.ensures.1
-
-pub read_statements-returns-in_err-push-in-Ok-clause-place : goal.read_statements-returns-in_err-push-in-Ok-clause-place
-read_statements-returns-in_err-push-in-Ok-clause-place t c =
-    exit (Locates (list_of statements a_statement) (borrowed_view c.args.value.now)) c.from_residual-in_err-push-in-Ok.result error.Memory c.from_residual-in_err-push-in-Ok.ensures.1 tt
-
-pub read_switch-returns-in_err-check_keys-clause-ok : goal.read_switch-returns-in_err-check_keys-clause-ok
-read_switch-returns-in_err-check_keys-clause-ok t c =
-    no_value _ _ c.from_residual.result c.from_residual.ensures.1
-
-pub read_switch-returns-in_err-attributes-clause-ok : goal.read_switch-returns-in_err-attributes-clause-ok
-read_switch-returns-in_err-attributes-clause-ok t c =
-    no_value _ _ c.from_residual-in_err-attributes.result c.from_residual-in_err-attributes.ensures.1
-
-pub read_switch-returns-in_err-expression-clause-ok : goal.read_switch-returns-in_err-expression-clause-ok
-read_switch-returns-in_err-expression-clause-ok t c =
-    no_value _ _ c.from_residual-in_err-expression.result c.from_residual-in_err-expression.ensures.1
-
-pub read_switch-returns-in_err-body_attributes-clause-ok : goal.read_switch-returns-in_err-body_attributes-clause-ok
-read_switch-returns-in_err-body_attributes-clause-ok t c =
-    no_value _ _ c.from_residual-in_err-body_attributes.result c.from_residual-in_err-body_attributes.ensures.1
-
-pub read_switch-clauses_member-requires : goal.read_switch-clauses_member-requires
-read_switch-clauses_member-requires t c =
+pub read_switch-clauses_member-clauses-requires : goal.read_switch-clauses_member-clauses-requires
+read_switch-clauses_member-clauses-requires t c =
     (to_next (depth (borrowed_view c.args.value.now)) 3 7 t c.decreases refl, tt)
 
-pub read_switch-returns-in_err-clauses-clause-ok : goal.read_switch-returns-in_err-clauses-clause-ok
-read_switch-returns-in_err-clauses-clause-ok t c =
-    no_value _ _ c.from_residual-in_err-clauses.result c.from_residual-in_err-clauses.ensures.1
-
-pub read_while-returns-in_err-check_keys-clause-ok : goal.read_while-returns-in_err-check_keys-clause-ok
-read_while-returns-in_err-check_keys-clause-ok t c =
-    no_value _ _ c.from_residual.result c.from_residual.ensures.1
-
-pub read_while-returns-in_err-attributes-clause-ok : goal.read_while-returns-in_err-attributes-clause-ok
-read_while-returns-in_err-attributes-clause-ok t c =
-    no_value _ _ c.from_residual-in_err-attributes.result c.from_residual-in_err-attributes.ensures.1
-
-pub read_while-returns-in_err-condition-clause-ok : goal.read_while-returns-in_err-condition-clause-ok
-read_while-returns-in_err-condition-clause-ok t c =
-    no_value _ _ c.from_residual-in_err-condition.result c.from_residual-in_err-condition.ensures.1
-
-pub read_while-body_member-requires : goal.read_while-body_member-requires
-read_while-body_member-requires t c =
+pub read_while-body_member-body-requires : goal.read_while-body_member-body-requires
+read_while-body_member-body-requires t c =
     (to_next (depth (borrowed_view c.args.value.now)) 3 7 t c.decreases refl, tt)
-
-pub read_while-returns-in_err-body-clause-ok : goal.read_while-returns-in_err-body-clause-ok
-read_while-returns-in_err-body-clause-ok t c =
-    no_value _ _ c.from_residual-in_err-body.result c.from_residual-in_err-body.ensures.1
 
 pub read_worded-read_block-requires : goal.read_worded-read_block-requires
 read_worded-read_block-requires t c =
@@ -1169,7 +447,298 @@ pub read_statement-returns-in_err-word-clause-place : goal.read_statement-return
 read_statement-returns-in_err-word-clause-place t c =
     exit (Locates (node a_statement) (borrowed_view c.args.value.now)) c.from_residual.result c.in_err-word.field-0.0 c.from_residual.ensures.1 c.in_err-word.ensures.place
 
-pub body_member-returns-in_err-member-clause-place : goal.body_member-returns-in_err-member-clause-place
-body_member-returns-in_err-member-clause-place t c =
+pub read_block-returns-in-Err-clause-place : goal.read_block-returns-in-Err-clause-place
+read_block-returns-in-Err-clause-place t c =
     let d = borrowed_view c.args.value.now in
-    exit (LocatesMember (codes "body") (node a_body) d) c.from_residual.result c.in_err-member.field-0.0 c.from_residual.ensures.1 (member-lacks (codes "body") (node a_body) d c.in_err-member.field-0.0 c.in_err-member.ensures.err c.in_err-member.ensures.place)
+    of-only (LocatesRow (statement_worded stated.Block) d) _ c.both-parts.result c.in-Err.error c.in-Err.ensures.place
+    (λ e unknown is. let wrong : has_only (known_keys (statement_worded stated.Block) d) d ≡ false = unknown in row-keys (statement_worded stated.Block) d e wrong is)
+    (λ only_known.
+    let attributes_fault = IfErr-weaker c.attributes_member-attributes.result _ (LocatesRow (statement_worded stated.Block) d) (λ e h. row-inside (statement_worded stated.Block) (codes "attrs") false (list_of attributes an_attribute) d e refl h) c.attributes_member-attributes.ensures.place in
+    let statements_fault = IfErr-weaker c.statements_member-statements.result _ (LocatesRow (statement_worded stated.Block) d) (λ e h. row-inside (statement_worded stated.Block) (codes "stmts") false (list_of statements a_statement) d e refl h) c.statements_member-statements.ensures.place in
+    of-both (LocatesRow (statement_worded stated.Block) d) c.both-parts.result c.attributes_member-attributes.result c.statements_member-statements.result c.both-parts.ensures.place attributes_fault statements_fault)
+
+pub read_block-returns-in-Ok-clause-ok : goal.read_block-returns-in-Ok-clause-ok
+read_block-returns-in-Ok-clause-ok t c =
+    let d = borrowed_view c.args.value.now in
+    let parts = part _ c.both-parts.result c.in-Ok.ensures.ok c.both-parts.ensures.ok in
+    let attributes_read = part _ c.attributes_member-attributes.result parts.0 c.attributes_member-attributes.ensures.ok in
+    let statements_read = part _ c.statements_member-statements.result parts.1 c.statements_member-statements.ensures.ok in
+    let known : has_only (known_keys (statement_worded stated.Block) d) d ≡ true = c.in-Ok.ensures.keys in
+    same-worded (worded-reads known (plain-kind compound_statement) refl (inner-then (plain-kind compound) refl (many-then attributes_read (many-then statements_read (none-then d _))) (none-then d _))) (sym (view-block c.in-Ok.attributes c.in-Ok.statements))
+
+pub read_if-returns-in-Err-clause-place : goal.read_if-returns-in-Err-clause-place
+read_if-returns-in-Err-clause-place t c =
+    let d = borrowed_view c.args.value.now in
+    of-only (LocatesRow (statement_worded stated.If) d) _ c.five-parts.result c.in-Err.error c.in-Err.ensures.place
+    (λ e unknown is. let wrong : has_only (known_keys (statement_worded stated.If) d) d ≡ false = unknown in row-keys (statement_worded stated.If) d e wrong is)
+    (λ only_known.
+    let attributes_fault = IfErr-weaker c.attributes_member-attributes.result _ (LocatesRow (statement_worded stated.If) d) (λ e h. row-inside (statement_worded stated.If) (codes "attrs") false (list_of attributes an_attribute) d e refl h) c.attributes_member-attributes.ensures.place in
+    let expression_fault = IfErr-weaker c.expression_member-expression.result _ (LocatesRow (statement_worded stated.If) d) (λ e h. row-member (statement_worded stated.If) (codes "cond") (node an_expression) d e refl h) c.expression_member-expression.ensures.place in
+    let body_fault = IfErr-weaker c.body_member-body.result _ (LocatesRow (statement_worded stated.If) d) (λ e h. row-member (statement_worded stated.If) (codes "body") (node a_body) d e refl h) c.body_member-body.ensures.place in
+    let else_if_clauses_fault = IfErr-weaker c.elifs_member-else_if_clauses.result _ (LocatesRow (statement_worded stated.If) d) (λ e h. row-inside (statement_worded stated.If) (codes "elifs") false (list_of list an_elif) d e refl h) c.elifs_member-else_if_clauses.ensures.place in
+    let else_clause_fault = IfErr-weaker c.optional_else-else_clause.result _ (LocatesRow (statement_worded stated.If) d) (λ e h. row-inside (statement_worded stated.If) (codes "else") false (node an_else) d e refl h) c.optional_else-else_clause.ensures.place in
+    of-five (LocatesRow (statement_worded stated.If) d) c.five-parts.result c.attributes_member-attributes.result c.expression_member-expression.result c.body_member-body.result c.elifs_member-else_if_clauses.result c.optional_else-else_clause.result c.five-parts.ensures.place attributes_fault expression_fault body_fault else_if_clauses_fault else_clause_fault)
+
+pub read_if-returns-in-Ok-clause-ok : goal.read_if-returns-in-Ok-clause-ok
+read_if-returns-in-Ok-clause-ok t c =
+    let d = borrowed_view c.args.value.now in
+    let parts = part _ c.five-parts.result c.in-Ok.ensures.ok c.five-parts.ensures.ok in
+    let attributes_read = part _ c.attributes_member-attributes.result parts.0 c.attributes_member-attributes.ensures.ok in
+    let expression_read = part _ c.expression_member-expression.result parts.1 c.expression_member-expression.ensures.ok in
+    let body_read = part _ c.body_member-body.result parts.2 c.body_member-body.ensures.ok in
+    let else_if_clauses_read = part _ c.elifs_member-else_if_clauses.result parts.3 c.elifs_member-else_if_clauses.ensures.ok in
+    let else_clause_read = part _ c.optional_else-else_clause.result parts.4 c.optional_else-else_clause.ensures.ok in
+    let known : has_only (known_keys (statement_worded stated.If) d) d ≡ true = c.in-Ok.ensures.keys in
+    same-worded (worded-reads known (plain-kind if_statement) refl (many-then attributes_read (inner-then (plain-kind if_clause) refl (needs-then expression_read (needs-then body_read (none-then d _))) (many-then else_if_clauses_read (may-then else_clause_read (none-then d _)))))) (sym (view-if c.in-Ok.attributes c.in-Ok.expression c.in-Ok.body c.in-Ok.else_if_clauses c.in-Ok.else_clause))
+
+pub read_switch-returns-in-Err-clause-place : goal.read_switch-returns-in-Err-clause-place
+read_switch-returns-in-Err-clause-place t c =
+    let d = borrowed_view c.args.value.now in
+    of-only (LocatesRow (statement_worded stated.Switch) d) _ c.four-parts.result c.in-Err.error c.in-Err.ensures.place
+    (λ e unknown is. let wrong : has_only (known_keys (statement_worded stated.Switch) d) d ≡ false = unknown in row-keys (statement_worded stated.Switch) d e wrong is)
+    (λ only_known.
+    let attributes_fault = IfErr-weaker c.attributes_member-attributes.result _ (LocatesRow (statement_worded stated.Switch) d) (λ e h. row-inside (statement_worded stated.Switch) (codes "attrs") false (list_of attributes an_attribute) d e refl h) c.attributes_member-attributes.ensures.place in
+    let expression_fault = IfErr-weaker c.expression_member-expression.result _ (LocatesRow (statement_worded stated.Switch) d) (λ e h. row-member (statement_worded stated.Switch) (codes "expr") (node an_expression) d e refl h) c.expression_member-expression.ensures.place in
+    let body_attributes_fault = IfErr-weaker c.attributes_member-body_attributes.result _ (LocatesRow (statement_worded stated.Switch) d) (λ e h. row-inside (statement_worded stated.Switch) (codes "body_attrs") false (list_of attributes an_attribute) d e refl h) c.attributes_member-body_attributes.ensures.place in
+    let clauses_fault = IfErr-weaker c.clauses_member-clauses.result _ (LocatesRow (statement_worded stated.Switch) d) (λ e h. row-inside (statement_worded stated.Switch) (codes "clauses") false (list_of clauses a_clause) d e refl h) c.clauses_member-clauses.ensures.place in
+    of-four (LocatesRow (statement_worded stated.Switch) d) c.four-parts.result c.attributes_member-attributes.result c.expression_member-expression.result c.attributes_member-body_attributes.result c.clauses_member-clauses.result c.four-parts.ensures.place attributes_fault expression_fault body_attributes_fault clauses_fault)
+
+pub read_switch-returns-in-Ok-clause-ok : goal.read_switch-returns-in-Ok-clause-ok
+read_switch-returns-in-Ok-clause-ok t c =
+    let d = borrowed_view c.args.value.now in
+    let parts = part _ c.four-parts.result c.in-Ok.ensures.ok c.four-parts.ensures.ok in
+    let attributes_read = part _ c.attributes_member-attributes.result parts.0 c.attributes_member-attributes.ensures.ok in
+    let expression_read = part _ c.expression_member-expression.result parts.1 c.expression_member-expression.ensures.ok in
+    let body_attributes_read = part _ c.attributes_member-body_attributes.result parts.2 c.attributes_member-body_attributes.ensures.ok in
+    let clauses_read = part _ c.clauses_member-clauses.result parts.3 c.clauses_member-clauses.ensures.ok in
+    let known : has_only (known_keys (statement_worded stated.Switch) d) d ≡ true = c.in-Ok.ensures.keys in
+    same-worded (worded-reads known (plain-kind switch) refl (many-then attributes_read (needs-then expression_read (many-then body_attributes_read (many-then clauses_read (none-then d _)))))) (sym (view-switch c.in-Ok.attributes c.in-Ok.expression c.in-Ok.body_attributes c.in-Ok.clauses))
+
+pub read_loop-returns-in-Err-clause-place : goal.read_loop-returns-in-Err-clause-place
+read_loop-returns-in-Err-clause-place t c =
+    let d = borrowed_view c.args.value.now in
+    of-only (LocatesRow (statement_worded stated.Loop) d) _ c.three-parts.result c.in-Err.error c.in-Err.ensures.place
+    (λ e unknown is. let wrong : has_only (known_keys (statement_worded stated.Loop) d) d ≡ false = unknown in row-keys (statement_worded stated.Loop) d e wrong is)
+    (λ only_known.
+    let attributes_fault = IfErr-weaker c.attributes_member-attributes.result _ (LocatesRow (statement_worded stated.Loop) d) (λ e h. row-inside (statement_worded stated.Loop) (codes "attrs") false (list_of attributes an_attribute) d e refl h) c.attributes_member-attributes.ensures.place in
+    let body_fault = IfErr-weaker c.body_member-body.result _ (LocatesRow (statement_worded stated.Loop) d) (λ e h. row-member (statement_worded stated.Loop) (codes "body") (node a_body) d e refl h) c.body_member-body.ensures.place in
+    let continuing_fault = IfErr-weaker c.optional_continuing-continuing.result _ (LocatesRow (statement_worded stated.Loop) d) (λ e h. row-inside (statement_worded stated.Loop) (codes "continuing") false (node a_continuing) d e refl h) c.optional_continuing-continuing.ensures.place in
+    of-three (LocatesRow (statement_worded stated.Loop) d) c.three-parts.result c.attributes_member-attributes.result c.body_member-body.result c.optional_continuing-continuing.result c.three-parts.ensures.place attributes_fault body_fault continuing_fault)
+
+pub read_loop-returns-in-Ok-clause-ok : goal.read_loop-returns-in-Ok-clause-ok
+read_loop-returns-in-Ok-clause-ok t c =
+    let d = borrowed_view c.args.value.now in
+    let parts = part _ c.three-parts.result c.in-Ok.ensures.ok c.three-parts.ensures.ok in
+    let attributes_read = part _ c.attributes_member-attributes.result parts.0 c.attributes_member-attributes.ensures.ok in
+    let body_read = part _ c.body_member-body.result parts.1 c.body_member-body.ensures.ok in
+    let continuing_read = part _ c.optional_continuing-continuing.result parts.2 c.optional_continuing-continuing.ensures.ok in
+    let known : has_only (known_keys (statement_worded stated.Loop) d) d ≡ true = c.in-Ok.ensures.keys in
+    same-worded (worded-reads known (plain-kind loop) refl (many-then attributes_read (needs-then body_read (may-then continuing_read (none-then d _))))) (sym (view-loop c.in-Ok.attributes c.in-Ok.body c.in-Ok.continuing))
+
+pub read_for-returns-in-Err-clause-place : goal.read_for-returns-in-Err-clause-place
+read_for-returns-in-Err-clause-place t c =
+    let d = borrowed_view c.args.value.now in
+    of-only (LocatesRow (statement_worded stated.For) d) _ c.five-parts.result c.in-Err.error c.in-Err.ensures.place
+    (λ e unknown is. let wrong : has_only (known_keys (statement_worded stated.For) d) d ≡ false = unknown in row-keys (statement_worded stated.For) d e wrong is)
+    (λ only_known.
+    let attributes_fault = IfErr-weaker c.attributes_member-attributes.result _ (LocatesRow (statement_worded stated.For) d) (λ e h. row-inside (statement_worded stated.For) (codes "attrs") false (list_of attributes an_attribute) d e refl h) c.attributes_member-attributes.ensures.place in
+    let initializer_fault = IfErr-weaker c.optional_statement-initializer.result _ (LocatesRow (statement_worded stated.For) d) (λ e h. row-inside (statement_worded stated.For) (codes "init") false (node a_statement) d e refl h) c.optional_statement-initializer.ensures.place in
+    let condition_fault = IfErr-weaker c.optional_expression-condition.result _ (LocatesRow (statement_worded stated.For) d) (λ e h. row-inside (statement_worded stated.For) (codes "cond") false (node an_expression) d e refl h) c.optional_expression-condition.ensures.place in
+    let update_fault = IfErr-weaker c.optional_statement-update.result _ (LocatesRow (statement_worded stated.For) d) (λ e h. row-inside (statement_worded stated.For) (codes "update") false (node a_statement) d e refl h) c.optional_statement-update.ensures.place in
+    let body_fault = IfErr-weaker c.body_member-body.result _ (LocatesRow (statement_worded stated.For) d) (λ e h. row-member (statement_worded stated.For) (codes "body") (node a_body) d e refl h) c.body_member-body.ensures.place in
+    of-five (LocatesRow (statement_worded stated.For) d) c.five-parts.result c.attributes_member-attributes.result c.optional_statement-initializer.result c.optional_expression-condition.result c.optional_statement-update.result c.body_member-body.result c.five-parts.ensures.place attributes_fault initializer_fault condition_fault update_fault body_fault)
+
+pub read_for-returns-in-Ok-clause-ok : goal.read_for-returns-in-Ok-clause-ok
+read_for-returns-in-Ok-clause-ok t c =
+    let d = borrowed_view c.args.value.now in
+    let parts = part _ c.five-parts.result c.in-Ok.ensures.ok c.five-parts.ensures.ok in
+    let attributes_read = part _ c.attributes_member-attributes.result parts.0 c.attributes_member-attributes.ensures.ok in
+    let initializer_read = part _ c.optional_statement-initializer.result parts.1 c.optional_statement-initializer.ensures.ok in
+    let condition_read = part _ c.optional_expression-condition.result parts.2 c.optional_expression-condition.ensures.ok in
+    let update_read = part _ c.optional_statement-update.result parts.3 c.optional_statement-update.ensures.ok in
+    let body_read = part _ c.body_member-body.result parts.4 c.body_member-body.ensures.ok in
+    let known : has_only (known_keys (statement_worded stated.For) d) d ≡ true = c.in-Ok.ensures.keys in
+    same-worded (worded-reads known (plain-kind for_loop) refl (many-then attributes_read (may-then initializer_read (may-then condition_read (may-then update_read (needs-then body_read (none-then d _))))))) (sym (view-for c.in-Ok.attributes c.in-Ok.initializer c.in-Ok.condition c.in-Ok.update c.in-Ok.body))
+
+pub read_while-returns-in-Err-clause-place : goal.read_while-returns-in-Err-clause-place
+read_while-returns-in-Err-clause-place t c =
+    let d = borrowed_view c.args.value.now in
+    of-only (LocatesRow (statement_worded stated.While) d) _ c.three-parts.result c.in-Err.error c.in-Err.ensures.place
+    (λ e unknown is. let wrong : has_only (known_keys (statement_worded stated.While) d) d ≡ false = unknown in row-keys (statement_worded stated.While) d e wrong is)
+    (λ only_known.
+    let attributes_fault = IfErr-weaker c.attributes_member-attributes.result _ (LocatesRow (statement_worded stated.While) d) (λ e h. row-inside (statement_worded stated.While) (codes "attrs") false (list_of attributes an_attribute) d e refl h) c.attributes_member-attributes.ensures.place in
+    let condition_fault = IfErr-weaker c.expression_member-condition.result _ (LocatesRow (statement_worded stated.While) d) (λ e h. row-member (statement_worded stated.While) (codes "cond") (node an_expression) d e refl h) c.expression_member-condition.ensures.place in
+    let body_fault = IfErr-weaker c.body_member-body.result _ (LocatesRow (statement_worded stated.While) d) (λ e h. row-member (statement_worded stated.While) (codes "body") (node a_body) d e refl h) c.body_member-body.ensures.place in
+    of-three (LocatesRow (statement_worded stated.While) d) c.three-parts.result c.attributes_member-attributes.result c.expression_member-condition.result c.body_member-body.result c.three-parts.ensures.place attributes_fault condition_fault body_fault)
+
+pub read_while-returns-in-Ok-clause-ok : goal.read_while-returns-in-Ok-clause-ok
+read_while-returns-in-Ok-clause-ok t c =
+    let d = borrowed_view c.args.value.now in
+    let parts = part _ c.three-parts.result c.in-Ok.ensures.ok c.three-parts.ensures.ok in
+    let attributes_read = part _ c.attributes_member-attributes.result parts.0 c.attributes_member-attributes.ensures.ok in
+    let condition_read = part _ c.expression_member-condition.result parts.1 c.expression_member-condition.ensures.ok in
+    let body_read = part _ c.body_member-body.result parts.2 c.body_member-body.ensures.ok in
+    let known : has_only (known_keys (statement_worded stated.While) d) d ≡ true = c.in-Ok.ensures.keys in
+    same-worded (worded-reads known (plain-kind while_loop) refl (many-then attributes_read (needs-then condition_read (needs-then body_read (none-then d _))))) (sym (view-while c.in-Ok.attributes c.in-Ok.condition c.in-Ok.body))
+
+pub read_body-returns-in-Err-clause-place : goal.read_body-returns-in-Err-clause-place
+read_body-returns-in-Err-clause-place t c =
+    let d = borrowed_view c.args.value.now in
+    of-only (Locates (node a_body) d) _ c.both-parts.result c.in-Err.error c.in-Err.ensures.place
+    (λ e unknown is. let wrong : has_only (known_keys (body_row) d) d ≡ false = unknown in bare-keys a_body compound (body_row) d refl e refl wrong is)
+    (λ only_known.
+    let attributes_fault = IfErr-weaker c.attributes_member-attributes.result _ (Locates (node a_body) d) (λ e h. let known : has_only (known_keys (body_row) d) d ≡ true = only_known in bare-place a_body compound (body_row) d refl e known (row-inside (body_row) (codes "attrs") false (list_of attributes an_attribute) d e refl h)) c.attributes_member-attributes.ensures.place in
+    let statements_fault = IfErr-weaker c.statements_member-statements.result _ (Locates (node a_body) d) (λ e h. let known : has_only (known_keys (body_row) d) d ≡ true = only_known in bare-place a_body compound (body_row) d refl e known (row-inside (body_row) (codes "stmts") false (list_of statements a_statement) d e refl h)) c.statements_member-statements.ensures.place in
+    of-both (Locates (node a_body) d) c.both-parts.result c.attributes_member-attributes.result c.statements_member-statements.result c.both-parts.ensures.place attributes_fault statements_fault)
+
+pub read_body-returns-in-Ok-clause-ok : goal.read_body-returns-in-Ok-clause-ok
+read_body-returns-in-Ok-clause-ok t c =
+    let d = borrowed_view c.args.value.now in
+    let parts = part _ c.both-parts.result c.in-Ok.ensures.ok c.both-parts.ensures.ok in
+    let attributes_read = part _ c.attributes_member-attributes.result parts.0 c.attributes_member-attributes.ensures.ok in
+    let statements_read = part _ c.statements_member-statements.result parts.1 c.statements_member-statements.ensures.ok in
+    let known : has_only (known_keys (body_row) d) d ≡ true = c.in-Ok.ensures.keys in
+    same-reads (bare-reads a_body compound (body_row) d refl _ _ _ known (many-then attributes_read (many-then statements_read (none-then d _)))) (sym (made-block c.in-Ok.attributes c.in-Ok.statements))
+
+pub read_elif-returns-in-Err-clause-place : goal.read_elif-returns-in-Err-clause-place
+read_elif-returns-in-Err-clause-place t c =
+    let d = borrowed_view c.args.value.now in
+    of-only (Locates (node an_elif) d) _ c.three-parts.result c.in-Err.error c.in-Err.ensures.place
+    (λ e unknown is. let wrong : has_only (known_keys (attrs condition_row) d) d ≡ false = unknown in bare-keys an_elif else_if_clause (attrs condition_row) d refl e refl wrong is)
+    (λ only_known.
+    let attributes_fault = IfErr-weaker c.attributes_member-attributes.result _ (Locates (node an_elif) d) (λ e h. let known : has_only (known_keys (attrs condition_row) d) d ≡ true = only_known in bare-place an_elif else_if_clause (attrs condition_row) d refl e known (row-inside (attrs condition_row) (codes "attrs") false (list_of attributes an_attribute) d e refl h)) c.attributes_member-attributes.ensures.place in
+    let expression_fault = IfErr-weaker c.expression_member-expression.result _ (Locates (node an_elif) d) (λ e h. let known : has_only (known_keys (attrs condition_row) d) d ≡ true = only_known in bare-place an_elif else_if_clause (attrs condition_row) d refl e known (row-member (attrs condition_row) (codes "cond") (node an_expression) d e refl h)) c.expression_member-expression.ensures.place in
+    let body_fault = IfErr-weaker c.body_member-body.result _ (Locates (node an_elif) d) (λ e h. let known : has_only (known_keys (attrs condition_row) d) d ≡ true = only_known in bare-place an_elif else_if_clause (attrs condition_row) d refl e known (row-member (attrs condition_row) (codes "body") (node a_body) d e refl h)) c.body_member-body.ensures.place in
+    of-three (Locates (node an_elif) d) c.three-parts.result c.attributes_member-attributes.result c.expression_member-expression.result c.body_member-body.result c.three-parts.ensures.place attributes_fault expression_fault body_fault)
+
+pub read_elif-returns-in-Ok-clause-ok : goal.read_elif-returns-in-Ok-clause-ok
+read_elif-returns-in-Ok-clause-ok t c =
+    let d = borrowed_view c.args.value.now in
+    let parts = part _ c.three-parts.result c.in-Ok.ensures.ok c.three-parts.ensures.ok in
+    let attributes_read = part _ c.attributes_member-attributes.result parts.0 c.attributes_member-attributes.ensures.ok in
+    let expression_read = part _ c.expression_member-expression.result parts.1 c.expression_member-expression.ensures.ok in
+    let body_read = part _ c.body_member-body.result parts.2 c.body_member-body.ensures.ok in
+    let known : has_only (known_keys (attrs condition_row) d) d ≡ true = c.in-Ok.ensures.keys in
+    same-reads (bare-reads an_elif else_if_clause (attrs condition_row) d refl _ _ _ known (many-then attributes_read (needs-then expression_read (needs-then body_read (none-then d _))))) (sym (made-elif c.in-Ok.attributes c.in-Ok.expression c.in-Ok.body))
+
+pub read_else-returns-in-Err-clause-place : goal.read_else-returns-in-Err-clause-place
+read_else-returns-in-Err-clause-place t c =
+    let d = borrowed_view c.args.value.now in
+    of-only (Locates (node an_else) d) _ c.both-parts.result c.in-Err.error c.in-Err.ensures.place
+    (λ e unknown is. let wrong : has_only (known_keys (attrs (needs (codes "body") (node a_body) nothing)) d) d ≡ false = unknown in bare-keys an_else else_clause (attrs (needs (codes "body") (node a_body) nothing)) d refl e refl wrong is)
+    (λ only_known.
+    let attributes_fault = IfErr-weaker c.attributes_member-attributes.result _ (Locates (node an_else) d) (λ e h. let known : has_only (known_keys (attrs (needs (codes "body") (node a_body) nothing)) d) d ≡ true = only_known in bare-place an_else else_clause (attrs (needs (codes "body") (node a_body) nothing)) d refl e known (row-inside (attrs (needs (codes "body") (node a_body) nothing)) (codes "attrs") false (list_of attributes an_attribute) d e refl h)) c.attributes_member-attributes.ensures.place in
+    let body_fault = IfErr-weaker c.body_member-body.result _ (Locates (node an_else) d) (λ e h. let known : has_only (known_keys (attrs (needs (codes "body") (node a_body) nothing)) d) d ≡ true = only_known in bare-place an_else else_clause (attrs (needs (codes "body") (node a_body) nothing)) d refl e known (row-member (attrs (needs (codes "body") (node a_body) nothing)) (codes "body") (node a_body) d e refl h)) c.body_member-body.ensures.place in
+    of-both (Locates (node an_else) d) c.both-parts.result c.attributes_member-attributes.result c.body_member-body.result c.both-parts.ensures.place attributes_fault body_fault)
+
+pub read_else-returns-in-Ok-clause-ok : goal.read_else-returns-in-Ok-clause-ok
+read_else-returns-in-Ok-clause-ok t c =
+    let d = borrowed_view c.args.value.now in
+    let parts = part _ c.both-parts.result c.in-Ok.ensures.ok c.both-parts.ensures.ok in
+    let attributes_read = part _ c.attributes_member-attributes.result parts.0 c.attributes_member-attributes.ensures.ok in
+    let body_read = part _ c.body_member-body.result parts.1 c.body_member-body.ensures.ok in
+    let known : has_only (known_keys (attrs (needs (codes "body") (node a_body) nothing)) d) d ≡ true = c.in-Ok.ensures.keys in
+    same-reads (bare-reads an_else else_clause (attrs (needs (codes "body") (node a_body) nothing)) d refl _ _ _ known (many-then attributes_read (needs-then body_read (none-then d _)))) (sym (made-else c.in-Ok.attributes c.in-Ok.body))
+
+pub read_clause-returns-in-Err-clause-place : goal.read_clause-returns-in-Err-clause-place
+read_clause-returns-in-Err-clause-place t c =
+    let d = borrowed_view c.args.value.now in
+    of-only (Locates (node a_clause) d) _ c.three-parts.result c.in-Err.error c.in-Err.ensures.place
+    (λ e unknown is. let wrong : has_only (known_keys (attrs (many (codes "cases") (list_of list a_case) (needs (codes "body") (node a_body) nothing))) d) d ≡ false = unknown in bare-keys a_clause switch_clause (attrs (many (codes "cases") (list_of list a_case) (needs (codes "body") (node a_body) nothing))) d refl e refl wrong is)
+    (λ only_known.
+    let attributes_fault = IfErr-weaker c.attributes_member-attributes.result _ (Locates (node a_clause) d) (λ e h. let known : has_only (known_keys (attrs (many (codes "cases") (list_of list a_case) (needs (codes "body") (node a_body) nothing))) d) d ≡ true = only_known in bare-place a_clause switch_clause (attrs (many (codes "cases") (list_of list a_case) (needs (codes "body") (node a_body) nothing))) d refl e known (row-inside (attrs (many (codes "cases") (list_of list a_case) (needs (codes "body") (node a_body) nothing))) (codes "attrs") false (list_of attributes an_attribute) d e refl h)) c.attributes_member-attributes.ensures.place in
+    let case_selectors_fault = IfErr-weaker c.cases_member-case_selectors.result _ (Locates (node a_clause) d) (λ e h. let known : has_only (known_keys (attrs (many (codes "cases") (list_of list a_case) (needs (codes "body") (node a_body) nothing))) d) d ≡ true = only_known in bare-place a_clause switch_clause (attrs (many (codes "cases") (list_of list a_case) (needs (codes "body") (node a_body) nothing))) d refl e known (row-inside (attrs (many (codes "cases") (list_of list a_case) (needs (codes "body") (node a_body) nothing))) (codes "cases") false (list_of list a_case) d e refl h)) c.cases_member-case_selectors.ensures.place in
+    let body_fault = IfErr-weaker c.body_member-body.result _ (Locates (node a_clause) d) (λ e h. let known : has_only (known_keys (attrs (many (codes "cases") (list_of list a_case) (needs (codes "body") (node a_body) nothing))) d) d ≡ true = only_known in bare-place a_clause switch_clause (attrs (many (codes "cases") (list_of list a_case) (needs (codes "body") (node a_body) nothing))) d refl e known (row-member (attrs (many (codes "cases") (list_of list a_case) (needs (codes "body") (node a_body) nothing))) (codes "body") (node a_body) d e refl h)) c.body_member-body.ensures.place in
+    of-three (Locates (node a_clause) d) c.three-parts.result c.attributes_member-attributes.result c.cases_member-case_selectors.result c.body_member-body.result c.three-parts.ensures.place attributes_fault case_selectors_fault body_fault)
+
+pub read_clause-returns-in-Ok-clause-ok : goal.read_clause-returns-in-Ok-clause-ok
+read_clause-returns-in-Ok-clause-ok t c =
+    let d = borrowed_view c.args.value.now in
+    let parts = part _ c.three-parts.result c.in-Ok.ensures.ok c.three-parts.ensures.ok in
+    let attributes_read = part _ c.attributes_member-attributes.result parts.0 c.attributes_member-attributes.ensures.ok in
+    let case_selectors_read = part _ c.cases_member-case_selectors.result parts.1 c.cases_member-case_selectors.ensures.ok in
+    let body_read = part _ c.body_member-body.result parts.2 c.body_member-body.ensures.ok in
+    let known : has_only (known_keys (attrs (many (codes "cases") (list_of list a_case) (needs (codes "body") (node a_body) nothing))) d) d ≡ true = c.in-Ok.ensures.keys in
+    same-reads (bare-reads a_clause switch_clause (attrs (many (codes "cases") (list_of list a_case) (needs (codes "body") (node a_body) nothing))) d refl _ _ _ known (many-then attributes_read (many-then case_selectors_read (needs-then body_read (none-then d _))))) (sym (made-clause c.in-Ok.attributes c.in-Ok.case_selectors c.in-Ok.body))
+
+pub read_continuing-returns-in-Err-clause-place : goal.read_continuing-returns-in-Err-clause-place
+read_continuing-returns-in-Err-clause-place t c =
+    let d = borrowed_view c.args.value.now in
+    of-only (Locates (node a_continuing) d) _ c.three-parts.result c.in-Err.error c.in-Err.ensures.place
+    (λ e unknown is. let wrong : has_only (known_keys (attrs (needs (codes "body") (node a_body) (may (codes "break_if") (node a_break_if) nothing))) d) d ≡ false = unknown in bare-keys a_continuing continuing (attrs (needs (codes "body") (node a_body) (may (codes "break_if") (node a_break_if) nothing))) d refl e refl wrong is)
+    (λ only_known.
+    let attributes_fault = IfErr-weaker c.attributes_member-attributes.result _ (Locates (node a_continuing) d) (λ e h. let known : has_only (known_keys (attrs (needs (codes "body") (node a_body) (may (codes "break_if") (node a_break_if) nothing))) d) d ≡ true = only_known in bare-place a_continuing continuing (attrs (needs (codes "body") (node a_body) (may (codes "break_if") (node a_break_if) nothing))) d refl e known (row-inside (attrs (needs (codes "body") (node a_body) (may (codes "break_if") (node a_break_if) nothing))) (codes "attrs") false (list_of attributes an_attribute) d e refl h)) c.attributes_member-attributes.ensures.place in
+    let body_fault = IfErr-weaker c.body_member-body.result _ (Locates (node a_continuing) d) (λ e h. let known : has_only (known_keys (attrs (needs (codes "body") (node a_body) (may (codes "break_if") (node a_break_if) nothing))) d) d ≡ true = only_known in bare-place a_continuing continuing (attrs (needs (codes "body") (node a_body) (may (codes "break_if") (node a_break_if) nothing))) d refl e known (row-member (attrs (needs (codes "body") (node a_body) (may (codes "break_if") (node a_break_if) nothing))) (codes "body") (node a_body) d e refl h)) c.body_member-body.ensures.place in
+    let break_if_fault = IfErr-weaker c.optional_break_if-break_if.result _ (Locates (node a_continuing) d) (λ e h. let known : has_only (known_keys (attrs (needs (codes "body") (node a_body) (may (codes "break_if") (node a_break_if) nothing))) d) d ≡ true = only_known in bare-place a_continuing continuing (attrs (needs (codes "body") (node a_body) (may (codes "break_if") (node a_break_if) nothing))) d refl e known (row-inside (attrs (needs (codes "body") (node a_body) (may (codes "break_if") (node a_break_if) nothing))) (codes "break_if") false (node a_break_if) d e refl h)) c.optional_break_if-break_if.ensures.place in
+    of-three (Locates (node a_continuing) d) c.three-parts.result c.attributes_member-attributes.result c.body_member-body.result c.optional_break_if-break_if.result c.three-parts.ensures.place attributes_fault body_fault break_if_fault)
+
+pub read_continuing-returns-in-Ok-clause-ok : goal.read_continuing-returns-in-Ok-clause-ok
+read_continuing-returns-in-Ok-clause-ok t c =
+    let d = borrowed_view c.args.value.now in
+    let parts = part _ c.three-parts.result c.in-Ok.ensures.ok c.three-parts.ensures.ok in
+    let attributes_read = part _ c.attributes_member-attributes.result parts.0 c.attributes_member-attributes.ensures.ok in
+    let body_read = part _ c.body_member-body.result parts.1 c.body_member-body.ensures.ok in
+    let break_if_read = part _ c.optional_break_if-break_if.result parts.2 c.optional_break_if-break_if.ensures.ok in
+    let known : has_only (known_keys (attrs (needs (codes "body") (node a_body) (may (codes "break_if") (node a_break_if) nothing))) d) d ≡ true = c.in-Ok.ensures.keys in
+    same-reads (bare-reads a_continuing continuing (attrs (needs (codes "body") (node a_body) (may (codes "break_if") (node a_break_if) nothing))) d refl _ _ _ known (many-then attributes_read (needs-then body_read (may-then break_if_read (none-then d _))))) (sym (made-continuing c.in-Ok.attributes c.in-Ok.body c.in-Ok.break_if))
+
+pub read_statements-loop-index-init : goal.read_statements-loop-index-init
+read_statements-loop-index-init t c =
+    list-none statement_tree statements a_statement (borrowed_view c.args.value.now) c.deref-item-items.result.now c.args.numbering.now c.room-statements.result c.room-statements.ensures.ok c.room-statements.ensures.refused
+
+pub read_statements-loop-index-preserved : goal.read_statements-loop-index-preserved
+read_statements-loop-index-preserved t c =
+    let vs = c.deref-item-items.result.now in
+    let is : as_array (borrowed_view c.args.value.now) ≡ Some (items_view vs) = sym c.in-Some.ensures ∙ ap (λ l. Some (items_view l)) (sym c.deref-item-items.ensures.value) in
+    list-turn statement_tree statements a_statement (borrowed_view c.args.value.now) vs is c.loop-index.index c.item-item.result c.args.numbering.now c.loop-index.numbering c.read_statement-statement.new.numbering c.loop-index.statements c.read_statement-statement.result c.loop-index-test.true c.item-item.is c.loop-index.invariant c.with_item-statements.result c.read_statement-statement.ensures.ok c.read_statement-statement.ensures.place c.with_item-statements.ensures.ok c.with_item-statements.ensures.place
+
+pub read_statements-returns-clause-ok : goal.read_statements-returns-clause-ok
+read_statements-returns-clause-ok t c =
+    let vs = c.deref-item-items.result.now in
+    let is : as_array (borrowed_view c.args.value.now) ≡ Some (items_view vs) = sym c.in-Some.ensures ∙ ap (λ l. Some (items_view l)) (sym c.deref-item-items.ensures.value) in
+    list-whole statement_tree statements a_statement (borrowed_view c.args.value.now) vs is c.loop-index.index _ _ c.loop-index.statements c.loop-index-test.false c.loop-index.invariant
+
+pub read_statements-returns-clause-place : goal.read_statements-returns-clause-place
+read_statements-returns-clause-place t c = c.loop-index.invariant.1
+
+pub read_elifs-loop-index-init : goal.read_elifs-loop-index-init
+read_elifs-loop-index-init t c =
+    list-none else_if_view list an_elif (borrowed_view c.args.value.now) c.deref-item-items.result.now c.args.numbering.now c.room-clauses.result c.room-clauses.ensures.ok c.room-clauses.ensures.refused
+
+pub read_elifs-loop-index-preserved : goal.read_elifs-loop-index-preserved
+read_elifs-loop-index-preserved t c =
+    let vs = c.deref-item-items.result.now in
+    let is : as_array (borrowed_view c.args.value.now) ≡ Some (items_view vs) = sym c.in-Some.ensures ∙ ap (λ l. Some (items_view l)) (sym c.deref-item-items.ensures.value) in
+    list-turn else_if_view list an_elif (borrowed_view c.args.value.now) vs is c.loop-index.index c.item-item.result c.args.numbering.now c.loop-index.numbering c.read_elif-clause.new.numbering c.loop-index.clauses c.read_elif-clause.result c.loop-index-test.true c.item-item.is c.loop-index.invariant c.with_item-clauses.result c.read_elif-clause.ensures.ok c.read_elif-clause.ensures.place c.with_item-clauses.ensures.ok c.with_item-clauses.ensures.place
+
+pub read_elifs-returns-clause-ok : goal.read_elifs-returns-clause-ok
+read_elifs-returns-clause-ok t c =
+    let vs = c.deref-item-items.result.now in
+    let is : as_array (borrowed_view c.args.value.now) ≡ Some (items_view vs) = sym c.in-Some.ensures ∙ ap (λ l. Some (items_view l)) (sym c.deref-item-items.ensures.value) in
+    list-whole else_if_view list an_elif (borrowed_view c.args.value.now) vs is c.loop-index.index _ _ c.loop-index.clauses c.loop-index-test.false c.loop-index.invariant
+
+pub read_elifs-returns-clause-place : goal.read_elifs-returns-clause-place
+read_elifs-returns-clause-place t c = c.loop-index.invariant.1
+
+pub read_clauses-loop-index-init : goal.read_clauses-loop-index-init
+read_clauses-loop-index-init t c =
+    list-none clause_view clauses a_clause (borrowed_view c.args.value.now) c.deref-item-items.result.now c.args.numbering.now c.room-clauses.result c.room-clauses.ensures.ok c.room-clauses.ensures.refused
+
+pub read_clauses-loop-index-preserved : goal.read_clauses-loop-index-preserved
+read_clauses-loop-index-preserved t c =
+    let vs = c.deref-item-items.result.now in
+    let is : as_array (borrowed_view c.args.value.now) ≡ Some (items_view vs) = sym c.in-Some.ensures ∙ ap (λ l. Some (items_view l)) (sym c.deref-item-items.ensures.value) in
+    list-turn clause_view clauses a_clause (borrowed_view c.args.value.now) vs is c.loop-index.index c.item-item.result c.args.numbering.now c.loop-index.numbering c.read_clause-clause.new.numbering c.loop-index.clauses c.read_clause-clause.result c.loop-index-test.true c.item-item.is c.loop-index.invariant c.with_item-clauses.result c.read_clause-clause.ensures.ok c.read_clause-clause.ensures.place c.with_item-clauses.ensures.ok c.with_item-clauses.ensures.place
+
+pub read_clauses-returns-clause-ok : goal.read_clauses-returns-clause-ok
+read_clauses-returns-clause-ok t c =
+    let vs = c.deref-item-items.result.now in
+    let is : as_array (borrowed_view c.args.value.now) ≡ Some (items_view vs) = sym c.in-Some.ensures ∙ ap (λ l. Some (items_view l)) (sym c.deref-item-items.ensures.value) in
+    list-whole clause_view clauses a_clause (borrowed_view c.args.value.now) vs is c.loop-index.index _ _ c.loop-index.clauses c.loop-index-test.false c.loop-index.invariant
+
+pub read_clauses-returns-clause-place : goal.read_clauses-returns-clause-place
+read_clauses-returns-clause-place t c = c.loop-index.invariant.1
+
+pub body_member-returns-in_default-clause-place : goal.body_member-returns-in_default-clause-place
+body_member-returns-in_default-clause-place t c =
+    member-lacks (codes "body") (node a_body) (borrowed_view c.args.value.now) c.wrong.result (sym c.in_default.ensures) c.wrong.ensures

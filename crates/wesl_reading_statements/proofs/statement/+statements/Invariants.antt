@@ -1,12 +1,10 @@
 use Rattle.serde_json.specs.Data.{depth}
-use Rattle.wesl_borrowed.specs.View.{borrowed_view, items_view}
-use Rattle.std.proofs.Common.{map, take, ◌*◌, ◌+◌}
-use Rattle.wesl_form.specs.Nodes.{whole_form}
-use Rattle.wesl_form.specs.Reading.{items_in, reading}
-use Rattle.wesl_form.specs.Schema.{a_clause, a_statement, an_elif, node}
-use Rattle.wesl_reading.specs.Numbers.{AreReadAs}
-use Rattle.wesl_syntax.specs.Tree.{forest_of}
+use Rattle.wesl_borrowed.specs.View.{borrowed_view}
+use Rattle.std.proofs.Common.{◌+◌, ◌*◌}
+use Rattle.wesl_form.specs.Schema.{a_clause, a_statement, an_elif}
+use Rattle.wesl_syntax.specs.Tree.{clauses, list, statements}
 use Rattle.wesl_syntax.specs.View.{clause_view, else_if_view, statement_tree}
+use Rattle.wesl_reading.proofs.ReadLists.{IsListRead}
 use Rattle.wesl_reading_statements.proofs.statement.+statements.Given as goal
 
 abbrev pub decreases-read_statement : goal.decreases-read_statement
@@ -79,13 +77,10 @@ abbrev pub decreases-read_clauses : goal.decreases-read_clauses
 decreases-read_clauses l = 10 * depth (borrowed_view l.value.now) + 2
 
 abbrev pub invariant-read_statements-loop-index : goal.invariant-read_statements-loop-index
-invariant-read_statements-loop-index l =
-    AreReadAs (λ n. items_in (reading whole_form n (node a_statement)) (items_view (take l.index l.item-items))) (depth (borrowed_view l.value)) (forest_of (map statement_tree l.statements.items)) l.initial.numbering l.numbering
+invariant-read_statements-loop-index l = IsListRead statement_tree statements a_statement (borrowed_view l.value) l.item-items l.index l.initial.numbering l.numbering l.statements
 
 abbrev pub invariant-read_elifs-loop-index : goal.invariant-read_elifs-loop-index
-invariant-read_elifs-loop-index l =
-    AreReadAs (λ n. items_in (reading whole_form n (node an_elif)) (items_view (take l.index l.item-items))) (depth (borrowed_view l.value)) (forest_of (map else_if_view l.clauses.items)) l.initial.numbering l.numbering
+invariant-read_elifs-loop-index l = IsListRead else_if_view list an_elif (borrowed_view l.value) l.item-items l.index l.initial.numbering l.numbering l.clauses
 
 abbrev pub invariant-read_clauses-loop-index : goal.invariant-read_clauses-loop-index
-invariant-read_clauses-loop-index l =
-    AreReadAs (λ n. items_in (reading whole_form n (node a_clause)) (items_view (take l.index l.item-items))) (depth (borrowed_view l.value)) (forest_of (map clause_view l.clauses.items)) l.initial.numbering l.numbering
+invariant-read_clauses-loop-index l = IsListRead clause_view clauses a_clause (borrowed_view l.value) l.item-items l.index l.initial.numbering l.numbering l.clauses

@@ -1,5 +1,5 @@
 use Rattle.wesl_borrowed.specs.View.{borrowed_view}
-use Rattle.std.proofs.Common.{codes, false, refl, rules, true, ◌≡◌}
+use Rattle.std.proofs.Common.{codes, false, refl, true, ◌≡◌}
 use Rattle.wesl_form.specs.Reading.{known_keys}
 use Rattle.wesl_pointer.specs.Keys.{has_only}
 use Rattle.wesl_form.specs.Schema.{a_type, an_attribute, an_ident, leaf, list_of, node}
@@ -11,39 +11,28 @@ use Rattle.wesl_reading_statements.proofs.Worded.{worded-reads}
 use Rattle.wesl_syntax.specs.Tree.{attributes, binder, type_alias}
 use Rattle.wesl_reading_unit.specs.Forms.{declaration_worded}
 use Rattle.wesl_reading_unit.specs.declared.words.DeclarationWord.TheVariants as globals
+use Rattle.std.proofs.lemmas.Result.{IfErr-weaker}
+use Rattle.wesl_reading_statements.proofs.Several.{of-three}
+use Rattle.wesl_reading.proofs.Wholes.{of-only, part}
 use Rattle.wesl_reading_unit.proofs.declaration.read_alias.Goals as goal
 
-pub returns-in_err-check_keys-clause-place : goal.returns-in_err-check_keys-clause-place
-returns-in_err-check_keys-clause-place c =
+pub returns-in-Err-clause-place : goal.returns-in-Err-clause-place
+returns-in-Err-clause-place c =
     let d = borrowed_view c.args.value.now in
-    let e = c.in_err-check_keys.field-0.0 in
-    let wrong : has_only (known_keys (declaration_worded globals.Alias) d) d ≡ false = search rules in
-    let located : LocatesRow (declaration_worded globals.Alias) d e = row-keys (declaration_worded globals.Alias) d e wrong c.in_err-check_keys.ensures.place in
-    search rules
+    of-only (LocatesRow (declaration_worded globals.Alias) d) _ c.three-parts.result c.in-Err.error c.in-Err.ensures.place
+    (λ e unknown is. let wrong : has_only (known_keys (declaration_worded globals.Alias) d) d ≡ false = unknown in row-keys (declaration_worded globals.Alias) d e wrong is)
+    (λ only_known.
+    let attributes_fault = IfErr-weaker c.attributes_member-attributes.result _ (LocatesRow (declaration_worded globals.Alias) d) (λ e h. row-inside (declaration_worded globals.Alias) (codes "attrs") false (list_of attributes an_attribute) d e refl h) c.attributes_member-attributes.ensures.place in
+    let ident_fault = IfErr-weaker c.binder_member-ident.result _ (LocatesRow (declaration_worded globals.Alias) d) (λ e h. row-member (declaration_worded globals.Alias) (codes "name") (leaf (an_ident binder)) d e refl h) c.binder_member-ident.ensures.place in
+    let ty_fault = IfErr-weaker c.type_member-ty.result _ (LocatesRow (declaration_worded globals.Alias) d) (λ e h. row-member (declaration_worded globals.Alias) (codes "ty") (node a_type) d e refl h) c.type_member-ty.ensures.place in
+    of-three (LocatesRow (declaration_worded globals.Alias) d) c.three-parts.result c.attributes_member-attributes.result c.binder_member-ident.result c.type_member-ty.result c.three-parts.ensures.place attributes_fault ident_fault ty_fault)
 
-pub returns-in_err-attributes-clause-place : goal.returns-in_err-attributes-clause-place
-returns-in_err-attributes-clause-place c =
+pub returns-in-Ok-clause-ok : goal.returns-in-Ok-clause-ok
+returns-in-Ok-clause-ok c =
     let d = borrowed_view c.args.value.now in
-    let e = c.in_err-attributes.field-0.0 in
-    let located : LocatesRow (declaration_worded globals.Alias) d e = row-inside (declaration_worded globals.Alias) (codes "attrs") false (list_of attributes an_attribute) d e refl c.in_err-attributes.ensures.place in
-    search rules
-
-pub returns-in_err-ident-clause-place : goal.returns-in_err-ident-clause-place
-returns-in_err-ident-clause-place c =
-    let d = borrowed_view c.args.value.now in
-    let e = c.in_err-ident.field-0.0 in
-    let located : LocatesRow (declaration_worded globals.Alias) d e = row-member (declaration_worded globals.Alias) (codes "name") (leaf (an_ident binder)) d e refl c.in_err-ident.ensures.place in
-    search rules
-
-pub returns-in_err-ty-clause-place : goal.returns-in_err-ty-clause-place
-returns-in_err-ty-clause-place c =
-    let d = borrowed_view c.args.value.now in
-    let e = c.in_err-ty.field-0.0 in
-    let located : LocatesRow (declaration_worded globals.Alias) d e = row-member (declaration_worded globals.Alias) (codes "ty") (node a_type) d e refl c.in_err-ty.ensures.place in
-    search rules
-
-pub returns-clause-ok : goal.returns-clause-ok
-returns-clause-ok c =
-    let d = borrowed_view c.args.value.now in
-    let known : has_only (known_keys (declaration_worded globals.Alias) d) d ≡ true = search rules in
-    worded-reads known (plain-kind type_alias) refl (many-then c.in_ok-attributes.ensures.ok (needs-then c.in_ok-ident.ensures.ok (needs-then c.in_ok-ty.ensures.ok (none-then d _))))
+    let parts = part _ c.three-parts.result c.in-Ok.ensures.ok c.three-parts.ensures.ok in
+    let attributes_read = part _ c.attributes_member-attributes.result parts.0 c.attributes_member-attributes.ensures.ok in
+    let ident_read = part _ c.binder_member-ident.result parts.1 c.binder_member-ident.ensures.ok in
+    let ty_read = part _ c.type_member-ty.result parts.2 c.type_member-ty.ensures.ok in
+    let known : has_only (known_keys (declaration_worded globals.Alias) d) d ≡ true = c.in-Ok.ensures.keys in
+    worded-reads known (plain-kind type_alias) refl (many-then attributes_read (needs-then ident_read (needs-then ty_read (none-then d _))))

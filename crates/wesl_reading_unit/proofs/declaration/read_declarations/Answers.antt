@@ -1,31 +1,27 @@
-use Rattle.serde_json.specs.Data.{depth, items_depth}
+use Rattle.std.proofs.Common.{sym, ap, ◌∙◌, ◌≡◌, Some}
 use Rattle.serde_json.specs.Find.{as_array}
 use Rattle.wesl_borrowed.specs.View.{borrowed_view, items_view}
-use Rattle.std.proofs.Common.{Some, arith, rules, ◌<◌, ◌≡◌, ◌≤◌}
 use Rattle.wesl_form.specs.Schema.{a_declaration}
-use Rattle.wesl_reading.proofs.Depths.{array-depth, item-at, item-depth}
-use Rattle.wesl_reading.proofs.Lists.{items-turn, items-whole}
-use Rattle.wesl_reading.proofs.Places.{item-under}
-use Rattle.wesl_syntax.specs.Tree.{declaration_node, declarations}
+use Rattle.wesl_syntax.specs.Tree.{declarations, declaration_node}
 use Rattle.wesl_syntax.specs.View.{global_view, placed}
+use Rattle.wesl_reading.proofs.ReadLists.{list-none, list-turn, list-whole}
 use Rattle.wesl_reading_unit.proofs.declaration.read_declarations.Goals as goal
 
-pub returns-in-Err-clause-place : goal.returns-in-Err-clause-place
-returns-in-Err-clause-place c =
-    let vs = c.deref-item-items.result.now in
-    let is : as_array (borrowed_view c.args.value.now) ≡ Some (items_view vs) = search rules in
-    item-under declarations a_declaration c.loop-index.index (borrowed_view c.args.value.now) (borrowed_view c.item-item.result) c.in-Err.error c.under_index.result (item-at _ vs c.loop-index.index c.item-item.result is (search rules) (search rules)) c.in-Err.ensures.place c.under_index.ensures
+pub loop-index-init : goal.loop-index-init
+loop-index-init c =
+    list-none (placed global_view declaration_node) declarations a_declaration (borrowed_view c.args.value.now) c.deref-item-items.result.now c.args.numbering.now c.room-declarations.result c.room-declarations.ensures.ok c.room-declarations.ensures.refused
 
 pub loop-index-preserved : goal.loop-index-preserved
 loop-index-preserved c =
     let vs = c.deref-item-items.result.now in
-    let is : as_array (borrowed_view c.args.value.now) ≡ Some (items_view vs) = search rules in
-    let below : depth (borrowed_view c.item-item.result) ≤ items_depth (items_view vs) = item-depth vs c.loop-index.index c.item-item.result (search rules) (search rules) in
-    let deep : items_depth (items_view vs) < depth (borrowed_view c.args.value.now) = array-depth _ _ is in
-    items-turn (placed global_view declaration_node) a_declaration vs c.loop-index.index c.item-item.result (depth (borrowed_view c.args.value.now)) c.args.numbering.now c.loop-index.numbering c.read_declaration.new.numbering c.loop-index.declarations.items c.push.new.self.items c.in-Ok.declaration (search rules) (search rules) (search rules) (omega arith) c.loop-index.invariant c.in-Ok.ensures.ok.form
+    let is : as_array (borrowed_view c.args.value.now) ≡ Some (items_view vs) = sym c.in-Some.ensures ∙ ap (λ l. Some (items_view l)) (sym c.deref-item-items.ensures.value) in
+    list-turn (placed global_view declaration_node) declarations a_declaration (borrowed_view c.args.value.now) vs is c.loop-index.index c.item-item.result c.args.numbering.now c.loop-index.numbering c.read_declaration-declaration.new.numbering c.loop-index.declarations c.read_declaration-declaration.result c.loop-index-test.true c.item-item.is c.loop-index.invariant c.with_item-declarations.result c.read_declaration-declaration.ensures.ok c.read_declaration-declaration.ensures.place c.with_item-declarations.ensures.ok c.with_item-declarations.ensures.place
 
 pub returns-clause-ok : goal.returns-clause-ok
 returns-clause-ok c =
     let vs = c.deref-item-items.result.now in
-    let is : as_array (borrowed_view c.args.value.now) ≡ Some (items_view vs) = search rules in
-    record { form = items-whole declarations a_declaration (borrowed_view c.args.value.now) vs c.loop-index.index _ _ _ is (search rules) c.loop-index.invariant }
+    let is : as_array (borrowed_view c.args.value.now) ≡ Some (items_view vs) = sym c.in-Some.ensures ∙ ap (λ l. Some (items_view l)) (sym c.deref-item-items.ensures.value) in
+    list-whole (placed global_view declaration_node) declarations a_declaration (borrowed_view c.args.value.now) vs is c.loop-index.index _ _ c.loop-index.declarations c.loop-index-test.false c.loop-index.invariant
+
+pub returns-clause-place : goal.returns-clause-place
+returns-clause-place c = c.loop-index.invariant.1

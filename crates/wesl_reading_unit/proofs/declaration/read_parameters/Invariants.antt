@@ -1,14 +1,9 @@
-use Rattle.serde_json.specs.Data.{depth}
-use Rattle.wesl_borrowed.specs.View.{borrowed_view, items_view}
-use Rattle.std.proofs.Common.{map, take}
-use Rattle.wesl_form.specs.Nodes.{whole_form}
-use Rattle.wesl_form.specs.Reading.{items_in, reading}
-use Rattle.wesl_form.specs.Schema.{a_parameter, node}
-use Rattle.wesl_reading.specs.Numbers.{AreReadAs}
-use Rattle.wesl_syntax.specs.Tree.{forest_of}
+use Rattle.wesl_borrowed.specs.View.{borrowed_view}
+use Rattle.wesl_form.specs.Schema.{a_parameter}
+use Rattle.wesl_syntax.specs.Tree.{parameters}
 use Rattle.wesl_syntax.specs.View.{parameter_view}
+use Rattle.wesl_reading.proofs.ReadLists.{IsListRead}
 use Rattle.wesl_reading_unit.proofs.declaration.read_parameters.Given as goal
 
 abbrev pub invariant-loop-index : goal.invariant-loop-index
-invariant-loop-index l =
-    AreReadAs (λ n. items_in (reading whole_form n (node a_parameter)) (items_view (take l.index l.item-items))) (depth (borrowed_view l.value)) (forest_of (map parameter_view l.parameters.items)) l.initial.numbering l.numbering
+invariant-loop-index l = IsListRead parameter_view parameters a_parameter (borrowed_view l.value) l.item-items l.index l.initial.numbering l.numbering l.parameters

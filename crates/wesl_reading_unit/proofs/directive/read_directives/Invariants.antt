@@ -1,14 +1,9 @@
-use Rattle.serde_json.specs.Data.{depth}
-use Rattle.wesl_borrowed.specs.View.{borrowed_view, items_view}
-use Rattle.std.proofs.Common.{map, take}
-use Rattle.wesl_form.specs.Nodes.{whole_form}
-use Rattle.wesl_form.specs.Reading.{items_in, reading}
-use Rattle.wesl_form.specs.Schema.{a_directive, node}
-use Rattle.wesl_reading.specs.Numbers.{AreReadAs}
-use Rattle.wesl_syntax.specs.Tree.{directive_node, forest_of}
+use Rattle.wesl_borrowed.specs.View.{borrowed_view}
+use Rattle.wesl_form.specs.Schema.{a_directive}
+use Rattle.wesl_syntax.specs.Tree.{directive_list, directive_node}
 use Rattle.wesl_syntax.specs.View.{directive_view, placed}
+use Rattle.wesl_reading.proofs.ReadLists.{IsListRead}
 use Rattle.wesl_reading_unit.proofs.directive.read_directives.Given as goal
 
 abbrev pub invariant-loop-index : goal.invariant-loop-index
-invariant-loop-index l =
-    AreReadAs (λ n. items_in (reading whole_form n (node a_directive)) (items_view (take l.index l.item-items))) (depth (borrowed_view l.value)) (forest_of (map (placed directive_view directive_node) l.directives.items)) l.initial.numbering l.numbering
+invariant-loop-index l = IsListRead (placed directive_view directive_node) directive_list a_directive (borrowed_view l.value) l.item-items l.index l.initial.numbering l.numbering l.directives

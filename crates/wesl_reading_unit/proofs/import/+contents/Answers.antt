@@ -1,19 +1,21 @@
 use Rattle.serde_json.specs.Data.{depth, items_depth}
 use Rattle.serde_json.specs.Find.{as_array}
 use Rattle.wesl_borrowed.specs.View.{borrowed_view, items_view}
-use Rattle.std.proofs.Common.{Some, arith, codes, false, refl, rules, sym, true, ◌<◌, ◌≡◌, ◌≤◌}
+use Rattle.std.proofs.Common.{Some, arith, codes, false, refl, rules, sym, true, ◌<◌, ◌≡◌, ◌≤◌, ◌∙◌, ap}
 use Rattle.wesl_form.specs.Reading.{known_keys}
 use Rattle.wesl_pointer.specs.Keys.{has_only}
 use Rattle.wesl_form.specs.Schema.{a_content, an_entry, leaf, list_of, many, needs, node, nothing, some_names}
-use Rattle.wesl_reading.proofs.Depths.{array-depth, get-depth, item-at, item-depth}
+use Rattle.wesl_reading.proofs.Depths.{array-depth, get-depth, item-depth}
 use Rattle.wesl_reading.proofs.Expressions.{bare-keys, bare-place, bare-reads}
-use Rattle.wesl_reading.proofs.Lists.{items-turn, items-whole}
-use Rattle.wesl_reading.proofs.Places.{inside-under, item-under, member-inside, row-inside, row-member}
+use Rattle.wesl_reading.proofs.Places.{inside-under, member-inside, row-inside, row-member}
 use Rattle.wesl_reading.proofs.Steps.{many-then, needed-there, needs-then, none-then, same-reads}
 use Rattle.wesl_reading.specs.Faults.{Locates}
 use Rattle.wesl_syntax.specs.Tree.{import_collection, import_entry, list}
 use Rattle.wesl_syntax.specs.View.{entry_view}
 use Rattle.wesl_reading_unit.proofs.Imports.{content-collection, made-entry, view-collection, view-item}
+use Rattle.wesl_reading.proofs.ReadLists.{list-none, list-turn, list-whole}
+use Rattle.std.proofs.lemmas.Result.{IfErr-weaker}
+use Rattle.wesl_reading.proofs.Wholes.{of-both, of-only, part}
 use Rattle.wesl_reading_unit.proofs.import.+contents.Goals as goal
 
 pub content_member-read_content-requires : goal.content_member-read_content-requires
@@ -44,86 +46,68 @@ entries_member-returns-in-Err-clause-place t c =
     let d = borrowed_view c.args.value.now in
     member-inside (codes "list") (list_of list an_entry) d c.under.result (inside-under (codes "list") (list_of list an_entry) d (borrowed_view c.in_ok-member.member.now) c.in-Err.error c.under.result c.in_ok-member.ensures.ok c.in-Err.ensures.place c.under.ensures)
 
-pub read_collection-returns-in_err-check_keys-clause-place : goal.read_collection-returns-in_err-check_keys-clause-place
-read_collection-returns-in_err-check_keys-clause-place t c =
-    let d = borrowed_view c.args.value.now in
-    let e = c.in_err-check_keys.field-0.0 in
-    let wrong : has_only (known_keys (needs (codes "list") (list_of list an_entry) nothing) d) d ≡ false = search rules in
-    let located : Locates (node a_content) d e = bare-keys a_content import_collection (needs (codes "list") (list_of list an_entry) nothing) d (content-collection d c.requires) e refl wrong c.in_err-check_keys.ensures.place in
-    search rules
-
-pub read_collection-returns-in_err-entries-clause-place : goal.read_collection-returns-in_err-entries-clause-place
-read_collection-returns-in_err-entries-clause-place t c =
-    let d = borrowed_view c.args.value.now in
-    let e = c.in_err-entries.field-0.0 in
-    let known : has_only (known_keys (needs (codes "list") (list_of list an_entry) nothing) d) d ≡ true = search rules in
-    let located : Locates (node a_content) d e = bare-place a_content import_collection (needs (codes "list") (list_of list an_entry) nothing) d (content-collection d c.requires) e known (row-member (needs (codes "list") (list_of list an_entry) nothing) (codes "list") (list_of list an_entry) d e refl c.in_err-entries.ensures.place) in
-    search rules
-
-pub read_collection-returns-clause-ok : goal.read_collection-returns-clause-ok
-read_collection-returns-clause-ok t c =
-    let d = borrowed_view c.args.value.now in
-    let known : has_only (known_keys (needs (codes "list") (list_of list an_entry) nothing) d) d ≡ true = search rules in
-    same-reads (bare-reads a_content import_collection (needs (codes "list") (list_of list an_entry) nothing) d (content-collection d c.requires) _ _ _ known (needs-then c.in_ok-entries.ensures.ok (none-then d _))) (sym (view-collection c.in_ok-entries.entries))
-
-pub read_entries-read_entry-requires : goal.read_entries-read_entry-requires
-read_entries-read_entry-requires t c =
+pub read_entries-read_entry-entry-requires : goal.read_entries-read_entry-entry-requires
+read_entries-read_entry-entry-requires t c =
     let vs = c.deref-item-items.result.now in
     let is : as_array (borrowed_view c.args.value.now) ≡ Some (items_view vs) = search rules in
     let below : depth (borrowed_view c.item-item.result) ≤ items_depth (items_view vs) = item-depth vs c.loop-index.index c.item-item.result (search rules) (search rules) in
     let deep : items_depth (items_view vs) < depth (borrowed_view c.args.value.now) = array-depth _ _ is in
     (omega arith, tt)
 
-pub read_entries-returns-in-Err-clause-place : goal.read_entries-returns-in-Err-clause-place
-read_entries-returns-in-Err-clause-place t c =
-    let vs = c.deref-item-items.result.now in
-    let is : as_array (borrowed_view c.args.value.now) ≡ Some (items_view vs) = search rules in
-    item-under list an_entry c.loop-index.index (borrowed_view c.args.value.now) (borrowed_view c.item-item.result) c.in-Err.error c.under_index.result (item-at _ vs c.loop-index.index c.item-item.result is (search rules) (search rules)) c.in-Err.ensures.place c.under_index.ensures
+pub read_content-returns-in_ok-item-clause-ok : goal.read_content-returns-in_ok-item-clause-ok
+read_content-returns-in_ok-item-clause-ok t c =
+    same-reads c.in_ok-item.ensures.ok (sym (view-item c.in_ok-item.item))
+
+pub read_collection-returns-in-Err-clause-place : goal.read_collection-returns-in-Err-clause-place
+read_collection-returns-in-Err-clause-place t c =
+    let d = borrowed_view c.args.value.now in
+    of-only (Locates (node a_content) d) _ c.entries_member-entries.result c.in-Err.error c.in-Err.ensures.place
+    (λ e unknown is. let wrong : has_only (known_keys (needs (codes "list") (list_of list an_entry) nothing) d) d ≡ false = unknown in bare-keys a_content import_collection (needs (codes "list") (list_of list an_entry) nothing) d (content-collection d c.requires) e refl wrong is)
+    (λ only_known.
+    let entries_fault = IfErr-weaker c.entries_member-entries.result _ (Locates (node a_content) d) (λ e h. let known : has_only (known_keys (needs (codes "list") (list_of list an_entry) nothing) d) d ≡ true = only_known in bare-place a_content import_collection (needs (codes "list") (list_of list an_entry) nothing) d (content-collection d c.requires) e known (row-member (needs (codes "list") (list_of list an_entry) nothing) (codes "list") (list_of list an_entry) d e refl h)) c.entries_member-entries.ensures.place in
+    entries_fault)
+
+pub read_collection-returns-in-Ok-clause-ok : goal.read_collection-returns-in-Ok-clause-ok
+read_collection-returns-in-Ok-clause-ok t c =
+    let d = borrowed_view c.args.value.now in
+    let entries_read = part _ c.entries_member-entries.result c.in-Ok.ensures.ok c.entries_member-entries.ensures.ok in
+    let known : has_only (known_keys (needs (codes "list") (list_of list an_entry) nothing) d) d ≡ true = c.in-Ok.ensures.keys in
+    same-reads (bare-reads a_content import_collection (needs (codes "list") (list_of list an_entry) nothing) d (content-collection d c.requires) _ _ _ known (needs-then entries_read (none-then d _))) (sym (view-collection c.in-Ok.entries))
+
+pub read_entry-returns-in-Err-clause-place : goal.read_entry-returns-in-Err-clause-place
+read_entry-returns-in-Err-clause-place t c =
+    let d = borrowed_view c.args.value.now in
+    of-only (Locates (node an_entry) d) _ c.both-parts.result c.in-Err.error c.in-Err.ensures.place
+    (λ e unknown is. let wrong : has_only (known_keys (many (codes "path") (leaf some_names) (needs (codes "content") (node a_content) nothing)) d) d ≡ false = unknown in bare-keys an_entry import_entry (many (codes "path") (leaf some_names) (needs (codes "content") (node a_content) nothing)) d refl e refl wrong is)
+    (λ only_known.
+    let path_fault = IfErr-weaker c.names_member-path.result _ (Locates (node an_entry) d) (λ e h. let known : has_only (known_keys (many (codes "path") (leaf some_names) (needs (codes "content") (node a_content) nothing)) d) d ≡ true = only_known in bare-place an_entry import_entry (many (codes "path") (leaf some_names) (needs (codes "content") (node a_content) nothing)) d refl e known (row-inside (many (codes "path") (leaf some_names) (needs (codes "content") (node a_content) nothing)) (codes "path") false (leaf some_names) d e refl h)) c.names_member-path.ensures.place in
+    let content_fault = IfErr-weaker c.content_member-content.result _ (Locates (node an_entry) d) (λ e h. let known : has_only (known_keys (many (codes "path") (leaf some_names) (needs (codes "content") (node a_content) nothing)) d) d ≡ true = only_known in bare-place an_entry import_entry (many (codes "path") (leaf some_names) (needs (codes "content") (node a_content) nothing)) d refl e known (row-member (many (codes "path") (leaf some_names) (needs (codes "content") (node a_content) nothing)) (codes "content") (node a_content) d e refl h)) c.content_member-content.ensures.place in
+    of-both (Locates (node an_entry) d) c.both-parts.result c.names_member-path.result c.content_member-content.result c.both-parts.ensures.place path_fault content_fault)
+
+pub read_entry-returns-in-Ok-clause-ok : goal.read_entry-returns-in-Ok-clause-ok
+read_entry-returns-in-Ok-clause-ok t c =
+    let d = borrowed_view c.args.value.now in
+    let parts = part _ c.both-parts.result c.in-Ok.ensures.ok c.both-parts.ensures.ok in
+    let path_read = part _ c.names_member-path.result parts.0 c.names_member-path.ensures.ok in
+    let content_read = part _ c.content_member-content.result parts.1 c.content_member-content.ensures.ok in
+    let known : has_only (known_keys (many (codes "path") (leaf some_names) (needs (codes "content") (node a_content) nothing)) d) d ≡ true = c.in-Ok.ensures.keys in
+    same-reads (bare-reads an_entry import_entry (many (codes "path") (leaf some_names) (needs (codes "content") (node a_content) nothing)) d refl _ _ _ known (many-then (path_read _) (needs-then content_read (none-then d _)))) (sym (made-entry c.in-Ok.path c.in-Ok.content))
+
+pub read_entries-loop-index-init : goal.read_entries-loop-index-init
+read_entries-loop-index-init t c =
+    list-none entry_view list an_entry (borrowed_view c.args.value.now) c.deref-item-items.result.now c.args.numbering.now c.room-entries.result c.room-entries.ensures.ok c.room-entries.ensures.refused
 
 pub read_entries-loop-index-preserved : goal.read_entries-loop-index-preserved
 read_entries-loop-index-preserved t c =
     let vs = c.deref-item-items.result.now in
-    let is : as_array (borrowed_view c.args.value.now) ≡ Some (items_view vs) = search rules in
-    let below : depth (borrowed_view c.item-item.result) ≤ items_depth (items_view vs) = item-depth vs c.loop-index.index c.item-item.result (search rules) (search rules) in
-    let deep : items_depth (items_view vs) < depth (borrowed_view c.args.value.now) = array-depth _ _ is in
-    items-turn entry_view an_entry vs c.loop-index.index c.item-item.result (depth (borrowed_view c.args.value.now)) c.args.numbering.now c.loop-index.numbering c.read_entry.new.numbering c.loop-index.entries.items c.push.new.self.items c.in-Ok.entry (search rules) (search rules) (search rules) (omega arith) c.loop-index.invariant c.in-Ok.ensures.ok.form
+    let is : as_array (borrowed_view c.args.value.now) ≡ Some (items_view vs) = sym c.in-Some.ensures ∙ ap (λ l. Some (items_view l)) (sym c.deref-item-items.ensures.value) in
+    list-turn entry_view list an_entry (borrowed_view c.args.value.now) vs is c.loop-index.index c.item-item.result c.args.numbering.now c.loop-index.numbering c.read_entry-entry.new.numbering c.loop-index.entries c.read_entry-entry.result c.loop-index-test.true c.item-item.is c.loop-index.invariant c.with_item-entries.result c.read_entry-entry.ensures.ok c.read_entry-entry.ensures.place c.with_item-entries.ensures.ok c.with_item-entries.ensures.place
 
 pub read_entries-returns-clause-ok : goal.read_entries-returns-clause-ok
 read_entries-returns-clause-ok t c =
     let vs = c.deref-item-items.result.now in
-    let is : as_array (borrowed_view c.args.value.now) ≡ Some (items_view vs) = search rules in
-    record { form = items-whole list an_entry (borrowed_view c.args.value.now) vs c.loop-index.index _ _ _ is (search rules) c.loop-index.invariant }
+    let is : as_array (borrowed_view c.args.value.now) ≡ Some (items_view vs) = sym c.in-Some.ensures ∙ ap (λ l. Some (items_view l)) (sym c.deref-item-items.ensures.value) in
+    list-whole entry_view list an_entry (borrowed_view c.args.value.now) vs is c.loop-index.index _ _ c.loop-index.entries c.loop-index-test.false c.loop-index.invariant
 
-pub read_entry-returns-in_err-check_keys-clause-place : goal.read_entry-returns-in_err-check_keys-clause-place
-read_entry-returns-in_err-check_keys-clause-place t c =
-    let d = borrowed_view c.args.value.now in
-    let e = c.in_err-check_keys.field-0.0 in
-    let wrong : has_only (known_keys (many (codes "path") (leaf some_names) (needs (codes "content") (node a_content) nothing)) d) d ≡ false = search rules in
-    let located : Locates (node an_entry) d e = bare-keys an_entry import_entry (many (codes "path") (leaf some_names) (needs (codes "content") (node a_content) nothing)) d refl e refl wrong c.in_err-check_keys.ensures.place in
-    search rules
-
-pub read_entry-returns-in_err-path-clause-place : goal.read_entry-returns-in_err-path-clause-place
-read_entry-returns-in_err-path-clause-place t c =
-    let d = borrowed_view c.args.value.now in
-    let e = c.in_err-path.field-0.0 in
-    let known : has_only (known_keys (many (codes "path") (leaf some_names) (needs (codes "content") (node a_content) nothing)) d) d ≡ true = search rules in
-    let located : Locates (node an_entry) d e = bare-place an_entry import_entry (many (codes "path") (leaf some_names) (needs (codes "content") (node a_content) nothing)) d refl e known (row-inside (many (codes "path") (leaf some_names) (needs (codes "content") (node a_content) nothing)) (codes "path") false (leaf some_names) d e refl c.in_err-path.ensures.place) in
-    search rules
-
-pub read_entry-returns-in_err-content-clause-place : goal.read_entry-returns-in_err-content-clause-place
-read_entry-returns-in_err-content-clause-place t c =
-    let d = borrowed_view c.args.value.now in
-    let e = c.in_err-content.field-0.0 in
-    let known : has_only (known_keys (many (codes "path") (leaf some_names) (needs (codes "content") (node a_content) nothing)) d) d ≡ true = search rules in
-    let located : Locates (node an_entry) d e = bare-place an_entry import_entry (many (codes "path") (leaf some_names) (needs (codes "content") (node a_content) nothing)) d refl e known (row-member (many (codes "path") (leaf some_names) (needs (codes "content") (node a_content) nothing)) (codes "content") (node a_content) d e refl c.in_err-content.ensures.place) in
-    search rules
-
-pub read_entry-returns-clause-ok : goal.read_entry-returns-clause-ok
-read_entry-returns-clause-ok t c =
-    let d = borrowed_view c.args.value.now in
-    let known : has_only (known_keys (many (codes "path") (leaf some_names) (needs (codes "content") (node a_content) nothing)) d) d ≡ true = search rules in
-    same-reads (bare-reads an_entry import_entry (many (codes "path") (leaf some_names) (needs (codes "content") (node a_content) nothing)) d refl _ _ _ known (many-then (c.in_ok-path.ensures.ok _) (needs-then c.in_ok-content.ensures.ok (none-then d _)))) (sym (made-entry c.in_ok-path.path c.in_ok-content.content))
-
-pub read_content-returns-in_ok-item-clause-ok : goal.read_content-returns-in_ok-item-clause-ok
-read_content-returns-in_ok-item-clause-ok t c =
-    same-reads c.in_ok-item.ensures.ok (sym (view-item c.in_ok-item.item))
+pub read_entries-returns-clause-place : goal.read_entries-returns-clause-place
+read_entries-returns-clause-place t c = c.loop-index.invariant.1

@@ -1,12 +1,10 @@
 use Rattle.serde_json.specs.Data.{depth}
-use Rattle.wesl_borrowed.specs.View.{borrowed_view, items_view}
-use Rattle.std.proofs.Common.{map, take, ◌*◌, ◌+◌}
-use Rattle.wesl_form.specs.Nodes.{whole_form}
-use Rattle.wesl_form.specs.Reading.{items_in, reading}
-use Rattle.wesl_form.specs.Schema.{an_entry, node}
-use Rattle.wesl_reading.specs.Numbers.{AreReadAs}
-use Rattle.wesl_syntax.specs.Tree.{forest_of}
+use Rattle.wesl_borrowed.specs.View.{borrowed_view}
+use Rattle.std.proofs.Common.{◌*◌, ◌+◌}
+use Rattle.wesl_form.specs.Schema.{an_entry}
+use Rattle.wesl_syntax.specs.Tree.{list}
 use Rattle.wesl_syntax.specs.View.{entry_view}
+use Rattle.wesl_reading.proofs.ReadLists.{IsListRead}
 use Rattle.wesl_reading_unit.proofs.import.+contents.Given as goal
 
 abbrev pub decreases-content_member : goal.decreases-content_member
@@ -28,5 +26,4 @@ abbrev pub decreases-read_entry : goal.decreases-read_entry
 decreases-read_entry l = 10 * depth (borrowed_view l.value.now) + 7
 
 abbrev pub invariant-read_entries-loop-index : goal.invariant-read_entries-loop-index
-invariant-read_entries-loop-index l =
-    AreReadAs (λ n. items_in (reading whole_form n (node an_entry)) (items_view (take l.index l.item-items))) (depth (borrowed_view l.value)) (forest_of (map entry_view l.entries.items)) l.initial.numbering l.numbering
+invariant-read_entries-loop-index l = IsListRead entry_view list an_entry (borrowed_view l.value) l.item-items l.index l.initial.numbering l.numbering l.entries

@@ -1,31 +1,27 @@
-use Rattle.serde_json.specs.Data.{depth, items_depth}
+use Rattle.std.proofs.Common.{sym, ap, ◌∙◌, ◌≡◌, Some}
 use Rattle.serde_json.specs.Find.{as_array}
 use Rattle.wesl_borrowed.specs.View.{borrowed_view, items_view}
-use Rattle.std.proofs.Common.{Some, arith, rules, ◌<◌, ◌≡◌, ◌≤◌}
 use Rattle.wesl_form.specs.Schema.{an_import}
-use Rattle.wesl_reading.proofs.Depths.{array-depth, item-at, item-depth}
-use Rattle.wesl_reading.proofs.Lists.{items-turn, items-whole}
-use Rattle.wesl_reading.proofs.Places.{item-under}
-use Rattle.wesl_syntax.specs.Tree.{import_node, imports}
+use Rattle.wesl_syntax.specs.Tree.{imports, import_node}
 use Rattle.wesl_syntax.specs.View.{import_view, placed}
+use Rattle.wesl_reading.proofs.ReadLists.{list-none, list-turn, list-whole}
 use Rattle.wesl_reading_unit.proofs.import.read_imports.Goals as goal
 
-pub returns-in-Err-clause-place : goal.returns-in-Err-clause-place
-returns-in-Err-clause-place c =
-    let vs = c.deref-item-items.result.now in
-    let is : as_array (borrowed_view c.args.value.now) ≡ Some (items_view vs) = search rules in
-    item-under imports an_import c.loop-index.index (borrowed_view c.args.value.now) (borrowed_view c.item-item.result) c.in-Err.error c.under_index.result (item-at _ vs c.loop-index.index c.item-item.result is (search rules) (search rules)) c.in-Err.ensures.place c.under_index.ensures
+pub loop-index-init : goal.loop-index-init
+loop-index-init c =
+    list-none (placed import_view import_node) imports an_import (borrowed_view c.args.value.now) c.deref-item-items.result.now c.args.numbering.now c.room-imports.result c.room-imports.ensures.ok c.room-imports.ensures.refused
 
 pub loop-index-preserved : goal.loop-index-preserved
 loop-index-preserved c =
     let vs = c.deref-item-items.result.now in
-    let is : as_array (borrowed_view c.args.value.now) ≡ Some (items_view vs) = search rules in
-    let below : depth (borrowed_view c.item-item.result) ≤ items_depth (items_view vs) = item-depth vs c.loop-index.index c.item-item.result (search rules) (search rules) in
-    let deep : items_depth (items_view vs) < depth (borrowed_view c.args.value.now) = array-depth _ _ is in
-    items-turn (placed import_view import_node) an_import vs c.loop-index.index c.item-item.result (depth (borrowed_view c.args.value.now)) c.args.numbering.now c.loop-index.numbering c.read_import.new.numbering c.loop-index.imports.items c.push.new.self.items c.in-Ok.import (search rules) (search rules) (search rules) (omega arith) c.loop-index.invariant c.in-Ok.ensures.ok.form
+    let is : as_array (borrowed_view c.args.value.now) ≡ Some (items_view vs) = sym c.in-Some.ensures ∙ ap (λ l. Some (items_view l)) (sym c.deref-item-items.ensures.value) in
+    list-turn (placed import_view import_node) imports an_import (borrowed_view c.args.value.now) vs is c.loop-index.index c.item-item.result c.args.numbering.now c.loop-index.numbering c.read_import-import.new.numbering c.loop-index.imports c.read_import-import.result c.loop-index-test.true c.item-item.is c.loop-index.invariant c.with_item-imports.result c.read_import-import.ensures.ok c.read_import-import.ensures.place c.with_item-imports.ensures.ok c.with_item-imports.ensures.place
 
 pub returns-clause-ok : goal.returns-clause-ok
 returns-clause-ok c =
     let vs = c.deref-item-items.result.now in
-    let is : as_array (borrowed_view c.args.value.now) ≡ Some (items_view vs) = search rules in
-    record { form = items-whole imports an_import (borrowed_view c.args.value.now) vs c.loop-index.index _ _ _ is (search rules) c.loop-index.invariant }
+    let is : as_array (borrowed_view c.args.value.now) ≡ Some (items_view vs) = sym c.in-Some.ensures ∙ ap (λ l. Some (items_view l)) (sym c.deref-item-items.ensures.value) in
+    list-whole (placed import_view import_node) imports an_import (borrowed_view c.args.value.now) vs is c.loop-index.index _ _ c.loop-index.imports c.loop-index-test.false c.loop-index.invariant
+
+pub returns-clause-place : goal.returns-clause-place
+returns-clause-place c = c.loop-index.invariant.1
