@@ -1,10 +1,11 @@
 //! Which paths a link asks its resolver for.
+use serde_json::Value;
 use std::alloc::Global;
-use wesl_link::resolve_lazy;
+use wesl_link::{Resolutions, resolve_lazy};
 use wesl_names::{ModulePath, ResolveError};
 use wesl_resolve::Resolver;
-use wesl_row::{Answer, Object, Row};
-use wesl_tree::TranslationUnit;
+use wesl_row::{Object, Row, of_diagnostic};
+use wesl_tree::{Diagnostic, TranslationUnit};
 
 /// Asks another resolver, and keeps the paths that it was asked for.
 #[derive(Drop)]
@@ -52,27 +53,41 @@ impl<R: Resolver> Resolver for Counting<R> {
 }
 
 /// How often each path was asked for.
-fn times(alloc: Global, asked: &[String]) -> Answer {
-    let mut times = Object::new(alloc);
+fn times(row: Row<'_>, asked: &[String]) -> Value {
+    let mut times = Object::new(row.alloc);
     for path in asked {
         let count = asked.iter().filter(|other| *other == path).count();
         times.number(path.as_str(), count);
     }
-    times.end()
+    times.end(row)
+}
+
+/// How often each path was asked for, and how many modules a link has.
+fn counts(row: Row<'_>, found: &Resolutions, asked: &[String]) -> Value {
+    let modules = row.or(found.module_order(row.alloc), Vec::new(row.alloc));
+    let mut answer = Object::new(row.alloc);
+    answer.put("asked", times(row, asked));
+    answer.number("modules", modules.len());
+    answer.end(row)
+}
+
+/// The same, or how a link is refused.
+fn told(row: Row<'_>, found: &Result<Resolutions, Diagnostic>, asked: &[String]) -> Value {
+    match found {
+        Ok(found) => counts(row, found, asked),
+        Err(refusal) => of_diagnostic(row, refusal),
+    }
 }
 
 /// How often a lazy link of a row's modules asks for each path, and how many modules it has.
-pub fn counted(row: Row<'_>) -> Answer {
-    let keep = row.texts("keep")?;
-    let path = row.rooted("path")?;
-    let root = row.unit("unit")?;
+pub fn counted(row: Row<'_>) -> Value {
+    let keep = row.texts("keep");
+    let path = row.rooted("path");
+    let root = row.unit("unit");
     let mut counting = Counting {
-        inner: row.modules("modules")?,
+        inner: row.modules("modules"),
         asked: Vec::new(row.alloc),
     };
-    let found = resolve_lazy(row.alloc, &keep, root, &path, &mut counting, 1000)?;
-    let mut answer = Object::new(row.alloc);
-    answer.put("asked", times(row.alloc, &counting.asked));
-    answer.number("modules", found.module_order(row.alloc)?.len());
-    answer.end()
+    let found = resolve_lazy(row.alloc, keep.as_slice(), root, &path, &mut counting, 1000);
+    told(row, &found, counting.asked.as_slice())
 }

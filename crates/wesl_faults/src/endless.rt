@@ -1,10 +1,11 @@
 //! A resolver that never runs out of modules, and one that never has memory.
+use serde_json::Value;
 use std::alloc::Global;
 use wesl_json::JsonText;
-use wesl_link::{resolve_eager, resolve_lazy};
-use wesl_names::{Error, ModulePath, ResolveError};
+use wesl_link::{Resolutions, resolve_eager, resolve_lazy};
+use wesl_names::{Diagnostic, Error, ModulePath, ResolveError};
 use wesl_resolve::{Preprocessor, Resolver, Router, UnitText};
-use wesl_row::{Answer, Row, of_diagnostic, text_value};
+use wesl_row::{Row, of_diagnostic};
 use wesl_tree::TranslationUnit;
 
 /// What every module of the endless resolver says, and the root too: its assertion needs a name of the module below it.
@@ -82,48 +83,73 @@ impl Resolver for Starved {
     }
 }
 
+/// What is told of a link.
+fn told(row: Row<'_>, found: &Result<Resolutions, Diagnostic>) -> Value {
+    match found {
+        Ok(_) => row.text_value("linked"),
+        Err(refusal) => of_diagnostic(row, refusal),
+    }
+}
+
 /// What is told of a link of the root, whose assertion needs a name of the module below it: lazily, or eagerly where the row
 /// says so, with no more than `limit` modules.
-fn linked<R: Resolver>(row: Row<'_>, resolver: &mut R) -> Answer
+fn linked<R: Resolver>(row: Row<'_>, resolver: &mut R) -> Value
     requires { R.ready resolver.old }
 {
-    let at = row.rooted("path")?;
-    let root = JsonText.read(row.alloc, BELOW)?;
+    let at = row.rooted("path");
+    let root = row.or(
+        JsonText.read(row.alloc, BELOW),
+        TranslationUnit::new(row.alloc),
+    );
     let limit = row.number("limit", 1000);
-    let found = if row.has("eager") {
-        resolve_eager(row.alloc, root, &at, resolver, limit)
+    if row.has("eager") {
+        told(row, &resolve_eager(row.alloc, root, &at, resolver, limit))
     } else {
-        resolve_lazy(row.alloc, &[], root, &at, resolver, limit)
-    };
-    match found {
-        Ok(_) => text_value(row.alloc, Some("linked")),
-        Err(refusal) => of_diagnostic(row.alloc, &refusal),
+        told(
+            row,
+            &resolve_lazy(row.alloc, &[], root, &at, resolver, limit),
+        )
     }
 }
 
 /// What is told of a link where a box mounted at the row's `path` hands out a module at every path.
-fn endless_mount(row: Row<'_>) -> Answer {
-    let mut router: Router = Router::new(row.alloc);
-    router.mount_resolver(row.rooted("path")?, Box::new(row.alloc, Endless)?)?;
-    linked(row, &mut router)
+fn endless_mount(row: Row<'_>) -> Value {
+    match row.boxed(Endless) {
+        Some(resolver) => {
+            let mut router: Router = Router::new(row.alloc);
+            row.done(router.mount_resolver(row.rooted("path"), resolver));
+            linked(row, &mut router)
+        }
+        None => Value::Null,
+    }
 }
 
 /// What is told of a link where a box that is the fallback hands out a module at every path.
-fn endless_fallback(row: Row<'_>) -> Answer {
-    let mut router: Router = Router::new(row.alloc);
-    router.mount_fallback_resolver(Box::new(row.alloc, Endless)?);
-    linked(row, &mut router)
+fn endless_fallback(row: Row<'_>) -> Value {
+    match row.boxed(Endless) {
+        Some(resolver) => {
+            let mut router: Router = Router::new(row.alloc);
+            router.mount_fallback_resolver(resolver);
+            linked(row, &mut router)
+        }
+        None => Value::Null,
+    }
 }
 
 /// What is told of a link where a box mounted at the row's `path` wants memory at every path.
-fn starved_mount(row: Row<'_>) -> Answer {
-    let mut router: Router = Router::new(row.alloc);
-    router.mount_resolver(row.rooted("path")?, Box::new(row.alloc, Starved)?)?;
-    linked(row, &mut router)
+fn starved_mount(row: Row<'_>) -> Value {
+    match row.boxed(Starved) {
+        Some(resolver) => {
+            let mut router: Router = Router::new(row.alloc);
+            row.done(router.mount_resolver(row.rooted("path"), resolver));
+            linked(row, &mut router)
+        }
+        None => Value::Null,
+    }
 }
 
 /// What is told of a link where a module is handed out at every path, by the resolver itself or within a router.
-pub fn without_end(row: Row<'_>) -> Answer {
+pub fn without_end(row: Row<'_>) -> Value {
     match row.text("within") {
         "mount" => endless_mount(row),
         "fallback" => endless_fallback(row),
@@ -132,7 +158,7 @@ pub fn without_end(row: Row<'_>) -> Answer {
 }
 
 /// What is told of a link where the resolver wants memory at every path.
-pub fn without_memory(row: Row<'_>) -> Answer {
+pub fn without_memory(row: Row<'_>) -> Value {
     match row.text("within") {
         "mount" => starved_mount(row),
         "preprocessor" => linked(
@@ -144,7 +170,7 @@ pub fn without_memory(row: Row<'_>) -> Answer {
 }
 
 /// What is told of a link where the function that changes units wants memory.
-pub fn refused_by_function(row: Row<'_>) -> Answer {
+pub fn refused_by_function(row: Row<'_>) -> Value {
     linked(
         row,
         &mut Preprocessor::new(Endless, |_unit: TranslationUnit| Err(Error::Memory)),

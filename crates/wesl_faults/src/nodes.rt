@@ -1,12 +1,13 @@
 //! Nodes that no JSON form has: with spans, and with identifiers without a name.
+use serde_json::Value;
 use std::alloc::Global;
 use wesl_clone::TryClone;
-use wesl_row::{Answer, Object, Row, text_value};
+use wesl_row::{Object, Row};
 use wesl_syntax::{
     Declaration, DeclarationKind, Expression, GlobalDeclaration, Spanned, Statement, StatementNode,
     TypeExpression, law_of_equality,
 };
-use wesl_tree::{Ident, Names, Span, TranslationUnit};
+use wesl_tree::{Ident, Span, TranslationUnit};
 
 /// `break;` at a place
 fn leaving(alloc: Global, start: u32) -> StatementNode {
@@ -19,9 +20,10 @@ fn leaving(alloc: Global, start: u32) -> StatementNode {
 }
 
 /// Whether a copy of a node has its span and is equal to it, and whether a node elsewhere is equal too.
-pub fn copied(alloc: Global) -> Answer {
+pub fn copied(row: Row<'_>) -> Value {
+    let alloc = row.alloc;
     let node = leaving(alloc, 5);
-    let copy = node.try_clone(alloc)?;
+    let copy = row.or(node.try_clone(alloc), leaving(alloc, 5));
     let mut answer = Object::new(alloc);
     answer.flag("equal", copy == node);
     answer.flag(
@@ -29,7 +31,7 @@ pub fn copied(alloc: Global) -> Answer {
         law_of_equality(&copy, &leaving(alloc, 6)),
     );
     answer.flag("same_span", copy.span == node.span);
-    answer.end()
+    answer.end(row)
 }
 
 fn placed<T>(node: T) -> Spanned<T> {
@@ -55,28 +57,24 @@ fn constant(alloc: Global, declared: usize, used: usize) -> GlobalDeclaration {
     })
 }
 
-/// A table of the texts `names`.
-fn table(row: Row<'_>) -> Result<Names, anyhow::Error> {
-    let mut names = Names::new(row.alloc);
-    for text in &row.texts("names")? {
-        let _ = names.add(text)?;
-    }
-    Ok(names)
-}
-
-/// Whether the constant of these numbers (`declared`, `used`) is a unit over the names of a row, where each has a name.
-pub fn made(row: Row<'_>) -> Answer {
+/// The constant of the numbers of a row (`declared`, `used`) as a unit over its names, where each has a name.
+fn unit(row: Row<'_>) -> Option<TranslationUnit> {
     let alloc = row.alloc;
     let constant = constant(alloc, row.number("declared", 0), row.number("used", 0));
-    let declarations = vec![in alloc; placed(constant)]?;
-    let made = TranslationUnit::from_parts(
-        table(row)?,
+    let declarations = row.one(placed(constant));
+    TranslationUnit::from_parts(
+        row.names("names"),
         Vec::new(alloc),
         Vec::new(alloc),
         declarations,
-    );
-    match made {
-        Some(_) => text_value(alloc, Some("a unit")),
-        None => text_value(alloc, Some("none")),
+    )
+}
+
+/// Whether the constant of these numbers (`declared`, `used`) is a unit over the names of a row, where each has a name.
+pub fn made(row: Row<'_>) -> Value {
+    if unit(row).is_some() {
+        row.text_value("a unit")
+    } else {
+        row.text_value("none")
     }
 }

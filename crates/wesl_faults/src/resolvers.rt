@@ -6,7 +6,7 @@ use serde_json::Value;
 use std::alloc::Global;
 use wesl_names::{Diagnostic, Error, ResolveError};
 use wesl_resolve::{Preprocessor, Resolver, Router, UnitText, VirtualResolver};
-use wesl_row::{Answer, List, Object, Row, located, of_error, rooted, text_value};
+use wesl_row::{List, Object, Row, of_resolver};
 use wesl_tree::TranslationUnit;
 
 /// Every text but `bad` and `large` says the empty unit; for `large` there is no memory.
@@ -44,79 +44,95 @@ impl UnitText for Empty {
 }
 
 /// A resolver that has this source at the path of this text.
-fn holding(
-    alloc: Global,
-    path: &str,
-    source: &str,
-) -> Result<VirtualResolver<Empty>, anyhow::Error> {
-    let mut modules = VirtualResolver::new(alloc, Empty);
-    modules.add_module(rooted(alloc, path)?, String::from_str(alloc, source)?)?;
-    Ok(modules)
+fn holding(row: Row<'_>, path: &str, source: &str) -> VirtualResolver<Empty> {
+    let mut modules = VirtualResolver::new(row.alloc, Empty);
+    row.done(modules.add_module(row.rooted_of(path), row.copy_of(source)));
+    modules
 }
 
 /// The source that a resolver gives at the path of this text.
-fn source<R: Resolver>(alloc: Global, resolver: &mut R, path: &str) -> Answer
+fn source<R: Resolver>(row: Row<'_>, resolver: &mut R, path: &str) -> Value
     requires { R.ready resolver.old }
     ensures { R.ready resolver.new }
 {
-    let path = rooted(alloc, path)?;
-    let source = resolver.resolve_source(alloc, &path)?;
-    text_value(alloc, Some(source.as_str()))
+    let path = row.rooted_of(path);
+    Value::String(row.or(
+        resolver.resolve_source(row.alloc, &path),
+        String::new(row.alloc),
+    ))
+}
+
+/// The source at the row's `path`, by a router over these boxes, of which the first is mounted at `package::a`.
+fn routed_by(
+    row: Row<'_>,
+    mounted: Box<VirtualResolver<Empty>>,
+    fallback: Box<VirtualResolver<Empty>>,
+) -> Value {
+    let mut router: Router = Router::new(row.alloc);
+    row.done(router.mount_resolver(row.rooted_of("package::a"), mounted));
+    router.mount_fallback_resolver(fallback);
+    source(row, &mut router, row.text("path"))
 }
 
 /// The source at the row's `path`, by a router over boxes: at `package::a` one that has `package::b`, and as the fallback
 /// one that has `package::a`.
-pub fn routed(row: Row<'_>) -> Answer {
-    let alloc = row.alloc;
-    let mut router: Router = Router::new(alloc);
-    let mounted = Box::new(alloc, holding(alloc, "package::b", "mounted")?)?;
-    let fallback = Box::new(alloc, holding(alloc, "package::a", "fallback")?)?;
-    router.mount_resolver(rooted(alloc, "package::a")?, mounted)?;
-    router.mount_fallback_resolver(fallback);
-    source(alloc, &mut router, row.text("path"))
+pub fn routed(row: Row<'_>) -> Value {
+    match row.boxed(holding(row, "package::b", "mounted")) {
+        Some(mounted) => match row.boxed(holding(row, "package::a", "fallback")) {
+            Some(fallback) => routed_by(row, mounted, fallback),
+            None => Value::Null,
+        },
+        None => Value::Null,
+    }
 }
 
-/// What is told of the module at this path: whether it is the empty unit, or its refusal, with the module, the source and
-/// the display name.
-fn told<R: Resolver>(alloc: Global, resolver: &mut R, path: &str) -> Answer
+/// What is told of a module: whether it is the empty unit, or its refusal, with the module, the source and the display
+/// name.
+fn unit_told(row: Row<'_>, unit: &Result<TranslationUnit, ResolveError>) -> Value {
+    match unit {
+        Ok(unit) => Value::Bool(unit.same_spelling(&TranslationUnit::new(row.alloc))),
+        Err(error) => of_resolver(row, error),
+    }
+}
+
+/// The same of the module at this path.
+fn told<R: Resolver>(row: Row<'_>, resolver: &mut R, path: &str) -> Value
     requires { R.ready resolver.old }
     ensures { R.ready resolver.new }
 {
-    let path = rooted(alloc, path)?;
-    match resolver.resolve_module(alloc, &path) {
-        Ok(unit) => Ok(Value::Bool(unit.same_spelling(&TranslationUnit::new(alloc)))),
-        Err(ResolveError::Error(diagnostic)) => located(alloc, &diagnostic),
-        Err(error) => of_error(alloc, &Error::of_resolve(error)),
-    }
+    let path = row.rooted_of(path);
+    let unit = resolver.resolve_module(row.alloc, &path);
+    let answer = unit_told(row, &unit);
+    // as a generic function lets go of it, which costs the proof a fraction
+    drop(unit);
+    answer
 }
 
 /// What a preprocessor tells of the module `package::a`: one whose function refuses every unit, whose sources stay, and one
 /// whose function leaves it as it is.
-pub fn preprocessed(row: Row<'_>) -> Answer {
-    let alloc = row.alloc;
-    let mut held = holding(alloc, "package::a", "a")?;
+pub fn preprocessed(row: Row<'_>) -> Value {
+    let mut held = holding(row, "package::a", "a");
     let mut refusing = Preprocessor::new(
         &mut held,
         |_unit: TranslationUnit| Err(Error::NotNormalType),
     );
-    let mut answer = Object::new(alloc);
-    answer.put("refused", told(alloc, &mut refusing, "package::a"));
-    answer.put("source", source(alloc, &mut refusing, "package::a"));
+    let mut answer = Object::new(row.alloc);
+    answer.put("refused", told(row, &mut refusing, "package::a"));
+    answer.put("source", source(row, &mut refusing, "package::a"));
     let mut passing = Preprocessor::new(held, |unit: TranslationUnit| Ok(unit));
-    answer.put("passed", told(alloc, &mut passing, "package::a"));
-    answer.end()
+    answer.put("passed", told(row, &mut passing, "package::a"));
+    answer.end(row)
 }
 
 /// What is told of a module where its reading wants memory, where it is read, and where a function that changes it wants
 /// memory.
-pub fn unread(row: Row<'_>) -> Answer {
-    let alloc = row.alloc;
-    let mut large = holding(alloc, "package::a", "large")?;
-    let mut held = holding(alloc, "package::a", "a")?;
-    let mut outcomes = List::new(alloc);
-    outcomes.put(told(alloc, &mut large, "package::a"));
-    outcomes.put(told(alloc, &mut held, "package::a"));
+pub fn unread(row: Row<'_>) -> Value {
+    let mut large = holding(row, "package::a", "large");
+    let mut held = holding(row, "package::a", "a");
+    let mut outcomes = List::new(row.alloc);
+    outcomes.put(told(row, &mut large, "package::a"));
+    outcomes.put(told(row, &mut held, "package::a"));
     let mut refusing = Preprocessor::new(held, |_unit: TranslationUnit| Err(Error::Memory));
-    outcomes.put(told(alloc, &mut refusing, "package::a"));
-    outcomes.end()
+    outcomes.put(told(row, &mut refusing, "package::a"));
+    outcomes.end(row)
 }

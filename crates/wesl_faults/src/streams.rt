@@ -3,7 +3,7 @@ use serde_json::Value;
 use std::alloc::Global;
 use std::io::{self, Read, Write};
 use wesl::{Outcome, RunError, run};
-use wesl_row::Answer;
+use wesl_row::Row;
 
 const BUNDLE: &[u8] = b"{\"root\":\"package::m\"}";
 
@@ -58,7 +58,8 @@ impl Write for SlowWriter {
 }
 
 /// Whether a run whose reader fails at each call in turn ends so, with nothing written.
-pub fn unread(alloc: Global) -> Answer {
+pub fn unread(row: Row<'_>) -> Value {
+    let alloc = row.alloc;
     let mut is_silent = true;
     for fails_at in 0..BUNDLE.len() {
         let mut reader = SlowReader { given: 0, fails_at };
@@ -66,11 +67,12 @@ pub fn unread(alloc: Global) -> Answer {
         let ended = run(alloc, &mut reader, &mut writer);
         is_silent &= ended == Err(RunError::Input) && writer.is_empty();
     }
-    Ok(Value::Bool(is_silent))
+    Value::Bool(is_silent)
 }
 
 /// Whether a run that reads and writes a byte at a time writes the line.
-pub fn slow(alloc: Global) -> Answer {
+pub fn slow(row: Row<'_>) -> Value {
+    let alloc = row.alloc;
     let mut reader = SlowReader {
         given: 0,
         fails_at: usize::MAX,
@@ -81,7 +83,7 @@ pub fn slow(alloc: Global) -> Answer {
         fails: true,
     };
     let ended = run(alloc, &mut reader, &mut writer);
-    Ok(Value::Bool(ended == Ok(Outcome::Refused) && writer.taken.as_slice() == LINE))
+    Value::Bool(ended == Ok(Outcome::Refused) && writer.taken.as_slice() == LINE)
 }
 
 /// Whether a run whose writer stops at this byte ends so, with the beginning of the line written.
@@ -97,20 +99,22 @@ fn leaves_a_beginning(alloc: Global, stops_at: usize, fails: bool) -> bool {
 }
 
 /// Whether a run whose writer fails, or takes nothing, at each byte in turn leaves the beginning of the line.
-pub fn unwritten(alloc: Global) -> Answer {
+pub fn unwritten(row: Row<'_>) -> Value {
+    let alloc = row.alloc;
     let mut is_beginning = true;
     for stops_at in 0..LINE.len() {
         is_beginning &= leaves_a_beginning(alloc, stops_at, false);
         is_beginning &= leaves_a_beginning(alloc, stops_at, true);
     }
-    Ok(Value::Bool(is_beginning))
+    Value::Bool(is_beginning)
 }
 
 /// The line of bytes that are no text, as a text.
-pub fn no_text(alloc: Global) -> Answer {
+pub fn no_text(row: Row<'_>) -> Value {
+    let alloc = row.alloc;
     let mut reader: &[u8] = &[34, 255, 34];
     let mut writer = Vec::new(alloc);
     let ended = run(alloc, &mut reader, &mut writer);
     let is_line = writer.as_slice() == b"{\"args\":[],\"fault\":\"NotJson\"}\n".as_slice();
-    Ok(Value::Bool(ended == Ok(Outcome::Refused) && is_line))
+    Value::Bool(ended == Ok(Outcome::Refused) && is_line)
 }

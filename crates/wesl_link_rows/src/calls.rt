@@ -1,14 +1,15 @@
 //! The calls by their names: what is not among the calls of one list is looked up in the next.
 use crate::{chains, links, manglers, names, packages, resolvers, tables};
+use serde_json::Value;
 use wesl_mangle::{EscapeMangler, UnicodeMangler};
-use wesl_row::{Answer, Row, text_value};
+use wesl_row::Row;
 
 /// What the call of a row answers.
-pub fn answered(row: Row<'_>) -> Answer {
+pub fn answered(row: Row<'_>) -> Value {
     match row.text("call") {
         "resolve_lazy" => links::lazy(row),
         "resolve_eager" => links::eager(row),
-        "Resolutions::new_uninit" => links::nothing(row.alloc),
+        "Resolutions::new_uninit" => links::nothing(row),
         "Resolutions::mangle, or what stands" => links::mangled_or_left(row),
         "resolve_lazy of a chain" => chains::lazy(row),
         "resolve_eager of a chain" => chains::eager(row),
@@ -19,7 +20,7 @@ pub fn answered(row: Row<'_>) -> Answer {
 }
 
 /// Calls of resolvers.
-fn of_resolvers(row: Row<'_>, call: &str) -> Answer {
+fn of_resolvers(row: Row<'_>, call: &str) -> Value {
     match call {
         "VirtualResolver::modules" => resolvers::all(row),
         "VirtualResolver::get_module" => resolvers::stored(row),
@@ -34,7 +35,7 @@ fn of_resolvers(row: Row<'_>, call: &str) -> Answer {
 }
 
 /// Calls of resolvers of packages.
-fn of_packages(row: Row<'_>, call: &str) -> Answer {
+fn of_packages(row: Row<'_>, call: &str) -> Value {
     match call {
         "PkgResolver::resolve_source" => packages::source(row),
         "PkgResolver::resolve_module" => packages::module(row),
@@ -46,7 +47,7 @@ fn of_packages(row: Row<'_>, call: &str) -> Answer {
 }
 
 /// Calls of manglers.
-fn of_manglers(row: Row<'_>, call: &str) -> Answer {
+fn of_manglers(row: Row<'_>, call: &str) -> Value {
     match call {
         "EscapeMangler::mangle" => manglers::named(row, &mut EscapeMangler),
         "EscapeMangler::unmangle" => manglers::read(row, &EscapeMangler),
@@ -63,10 +64,10 @@ fn of_manglers(row: Row<'_>, call: &str) -> Answer {
 }
 
 /// Calls of tables of names.
-fn of_names(row: Row<'_>, call: &str) -> Answer {
+fn of_names(row: Row<'_>, call: &str) -> Value {
     match call {
         "Interner::intern, or what stands" => names::interned_or_left(row),
         "Names::add, or what stands" => names::added_or_left(row),
-        _ => text_value(row.alloc, Some("no such row")),
+        _ => row.text_value("no such row"),
     }
 }

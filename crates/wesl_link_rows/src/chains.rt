@@ -1,100 +1,107 @@
 //! Links of chains of modules, each of which needs the next one's constant.
 use serde_json::Value;
-use std::alloc::Global;
-use wesl_json::{JsonText, unit_of_value};
+use wesl_json::JsonText;
 use wesl_link::{Resolutions, resolve_eager, resolve_lazy};
 use wesl_resolve::VirtualResolver;
-use wesl_row::{Answer, List, Object, Row, of_diagnostic, rooted};
+use wesl_row::{Object, Row, of_diagnostic, unit_of_one};
 use wesl_tree::{Diagnostic, TranslationUnit};
 
+/// The text of the path of the module of a number.
+fn path_text(row: Row<'_>, number: usize) -> String {
+    row.or(
+        format!(in row.alloc; "package::m{number}"),
+        String::new(row.alloc),
+    )
+}
+
+/// The constant of the module of a number, by its name.
+fn reference(row: Row<'_>, number: usize) -> Value {
+    let mut name = Object::new(row.alloc);
+    name.text("name", "k");
+    name.put("path", Value::String(path_text(row, number)));
+    name.end(row)
+}
+
 /// What the constant of a module is: that of the next one, and of the last one `true`.
-fn constant(alloc: Global, number: usize, count: usize) -> Answer {
+fn constant(row: Row<'_>, number: usize, count: usize) -> Value {
     let next = number.wrapping_add(1);
-    if next >= count {
-        return Ok(Value::Bool(true));
+    if next < count {
+        reference(row, next)
+    } else {
+        Value::Bool(true)
     }
-    let path = format!(in alloc; "package::m{next}")?;
-    let mut name = Object::new(alloc);
-    name.text("name", Some("k"));
-    name.text("path", Some(path.as_str()));
-    name.end()
 }
 
-/// `const k = package::m8::k;` for the module of number 7, and `const k = true;` for the last of so many.
-fn tree(alloc: Global, number: usize, count: usize) -> Answer {
-    let mut declaration = Object::new(alloc);
-    declaration.put("init", constant(alloc, number, count));
-    declaration.text("k", Some("const"));
-    declaration.text("name", Some("k"));
-    let mut declarations = List::new(alloc);
-    declarations.put(declaration.end());
-    let mut tree = Object::new(alloc);
-    tree.put("declarations", declarations.end());
-    tree.end()
+/// `const k = package::m8::k;` for the module of number 7, and `const k = true;` for the last of so many
+/// (`modules_in_chain`).
+fn module(row: Row<'_>, number: usize) -> TranslationUnit {
+    let mut declaration = Object::new(row.alloc);
+    declaration.put(
+        "init",
+        constant(row, number, row.number("modules_in_chain", 1)),
+    );
+    declaration.text("k", "const");
+    declaration.text("name", "k");
+    unit_of_one(row, declaration.end(row))
 }
 
-/// The same as a unit.
-fn module(alloc: Global, number: usize, count: usize) -> Result<TranslationUnit, anyhow::Error> {
-    let tree = tree(alloc, number, count)?;
-    Ok(unit_of_value(alloc, &tree)?)
-}
-
-/// Adds the module of a number to those of a chain of so many.
-fn add(
-    alloc: Global,
-    number: usize,
-    count: usize,
-    modules: &mut VirtualResolver<JsonText>,
-) -> Result<(), anyhow::Error> {
-    let text = format!(in alloc; "package::m{number}")?;
-    let path = rooted(alloc, text.as_str())?;
-    Ok(modules.add_translation_unit(alloc, path, module(alloc, number, count)?)?)
+/// Adds the module of a number to those of a chain.
+fn add(row: Row<'_>, number: usize, modules: &mut VirtualResolver<JsonText>) {
+    let path = row.rooted_of(path_text(row, number).as_str());
+    row.done(modules.add_translation_unit(row.alloc, path, module(row, number)));
 }
 
 /// The modules `package::m0`, `package::m1`, .. of a chain of so many (`modules_in_chain`).
-fn modules(row: Row<'_>) -> Result<VirtualResolver<JsonText>, anyhow::Error> {
-    let count = row.number("modules_in_chain", 1);
+fn modules(row: Row<'_>) -> VirtualResolver<JsonText> {
     let mut modules = VirtualResolver::new(row.alloc, JsonText);
-    for number in 0..count {
-        add(row.alloc, number, count, &mut modules)?;
+    for number in 0..row.number("modules_in_chain", 1) {
+        add(row, number, &mut modules);
     }
-    Ok(modules)
+    modules
+}
+
+/// How many modules and turns a link has.
+fn counts(row: Row<'_>, found: &Resolutions) -> Value {
+    let modules = row.or(found.module_order(row.alloc), Vec::new(row.alloc));
+    let mut answer = Object::new(row.alloc);
+    answer.number("modules", modules.len());
+    answer.number("turns", found.turns());
+    answer.end(row)
 }
 
 /// How many modules and turns a link has, or how it is refused.
-fn counted(alloc: Global, found: &Result<Resolutions, Diagnostic>) -> Answer {
+fn counted(row: Row<'_>, found: &Result<Resolutions, Diagnostic>) -> Value {
     match found {
-        Ok(found) => {
-            let modules = found.module_order(alloc)?.len();
-            let mut answer = Object::new(alloc);
-            answer.number("modules", modules);
-            answer.number("turns", found.turns());
-            answer.end()
-        }
-        Err(refusal) => of_diagnostic(alloc, refusal),
+        Ok(found) => counts(row, found),
+        Err(refusal) => of_diagnostic(row, refusal),
     }
 }
 
 /// The lazy link of a chain, from its first module, whose constant is kept.
-pub fn lazy(row: Row<'_>) -> Answer {
-    let path = rooted(row.alloc, "package::m0")?;
-    let root = module(row.alloc, 0, row.number("modules_in_chain", 1))?;
-    let mut modules = modules(row)?;
+pub fn lazy(row: Row<'_>) -> Value {
+    let path = row.rooted_of("package::m0");
+    let mut modules = modules(row);
     let limit = row.number("limit", 1000);
     counted(
-        row.alloc,
-        &resolve_lazy(row.alloc, &["k"], root, &path, &mut modules, limit),
+        row,
+        &resolve_lazy(
+            row.alloc,
+            &["k"],
+            module(row, 0),
+            &path,
+            &mut modules,
+            limit,
+        ),
     )
 }
 
 /// The eager link of a chain, from its first module.
-pub fn eager(row: Row<'_>) -> Answer {
-    let path = rooted(row.alloc, "package::m0")?;
-    let root = module(row.alloc, 0, row.number("modules_in_chain", 1))?;
-    let mut modules = modules(row)?;
+pub fn eager(row: Row<'_>) -> Value {
+    let path = row.rooted_of("package::m0");
+    let mut modules = modules(row);
     let limit = row.number("limit", 1000);
     counted(
-        row.alloc,
-        &resolve_eager(row.alloc, root, &path, &mut modules, limit),
+        row,
+        &resolve_eager(row.alloc, module(row, 0), &path, &mut modules, limit),
     )
 }

@@ -4,122 +4,132 @@ ghost use Rattle.wesl_names.specs.Path.{path_view, is_relative};
 ghost use Rattle.wesl_link.specs.Keeping.{IsSound};
 
 use serde_json::Value;
-use std::alloc::Global;
-use wesl_json::{JsonText, value_of_unit};
 use wesl_link::{Resolutions, resolve_eager, resolve_lazy};
 use wesl_mangle::EscapeMangler;
-use wesl_resolve::VirtualResolver;
-use wesl_row::{Answer, List, Object, Row, of_diagnostic, refused};
-use wesl_tree::{Diagnostic, ModulePath, TranslationUnit};
-
-/// The text of a path.
-fn text(alloc: Global, path: &ModulePath) -> Answer {
-    Ok(Value::String(path.to_text(alloc)?))
-}
+use wesl_row::{List, Object, Row, is_refused, of_diagnostic, stands};
+use wesl_tree::{Diagnostic, TranslationUnit};
 
 /// The paths of the modules of a link, in their order.
-fn paths(alloc: Global, found: &Resolutions) -> Answer {
-    let order = found.module_order(alloc)?;
-    let mut paths = List::new(alloc);
-    for path in &order {
-        paths.put(text(alloc, path));
+fn paths(row: Row<'_>, found: &Resolutions) -> Value {
+    let order = row.or(found.module_order(row.alloc), Vec::new(row.alloc));
+    let mut paths = List::new(row.alloc);
+    for path in order.as_slice() {
+        paths.put(row.path_value(path));
     }
-    paths.end()
+    paths.end(row)
 }
 
 /// The path of the root of a link, null where there is none.
-fn root(alloc: Global, found: &Resolutions) -> Answer {
+fn root(row: Row<'_>, found: &Resolutions) -> Value {
     match found.root_path() {
-        Some(path) => text(alloc, path),
-        None => Ok(Value::Null),
+        Some(path) => row.path_value(path),
+        None => Value::Null,
     }
 }
 
 /// The linked unit: of an eager link the whole one, else the stripped one.
-fn unit(alloc: Global, found: &Resolutions) -> Answer
+fn linked(row: Row<'_>, found: &Resolutions) -> TranslationUnit
     requires { IsSound found.now }
 {
-    let unit = if found.is_eager() {
-        found.assemble(alloc, false)?
+    if found.is_eager() {
+        row.unit_or_none(found.assemble(row.alloc, false))
     } else {
-        found.assemble(alloc, true)?
-    };
-    Ok(value_of_unit(alloc, &unit)?)
-}
-
-/// What is told of a link.
-fn told(alloc: Global, found: &Resolutions) -> Answer
-    requires { IsSound found.now }
-{
-    let mut answer = Object::new(alloc);
-    answer.flag("is_eager", found.is_eager());
-    answer.number("turns", found.turns());
-    answer.put("modules", paths(alloc, found));
-    answer.put("unit", unit(alloc, found));
-    answer.put("root", root(alloc, found));
-    answer.end()
-}
-
-/// What a link answers, under the names of the escape mangler but for the root's.
-fn outcome(alloc: Global, found: Result<Resolutions, Diagnostic>) -> Answer
-    requires { IfOk found IsSound }
-{
-    match found {
-        Ok(mut found) => {
-            found.mangle(alloc, &mut EscapeMangler, false)?;
-            told(alloc, &found)
-        }
-        Err(refusal) => of_diagnostic(alloc, &refusal),
+        row.unit_or_none(found.assemble(row.alloc, true))
     }
 }
 
-/// The modules of a row, its `path` and its `unit`.
-fn parts(
-    row: Row<'_>,
-) -> Result<(VirtualResolver<JsonText>, ModulePath, TranslationUnit), anyhow::Error>
-    ensures { IfOk result (λ p. is_relative (path_view p.1) ≡ false) }
+/// The same as a tree.
+fn unit(row: Row<'_>, found: &Resolutions) -> Value
+    requires { IsSound found.now }
 {
-    let path = row.rooted("path")?;
-    let root = row.unit("unit")?;
-    Ok((row.modules("modules")?, path, root))
+    row.tree_of(&linked(row, found))
 }
 
-/// What a lazy link of a row's modules answers, from its `unit` at its `path` with the names `keep`.
-pub fn lazy(row: Row<'_>) -> Answer {
-    let keep = row.texts("keep")?;
-    let (mut modules, path, root) = parts(row)?;
+/// What is told of a link.
+fn told(row: Row<'_>, found: &Resolutions) -> Value
+    requires { IsSound found.now }
+{
+    let mut answer = Object::new(row.alloc);
+    answer.flag("is_eager", found.is_eager());
+    answer.number("turns", found.turns());
+    answer.put("modules", paths(row, found));
+    answer.put("unit", unit(row, found));
+    answer.put("root", root(row, found));
+    answer.end(row)
+}
+
+/// What is told of a link under the names of the escape mangler but for the root's.
+fn mangled(row: Row<'_>, found: Resolutions) -> Value
+    requires { IsSound found }
+{
+    let mut found = found;
+    row.done(found.mangle(row.alloc, &mut EscapeMangler, false));
+    told(row, &found)
+}
+
+/// What a link answers, under the names of the escape mangler but for the root's.
+fn outcome(row: Row<'_>, found: Result<Resolutions, Diagnostic>) -> Value
+    requires { IfOk found IsSound }
+{
+    match found {
+        Ok(found) => mangled(row, found),
+        Err(refusal) => of_diagnostic(row, &refusal),
+    }
+}
+
+/// The lazy link of a row's modules, from its `unit` at its `path` with the names `keep`.
+fn lazily(row: Row<'_>) -> Result<Resolutions, Diagnostic>
+    ensures { IfOk result IsSound }
+{
+    let keep = row.texts("keep");
+    let path = row.rooted("path");
+    let mut modules = row.modules("modules");
     let limit = row.number("limit", 1000);
-    outcome(
+    resolve_lazy(
         row.alloc,
-        resolve_lazy(row.alloc, &keep, root, &path, &mut modules, limit),
+        keep.as_slice(),
+        row.unit("unit"),
+        &path,
+        &mut modules,
+        limit,
     )
 }
 
+/// What a lazy link of a row's modules answers.
+pub fn lazy(row: Row<'_>) -> Value {
+    outcome(row, lazily(row))
+}
+
 /// What an eager link of a row's modules answers, from its `unit` at its `path`.
-pub fn eager(row: Row<'_>) -> Answer {
-    let (mut modules, path, root) = parts(row)?;
+pub fn eager(row: Row<'_>) -> Value {
+    let path = row.rooted("path");
+    let mut modules = row.modules("modules");
     let limit = row.number("limit", 1000);
     outcome(
-        row.alloc,
-        resolve_eager(row.alloc, root, &path, &mut modules, limit),
+        row,
+        resolve_eager(row.alloc, row.unit("unit"), &path, &mut modules, limit),
     )
 }
 
 /// What is told where nothing was linked.
-pub fn nothing(alloc: Global) -> Answer {
-    told(alloc, &Resolutions::new_uninit(alloc))
+pub fn nothing(row: Row<'_>) -> Value {
+    told(row, &Resolutions::new_uninit(row.alloc))
 }
 
-/// The unit of a lazy link under the names of the escape mangler, the root's too, or, where these are refused, under
-/// those that it has then.
-pub fn mangled_or_left(row: Row<'_>) -> Answer {
-    let keep = row.texts("keep")?;
-    let (mut modules, path, root) = parts(row)?;
-    match resolve_lazy(row.alloc, &keep, root, &path, &mut modules, 1000) {
-        Ok(mut found) => match found.mangle(row.alloc, &mut EscapeMangler, true) {
-            Ok(()) => unit(row.alloc, &found),
-            Err(_) => refused(row.alloc, unit(row.alloc, &found)),
-        },
-        Err(refusal) => of_diagnostic(row.alloc, &refusal),
+/// The unit of a link under the names of the escape mangler, the root's too, or, where these are refused, under those
+/// that it has then.
+fn all_mangled(row: Row<'_>, found: Resolutions) -> Value
+    requires { IsSound found }
+{
+    let mut found = found;
+    let is_refused = is_refused(found.mangle(row.alloc, &mut EscapeMangler, true));
+    stands(row, is_refused, unit(row, &found))
+}
+
+/// The same of the lazy link of a row's modules.
+pub fn mangled_or_left(row: Row<'_>) -> Value {
+    match lazily(row) {
+        Ok(found) => all_mangled(row, found),
+        Err(refusal) => of_diagnostic(row, &refusal),
     }
 }

@@ -1,14 +1,13 @@
 //! Manglers: names of items, names that are read, and names of variants.
-ghost use Rattle.std.specs.Prelude.{◌≡◌, ◌<◌, ℕ, true, IfOk};
+ghost use Rattle.std.specs.Prelude.{◌≡◌, ◌<◌, ℕ, true};
 ghost use Rattle.wesl_syntax.specs.Tree.{tree_below};
 ghost use Rattle.wesl_syntax.specs.View.{expression_view, type_view};
 
 use serde_json::Value;
-use std::alloc::Global;
 use wesl_mangle::{
     CacheMangler, EscapeMangler, HashMangler, Mangler, NoMangler, PathHash, UnicodeMangler,
 };
-use wesl_row::{Answer, Row, item_value, of_error, refused};
+use wesl_row::{Row, is_refused, item_value, of_error, stands, text_of};
 use wesl_tree::{
     BinaryOperator, Error, Expression, ExpressionNode, Ident, Literal, ModulePath, Names, Span,
     Spanned, TemplateArg, TypeExpression,
@@ -27,66 +26,55 @@ impl PathHash for Always {
 }
 
 /// The name that a mangler gives to the item of a row.
-pub fn named<M: Mangler>(row: Row<'_>, mangler: &mut M) -> Answer {
-    let path = row.path("path")?;
-    Ok(Value::String(mangler.mangle(row.alloc, &path, row.text("item"))?))
+pub fn named<M: Mangler>(row: Row<'_>, mangler: &mut M) -> Value {
+    row.text_or_none(mangler.mangle(row.alloc, &row.path("path"), row.text("item")))
 }
 
 /// The path and the item that a mangler reads a name as, null where it reads none.
-fn read_as<M: Mangler>(alloc: Global, mangler: &M, name: &str) -> Answer {
-    match mangler.unmangle(alloc, name)? {
-        Some((path, item)) => item_value(alloc, Some((&path, item.as_str()))),
-        None => Ok(Value::Null),
+fn read_as<M: Mangler>(row: Row<'_>, mangler: &M, name: &str) -> Value {
+    match &row.or(mangler.unmangle(row.alloc, name), None) {
+        Some((path, item)) => item_value(row, path, item.as_str()),
+        None => Value::Null,
     }
 }
 
 /// What a mangler reads the name of a row as.
-pub fn read<M: Mangler>(row: Row<'_>, mangler: &M) -> Answer {
-    read_as(row.alloc, mangler, row.text("name"))
+pub fn read<M: Mangler>(row: Row<'_>, mangler: &M) -> Value {
+    read_as(row, mangler, row.text("name"))
 }
 
 /// The name that a mangler of numbers gives to the item of a row, whose number is that of the row.
-pub fn numbered(row: Row<'_>) -> Answer {
+pub fn numbered(row: Row<'_>) -> Value {
     let number = row.number("number", 0) as u64;
     named(row, &mut HashMangler::new(Always(number)))
 }
 
 /// What a mangler with a record reads the name of a row as, after it gave names to the items of the row.
-pub fn remembered(row: Row<'_>) -> Answer {
+pub fn remembered(row: Row<'_>) -> Value {
     let mut mangler = CacheMangler::new(row.alloc, NoMangler);
     for item in row.list("given") {
-        let _ = named(row.of(item), &mut mangler)?;
+        let _ = named(row.of(item), &mut mangler);
     }
     read(row, &mangler)
 }
 
-/// Names the item of a row at the path that a text says, if it says one.
-fn name_at<M: Mangler>(row: Row<'_>, text: &str, mangler: &mut M) -> Result<(), anyhow::Error> {
-    if let Some(path) = ModulePath::parse(row.alloc, text)? {
-        let _ = mangler.mangle(row.alloc, &path, row.text("item"))?;
-    }
-    Ok(())
-}
-
 /// A mangler with a record that named the item of a row at the paths `given`.
-fn remembering(row: Row<'_>) -> Result<CacheMangler<NoMangler>, anyhow::Error> {
-    let given = row.texts("given")?;
+fn remembering(row: Row<'_>) -> CacheMangler<NoMangler> {
     let mut mangler = CacheMangler::new(row.alloc, NoMangler);
-    for text in &given {
-        name_at(row, text, &mut mangler)?;
+    for text in row.list("given") {
+        let path = row.path_of(text_of(text));
+        row.refused_if(is_refused(mangler.mangle(row.alloc, &path, row.text("item"))));
     }
-    Ok(mangler)
+    mangler
 }
 
 /// What a mangler with a record reads the `item` as, when it named the item of the paths `given`, and `then` of one more.
-pub fn remembered_or_left(row: Row<'_>) -> Answer {
+pub fn remembered_or_left(row: Row<'_>) -> Value {
     let item = row.text("item");
-    let last = row.path("then")?;
-    let mut mangler = remembering(row)?;
-    match mangler.mangle(row.alloc, &last, item) {
-        Ok(_) => read_as(row.alloc, &mangler, item),
-        Err(_) => refused(row.alloc, read_as(row.alloc, &mangler, item)),
-    }
+    let last = row.path("then");
+    let mut mangler = remembering(row);
+    let is_refused = is_refused(mangler.mangle(row.alloc, &last, item));
+    stands(row, is_refused, read_as(row, &mangler, item))
 }
 
 fn placed(node: Expression) -> ExpressionNode
@@ -98,10 +86,11 @@ fn placed(node: Expression) -> ExpressionNode
     }
 }
 
-fn literal(alloc: Global, text: &str) -> Result<Expression, Error>
-    ensures { IfOk result (λ e. tree_below 2 (expression_view e) ≡ true) }
+/// The size that a text writes.
+fn literal(row: Row<'_>, text: &str) -> Expression
+    ensures { tree_below 2 (expression_view result) ≡ true }
 {
-    Ok(Expression::Literal(Literal::Text(String::from_str(alloc, text)?)))
+    Expression::Literal(Literal::Text(row.copy_of(text)))
 }
 
 fn plain_type(number: usize) -> TypeExpression
@@ -114,76 +103,88 @@ fn plain_type(number: usize) -> TypeExpression
     }
 }
 
-/// `array<f32, size>`, where `array` has the number 0 and `f32` the number 1
-fn array_of(alloc: Global, size: Expression) -> Result<TypeExpression, Error>
+/// `array<f32, size>`, where `array` has the number 0 and `f32` the number 1, or `array` where memory is wanting.
+fn array_of(row: Row<'_>, size: Expression) -> TypeExpression
     requires below { tree_below 2 (expression_view size) ≡ true }
-    ensures below { IfOk result (λ t. tree_below 2 (type_view t) ≡ true) }
+    ensures below { tree_below 2 (type_view result) ≡ true }
 {
-    let mut arguments = Vec::new(alloc);
-    arguments.push(TemplateArg {
+    let element = TemplateArg {
         expression: placed(Expression::TypeOrIdentifier(plain_type(1))),
-    })?;
-    arguments.push(TemplateArg {
+    };
+    let size = TemplateArg {
         expression: placed(size),
-    })?;
-    Ok(TypeExpression {
-        path: None,
-        ident: Ident(0),
-        template_args: Some(arguments),
-    })
+    };
+    match vec![in row.alloc; element, size] {
+        Ok(arguments) => TypeExpression {
+            path: None,
+            ident: Ident(0),
+            template_args: Some(arguments),
+        },
+        Err(_) => {
+            row.refused_if(true);
+            plain_type(0)
+        }
+    }
+}
+
+/// The names `array` and `f32`, where there is memory for both.
+fn two_names(row: Row<'_>) -> Names {
+    let mut names = Names::new(row.alloc);
+    row.refused_if(is_refused(names.add("array")));
+    row.refused_if(is_refused(names.add("f32")));
+    names
 }
 
 /// The name in Unicode form of the first variant of `f`, for the type `array<f32, size>`.
-fn variant_of_f(alloc: Global, size: Expression) -> Result<String, Error>
+fn variant_of_f(row: Row<'_>, size: Expression) -> Result<String, Error>
     requires below { tree_below 2 (expression_view size) ≡ true }
 {
-    let mut names = Names::new(alloc);
-    let _ = names.add("array")?;
-    let _ = names.add("f32")?;
-    UnicodeMangler.mangle_types(alloc, &names, "f", 1, &[array_of(alloc, size)?])
+    let names = two_names(row);
+    let types = [array_of(row, size)];
+    if names.len() == 2 {
+        UnicodeMangler.mangle_types(row.alloc, &names, "f", 1, &types)
+    } else {
+        Err(Error::Memory)
+    }
 }
 
 /// The same for a size that is a sum, as `1 + 1`.
-fn variant_by_sum(alloc: Global, left: &str, right: &str) -> Result<String, Error> {
+fn variant_by_sum(row: Row<'_>, left: &str, right: &str) -> Result<String, Error> {
     let sum = Expression::Binary {
         operator: BinaryOperator::Addition,
-        left: Box::new(alloc, placed(literal(alloc, left)?))?,
-        right: Box::new(alloc, placed(literal(alloc, right)?))?,
+        left: Box::new(row.alloc, placed(literal(row, left)))?,
+        right: Box::new(row.alloc, placed(literal(row, right)))?,
     };
-    variant_of_f(alloc, sum)
+    variant_of_f(row, sum)
 }
 
 /// The name of a variant whose types are written, for the size of a row, which is a number or a sum of two.
 fn variant(row: Row<'_>) -> Result<String, Error> {
-    let sizes = row.value.get("array_of_f32_of_size");
-    match sizes {
-        Some(Value::Array(sizes)) => match sizes.as_slice() {
-            [Value::String(number)] => variant_of_f(row.alloc, literal(row.alloc, number)?),
-            [Value::String(left), Value::String(right)] => variant_by_sum(row.alloc, left, right),
-            _ => Err(Error::NotNormalType),
-        },
+    match row.list("array_of_f32_of_size") {
+        [Value::String(number)] => variant_of_f(row, literal(row, number.as_str())),
+        [Value::String(left), Value::String(right)] => {
+            variant_by_sum(row, left.as_str(), right.as_str())
+        }
         _ => Err(Error::NotNormalType),
     }
 }
 
 /// The same as an answer.
-pub fn written_variant(row: Row<'_>) -> Answer {
+pub fn written_variant(row: Row<'_>) -> Value {
     match variant(row) {
-        Ok(name) => Ok(Value::String(name)),
-        Err(error) => of_error(row.alloc, &error),
+        Ok(name) => Value::String(name),
+        Err(error) => of_error(row, &error),
     }
 }
 
 /// The name of a variant of the item of a row by its number.
-pub fn numbered_variant(row: Row<'_>) -> Answer {
+pub fn numbered_variant(row: Row<'_>) -> Value {
     let number = u32::try_from(row.number("number", 0)).unwrap_or(0);
     let names = Names::new(row.alloc);
-    let name = NoMangler.mangle_types(row.alloc, &names, row.text("item"), number, &[])?;
-    Ok(Value::String(name))
+    row.text_or_none(NoMangler.mangle_types(row.alloc, &names, row.text("item"), number, &[]))
 }
 
 /// Whether the escape form of the item of a row is read back.
-pub fn reversible(row: Row<'_>) -> Answer {
-    let path = row.path("path")?;
-    Ok(Value::Bool(EscapeMangler.is_reversible(&path, row.text("item"))))
+pub fn reversible(row: Row<'_>) -> Value {
+    Value::Bool(EscapeMangler.is_reversible(&row.path("path"), row.text("item")))
 }

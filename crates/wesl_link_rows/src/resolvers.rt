@@ -3,205 +3,214 @@ ghost use Rattle.std.specs.Prelude.{◌≡◌, false};
 ghost use Rattle.wesl_names.specs.Path.{path_view, is_relative};
 
 use serde_json::Value;
-use std::alloc::Global;
-use wesl_json::{JsonText, value_of_unit};
+use wesl_json::JsonText;
 use wesl_resolve::{NoResolver, Resolver, Router, VirtualResolver};
-use wesl_row::{Answer, List, Row, fault, item_value, located, refused, rooted, text_value};
-use wesl_tree::ResolveError;
+use wesl_row::{List, Row, is_refused, item_value, of_resolver, stands, text_of};
+use wesl_tree::{ModulePath, ResolveError, TranslationUnit};
 
-/// The answer of a refusal.
-fn refusal(alloc: Global, error: &ResolveError) -> Answer {
-    match error {
-        ResolveError::ModuleNotFound(path, reason) => {
-            let path = path.to_text(alloc)?;
-            fault(alloc, "ModuleNotFound", &[path.as_str(), reason.as_str()])
-        }
-        ResolveError::Error(diagnostic) => located(alloc, diagnostic),
-        ResolveError::FileNotFound(_, _) => fault(alloc, "another fault", &[]),
-        ResolveError::Memory => fault(alloc, "Memory", &[]),
+/// The answer of a source.
+fn source_told(row: Row<'_>, source: Result<String, ResolveError>) -> Value {
+    match source {
+        Ok(source) => Value::String(source),
+        Err(error) => of_resolver(row, &error),
+    }
+}
+
+/// The answer of a unit.
+fn unit_told(row: Row<'_>, unit: &Result<TranslationUnit, ResolveError>) -> Value {
+    match unit {
+        Ok(unit) => row.tree_of(unit),
+        Err(error) => of_resolver(row, error),
     }
 }
 
 /// The source that a resolver gives for the path of a row.
-pub fn source<R: Resolver>(row: Row<'_>, resolver: &mut R) -> Answer
+pub fn source<R: Resolver>(row: Row<'_>, resolver: &mut R) -> Value
     requires { R.ready resolver.old }
 {
-    let path = row.rooted("path")?;
-    match resolver.resolve_source(row.alloc, &path) {
-        Ok(source) => Ok(Value::String(source)),
-        Err(error) => refusal(row.alloc, &error),
-    }
+    let path = row.rooted("path");
+    source_told(row, resolver.resolve_source(row.alloc, &path))
 }
 
 /// The unit that a resolver gives for the path of a row.
-pub fn module<R: Resolver>(row: Row<'_>, resolver: &mut R) -> Answer
+pub fn module<R: Resolver>(row: Row<'_>, resolver: &mut R) -> Value
     requires { R.ready resolver.old }
 {
-    let path = row.rooted("path")?;
-    match resolver.resolve_module(row.alloc, &path) {
-        Ok(unit) => Ok(value_of_unit(row.alloc, &unit)?),
-        Err(error) => refusal(row.alloc, &error),
+    let path = row.rooted("path");
+    let unit = resolver.resolve_module(row.alloc, &path);
+    let answer = unit_told(row, &unit);
+    // as a generic function lets go of it, which costs the proof a fraction
+    drop(unit);
+    answer
+}
+
+/// The answer of a name by which a module is shown, null where it has none.
+fn name_told(row: Row<'_>, name: Result<Option<String>, ResolveError>) -> Value {
+    match name {
+        Ok(Some(name)) => Value::String(name),
+        Ok(None) => Value::Null,
+        Err(error) => of_resolver(row, &error),
     }
 }
 
 /// The name by which a resolver shows the path of a row.
-pub fn name<R: Resolver>(row: Row<'_>, resolver: &mut R) -> Answer
+pub fn name<R: Resolver>(row: Row<'_>, resolver: &mut R) -> Value
     requires { R.ready resolver.old }
 {
-    let path = row.rooted("path")?;
-    match resolver.display_name(row.alloc, &path) {
-        Ok(Some(name)) => Ok(Value::String(name)),
-        Ok(None) => Ok(Value::Null),
-        Err(error) => refusal(row.alloc, &error),
-    }
+    let path = row.rooted("path");
+    name_told(row, resolver.display_name(row.alloc, &path))
 }
 
 /// Null for a module that is not there; want of memory is none.
-fn none_of(error: &ResolveError) -> Answer {
+fn none_of(row: Row<'_>, error: &ResolveError) -> Value {
     match error {
-        ResolveError::Memory => Err(anyhow::anyhow!("want of memory")),
-        _ => Ok(Value::Null),
+        ResolveError::Memory => row.refused_if(true),
+        _ => {}
+    }
+    Value::Null
+}
+
+/// The answer of a source, null where there is none.
+fn source_or_null(row: Row<'_>, source: Result<String, ResolveError>) -> Value {
+    match source {
+        Ok(source) => Value::String(source),
+        Err(error) => none_of(row, &error),
     }
 }
 
 /// The source that a resolver gives for a path, null where it has none.
-fn given<R: Resolver>(alloc: Global, resolver: &mut R, text: &str) -> Answer
+fn given<R: Resolver>(row: Row<'_>, resolver: &mut R, text: &str) -> Value
     requires { R.ready resolver.old }
     ensures { R.ready resolver.new }
 {
-    let path = rooted(alloc, text)?;
-    match resolver.resolve_source(alloc, &path) {
-        Ok(source) => Ok(Value::String(source)),
-        Err(error) => none_of(&error),
-    }
+    let path = row.rooted_of(text);
+    source_or_null(row, resolver.resolve_source(row.alloc, &path))
 }
 
 /// What a resolver gives as the sources of the modules `asked`, null where it has none.
-pub fn sources<R: Resolver>(row: Row<'_>, resolver: &mut R) -> Answer
+pub fn sources<R: Resolver>(row: Row<'_>, resolver: &mut R) -> Value
     requires { R.ready resolver.old }
 {
-    let asked = row.texts("asked")?;
     let mut sources = List::new(row.alloc);
-    for text in &asked {
-        sources.put(given(row.alloc, resolver, text));
+    for text in row.list("asked") {
+        sources.put(given(row, resolver, text_of(text)));
     }
-    sources.end()
+    sources.end(row)
+}
+
+/// Paths and sources.
+fn pairs(row: Row<'_>, held: &[(&ModulePath, &str)]) -> Value {
+    let mut pairs = List::new(row.alloc);
+    for (path, source) in held {
+        pairs.put(item_value(row, path, source));
+    }
+    pairs.end(row)
 }
 
 /// The paths and the sources of a resolver's modules.
-fn listed(alloc: Global, modules: &VirtualResolver<JsonText>) -> Answer {
-    let held = modules.modules(alloc)?;
-    let mut pairs = List::new(alloc);
-    for (path, source) in &held {
-        pairs.put(item_value(alloc, Some((path, source))));
+fn listed(row: Row<'_>, modules: &VirtualResolver<JsonText>) -> Value {
+    match modules.modules(row.alloc) {
+        Ok(held) => pairs(row, held.as_slice()),
+        Err(_) => {
+            row.refused_if(true);
+            Value::Null
+        }
     }
-    pairs.end()
 }
 
 /// Adds the `unit` of the row to a resolver, if it has one (at `unit_at`).
-fn unit_added(row: Row<'_>, modules: &mut VirtualResolver<JsonText>) -> Result<(), anyhow::Error> {
+fn unit_added(row: Row<'_>, modules: &mut VirtualResolver<JsonText>) {
     if row.has("unit") {
-        let path = row.rooted("unit_at")?;
-        modules.add_translation_unit(row.alloc, path, row.unit("unit")?)?;
+        let path = row.rooted("unit_at");
+        row.done(modules.add_translation_unit(row.alloc, path, row.unit("unit")));
     }
-    Ok(())
 }
 
 /// A resolver of `modules`, to which the `unit` of the row was added.
-fn holding(row: Row<'_>) -> Result<VirtualResolver<JsonText>, anyhow::Error> {
-    let mut modules = row.modules("modules")?;
-    unit_added(row, &mut modules)?;
-    Ok(modules)
+fn holding(row: Row<'_>) -> VirtualResolver<JsonText> {
+    let mut modules = row.modules("modules");
+    unit_added(row, &mut modules);
+    modules
 }
 
 /// The modules of a resolver of modules in memory.
-pub fn all(row: Row<'_>) -> Answer {
-    listed(row.alloc, &holding(row)?)
+pub fn all(row: Row<'_>) -> Value {
+    listed(row, &holding(row))
 }
 
-/// The stored text of the module at the path of a row.
-pub fn stored(row: Row<'_>) -> Answer {
-    let path = row.rooted("path")?;
-    let modules = holding(row)?;
-    match modules.get_module(row.alloc, &path) {
-        Ok(source) => text_value(row.alloc, Some(source)),
-        Err(error) => refusal(row.alloc, &error),
+/// The answer of a stored text.
+fn text_told(row: Row<'_>, text: &Result<&str, ResolveError>) -> Value {
+    match text {
+        Ok(text) => row.text_value(text),
+        Err(error) => of_resolver(row, error),
     }
 }
 
+/// The stored text of the module at the path of a row.
+pub fn stored(row: Row<'_>) -> Value {
+    let path = row.rooted("path");
+    text_told(row, &holding(row).get_module(row.alloc, &path))
+}
+
 /// The unit that a resolver of modules in memory gives.
-pub fn held(row: Row<'_>) -> Answer {
-    module(row, &mut holding(row)?)
+pub fn held(row: Row<'_>) -> Value {
+    module(row, &mut holding(row))
 }
 
 /// The modules of a resolver of `modules` to which one more is added, with the source or the unit of `then`, or, where
 /// that is refused, those that it has then.
-pub fn added_or_left(row: Row<'_>) -> Answer {
-    let then = row.part("then")?;
-    let mut modules = row.modules("modules")?;
-    match then.add_to(&mut modules) {
-        Ok(()) => listed(row.alloc, &modules),
-        Err(_) => refused(row.alloc, listed(row.alloc, &modules)),
-    }
+pub fn added_or_left(row: Row<'_>) -> Value {
+    let mut modules = row.modules("modules");
+    let is_refused = is_refused(row.part("then").added_to(&mut modules));
+    stands(row, is_refused, listed(row, &modules))
 }
 
 /// Mounts the modules at a key of a row at the path of another key.
-fn mounted(
-    row: Row<'_>,
-    at: &str,
-    key: &str,
-    router: &mut Router<VirtualResolver<JsonText>>,
-) -> Result<(), anyhow::Error> {
-    let path = row.rooted(at)?;
-    Ok(router.mount_resolver(path, row.modules(key)?)?)
+fn mount(row: Row<'_>, at: &str, key: &str, router: &mut Router<VirtualResolver<JsonText>>) {
+    let path = row.rooted(at);
+    row.done(router.mount_resolver(path, row.modules(key)));
 }
 
 /// A router with the modules `first` mounted at `first_at`.
-fn router(row: Row<'_>) -> Result<Router<VirtualResolver<JsonText>>, anyhow::Error> {
+fn router(row: Row<'_>) -> Router<VirtualResolver<JsonText>> {
     let mut router: Router<VirtualResolver<JsonText>> = Router::new(row.alloc);
-    mounted(row, "first_at", "first", &mut router)?;
-    Ok(router)
+    mount(row, "first_at", "first", &mut router);
+    router
 }
 
 /// The source that a router gives with two mounts and a fallback, or after a third mount, if the row has one.
-pub fn routed(row: Row<'_>) -> Answer {
-    let mut router = router(row)?;
-    mounted(row, "second_at", "second", &mut router)?;
-    router.mount_fallback_resolver(row.modules("fallback")?);
+pub fn routed(row: Row<'_>) -> Value {
+    let mut router = router(row);
+    mount(row, "second_at", "second", &mut router);
+    router.mount_fallback_resolver(row.modules("fallback"));
     if row.has("third") {
-        mounted(row, "third_at", "third", &mut router)?;
+        mount(row, "third_at", "third", &mut router);
     }
     source(row, &mut router)
 }
 
 /// A router that has one mount, of a resolver without modules, and no fallback.
-fn unrouting(row: Row<'_>) -> Result<Router<NoResolver>, anyhow::Error> {
-    let path = row.rooted("no_resolver_at")?;
+fn unrouting(row: Row<'_>) -> Router<NoResolver> {
     let mut router: Router<NoResolver> = Router::new(row.alloc);
-    router.mount_resolver(path, NoResolver)?;
-    Ok(router)
+    row.done(router.mount_resolver(row.rooted("no_resolver_at"), NoResolver));
+    router
 }
 
 /// The unit that it gives.
-pub fn unrouted(row: Row<'_>) -> Answer {
-    module(row, &mut unrouting(row)?)
+pub fn unrouted(row: Row<'_>) -> Value {
+    module(row, &mut unrouting(row))
 }
 
 /// The name by which it shows a path.
-pub fn unrouted_name(row: Row<'_>) -> Answer {
-    name(row, &mut unrouting(row)?)
+pub fn unrouted_name(row: Row<'_>) -> Value {
+    name(row, &mut unrouting(row))
 }
 
 /// What a router gives with the modules `first` mounted at `first_at`, to which those of `then` are mounted at `then_at`,
 /// or, where that is refused, what it gives then.
-pub fn mounted_or_left(row: Row<'_>) -> Answer {
-    let path = row.rooted("then_at")?;
-    let then = row.modules("then")?;
-    let mut router = router(row)?;
-    let outcome = router.mount_resolver(path, then);
-    let sources = sources(row, &mut router);
-    match outcome {
-        Ok(()) => sources,
-        Err(_) => refused(row.alloc, sources),
-    }
+pub fn mounted_or_left(row: Row<'_>) -> Value {
+    let path = row.rooted("then_at");
+    let mut router = router(row);
+    let is_refused = is_refused(router.mount_resolver(path, row.modules("then")));
+    stands(row, is_refused, sources(row, &mut router))
 }

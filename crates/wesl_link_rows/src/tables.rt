@@ -1,7 +1,9 @@
 //! Links over symbol tables, whose paths and names are numbers.
+ghost use Rattle.std.specs.Prelude.{◌≡◌, IfOk};
+
 use serde_json::Value;
-use std::alloc::{AllocError, Global};
-use wesl_row::{Answer, List, Object, Row, numbers_value};
+use std::alloc::Global;
+use wesl_row::{List, Object, Row, numbers_value};
 use wesl_symbols::ids::{NameId, PathId};
 use wesl_symbols::symbols::{Import, Reference, Symbol};
 use wesl_symbols::table::{Declaration, Table};
@@ -24,13 +26,10 @@ impl Loader<usize> for Shelf<'_> {
     ghost ready = { λ _ _. Unit {0} };
 
     fn load(&mut self, alloc: Global, path: PathId) -> Result<Table, LoadError<usize>> {
-        if self.asked.push(path.0).is_err() {
-            return Err(LoadError::Memory);
-        }
-        match table_at(alloc, self.row, path) {
-            Ok(Some(table)) if table.path() == path => Ok(table),
-            Ok(_) => Err(LoadError::Refused(path.0)),
-            Err(_) => Err(LoadError::Memory),
+        self.row.push(&mut self.asked, path.0);
+        match module_at(self.row, path) {
+            Some(module) => table(alloc, path, module),
+            None => Err(LoadError::Refused(path.0)),
         }
     }
 }
@@ -67,87 +66,90 @@ fn import(row: Row<'_>) -> Import<PathId, NameId> {
 }
 
 /// The imports of a module.
-fn imports(alloc: Global, module: Row<'_>) -> Result<Vec<Import<PathId, NameId>>, AllocError> {
-    let mut imports = Vec::new(alloc);
-    for row in module.list("imports") {
-        imports.push(import(module.of(row)))?;
+fn imports(module: Row<'_>) -> Vec<Import<PathId, NameId>> {
+    let mut imports = Vec::new(module.alloc);
+    for value in module.list("imports") {
+        module.push(&mut imports, import(module.of(value)));
     }
-    Ok(imports)
+    imports
 }
 
-/// The names that a declaration uses, each with its path, if it has one.
-fn references(
-    alloc: Global,
-    declaration: Row<'_>,
-) -> Result<Vec<Reference<PathId, NameId>>, AllocError> {
-    let mut references = Vec::new(alloc);
-    for value in declaration.list("uses") {
-        let row = declaration.of(value);
-        references.push(Reference {
-            path: path(row, "path"),
-            name: NameId(row.number("name", 0)),
-        })?;
+/// A name that a declaration uses, with its path, if it has one.
+fn reference(row: Row<'_>) -> Reference<PathId, NameId> {
+    Reference {
+        path: path(row, "path"),
+        name: NameId(row.number("name", 0)),
     }
-    Ok(references)
 }
 
-/// The declarations of a module. One without a name is a const_assert.
-fn declarations(alloc: Global, module: Row<'_>) -> Result<Vec<Declaration>, AllocError> {
-    let mut declarations = Vec::new(alloc);
+/// A declaration with the names that it uses. One without a name is a const_assert.
+fn declaration(row: Row<'_>) -> Declaration {
+    let mut references = Vec::new(row.alloc);
+    for value in row.list("uses") {
+        row.push(&mut references, reference(row.of(value)));
+    }
+    Declaration::new(name(row, "name"), references)
+}
+
+/// The declarations of a module.
+fn declarations(module: Row<'_>) -> Vec<Declaration> {
+    let mut declarations = Vec::new(module.alloc);
     for value in module.list("declarations") {
-        let row = module.of(value);
-        declarations.push(Declaration::new(name(row, "name"), references(alloc, row)?))?;
+        module.push(&mut declarations, declaration(module.of(value)));
     }
-    Ok(declarations)
+    declarations
 }
 
 /// The symbol table of a module.
-fn table(alloc: Global, path: PathId, module: Row<'_>) -> Result<Table, AllocError> {
-    let imports = imports(alloc, module)?;
-    Table::new(alloc, path, imports, declarations(alloc, module)?)
+fn table(alloc: Global, at: PathId, module: Row<'_>) -> Result<Table, LoadError<usize>>
+    ensures { IfOk result (λ t. t.path ≡ at) }
+{
+    match Table::new(alloc, at, imports(module), declarations(module)) {
+        Ok(table) => Ok(table),
+        Err(_) => Err(LoadError::Memory),
+    }
 }
 
-/// The symbol table of the first of a row's modules that is at a path.
-fn table_at(alloc: Global, row: Row<'_>, at: PathId) -> Result<Option<Table>, AllocError> {
+/// The first of a row's modules that is at a path.
+fn module_at<'a>(row: Row<'a>, at: PathId) -> Option<Row<'a>> {
     for value in row.list("modules") {
-        let module = row.of(value);
-        if path(module, "path") == Some(at) {
-            return Ok(Some(table(alloc, at, module)?));
+        if path(row.of(value), "path") == Some(at) {
+            return Some(row.of(value));
         }
     }
-    Ok(None)
+    None
 }
 
 /// The kept names of a row.
-fn kept(row: Row<'_>) -> Result<Vec<NameId>, AllocError> {
+fn kept(row: Row<'_>) -> Vec<NameId> {
     let mut kept = Vec::new(row.alloc);
     for value in row.list("keep") {
-        kept.push(NameId(row.of(value).number("name", 0)))?;
+        row.push(&mut kept, NameId(row.of(value).number("name", 0)));
     }
-    Ok(kept)
+    kept
 }
 
 /// The paths of the modules of a link.
-fn paths(alloc: Global, linked: &Linked) -> Answer {
-    let mut paths = List::new(alloc);
+fn paths(row: Row<'_>, linked: &Linked) -> Value {
+    let mut paths = List::new(row.alloc);
     for table in linked.tables() {
         paths.number(table.path().0);
     }
-    paths.end()
+    paths.end(row)
 }
 
 /// A symbol as its path and its name.
-fn pair(alloc: Global, symbol: Symbol<PathId, NameId>) -> Answer {
-    numbers_value(alloc, &[symbol.path.0, symbol.name.0])
+fn pair(row: Row<'_>, symbol: Symbol<PathId, NameId>) -> Value {
+    numbers_value(row, &[symbol.path.0, symbol.name.0])
 }
 
 /// The symbols that a link reached.
-fn symbols(alloc: Global, linked: &Linked) -> Answer {
-    let mut pairs = List::new(alloc);
+fn symbols(row: Row<'_>, linked: &Linked) -> Value {
+    let mut pairs = List::new(row.alloc);
     for symbol in linked.symbols() {
-        pairs.put(pair(alloc, *symbol));
+        pairs.put(pair(row, *symbol));
     }
-    pairs.end()
+    pairs.end(row)
 }
 
 /// What the first name of the root's first declaration stands for, where that is a const_assert.
@@ -173,67 +175,93 @@ fn first_meaning(linked: &Linked) -> Option<Symbol<PathId, NameId>> {
 }
 
 /// The same as a value.
-fn first(alloc: Global, linked: &Linked) -> Answer {
+fn first(row: Row<'_>, linked: &Linked) -> Value {
     match first_meaning(linked) {
-        Some(symbol) => pair(alloc, symbol),
-        None => Ok(Value::Null),
+        Some(symbol) => pair(row, symbol),
+        None => Value::Null,
     }
 }
 
+/// Puts a fault with these numbers.
+fn put_fault(row: Row<'_>, answer: &mut Object, fault: &str, numbers: &[usize]) {
+    answer.put("args", numbers_value(row, numbers));
+    answer.text("fault", fault);
+}
+
 /// Puts the fault of a refused link.
-fn put_refused(alloc: Global, error: &LinkError<usize>, answer: &mut Object) {
-    let (fault, args) = match error {
-        LinkError::DuplicateSymbol(name) => ("DuplicateSymbol", numbers_value(alloc, &[name.0])),
-        LinkError::Refused(path) => ("Refused", numbers_value(alloc, &[*path])),
+fn put_refused(row: Row<'_>, answer: &mut Object, error: &LinkError<usize>) {
+    match error {
+        LinkError::DuplicateSymbol(name) => put_fault(row, answer, "DuplicateSymbol", &[name.0]),
+        LinkError::Refused(path) => put_fault(row, answer, "Refused", &[*path]),
         LinkError::MissingDecl(path, name) => {
-            ("MissingDecl", numbers_value(alloc, &[path.0, name.0]))
+            put_fault(row, answer, "MissingDecl", &[path.0, name.0]);
         }
-        LinkError::Private(name, path) => ("Private", numbers_value(alloc, &[name.0, path.0])),
-        LinkError::ModuleLimit(limit) => ("ModuleLimit", numbers_value(alloc, &[*limit])),
-        LinkError::Memory => ("Memory", numbers_value(alloc, &[])),
-    };
-    answer.put("args", args);
-    answer.text("fault", Some(fault));
+        LinkError::Private(name, path) => put_fault(row, answer, "Private", &[name.0, path.0]),
+        LinkError::ModuleLimit(limit) => put_fault(row, answer, "ModuleLimit", &[*limit]),
+        LinkError::Memory => put_fault(row, answer, "Memory", &[]),
+    }
 }
 
 /// Puts what a link has.
-fn put_reached(alloc: Global, linked: &Linked, answer: &mut Object) {
-    answer.put("first", first(alloc, linked));
-    answer.put("modules", paths(alloc, linked));
-    answer.put("symbols", symbols(alloc, linked));
+fn put_reached(row: Row<'_>, answer: &mut Object, linked: &Linked) {
+    answer.put("first", first(row, linked));
+    answer.put("modules", paths(row, linked));
+    answer.put("symbols", symbols(row, linked));
     answer.number("turns", linked.turns());
 }
 
 /// What a link answers, with the paths that its loader was asked for.
-fn told(alloc: Global, found: &Result<Linked, LinkError<usize>>, asked: &[usize]) -> Answer {
-    let mut answer = Object::new(alloc);
-    answer.put("asked", numbers_value(alloc, asked));
+fn told(row: Row<'_>, found: &Result<Linked, LinkError<usize>>, asked: &[usize]) -> Value {
+    let mut answer = Object::new(row.alloc);
+    answer.put("asked", numbers_value(row, asked));
     match found {
-        Ok(linked) => put_reached(alloc, linked, &mut answer),
-        Err(error) => put_refused(alloc, error, &mut answer),
+        Ok(linked) => put_reached(row, &mut answer, linked),
+        Err(error) => put_refused(row, &mut answer, error),
     }
-    answer.end()
+    answer.end(row)
+}
+
+/// Null where there is no memory for the root of a link.
+fn rootless(row: Row<'_>) -> Value {
+    row.refused_if(true);
+    Value::Null
+}
+
+/// A shelf of the modules of a row.
+fn shelf_of<'a>(row: Row<'a>) -> Shelf<'a> {
+    Shelf {
+        row,
+        asked: Vec::new(row.alloc),
+    }
+}
+
+/// What an eager link from a table answers over the tables of a row.
+fn eager_from(row: Row<'_>, root: Table) -> Value {
+    let mut shelf = shelf_of(row);
+    let found = link_eagerly(row.alloc, root, &mut shelf, row.number("limit", 0));
+    told(row, &found, shelf.asked.as_slice())
 }
 
 /// What an eager link answers over the tables of a row.
-pub fn eager(row: Row<'_>) -> Answer {
-    let root = table(row.alloc, PathId(0), row)?;
-    let mut shelf = Shelf {
-        row,
-        asked: Vec::new(row.alloc),
-    };
-    let found = link_eagerly(row.alloc, root, &mut shelf, row.number("limit", 0));
-    told(row.alloc, &found, &shelf.asked)
+pub fn eager(row: Row<'_>) -> Value {
+    match table(row.alloc, PathId(0), row) {
+        Ok(root) => eager_from(row, root),
+        Err(_) => rootless(row),
+    }
+}
+
+/// What a lazy link from a table answers over the tables of a row, with the kept names.
+fn lazy_from(row: Row<'_>, root: Table) -> Value {
+    let mut shelf = shelf_of(row);
+    let limit = row.number("limit", 0);
+    let found = link_lazily(row.alloc, root, kept(row), &mut shelf, limit);
+    told(row, &found, shelf.asked.as_slice())
 }
 
 /// What a lazy link answers over the tables of a row, with the kept names.
-pub fn lazy(row: Row<'_>) -> Answer {
-    let keep = kept(row)?;
-    let root = table(row.alloc, PathId(0), row)?;
-    let mut shelf = Shelf {
-        row,
-        asked: Vec::new(row.alloc),
-    };
-    let found = link_lazily(row.alloc, root, keep, &mut shelf, row.number("limit", 0));
-    told(row.alloc, &found, &shelf.asked)
+pub fn lazy(row: Row<'_>) -> Value {
+    match table(row.alloc, PathId(0), row) {
+        Ok(root) => lazy_from(row, root),
+        Err(_) => rootless(row),
+    }
 }

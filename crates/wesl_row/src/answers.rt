@@ -1,16 +1,12 @@
-//! Answers as values. That memory was wanting is told at the end of a list or an object, so that what puts one together
-//! looks at nothing on its way.
+//! Answers as values: lists and objects that are put together part by part.
 ghost use Rattle.std.specs.Prelude.{◌<◌, length};
 
 use crate::inputs::Row;
 use serde_json::{Map, Value, put};
-use std::alloc::{AllocError, Global};
-use wesl_tree::{Ident, ModulePath, Names};
+use std::alloc::Global;
+use wesl_tree::{Ident, ModulePath, Names, TranslationUnit};
 
-/// What a call answers.
-pub type Answer = Result<Value, anyhow::Error>;
-
-/// A list that is put together item by item.
+/// A list that is put together item by item. That memory was wanting is noted at its end.
 pub struct List {
     alloc: Global,
     items: Vec<Value>,
@@ -39,38 +35,36 @@ impl List {
     }
 
     /// Adds an item.
-    pub fn put(&mut self, item: Answer) {
-        match item {
-            Ok(item) => self.is_refused |= self.items.push(item).is_err(),
-            Err(_) => self.is_refused = true,
-        }
+    pub fn put(&mut self, item: Value) {
+        self.is_refused |= self.items.push(item).is_err();
     }
 
     /// Adds a text.
     pub fn text(&mut self, text: &str) {
-        self.put(text_value(self.alloc, Some(text)));
+        match Value::try_from_str(self.alloc, text) {
+            Ok(text) => self.put(text),
+            Err(_) => self.is_refused = true,
+        }
     }
 
     /// Adds a number.
     pub fn number(&mut self, number: usize) {
-        self.put(Ok(Value::from(number)));
+        self.put(Value::from(number));
     }
 
-    /// The list as a value. Refused where memory was wanting.
-    pub fn end(self) -> Answer {
+    /// The list as a value.
+    pub fn end(self, row: Row<'_>) -> Value {
         let List {
             alloc: _,
             items,
             is_refused,
         } = self;
-        if is_refused {
-            return Err(AllocError.into());
-        }
-        Ok(Value::Array(items))
+        row.refused_if(is_refused);
+        Value::Array(items)
     }
 }
 
-/// An object that is put together member by member.
+/// An object that is put together member by member. That memory was wanting is noted at its end.
 pub struct Object {
     alloc: Global,
     members: Map<String, Value>,
@@ -98,86 +92,98 @@ impl Object {
     }
 
     /// Puts a value at a key.
-    pub fn put(&mut self, key: &str, value: Answer) {
-        match value {
-            Ok(value) => {
-                self.is_refused |= put(&mut self.members, self.alloc, key, value).is_err();
-            }
+    pub fn put(&mut self, key: &str, value: Value) {
+        self.is_refused |= put(&mut self.members, self.alloc, key, value).is_err();
+    }
+
+    /// Puts a text at a key.
+    pub fn text(&mut self, key: &str, text: &str) {
+        match Value::try_from_str(self.alloc, text) {
+            Ok(text) => self.put(key, text),
             Err(_) => self.is_refused = true,
         }
     }
 
-    /// Puts a text at a key, null where there is none.
-    pub fn text(&mut self, key: &str, text: Option<&str>) {
-        self.put(key, text_value(self.alloc, text));
-    }
-
     /// Puts a number at a key.
     pub fn number(&mut self, key: &str, number: usize) {
-        self.put(key, Ok(Value::from(number)));
+        self.put(key, Value::from(number));
     }
 
     /// Puts a truth value at a key.
     pub fn flag(&mut self, key: &str, flag: bool) {
-        self.put(key, Ok(Value::Bool(flag)));
+        self.put(key, Value::Bool(flag));
     }
 
-    /// The object as a value. Refused where memory was wanting.
-    pub fn end(self) -> Answer {
+    /// The object as a value.
+    pub fn end(self, row: Row<'_>) -> Value {
         let Object {
             alloc: _,
             members,
             is_refused,
         } = self;
-        if is_refused {
-            return Err(AllocError.into());
-        }
-        Ok(Value::Object(members))
-    }
-}
-
-/// A text, null where there is none.
-pub fn text_value(alloc: Global, text: Option<&str>) -> Answer {
-    match text {
-        Some(text) => Ok(Value::try_from_str(alloc, text)?),
-        None => Ok(Value::Null),
+        row.refused_if(is_refused);
+        Value::Object(members)
     }
 }
 
 /// A list of numbers.
-pub fn numbers_value(alloc: Global, numbers: &[usize]) -> Answer {
-    let mut list = List::new(alloc);
+pub fn numbers_value(row: Row<'_>, numbers: &[usize]) -> Value {
+    let mut list = List::new(row.alloc);
     for number in numbers {
         list.number(*number);
     }
-    list.end()
+    list.end(row)
 }
 
 /// The names of a table, by their numbers.
-pub fn names_value(alloc: Global, names: &Names) -> Answer {
-    let mut list = List::new(alloc);
+pub fn names_value(row: Row<'_>, names: &Names) -> Value {
+    let mut list = List::new(row.alloc);
     for number in 0..names.len() {
         list.text(names.name(Ident(number)));
     }
-    list.end()
+    list.end(row)
+}
+
+/// An item as its path and its name.
+pub fn item_value(row: Row<'_>, path: &ModulePath, name: &str) -> Value {
+    let mut list = List::new(row.alloc);
+    list.put(row.path_value(path));
+    list.text(name);
+    list.end(row)
 }
 
 /// An item as its path and its name, null where there is none.
-pub fn item_value(alloc: Global, item: Option<(&ModulePath, &str)>) -> Answer {
-    let Some((path, name)) = item else {
-        return Ok(Value::Null);
-    };
-    let path = path.to_text(alloc)?;
-    let mut list = List::new(alloc);
-    list.text(path.as_str());
-    list.text(name);
-    list.end()
+pub fn found_value(row: Row<'_>, item: Option<(&ModulePath, &str)>) -> Value {
+    match item {
+        Some((path, name)) => item_value(row, path, name),
+        None => Value::Null,
+    }
+}
+
+/// The unit of one declaration, which is a tree.
+pub fn unit_of_one(row: Row<'_>, declaration: Value) -> TranslationUnit {
+    let mut declarations = List::new(row.alloc);
+    declarations.put(declaration);
+    let mut tree = Object::new(row.alloc);
+    tree.put("declarations", declarations.end(row));
+    row.of(&tree.end(row)).as_unit()
 }
 
 /// The line of a row: its name, and what its call answers.
-pub fn line(row: Row<'_>, answer: Value) -> Result<String, anyhow::Error> {
+fn line_value(row: Row<'_>, answer: Value) -> Value {
     let mut line = Object::new(row.alloc);
-    line.put("answer", Ok(answer));
-    line.text("row", Some(row.text("row")));
-    Ok(line.end()?.to_string(row.alloc)?)
+    line.put("answer", answer);
+    line.text("row", row.text("row"));
+    line.end(row)
+}
+
+/// The line of a row. Refused where something was noted of it.
+pub fn line(row: Row<'_>, answer: Value) -> Result<String, anyhow::Error> {
+    let line = line_value(row, answer);
+    let noted = row.noted();
+    if noted.is_empty() {
+        Ok(line.to_string(row.alloc)?)
+    } else {
+        Err(anyhow::Error::msg(noted))
+    }
 }

@@ -1,165 +1,199 @@
 //! Refusals as answers: the name of the fault, and its arguments in words.
-use crate::answers::{Answer, List, Object, text_value};
+use crate::answers::{List, Object};
+use crate::inputs::Row;
 use serde_json::Value;
-use std::alloc::Global;
 use wesl_tree::{
     CondCompError, Diagnostic, Error, ImportError, ModulePath, ResolveError, ValidateError,
 };
 
 /// A fault with this name and these arguments, as an object to which more may be put.
-fn told(alloc: Global, name: &str, arguments: &[&str]) -> Object {
-    let mut texts = List::new(alloc);
-    for argument in arguments {
-        texts.text(argument);
-    }
-    let mut answer = Object::new(alloc);
-    answer.put("args", texts.end());
-    answer.text("fault", Some(name));
+fn told(row: Row<'_>, name: &str, arguments: List) -> Object {
+    let mut answer = Object::new(row.alloc);
+    answer.put("args", arguments.end(row));
+    answer.text("fault", name);
     answer
 }
 
-/// The answer of a fault with this name and these arguments.
-pub fn fault(alloc: Global, name: &str, arguments: &[&str]) -> Answer {
-    told(alloc, name, arguments).end()
+/// A fault without arguments.
+fn bare(row: Row<'_>, name: &str) -> Object {
+    told(row, name, List::new(row.alloc))
+}
+
+/// A fault of a name.
+fn of_name(row: Row<'_>, name: &str, argument: &str) -> Object {
+    let mut arguments = List::new(row.alloc);
+    arguments.text(argument);
+    told(row, name, arguments)
+}
+
+/// A fault of two names.
+fn of_names(row: Row<'_>, name: &str, first: &str, second: &str) -> Object {
+    let mut arguments = List::new(row.alloc);
+    arguments.text(first);
+    arguments.text(second);
+    told(row, name, arguments)
+}
+
+/// A fault whose arguments are a path and a text, in this order.
+fn at_path(row: Row<'_>, name: &str, path: &ModulePath, text: &str) -> Object {
+    let mut arguments = List::new(row.alloc);
+    arguments.put(row.path_value(path));
+    arguments.text(text);
+    told(row, name, arguments)
+}
+
+/// The answer of a fault with this name and without arguments.
+pub fn fault(row: Row<'_>, name: &str) -> Value {
+    bare(row, name).end(row)
 }
 
 /// The answer of a call that was refused for want of memory, after which this stands.
-pub fn refused(alloc: Global, stands: Answer) -> Answer {
-    let mut answer = told(alloc, "Memory", &[]);
+pub fn refused(row: Row<'_>, stands: Value) -> Value {
+    let mut answer = bare(row, "Memory");
     answer.put("stands", stands);
-    answer.end()
+    answer.end(row)
+}
+
+/// What stands after a call, and that it was refused, if it was.
+pub fn stands(row: Row<'_>, is_refused: bool, stands: Value) -> Value {
+    if is_refused {
+        refused(row, stands)
+    } else {
+        stands
+    }
 }
 
 /// The answer of an error.
-pub fn of_error(alloc: Global, error: &Error) -> Answer {
-    object_of(alloc, error)?.end()
+pub fn of_error(row: Row<'_>, error: &Error) -> Value {
+    object_of(row, error).end(row)
 }
 
 /// The answer of what a diagnostic tells, its error alone.
-pub fn of_diagnostic(alloc: Global, diagnostic: &Diagnostic) -> Answer {
-    of_error(alloc, &diagnostic.error)
+pub fn of_diagnostic(row: Row<'_>, diagnostic: &Diagnostic) -> Value {
+    of_error(row, &diagnostic.error)
 }
 
 /// The same with the declaration that holds the fault.
-pub fn declared(alloc: Global, diagnostic: &Diagnostic) -> Answer {
-    let mut answer = object_of(alloc, &diagnostic.error)?;
-    answer.text("declaration", as_text(&diagnostic.declaration));
-    answer.end()
+pub fn declared(row: Row<'_>, diagnostic: &Diagnostic) -> Value {
+    let mut answer = object_of(row, &diagnostic.error);
+    answer.put("declaration", owned_value(row, &diagnostic.declaration));
+    answer.end(row)
 }
 
 /// The same with the module, its source and its display name.
-pub fn located(alloc: Global, diagnostic: &Diagnostic) -> Answer {
-    let mut answer = object_of(alloc, &diagnostic.error)?;
-    answer.put("module", path_value(alloc, &diagnostic.module));
-    answer.text("source", as_text(&diagnostic.source));
-    answer.text("display", as_text(&diagnostic.display));
-    answer.end()
+pub fn located(row: Row<'_>, diagnostic: &Diagnostic) -> Value {
+    let mut answer = object_of(row, &diagnostic.error);
+    answer.put("module", module_value(row, &diagnostic.module));
+    answer.put("source", owned_value(row, &diagnostic.source));
+    answer.put("display", owned_value(row, &diagnostic.display));
+    answer.end(row)
 }
 
-/// A text that may be there, lent.
-fn as_text(text: &Option<String>) -> Option<&str> {
+/// A text, null where there is none.
+fn owned_value(row: Row<'_>, text: &Option<String>) -> Value {
     match text {
-        Some(text) => Some(text.as_str()),
-        None => None,
+        Some(text) => row.text_value(text.as_str()),
+        None => Value::Null,
     }
 }
 
 /// The text of a path, null where there is none.
-fn path_value(alloc: Global, path: &Option<ModulePath>) -> Answer {
+fn module_value(row: Row<'_>, path: &Option<ModulePath>) -> Value {
     match path {
-        Some(path) => Ok(Value::String(path.to_text(alloc)?)),
-        None => text_value(alloc, None),
+        Some(path) => row.path_value(path),
+        None => Value::Null,
     }
 }
 
 /// An error as an object.
-fn object_of(alloc: Global, error: &Error) -> Result<Object, anyhow::Error> {
+fn object_of(row: Row<'_>, error: &Error) -> Object {
     match error {
-        Error::CondComp(error) => Ok(of_condition(alloc, error)),
-        Error::Import(error) => of_import(alloc, error),
-        Error::Resolve(error) => of_refusal(alloc, error),
-        Error::Validate(error) => of_validation(alloc, error),
-        Error::ModuleLimit(limit) => {
-            let limit = format!(in alloc; "{limit}")?;
-            Ok(told(alloc, "ModuleLimit", &[limit.as_str()]))
-        }
-        Error::NotNormalType => Ok(told(alloc, "NotNormalType", &[])),
-        Error::NotJson => Ok(told(alloc, "NotJson", &[])),
-        Error::BadTree(place) => Ok(told(alloc, "BadTree", &[place.as_str()])),
-        Error::BadBundle(place) => Ok(told(alloc, "BadBundle", &[place.as_str()])),
-        Error::Memory => Ok(told(alloc, "Memory", &[])),
+        Error::CondComp(error) => of_condition(row, error),
+        Error::Import(error) => of_import(row, error),
+        Error::Resolve(error) => of_refusal(row, error),
+        Error::Validate(error) => of_validation(row, error),
+        Error::ModuleLimit(limit) => of_name(row, "ModuleLimit", row.digits(*limit).as_str()),
+        Error::NotNormalType => bare(row, "NotNormalType"),
+        Error::NotJson => bare(row, "NotJson"),
+        Error::BadTree(place) => of_name(row, "BadTree", place.as_str()),
+        Error::BadBundle(place) => of_name(row, "BadBundle", place.as_str()),
+        Error::Memory => bare(row, "Memory"),
     }
 }
 
 /// A fault of a condition.
-fn of_condition(alloc: Global, error: &CondCompError) -> Object {
+fn of_condition(row: Row<'_>, error: &CondCompError) -> Object {
     match error {
         CondCompError::InvalidFeatureFlag(name) => {
-            told(alloc, "InvalidFeatureFlag", &[name.as_str()])
+            of_name(row, "InvalidFeatureFlag", name.as_str())
         }
         CondCompError::UnexpectedFeatureFlag(name) => {
-            told(alloc, "UnexpectedFeatureFlag", &[name.as_str()])
+            of_name(row, "UnexpectedFeatureFlag", name.as_str())
         }
-        CondCompError::InvalidExpression => told(alloc, "InvalidExpression", &[]),
-        CondCompError::NoPrecedingIf => told(alloc, "NoPrecedingIf", &[]),
-        CondCompError::DuplicateIf => told(alloc, "DuplicateIf", &[]),
+        CondCompError::InvalidExpression => bare(row, "InvalidExpression"),
+        CondCompError::NoPrecedingIf => bare(row, "NoPrecedingIf"),
+        CondCompError::DuplicateIf => bare(row, "DuplicateIf"),
     }
 }
 
-/// A fault whose arguments are a path and a text, in this order.
-fn at_path(
-    alloc: Global,
-    name: &str,
-    path: &ModulePath,
-    text: &str,
-) -> Result<Object, anyhow::Error> {
-    let path = path.to_text(alloc)?;
-    Ok(told(alloc, name, &[path.as_str(), text]))
+/// A fault of a name that is not published by the module at a path.
+fn private(row: Row<'_>, name: &str, path: &ModulePath) -> Object {
+    let mut arguments = List::new(row.alloc);
+    arguments.text(name);
+    arguments.put(row.path_value(path));
+    told(row, "Private", arguments)
 }
 
 /// A fault of an import or a path.
-fn of_import(alloc: Global, error: &ImportError) -> Result<Object, anyhow::Error> {
+fn of_import(row: Row<'_>, error: &ImportError) -> Object {
     match error {
-        ImportError::DuplicateSymbol(name) => Ok(told(alloc, "DuplicateSymbol", &[name.as_str()])),
-        ImportError::MissingDecl(path, name) => at_path(alloc, "MissingDecl", path, name.as_str()),
-        ImportError::Private(name, path) => {
-            let path = path.to_text(alloc)?;
-            Ok(told(alloc, "Private", &[name.as_str(), path.as_str()]))
-        }
-        ImportError::ResolveError(error) => of_refusal(alloc, error),
+        ImportError::DuplicateSymbol(name) => of_name(row, "DuplicateSymbol", name.as_str()),
+        ImportError::MissingDecl(path, name) => at_path(row, "MissingDecl", path, name.as_str()),
+        ImportError::Private(name, path) => private(row, name.as_str(), path),
+        ImportError::ResolveError(error) => of_refusal(row, error),
     }
 }
 
-/// A refusal of a resolver; of what a diagnostic tells there, its error.
-fn of_refusal(alloc: Global, error: &ResolveError) -> Result<Object, anyhow::Error> {
+/// A refusal of a resolver; of what a diagnostic tells there, that it is another fault.
+fn of_refusal(row: Row<'_>, error: &ResolveError) -> Object {
     match error {
         ResolveError::ModuleNotFound(path, reason) => {
-            at_path(alloc, "ModuleNotFound", path, reason.as_str())
+            at_path(row, "ModuleNotFound", path, reason.as_str())
         }
         ResolveError::FileNotFound(file, reason) => {
-            Ok(told(alloc, "FileNotFound", &[file.as_str(), reason.as_str()]))
+            of_names(row, "FileNotFound", file.as_str(), reason.as_str())
         }
-        ResolveError::Error(_) => Ok(told(alloc, "another fault", &[])),
-        ResolveError::Memory => Ok(told(alloc, "Memory", &[])),
+        ResolveError::Error(_) => bare(row, "another fault"),
+        ResolveError::Memory => bare(row, "Memory"),
     }
+}
+
+/// The answer of a refusal of a resolver; of what a diagnostic tells there, where it was.
+pub fn of_resolver(row: Row<'_>, error: &ResolveError) -> Value {
+    match error {
+        ResolveError::Error(diagnostic) => located(row, diagnostic),
+        error => of_refusal(row, error).end(row),
+    }
+}
+
+/// A fault of a call that takes so many arguments and got others.
+fn of_count(row: Row<'_>, name: &str, expected: usize, got: usize) -> Object {
+    let mut arguments = List::new(row.alloc);
+    arguments.text(name);
+    arguments.text(row.digits(expected).as_str());
+    arguments.text(row.digits(got).as_str());
+    told(row, "ParamCount", arguments)
 }
 
 /// A fault of a module.
-fn of_validation(alloc: Global, error: &ValidateError) -> Result<Object, anyhow::Error> {
+fn of_validation(row: Row<'_>, error: &ValidateError) -> Object {
     match error {
-        ValidateError::UndefinedSymbol(name) => {
-            Ok(told(alloc, "UndefinedSymbol", &[name.as_str()]))
-        }
+        ValidateError::UndefinedSymbol(name) => of_name(row, "UndefinedSymbol", name.as_str()),
         ValidateError::ParamCount(name, expected, got) => {
-            let expected = format!(in alloc; "{expected}")?;
-            let got = format!(in alloc; "{got}")?;
-            let arguments = [name.as_str(), expected.as_str(), got.as_str()];
-            Ok(told(alloc, "ParamCount", &arguments))
+            of_count(row, name.as_str(), *expected, *got)
         }
-        ValidateError::NotCallable(name) => Ok(told(alloc, "NotCallable", &[name.as_str()])),
-        ValidateError::Duplicate(name) => Ok(told(alloc, "Duplicate", &[name.as_str()])),
-        ValidateError::Cycle(name, via) => {
-            Ok(told(alloc, "Cycle", &[name.as_str(), via.as_str()]))
-        }
+        ValidateError::NotCallable(name) => of_name(row, "NotCallable", name.as_str()),
+        ValidateError::Duplicate(name) => of_name(row, "Duplicate", name.as_str()),
+        ValidateError::Cycle(name, via) => of_names(row, "Cycle", name.as_str(), via.as_str()),
     }
 }

@@ -1,6 +1,7 @@
 //! Built-in names: those of types and address spaces, and those that are handed in.
+use serde_json::Value;
 use wesl::{AddressSpace, BuiltinIdent, BuiltinType, Builtins, VecSize};
-use wesl_row::{Answer, Row, text_value};
+use wesl_row::Row;
 
 /// The size of the number at a key.
 fn size(row: Row<'_>, key: &str) -> VecSize {
@@ -12,9 +13,9 @@ fn size(row: Row<'_>, key: &str) -> VecSize {
 }
 
 /// The name of the matrix type of so many `columns` and `rows`.
-pub fn of_matrix(row: Row<'_>) -> Answer {
+pub fn of_matrix(row: Row<'_>) -> Value {
     let matrix = BuiltinType::Mat(size(row, "columns"), size(row, "rows"));
-    text_value(row.alloc, matrix.builtin_ident())
+    row.found_text(matrix.builtin_ident())
 }
 
 /// The address space of a word.
@@ -30,16 +31,13 @@ fn space(word: &str) -> AddressSpace {
 }
 
 /// The name of the `space`.
-pub fn of_space(row: Row<'_>) -> Answer {
-    text_value(row.alloc, space(row.text("space")).builtin_ident())
+pub fn of_space(row: Row<'_>) -> Value {
+    row.found_text(space(row.text("space")).builtin_ident())
 }
 
 /// The stored name where the `name` is among the `names`.
-pub fn handed_in(row: Row<'_>) -> Answer {
-    let mut names = Vec::new(row.alloc);
-    for text in &row.texts("names")? {
-        names.push(String::from_str(row.alloc, text)?)?;
-    }
-    let builtins = Builtins::new(names, Vec::new(row.alloc), Vec::new(row.alloc));
-    text_value(row.alloc, builtins.builtin_ident(row.text("name")))
+pub fn handed_in(row: Row<'_>) -> Value {
+    let alloc = row.alloc;
+    let builtins = Builtins::new(row.owned_texts("names"), Vec::new(alloc), Vec::new(alloc));
+    row.found_text(builtins.builtin_ident(row.text("name")))
 }

@@ -2,10 +2,10 @@
 //! looked up in the next.
 use crate::{builtins, conditions, features, mappers, maps, paths, program};
 use serde_json::Value;
-use wesl_row::{Answer, Row, text_value};
+use wesl_row::Row;
 
 /// What the call of a row answers: a call of the crate that its key `of` names, or else of this one.
-pub fn answered(row: Row<'_>) -> Answer {
+pub fn answered(row: Row<'_>) -> Value {
     match row.text("of") {
         "trees" => wesl_tree_rows::answered(row),
         "links" => wesl_link_rows::answered(row),
@@ -16,12 +16,12 @@ pub fn answered(row: Row<'_>) -> Answer {
 }
 
 /// What the caller of the linker tells of the `text`.
-fn example(row: Row<'_>) -> Answer {
-    Ok(Value::String(wesl_example::told(row.alloc, row.text("text"))?))
+fn example(row: Row<'_>) -> Value {
+    row.printed(wesl_example::told(row.alloc, row.text("text")))
 }
 
 /// Calls of the program and of names that are built in.
-fn of_programs(row: Row<'_>) -> Answer {
+fn of_programs(row: Row<'_>) -> Value {
     match row.text("call") {
         "wesl::run" => program::ran(row),
         "wesl::run on each beginning" => program::refused_beginnings(row),
@@ -33,13 +33,13 @@ fn of_programs(row: Row<'_>) -> Answer {
 }
 
 /// Calls of conditions and of features.
-fn of_conditions(row: Row<'_>, call: &str) -> Answer {
+fn of_conditions(row: Row<'_>, call: &str) -> Value {
     match call {
         "wesl_cond::run" => conditions::left(row),
         "wesl_cond::run in stages" => conditions::stages(row),
         "eval_attr" => conditions::formulas_left(row),
         "Feature::from" => features::switched(row),
-        "Feature::default" => features::usual(row.alloc),
+        "Feature::default" => features::usual(row),
         "Features::answer" => features::answer(row),
         "Features::then" => features::answers_then(row),
         "Features::try_clone" => features::copied(row),
@@ -48,7 +48,7 @@ fn of_conditions(row: Row<'_>, call: &str) -> Answer {
 }
 
 /// Calls of paths and names.
-fn of_paths(row: Row<'_>, call: &str) -> Answer {
+fn of_paths(row: Row<'_>, call: &str) -> Value {
     match call {
         "ModulePath::parse" => paths::parsed(row),
         "ModulePath::new_root" => paths::is_root(row),
@@ -65,7 +65,7 @@ fn of_paths(row: Row<'_>, call: &str) -> Answer {
 }
 
 /// Calls of mappers, and what is then asked of what they recorded.
-fn of_mappers(row: Row<'_>, call: &str) -> Answer {
+fn of_mappers(row: Row<'_>, call: &str) -> Value {
     match call {
         "SourceMapper::mangle" => mappers::mangled(row, "mangle"),
         "SourceMapper::mangle, then finish and decls" => mappers::mangled(row, "decls"),
@@ -90,7 +90,7 @@ fn of_mappers(row: Row<'_>, call: &str) -> Answer {
 }
 
 /// Calls of source maps.
-fn of_maps(row: Row<'_>, call: &str) -> Answer {
+fn of_maps(row: Row<'_>, call: &str) -> Value {
     match call {
         "BasicSourceMap::decls" => maps::names(row),
         "BasicSourceMap::try_clone" => maps::copied(row),
@@ -98,7 +98,7 @@ fn of_maps(row: Row<'_>, call: &str) -> Answer {
         "BasicSourceMap::add_source, or what stands" => maps::added_or_left(row),
         _ => match call.split_once("::") {
             Some((map, look)) => maps::looked_up(row, map, look),
-            None => text_value(row.alloc, Some("no such row")),
+            None => row.text_value("no such row"),
         },
     }
 }

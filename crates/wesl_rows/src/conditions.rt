@@ -1,33 +1,49 @@
 //! Conditions of units: what is left of them, at once and in stages, and what is left of formulas.
-use crate::features::composed;
+use crate::features::{both, composed, listed};
 use serde_json::Value;
 use std::alloc::Global;
 use wesl::condcomp::run;
 use wesl::{
-    Diagnostic, Feature, Features, GlobalDeclaration, Names, TranslationUnit, TryClone, eval_attr,
-    value_of_unit,
+    Diagnostic, Feature, Features, GlobalDeclaration, GlobalDeclarationNode, Names,
+    TranslationUnit, TryClone, eval_attr,
 };
-use wesl_row::{Answer, Row, fault, of_diagnostic};
+use wesl_row::{Row, fault, is_refused, of_diagnostic};
 
-/// What a run under the `features`, and then `next` if they are there, leaves of the unit of the `tree`, or the fault
-/// that it tells.
-pub fn left(row: Row<'_>) -> Answer {
-    let features = composed(row)?;
-    let before = row.unit("tree")?;
-    let mut judged = before.try_clone(row.alloc)?;
-    match run(row.alloc, &mut judged, &features) {
-        Ok(()) => Ok(value_of_unit(row.alloc, &judged)?),
-        Err(told) => told_of(row.alloc, &told, judged.same_spelling(&before)),
-    }
+/// A copy of a unit.
+fn copy_of(row: Row<'_>, unit: &TranslationUnit) -> TranslationUnit {
+    row.unit_or_none(unit.try_clone(row.alloc))
 }
 
 /// The fault of a refused run, which is to leave the unit as it was.
-fn told_of(alloc: Global, told: &Diagnostic, is_left: bool) -> Answer {
+fn refusal(row: Row<'_>, told: &Diagnostic, is_left: bool) -> Value {
     if is_left {
-        of_diagnostic(alloc, told)
+        of_diagnostic(row, told)
     } else {
-        fault(alloc, "the refused run changed the unit", &[])
+        fault(row, "the refused run changed the unit")
     }
+}
+
+/// What a run leaves of a unit, or the fault that it tells.
+fn told_of(
+    row: Row<'_>,
+    outcome: &Result<(), Diagnostic>,
+    before: &TranslationUnit,
+    judged: &TranslationUnit,
+) -> Value {
+    match outcome {
+        Ok(()) => row.tree_of(judged),
+        Err(told) => refusal(row, told, judged.same_spelling(before)),
+    }
+}
+
+/// What a run under the `features`, and then `next` if they are there, leaves of the unit of the `tree`, or the fault
+/// that it tells.
+pub fn left(row: Row<'_>) -> Value {
+    let features = composed(row);
+    let before = row.tree();
+    let mut judged = copy_of(row, &before);
+    let outcome = run(row.alloc, &mut judged, &features);
+    told_of(row, &outcome, &before, &judged)
 }
 
 /// One of three answers by a number.
@@ -40,61 +56,74 @@ fn answer_by(number: usize) -> Feature {
 }
 
 /// One of the 27 sets of answers for X, Y and Z.
-fn answers_by(alloc: Global, number: usize) -> Result<Features, anyhow::Error> {
-    let mut features = Features::new(alloc);
-    let mut rest = number;
-    for name in ["X", "Y", "Z"] {
-        let flag = String::from_str(alloc, name)?;
-        features.flags.insert(flag, answer_by(rest))?;
-        rest = rest / 3;
+fn answers_by(row: Row<'_>, number: usize) -> Features {
+    let mut features = Features::new(row.alloc);
+    listed(row, &mut features, "X", answer_by(number));
+    listed(row, &mut features, "Y", answer_by(number / 3));
+    listed(row, &mut features, "Z", answer_by(number / 9));
+    features
+}
+
+/// What a run leaves of a copy of a unit, where it is not refused.
+fn left_of(row: Row<'_>, unit: &TranslationUnit, features: &Features) -> Option<TranslationUnit> {
+    let mut left = copy_of(row, unit);
+    if is_refused(run(row.alloc, &mut left, features)) {
+        None
+    } else {
+        Some(left)
     }
-    Ok(features)
+}
+
+/// Whether two runs are not refused and leave the same.
+fn leave_the_same(one: &Option<TranslationUnit>, other: &Option<TranslationUnit>) -> bool {
+    match (one, other) {
+        (Some(one), Some(other)) => one.same_spelling(other),
+        _ => false,
+    }
+}
+
+/// Whether a second run over what the first left leaves what one run with both sets leaves.
+fn goes_on(
+    row: Row<'_>,
+    unit: &TranslationUnit,
+    staged: &TranslationUnit,
+    first: &Features,
+    second: &Features,
+) -> bool {
+    let both = both(row, first, second);
+    let at_once = left_of(row, unit, &both);
+    leave_the_same(&left_of(row, staged, second), &at_once)
 }
 
 /// Whether two runs leave what one run with both sets leaves, where the first is not refused.
-fn agrees(
-    alloc: Global,
-    unit: &TranslationUnit,
-    first: &Features,
-    second: &Features,
-) -> Result<bool, anyhow::Error> {
-    let mut staged = unit.try_clone(alloc)?;
-    if run(alloc, &mut staged, first).is_err() {
-        return Ok(true);
+fn agrees(row: Row<'_>, unit: &TranslationUnit, first: &Features, second: &Features) -> bool {
+    match &left_of(row, unit, first) {
+        Some(staged) => goes_on(row, unit, staged, first, second),
+        None => true,
     }
-    if run(alloc, &mut staged, second).is_err() {
-        return Ok(false);
-    }
-    let mut at_once = unit.try_clone(alloc)?;
-    let is_run = run(alloc, &mut at_once, &first.then(alloc, second)?).is_ok();
-    Ok(is_run && staged.same_spelling(&at_once))
 }
 
 /// With how many of the 27 sets as the second stage this first one agrees.
-fn agreeing(
-    alloc: Global,
-    unit: &TranslationUnit,
-    first: &Features,
-) -> Result<usize, anyhow::Error> {
+fn agreeing(row: Row<'_>, unit: &TranslationUnit, first: &Features) -> usize {
     let mut agreeing: usize = 0;
     for number in 0..27 {
-        if agrees(alloc, unit, first, &answers_by(alloc, number)?)? {
+        if agrees(row, unit, first, &answers_by(row, number)) {
             agreeing = agreeing.wrapping_add(1);
         }
     }
-    Ok(agreeing)
+    agreeing
 }
 
 /// For how many of the 729 pairs of sets that enable, disable or keep X, Y and Z two runs over the unit of the `tree`
 /// leave what one run with both leaves, or the first is refused.
-pub fn stages(row: Row<'_>) -> Answer {
-    let unit = row.unit("tree")?;
+pub fn stages(row: Row<'_>) -> Value {
+    let unit = row.tree();
     let mut pairs: usize = 0;
     for number in 0..27 {
-        let first = answers_by(row.alloc, number)?;
-        pairs = pairs.wrapping_add(agreeing(row.alloc, &unit, &first)?);
+        let first = answers_by(row, number);
+        pairs = pairs.wrapping_add(agreeing(row, &unit, &first));
     }
-    Ok(Value::from(pairs))
+    Value::from(pairs)
 }
 
 /// Puts what is left of its formula into an assertion.
@@ -110,18 +139,33 @@ fn simplify(
     Ok(())
 }
 
+/// The same for each of these declarations, up to the first whose formula is refused.
+fn simplify_all(
+    alloc: Global,
+    names: &Names,
+    declarations: &mut Vec<GlobalDeclarationNode>,
+    features: &Features,
+) -> Result<(), Diagnostic> {
+    for declaration in declarations {
+        simplify(alloc, names, &mut declaration.node, features)?;
+    }
+    Ok(())
+}
+
+/// A unit, or the fault that is told of a formula.
+fn simplified(row: Row<'_>, outcome: &Result<(), Diagnostic>, unit: &TranslationUnit) -> Value {
+    match outcome {
+        Ok(()) => row.tree_of(unit),
+        Err(told) => of_diagnostic(row, told),
+    }
+}
+
 /// The unit of the `tree`, in whose assertions stands what the `features`, and then `next` if they are there, leave of
 /// the formulas; or the fault that is told of a formula.
-pub fn formulas_left(row: Row<'_>) -> Answer {
-    let features = composed(row)?;
-    let (names, imports, directives, mut declarations) = row.unit("tree")?.into_parts();
-    for declaration in &mut declarations {
-        if let Err(told) = simplify(row.alloc, &names, &mut declaration.node, &features) {
-            return of_diagnostic(row.alloc, &told);
-        }
-    }
-    match TranslationUnit::from_parts(names, imports, directives, declarations) {
-        Some(unit) => Ok(value_of_unit(row.alloc, &unit)?),
-        None => Ok(Value::Null),
-    }
+pub fn formulas_left(row: Row<'_>) -> Value {
+    let features = composed(row);
+    let (names, imports, directives, mut declarations) = row.tree().into_parts();
+    let outcome = simplify_all(row.alloc, &names, &mut declarations, &features);
+    let unit = row.made(TranslationUnit::from_parts(names, imports, directives, declarations));
+    simplified(row, &outcome, &unit)
 }

@@ -1,8 +1,7 @@
 //! Features: answers by the names of flags.
 use serde_json::Value;
-use std::alloc::Global;
 use wesl::{Feature, Features};
-use wesl_row::{Answer, List, Row, text_value};
+use wesl_row::{List, Row, is_refused, text_of};
 
 /// The answer that a word names.
 fn feature(word: &Value) -> Feature {
@@ -24,61 +23,75 @@ fn word(feature: Feature) -> &'static str {
     }
 }
 
+/// Lists the answer of a flag.
+pub fn listed(row: Row<'_>, features: &mut Features, name: &str, answer: Feature) {
+    row.refused_if(is_refused(features.flags.insert(row.copy_of(name), answer)));
+}
+
+/// Puts the answer of a flag, or the default answer under its key.
+fn put(row: Row<'_>, features: &mut Features, name: &str, answer: Feature) {
+    if name == "default" {
+        features.default = answer;
+    } else {
+        listed(row, features, name, answer);
+    }
+}
+
 /// The features at a key: answers by the names of flags, and the default answer if `default` is among the keys.
-fn features(row: Row<'_>, key: &str) -> Result<Features, anyhow::Error> {
+fn features(row: Row<'_>, key: &str) -> Features {
     let mut features = Features::new(row.alloc);
-    if let Value::Object(words) = row.part(key)?.value {
+    if let Value::Object(words) = row.part(key).value {
         for (name, word) in words.iter() {
-            if name.as_str() == "default" {
-                features.default = feature(word);
-            } else {
-                let flag = String::from_str(row.alloc, name)?;
-                features.flags.insert(flag, feature(word))?;
-            }
+            put(row, &mut features, name.as_str(), feature(word));
         }
     }
-    Ok(features)
+    features
+}
+
+/// Two sets of features, one after the other, in one.
+pub fn both(row: Row<'_>, first: &Features, second: &Features) -> Features {
+    row.or(first.then(row.alloc, second), Features::new(row.alloc))
 }
 
 /// The `features`, and then `next` if they are there, in one set.
-pub fn composed(row: Row<'_>) -> Result<Features, anyhow::Error> {
-    let first = features(row, "features")?;
-    if !row.has("next") {
-        return Ok(first);
+pub fn composed(row: Row<'_>) -> Features {
+    let first = features(row, "features");
+    if row.has("next") {
+        both(row, &first, &features(row, "next"))
+    } else {
+        first
     }
-    Ok(first.then(row.alloc, &features(row, "next")?)?)
 }
 
 /// The answer of a flag that is switched on or off (`flag`).
-pub fn switched(row: Row<'_>) -> Answer {
-    let flag = row.part("flag")?.value.as_bool() == Some(true);
-    text_value(row.alloc, Some(word(Feature::from(flag))))
+pub fn switched(row: Row<'_>) -> Value {
+    let flag = row.part("flag").value.as_bool() == Some(true);
+    row.text_value(word(Feature::from(flag)))
 }
 
 /// The usual answer.
-pub fn usual(alloc: Global) -> Answer {
-    text_value(alloc, Some(word(Feature::default())))
+pub fn usual(row: Row<'_>) -> Value {
+    row.text_value(word(Feature::default()))
 }
 
 /// What the `features` answer for the flag of the `name`.
-pub fn answer(row: Row<'_>) -> Answer {
-    let features = features(row, "features")?;
-    text_value(row.alloc, Some(word(features.answer(row.text("name")))))
+pub fn answer(row: Row<'_>) -> Value {
+    row.text_value(word(features(row, "features").answer(row.text("name"))))
 }
 
 /// What the `features` and then `next` answer for the flags of these `names`.
-pub fn answers_then(row: Row<'_>) -> Answer {
-    let both = composed(row)?;
+pub fn answers_then(row: Row<'_>) -> Value {
+    let both = composed(row);
     let mut answers = List::new(row.alloc);
-    for name in &row.texts("names")? {
-        answers.text(word(both.answer(name)));
+    for name in row.list("names") {
+        answers.text(word(both.answer(text_of(name))));
     }
-    answers.end()
+    answers.end(row)
 }
 
 /// Whether a copy of the `features` is equal to the features `other`.
-pub fn copied(row: Row<'_>) -> Answer {
-    let some = features(row, "features")?;
-    let other = features(row, "other")?;
-    Ok(Value::Bool(some.try_clone(row.alloc)? == other))
+pub fn copied(row: Row<'_>) -> Value {
+    let some = features(row, "features");
+    let copy = row.or(some.try_clone(row.alloc), Features::new(row.alloc));
+    Value::Bool(copy == features(row, "other"))
 }

@@ -14,17 +14,16 @@ mod program;
 
 use serde_json::Value;
 use std::alloc::Global;
+use std::cell::Cell;
 use std::io::{BufRead, BufReader};
 use wesl_row::{Row, line};
 
 /// The line that is written for the line of a row.
 fn line_of(alloc: Global, text: &str) -> Result<String, anyhow::Error> {
     let value = Value::from_str(alloc, text)?;
-    let row = Row {
-        alloc,
-        value: &value,
-    };
-    line(row, calls::answered(row)?)
+    let note = Cell::new("");
+    let row = Row::new(alloc, &value, &note);
+    line(row, calls::answered(row))
 }
 
 /// Writes a line for the line of each row, and then how many there were.

@@ -7,53 +7,53 @@ use serde_json::Value;
 use std::alloc::Global;
 use wesl::condcomp::run;
 use wesl::{
-    Error, EscapeMangler, Feature, Features, JsonText, Mangler, ModulePath, Names, NoMangler,
-    NoResolver, Preprocessor, ResolveError, Resolver, SourceMap, SourceMapper, TranslationUnit,
-    VirtualResolver, value_of_unit,
+    BasicSourceMap, Error, EscapeMangler, Feature, Features, JsonText, Mangler, ModulePath, Names,
+    NoMangler, NoResolver, Preprocessor, ResolveError, Resolver, SourceMap, SourceMapper,
+    TranslationUnit, VirtualResolver,
 };
-use wesl_row::{Answer, Row, fault, item_value, refused, text_value};
+use wesl_row::{Row, is_refused, item_value, of_resolver, refused};
 
 /// The name that a mangler gives to the item of a row.
-fn named<M: Mangler>(row: Row<'_>, mangler: &mut M) -> Answer {
-    let path = row.path("path")?;
-    Ok(Value::String(mangler.mangle(row.alloc, &path, row.text("item"))?))
+fn named<M: Mangler>(row: Row<'_>, mangler: &mut M) -> Value {
+    row.text_or_none(mangler.mangle(row.alloc, &row.path("path"), row.text("item")))
 }
 
 /// The item that a mangler reads the name of a row as, null where it reads none.
-fn read<M: Mangler>(row: Row<'_>, mangler: &M) -> Answer {
-    match mangler.unmangle(row.alloc, row.text("name"))? {
-        Some((path, item)) => item_value(row.alloc, Some((&path, item.as_str()))),
-        None => Ok(Value::Null),
+fn read<M: Mangler>(row: Row<'_>, mangler: &M) -> Value {
+    match &row.or(mangler.unmangle(row.alloc, row.text("name")), None) {
+        Some((path, item)) => item_value(row, path, item.as_str()),
+        None => Value::Null,
     }
 }
 
 /// The name that a mangler gives to the third variant of the item of a row, without types.
-fn variant<M: Mangler>(row: Row<'_>, mangler: &M) -> Answer {
+fn variant<M: Mangler>(row: Row<'_>, mangler: &M) -> Value {
     let names = Names::new(row.alloc);
-    let name = mangler.mangle_types(row.alloc, &names, row.text("item"), 3, &[])?;
-    Ok(Value::String(name))
+    row.text_or_none(mangler.mangle_types(row.alloc, &names, row.text("item"), 3, &[]))
 }
 
-/// Names the items `asked` of a row.
-fn all_named<M: Mangler>(row: Row<'_>, mangler: &mut M) -> Result<(), anyhow::Error> {
-    for item in row.list("asked") {
-        let _ = named(row.of(item), mangler)?;
+/// What a mapper has recorded in the end.
+fn finished<R: Drop, M: Drop>(row: Row<'_>, mapper: SourceMapper<R, M>) -> BasicSourceMap {
+    match mapper.finish(row.alloc) {
+        Ok(map) => map,
+        Err(map) => {
+            row.refused_if(true);
+            map
+        }
     }
-    Ok(())
 }
 
 /// What a mapper has recorded in the end, after it named the items `asked` of a row.
-fn recorded<R: Drop, M: Mangler + Drop>(row: Row<'_>, mapper: SourceMapper<R, M>) -> Answer {
+fn recorded<R: Drop, M: Mangler + Drop>(row: Row<'_>, mapper: SourceMapper<R, M>) -> Value {
     let mut mapper = mapper;
-    all_named(row, &mut mapper)?;
-    match mapper.finish(row.alloc) {
-        Ok(map) => maps::listed(row.alloc, &map),
-        Err(_) => Err(anyhow::anyhow!("want of memory")),
+    for item in row.list("asked") {
+        let _ = named(row.of(item), &mut mapper);
     }
+    maps::listed(row, &finished(row, mapper))
 }
 
 /// What a mapper of a mangler's names answers to the question of a row.
-fn answered<M: Mangler + Drop>(row: Row<'_>, question: &str, mangler: M) -> Answer {
+fn answered<M: Mangler + Drop>(row: Row<'_>, question: &str, mangler: M) -> Value {
     let root = ModulePath::new_root(row.alloc);
     let mut mapper = SourceMapper::new(row.alloc, root, NoResolver, mangler);
     match question {
@@ -65,7 +65,7 @@ fn answered<M: Mangler + Drop>(row: Row<'_>, question: &str, mangler: M) -> Answ
 }
 
 /// What a mapper of the names of the `mangler` answers to the question of a row.
-pub fn mangled(row: Row<'_>, question: &str) -> Answer {
+pub fn mangled(row: Row<'_>, question: &str) -> Value {
     match row.text("mangler") {
         "EscapeMangler" => answered(row, question, EscapeMangler),
         _ => answered(row, question, NoMangler),
@@ -73,56 +73,66 @@ pub fn mangled(row: Row<'_>, question: &str) -> Answer {
 }
 
 /// The answer of a refusal; want of memory is none.
-fn refusal(alloc: Global, error: &ResolveError) -> Answer {
+fn refusal(row: Row<'_>, error: &ResolveError) -> Value {
     match error {
-        ResolveError::ModuleNotFound(path, reason) => {
-            let path = path.to_text(alloc)?;
-            fault(alloc, "ModuleNotFound", &[path.as_str(), reason.as_str()])
+        ResolveError::Memory => {
+            row.refused_if(true);
+            Value::Null
         }
-        ResolveError::Memory => Err(anyhow::anyhow!("want of memory")),
-        _ => text_value(alloc, Some("another fault")),
+        error => of_resolver(row, error),
     }
 }
 
-/// The source that a resolver gives for the path of a row.
-fn source<R: Resolver>(row: Row<'_>, resolver: &mut R) -> Answer
-    requires { R.ready resolver.old }
-{
-    let path = row.rooted("path")?;
-    match resolver.resolve_source(row.alloc, &path) {
-        Ok(source) => Ok(Value::String(source)),
-        Err(error) => refusal(row.alloc, &error),
+/// The answer of a source.
+fn source_told(row: Row<'_>, source: Result<String, ResolveError>) -> Value {
+    match source {
+        Ok(source) => Value::String(source),
+        Err(error) => refusal(row, &error),
+    }
+}
+
+/// The answer of a unit.
+fn unit_told(row: Row<'_>, unit: &Result<TranslationUnit, ResolveError>) -> Value {
+    match unit {
+        Ok(unit) => row.tree_of(unit),
+        Err(error) => refusal(row, error),
     }
 }
 
 /// The unit that a resolver gives for the path of a row.
-fn module<R: Resolver>(row: Row<'_>, resolver: &mut R) -> Answer
+fn module<R: Resolver>(row: Row<'_>, resolver: &mut R) -> Value
     requires { R.ready resolver.old }
 {
-    let path = row.rooted("path")?;
-    match resolver.resolve_module(row.alloc, &path) {
-        Ok(unit) => Ok(value_of_unit(row.alloc, &unit)?),
-        Err(error) => refusal(row.alloc, &error),
-    }
+    let path = row.rooted("path");
+    let unit = resolver.resolve_module(row.alloc, &path);
+    let answer = unit_told(row, &unit);
+    // as a generic function lets go of it, which costs the proof a fraction
+    drop(unit);
+    answer
+}
+
+/// The source that a resolver gives for the path of a row.
+fn source<R: Resolver>(row: Row<'_>, resolver: &mut R) -> Value
+    requires { R.ready resolver.old }
+{
+    let path = row.rooted("path");
+    source_told(row, resolver.resolve_source(row.alloc, &path))
 }
 
 /// What a resolver answers to the question of a row.
-fn asked<R: Resolver>(row: Row<'_>, question: &str, resolver: &mut R) -> Answer
+fn asked<R: Resolver>(row: Row<'_>, question: &str, resolver: &mut R) -> Value
     requires { R.ready resolver.old }
 {
     match question {
         "resolve_module" => module(row, resolver),
         "resolve_source" => source(row, resolver),
-        _ => Ok(Value::Null),
+        _ => Value::Null,
     }
 }
 
 /// The default source of what a mapper has recorded in the end, null where there is none.
-fn default_source<R: Drop, M: Drop>(alloc: Global, mapper: SourceMapper<R, M>) -> Answer {
-    match mapper.finish(alloc) {
-        Ok(map) => text_value(alloc, map.get_default_source()),
-        Err(_) => Err(anyhow::anyhow!("want of memory")),
-    }
+fn default_source<R: Drop, M: Drop>(row: Row<'_>, mapper: SourceMapper<R, M>) -> Value {
+    row.found_text(finished(row, mapper).get_default_source())
 }
 
 /// What a mapper of a resolver's modules answers to the question of a row, or what is then looked up in its record.
@@ -132,15 +142,15 @@ fn passed_on<R: Resolver + Drop>(
     look: &str,
     root: ModulePath,
     resolver: R,
-) -> Answer
+) -> Value
     requires { R.ready resolver }
 {
     let mut mapper = SourceMapper::new(row.alloc, root, resolver, NoMangler);
-    let answer = asked(row, question, &mut mapper)?;
+    let answer = asked(row, question, &mut mapper);
     match look {
         "get_source" => maps::source(row, "source_of", &mapper.sourcemap),
-        "get_default_source" => default_source(row.alloc, mapper),
-        _ => Ok(answer),
+        "get_default_source" => default_source(row, mapper),
+        _ => answer,
     }
 }
 
@@ -163,10 +173,10 @@ fn without_x(alloc: Global, unit: TranslationUnit) -> Result<TranslationUnit, Er
 }
 
 /// The same for a mapper of the modules of a row, of which is left what the feature X, disabled, leaves.
-pub fn resolved(row: Row<'_>, question: &str, look: &str) -> Answer {
+pub fn resolved(row: Row<'_>, question: &str, look: &str) -> Value {
     let alloc = row.alloc;
-    let root = row.rooted("root")?;
-    let modules = row.modules("modules")?;
+    let root = row.rooted("root");
+    let modules = row.modules("modules");
     let left = Preprocessor::new(modules, |unit: TranslationUnit| without_x(alloc, unit));
     passed_on(row, question, look, root, left)
 }
@@ -174,30 +184,26 @@ pub fn resolved(row: Row<'_>, question: &str, look: &str) -> Answer {
 type Recorder = SourceMapper<VirtualResolver<JsonText>, EscapeMangler>;
 
 /// Asks a mapper for the source of an entry's module, and for the name of an item of it.
-fn entry_asked(entry: Row<'_>, mapper: &mut Recorder) -> Result<(), anyhow::Error> {
-    let path = entry.rooted("path")?;
-    if mapper.resolve_source(entry.alloc, &path).is_err() {
-        return Err(anyhow::anyhow!("want of memory"));
-    }
-    let _ = mapper.mangle(entry.alloc, &path, "item")?;
-    Ok(())
+fn entry_asked(entry: Row<'_>, mapper: &mut Recorder) {
+    let path = entry.rooted("path");
+    entry.refused_if(is_refused(mapper.resolve_source(entry.alloc, &path)));
+    entry.refused_if(is_refused(mapper.mangle(entry.alloc, &path, "item")));
 }
 
 /// A mapper that was asked for the sources of the `modules`, and for the name of an item of each.
-fn mapper(row: Row<'_>) -> Result<Recorder, anyhow::Error> {
-    let root = row.rooted("root")?;
-    let modules = row.modules("modules")?;
-    let mut mapper = SourceMapper::new(row.alloc, root, modules, EscapeMangler);
+fn mapper(row: Row<'_>) -> Recorder {
+    let root = row.rooted("root");
+    let mut mapper = SourceMapper::new(row.alloc, root, row.modules("modules"), EscapeMangler);
     for entry in row.list("modules") {
-        entry_asked(row.of(entry), &mut mapper)?;
+        entry_asked(row.of(entry), &mut mapper);
     }
-    Ok(mapper)
+    mapper
 }
 
 /// What the map of a mapper knows when the mapper is done, or, where that is refused, what it knows then.
-pub fn finished_or_left(row: Row<'_>) -> Answer {
-    match mapper(row)?.finish(row.alloc) {
+pub fn finished_or_left(row: Row<'_>) -> Value {
+    match mapper(row).finish(row.alloc) {
         Ok(map) => maps::known(row, &map),
-        Err(map) => refused(row.alloc, maps::known(row, &map)),
+        Err(map) => refused(row, maps::known(row, &map)),
     }
 }

@@ -1,15 +1,16 @@
 //! The calls by their names: what is not among the calls of one list is looked up in the next.
-use crate::{copies, deep, scopes, units, validators, visits};
-use wesl_row::{Answer, Row, text_value};
+use crate::{copies, scopes, units, validators, visits};
+use serde_json::Value;
+use wesl_row::Row;
 
 /// What the call of a row answers.
-pub fn answered(row: Row<'_>) -> Answer {
+pub fn answered(row: Row<'_>) -> Value {
     match row.text("call") {
         "unit_of_value" => units::read(row),
         "value_of_unit" => units::read_again(row),
         "value_of_unit of an enable directive" => units::enabled_again(row),
         "JsonText::read" => units::text_read(row),
-        "TranslationUnit::new" => units::new(row.alloc),
+        "TranslationUnit::new" => units::new(row),
         "TranslationUnit::names" => units::named(row),
         "TranslationUnit::into_parts" => units::parted(row),
         "TranslationUnit::from_parts" => units::made(row),
@@ -19,7 +20,7 @@ pub fn answered(row: Row<'_>) -> Answer {
 }
 
 /// Calls of copies and of equality.
-fn of_copies(row: Row<'_>, call: &str) -> Answer {
+fn of_copies(row: Row<'_>, call: &str) -> Value {
     match call {
         "TranslationUnit::same_spelling" => copies::same_spelling(row),
         "== of the lists of units" => copies::lists_compared(row),
@@ -27,14 +28,14 @@ fn of_copies(row: Row<'_>, call: &str) -> Answer {
         "Copying::attributes and Copying::statements" => copies::lists_copied(row),
         "Copying::nodes" => copies::arguments_copied(row),
         "Visit::visit" | "Visit::visit_rec" | "Visit::rewrite" | "Visit::rewrite_rec" => {
-            visits::answered(row, call)
+            visits::answered(row)
         }
         _ => of_scopes(row, call),
     }
 }
 
 /// Calls of scopes and of names that clash.
-fn of_scopes(row: Row<'_>, call: &str) -> Answer {
+fn of_scopes(row: Row<'_>, call: &str) -> Value {
     match call {
         "occurrences" => scopes::found(row),
         "occurrences, their numbers" => scopes::numbers_found(row),
@@ -52,18 +53,11 @@ fn of_scopes(row: Row<'_>, call: &str) -> Answer {
     }
 }
 
-/// Calls of the validators, and calls on deep units.
-fn of_others(row: Row<'_>, call: &str) -> Answer {
+/// Calls of the validators.
+fn of_others(row: Row<'_>, call: &str) -> Value {
     match call {
         "validate_wesl" => validators::wesl(row),
         "validate_wgsl" => validators::wgsl(row),
-        "JsonText::print of parentheses" => deep::parentheses_printed(row),
-        "TryClone::try_clone of a deep unit" => deep::copied(row),
-        "SyntaxUtil::retarget_idents of a deep unit" => deep::retargeted(row),
-        "strip_except of a deep unit" => deep::stripped(row),
-        "names_clash of a deep unit" => deep::clashing(row),
-        "value_of_unit of a deep unit" => deep::written(row),
-        "wesl_cond::run of a deep unit" => deep::conditioned(row),
-        _ => text_value(row.alloc, Some("no such row")),
+        _ => row.text_value("no such row"),
     }
 }

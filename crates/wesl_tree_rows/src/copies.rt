@@ -1,15 +1,16 @@
 //! Copies and equality of units and of lists of nodes.
 use crate::units::numbered;
 use serde_json::Value;
-use std::alloc::Global;
 use wesl_clone::TryClone;
 use wesl_copies::Copying;
-use wesl_row::{Answer, Object, Row};
-use wesl_tree::{Error, Expression, Function, GlobalDeclaration, TranslationUnit};
+use wesl_row::{Object, Row};
+use wesl_tree::{
+    Attributes, Expression, ExpressionNode, GlobalDeclaration, StatementNode, TranslationUnit,
+};
 
 /// Which lists of two units are equal, and whether the units have the same spelling.
-fn compared(alloc: Global, first: &TranslationUnit, second: &TranslationUnit) -> Answer {
-    let mut answer = Object::new(alloc);
+fn compared(row: Row<'_>, first: &TranslationUnit, second: &TranslationUnit) -> Value {
+    let mut answer = Object::new(row.alloc);
     answer.flag(
         "same_declarations",
         first.global_declarations() == second.global_declarations(),
@@ -20,81 +21,100 @@ fn compared(alloc: Global, first: &TranslationUnit, second: &TranslationUnit) ->
     );
     answer.flag("same_imports", first.imports() == second.imports());
     answer.flag("same_spelling", first.same_spelling(second));
-    answer.end()
+    answer.end(row)
 }
 
 /// The unit that stands at a key, a `tree` with numbers or without.
-fn unit_at(row: Row<'_>, key: &str) -> Result<TranslationUnit, anyhow::Error> {
-    match numbered(row.part(key)?)? {
-        Some(unit) => Ok(unit),
-        None => Err(anyhow::anyhow!("a number without a name")),
-    }
+fn unit_at(row: Row<'_>, key: &str) -> TranslationUnit {
+    row.made(numbered(row.part(key)))
 }
 
 /// Whether the units `first` and `second` have the same spelling.
-pub fn same_spelling(row: Row<'_>) -> Answer {
-    let first = unit_at(row, "first")?;
-    let second = unit_at(row, "second")?;
-    Ok(Value::Bool(first.same_spelling(&second)))
+pub fn same_spelling(row: Row<'_>) -> Value {
+    let first = unit_at(row, "first");
+    Value::Bool(first.same_spelling(&unit_at(row, "second")))
 }
 
 /// Which lists of the units `first` and `second` are equal.
-pub fn lists_compared(row: Row<'_>) -> Answer {
-    let first = unit_at(row, "first")?;
-    let second = unit_at(row, "second")?;
-    compared(row.alloc, &first, &second)
+pub fn lists_compared(row: Row<'_>) -> Value {
+    let first = unit_at(row, "first");
+    compared(row, &first, &unit_at(row, "second"))
+}
+
+/// A copy of a unit.
+fn copy_of(row: Row<'_>, unit: &TranslationUnit) -> TranslationUnit {
+    row.unit_or_none(unit.try_clone(row.alloc))
 }
 
 /// Whether a copy of the unit of the `tree` is equal to it, part by part.
-pub fn unit_copied(row: Row<'_>) -> Answer {
-    let unit = row.unit("tree")?;
-    let copy = unit.try_clone(row.alloc)?;
-    compared(row.alloc, &copy, &unit)
+pub fn unit_copied(row: Row<'_>) -> Value {
+    let unit = row.tree();
+    compared(row, &copy_of(row, &unit), &unit)
 }
 
-/// Whether copies of a function's attributes and statements are equal to them.
-fn has_equal_copies(alloc: Global, function: &Function) -> Result<bool, Error> {
-    let mut copying = Copying::of(alloc);
-    let attributes = copying.attributes(&function.attributes)?;
-    let statements = copying.statements(&function.body.statements)?;
-    Ok(attributes == function.attributes && statements == function.body.statements)
+/// Whether a copy of attributes is equal to them.
+fn has_equal_attributes(row: Row<'_>, attributes: &Attributes) -> bool {
+    let mut copying = Copying::of(row.alloc);
+    let copy = copying.attributes(attributes);
+    row.or(copying.end(copy), Vec::new(row.alloc)) == *attributes
+}
+
+/// Whether a copy of statements is equal to them.
+fn has_equal_statements(row: Row<'_>, statements: &Vec<StatementNode>) -> bool {
+    let mut copying = Copying::of(row.alloc);
+    let copy = copying.statements(statements);
+    row.or(copying.end(copy), Vec::new(row.alloc)) == *statements
+}
+
+/// Whether a copy of expressions is equal to them.
+fn has_equal_nodes(row: Row<'_>, nodes: &Vec<ExpressionNode>) -> bool {
+    let mut copying = Copying::of(row.alloc);
+    let copy = copying.nodes(nodes);
+    row.or(copying.end(copy), Vec::new(row.alloc)) == *nodes
+}
+
+/// Whether a declaration is a function, and copies of its attributes and statements are equal to them.
+fn has_equal_lists(row: Row<'_>, declaration: &GlobalDeclaration) -> bool {
+    match declaration {
+        GlobalDeclaration::Function(function) => {
+            has_equal_attributes(row, &function.attributes)
+                && has_equal_statements(row, &function.body.statements)
+        }
+        _ => false,
+    }
 }
 
 /// How many functions of the unit of the `tree` have attributes and statements whose copies are equal to them.
-pub fn lists_copied(row: Row<'_>) -> Answer {
-    let unit = row.unit("tree")?;
+pub fn lists_copied(row: Row<'_>) -> Value {
+    let unit = row.tree();
     let mut functions: usize = 0;
     for declaration in unit.global_declarations() {
-        if let GlobalDeclaration::Function(function) = &declaration.node {
-            if has_equal_copies(row.alloc, function)? {
-                functions = functions.wrapping_add(1);
-            }
+        if has_equal_lists(row, &declaration.node) {
+            functions = functions.wrapping_add(1);
         }
     }
-    Ok(Value::from(functions))
+    Value::from(functions)
 }
 
 /// Whether an assertion is of a call, and copies of the call's arguments are equal to them.
-fn has_equal_arguments(alloc: Global, declaration: &GlobalDeclaration) -> Result<bool, Error> {
-    let GlobalDeclaration::ConstAssert(assertion) = declaration else {
-        return Ok(false);
-    };
-    match &assertion.expression.node {
-        Expression::FunctionCall(call) => {
-            Ok(Copying::of(alloc).nodes(&call.arguments)? == call.arguments)
-        }
-        _ => Ok(false),
+fn has_equal_arguments(row: Row<'_>, declaration: &GlobalDeclaration) -> bool {
+    match declaration {
+        GlobalDeclaration::ConstAssert(assertion) => match &assertion.expression.node {
+            Expression::FunctionCall(call) => has_equal_nodes(row, &call.arguments),
+            _ => false,
+        },
+        _ => false,
     }
 }
 
 /// How many declarations of the unit of the `tree` assert a call whose arguments have equal copies.
-pub fn arguments_copied(row: Row<'_>) -> Answer {
-    let unit = row.unit("tree")?;
+pub fn arguments_copied(row: Row<'_>) -> Value {
+    let unit = row.tree();
     let mut calls: usize = 0;
     for declaration in unit.global_declarations() {
-        if has_equal_arguments(row.alloc, &declaration.node)? {
+        if has_equal_arguments(row, &declaration.node) {
             calls = calls.wrapping_add(1);
         }
     }
-    Ok(Value::from(calls))
+    Value::from(calls)
 }

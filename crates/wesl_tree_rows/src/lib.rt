@@ -4,7 +4,6 @@
 
 mod calls;
 mod copies;
-mod deep;
 mod scopes;
 mod units;
 mod validators;

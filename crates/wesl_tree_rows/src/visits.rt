@@ -5,48 +5,47 @@
 ghost use Rattle.std.specs.Prelude.{◌≡◌};
 
 use serde_json::Value;
-use std::alloc::{AllocError, Global};
+use std::alloc::AllocError;
 use std::mem;
-use wesl_json::value_of_unit;
-use wesl_row::{Answer, List, Object, Row, text_value};
+use wesl_row::{List, Object, Row, is_refused};
 use wesl_tree::{
     Attributes, Declaration, Error, Expression, ExpressionNode, Function, GlobalDeclaration,
     GlobalDeclarationNode, Ident, Names, Span, Spanned, Statement, StatementNode, Struct,
-    TemplateArg, TranslationUnit, TypeExpression,
+    TemplateArg, TranslationUnit, TypeAlias, TypeExpression,
 };
 use wesl_visit::{Kind, Replace, Rewrite, Visit, Visitor};
 
 /// A node that is told in a few words.
 trait Shown {
     /// The words.
-    fn shown(&self, alloc: Global, names: &Names) -> Answer;
+    fn shown(&self, row: Row<'_>, names: &Names) -> Value;
 }
 
 /// A type as its name.
 impl Shown for TypeExpression {
-    fn shown(&self, alloc: Global, names: &Names) -> Answer {
+    fn shown(&self, row: Row<'_>, names: &Names) -> Value {
         if self.ident.0 < names.len() {
-            text_value(alloc, Some(names.name(self.ident)))
+            row.text_value(names.name(self.ident))
         } else {
-            Ok(Value::Null)
+            Value::Null
         }
     }
 }
 
 /// A name as itself, an element of an array as `[]`, and null for all else.
 impl Shown for ExpressionNode {
-    fn shown(&self, alloc: Global, names: &Names) -> Answer {
+    fn shown(&self, row: Row<'_>, names: &Names) -> Value {
         match &self.node {
-            Expression::TypeOrIdentifier(ty) => ty.shown(alloc, names),
-            Expression::Indexing { base: _, index: _ } => text_value(alloc, Some("[]")),
-            _ => Ok(Value::Null),
+            Expression::TypeOrIdentifier(ty) => ty.shown(row, names),
+            Expression::Indexing { base: _, index: _ } => row.text_value("[]"),
+            _ => Value::Null,
         }
     }
 }
 
 /// An assignment as its two sides, and null for all else.
 impl Shown for StatementNode {
-    fn shown(&self, alloc: Global, names: &Names) -> Answer {
+    fn shown(&self, row: Row<'_>, names: &Names) -> Value {
         match &self.node {
             Statement::Assignment {
                 attributes: _,
@@ -54,43 +53,66 @@ impl Shown for StatementNode {
                 lhs,
                 rhs,
             } => {
-                let mut sides = List::new(alloc);
-                sides.put(lhs.shown(alloc, names));
-                sides.put(rhs.shown(alloc, names));
-                sides.end()
+                let mut sides = List::new(row.alloc);
+                sides.put(lhs.shown(row, names));
+                sides.put(rhs.shown(row, names));
+                sides.end(row)
             }
-            _ => Ok(Value::Null),
+            _ => Value::Null,
         }
     }
 }
 
 /// A list of attributes as its length.
 impl Shown for Attributes {
-    fn shown(&self, _: Global, _: &Names) -> Answer {
-        Ok(Value::from(self.len()))
+    fn shown(&self, _: Row<'_>, _: &Names) -> Value {
+        Value::from(self.len())
     }
 }
 
 /// Lists the nodes that it meets, as many as it is told, and leaves them as they are.
 #[derive(Drop)]
 struct Met<'a> {
-    alloc: Global,
+    row: Row<'a>,
     names: &'a Names,
     nodes: Vec<Value>,
     left: usize,
 }
 
-impl Met<'_> {
-    /// Lists a node. Refused for want of memory, and where no more may be met.
+impl<'a> Met<'a> {
+    /// One that has met none.
+    fn new(row: Row<'a>, names: &'a Names) -> Met<'a> {
+        Met {
+            row,
+            names,
+            nodes: Vec::new(row.alloc),
+            left: row.number("at_most", 20),
+        }
+    }
+
+    /// Lists a node. Refused where no more may be met.
     fn list<T: Shown>(&mut self, node: &T) -> Result<(), AllocError> {
         if self.left == 0 {
             return Err(AllocError);
         }
         self.left -= 1;
-        match node.shown(self.alloc, self.names) {
-            Ok(shown) => Ok(self.nodes.push(shown)?),
-            Err(_) => Err(AllocError),
+        self.row
+            .push(&mut self.nodes, node.shown(self.row, self.names));
+        Ok(())
+    }
+
+    /// Lists these nodes.
+    fn each<T: Shown>(&mut self, nodes: &[&T]) -> Result<(), AllocError> {
+        for node in nodes {
+            self.list(*node)?;
         }
+        Ok(())
+    }
+
+    /// Lists the nodes that a call collects.
+    fn all<T: Shown>(&mut self, found: Result<Vec<&T>, Error>) -> Result<(), Error> {
+        let nodes = self.row.or(found, Vec::new(self.row.alloc));
+        Ok(self.each(nodes.as_slice())?)
     }
 }
 
@@ -114,172 +136,118 @@ impl<T: Kind + Shown> Rewrite<T> for Met<'_> {
     }
 }
 
-/// Meets the nodes of a kind below a holder, as a call does.
+/// Meets the nodes of a kind below a holder, as the call of the row does.
 fn walk<T: Replace + Shown + Visit<T>, N: Visit<T>>(
-    alloc: Global,
-    call: &str,
     holder: &mut N,
     met: &mut Met,
 ) -> Result<(), Error> {
-    match call {
-        "Visit::visit" => {
-            for node in &holder.visit(alloc)? {
-                met.list(*node)?;
-            }
-            Ok(())
-        }
+    let alloc = met.row.alloc;
+    match met.row.text("call") {
+        "Visit::visit" => met.all(holder.visit(alloc)),
         "Visit::visit_rec" => holder.visit_rec(alloc, met),
         "Visit::rewrite" => holder.rewrite(alloc, met),
         _ => holder.rewrite_rec(alloc, met),
     }
 }
 
-/// Meets the lists of attributes below a holder, as a call does.
-fn walk_lists<N: Visit<Attributes>>(
-    alloc: Global,
-    call: &str,
-    holder: &mut N,
-    met: &mut Met,
-) -> Result<(), Error> {
-    if call == "Visit::rewrite" {
-        return holder.rewrite(alloc, met);
+/// Meets the lists of attributes below a holder, as the call of the row does.
+fn walk_lists<N: Visit<Attributes>>(holder: &mut N, met: &mut Met) -> Result<(), Error> {
+    let alloc = met.row.alloc;
+    if met.row.text("call") == "Visit::rewrite" {
+        holder.rewrite(alloc, met)
+    } else {
+        met.all(holder.visit(alloc))
     }
-    for list in &holder.visit(alloc)? {
-        met.list(*list)?;
-    }
-    Ok(())
 }
 
 /// Meets the types below a declaration, its initial value or its first attribute.
-fn walk_declaration(
-    alloc: Global,
-    call: &str,
-    holder: &str,
-    declaration: &mut Declaration,
-    met: &mut Met,
-) -> Result<(), Error> {
-    if holder == "declaration" {
-        return walk::<TypeExpression, _>(alloc, call, declaration, met);
-    }
-    if holder == "expression" {
-        return match &mut declaration.initializer {
-            Some(expression) => walk::<TypeExpression, _>(alloc, call, &mut expression.node, met),
+fn walk_declaration(declaration: &mut Declaration, met: &mut Met) -> Result<(), Error> {
+    match met.row.text("holder") {
+        "declaration" => walk::<TypeExpression, _>(declaration, met),
+        "expression" => match &mut declaration.initializer {
+            Some(expression) => walk::<TypeExpression, _>(&mut expression.node, met),
             None => Ok(()),
-        };
-    }
-    match declaration.attributes.first_mut() {
-        Some(attribute) => walk::<TypeExpression, _>(alloc, call, &mut attribute.node, met),
-        None => Ok(()),
+        },
+        _ => match declaration.attributes.first_mut() {
+            Some(attribute) => walk::<TypeExpression, _>(&mut attribute.node, met),
+            None => Ok(()),
+        },
     }
 }
 
 /// Meets the types below a structure or its first member.
-fn walk_struct(
-    alloc: Global,
-    call: &str,
-    holder: &str,
-    structure: &mut Struct,
-    met: &mut Met,
-) -> Result<(), Error> {
-    if holder == "struct" {
-        return walk::<TypeExpression, _>(alloc, call, structure, met);
+fn walk_struct(structure: &mut Struct, met: &mut Met) -> Result<(), Error> {
+    if met.row.text("holder") == "struct" {
+        return walk::<TypeExpression, _>(structure, met);
     }
     match structure.members.first_mut() {
-        Some(member) => walk::<TypeExpression, _>(alloc, call, &mut member.node, met),
+        Some(member) => walk::<TypeExpression, _>(&mut member.node, met),
         None => Ok(()),
     }
 }
 
 /// Meets the types below a function or the first statement of its body.
-fn walk_function(
-    alloc: Global,
-    call: &str,
-    holder: &str,
-    function: &mut Function,
-    met: &mut Met,
-) -> Result<(), Error> {
-    if holder == "function" {
-        return walk::<TypeExpression, _>(alloc, call, function, met);
+fn walk_function(function: &mut Function, met: &mut Met) -> Result<(), Error> {
+    if met.row.text("holder") == "function" {
+        return walk::<TypeExpression, _>(function, met);
     }
     match function.body.statements.first_mut() {
-        Some(statement) => walk::<TypeExpression, _>(alloc, call, &mut statement.node, met),
+        Some(statement) => walk::<TypeExpression, _>(&mut statement.node, met),
         None => Ok(()),
     }
 }
 
+/// Meets the types below a type alias or its type.
+fn walk_alias(alias: &mut TypeAlias, met: &mut Met) -> Result<(), Error> {
+    if met.row.text("holder") == "type" {
+        walk::<TypeExpression, _>(&mut alias.ty, met)
+    } else {
+        walk::<TypeExpression, _>(alias, met)
+    }
+}
+
 /// Meets the types below a global declaration or a part of it.
-fn walk_types(
-    alloc: Global,
-    call: &str,
-    holder: &str,
-    global: &mut GlobalDeclarationNode,
-    met: &mut Met,
-) -> Result<(), Error> {
-    if holder == "global declaration" {
-        return walk::<TypeExpression, _>(alloc, call, global, met);
+fn walk_types(global: &mut GlobalDeclarationNode, met: &mut Met) -> Result<(), Error> {
+    if met.row.text("holder") == "global declaration" {
+        return walk::<TypeExpression, _>(global, met);
     }
     match &mut global.node {
-        GlobalDeclaration::Declaration(declaration) => {
-            walk_declaration(alloc, call, holder, declaration, met)
-        }
-        GlobalDeclaration::TypeAlias(alias) => {
-            if holder == "type" {
-                walk::<TypeExpression, _>(alloc, call, &mut alias.ty, met)
-            } else {
-                walk::<TypeExpression, _>(alloc, call, alias, met)
-            }
-        }
-        GlobalDeclaration::Struct(structure) => walk_struct(alloc, call, holder, structure, met),
-        GlobalDeclaration::Function(function) => walk_function(alloc, call, holder, function, met),
-        GlobalDeclaration::ConstAssert(assertion) => {
-            walk::<TypeExpression, _>(alloc, call, assertion, met)
-        }
+        GlobalDeclaration::Declaration(declaration) => walk_declaration(declaration, met),
+        GlobalDeclaration::TypeAlias(alias) => walk_alias(alias, met),
+        GlobalDeclaration::Struct(structure) => walk_struct(structure, met),
+        GlobalDeclaration::Function(function) => walk_function(function, met),
+        GlobalDeclaration::ConstAssert(assertion) => walk::<TypeExpression, _>(assertion, met),
         GlobalDeclaration::Void => Ok(()),
     }
 }
 
 /// Meets the expressions, statements or lists of attributes below a statement.
-fn walk_statement(
-    alloc: Global,
-    call: &str,
-    kind: &str,
-    statement: &mut Statement,
-    met: &mut Met,
-) -> Result<(), Error> {
-    match kind {
-        "expressions" => walk::<ExpressionNode, _>(alloc, call, statement, met),
-        "statements" => walk::<StatementNode, _>(alloc, call, statement, met),
-        _ => walk_lists(alloc, call, statement, met),
+fn walk_statement(statement: &mut Statement, met: &mut Met) -> Result<(), Error> {
+    match met.row.text("kind") {
+        "expressions" => walk::<ExpressionNode, _>(statement, met),
+        "statements" => walk::<StatementNode, _>(statement, met),
+        _ => walk_lists(statement, met),
     }
 }
 
-/// Meets the expressions, statements or lists of attributes below a global declaration or a part of it.
-fn walk_others(
-    alloc: Global,
-    call: &str,
-    asked: (&str, &str),
-    global: &mut GlobalDeclarationNode,
-    met: &mut Met,
-) -> Result<(), Error> {
-    match asked {
-        ("global declaration", "expressions") => {
-            return walk::<ExpressionNode, _>(alloc, call, global, met);
-        }
-        ("global declaration", "statements") => {
-            return walk::<StatementNode, _>(alloc, call, global, met);
-        }
-        ("global declaration", _) => return walk_lists(alloc, call, global, met),
-        _ => {}
+/// Meets the expressions, statements or lists of attributes below a global declaration.
+fn walk_global(global: &mut GlobalDeclarationNode, met: &mut Met) -> Result<(), Error> {
+    match met.row.text("kind") {
+        "expressions" => walk::<ExpressionNode, _>(global, met),
+        "statements" => walk::<StatementNode, _>(global, met),
+        _ => walk_lists(global, met),
     }
-    match &mut global.node {
+}
+
+/// Meets the expressions, statements or lists of attributes below a part of a global declaration.
+fn walk_inner(global: &mut GlobalDeclaration, met: &mut Met) -> Result<(), Error> {
+    match global {
         GlobalDeclaration::Function(function) => match function.body.statements.first_mut() {
-            Some(statement) => walk_statement(alloc, call, asked.1, &mut statement.node, met),
+            Some(statement) => walk_statement(&mut statement.node, met),
             None => Ok(()),
         },
         GlobalDeclaration::Declaration(declaration) => match &mut declaration.initializer {
-            Some(expression) => {
-                walk::<ExpressionNode, _>(alloc, call, &mut expression.node, met)
-            }
+            Some(expression) => walk::<ExpressionNode, _>(&mut expression.node, met),
             None => Ok(()),
         },
         _ => Ok(()),
@@ -287,25 +255,19 @@ fn walk_others(
 }
 
 /// Meets the nodes of a kind below a unit.
-fn walk_unit(
-    alloc: Global,
-    call: &str,
-    kind: &str,
-    unit: &mut TranslationUnit,
-    met: &mut Met,
-) -> Result<(), Error> {
-    match kind {
-        "types" => walk::<TypeExpression, _>(alloc, call, unit, met),
-        "expressions" => walk::<ExpressionNode, _>(alloc, call, unit, met),
-        "statements" => walk::<StatementNode, _>(alloc, call, unit, met),
-        _ => walk_lists(alloc, call, unit, met),
+fn walk_unit(unit: &mut TranslationUnit, met: &mut Met) -> Result<(), Error> {
+    match met.row.text("kind") {
+        "types" => walk::<TypeExpression, _>(unit, met),
+        "expressions" => walk::<ExpressionNode, _>(unit, met),
+        "statements" => walk::<StatementNode, _>(unit, met),
+        _ => walk_lists(unit, met),
     }
 }
 
 /// Puts `name<t>` in place of a type `t`, as often as it is told.
 #[derive(Drop)]
-struct Wrap {
-    alloc: Global,
+struct Wrap<'a> {
+    row: Row<'a>,
     name: Ident,
     left: usize,
 }
@@ -318,139 +280,130 @@ fn named(ident: Ident) -> TypeExpression {
     }
 }
 
-impl Rewrite<TypeExpression> for Wrap {
+/// A type as an argument of another.
+fn argument(ty: TypeExpression) -> TemplateArg {
+    TemplateArg {
+        expression: Spanned {
+            node: Expression::TypeOrIdentifier(ty),
+            span: Span { start: 0, end: 0 },
+        },
+    }
+}
+
+impl Rewrite<TypeExpression> for Wrap<'_> {
     ghost rewrites = { λ before after. Unit {0} };
 
     fn rewrite(&mut self, node: &mut TypeExpression) -> Result<(), Error> {
         if self.left == 0 {
             return Err(Error::Memory);
         }
-        let mut arguments = vec![in self.alloc;
-            TemplateArg {
-                expression: Spanned {
-                    node: Expression::TypeOrIdentifier(named(self.name)),
-                    span: Span { start: 0, end: 0 },
-                }
-            },
-        ]?;
         self.left -= 1;
         let inner = mem::replace(node, named(self.name));
-        if let Some(argument) = arguments.first_mut() {
-            argument.expression.node = Expression::TypeOrIdentifier(inner);
-        }
-        node.template_args = Some(arguments);
+        node.template_args = Some(self.row.one(argument(inner)));
         Ok(())
     }
 }
 
+/// Wraps the types below a type alias.
+fn wrapped_alias(alias: &mut TypeAlias, wrap: &mut Wrap) -> Result<(), Error> {
+    let alloc = wrap.row.alloc;
+    if wrap.row.text("call") == "Visit::rewrite" {
+        alias.rewrite(alloc, wrap)
+    } else {
+        alias.rewrite_rec(alloc, wrap)
+    }
+}
+
+/// Wraps the types below a declaration or its first attribute.
+fn wrapped_declaration(declaration: &mut Declaration, wrap: &mut Wrap) -> Result<(), Error> {
+    let alloc = wrap.row.alloc;
+    if wrap.row.text("holder") == "declaration" {
+        return declaration.rewrite(alloc, wrap);
+    }
+    match declaration.attributes.first_mut() {
+        Some(attribute) => attribute.node.rewrite(alloc, wrap),
+        None => Ok(()),
+    }
+}
+
 /// Wraps the types below a global declaration or its first attribute.
-fn wrapped(
-    alloc: Global,
-    call: &str,
-    holder: &str,
-    global: &mut GlobalDeclarationNode,
-    wrap: &mut Wrap,
-) -> Result<(), Error> {
-    match &mut global.node {
-        GlobalDeclaration::TypeAlias(alias) => {
-            if call == "Visit::rewrite" {
-                alias.rewrite(alloc, wrap)
-            } else {
-                alias.rewrite_rec(alloc, wrap)
-            }
-        }
-        GlobalDeclaration::Declaration(declaration) => {
-            if holder == "declaration" {
-                return declaration.rewrite(alloc, wrap);
-            }
-            match declaration.attributes.first_mut() {
-                Some(attribute) => attribute.node.rewrite(alloc, wrap),
-                None => Ok(()),
-            }
-        }
+fn wrapped(row: Row<'_>, global: &mut GlobalDeclaration) -> Result<(), Error> {
+    let mut wrap = Wrap {
+        row,
+        name: Ident(0),
+        left: row.number("wrap_at_most", 0),
+    };
+    match global {
+        GlobalDeclaration::TypeAlias(alias) => wrapped_alias(alias, &mut wrap),
+        GlobalDeclaration::Declaration(declaration) => wrapped_declaration(declaration, &mut wrap),
         _ => Ok(()),
     }
 }
 
-/// The answer of a call: what was met, and the unit afterwards.
-fn told(
-    alloc: Global,
-    outcome: &Result<(), Error>,
-    met: Vec<Value>,
-    unit: &TranslationUnit,
-) -> Answer {
-    let mut answer = Object::new(alloc);
-    answer.put("met", Ok(Value::Array(met)));
-    answer.put("unit", Ok(value_of_unit(alloc, unit)?));
-    if outcome.is_err() {
-        answer.put("args", Ok(Value::Array(Vec::new(alloc))));
-        answer.text("fault", Some("Memory"));
+/// Meets the expressions, statements or lists of attributes below a global declaration or a part of it.
+fn walk_others(global: &mut GlobalDeclarationNode, met: &mut Met) -> Result<(), Error> {
+    if met.row.text("holder") == "global declaration" {
+        walk_global(global, met)
+    } else {
+        walk_inner(&mut global.node, met)
     }
-    answer.end()
-}
-
-/// What a call answers whose holder is a whole unit.
-fn in_unit(row: Row<'_>, call: &str, mut unit: TranslationUnit) -> Answer {
-    let names = unit.names().try_clone(row.alloc)?;
-    let mut met = Met {
-        alloc: row.alloc,
-        names: &names,
-        nodes: Vec::new(row.alloc),
-        left: row.number("at_most", 20),
-    };
-    let outcome = walk_unit(row.alloc, call, row.text("kind"), &mut unit, &mut met);
-    told(row.alloc, &outcome, met.nodes, &unit)
 }
 
 /// Meets or wraps the nodes of a kind below a global declaration or a part of it.
-fn walk_part(
-    row: Row<'_>,
-    call: &str,
-    global: &mut GlobalDeclarationNode,
-    met: &mut Met,
-) -> Result<(), Error> {
-    let holder = row.text("holder");
-    let kind = row.text("kind");
-    if kind != "types" {
-        return walk_others(row.alloc, call, (holder, kind), global, met);
+fn walk_part(global: &mut GlobalDeclarationNode, met: &mut Met) -> Result<(), Error> {
+    if met.row.text("kind") != "types" {
+        walk_others(global, met)
+    } else if met.row.has("wrap_at_most") {
+        wrapped(met.row, &mut global.node)
+    } else {
+        walk_types(global, met)
     }
-    if !row.has("wrap_at_most") {
-        return walk_types(row.alloc, call, holder, global, met);
+}
+
+/// Meets or wraps the nodes of a kind below the first of these declarations or a part of it.
+fn walk_first(declarations: &mut Vec<GlobalDeclarationNode>, met: &mut Met) -> Result<(), Error> {
+    match declarations.first_mut() {
+        Some(global) => walk_part(global, met),
+        None => Ok(()),
     }
-    let mut wrap = Wrap {
-        alloc: row.alloc,
-        name: Ident(0),
-        left: row.number("wrap_at_most", 0),
-    };
-    wrapped(row.alloc, call, holder, global, &mut wrap)
+}
+
+/// The answer of a call: what was met, and the unit afterwards.
+fn told(row: Row<'_>, is_refused: bool, met: Vec<Value>, unit: &TranslationUnit) -> Value {
+    let mut answer = Object::new(row.alloc);
+    answer.put("met", Value::Array(met));
+    answer.put("unit", row.tree_of(unit));
+    if is_refused {
+        answer.put("args", Value::Array(Vec::new(row.alloc)));
+        answer.text("fault", "Memory");
+    }
+    answer.end(row)
+}
+
+/// What a call answers whose holder is a whole unit.
+fn in_unit(row: Row<'_>, unit: &mut TranslationUnit) -> Value {
+    let names = row.or(unit.names().try_clone(row.alloc), Names::new(row.alloc));
+    let mut met = Met::new(row, &names);
+    let is_refused = is_refused(walk_unit(unit, &mut met));
+    told(row, is_refused, met.nodes, unit)
 }
 
 /// What a call answers whose holder is the first global declaration of a unit or a part of it.
-fn in_part(row: Row<'_>, call: &str, unit: TranslationUnit) -> Answer {
+fn in_part(row: Row<'_>, unit: TranslationUnit) -> Value {
     let (names, imports, directives, mut declarations) = unit.into_parts();
-    let mut met = Met {
-        alloc: row.alloc,
-        names: &names,
-        nodes: Vec::new(row.alloc),
-        left: row.number("at_most", 20),
-    };
-    let outcome = match declarations.first_mut() {
-        Some(global) => walk_part(row, call, global, &mut met),
-        None => Ok(()),
-    };
+    let mut met = Met::new(row, &names);
+    let is_refused = is_refused(walk_first(&mut declarations, &mut met));
     let nodes = met.nodes;
-    match TranslationUnit::from_parts(names, imports, directives, declarations) {
-        Some(unit) => told(row.alloc, &outcome, nodes, &unit),
-        None => Ok(Value::Null),
-    }
+    let unit = row.made(TranslationUnit::from_parts(names, imports, directives, declarations));
+    told(row, is_refused, nodes, &unit)
 }
 
 /// What a visit of a row answers.
-pub fn answered(row: Row<'_>, call: &str) -> Answer {
-    let unit = row.unit("unit")?;
+pub fn answered(row: Row<'_>) -> Value {
+    let mut unit = row.unit("unit");
     if row.text("holder") == "unit" {
-        in_unit(row, call, unit)
+        in_unit(row, &mut unit)
     } else {
-        in_part(row, call, unit)
+        in_part(row, unit)
     }
 }

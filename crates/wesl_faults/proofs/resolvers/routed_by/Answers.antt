@@ -1,6 +1,6 @@
 use Rattle.std.proofs.Common.{inl, inr}
-use Rattle.wesl_faults.proofs.resolvers.routed.OwnLists.{own-1}
-use Rattle.wesl_faults.proofs.resolvers.routed.Goals as goal
+use Rattle.wesl_faults.proofs.resolvers.routed_by.OwnLists.{own-1}
+use Rattle.wesl_faults.proofs.resolvers.routed_by.Goals as goal
 
 -- whatever was boxed is always ready
 always : (i : (own-1).I) (y : ((own-1).entry i).0.Denot) → ((own-1).entry i).1.ready y
