@@ -1,1 +1,4 @@
+pub mod Conditions
 pub mod Keeping
+pub mod Linking
+pub mod Mapping

@@ -22,8 +22,8 @@ use Rattle.wesl_resolve.specs.Packages.{IsRefusedIn}
 use Rattle.wesl_resolve.specs.declared.packages.CodegenPkg.{CodegenPkg}
 use Rattle.wesl_json.specs.UnitTexts.{IsTreeFault}
 use Rattle.wesl_reading.specs.Faults.{place_of}
-use Rattle.wesl_conditional.specs.Conditions.{IsRefusedBy, RefusesLeft}
-use Rattle.wesl_conditional.specs.Linking.{RefusesLink, hands_left, refuses_left}
+use Rattle.wesl_link.specs.Conditions.{IsRefusedBy, RefusesLeft}
+use Rattle.wesl_link.specs.Linking.{RefusesLink, hands_left, refuses_left}
 use Rattle.wesl_program.specs.Fault as told
 use Rattle.wesl_program.specs.Fault.{fault_of, fault_of_condition, fault_of_resolver, fault_of_validation}
 use Rattle.wesl_program.specs.Hands.{IsRefusedAt, virtual_module}

@@ -12,8 +12,8 @@ use Rattle.wesl_resolve.specs.ByOrigin.{ByOrigin}
 use Rattle.wesl_resolve.specs.Packages.{IsReadIn, IsRefusedIn}
 use Rattle.wesl_resolve.specs.declared.packages.CodegenPkg.{CodegenPkg}
 use Rattle.wesl_json.specs.UnitTexts.{ReadsAs}
-use Rattle.wesl_conditional.specs.Linking.{Links, RefusesLink, hands_left, refuses_left}
-use Rattle.wesl_mapped_link.specs.Mapping.{task_at}
+use Rattle.wesl_link.specs.Linking.{Links, RefusesLink, hands_left, refuses_left}
+use Rattle.wesl_link.specs.Mapping.{task_at}
 use Rattle.wesl_linker.specs.Recorded.{Record, all_written}
 use Rattle.wesl_linker.specs.Worlds as worlds
 use Rattle.wesl_linker.specs.Linked.{IsAssembled}

@@ -12,8 +12,8 @@ ghost use Rattle.wesl_bundle.specs.Views.{bundle_view, module_view};
 ghost use Rattle.wesl_linker.specs.Worlds.{Module};
 ghost use Rattle.wesl_source_map.specs.Records.{SameItems};
 ghost use Rattle.wesl_source_map.specs.BasicView.{items};
-ghost use Rattle.wesl_conditional.specs.Linking.{RefusesLinkLeft};
-ghost use Rattle.wesl_mapped_link.specs.Mapping.{MapsLinkLeft};
+ghost use Rattle.wesl_link.specs.Linking.{RefusesLinkLeft};
+ghost use Rattle.wesl_link.specs.Mapping.{MapsLinkLeft};
 ghost use Rattle.wesl_program.specs.Line.{IsAnswerOf};
 ghost use Rattle.wesl_program.specs.Linking.{LinksTo, recorded_for};
 ghost use Rattle.wesl_program.specs.Naming.{named_by};
@@ -33,9 +33,9 @@ use std::alloc::{AllocError, Global};
 use wesl_bundle::{BuiltinNames, Bundle, BundleModule, Options, Package};
 use wesl_clash::names_clash;
 use wesl_formula::Features;
-use wesl_mapped_link::{Mapped, link_mapped};
+use wesl_link::{Mapped, link_mapped};
 use wesl_resolve::{Resolver, StandardResolver};
-use wesl_source_mapper::SourceMapper;
+use wesl_source_map::SourceMapper;
 use wesl_tree::{Error, ModulePath};
 
 // The modules of a bundle, and its packages.

@@ -1,3 +1,4 @@
 pub mod BasicView
 pub mod Listed
+pub mod Recording
 pub mod Records

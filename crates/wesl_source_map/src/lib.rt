@@ -1,8 +1,12 @@
-//! Source maps: where the names and the modules of a linked unit come from.
+//! Source maps: where the names and the modules of a linked unit come from, and a resolver and mangler that records them.
 #![tactic(auto)]
 
+mod asked;
 mod basic;
 mod map;
+mod mapper;
 
+pub use asked::{Asked, Start};
 pub use basic::BasicSourceMap;
 pub use map::{NoSourceMap, SourceMap};
+pub use mapper::SourceMapper;

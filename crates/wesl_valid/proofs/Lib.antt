@@ -1,2 +1,6 @@
 pub mod Faults
+pub mod Finding
+pub mod Gathering
 pub mod Graphs
+pub mod Stepping
+pub mod Twice

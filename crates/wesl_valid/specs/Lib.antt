@@ -1,5 +1,9 @@
 pub mod Calls
-pub mod Names
-pub mod Valid
 pub mod Faults
+pub mod Gathered
+pub mod Known
 pub mod Laws
+pub mod Names
+pub mod Steps
+pub mod Twice
+pub mod Valid

@@ -1,7 +1,18 @@
 //! What a module must be to be taken as a shader: that names are defined and distinct, that no declaration reaches
-//! itself, and that calls fit (WGSL, "Declaration and Scope" and "Function Calls"). And laws of these definitions.
+//! itself, and that calls fit (WGSL, "Declaration and Scope" and "Function Calls"). And laws of these definitions, and what
+//! finds the faults of the first three kinds: parts of `validate_wesl`.
 #![tactic(auto)]
 
+mod distinct;
+mod imports;
+mod known;
 mod laws;
+mod plain;
+mod rings;
+mod steps;
+mod unknown;
 
+pub use distinct::duplicate;
 pub use laws::{law_of_faults, law_of_graphs};
+pub use rings::cycle;
+pub use unknown::undefined;

@@ -13,7 +13,7 @@ use Rattle.wesl_kept.specs.Marks.{names_here}
 use Rattle.wesl_builtins.specs.Builtins.{BuiltinNames}
 use Rattle.wesl_valid.specs.Valid.{spelling}
 use Rattle.wesl_valid.specs.Faults.{name_round, IsUndefined}
-use Rattle.wesl_defined.specs.Known.{IsUndefinedAt}
+use Rattle.wesl_valid.specs.Known.{IsUndefinedAt}
 
 -- the first of a list that passes, seen by `g`
 module _ {A B : Type 0} (v : A → B) (p : B → Bool) (g : B → ℕ) (q : A → Bool) (h : A → ℕ) (tests : (x : A) → p (v x) ≡ q x) (sees : (x : A) → g (v x) ≡ h x) where

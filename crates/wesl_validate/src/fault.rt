@@ -6,20 +6,18 @@ ghost use Rattle.wesl_names.specs.declared.errors.Error as error;
 ghost use Rattle.wesl_syntax.specs.Unit.{UnitView};
 ghost use Rattle.wesl_tree.specs.Translation.{unit_view};
 ghost use Rattle.wesl_builtins.specs.Builtins.{builtins_view};
-ghost use Rattle.wesl_defined.specs.Known.{IsNamedBy};
+ghost use Rattle.wesl_valid.specs.Known.{IsNamedBy};
 ghost use Rattle.wesl_valid.specs.Valid.{IsDefined, AreDistinct, IsAcyclic, IsValidWesl};
 ghost use Rattle.wesl_valid.specs.Faults.{IsWeslFault};
 ghost use Rattle.wesl_validate.specs.Found.{IsFault};
 
 use crate::told::{name_of, name_round};
 use std::alloc::Global;
-use wesl_acyclic::cycle;
 use wesl_builtins::Builtins;
-use wesl_defined::undefined;
-use wesl_distinct::duplicate;
 use wesl_names::{Error, Names, ValidateError};
 use wesl_occurrences::{Identifiers, occurrences};
 use wesl_tree::TranslationUnit;
+use wesl_valid::{cycle, duplicate, undefined};
 
 /// A fault, and the name of the declaration that holds it.
 #[derive(Drop)]

@@ -6,7 +6,7 @@ ghost use Rattle.wesl_names.specs.declared.errors.Error as error;
 ghost use Rattle.wesl_syntax.specs.Unit.{UnitView, name_in};
 ghost use Rattle.wesl_occurrences.specs.Views.{occurrence_view};
 ghost use Rattle.wesl_kept.specs.Marks.{names_here};
-ghost use Rattle.wesl_defined.specs.Known.{IsNamedBy};
+ghost use Rattle.wesl_valid.specs.Known.{IsNamedBy};
 ghost use Rattle.wesl_valid.specs.Faults.{name_round};
 
 use std::alloc::Global;

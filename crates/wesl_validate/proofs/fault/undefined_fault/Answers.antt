@@ -3,7 +3,7 @@ use Rattle.std.specs.Option.{option_map}
 use Rattle.std.proofs.lemmas.Grind.{common_steps}
 use Rattle.wesl_syntax.specs.Unit.{UnitView, name_in}
 use Rattle.wesl_builtins.specs.Builtins.{builtins_view}
-use Rattle.wesl_defined.specs.Known.{IsNamedBy, IsUndefinedAt}
+use Rattle.wesl_valid.specs.Known.{IsNamedBy, IsUndefinedAt}
 use Rattle.wesl_valid.specs.Faults.{name_round}
 use Rattle.wesl_validate.proofs.Telling.{undefined_told}
 use Rattle.wesl_validate.proofs.fault.undefined_fault.Goals as goal

@@ -1,7 +1,7 @@
 use Rattle.wesl_syntax.specs.Unit.{UnitView}
 use Rattle.wesl_tree.specs.Translation.{unit_view}
 use Rattle.wesl_builtins.specs.Builtins.{builtins_view}
-use Rattle.wesl_defined.specs.Known.{IsNamedBy}
+use Rattle.wesl_valid.specs.Known.{IsNamedBy}
 use Rattle.wesl_valid.specs.Valid.{IsDefined, AreDistinct, IsAcyclic, IsValidWesl}
 use Rattle.wesl_validate.specs.Found.{IsFault}
 use Rattle.wesl_validate.proofs.Telling.{on_some, on_none, none_of}

@@ -3,7 +3,7 @@ use Rattle.std.specs.Prelude.{List}
 use Rattle.wesl_names.specs.Path.{Text}
 use Rattle.wesl_tree.specs.Translation.{unit_view}
 use Rattle.wesl_builtins.specs.Builtins.{builtins_view}
-use Rattle.wesl_defined.specs.Known.{IsNamedBy}
+use Rattle.wesl_valid.specs.Known.{IsNamedBy}
 use Rattle.wesl_fitting.specs.Misfits.{MissesIn}
 use Rattle.wesl_validate.specs.Misfits.{Tells}
 use Rattle.wesl_validate.proofs.Misfitting.{is_fault, some_of}

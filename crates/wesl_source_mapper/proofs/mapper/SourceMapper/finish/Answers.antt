@@ -1,5 +1,0 @@
-use Rattle.std.proofs.Common.{rules}
-use Rattle.wesl_source_mapper.proofs.mapper.SourceMapper.finish.Goals as goal
-
-pub returns-in-Ok-clause-default : goal.returns-in-Ok-clause-default
-returns-in-Ok-clause-default g c = search rules

@@ -1,0 +1,12 @@
+use Rattle.std.proofs.Common.{◌≡◌, ◌∙◌, ◌++◌, ap, arith}
+use Rattle.std.specs.Prelude.{flat_map}
+use Rattle.std.proofs.lemmas.Grind.{common_steps}
+use Rattle.wesl_valid.proofs.Gathering.{imported_by, all_imported}
+use Rattle.wesl_valid.proofs.imports.add_imports.Goals as goal
+
+pub returns-clause-added : goal.returns-clause-added
+returns-clause-added c =
+    let old = c.args.numbers.now.items in
+    let all = c.args.imports.now.items in
+    let e : c.loop-import.numbers.items ≡ old ++ flat_map imported_by all = grind (arith, common_steps, c.loop-import.invariant) in
+    e ∙ ap (λ ns. old ++ ns) (all_imported all)

@@ -1,0 +1,12 @@
+use Rattle.std.proofs.Common.{◌≡◌, ◌∙◌, ◌++◌, ap, arith}
+use Rattle.std.specs.Prelude.{flat_map}
+use Rattle.std.proofs.lemmas.Grind.{common_steps}
+use Rattle.wesl_valid.proofs.Gathering.{declared_by, all_declared}
+use Rattle.wesl_valid.proofs.plain.add_declarations.Goals as goal
+
+pub returns-clause-added : goal.returns-clause-added
+returns-clause-added c =
+    let old = c.args.numbers.now.items in
+    let all = c.args.declarations.now.items in
+    let e : c.loop-declaration.numbers.items ≡ old ++ flat_map declared_by all = grind (arith, common_steps, c.loop-declaration.invariant) in
+    e ∙ ap (λ ns. old ++ ns) (all_declared all)

@@ -1,0 +1,52 @@
+//! Names that stand twice.
+ghost use Rattle.std.specs.Prelude.{◌≡◌, map, IfOk, IfErr, IfSome, IfNone};
+ghost use Rattle.wesl_names.specs.declared.errors.Error as error;
+ghost use Rattle.wesl_syntax.specs.Unit.{name_in};
+ghost use Rattle.wesl_tree.specs.Translation.{unit_view};
+ghost use Rattle.wesl_valid.specs.Valid.{spelling, AreDistinct};
+ghost use Rattle.wesl_valid.specs.Faults.{IsDuplicate};
+ghost use Rattle.wesl_valid.specs.Twice.{AreApart, StandsTwice};
+
+use crate::plain::plain_numbers;
+use indexmap::IndexSet;
+use std::alloc::Global;
+use wesl_names::{Error, Ident, Names};
+use wesl_tree::TranslationUnit;
+
+/// The name of a number, and the empty text where the table has none.
+fn name_of(names: &Names, number: usize) -> &str
+    ensures { result.now ≡ name_in names.now number }
+{
+    if number < names.len() {
+        names.name(Ident(number))
+    } else {
+        ""
+    }
+}
+
+/// A number whose name one of the numbers before it has too, if there is one.
+fn repeated(alloc: Global, names: &Names, numbers: &Vec<usize>) -> Result<Option<usize>, Error>
+    ensures repeated { IfOk result (λ r. IfSome r (λ m. StandsTwice (map (name_in names.now) numbers.now.items) (name_in names.now m))) }
+    ensures none { IfOk result (λ r. IfNone r (AreApart (map (name_in names.now) numbers.now.items))) }
+    ensures refused { IfErr result (λ e. e ≡ error.Memory) }
+{
+    let mut seen = IndexSet::new(alloc);
+    for number in numbers {
+        let (_, is_new) = seen.insert_full(name_of(names, *number))?;
+        if !is_new {
+            return Ok(Some(*number));
+        }
+    }
+    Ok(None)
+}
+
+/// The number of a name that two imports or declarations without a condition have, if there is one. Refused for want
+/// of memory alone.
+pub fn duplicate(alloc: Global, unit: &TranslationUnit) -> Result<Option<usize>, Error>
+    ensures duplicate { IfOk result (λ r. IfSome r (λ m. IsDuplicate (unit_view unit.now) (spelling (unit_view unit.now) m))) }
+    ensures none { IfOk result (λ r. IfNone r (AreDistinct (unit_view unit.now))) }
+    ensures refused { IfErr result (λ e. e ≡ error.Memory) }
+{
+    let numbers = plain_numbers(alloc, unit)?;
+    repeated(alloc, unit.names(), &numbers)
+}
