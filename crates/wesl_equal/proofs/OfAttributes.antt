@@ -13,7 +13,7 @@ use Rattle.wesl_syntax.specs.declared.attribute.Attribute.TheVariants as attr
 use Rattle.wesl_syntax.specs.contracts.expression.ExpressionPartialEq.TheImpl as expressions
 use Rattle.wesl_syntax.specs.contracts.attribute.AttributePartialEq.TheImpl as equality
 use Rattle.wesl_equal.specs.Numbered.{numbered}
-use Rattle.wesl_equal.proofs.Trees.{along, both, under, alone, apart, last, then, itself, one_optional}
+use Rattle.wesl_equal.proofs.Trees.{along, both, under, alone, different, last, then, itself, one_optional}
 use Rattle.wesl_equal.proofs.OfLiterals.{one_text}
 use Rattle.wesl_equal.proofs.OfExpressions.{expressions_decided}
 
@@ -69,7 +69,7 @@ attribute_decided (attr.Elif a) (attr.Elif b) = under (last (node_decided a b))
 attribute_decided attr.Else attr.Else = itself
 attribute_decided (attr.Custom n a) (attr.Custom m b) =
     under (then (both _ _ (string_decided n m) (last (one_optional (listed expression_tree list) (λ u v. pointwise (λ c d. (expressions.ghosts).eq c.node d.node) u.items v.items) nodes_decided a b))))
-attribute_decided _ _ = apart (λ e. cc)
+attribute_decided _ _ = different refl
 
 pub attributes_decided : (xs ys : Vec (Spanned Attribute) Global) → Decides (pointwise (λ a b. (equality.ghosts).eq a.node b.node) xs.items ys.items) (numbered (attributes_tree xs) ≡ numbered (attributes_tree ys))
 attributes_decided xs ys = under (items_decided (placed attribute_view attribute_node) (λ a b. (equality.ghosts).eq a.node b.node) (λ a b. under (last (attribute_decided a.node b.node))) xs.items ys.items)

@@ -40,7 +40,7 @@ use Rattle.wesl_syntax.specs.declared.expression.Expression.TheOpen.{Expression-
 use Rattle.wesl_syntax.specs.declared.expression.Expression.TheFolds.{ind-Expression, ind-FunctionCall, ind-TemplateArg, ind-TypeExpression, fold-roll-Expression, fold-roll-FunctionCall, fold-roll-TemplateArg, fold-roll-TypeExpression}
 use Rattle.wesl_syntax.specs.declared.expression.Expression.TheViews.{roll-out-Expression, out-FunctionCall, roll-FunctionCall, out-roll-FunctionCall, roll-out-FunctionCall, out-TemplateArg, roll-TemplateArg, out-roll-TemplateArg, roll-out-TemplateArg, out-TypeExpression, roll-TypeExpression, out-roll-TypeExpression, roll-out-TypeExpression}
 use Rattle.wesl_equal.specs.Numbered.{numbered}
-use Rattle.wesl_equal.proofs.Trees.{along, both, labelled, under, alone, apart, last, then, itself, one_optional, settle}
+use Rattle.wesl_equal.proofs.Trees.{along, both, labelled, under, alone, apart, different, last, then, itself, one_optional, settle}
 use Rattle.wesl_equal.proofs.OfLiterals.{one_text, literals_decided}
 
 abbrev Held : the_members → Type 0
@@ -164,7 +164,7 @@ type_level = record {
 
 -- ---- by induction
 
-module _ (F : Family) (level : IsLevel F) where
+module _ (F : Family) where
   abbrev AtExpression : Expression → Type 0
   AtExpression x = (y : Expression) → Decides (F member-Expression x y) (numbered (expression_view x) ≡ numbered (expression_view y))
 
@@ -210,7 +210,7 @@ module _ (F : Family) (level : IsLevel F) where
   expression_each (Expression-F.Binary a s u) (Expression-F.Binary b t v) = labelled (both _ _ (one_binary a b) (then (both _ _ (under (last (s.value.node.1 t.value.node))) (last (under (last (u.value.node.1 v.value.node)))))))
   expression_each (Expression-F.FunctionCall a) (Expression-F.FunctionCall b) = under (last (a.1 b))
   expression_each (Expression-F.TypeOrIdentifier a) (Expression-F.TypeOrIdentifier b) = under (last (a.1 b))
-  expression_each _ _ = apart (λ e. cc)
+  expression_each _ _ = different refl
 
   nodes_each : (xs : List (Spanned OfExpression)) (ys : List (Spanned Expression))
       → Decides (pointwise (λ a b. F member-Expression a.node b.node) (map (λ (s : Spanned OfExpression). let t : Spanned Expression = record { node = s.node.0; span = s.span } in t) xs) ys)
@@ -242,41 +242,42 @@ module _ (F : Family) (level : IsLevel F) where
   type_each p i (Some a) q j None = under (then (both _ _ (one_optional path_tree path_eq one_path p q) (then (both _ _ (alone (one_ident i.0 j.0)) (last (apart (λ e. cc)))))))
   type_each p i (Some a) q j (Some b) = under (then (both _ _ (one_optional path_tree path_eq one_path p q) (then (both _ _ (alone (one_ident i.0 j.0)) (last (under (last (under (arguments_each a.items b.items)))))))))
 
-  expression_level_up : (x : Layer) (y : Expression-F OfExpression OfCall OfArgument OfType) → plain_expression y ≡ x → AtExpression (roll-Expression x)
+module _ (F : Family) (level : IsLevel F) where
+  expression_level_up : (x : Layer) (y : Expression-F (OfExpression F) (OfCall F) (OfArgument F) (OfType F)) → plain_expression F y ≡ x → AtExpression F (roll-Expression x)
   expression_level_up x y is z =
       subst (λ e. Decides (F member-Expression (roll-Expression x) e) (numbered (expression_view (roll-Expression x)) ≡ numbered (expression_view e))) (roll-out-Expression z)
       (settle (level.expressions x (out-Expression z)) (fold-roll-Expression Tree Tree Tree Tree expression_step call_step argument_step type_step x) (fold-roll-Expression Tree Tree Tree Tree expression_step call_step argument_step type_step (out-Expression z))
-      (subst (λ e. Decides (same_variants F e (out-Expression z)) (numbered (expression_seen e) ≡ numbered (expression_seen (out-Expression z)))) is (expression_each y (out-Expression z))))
+      (subst (λ e. Decides (same_variants F e (out-Expression z)) (numbered (expression_seen e) ≡ numbered (expression_seen (out-Expression z)))) is (expression_each F y (out-Expression z))))
 
-  call_level_up : (x : CallLayer) (y : FunctionCall-F OfExpression OfCall OfArgument OfType) → plain_call y ≡ x → AtCall (roll-FunctionCall x)
+  call_level_up : (x : CallLayer) (y : FunctionCall-F (OfExpression F) (OfCall F) (OfArgument F) (OfType F)) → plain_call F y ≡ x → AtCall F (roll-FunctionCall x)
   call_level_up x y is z =
       subst (λ e. Decides (F member-FunctionCall (roll-FunctionCall x) e) (numbered (call_view (roll-FunctionCall x)) ≡ numbered (call_view e))) (roll-out-FunctionCall z)
       (settle (level.calls x (out-FunctionCall z)) (fold-roll-FunctionCall Tree Tree Tree Tree expression_step call_step argument_step type_step x) (fold-roll-FunctionCall Tree Tree Tree Tree expression_step call_step argument_step type_step (out-FunctionCall z))
-      (subst (λ e. Decides (same_call F e (out-FunctionCall z)) (numbered (call_seen e) ≡ numbered (call_seen (out-FunctionCall z)))) is (call_each y (out-FunctionCall z))))
+      (subst (λ e. Decides (same_call F e (out-FunctionCall z)) (numbered (call_seen e) ≡ numbered (call_seen (out-FunctionCall z)))) is (call_each F y (out-FunctionCall z))))
 
-  argument_level_up : (x : ArgumentLayer) (y : TemplateArg-F OfExpression OfCall OfArgument OfType) → plain_argument y ≡ x → AtArgument (roll-TemplateArg x)
+  argument_level_up : (x : ArgumentLayer) (y : TemplateArg-F (OfExpression F) (OfCall F) (OfArgument F) (OfType F)) → plain_argument F y ≡ x → AtArgument F (roll-TemplateArg x)
   argument_level_up x y is z =
       subst (λ e. Decides (F member-TemplateArg (roll-TemplateArg x) e) (numbered (argument_view (roll-TemplateArg x)) ≡ numbered (argument_view e))) (roll-out-TemplateArg z)
       (settle (level.arguments x (out-TemplateArg z)) (fold-roll-TemplateArg Tree Tree Tree Tree expression_step call_step argument_step type_step x) (fold-roll-TemplateArg Tree Tree Tree Tree expression_step call_step argument_step type_step (out-TemplateArg z))
-      (subst (λ e. Decides (same_argument F e (out-TemplateArg z)) (numbered (argument_seen e) ≡ numbered (argument_seen (out-TemplateArg z)))) is (argument_each y (out-TemplateArg z))))
+      (subst (λ e. Decides (same_argument F e (out-TemplateArg z)) (numbered (argument_seen e) ≡ numbered (argument_seen (out-TemplateArg z)))) is (argument_each F y (out-TemplateArg z))))
 
-  type_level_up : (x : TypeLayer) (y : TypeExpression-F OfExpression OfCall OfArgument OfType) → plain_type y ≡ x → AtType (roll-TypeExpression x)
+  type_level_up : (x : TypeLayer) (y : TypeExpression-F (OfExpression F) (OfCall F) (OfArgument F) (OfType F)) → plain_type F y ≡ x → AtType F (roll-TypeExpression x)
   type_level_up x y is z =
       subst (λ e. Decides (F member-TypeExpression (roll-TypeExpression x) e) (numbered (type_view (roll-TypeExpression x)) ≡ numbered (type_view e))) (roll-out-TypeExpression z)
       (settle (level.types x (out-TypeExpression z)) (fold-roll-TypeExpression Tree Tree Tree Tree expression_step call_step argument_step type_step x) (fold-roll-TypeExpression Tree Tree Tree Tree expression_step call_step argument_step type_step (out-TypeExpression z))
-      (subst (λ e. Decides (same_type F e (out-TypeExpression z)) (numbered (type_seen e) ≡ numbered (type_seen (out-TypeExpression z)))) is (type_each y.path y.ident y.template_args (out-TypeExpression z).path (out-TypeExpression z).ident (out-TypeExpression z).template_args)))
+      (subst (λ e. Decides (same_type F e (out-TypeExpression z)) (numbered (type_seen e) ≡ numbered (type_seen (out-TypeExpression z)))) is (type_each F y.path y.ident y.template_args (out-TypeExpression z).path (out-TypeExpression z).ident (out-TypeExpression z).template_args)))
 
-  pub expressions_by : (x : Expression) → AtExpression x
-  expressions_by = ind-Expression AtExpression AtCall AtArgument AtType expression_level_up call_level_up argument_level_up type_level_up
+  pub expressions_by : (x : Expression) → AtExpression F x
+  expressions_by = ind-Expression (AtExpression F) (AtCall F) (AtArgument F) (AtType F) expression_level_up call_level_up argument_level_up type_level_up
 
-  pub calls_by : (x : FunctionCall) → AtCall x
-  calls_by = ind-FunctionCall AtExpression AtCall AtArgument AtType expression_level_up call_level_up argument_level_up type_level_up
+  pub calls_by : (x : FunctionCall) → AtCall F x
+  calls_by = ind-FunctionCall (AtExpression F) (AtCall F) (AtArgument F) (AtType F) expression_level_up call_level_up argument_level_up type_level_up
 
-  pub arguments_by : (x : TemplateArg) → AtArgument x
-  arguments_by = ind-TemplateArg AtExpression AtCall AtArgument AtType expression_level_up call_level_up argument_level_up type_level_up
+  pub arguments_by : (x : TemplateArg) → AtArgument F x
+  arguments_by = ind-TemplateArg (AtExpression F) (AtCall F) (AtArgument F) (AtType F) expression_level_up call_level_up argument_level_up type_level_up
 
-  pub types_by : (x : TypeExpression) → AtType x
-  types_by = ind-TypeExpression AtExpression AtCall AtArgument AtType expression_level_up call_level_up argument_level_up type_level_up
+  pub types_by : (x : TypeExpression) → AtType F x
+  types_by = ind-TypeExpression (AtExpression F) (AtCall F) (AtArgument F) (AtType F) expression_level_up call_level_up argument_level_up type_level_up
 
 pub expressions_decided : (x y : Expression) → Decides ((expressions.ghosts).eq x y) (numbered (expression_view x) ≡ numbered (expression_view y))
 expressions_decided = expressions_by expression_laws.family expression_level

@@ -1,10 +1,13 @@
 -- Tests that decide whether trees are one.
-use Rattle.std.proofs.Common.{◌≡◌, subst, Bool, true, false, ◌&&◌, refl, ap, List, [], ◌∷◌, map, Option, Some, None}
+use Rattle.std.proofs.Common.{◌≡◌, subst, ℕ, suc, Bool, true, false, ◌&&◌, refl, ap, List, [], ◌∷◌, map, Option, Some, None}
 use Rattle.std.specs.Bool.{Decides}
 use Rattle.std.specs.Option.{option_eq}
+use Rattle.std.specs.Cmp.{unsigned_Decides}
 use Rattle.std.specs.Cmp.Lexicographic.{pointwise}
+use Rattle.std.specs.Prelude.{nat_eq}
 use Rattle.wesl_syntax.specs.View.{optional}
-use Rattle.wesl_syntax.specs.Tree.{Label, Forest, Tree, end, tree, before, forest_of, respell_forest}
+use Rattle.wesl_syntax.specs.Kinds.{kind_number}
+use Rattle.wesl_syntax.specs.Tree.{Label, Forest, Tree, end, tree, before, forest_of, respell_forest, kind, unary, binary}
 use Rattle.wesl_equal.specs.Numbered.{numbered}
 
 -- a test of something equivalent
@@ -35,6 +38,20 @@ alone d = along d (λ h. rw h refl) (λ e. ap (λ (t : Tree). t.label) e)
 -- a tree of another label is another one
 pub apart : {l m : Label} {f g : Forest} → (l ≡ m → ⊥) → Decides false (over l f ≡ over m g)
 apart h = (λ e. cc, λ e. absurd (h (ap (λ (t : Tree). t.label) e)))
+
+-- the form of a label: by which labels that hold different things, or are of different kinds, are told apart
+abbrev pub form : Label → ℕ
+form (unary o) = 0
+form (binary o) = 1
+form (kind k) = suc (suc (suc (kind_number k)))
+form _ = 2
+
+other_form : (l m : Label) → nat_eq (form l) (form m) ≡ false → l ≡ m → ⊥
+other_form l m h e = let same : nat_eq (form l) (form m) ≡ true = (unsigned_Decides (form l) (form m)).1 (ap form e) in cc
+
+-- a tree of a label of another form is another one: by computing, where `apart` would search at each pair of forms
+pub different : {l m : Label} {f g : Forest} → nat_eq (form l) (form m) ≡ false → Decides false (over l f ≡ over m g)
+different {l} {m} h = apart (other_form l m h)
 
 first_label : Forest → Label → Label
 first_label end l = l

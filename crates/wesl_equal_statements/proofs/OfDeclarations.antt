@@ -1,5 +1,5 @@
 -- Equality of directives and of the declarations that hold no statement.
-use Rattle.std.proofs.Common.{◌≡◌, ℕ, Bool, ◌&&◌, Option, ap, rules}
+use Rattle.std.proofs.Common.{◌≡◌, ℕ, Bool, ◌&&◌, Option, ap, rules, refl}
 use Rattle.std.specs.Bool.{Decides}
 use Rattle.std.specs.Option.{option_eq}
 use Rattle.std.specs.Cmp.{unsigned_Decides}
@@ -32,7 +32,7 @@ use Rattle.wesl_syntax.specs.contracts.declaration.ConstAssertPartialEq.TheImpl 
 use Rattle.wesl_syntax.specs.declared.declaration.Declaration.{Declaration}
 use Rattle.wesl_syntax.specs.contracts.declaration.DeclarationPartialEq.TheImpl as declaration_equality
 use Rattle.wesl_equal.specs.Numbered.{numbered}
-use Rattle.wesl_equal.proofs.Trees.{along, both, labelled, under, alone, apart, last, then, itself, one_optional}
+use Rattle.wesl_equal.proofs.Trees.{along, both, labelled, under, alone, different, last, then, itself, one_optional}
 use Rattle.wesl_equal.proofs.OfExpressions.{types_decided}
 use Rattle.wesl_equal.proofs.OfAttributes.{attributes_decided, string_decided, strings_decided, node_decided, items_decided}
 
@@ -56,13 +56,13 @@ kind_decided kinds.Const kinds.Const = itself
 kind_decided kinds.Override kinds.Override = itself
 kind_decided kinds.Let kinds.Let = itself
 kind_decided (kinds.Var s) (kinds.Var t) = under (last (one_optional space_tree same_space one_space s t))
-kind_decided _ _ = apart (λ e. cc)
+kind_decided _ _ = different refl
 
 pub directive_decided : (x y : GlobalDirective) → Decides ((directive_equality.ghosts).eq x y) (numbered (directive_view x) ≡ numbered (directive_view y))
 directive_decided (directives.Diagnostic a s r) (directives.Diagnostic b t q) = under (then (both _ _ (attributes_decided a b) (then (both _ _ (string_decided s t) (last (string_decided r q))))))
 directive_decided (directives.Enable a s) (directives.Enable b t) = under (then (both _ _ (attributes_decided a b) (last (strings_decided s t))))
 directive_decided (directives.Requires a s) (directives.Requires b t) = under (then (both _ _ (attributes_decided a b) (last (strings_decided s t))))
-directive_decided _ _ = apart (λ e. cc)
+directive_decided _ _ = different refl
 
 pub alias_decided : (x y : TypeAlias) → Decides ((alias_equality.ghosts).eq x y) (numbered (alias_view x) ≡ numbered (alias_view y))
 alias_decided x y = under (then (both _ _ (attributes_decided x.attributes y.attributes) (then (both _ _ (alone (one_binder x.ident.0 y.ident.0)) (last (types_decided x.ty y.ty))))))

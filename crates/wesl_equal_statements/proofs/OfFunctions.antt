@@ -1,5 +1,5 @@
 -- Equality of functions and of global declarations.
-use Rattle.std.proofs.Common.{◌≡◌}
+use Rattle.std.proofs.Common.{◌≡◌, refl}
 use Rattle.std.specs.Bool.{Decides}
 use Rattle.wesl_syntax.specs.View.{parameter_view, type_view, function_view, global_view}
 use Rattle.wesl_syntax.specs.declared.declaration.Function.{Function}
@@ -10,7 +10,7 @@ use Rattle.wesl_syntax.specs.contracts.declaration.FormalParameterPartialEq.TheI
 use Rattle.wesl_syntax.specs.contracts.declaration.FunctionPartialEq.TheImpl as functions
 use Rattle.wesl_syntax.specs.contracts.declaration.GlobalDeclarationPartialEq.TheImpl as declarations
 use Rattle.wesl_equal.specs.Numbered.{numbered}
-use Rattle.wesl_equal.proofs.Trees.{both, under, alone, apart, last, then, itself, one_optional}
+use Rattle.wesl_equal.proofs.Trees.{both, under, alone, different, last, then, itself, one_optional}
 use Rattle.wesl_equal.proofs.OfExpressions.{types_decided}
 use Rattle.wesl_equal.proofs.OfAttributes.{attributes_decided, items_decided}
 use Rattle.wesl_equal_statements.proofs.OfDeclarations.{one_binder, alias_decided, struct_decided, parameter_decided, assert_decided, declaration_decided}
@@ -28,4 +28,4 @@ global_decided (globals.TypeAlias a) (globals.TypeAlias b) = alias_decided a b
 global_decided (globals.Struct a) (globals.Struct b) = struct_decided a b
 global_decided (globals.Function a) (globals.Function b) = function_decided a b
 global_decided (globals.ConstAssert a) (globals.ConstAssert b) = assert_decided a b
-global_decided _ _ = apart (λ e. cc)
+global_decided _ _ = different refl

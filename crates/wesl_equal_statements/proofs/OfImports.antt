@@ -26,7 +26,7 @@ use Rattle.wesl_syntax.specs.declared.import.ImportContent.TheOpen.{ImportConten
 use Rattle.wesl_syntax.specs.declared.import.ImportContent.TheFolds.{ind-ImportContent, ind-Import, fold-roll-ImportContent, fold-roll-Import}
 use Rattle.wesl_syntax.specs.declared.import.ImportContent.TheViews.{roll-out-ImportContent, out-roll-ImportContent, out-Import, roll-Import, out-roll-Import, roll-out-Import}
 use Rattle.wesl_equal.specs.Numbered.{numbered}
-use Rattle.wesl_equal.proofs.Trees.{along, both, under, alone, apart, last, then, itself, one_optional, Decided, parts_decided, rolled}
+use Rattle.wesl_equal.proofs.Trees.{along, both, under, alone, different, last, then, itself, one_optional, Decided, parts_decided, rolled}
 use Rattle.wesl_equal.proofs.OfExpressions.{one_path}
 use Rattle.wesl_equal.proofs.OfAttributes.{attributes_decided, strings_decided}
 
@@ -115,13 +115,13 @@ module _ (F : Family) (level : IsLevel F) where
   content_each (ImportContent-F.Item a) (ImportContent-F.Collection b) = item_or_list a.ident a.rename
     where
       item_or_list : (i : Ident) (r : Option Ident) → Decides false (numbered (item_view (record { ident = i; rename = r })) ≡ numbered (content_seen (ImportContent-F.Collection b)))
-      item_or_list i None = apart (λ e. cc)
-      item_or_list i (Some r) = apart (λ e. cc)
+      item_or_list i None = different refl
+      item_or_list i (Some r) = different refl
   content_each (ImportContent-F.Collection a) (ImportContent-F.Item b) = list_or_item b.ident b.rename
     where
       list_or_item : (i : Ident) (r : Option Ident) → Decides false (numbered (content_seen (plain_content (ImportContent-F.Collection a))) ≡ numbered (item_view (record { ident = i; rename = r })))
-      list_or_item i None = apart (λ e. cc)
-      list_or_item i (Some r) = apart (λ e. cc)
+      list_or_item i None = different refl
+      list_or_item i (Some r) = different refl
 
   entry_each : (x : Import-F OfContent OfEntry) (w : EntryLayer) → Decides (same_entry F (plain_entry x) w) (numbered (entry_seen (plain_entry x)) ≡ numbered (entry_seen w))
   entry_each x w = under (then (both _ _ (strings_decided x.path w.path) (last (x.content.1 w.content))))

@@ -1,13 +1,12 @@
 -- A statement whose parts are decided is decided.
-use Rattle.std.specs.Cmp.{unsigned_Decides}
 use Rattle.std.specs.Prelude.{nat_eq}
-use Rattle.std.proofs.Common.{◌≡◌, ℕ, Bool, true, false, ◌&&◌, Option, Some, None, refl, ap, rules, Vec, Global}
+use Rattle.std.proofs.Common.{◌≡◌, Bool, true, false, ◌&&◌, Option, Some, None, refl, ap, rules, Vec, Global}
 use Rattle.std.specs.Bool.{Decides}
 use Rattle.std.specs.Global.{Box}
 use Rattle.std.specs.Box.{box_value}
 use Rattle.std.specs.Option.{option_eq}
 use denote.Enum.Bare.{sameb, same_true, true_same}
-use Rattle.wesl_syntax.specs.Tree.{Label, Tree, Kind, kind, assignment, statement_node, void, compound_statement, increment, decrement, if_statement, switch, loop, for_loop, while_loop, break, continue, return, discard, call_statement, const_assert, declaration}
+use Rattle.wesl_syntax.specs.Tree.{Label, Tree, assignment, statement_node}
 use Rattle.wesl_syntax.specs.View.{expression_tree, optional, placed}
 use Rattle.wesl_syntax.specs.declared.span.Spanned.{Spanned}
 use Rattle.wesl_syntax.specs.declared.attribute.Attribute.{Attribute}
@@ -16,39 +15,14 @@ use Rattle.wesl_syntax.specs.contracts.statement.AssignmentOperator as assignmen
 use Rattle.wesl_syntax.specs.declared.statement.Statement.TheOpen.{Statement-F}
 use Rattle.wesl_equal.specs.Numbered.{numbered}
 use Rattle.wesl_equal_statements.proofs.OfStatementLayers.{Part, same_attributes, same_expression, same_statement, trees, statement_seen, plain_statement, held_decided}
-use Rattle.wesl_equal.proofs.Trees.{labelled, both, under, apart, last, then, itself, one_optional}
+use Rattle.wesl_equal.proofs.Trees.{form, labelled, both, under, different, last, then, itself, one_optional}
 use Rattle.wesl_equal.proofs.OfExpressions.{calls_decided}
 use Rattle.wesl_equal.proofs.OfAttributes.{attributes_decided, node_decided}
 use Rattle.wesl_equal_statements.proofs.OfDeclarations.{assert_decided, declaration_decided}
 
--- a number for each of the labels
-abbrev kind_number : Kind → ℕ
-kind_number void = 0
-kind_number compound_statement = 1
-kind_number increment = 3
-kind_number decrement = 4
-kind_number if_statement = 5
-kind_number switch = 6
-kind_number loop = 7
-kind_number for_loop = 8
-kind_number while_loop = 9
-kind_number break = 10
-kind_number continue = 11
-kind_number return = 12
-kind_number discard = 13
-kind_number call_statement = 14
-kind_number const_assert = 15
-kind_number declaration = 16
-kind_number _ = 17
-
-abbrev number : Label → ℕ
-number (kind k) = kind_number k
-number (assignment o) = 2
-number _ = 17
-
--- trees whose labels have other numbers are others
-other : (s t : Tree) → nat_eq (number s.label) (number t.label) ≡ false → Decides false (s ≡ t)
-other s t h = (λ e. cc, λ e. let same_number : nat_eq (number s.label) (number t.label) ≡ true = (unsigned_Decides (number s.label) (number t.label)).1 (ap (λ (u : Tree). number u.label) e) in cc)
+-- trees whose labels are of other forms are others
+other : (s t : Tree) → nat_eq (form s.label) (form t.label) ≡ false → Decides false (s ≡ t)
+other s t h = different h
 
 one_assignment : (x y : AssignmentOperator) → Decides (sameb assignment_operator.the_type x y) ((let l : Label = assignment x in l) ≡ assignment y)
 one_assignment x y = (λ e. ap (λ k. let l : Label = assignment k in l) (same_true assignment_operator.the_type (search rules) x y e), λ e. true_same assignment_operator.the_type x y (let p : x ≡ y = cc in p))
@@ -98,24 +72,24 @@ module _ {S B K E I C W S' B' K' E' I' C' W' : Type 0} (s : Part S S') (b : Part
       → Decides (option_eq (λ x y. s.same x.value.node y.value.node) (first_step (plain (Statement-F.For a p None None f))) q)
       (numbered (optional step_tree (first_step (shown (plain (Statement-F.For a p None None f))))) ≡ numbered (optional step_tree (first_step (shown (Statement-F.For a q None None g)))))
   step_each a f g None None = itself
-  step_each a f g None (Some y) = apart (λ e. cc)
-  step_each a f g (Some x) None = apart (λ e. cc)
+  step_each a f g None (Some y) = different refl
+  step_each a f g (Some x) None = different refl
   step_each a f g (Some x) (Some y) = under (last (under (last (s.decided x.value.node y.value.node))))
 
   otherwise_each : (a : Vec (Spanned Attribute) Global) (f : C') (g : C) (fs : Vec I' Global) (gs : Vec I Global) (p : Option E') (q : Option E)
       → Decides (option_eq e.same (otherwise (plain (Statement-F.If a f fs p))) q)
       (numbered (optional (λ t. t) (otherwise (shown (plain (Statement-F.If a f fs p))))) ≡ numbered (optional (λ t. t) (otherwise (shown (Statement-F.If a g gs q)))))
   otherwise_each a f g fs gs None None = itself
-  otherwise_each a f g fs gs None (Some y) = apart (λ e. cc)
-  otherwise_each a f g fs gs (Some x) None = apart (λ e. cc)
+  otherwise_each a f g fs gs None (Some y) = different refl
+  otherwise_each a f g fs gs (Some x) None = different refl
   otherwise_each a f g fs gs (Some x) (Some y) = under (last (e.decided x y))
 
   continued_each : (a : Vec (Spanned Attribute) Global) (f : B') (g : B) (p : Option K') (q : Option K)
       → Decides (option_eq k.same (continued (plain (Statement-F.Loop a f p))) q)
       (numbered (optional (λ t. t) (continued (shown (plain (Statement-F.Loop a f p))))) ≡ numbered (optional (λ t. t) (continued (shown (Statement-F.Loop a g q)))))
   continued_each a f g None None = itself
-  continued_each a f g None (Some y) = apart (λ e. cc)
-  continued_each a f g (Some x) None = apart (λ e. cc)
+  continued_each a f g None (Some y) = different refl
+  continued_each a f g (Some x) None = different refl
   continued_each a f g (Some x) (Some y) = under (last (k.decided x y))
 
   pub statement_each : (x : Held) (y : Layer) → Decides (same (plain x) y) (numbered (seen (plain x)) ≡ numbered (seen y))

@@ -25,6 +25,7 @@ use Rattle.wesl_faith.specs.declared.agreed.Agreed.{Agreed}
 use Rattle.wesl_faith.specs.Faithful.{binders_in, binders_of}
 use Rattle.wesl_faith.specs.Test.{is_named, is_one, are_apart, has_number, agree_on, reads_right, all_read_right}
 use Rattle.wesl_faith.specs.Agreement.{agree_in, in_module, is_met, is_global_met, all_leave, globals_right, key_right, references_right}
+use Rattle.wesl_faith.specs.ByEntries.{AreApartBy, AreRightBy}
 use Rattle.wesl_faith.proofs.Picked.{Picked, none, some, picked}
 
 -- what holds of all that pass
@@ -279,3 +280,9 @@ module _ (ways : WaysLeadOutwards) (spelling : SpellingKeepsOccurrences) (v : Un
       (λ k p m. agree k p m ∙ ap₂ (λ x a. all_leave (is_met k p) m (map flat x) (map occurrence_view a)) k1e a1e)
       (λ m. bound_are m ∙ ap (λ a. list_any (has_number m) (map occurrence_view a)) a3e)
       ∙ ap (all_read_right v.names) found))
+
+  pub apart_by : (all : List FoundOccurrence) (keys : List Key) (answer : Bool) → all ≡ items → keys ≡ ks → AreApartBy all keys answer → answer ≡ are_apart v.names (occurrences (trees_of v))
+  apart_by all keys answer a k by = by.is ∙ globals_read by.entries all all keys keys a k a k by.agree
+
+  pub right_by : (all : List FoundOccurrence) (keys : List Key) (answer : Bool) → all ≡ items → keys ≡ ks → AreRightBy all keys answer → answer ≡ all_read_right v.names (occurrences (trees_of v))
+  right_by all keys answer a k by = by.is ∙ references_read by.entries by.numbers by.numbers all all all keys keys a k a k a by.agree by.numbered refl

@@ -3,3 +3,4 @@ pub mod Test
 pub mod Agreement
 pub mod Retargeted
 pub mod Laws
+pub mod ByEntries

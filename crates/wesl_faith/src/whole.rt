@@ -1,16 +1,17 @@
 //! How the names of a whole module read.
-ghost use Rattle.std.specs.Prelude.{◌≡◌, IfOk, IfErr};
+ghost use Rattle.std.specs.Prelude.{◌≡◌, length, IfOk, IfErr};
 ghost use Rattle.wesl_names.specs.declared.errors.Error as error;
 ghost use Rattle.wesl_syntax.specs.Unit.{trees_of};
 ghost use Rattle.wesl_tree.specs.Translation.{unit_view};
 ghost use Rattle.wesl_occurrences.specs.Occurrences.{occurrences};
 ghost use Rattle.wesl_faith.specs.Test.{are_apart, all_read_right};
+ghost use Rattle.wesl_faith.specs.ByEntries.{AreApartBy, AreRightBy};
 
 use crate::agreements::Agreements;
 use crate::judged::{are_globals_right, are_references_right, numbers_bound};
 use std::alloc::Global;
-use wesl_meanings::meanings_of;
-use wesl_occurrences::{law_of_occurrences, law_of_ways};
+use wesl_meanings::{Key, meanings_of};
+use wesl_occurrences::{Occurrence, law_of_occurrences, law_of_ways};
 use wesl_tree::{Error, TranslationUnit};
 
 /// How the names of a module read, by plain scoping.
@@ -23,6 +24,27 @@ pub struct Readings {
     pub are_references_right: bool,
 }
 
+/// Whether binders of the module's block that are spelled alike have one number, by the identifiers and what each means.
+fn are_names_apart(alloc: Global, all: &[Occurrence<'_>], keys: &[Key<'_>]) -> Result<bool, Error>
+    requires { length keys.now ≡ length all.now }
+    ensures apart { IfOk result (AreApartBy all.now keys.now) }
+    ensures refused { IfErr result (λ e. e ≡ error.Memory) }
+{
+    let globals = Agreements::of_module(alloc, all, keys)?;
+    Ok(are_globals_right(&globals, all, keys))
+}
+
+/// Whether each reference reads right, by the identifiers and what each means.
+fn are_all_right(alloc: Global, all: &[Occurrence<'_>], keys: &[Key<'_>]) -> Result<bool, Error>
+    requires { length keys.now ≡ length all.now }
+    ensures right { IfOk result (AreRightBy all.now keys.now) }
+    ensures refused { IfErr result (λ e. e ≡ error.Memory) }
+{
+    let numbers = numbers_bound(alloc, all)?;
+    let binders = Agreements::of_binders(alloc, all, keys)?;
+    Ok(are_references_right(&binders, &numbers, all, keys))
+}
+
 /// How the names of a module read, by plain scoping. Refused for want of memory alone.
 pub fn readings_of(alloc: Global, unit: &TranslationUnit) -> Result<Readings, Error>
     ensures apart { IfOk result (λ r. r.are_names_apart ≡ are_apart (unit_view unit.now).names (occurrences (trees_of (unit_view unit.now)))) }
@@ -32,16 +54,10 @@ pub fn readings_of(alloc: Global, unit: &TranslationUnit) -> Result<Readings, Er
     law_of_ways();
     law_of_occurrences();
     let meant = meanings_of(alloc, unit)?;
-    let globals = Agreements::of_module(alloc, &meant.found.all, &meant.keys)?;
-    let binders = Agreements::of_binders(alloc, &meant.found.all, &meant.keys)?;
-    let numbers = numbers_bound(alloc, &meant.found.all)?;
+    let are_names_apart = are_names_apart(alloc, &meant.found.all, &meant.keys)?;
+    let are_references_right = are_all_right(alloc, &meant.found.all, &meant.keys)?;
     Ok(Readings {
-        are_names_apart: are_globals_right(&globals, &meant.found.all, &meant.keys),
-        are_references_right: are_references_right(
-            &binders,
-            &numbers,
-            &meant.found.all,
-            &meant.keys,
-        ),
+        are_names_apart,
+        are_references_right,
     })
 }

@@ -3,3 +3,4 @@ pub mod Canonical
 pub mod Laws
 pub mod Keys
 pub mod Numbering
+pub mod ByBinders

@@ -11,12 +11,13 @@ ghost use Rattle.wesl_occurrences.specs.Pieces.{starts};
 ghost use Rattle.wesl_occurrences.specs.Ways.{AreNested, way};
 ghost use Rattle.wesl_meanings.specs.Scopes.{keys};
 ghost use Rattle.wesl_meanings.specs.Keys.{key_view, IsKeyBelow};
+ghost use Rattle.wesl_meanings.specs.ByBinders.{AreKeysOf};
 
 use crate::keys::{Binders, Key};
 use crate::laws::law_of_numbers;
 use crate::numbers::{names, numbers};
 use std::alloc::Global;
-use wesl_occurrences::{Identifiers, law_of_occurrences, law_of_ways, occurrences};
+use wesl_occurrences::{Identifiers, Occurrence, law_of_occurrences, law_of_ways, occurrences};
 use wesl_tree::{Error, Names, TranslationUnit};
 
 /// The identifiers of a module, and what they mean.
@@ -26,6 +27,24 @@ pub struct Meanings<'a> {
     pub found: Identifiers<'a>,
     /// what each means, by the numbers of the blocks
     pub keys: Vec<Key<'a>>,
+}
+
+/// What each of the identifiers means, where `outer` has of each block the one round it.
+fn keys_of<'a>(
+    alloc: Global,
+    names: &'a Names,
+    outer: &[usize],
+    all: &[Occurrence<'a>],
+) -> Result<Vec<Key<'a>>, Error>
+    requires named { All (λ o. o.ident.0 < length names.now) all.now }
+    requires inside { All (λ o. o.block < length outer.now) all.now }
+    requires nested { AreNested outer.now }
+    ensures keys { IfOk result (λ keys. AreKeysOf names.now outer.now all.now keys.items) }
+    ensures below { IfOk result (λ keys. All (IsKeyBelow (length outer.now)) keys.items) }
+    ensures refused { IfErr result (λ e. e ≡ error.Memory) }
+{
+    let binders = Binders::among(alloc, names, all)?;
+    binders.keys(alloc, names, outer, all)
 }
 
 /// What each identifier of a module means, in document order. Refused for want of memory alone.
@@ -41,8 +60,7 @@ pub fn meanings_of<'a>(alloc: Global, unit: &'a TranslationUnit) -> Result<Meani
     law_of_ways();
     law_of_occurrences();
     let found = occurrences(alloc, unit)?;
-    let binders = Binders::among(alloc, unit.names(), &found.all)?;
-    let keys = binders.keys(alloc, unit.names(), &found.outer, &found.all)?;
+    let keys = keys_of(alloc, unit.names(), &found.outer, &found.all)?;
     Ok(Meanings { found, keys })
 }
 

@@ -1,5 +1,5 @@
 -- The turns of a search.
-use Rattle.std.proofs.Common.{◌≡◌, ◌≢◌, ◌⊎◌, ℕ, zero, suc, ◌<◌, ◌≤◌, ◌+◌, ◌-◌, ◌++◌, map, reverse, Vec, Global, Option, Some, None, List, [], ◌∷◌, length, get_or, set, refl, sym, ap, ◌∙◌, subst, inl, inr, arith}
+use Rattle.std.proofs.Common.{replicate, ◌≡◌, ◌≢◌, ◌⊎◌, ℕ, zero, suc, ◌<◌, ◌≤◌, ◌+◌, ◌-◌, ◌++◌, map, reverse, Vec, Global, Option, Some, None, List, [], ◌∷◌, length, get_or, set, refl, sym, ap, ◌∙◌, subst, inl, inr, arith}
 use Rattle.std.specs.Prelude.{IfNone}
 use Rattle.std.specs.List.{Contains}
 use Rattle.std.proofs.lemmas.List.{get_or-set_same, get_or-set_other, length-set, reverse-append, length-map}
@@ -404,12 +404,11 @@ open_not_new e = new_not_open (sym e)
 pub done_not_new : Done ≢ New
 done_not_new e = new_not_done (sym e)
 
--- one more mark
-pub one_more_new : (ms : List Mark) (a : ℕ) → ((b : ℕ) → mark_at ms b ≡ New) → mark_at (ms ++ New ∷ []) a ≡ New
-one_more_new [] zero h = refl
-one_more_new [] (suc a) h = refl
-one_more_new (m ∷ ms) zero h = h zero
-one_more_new (m ∷ ms) (suc a) h = one_more_new ms a (λ b. h (suc b))
+-- marks that were all made new
+pub all_new : (n a : ℕ) → mark_at (replicate n New) a ≡ New
+all_new zero a = refl
+all_new (suc n) zero = refl
+all_new (suc n) (suc a) = all_new n a
 
 sizes : (graph : List (Vec ℕ Global)) (a : ℕ) → left_at (map (λ v. length v.items) graph) a ≡ length (edges_at (graph_view graph) a)
 sizes [] a = refl

@@ -56,17 +56,13 @@ fn go_on(
 }
 
 /// A mark for each node, none of which was met.
-#[tactic(auto, using(crate::proofs::Turns::one_more_new))]
+#[tactic(auto, using(crate::proofs::Turns::all_new))]
 fn new_marks(alloc: Global, graph: &[Vec<usize>]) -> Result<Vec<Mark>, Error>
     ensures all { IfOk result (λ marks. length marks.items ≡ length graph.now) }
     ensures new { IfOk result (λ marks. (a : ℕ) → mark_at marks.items a ≡ New) }
     ensures refused { IfErr result (λ e. e ≡ error.Memory) }
 {
-    let mut marks = Vec::with_capacity(alloc, graph.len())?;
-    for _edges in graph {
-        marks.push(Mark::New)?;
-    }
-    Ok(marks)
+    Ok(vec![in alloc; Mark::New; graph.len()]?)
 }
 
 /// Of each node, how many edges it has.

@@ -7,11 +7,11 @@ use Rattle.wesl_meanings.proofs.whole.meanings_of.Goals as goal
 
 pub returns-clause-keys : goal.returns-clause-keys
 returns-clause-keys c =
-    meant c.law_of_ways.ensures c.law_of_occurrences.ensures.spelling (unit_view c.args.unit.now) c.in_ok-found.found.outer.items c.in_ok-found.found.all.items c.in_ok-binders.binders.from.entries c.in_ok-keys.keys.items
-    c.names.result.now c.names-2.result.now c.deref.result.now c.deref-3.result.now c.deref-2.result.now
+    meant c.law_of_ways.ensures c.law_of_occurrences.ensures.spelling (unit_view c.args.unit.now) c.in_ok-found.found.outer.items c.in_ok-found.found.all.items c.in_ok-keys.ensures.keys.entries c.in_ok-keys.keys.items
+    c.names.result.now c.names.result.now c.deref-2.result.now c.deref-2.result.now c.deref.result.now
     c.in_ok-found.ensures.nested c.in_ok-found.ensures.blocks c.in_ok-found.ensures.all
-    c.names.ensures.names c.deref.ensures.value c.in_ok-binders.ensures.opens
-    c.names-2.ensures.names c.deref-2.ensures.value c.deref-3.ensures.value c.in_ok-keys.ensures.keys
+    c.names.ensures.names c.deref-2.ensures.value c.in_ok-keys.ensures.keys.opens
+    c.names.ensures.names c.deref.ensures.value c.deref-2.ensures.value c.in_ok-keys.ensures.keys.are
 
 pub returns-clause-below : goal.returns-clause-below
-returns-clause-below c = subst (λ o. All (IsKeyBelow (length o)) c.in_ok-keys.keys.items) c.deref-2.ensures.value c.in_ok-keys.ensures.below
+returns-clause-below c = subst (λ o. All (IsKeyBelow (length o)) c.in_ok-keys.keys.items) c.deref.ensures.value c.in_ok-keys.ensures.below
