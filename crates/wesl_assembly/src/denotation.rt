@@ -8,7 +8,7 @@ use wesl_symbols::ids::{NameId, PathId};
 use wesl_symbols::symbols::Symbol;
 
 /// What an identifier stands for.
-#[derive(Clone, Copy, Debug, PartialEq, Eq, Hash)]
+#[derive(Clone, Copy, PartialEq, Eq, Hash)]
 pub enum Denotation<'a> {
     /// a name that the module at a path declares
     Symbol(Symbol<PathId, NameId>),

@@ -10,8 +10,10 @@ use Rattle.wesl_symbols.specs.declared.ids.NameId.{NameId}
 use Rattle.wesl_symbols.specs.declared.symbols.Symbol.{Symbol}
 use Rattle.wesl_symbols.specs.Tables.{Declaration, Table}
 use Rattle.wesl_symbols.specs.Names.{Declares}
+use Rattle.wesl_symbols.proofs.Lists.{contains_nil}
+use Rattle.wesl_world.proofs.Growing.{contains_take}
 use Rattle.wesl_table.specs.Numbering.{Numbering, NameAt}
-use Rattle.wesl_linker.specs.Given.{Given, GivesName, GivesNames, Keeps, KeepsOthers}
+use Rattle.wesl_linker.specs.Given.{Given, GivesName, GivesNames, Keeps, KeepsOthers, KeepsUndeclared}
 use Rattle.wesl_linker.specs.GivenView.{same_symbol}
 
 -- a symbol is told by its numbers
@@ -50,6 +52,16 @@ pub record Names (numbering : Numbering) (name_of : Text → Text) (path : PathI
   pub keeps : Keeps old new
 
 module _ (numbering : Numbering) (name_of : Text → Text) (path : PathId) where
+  -- no declaration
+  pub names_none : (old : Given) → Names numbering name_of path [] old old
+  names_none old = record {
+    has = λ d n c e. absurd (contains_nil d c);
+    only = λ n x y at none named. let f : None ≡ Some y = sym none ∙ named in cc;
+    others = λ s h. refl;
+    undeclared = λ n h. refl;
+    keeps = λ s x h. h;
+  }
+
   -- a declaration without a name
   pub past_unnamed : (ds : List (Declaration PathId NameId)) (d : Declaration PathId NameId) (old new : Given) → d.name ≡ None → Names numbering name_of path ds old new
       → Names numbering name_of path (ds ++ d ∷ []) old new
@@ -149,3 +161,16 @@ gives_all numbering name_of t ds i old new e past h n x (d, among, named) at fre
 pub declared : (t : Table PathId NameId) (ds : List (Declaration PathId NameId)) (i : ℕ) (d : Declaration PathId NameId) (n : NameId) → ds ≡ t.declarations → i < length ds
     → d ≡ slice_index_or ds i d → Some n ≡ d.name → Declares t n
 declared t ds i d n e below is named = (d, subst (λ (es : List (Declaration PathId NameId)). Contains es d) e (i, below, sym is), sym named)
+
+-- a name that the table does not declare is as before
+pub undeclared_stay : (numbering : Numbering) (name_of : Text → Text) (t : Table PathId NameId) (ds : List (Declaration PathId NameId)) (i : ℕ) (old new : Given) → ds ≡ t.declarations
+    → Names numbering name_of t.path (take i ds) old new → KeepsUndeclared t old new
+undeclared_stay numbering name_of t ds i old new e h n out =
+    h.undeclared n (λ d among named. out (d, subst (λ (es : List (Declaration PathId NameId)). Contains es d) e (contains_take i ds d among), named))
+
+-- and so it is after a name that the table declares
+pub undeclared_on : (numbering : Numbering) (name_of : Text → Text) (t : Table PathId NameId) (ds : List (Declaration PathId NameId)) (i : ℕ) (old now new : Given) (k : Symbol PathId NameId) → ds ≡ t.declarations
+    → Names numbering name_of t.path (take i ds) old now → Declares t k.name → ((s : Symbol PathId NameId) → (s ≡ k → ⊥) → new s ≡ now s) → KeepsUndeclared t old new
+undeclared_on numbering name_of t ds i old now new k e h declares apart n out =
+    apart (record { path = t.path; name = n }) (λ same. out (subst (λ (m : NameId). Declares t m) (sym (ap (λ (s : Symbol PathId NameId). s.name) same)) declares))
+    ∙ undeclared_stay numbering name_of t ds i old now e h n out

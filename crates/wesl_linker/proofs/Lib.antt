@@ -5,6 +5,8 @@ pub mod Marked
 pub mod Carried
 pub mod Built
 pub mod Refusing
+pub mod Listing
+pub mod Told
 pub mod Readying
 pub mod Reaching
 pub mod Kept

@@ -1,19 +1,21 @@
 -- A loader may be asked for what a numbered table names, and keeps what it handed out as it learns more.
-use Rattle.std.proofs.Common.{◌≡◌, ◌↔◌, ◌⊎◌, inl, inr, ℕ, Option, Some, Result, Ok, Err, IfOk, List, [], Contains, subst, sym, ◌∙◌}
+use Rattle.std.proofs.Common.{◌≡◌, ◌↔◌, ◌⊎◌, inl, inr, ℕ, Option, Some, Result, Ok, Err, IfOk, OnErr, List, [], Contains, subst, sym, ◌∙◌}
 use Rattle.wesl_names.specs.Path.{Text, Path}
 use Rattle.wesl_names.specs.declared.errors.ResolveError.{ResolveError}
 use Rattle.wesl_syntax.specs.Unit.{UnitOf, spelled}
 use Rattle.wesl_tree.specs.Translation.{unit_view}
+use Rattle.wesl_tree.specs.declared.unit.TranslationUnit.{TranslationUnit}
 use Rattle.wesl_resolve.specs.Resolver.{MeansTheSame}
 use Rattle.wesl_symbols.specs.declared.ids.PathId.{PathId}
 use Rattle.wesl_symbols.specs.declared.ids.NameId.{NameId}
 use Rattle.wesl_symbols.specs.Tables.{Table}
 use Rattle.wesl_world.specs.Loader.{IsReady, OnlyAdds}
+use Rattle.wesl_world.specs.declared.loader.LoadError.{LoadError}
 use Rattle.wesl_symbols.proofs.Lists.{contains_nil}
 use Rattle.wesl_table.specs.Tables.{table_at, uses}
 use Rattle.wesl_table.specs.Numbering.{Numbering, Grows, NameAt, PathAt, IsNumbered, SameImport, SameReference, SameDeclaration}
 use Rattle.wesl_table.proofs.Related.{path_later, table_later, grows_itself, grows_trans}
-use Rattle.wesl_linker.specs.Handing.{Follows, StaysOne, HaveOne, AreHanded, Keeps, IsReadyPath, IsHandedTable, IsMarkedAt, IsRefusedPath, PutsUnit}
+use Rattle.wesl_linker.specs.Handing.{Follows, StaysOne, HaveOne, AreHanded, Keeps, IsReadyPath, IsHandedTable, IsMarkedAt, IsRefusedPath, PutsUnit, KeepsUnit}
 use Rattle.wesl_linker.specs.declared.loaded.Held.{Held}
 use Rattle.wesl_linker.proofs.Carried.{related_in, option_of}
 use Rattle.wesl_linker.proofs.Marked.{marks_later}
@@ -112,6 +114,26 @@ keeps_on handed handed2 handed_there refused refused2 refused_there first a b un
   one_unit = subst (λ (us : List (PathId × Held)). HaveOne us) (sym e) k.one_unit;
   handed_out = subst (λ (us : List (PathId × Held)). AreHanded handed_there b us) (sym e) (handed_more handed_there a b units g k.handed_out);
 }
+
+-- a unit that was handed out is kept, unless there was no memory for it
+pub keeps_kept : (handed handed2 handed_there : Path → UnitOf Text → Type 0) (refused refused2 refused_there : Path → ResolveError → Type 0) (first a b : Numbering) (units more : List (PathId × Held)) (id : PathId) (unit : TranslationUnit) (q : Path)
+    → Keeps handed refused handed_there refused_there first a units → ((p : Path) (u : UnitOf Text) → handed2 p u ↔ handed p u) → ((p : Path) (e : ResolveError) → refused2 p e ↔ refused p e) → Grows a b → PathAt a id q
+    → handed q (spelled (unit_view unit)) → (r : Result (Table PathId NameId) (LoadError ResolveError)) → IfOk r (λ t. KeepsUnit b units id q unit t more) → OnErr r (more ≡ units) → Keeps handed2 refused2 handed_there refused_there first b more
+keeps_kept handed handed2 handed_there refused refused2 refused_there first a b units more id unit q k h r g at given (Ok t) kept same =
+    keeps_put handed handed2 handed_there refused refused2 refused_there first a b units more id (record { unit = unit; marks = kept.marks }) q k h r g at given kept.marked kept.puts
+keeps_kept handed handed2 handed_there refused refused2 refused_there first a b units more id unit q k h r g at given (Err e) kept same =
+    keeps_on handed handed2 handed_there refused refused2 refused_there first a b units more k h r g same
+
+-- what was kept is kept still
+pub kept_keeps : (b : Numbering) (units more : List (PathId × Held)) (id : PathId) (q : Path) (unit : TranslationUnit) → ((u : Held) → Contains units (id, u) → ⊥)
+    → (r : Result (Table PathId NameId) (LoadError ResolveError)) → IfOk r (λ t. KeepsUnit b units id q unit t more) → OnErr r (more ≡ units) → (p : PathId) (u : Held) → Contains units (p, u) → Contains more (p, u)
+kept_keeps b units more id q unit absent (Ok t) kept same p u held = put_keeps units more id (record { unit = unit; marks = kept.marks }) absent kept.puts p u held
+kept_keeps b units more id q unit absent (Err e) kept same p u held = subst (λ (us : List (PathId × Held)). Contains us (p, u)) (sym same) held
+
+-- the table of what is kept was handed out
+pub kept_handed : (hands : Path → UnitOf Text → Type 0) (b : Numbering) (units more : List (PathId × Held)) (id : PathId) (q : Path) (unit : TranslationUnit) (t : Table PathId NameId)
+    → PathAt b id q → hands q (spelled (unit_view unit)) → KeepsUnit b units id q unit t more → IsHandedTable hands b more id t
+kept_handed hands b units more id q unit t at given kept = (q, record { unit = unit; marks = kept.marks }, at, kept.puts.has, given, kept.numbered)
 
 -- nothing is loaded yet
 pub keeps_nothing : (handed handed_there : Path → UnitOf Text → Type 0) (refused refused_there : Path → ResolveError → Type 0) (first nb : Numbering) (units : List (PathId × Held)) → Follows handed refused handed_there refused_there

@@ -1,9 +1,11 @@
 -- The modules that a link has from a resolver, under the numbers of the link.
-use Rattle.std.specs.Prelude.{◌≡◌, ℕ, Option, List, Contains}
+use Rattle.std.specs.Prelude.{◌≡◌, ℕ, Option, List, Contains, Vec}
+use Rattle.std.specs.declared.alloc.Global.{Global}
 use Rattle.wesl_names.specs.Path.{Text, Path}
 use Rattle.wesl_names.specs.declared.errors.ResolveError.{ResolveError}
 use Rattle.wesl_syntax.specs.Unit.{UnitOf, spelled}
 use Rattle.wesl_tree.specs.Translation.{unit_view}
+use Rattle.wesl_tree.specs.declared.unit.TranslationUnit.{TranslationUnit}
 use Rattle.wesl_resolve.specs.Resolver.{MeansTheSame}
 use Rattle.wesl_symbols.specs.declared.ids.PathId.{PathId}
 use Rattle.wesl_symbols.specs.declared.ids.NameId.{NameId}
@@ -12,6 +14,7 @@ use Rattle.wesl_symbols.specs.Keyed.{Puts}
 use Rattle.wesl_table.specs.Marks.{AreMarked}
 use Rattle.wesl_table.specs.Tables.{table_at, uses}
 use Rattle.wesl_table.specs.Numbering.{Numbering, Grows, PathAt, IsNumbered}
+use Rattle.wesl_table.specs.declared.marks.Mark.{Mark}
 use Rattle.wesl_linker.specs.declared.loaded.Held.{Held}
 
 -- what is handed out and refused at least here, is so there
@@ -41,6 +44,14 @@ IsReadyPath numbering p = (q : Path) × PathAt numbering p q
 -- the marks that are kept with a unit are those of its identifiers, where it stands at the path
 abbrev pub IsMarkedAt : Numbering → Path → Held → Type 0
 IsMarkedAt numbering q u = AreMarked numbering u.marks.items (uses q (spelled (unit_view u.unit)))
+
+-- the unit is put at the path, with the marks of its identifiers, and the table is the unit's
+pub record KeepsUnit (numbering : Numbering) (old : List (PathId × Held)) (p : PathId) (q : Path) (unit : TranslationUnit) (t : Table PathId NameId) (new : List (PathId × Held)) : Type 0 where
+  pub marks : Vec (Vec Mark Global) Global
+  pub path : t.path ≡ p
+  pub numbered : IsNumbered numbering t (table_at q (spelled (unit_view unit)))
+  pub marked : IsMarkedAt numbering q (record { unit = unit; marks = marks })
+  pub puts : PutsUnit old p (record { unit = unit; marks = marks }) new
 
 -- each unit was handed out at the path that it is kept for, and has its marks
 abbrev pub AreHanded : (Path → UnitOf Text → Type 0) → Numbering → List (PathId × Held) → Type 0

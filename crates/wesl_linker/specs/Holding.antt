@@ -92,10 +92,9 @@ module _ (nb : Numbering) (k : Linking PathId NameId) (t : Table PathId NameId) 
   IsMeant (marks.Local b n) d = d ≡ local t.path b (name_text nb n)
   IsMeant (marks.Free n) d = d ≡ free_name (name_text nb n)
 
--- what an identifier with each of the marks stands for is added, in their order
-abbrev pub AddsMeanings : Link → Table PathId NameId → List Mark → List Denotation → List Denotation → Type 0
-AddsMeanings l t ms old new =
-    (ds : List Meaning) × (map denotation_view new ≡ map denotation_view old ++ ds) × AreRelated (IsMeant (numbering l.numbers) l.linked t) ms ds
+  -- what an identifier with each of the marks stands for is added, in their order
+  abbrev pub AddsMeanings : List Mark → List Denotation → List Denotation → Type 0
+  AddsMeanings ms old new = (ds : List Meaning) × (map denotation_view new ≡ map denotation_view old ++ ds) × AreRelated IsMeant ms ds
 
 -- what has numbers has texts
 abbrev pub IsNamed : Numbering → Meaning → Type 0

@@ -1,5 +1,5 @@
 -- A root whose kept names are numbers, and what a link of it finds.
-use Rattle.std.specs.Prelude.{◌≡◌, ℕ, List, Result, IfOk, IfErr}
+use Rattle.std.specs.Prelude.{◌≡◌, ℕ, List, Result, IfErr}
 use Rattle.wesl_names.specs.Path.{Text, Path}
 use Rattle.wesl_names.specs.declared.errors.Error as error
 use Rattle.wesl_names.specs.declared.errors.ResolveError.{ResolveError}
@@ -9,7 +9,9 @@ use Rattle.wesl_symbols.specs.declared.ids.NameId.{NameId}
 use Rattle.wesl_world.specs.Linking as links
 use Rattle.wesl_table.specs.Numbering.{Numbering, AreRelated, NameAt}
 use Rattle.wesl_table.specs.declared.numbers.Numbers.{Numbers}
-use Rattle.wesl_linker.specs.Keeping.{resolved}
+use Rattle.wesl_linker.specs.Resolved.{module_at}
+use Rattle.wesl_linker.specs.Worlds.{IsModuleOrder}
+use Rattle.wesl_linker.specs.Keeping.{IsSound, resolved, modules_of}
 use Rattle.wesl_linker.specs.Linking.{LinksRoot, TellsFault}
 use Rattle.wesl_linker.specs.declared.link.Link.{Link}
 use Rattle.wesl_linker.specs.declared.resolutions.Resolutions.{Resolutions}
@@ -19,15 +21,16 @@ use Rattle.wesl_linker.specs.declared.resolve.Root.{Root}
 abbrev pub AreKeptTexts : Numbering → Root → List Text → Type 0
 AreKeptTexts nb root keep = AreRelated (NameAt nb) root.kept.items keep
 
--- what is found keeps the names of these texts
-abbrev pub KeepsTexts : Numbering → Root → Result Resolutions error.Error → Type 0
-KeepsTexts nb root result = (keep : List Text) → AreKeptTexts nb root keep → IfOk result (λ r. (resolved r).kept ≡ keep)
-
 module _ (hands : Path → UnitOf Text → Type 0) (refuses : Path → ResolveError → Type 0) (nb : Numbering) (root : Root) (limit : ℕ) where
-  -- what is found is a link of the root, with the kept names of these texts
-  abbrev pub LinksNumbered : Result Resolutions error.Error → Type 0
-  LinksNumbered result =
-      (keep : List Text) → AreKeptTexts nb root keep → IfOk result (λ r. LinksRoot hands refuses root.path root.unit keep root.is_eager limit (resolved r))
+  -- What is found is a link of the root, with the kept names of any such texts, the root first and the others in path
+  -- order, each symbol under its own name.
+  pub record IsReached (found : Resolutions) : Type 0 where
+    pub linked : (keep : List Text) → AreKeptTexts nb root keep → LinksRoot hands refuses root.path root.unit keep root.is_eager limit (resolved found)
+    pub order : IsModuleOrder (module_at root.path root.unit) (modules_of found)
+    pub kept : (keep : List Text) → AreKeptTexts nb root keep → (resolved found).kept ≡ keep
+    pub eager : (resolved found).is_eager ≡ root.is_eager
+    pub sound : IsSound found
+    pub names : (p : Path) (n : Text) → (resolved found).names p n ≡ n
 
   -- an error tells a fault that stands in a world of the root, or want of memory
   abbrev pub RefusesNumbered : Result Resolutions error.Error → Type 0

@@ -1,5 +1,5 @@
 //! The linked unit: of each module, the directives and the declarations that are held.
-ghost use Rattle.std.specs.Prelude.{◌≡◌, ◌↔◌, [], List, Contains, IsTrue, IfOk, IfErr, OnOk, map, false};
+ghost use Rattle.std.specs.Prelude.{◌≡◌, ◌↔◌, [], List, Contains, IsTrue, IfOk, IfErr, map, false};
 ghost use Rattle.wesl_names.specs.declared.errors.Error as error;
 ghost use Rattle.wesl_syntax.specs.Tree.{before, end};
 ghost use Rattle.wesl_syntax.specs.View.{global_view};
@@ -33,6 +33,7 @@ use wesl_syntax::{GlobalDeclaration, GlobalDeclarationNode};
 use wesl_table::marks::Mark;
 use wesl_table::numbers::Numbers;
 use wesl_tree::TranslationUnit;
+use wesl_world::link::Linked;
 
 /// The declarations that are held, and what the identifiers of directives and of these stand for, in document order.
 #[derive(Drop)]
@@ -70,52 +71,66 @@ fn text_of(numbers: &Numbers, name: NameId) -> &str
 }
 
 /// The symbol that a held declaration of a module refers to.
-fn symbol_asked(link: &Link, table: &Table, asked: Symbol<PathId, NameId>) -> Symbol<PathId, NameId>
-    requires loaded { Contains link.now.linked.tables table.now }
-    requires held { StandsHeld link.now.linked table.now (reference_to asked) }
-    ensures { LeadsTo link.now.linked.tables (holding.look_up table.now asked) result }
+fn symbol_asked(
+    linked: &Linked,
+    table: &Table,
+    asked: Symbol<PathId, NameId>,
+) -> Symbol<PathId, NameId>
+    requires loaded { Contains linked.now.tables table.now }
+    requires held { StandsHeld linked.now table.now (reference_to asked) }
+    ensures { LeadsTo linked.now.tables (holding.look_up table.now asked) result }
 {
     let reference = Reference {
         path: Some(asked.path),
         name: asked.name,
     };
-    let Some(symbol) = link.linked.denotes(table, &reference) else {
+    let Some(symbol) = linked.denotes(table, &reference) else {
         unreachable!()
     };
     symbol
 }
 
 /// What an identifier of a held declaration stands for, by its mark.
-fn denotation<'a>(link: &'a Link, table: &Table, mark: Mark) -> Denotation<'a>
-    requires loaded { Contains link.now.linked.tables table.now }
-    requires held { holding.IsAskable link.now.linked table.now mark }
-    ensures { holding.IsMeant (numbering link.now.numbers) link.now.linked table.now mark (denotation_view result) }
+fn denotation<'a>(
+    numbers: &'a Numbers,
+    linked: &Linked,
+    table: &Table,
+    mark: Mark,
+) -> Denotation<'a>
+    requires loaded { Contains linked.now.tables table.now }
+    requires held { holding.IsAskable linked.now table.now mark }
+    ensures { holding.IsMeant (numbering numbers.now) linked.now table.now mark (denotation_view result) }
 {
     let path = table.path();
     match mark {
         Mark::Declares(name) => Denotation::Symbol(Symbol { path, name }),
-        Mark::Asks(asked) => Denotation::Symbol(symbol_asked(link, table, asked)),
-        Mark::Local(block, name) => Denotation::Local(path, block, text_of(&link.numbers, name)),
-        Mark::Free(name) => Denotation::Free(text_of(&link.numbers, name)),
+        Mark::Asks(asked) => Denotation::Symbol(symbol_asked(linked, table, asked)),
+        Mark::Local(block, name) => Denotation::Local(path, block, text_of(numbers, name)),
+        Mark::Free(name) => Denotation::Free(text_of(numbers, name)),
     }
 }
 
-/// What the identifiers of a held declaration stand for, after those before them.
+/// What the identifiers of a held declaration stand for, after those before them: whether there was memory for it.
 fn add_denotations<'a>(
-    link: &'a Link,
+    numbers: &'a Numbers,
+    linked: &Linked,
     table: &Table,
     marks: &[Mark],
     denotations: &mut Vec<Denotation<'a>>,
-) -> Result<(), Error>
-    requires loaded { Contains link.now.linked.tables table.now }
-    requires held { (m : marked.Mark) → Contains marks.now m → holding.IsAskable link.now.linked table.now m }
-    ensures added { OnOk result (holding.AddsMeanings link.now table.now marks.now denotations.old.items denotations.new.items) }
-    ensures refused { IfErr result (λ e. e ≡ error.Memory) }
+) -> bool
+    requires loaded { Contains linked.now.tables table.now }
+    requires held { (m : marked.Mark) → Contains marks.now m → holding.IsAskable linked.now table.now m }
+    ensures { IsTrue result → holding.AddsMeanings (numbering numbers.now) linked.now table.now marks.now denotations.old.items denotations.new.items }
 {
     for mark in marks {
-        denotations.push(denotation(link, table, *mark))?;
+        if denotations
+            .push(denotation(numbers, linked, table, *mark))
+            .is_err()
+        {
+            return false;
+        }
     }
-    Ok(())
+    true
 }
 
 /// Whether a declaration is a const_assert.
@@ -129,16 +144,22 @@ fn is_assert(declaration: &GlobalDeclaration) -> bool
 }
 
 /// Whether a declaration of a module is held: what it binds is a symbol that is reached, or it is a const_assert.
-fn is_held(link: &Link, table: &Table, row: &Declaration, declaration: &GlobalDeclaration) -> bool
-    ensures { IsTrue result ↔ holding.IsHeldHere link.now.linked table.now.path declaration.now row.now.name }
+fn is_held(
+    linked: &Linked,
+    table: &Table,
+    row: &Declaration,
+    declaration: &GlobalDeclaration,
+) -> bool
+    ensures { IsTrue result ↔ holding.IsHeldHere linked.now table.now.path declaration.now row.now.name }
 {
     match row.name() {
-        Some(name) => link.linked.holds(table.path(), name),
+        Some(name) => linked.holds(table.path(), name),
         None => is_assert(declaration),
     }
 }
 
-/// A declaration of a module is added, where it is held: its row in the module's table, and its marks.
+/// A declaration of a module is added, where it is held: its row in the module's table, and its marks. Answers whether
+/// there was memory for it.
 fn add_declaration<'a>(
     link: &'a Link,
     table: &Table,
@@ -146,31 +167,25 @@ fn add_declaration<'a>(
     marks: &[Mark],
     declaration: &'a GlobalDeclarationNode,
     parts: &mut Parts<'a>,
-) -> Result<(), Error>
+) -> bool
     requires loaded { Contains link.now.linked.tables table.now }
     requires inside { Contains table.now.declarations row.now }
     requires refers { holding.RefersToAll row.now marks.now }
-    ensures added { OnOk result (holding.AddsOne (numbering link.now.numbers) link.now.linked table.now declaration.entry row.now.name marks.now parts.old parts.new) }
-    ensures refused { IfErr result (λ e. e ≡ error.Memory) }
+    ensures { IsTrue result → holding.AddsOne (numbering link.now.numbers) link.now.linked table.now declaration.entry row.now.name marks.now parts.old parts.new }
 {
-    if !is_held(link, table, row, &declaration.node) {
-        return Ok(());
+    if !is_held(&link.linked, table, row, &declaration.node) {
+        return true;
     }
-    add_denotations(link, table, marks, &mut parts.denotations)?;
-    parts.declarations.push(declaration)?;
-    Ok(())
+    let denotations = &mut parts.denotations;
+    add_denotations(&link.numbers, &link.linked, table, marks, denotations)
+        && parts.declarations.push(declaration).is_ok()
 }
 
-/// The held declarations of a module.
-fn add_module<'a>(
-    link: &'a Link,
-    module: &'a LoadedModule,
-    parts: &mut Parts<'a>,
-) -> Result<(), Error>
+/// The held declarations of a module: whether there was memory for them.
+fn add_module<'a>(link: &'a Link, module: &'a LoadedModule, parts: &mut Parts<'a>) -> bool
     requires sound { IsLinkOf (task_in link.now) link.now }
     requires inside { Contains (all_loaded link.now) module.now }
-    ensures added { OnOk result (holding.AddsModule link.now module.now parts.old parts.new) }
-    ensures refused { IfErr result (λ e. e ≡ error.Memory) }
+    ensures { IsTrue result → holding.AddsModule link.now module.now parts.old parts.new }
 {
     let table = module_table(link, module);
     let rows = table.declarations();
@@ -178,9 +193,11 @@ fn add_module<'a>(
     for (index, declaration) in nodes.iter().enumerate() {
         let row = &rows[index];
         let marks = &module.marks[index];
-        add_declaration(link, table, row, marks, declaration, parts)?;
+        if !add_declaration(link, table, row, marks, declaration, parts) {
+            return false;
+        }
     }
-    Ok(())
+    true
 }
 
 /// The units of a link's modules, in their order.
@@ -189,24 +206,31 @@ fn units(alloc: Global, link: &Link) -> Result<Vec<&TranslationUnit>, Error>
     ensures refused { IfErr result (λ e. e ≡ error.Memory) }
 {
     let mut units = Vec::new(alloc);
-    units.push(&link.root.unit)?;
+    if units.push(&link.root.unit).is_err() {
+        return Err(Error::Memory);
+    }
     for module in &link.others {
-        units.push(&module.unit)?;
+        if units.push(&module.unit).is_err() {
+            return Err(Error::Memory);
+        }
     }
     Ok(units)
 }
 
-/// The held declarations of all modules.
-fn add_modules<'a>(link: &'a Link, parts: &mut Parts<'a>) -> Result<(), Error>
+/// The held declarations of all modules: whether there was memory for them.
+fn add_modules<'a>(link: &'a Link, parts: &mut Parts<'a>) -> bool
     requires sound { IsLinkOf (task_in link.now) link.now }
-    ensures added { OnOk result ((words : List Meaning) → holding.AreParts link.now [] words parts.old → holding.AreParts link.now (all_loaded link.now) words parts.new) }
-    ensures refused { IfErr result (λ e. e ≡ error.Memory) }
+    ensures { IsTrue result → (words : List Meaning) → holding.AreParts link.now [] words parts.old → holding.AreParts link.now (all_loaded link.now) words parts.new }
 {
-    add_module(link, &link.root, parts)?;
-    for module in &link.others {
-        add_module(link, module, parts)?;
+    if !add_module(link, &link.root, parts) {
+        return false;
     }
-    Ok(())
+    for module in &link.others {
+        if !add_module(link, module, parts) {
+            return false;
+        }
+    }
+    true
 }
 
 /// The linked unit of what a link found, under the names that a mangler gave.
@@ -222,7 +246,9 @@ pub fn assembled(alloc: Global, link: &Link, given: &GivenNames) -> Result<Trans
         declarations: Vec::new(alloc),
         denotations: words,
     };
-    add_modules(link, &mut parts)?;
+    if !add_modules(link, &mut parts) {
+        return Err(Error::Memory);
+    }
     let printing = SymbolNames {
         numbers: &link.numbers,
         given,

@@ -1,6 +1,7 @@
 //! The modules that a link loaded, each with its unit.
 ghost use Rattle.std.specs.Prelude.{◌≡◌, Some, Option, Contains, IfOk, IfErr};
 ghost use Rattle.std.specs.List.Sorted.{IsPermutation};
+ghost use Rattle.std.specs.Map.{lookup};
 ghost use Rattle.wesl_names.specs.Path.{Path, path_view};
 ghost use Rattle.wesl_names.specs.declared.errors.Error as error;
 ghost use Rattle.wesl_world.specs.Faults.{AreDistinct};
@@ -8,8 +9,7 @@ ghost use Rattle.wesl_world.specs.Linking.{paths};
 ghost use Rattle.wesl_symbols.specs.declared.ids.PathId as path_id;
 ghost use Rattle.wesl_table.specs.Numbering.{AreRelated};
 ghost use Rattle.wesl_table.specs.NumbersView.{numbering};
-ghost use Rattle.wesl_linker.specs.Taking.{AreKept, AreInOrder, IsTaken, unit_at};
-ghost use Rattle.wesl_linker.specs.declared.loaded.Held as held;
+ghost use Rattle.wesl_linker.specs.Taking.{AreKept, AreInOrder, IsTaken, path_eq};
 
 use crate::refusals::path_of;
 use indexmap::IndexMap;
@@ -39,10 +39,10 @@ pub struct LoadedModule {
 }
 
 /// Takes the unit that is kept for a path.
-fn take_unit(units: &mut IndexMap<PathId, Held>, id: PathId) -> Held
-    requires { (h : held.Held) × (unit_at units.old.entries id ≡ Some h) }
-    ensures taken { unit_at units.old.entries id ≡ Some result }
-    ensures others { (p : path_id.PathId) → (p ≡ id → ⊥) → unit_at units.new.entries p ≡ unit_at units.old.entries p }
+fn take_unit<T>(units: &mut IndexMap<PathId, T>, id: PathId) -> T
+    requires { (u : T) × (lookup (path_eq id) units.old.entries ≡ Some u) }
+    ensures taken { lookup (path_eq id) units.old.entries ≡ Some result }
+    ensures others { (p : path_id.PathId) → (p ≡ id → ⊥) → lookup (path_eq p) units.new.entries ≡ lookup (path_eq p) units.old.entries }
 {
     let Some(unit) = units.swap_remove(&id) else {
         unreachable!()

@@ -1,5 +1,5 @@
 //! The modules of a link, as a resolver hands them out.
-ghost use Rattle.std.specs.Prelude.{◌≡◌, ℕ, false, [], IfOk, IfErr, IfSome, IfNone, OnOk, OnErr, Contains};
+ghost use Rattle.std.specs.Prelude.{◌≡◌, ℕ, false, [], IfOk, IfErr, IfSome, IfNone, OnErr, Contains};
 ghost use Rattle.wesl_names.specs.Path.{Text, Path, path_view, is_relative};
 ghost use Rattle.wesl_names.specs.declared.errors.ResolveError.{ResolveError};
 ghost use Rattle.wesl_syntax.specs.Unit.{UnitOf, spelled};
@@ -9,11 +9,10 @@ ghost use Rattle.wesl_symbols.specs.declared.ids.PathId as path_id;
 ghost use Rattle.wesl_world.specs.Loader.{Explains};
 ghost use Rattle.wesl_symbols.specs.Tables as tables;
 ghost use Rattle.wesl_world.specs.declared.loader.LoadError.TheVariants as load_error;
-ghost use Rattle.wesl_table.specs.Marks.{AreMarked};
-ghost use Rattle.wesl_table.specs.Tables.{table_at, uses};
+ghost use Rattle.wesl_table.specs.Tables.{table_at};
 ghost use Rattle.wesl_table.specs.Numbering.{Numbering, Grows, IsNumbered, PathAt};
 ghost use Rattle.wesl_table.specs.NumbersView.{numbering};
-ghost use Rattle.wesl_linker.specs.Handing.{Keeps, StaysOne, IsReadyPath, IsHandedTable, IsRefusedPath, PutsUnit};
+ghost use Rattle.wesl_linker.specs.Handing.{Keeps, StaysOne, IsReadyPath, IsHandedTable, IsRefusedPath, KeepsUnit};
 ghost use Rattle.wesl_linker.specs.declared.loaded.Held as held;
 
 use crate::loaded::Held;
@@ -69,29 +68,7 @@ pub struct ModuleLoader<'r, 'n, R: Resolver, S: Source<R>> {
     pub source: PhantomData<S>,
 }
 
-/// The table of a unit that stands at a path, whose number is `id`, and what the identifiers of the unit are.
-fn read(
-    alloc: Global,
-    numbers: &mut Numbers,
-    id: PathId,
-    path: &ModulePath,
-    unit: &TranslationUnit,
-) -> Result<Tabled, LoadError<ResolveError>>
-    requires asked { is_relative (path_view path.now) ≡ false }
-    requires held { PathAt (numbering numbers.old) id (path_view path.now) }
-    ensures numbered { IfOk result (λ t. IsNumbered (numbering numbers.new) t.table (table_at (path_view path.now) (spelled (unit_view unit.now)))) }
-    ensures marked { IfOk result (λ t. AreMarked (numbering numbers.new) t.marks.items (uses (path_view path.now) (spelled (unit_view unit.now)))) }
-    ensures path { IfOk result (λ t. t.table.path ≡ id) }
-    ensures refused { IfErr result (λ e. e ≡ load_error.Memory) }
-    ensures grows { Grows (numbering numbers.old) (numbering numbers.new) }
-{
-    match table_of(alloc, numbers, id, path, unit) {
-        Ok(tabled) => Ok(tabled),
-        Err(_) => Err(LoadError::Memory),
-    }
-}
-
-/// The table alone, of a unit that is kept.
+/// The table alone, of a unit that is kept for a path, whose number is `id`.
 fn read_again(
     alloc: Global,
     numbers: &mut Numbers,
@@ -106,30 +83,41 @@ fn read_again(
     ensures refused { IfErr result (λ e. e ≡ load_error.Memory) }
     ensures grows { Grows (numbering numbers.old) (numbering numbers.new) }
 {
-    let Tabled { table, marks: _ } = read(alloc, numbers, id, path, unit)?;
-    Ok(table)
+    match table_of(alloc, numbers, id, path, unit).ok() {
+        Some(Tabled { table, marks: _ }) => Ok(table),
+        None => Err(LoadError::Memory),
+    }
 }
 
-/// Keeps the unit of a path that has none.
-fn put(
+/// The table of a unit that is handed out at a path, whose number is `id` and which has no unit: it is kept there.
+fn keep(
+    alloc: Global,
+    numbers: &mut Numbers,
     units: &mut IndexMap<PathId, Held>,
     id: PathId,
-    unit: Held,
-) -> Result<(), LoadError<ResolveError>>
-    ensures put { OnOk result (PutsUnit units.old.entries id unit units.new.entries) }
+    path: &ModulePath,
+    unit: TranslationUnit,
+) -> Result<Table, LoadError<ResolveError>>
+    requires asked { is_relative (path_view path.now) ≡ false }
+    requires held { PathAt (numbering numbers.old) id (path_view path.now) }
+    ensures kept { IfOk result (λ t. KeepsUnit (numbering numbers.new) units.old.entries id (path_view path.now) unit t units.new.entries) }
     ensures unchanged { OnErr result (units.new.entries ≡ units.old.entries) }
     ensures refused { IfErr result (λ e. e ≡ load_error.Memory) }
+    ensures grows { Grows (numbering numbers.old) (numbering numbers.new) }
 {
-    match units.insert(id, unit) {
-        Ok(_) => Ok(()),
-        Err(_) => Err(LoadError::Memory),
+    let Some(Tabled { table, marks }) = table_of(alloc, numbers, id, path, &unit).ok() else {
+        return Err(LoadError::Memory);
+    };
+    match units.insert(id, Held { unit, marks }).ok() {
+        Some(_) => Ok(table),
+        None => Err(LoadError::Memory),
     }
 }
 
 /// The unit that is kept for a path.
-fn unit_of(units: &IndexMap<PathId, Held>, id: PathId) -> Option<&Held>
+fn unit_of<T>(units: &IndexMap<PathId, T>, id: PathId) -> Option<&T>
     ensures found { IfSome result (λ u. Contains units.now.entries (id, u.now)) }
-    ensures none { IfNone result ((u : held.Held) → Contains units.now.entries (id, u) → ⊥) }
+    ensures none { IfNone result ((u : T) → Contains units.now.entries (id, u) → ⊥) }
 {
     match units.get(&id) {
         Some(unit) => Some(unit),
@@ -161,14 +149,11 @@ impl<R: Resolver, S: Source<R>> ModuleLoader<'_, '_, R, S> {
         ensures same { MeansTheSame R.hands R.refuses R.source R.lacks R.shown self.old.resolver.now self.new.resolver.now }
         ensures loan { self.new.resolver.ghost_name ≡ self.old.resolver.ghost_name }
     {
-        let unit = match self.resolver.resolve_module(alloc, path) {
-            Ok(unit) => unit,
-            Err(ResolveError::Memory) => return Err(LoadError::Memory),
-            Err(error) => return Err(LoadError::Refused(error)),
-        };
-        let Tabled { table, marks } = read(alloc, self.numbers, id, path, &unit)?;
-        put(self.units, id, Held { unit, marks })?;
-        Ok(table)
+        match self.resolver.resolve_module(alloc, path) {
+            Ok(unit) => keep(alloc, self.numbers, self.units, id, path, unit),
+            Err(ResolveError::Memory) => Err(LoadError::Memory),
+            Err(error) => Err(LoadError::Refused(error)),
+        }
     }
 }
 
@@ -180,7 +165,7 @@ impl<R: Resolver, S: Source<R>> Loader<ResolveError> for ModuleLoader<'_, '_, R,
     ghost ready = { λ s p. IsReadyPath (numbering s.numbers.now) p × ((R.ready s.resolver.now × StaysOne R.hands R.refuses R.source R.lacks R.shown S.these S.loan s.resolver.now s.resolver.ghost_name) × Keeps (R.hands s.resolver.now) (R.refuses s.resolver.now) S.hands S.refuses S.first (numbering s.numbers.now) s.units.now.entries) };
 
     fn load(&mut self, alloc: Global, path: PathId) -> Result<Table, LoadError<ResolveError>> {
-        let Ok(module) = path_of(alloc, self.numbers, path) else {
+        let Some(module) = path_of(alloc, self.numbers, path).ok() else {
             return Err(LoadError::Memory);
         };
         match unit_of(self.units, path) {

@@ -42,49 +42,58 @@ fn paths<'a>(
     ensures refused { IfErr result (λ e. e ≡ error.Memory) }
 {
     let mut paths = Vec::new(alloc);
-    paths.push(&root.path)?;
+    if paths.push(&root.path).is_err() {
+        return Err(Error::Memory);
+    }
     for module in others {
-        paths.push(&module.path)?;
+        if paths.push(&module.path).is_err() {
+            return Err(Error::Memory);
+        }
     }
     Ok(paths)
 }
 
-/// The names that a mangler has for what a module of a link declares, after those before them.
+/// The names that a mangler has for what a module of a link declares, after those before them: whether there was memory
+/// for them.
 fn add_names<M: Mangler>(
     alloc: Global,
     link: &Link,
     mangler: &mut M,
     module: &LoadedModule,
     given: &mut GivenNames,
-) -> Result<(), Error>
+) -> bool
     requires sound { IsLinkOf (task_in link.now) link.now }
     requires inside { Contains (all_loaded link.now) module.now }
-    ensures given { OnOk result (GivesNext link.now (M.name_of mangler.old) module.now given.old given.new) }
-    ensures recorded { OnOk result (RecordsNext link.now (M.name_of mangler.old) module.now given.old M.writes (M.recorded mangler.old) (M.recorded mangler.new)) }
+    ensures given { IsTrue result → GivesNext link.now (M.name_of mangler.old) module.now given.old given.new }
+    ensures recorded { IsTrue result → RecordsNext link.now (M.name_of mangler.old) module.now given.old M.writes (M.recorded mangler.old) (M.recorded mangler.new) }
     ensures same { (p : Path) (x : Text) → M.name_of mangler.new p x ≡ M.name_of mangler.old p x }
-    ensures refused { IfErr result (λ e. e ≡ error.Memory) }
 {
     let table = module_table(link, module);
-    given.add_table(alloc, mangler, &link.numbers, &module.path, table)
+    given
+        .add_table(alloc, mangler, &link.numbers, &module.path, table)
+        .ok()
+        .is_some()
 }
 
-/// The names that a mangler has for what the modules but the root declare, after those before them.
+/// The names that a mangler has for what the modules but the root declare, after those before them: whether there was
+/// memory for them.
 fn add_others<M: Mangler>(
     alloc: Global,
     link: &Link,
     mangler: &mut M,
     given: &mut GivenNames,
-) -> Result<(), Error>
+) -> bool
     requires sound { IsLinkOf (task_in link.now) link.now }
-    ensures given { OnOk result (GivesOthers link.now (M.name_of mangler.old) given.old given.new) }
-    ensures recorded { OnOk result (RecordsOthers link.now (M.name_of mangler.old) given.old M.writes (M.recorded mangler.old) (M.recorded mangler.new)) }
+    ensures given { IsTrue result → GivesOthers link.now (M.name_of mangler.old) given.old given.new }
+    ensures recorded { IsTrue result → RecordsOthers link.now (M.name_of mangler.old) given.old M.writes (M.recorded mangler.old) (M.recorded mangler.new) }
     ensures same { (p : Path) (x : Text) → M.name_of mangler.new p x ≡ M.name_of mangler.old p x }
-    ensures refused { IfErr result (λ e. e ≡ error.Memory) }
 {
     for module in &link.others {
-        add_names(alloc, link, mangler, module, given)?;
+        if !add_names(alloc, link, mangler, module, given) {
+            return false;
+        }
     }
-    Ok(())
+    true
 }
 
 /// The names that a mangler has for what the modules of a link declare, the root's only with `mangle_root`.
@@ -102,11 +111,17 @@ fn names_of<M: Mangler>(
 {
     let mut given = GivenNames::new(alloc);
     if !mangle_root {
-        add_others(alloc, link, mangler, &mut given)?;
+        if !add_others(alloc, link, mangler, &mut given) {
+            return Err(Error::Memory);
+        }
         return Ok(given);
     }
-    add_names(alloc, link, mangler, &link.root, &mut given)?;
-    add_others(alloc, link, mangler, &mut given)?;
+    if !add_names(alloc, link, mangler, &link.root, &mut given) {
+        return Err(Error::Memory);
+    }
+    if !add_others(alloc, link, mangler, &mut given) {
+        return Err(Error::Memory);
+    }
     Ok(given)
 }
 

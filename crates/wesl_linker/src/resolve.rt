@@ -1,5 +1,5 @@
 //! Linking a root with the modules that it reaches.
-ghost use Rattle.std.specs.Prelude.{◌≡◌, ◌∷◌, [], true, false, List, IfOk, IfErr, drop, length, ◌<◌};
+ghost use Rattle.std.specs.Prelude.{◌≡◌, ◌∷◌, [], true, false, List, IfOk, IfErr, IfSome, drop, length, ◌<◌};
 ghost use Rattle.wesl_names.specs.declared.errors.Error as error;
 ghost use Rattle.wesl_names.specs.Borrowed.{texts};
 ghost use Rattle.wesl_names.specs.Path.{Text, Path, path_view, is_relative};
@@ -19,7 +19,7 @@ ghost use Rattle.wesl_linker.specs.Handing.{Follows, StaysOne};
 ghost use Rattle.wesl_linker.specs.Resolved.{module_at};
 ghost use Rattle.wesl_linker.specs.Keeping.{IsSound, resolved, modules_of};
 ghost use Rattle.wesl_linker.specs.Linking.{LinksRoot, RefusesRoot, IsFaultlessRoot, TellsMemory};
-ghost use Rattle.wesl_linker.specs.Rooted.{AreKeptTexts, KeepsTexts, LinksNumbered, RefusesNumbered, IsLinkFrom};
+ghost use Rattle.wesl_linker.specs.Rooted.{AreKeptTexts, IsReached, RefusesNumbered, IsLinkFrom};
 ghost use Rattle.wesl_linker.specs.Taking.{AreKept, AreTaken};
 ghost use Rattle.wesl_linker.specs.Worlds as worlds;
 
@@ -90,7 +90,7 @@ fn root_table(
     table_of(alloc, numbers, id, path, unit)
 }
 
-/// The root that stands at a path, and its symbol table.
+/// The root that stands at a path, and its symbol table; none where memory was wanting.
 fn root_of(
     alloc: Global,
     numbers: &mut Numbers,
@@ -98,18 +98,24 @@ fn root_of(
     is_eager: bool,
     unit: TranslationUnit,
     path: &ModulePath,
-) -> Result<TabledRoot, Error>
+) -> Option<TabledRoot>
     requires { is_relative (path_view path.now) ≡ false }
-    ensures root { IfOk result (λ t. IsNumbered (numbering numbers.new) t.table (table_at (path_view t.root.path) (spelled (unit_view t.root.unit)))) }
-    ensures marked { IfOk result (λ t. AreMarked (numbering numbers.new) t.root.marks.items (uses (path_view t.root.path) (spelled (unit_view t.root.unit)))) }
-    ensures kept { IfOk result (λ t. AreKeptTexts (numbering numbers.new) t.root (texts keep.now)) }
-    ensures module { IfOk result (λ t. module_at t.root.path t.root.unit ≡ module_at path.now unit) }
-    ensures eager { IfOk result (λ t. t.root.is_eager ≡ is_eager) }
+    ensures root { IfSome result (λ t. IsNumbered (numbering numbers.new) t.table (table_at (path_view t.root.path) (spelled (unit_view t.root.unit)))) }
+    ensures marked { IfSome result (λ t. AreMarked (numbering numbers.new) t.root.marks.items (uses (path_view t.root.path) (spelled (unit_view t.root.unit)))) }
+    ensures kept { IfSome result (λ t. AreKeptTexts (numbering numbers.new) t.root (texts keep.now)) }
+    ensures module { IfSome result (λ t. module_at t.root.path t.root.unit ≡ module_at path.now unit) }
+    ensures eager { IfSome result (λ t. t.root.is_eager ≡ is_eager) }
 {
-    let own = path.try_clone(alloc)?;
-    let kept = numbers_of(alloc, numbers, keep)?;
-    let tabled = root_table(alloc, numbers, path, &unit)?;
-    Ok(TabledRoot {
+    let Some(own) = path.try_clone(alloc).ok() else {
+        return None;
+    };
+    let Some(kept) = numbers_of(alloc, numbers, keep).ok() else {
+        return None;
+    };
+    let Some(tabled) = root_table(alloc, numbers, path, &unit).ok() else {
+        return None;
+    };
+    Some(TabledRoot {
         root: Root {
             path: own,
             unit,
@@ -119,18 +125,6 @@ fn root_of(
         },
         table: tabled.table,
     })
-}
-
-/// The same numbers once more.
-fn copied(alloc: Global, ids: &Vec<NameId>) -> Result<Vec<NameId>, Error>
-    ensures same { IfOk result (λ v. v.items ≡ ids.now.items) }
-    ensures refused { IfErr result (λ e. e ≡ error.Memory) }
-{
-    let mut copies = Vec::with_capacity(alloc, ids.len())?;
-    for id in ids {
-        copies.push(*id)?;
-    }
-    Ok(copies)
 }
 
 /// What a link found: the root, and the modules of its other tables.
@@ -183,7 +177,7 @@ fn linked_by<E, L: Loader<E>>(
     if is_eager {
         return wesl_world::link::link_eagerly(alloc, root, loader, max_modules);
     }
-    match copied(alloc, kept) {
+    match Vec::from_slice(alloc, kept) {
         Ok(names) => wesl_world::link::link_lazily(alloc, root, names, loader, max_modules),
         Err(_) => Err(LinkError::Memory),
     }
@@ -207,12 +201,7 @@ fn reach_modules<R: Resolver, S: Source<R>>(
     requires asked { is_relative (path_view root.path) ≡ false }
     requires kept { (keep : List Text) × AreKeptTexts (numbering modules.old.numbers.now) root keep }
     requires none_kept { root.is_eager ≡ true → root.kept.items ≡ [] }
-    ensures linked { LinksNumbered S.hands S.refuses (numbering modules.old.numbers.now) root max_modules result }
-    ensures order { IfOk result (λ r. worlds.IsModuleOrder (module_at root.path root.unit) (modules_of r)) }
-    ensures kept { KeepsTexts (numbering modules.old.numbers.now) root result }
-    ensures eager { IfOk result (λ r. (resolved r).is_eager ≡ root.is_eager) }
-    ensures sound { IfOk result IsSound }
-    ensures names { IfOk result (λ r. (p : Path) (n : Text) → (resolved r).names p n ≡ n) }
+    ensures reached { IfOk result (IsReached S.hands S.refuses (numbering modules.old.numbers.now) root max_modules) }
     ensures refused { RefusesNumbered S.hands S.refuses (numbering modules.old.numbers.now) root max_modules result }
     ensures these { S.these modules.new.resolver.now }
     ensures stays_ready { R.ready modules.new.resolver.now }
@@ -249,12 +238,7 @@ fn reach<R: Resolver>(
     requires asked { is_relative (path_view tabled.root.path) ≡ false }
     requires kept { (keep : List Text) × AreKeptTexts (numbering numbers) tabled.root keep }
     requires none_kept { tabled.root.is_eager ≡ true → tabled.root.kept.items ≡ [] }
-    ensures linked { LinksNumbered (R.hands resolver.old) (R.refuses resolver.old) (numbering numbers) tabled.root max_modules result }
-    ensures order { IfOk result (λ r. worlds.IsModuleOrder (module_at tabled.root.path tabled.root.unit) (modules_of r)) }
-    ensures kept { KeepsTexts (numbering numbers) tabled.root result }
-    ensures eager { IfOk result (λ r. (resolved r).is_eager ≡ tabled.root.is_eager) }
-    ensures sound { IfOk result IsSound }
-    ensures names { IfOk result (λ r. (p : Path) (n : Text) → (resolved r).names p n ≡ n) }
+    ensures reached { IfOk result (IsReached (R.hands resolver.old) (R.refuses resolver.old) (numbering numbers) tabled.root max_modules) }
     ensures refused { RefusesNumbered (R.hands resolver.old) (R.refuses resolver.old) (numbering numbers) tabled.root max_modules result }
     ensures same { MeansTheSame R.hands R.refuses R.source R.lacks R.shown resolver.old resolver.new }
     ensures stays_ready { R.ready resolver.new }
@@ -295,7 +279,7 @@ fn resolutions_of<R: Resolver>(
     ensures stays_ready { R.ready resolver.new }
 {
     let mut numbers = Numbers::new(alloc);
-    let Ok(tabled) = root_of(alloc, &mut numbers, keep, is_eager, unit, path) else {
+    let Some(tabled) = root_of(alloc, &mut numbers, keep, is_eager, unit, path) else {
         return Err(Diagnostic::of(Error::Memory));
     };
     match reach(alloc, numbers, tabled, resolver, max_modules) {

@@ -5,11 +5,11 @@ use crate::keyed::Identity;
 use crate::symbols::{LookUp, Symbol};
 
 /// The number of a module path.
-#[derive(Clone, Copy, Debug, PartialEq, Eq, Hash, Drop)]
+#[derive(Clone, Copy, PartialEq, Eq, Hash, Drop)]
 pub struct PathId(pub usize);
 
 /// The number of a name.
-#[derive(Clone, Copy, Debug, PartialEq, Eq, Hash, Drop)]
+#[derive(Clone, Copy, PartialEq, Eq, Hash, Drop)]
 pub struct NameId(pub usize);
 
 impl Identity for PathId {

@@ -30,16 +30,20 @@ pub fn put<K: Identity, V: Drop>(
 ) -> Result<(), AllocError>
     ensures { OnOk result (Puts map.old.entries key value map.new.entries) }
 {
-    map.insert(key, value)?;
-    Ok(())
+    match map.insert(key, value) {
+        Ok(_) => Ok(()),
+        Err(_) => Err(AllocError),
+    }
 }
 
 /// Puts a key at the end of a set, unless it is there.
 pub fn put_key<K: Identity>(set: &mut IndexSet<K>, key: K) -> Result<(), AllocError>
     ensures { OnOk result (PutsKey set.old.keys key set.new.keys) }
 {
-    set.insert(key)?;
-    Ok(())
+    match set.insert(key) {
+        Ok(_) => Ok(()),
+        Err(_) => Err(AllocError),
+    }
 }
 
 /// Whether a set has a key.

@@ -1,8 +1,9 @@
 //! The symbol table of a module: its imports, its declarations, and indexes of both by name.
-ghost use Rattle.std.specs.Prelude.{◌≡◌, ◌↔◌, ◌<◌, length, IsTrue, IfSome, IfNone, IfOk, Contains};
+ghost use Rattle.std.specs.Prelude.{◌≡◌, ◌↔◌, ◌<◌, [], length, IsTrue, IfSome, IfNone, IfOk, OnOk, Contains};
 ghost use Rattle.wesl_symbols.specs.declared.ids.PathId.{PathId};
 ghost use Rattle.wesl_symbols.specs.declared.ids.NameId.{NameId};
 ghost use Rattle.wesl_symbols.specs.Index.{HasAt, IsLast, IsNamed, Indexes, Binds, Publishes, Chains};
+ghost use Rattle.wesl_symbols.specs.Indexed.{IsBlank, AreIndexes};
 ghost use Rattle.wesl_symbols.specs.Names.{Declares, Imports, Shows};
 ghost use Rattle.wesl_symbols.specs.Tables.{Import};
 
@@ -14,7 +15,6 @@ use std::alloc::{AllocError, Global};
 use std::marker::Model;
 
 /// A declaration, and the names that it uses.
-#[derive(Debug)]
 pub struct Declaration {
     name: Option<NameId>,
     references: Vec<Reference<PathId, NameId>>,
@@ -64,7 +64,6 @@ impl Declaration {
 }
 
 /// The symbol table of the module at a path.
-#[derive(Debug)]
 pub struct Table {
     path: PathId,
     imports: Vec<Import<PathId, NameId>>,
@@ -104,55 +103,104 @@ impl Model for Table {
     ghost invariant = { λ t. IsIndexed t.imports.items t.declarations.items t.bound.entries t.published.entries t.latest.entries t.earlier.items };
 }
 
-/// Of each bound name an import that binds it.
+/// Puts at each bound name an import that binds it.
 fn index_bound(
-    alloc: Global,
+    index: &mut IndexMap<NameId, Import<PathId, NameId>>,
     imports: &[Import<PathId, NameId>],
-) -> Result<IndexMap<NameId, Import<PathId, NameId>>, AllocError>
-    ensures { IfOk result (λ m. Indexes Binds imports.now m.entries) }
+) -> Result<(), AllocError>
+    requires { index.old.entries ≡ [] }
+    ensures { OnOk result (Indexes Binds imports.now index.new.entries) }
 {
-    let mut index = IndexMap::new(alloc);
     for import in imports {
-        keyed::put(&mut index, import.bound, *import)?;
+        keyed::put(index, import.bound, *import)?;
     }
-    Ok(index)
+    Ok(())
 }
 
-/// Of each published name an import that publishes it.
+/// Puts at each published name an import that publishes it.
 fn index_published(
-    alloc: Global,
+    index: &mut IndexMap<NameId, Import<PathId, NameId>>,
     imports: &[Import<PathId, NameId>],
-) -> Result<IndexMap<NameId, Import<PathId, NameId>>, AllocError>
-    ensures { IfOk result (λ m. Indexes Publishes imports.now m.entries) }
+) -> Result<(), AllocError>
+    requires { index.old.entries ≡ [] }
+    ensures { OnOk result (Indexes Publishes imports.now index.new.entries) }
 {
-    let mut index = IndexMap::new(alloc);
     for import in imports {
         if import.published {
-            keyed::put(&mut index, import.bound, *import)?;
+            keyed::put(index, import.bound, *import)?;
         }
     }
-    Ok(index)
+    Ok(())
 }
 
-/// The declarations of each name, from the last to the first.
+/// Ties each declaration to the one of its name before it.
+fn tie(
+    latest: &mut IndexMap<Option<NameId>, usize>,
+    earlier: &mut Vec<Option<usize>>,
+    declarations: &[Declaration],
+) -> Result<(), AllocError>
+    requires first { latest.old.entries ≡ [] }
+    requires none { earlier.old.items ≡ [] }
+    ensures { OnOk result (Chains declarations.now (length declarations.now) latest.new.entries earlier.new.items) }
+{
+    for (index, declaration) in declarations.iter().enumerate() {
+        let name = declaration.name();
+        earlier.push(keyed::value_at(latest, name))?;
+        keyed::put(latest, name, index)?;
+    }
+    Ok(())
+}
+
+/// The indexes of a module, as its table has them.
 #[derive(Drop)]
-struct SameNamed {
+struct Indexed {
+    bound: IndexMap<NameId, Import<PathId, NameId>>,
+    published: IndexMap<NameId, Import<PathId, NameId>>,
     latest: IndexMap<Option<NameId>, usize>,
     earlier: Vec<Option<usize>>,
 }
 
-/// Ties each declaration to the one of its name before it.
-fn tie(alloc: Global, declarations: &[Declaration]) -> Result<SameNamed, AllocError>
-    ensures { IfOk result (λ s. Chains declarations.now (length declarations.now) s.latest.entries s.earlier.items) }
-{
-    let mut latest = IndexMap::new(alloc);
-    let mut earlier = Vec::new(alloc);
-    for (index, declaration) in declarations.iter().enumerate() {
-        let name = declaration.name();
-        earlier.push(keyed::value_at(&latest, name))?;
-        keyed::put(&mut latest, name, index)?;
+impl Indexed {
+    /// No indexes. They take no memory.
+    fn new(alloc: Global) -> Indexed
+        ensures { IsBlank result }
+    {
+        Indexed {
+            bound: IndexMap::new(alloc),
+            published: IndexMap::new(alloc),
+            latest: IndexMap::new(alloc),
+            earlier: Vec::new(alloc),
+        }
     }
-    Ok(SameNamed { latest, earlier })
+
+    /// The indexes of these imports and declarations.
+    fn of(
+        alloc: Global,
+        imports: &[Import<PathId, NameId>],
+        declarations: &[Declaration],
+    ) -> Result<Indexed, AllocError>
+        ensures { IfOk result (λ x. AreIndexes imports.now declarations.now x) }
+    {
+        let mut indexed = Indexed::new(alloc);
+        match indexed.fill(imports, declarations) {
+            Ok(()) => Ok(indexed),
+            Err(refused) => Err(refused),
+        }
+    }
+
+    /// Indexes imports and declarations. It holds nothing, so where memory is wanting there is nothing to let go.
+    fn fill(
+        &mut self,
+        imports: &[Import<PathId, NameId>],
+        declarations: &[Declaration],
+    ) -> Result<(), AllocError>
+        requires { IsBlank self.old }
+        ensures { OnOk result (AreIndexes imports.now declarations.now self.new) }
+    {
+        index_bound(&mut self.bound, imports)?;
+        index_published(&mut self.published, imports)?;
+        tie(&mut self.latest, &mut self.earlier, declarations)
+    }
 }
 
 impl Table {
@@ -165,17 +213,15 @@ impl Table {
     ) -> Result<Table, AllocError>
         ensures { IfOk result (λ t. t ≡ record { path = path; imports = imports.items; declarations = declarations.items }) }
     {
-        let bound = index_bound(alloc, &imports)?;
-        let published = index_published(alloc, &imports)?;
-        let same_named = tie(alloc, &declarations)?;
+        let indexed = Indexed::of(alloc, &imports, &declarations)?;
         Ok(Table {
             path,
             imports,
             declarations,
-            bound,
-            published,
-            latest: same_named.latest,
-            earlier: same_named.earlier,
+            bound: indexed.bound,
+            published: indexed.published,
+            latest: indexed.latest,
+            earlier: indexed.earlier,
         })
     }
 

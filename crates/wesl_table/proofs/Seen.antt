@@ -15,6 +15,7 @@ use Rattle.wesl_occurrences.specs.Views.{occurrence_view, standing_view}
 use Rattle.wesl_occurrences.specs.Ways.{way, told}
 use Rattle.wesl_occurrences.specs.declared.occurrence.Occurrence.{Occurrence}
 use Rattle.wesl_occurrences.specs.declared.occurrence.Standing.{Standing}
+use Rattle.wesl_occurrences.specs.declared.occurrence.Standing.TheVariants as standings
 use Rattle.wesl_meanings.specs.Keys.{key_view, IsKeyBelow}
 use Rattle.wesl_meanings.specs.Scopes as scopes
 use Rattle.wesl_meanings.specs.Scopes.{key_of, keys}
@@ -112,6 +113,18 @@ module _ (r : Reading) (read : IsRead r) (law : SpellingKeepsOccurrences) where
       → Marks nb m old new (used (standing_view s) (name_in (view_in r).names o.ident.0) (key_view block_way k)) → Marks nb m old new (use_at r i)
   mark_there nb m old new i o k s h e f at marked =
       subst (Marks nb m old new) (sym (use_there i o k h e f ∙ ap (λ t. used (standing_view t) (name_in (view_in r).names o.ident.0) (key_view block_way k)) at)) marked
+
+  -- and so is that of a parameter, a local declaration or a reference, which is what the name means
+  pub mark_meant : (nb : Numbering) (m : Mark) (old new : List (Reference PathId NameId)) (i : ℕ) (o : Occurrence) (k : Key) → i < length all → o ≡ get_or all i o → k ≡ get_or all_keys i k → (o.standing ≡ standings.ModuleName → ⊥)
+      → (o.standing ≡ standings.Word → ⊥) → Marks nb m old new (meant_in r (name_in (view_in r).names o.ident.0) (key_view block_way k)) → Marks nb m old new (use_at r i)
+  mark_meant nb m old new i o k h e f no_name no_word marked = by o.standing refl
+    where
+      by : (s : Standing) → o.standing ≡ s → Marks nb m old new (use_at r i)
+      by standings.ModuleName at = absurd (no_name at)
+      by standings.Word at = absurd (no_word at)
+      by standings.Parameter at = mark_there nb m old new i o k standings.Parameter h e f at marked
+      by (standings.Local n) at = mark_there nb m old new i o k (standings.Local n) h e f at marked
+      by (standings.Reference p) at = mark_there nb m old new i o k (standings.Reference p) h e f at marked
 
   pub ident_there : (i : ℕ) (o : Occurrence) → i < length all → o ≡ get_or all i o → o.ident.0 < length (view_in r).names
   ident_there i o h e = subst (λ p. p.ident.0 < length (view_in r).names) (sym e) (read.named i o h)

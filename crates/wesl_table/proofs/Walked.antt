@@ -1,10 +1,14 @@
 -- A walk over imports finds what stands in them, after what was found before.
-use Rattle.std.proofs.Common.{◌≡◌, ℕ, Bool, true, false, Option, Some, None, List, [], ◌++◌, refl, sym, ap, ◌∙◌, append_assoc, append-nil}
+use Rattle.std.proofs.Common.{◌≡◌, ℕ, ◌<◌, ◌≤◌, ◌+◌, Bool, true, false, Option, Some, None, List, [], ◌∷◌, ◌++◌, map, drop, length, get_or, Vec, Global, refl, sym, ap, ◌∙◌, append_assoc, append-nil}
+use Rattle.std.proofs.lemmas.List.{at_drop_more, at_drop_all}
 use Rattle.std.specs.Prelude.{if◌then◌else◌, option_map, OnOk, Result, Ok, Err}
 use Rattle.wesl_names.specs.Path.{Path, path_view}
 use Rattle.wesl_names.specs.declared.path.ModulePath.{ModulePath}
-use Rattle.wesl_syntax.specs.Tree.{Forest, end, tree, before, identifiers}
-use Rattle.wesl_syntax.specs.View.{kind_tree, optional, path_tree, content_view, attributes_tree, import_view}
+use Rattle.wesl_syntax.specs.Tree.{Forest, end, tree, before, forest_of, identifiers}
+use Rattle.wesl_syntax.specs.View.{kind_tree, optional, path_tree, content_view, entry_view, item_view, texts_of, attributes_tree, import_view}
+use Rattle.wesl_syntax.specs.declared.import.Import.{Import as Entry, out-Import}
+use Rattle.wesl_syntax.specs.declared.import.ImportContent.{ImportContent, Item, Collection}
+use Rattle.wesl_syntax.specs.declared.import.ImportItem.{ImportItem}
 use Rattle.wesl_syntax.specs.declared.import.ImportStatement.{ImportStatement}
 use Rattle.wesl_syntax.specs.declared.declaration.DeclarationKind.{DeclarationKind}
 use Rattle.wesl_syntax.specs.declared.declaration.DeclarationKind.TheVariants as kinds
@@ -12,6 +16,7 @@ use Rattle.wesl_symbols.specs.declared.symbols.Import.{Import}
 use Rattle.wesl_table.specs.Imports as imports
 use Rattle.wesl_table.specs.Tables.{declared_name}
 use Rattle.wesl_table.specs.Walks.{imported}
+use Rattle.wesl_table.proofs.Nodes.{view_entry, view_item, view_collection}
 
 -- what kind a declaration is of binds no name
 pub kind_binds : (k : DeclarationKind) (others : Forest) → declared_name (before (kind_tree k) others) ≡ declared_name others
@@ -39,6 +44,33 @@ imported_is published base found (tree l children others) =
     taken (imports.is_item l) (imports.is_entry l) found items deep deeper (imports.content_imports published inner children) (imports.content_imports published base children) []
     (imported_is published inner found children) (imported_is published base found children) in
     imported_is published base a others ∙ (ap (λ z. z ++ imports.content_imports published base others) e ∙ append_assoc found t (imports.content_imports published base others))
+
+-- what is found once content is gone over, by what its parts are
+module _ (published : Bool) (base : imports.Base) (found new : List (Import Path ℕ)) where
+  pub item_walked : (x : ImportContent) (i : ImportItem) → x ≡ Item i → new ≡ imported published base found (before (item_view i) end) → new ≡ imported published base found (before (content_view x) end)
+  item_walked x i is h = h ∙ ap (λ t. imported published base found (before t end)) (sym (view_item x i is))
+
+  pub collection_walked : (x : ImportContent) (es : Vec Entry Global) → x ≡ Collection es → new ≡ imported published base found (forest_of (map entry_view es.items)) → new ≡ imported published base found (before (content_view x) end)
+  collection_walked x es is h = h ∙ ap (λ t. imported published base found (before t end)) (sym (view_collection x es is))
+
+  pub entry_walked : (x : Entry) (inner : imports.Base) → inner ≡ imports.entered base (texts_of (out-Import x).path) → new ≡ imported published inner found (before (content_view (out-Import x).content) end)
+      → new ≡ imported published base found (before (entry_view x) end)
+  entry_walked x inner is h =
+      h ∙ (ap (λ b. imported published b found (before (content_view (out-Import x).content) end)) is ∙ ap (λ t. imported published base found (before t end)) (sym (view_entry x)))
+
+  -- one entry more, and all of them
+  pub entries_next : (xs : List Entry) (i : ℕ) (x : Entry) (whole : List (Import Path ℕ)) → i < length xs → x ≡ get_or xs i x → whole ≡ imported published base found (forest_of (map entry_view (drop i xs)))
+      → new ≡ imported published base found (before (entry_view x) end) → whole ≡ imported published base new (forest_of (map entry_view (drop (i + 1) xs)))
+  entries_next xs i x whole b e so_far h =
+      let rest : Forest = forest_of (map entry_view (drop (i + 1) xs)) in
+      so_far
+      ∙ (at_drop_more (λ l. imported published base found (forest_of (map entry_view l))) xs i x b
+      ∙ (ap (λ y. imported published base found (before (entry_view y) rest)) (sym e) ∙ ap (λ l. imported published base l rest) (sym h)))
+
+  pub entries_all : (xs ys : List Entry) (i : ℕ) → xs ≡ ys → length xs ≤ i → imported published base found (forest_of (map entry_view xs)) ≡ imported published base new (forest_of (map entry_view (drop i xs)))
+      → new ≡ imported published base found (forest_of (map entry_view ys))
+  entries_all xs ys i e b h =
+      sym (at_drop_all (λ l. imported published base new (forest_of (map entry_view l))) xs i b) ∙ (sym h ∙ ap (λ l. imported published base found (forest_of (map entry_view l))) e)
 
 -- the path of a statement, as its tree has it
 pub written_path : (o : Option ModulePath) → imports.first_label None imports.label_path (optional path_tree o).children ≡ option_map path_view o

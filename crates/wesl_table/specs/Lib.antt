@@ -9,3 +9,4 @@ pub mod Spelling
 pub mod NumbersView
 pub mod Base
 pub mod Laws
+pub mod Parts

@@ -1,5 +1,5 @@
 //! Where the paths before names lead (WESL, "Imports").
-ghost use Rattle.std.specs.Prelude.{◌≡◌, ◌++◌, false, All, map, IfOk, IfErr, OnOk};
+ghost use Rattle.std.specs.Prelude.{◌≡◌, ◌++◌, [], false, All, map, IfOk, IfErr, OnOk};
 ghost use Rattle.wesl_names.specs.declared.errors.Error as error;
 ghost use Rattle.wesl_names.specs.Path.{path_view, origin_view, push, extend, join, is_relative};
 ghost use Rattle.wesl_table.specs.Uses as uses;
@@ -61,36 +61,49 @@ fn add_in_place(
     Ok(())
 }
 
-/// These modules, and where there are none the one that the path leads to from the module at `own`.
-fn or_else(
+/// Adds the module that the path leads to from the module at `own` where none was found.
+fn add_joined(
     alloc: Global,
     own: &ModulePath,
+    found: &mut Vec<ModulePath>,
     path: &ModulePath,
-    found: Vec<ModulePath>,
-) -> Result<Vec<ModulePath>, Error>
-    ensures aims { IfOk result (λ aims. map path_view aims.items ≡ uses.or_else (map path_view found.items) (join (path_view own.now) (path_view path.now))) }
+) -> Result<(), Error>
+    ensures found { OnOk result (map path_view found.new.items ≡ uses.or_else (map path_view found.old.items) (join (path_view own.now) (path_view path.now))) }
     ensures refused { IfErr result (λ e. e ≡ error.Memory) }
 {
-    if !found.is_empty() {
-        return Ok(found);
+    if found.is_empty() {
+        found.push(own.join_path(alloc, path)?)?;
     }
-    let mut joined = found;
-    joined.push(own.join_path(alloc, path)?)?;
-    Ok(joined)
+    Ok(())
+}
+
+/// Adds the modules that a path before a name aims at. It holds nothing, so where memory is wanting nothing is let go.
+fn add_aims(
+    alloc: Global,
+    scope: &Scope<'_>,
+    found: &mut Vec<ModulePath>,
+    path: &ModulePath,
+) -> Result<(), Error>
+    requires { found.old.items ≡ [] }
+    ensures found { OnOk result (map path_view found.new.items ≡ uses.aims (path_view scope.now.own.now) (spelled_imports scope.now.names.now scope.now.imports.now) (path_view path.now)) }
+    ensures refused { IfErr result (λ e. e ≡ error.Memory) }
+{
+    for import in scope.imports {
+        add_in_place(alloc, scope.names, found, path, import)?;
+    }
+    add_joined(alloc, scope.own, found, path)
 }
 
 /// The modules that a path before a name aims at: where it begins with a name that imports bind, the items of these
 /// imports in its place, else the path as the module means it. Refused for want of memory alone.
-pub fn aims(alloc: Global, scope: Scope<'_>, path: &ModulePath) -> Result<Vec<ModulePath>, Error>
-    requires own { is_relative (path_view scope.own.now) ≡ false }
-    requires imports { All (λ i. is_relative (path_view i.path) ≡ false) scope.imports.now }
+pub fn aims(alloc: Global, scope: &Scope<'_>, path: &ModulePath) -> Result<Vec<ModulePath>, Error>
+    requires own { is_relative (path_view scope.now.own.now) ≡ false }
+    requires imports { All (λ i. is_relative (path_view i.path) ≡ false) scope.now.imports.now }
     ensures asked { IfOk result (λ found. All (λ p. is_relative (path_view p) ≡ false) found.items) }
-    ensures aims { IfOk result (λ found. map path_view found.items ≡ uses.aims (path_view scope.entry.own.now) (spelled_imports scope.entry.names.now scope.entry.imports.now) (path_view path.now)) }
+    ensures aims { IfOk result (λ found. map path_view found.items ≡ uses.aims (path_view scope.now.own.now) (spelled_imports scope.now.names.now scope.now.imports.now) (path_view path.now)) }
     ensures refused { IfErr result (λ e. e ≡ error.Memory) }
 {
     let mut found = Vec::new(alloc);
-    for import in scope.imports {
-        add_in_place(alloc, scope.names, &mut found, path, import)?;
-    }
-    or_else(alloc, scope.own, path, found)
+    add_aims(alloc, scope, &mut found, path)?;
+    Ok(found)
 }

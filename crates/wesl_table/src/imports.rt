@@ -2,8 +2,8 @@
 ghost use Rattle.std.specs.Prelude.{◌≡◌, ◌++◌, false, All, map, option_map, string_bytes, IfOk, IfErr, OnOk};
 ghost use Rattle.wesl_names.specs.declared.errors.Error as error;
 ghost use Rattle.wesl_names.specs.Path.{path_view, is_relative};
-ghost use Rattle.wesl_syntax.specs.Tree.{before, end};
-ghost use Rattle.wesl_syntax.specs.View.{attribute_view, attributes_tree, content_view, item_view, import_view as statement_view, imports_tree};
+ghost use Rattle.wesl_syntax.specs.Tree.{before, end, forest_of};
+ghost use Rattle.wesl_syntax.specs.View.{attribute_view, attributes_tree, content_view, entry_view, item_view, import_view as statement_view, imports_tree};
 ghost use Rattle.wesl_table.specs.Imports as imports;
 ghost use Rattle.wesl_table.specs.Base.{base_view};
 ghost use Rattle.wesl_table.specs.Walks.{import_view, imported};
@@ -12,7 +12,8 @@ use std::alloc::Global;
 use wesl_names::{Error, Ident, ModulePath, PathOrigin};
 use wesl_symbols::symbols::Import;
 use wesl_syntax::{
-    Attribute, Attributes, ImportContent, ImportItem, ImportStatement, ImportStatementNode,
+    Attribute, Attributes, Import as ImportEntry, ImportContent, ImportItem, ImportStatement,
+    ImportStatementNode,
 };
 
 /// Where the parts of an import statement lead.
@@ -97,7 +98,6 @@ fn add_statement(
 }
 
 #[cycle(imports)]
-#[tactic(auto, using(crate::proofs::Nodes::view_entry))]
 fn add_content(
     alloc: Global,
     found: &mut Vec<Import<ModulePath, Ident>>,
@@ -110,14 +110,40 @@ fn add_content(
 {
     match content {
         ImportContent::Item(item) => add_item(alloc, found, published, base, item),
-        ImportContent::Collection(entries) => {
-            for entry in entries {
-                let inner = base.entered(alloc, &entry.path)?;
-                add_content(alloc, found, published, &inner, &entry.content)?;
-            }
-            Ok(())
-        }
+        ImportContent::Collection(entries) => add_entries(alloc, found, published, base, entries),
     }
+}
+
+#[cycle(imports)]
+fn add_entries(
+    alloc: Global,
+    found: &mut Vec<Import<ModulePath, Ident>>,
+    published: bool,
+    base: &Base,
+    entries: &Vec<ImportEntry>,
+) -> Result<(), Error>
+    ensures found { OnOk result (map import_view found.new.items ≡ imported published (base_view base.now) (map import_view found.old.items) (forest_of (map entry_view entries.now.items))) }
+    ensures refused { IfErr result (λ e. e ≡ error.Memory) }
+{
+    for entry in entries {
+        add_entry(alloc, found, published, base, entry)?;
+    }
+    Ok(())
+}
+
+#[cycle(imports)]
+fn add_entry(
+    alloc: Global,
+    found: &mut Vec<Import<ModulePath, Ident>>,
+    published: bool,
+    base: &Base,
+    entry: &ImportEntry,
+) -> Result<(), Error>
+    ensures found { OnOk result (map import_view found.new.items ≡ imported published (base_view base.now) (map import_view found.old.items) (before (entry_view entry.now) end)) }
+    ensures refused { IfErr result (λ e. e ≡ error.Memory) }
+{
+    let inner = base.entered(alloc, &entry.path)?;
+    add_content(alloc, found, published, &inner, &entry.content)
 }
 
 fn add_item(

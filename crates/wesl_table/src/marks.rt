@@ -1,5 +1,5 @@
 //! What the identifiers of a module are to a link.
-ghost use Rattle.std.specs.Prelude.{◌≡◌, ◌<◌, ◌≤◌, ◌++◌, false, All, length, get_or, map, flat_map, drop, IfOk, IfErr, OnOk};
+ghost use Rattle.std.specs.Prelude.{◌≡◌, ◌<◌, ◌≤◌, ◌++◌, [], false, All, length, get_or, map, flat_map, drop, IfOk, IfErr, OnOk};
 ghost use Rattle.wesl_names.specs.Path.{Text, path_view, is_relative};
 ghost use Rattle.wesl_names.specs.declared.errors.Error as error;
 ghost use Rattle.wesl_meanings.specs.Keys.{IsKeyBelow};
@@ -51,11 +51,11 @@ fn mark_after(references: &[Reference<PathId, NameId>], before: usize, name: Nam
 
 /// What a name without a path asks for: the module's own declaration, else what its imports of the name aim at.
 fn add_plain(
-    reading: Reading<'_, '_>,
+    reading: &Reading<'_, '_>,
     found: &mut Vec<Reference<PathId, NameId>>,
     name: NameId,
 ) -> Result<(), Error>
-    ensures added { OnOk result (found.new.items ≡ found.old.items ++ plain reading.entry.own reading.entry.declared.now.keys reading.entry.numbered.now name) }
+    ensures added { OnOk result (found.new.items ≡ found.old.items ++ plain reading.now.own reading.now.declared.now.keys reading.now.numbered.now name) }
     ensures refused { IfErr result (λ e. e ≡ error.Memory) }
 {
     if reading.declared.contains(&name) {
@@ -79,12 +79,12 @@ fn add_plain(
 /// The mark of a name without a path.
 fn mark_plain(
     numbers: &Numbers,
-    reading: Reading<'_, '_>,
+    reading: &Reading<'_, '_>,
     found: &mut Vec<Reference<PathId, NameId>>,
     name: NameId,
 ) -> Result<Mark, Error>
-    requires numbered { IsNumberedBy (numbering numbers.now) reading }
-    ensures marked { IfOk result (λ m. MarksName numbers.now numbers.now name (λ x. refers x (plain_in reading.entry x)) m found.old.items found.new.items) }
+    requires numbered { IsNumberedBy (numbering numbers.now) reading.now }
+    ensures marked { IfOk result (λ m. MarksName numbers.now numbers.now name (λ x. refers x (plain_in reading.now x)) m found.old.items found.new.items) }
     ensures refused { IfErr result (λ e. e ≡ error.Memory) }
 {
     let before = found.len();
@@ -116,13 +116,13 @@ fn add_under(
 fn mark_aimed(
     alloc: Global,
     numbers: &mut Numbers,
-    reading: Reading<'_, '_>,
+    reading: &Reading<'_, '_>,
     found: &mut Vec<Reference<PathId, NameId>>,
     name: NameId,
     path: &ModulePath,
 ) -> Result<Mark, Error>
-    requires read { IsRead reading }
-    ensures marked { IfOk result (λ m. MarksName numbers.old numbers.new name (aimed_in reading.entry path.now) m found.old.items found.new.items) }
+    requires read { IsRead reading.now }
+    ensures marked { IfOk result (λ m. MarksName numbers.old numbers.new name (aimed_in reading.now path.now) m found.old.items found.new.items) }
     ensures grows { Grows (numbering numbers.old) (numbering numbers.new) }
     ensures refused { IfErr result (λ e. e ≡ error.Memory) }
 {
@@ -131,7 +131,7 @@ fn mark_aimed(
         names: reading.unit.names(),
         imports: reading.imports,
     };
-    let modules = aims(alloc, scope, path)?;
+    let modules = aims(alloc, &scope, path)?;
     let before = found.len();
     add_under(alloc, numbers, found, name, &modules)?;
     Ok(mark_after(found, before, name))
@@ -141,15 +141,15 @@ fn mark_aimed(
 fn mark_reference(
     alloc: Global,
     numbers: &mut Numbers,
-    reading: Reading<'_, '_>,
+    reading: &Reading<'_, '_>,
     found: &mut Vec<Reference<PathId, NameId>>,
     name: NameId,
     key: Key<'_>,
 ) -> Result<Mark, Error>
-    requires read { IsRead reading }
-    requires numbered { IsNumberedBy (numbering numbers.now) reading }
-    requires below { IsKeyBelow (length reading.meanings.now.found.outer.items) key }
-    ensures marked { IfOk result (λ m. MarksName numbers.old numbers.new name (meant_by reading.entry key.entry) m found.old.items found.new.items) }
+    requires read { IsRead reading.now }
+    requires numbered { IsNumberedBy (numbering numbers.now) reading.now }
+    requires below { IsKeyBelow (length reading.now.meanings.now.found.outer.items) key }
+    ensures marked { IfOk result (λ m. MarksName numbers.old numbers.new name (meant_by reading.now key.entry) m found.old.items found.new.items) }
     ensures grows { Grows (numbering numbers.old) (numbering numbers.new) }
     ensures refused { IfErr result (λ e. e ≡ error.Memory) }
 {
@@ -179,14 +179,14 @@ fn id_of(ids: &[NameId], ident: Ident) -> NameId
 fn mark_at(
     alloc: Global,
     numbers: &mut Numbers,
-    reading: Reading<'_, '_>,
+    reading: &Reading<'_, '_>,
     found: &mut Vec<Reference<PathId, NameId>>,
     index: usize,
 ) -> Result<Mark, Error>
-    requires read { IsRead reading }
-    requires numbered { IsNumberedBy (numbering numbers.now) reading }
-    requires inside { index < length reading.meanings.now.found.all.items }
-    ensures marked { IfOk result (λ m. Marks (numbering numbers.new) m found.old.items found.new.items (use_at reading.entry index)) }
+    requires read { IsRead reading.now }
+    requires numbered { IsNumberedBy (numbering numbers.now) reading.now }
+    requires inside { index < length reading.now.meanings.now.found.all.items }
+    ensures marked { IfOk result (λ m. Marks (numbering numbers.new) m found.old.items found.new.items (use_at reading.now index)) }
     ensures grows { Grows (numbering numbers.old) (numbering numbers.new) }
     ensures refused { IfErr result (λ e. e ≡ error.Memory) }
 {
@@ -196,9 +196,8 @@ fn mark_at(
     match occurrence.standing {
         Standing::ModuleName => Ok(Mark::Declares(name)),
         Standing::Word => Ok(Mark::Free(name)),
-        Standing::Parameter => mark_reference(alloc, numbers, reading, found, name, key),
-        Standing::Local { end: _ } => mark_reference(alloc, numbers, reading, found, name, key),
-        Standing::Reference(_) => mark_reference(alloc, numbers, reading, found, name, key),
+        // parameters and local declarations too, by what their names mean
+        _ => mark_reference(alloc, numbers, reading, found, name, key),
     }
 }
 
@@ -209,27 +208,55 @@ pub struct Marked {
     pub references: Vec<Reference<PathId, NameId>>,
 }
 
+/// Marks the identifiers from one index to another. It holds nothing, so where memory is wanting nothing is let go.
+fn mark_span(
+    alloc: Global,
+    numbers: &mut Numbers,
+    reading: &Reading<'_, '_>,
+    marked: &mut Marked,
+    from: usize,
+    to: usize,
+) -> Result<(), Error>
+    requires read { IsRead reading.now }
+    requires numbered { IsNumberedBy (numbering numbers.now) reading.now }
+    requires ordered { from ≤ to }
+    requires inside { to ≤ length reading.now.meanings.now.found.all.items }
+    requires unmarked { marked.old.marks.items ≡ [] }
+    requires unasked { marked.old.references.items ≡ [] }
+    ensures marks { OnOk result (AreRelated (IsMark (numbering numbers.new)) marked.new.marks.items (span from to (all_uses reading.now))) }
+    ensures references { OnOk result (AreNumberedReferences (numbering numbers.new) marked.new.references.items (map reference_to (flat_map asked (span from to (all_uses reading.now))))) }
+    ensures grows { Grows (numbering numbers.old) (numbering numbers.new) }
+    ensures refused { IfErr result (λ e. e ≡ error.Memory) }
+{
+    marked.marks.reserve_exact(to - from)?;
+    for index in from..to {
+        let mark = mark_at(alloc, numbers, reading, &mut marked.references, index)?;
+        marked.marks.push(mark)?;
+    }
+    Ok(())
+}
+
 /// The marks of the identifiers from one index to another, and what these ask for. Refused for want of memory alone.
 pub fn mark_piece(
     alloc: Global,
     numbers: &mut Numbers,
-    reading: Reading<'_, '_>,
+    reading: &Reading<'_, '_>,
     from: usize,
     to: usize,
 ) -> Result<Marked, Error>
-    requires read { IsRead reading }
-    requires numbered { IsNumberedBy (numbering numbers.now) reading }
+    requires read { IsRead reading.now }
+    requires numbered { IsNumberedBy (numbering numbers.now) reading.now }
     requires ordered { from ≤ to }
-    requires inside { to ≤ length reading.meanings.now.found.all.items }
-    ensures marks { IfOk result (λ m. AreRelated (IsMark (numbering numbers.new)) m.marks.items (span from to (all_uses reading.entry))) }
-    ensures references { IfOk result (λ m. AreNumberedReferences (numbering numbers.new) m.references.items (map reference_to (flat_map asked (span from to (all_uses reading.entry))))) }
+    requires inside { to ≤ length reading.now.meanings.now.found.all.items }
+    ensures marks { IfOk result (λ m. AreRelated (IsMark (numbering numbers.new)) m.marks.items (span from to (all_uses reading.now))) }
+    ensures references { IfOk result (λ m. AreNumberedReferences (numbering numbers.new) m.references.items (map reference_to (flat_map asked (span from to (all_uses reading.now))))) }
     ensures grows { Grows (numbering numbers.old) (numbering numbers.new) }
     ensures refused { IfErr result (λ e. e ≡ error.Memory) }
 {
-    let mut marks = Vec::with_capacity(alloc, to - from)?;
-    let mut references = Vec::new(alloc);
-    for index in from..to {
-        marks.push(mark_at(alloc, numbers, reading, &mut references, index)?)?;
-    }
-    Ok(Marked { marks, references })
+    let mut marked = Marked {
+        marks: Vec::new(alloc),
+        references: Vec::new(alloc),
+    };
+    mark_span(alloc, numbers, reading, &mut marked, from, to)?;
+    Ok(marked)
 }

@@ -1,5 +1,5 @@
 //! A module as its identifiers are marked.
-ghost use Rattle.std.specs.Prelude.{◌≡◌, ◌↔◌, ◌⊎◌, Some, Contains, option_map, IfOk, IfErr, OnOk};
+ghost use Rattle.std.specs.Prelude.{◌≡◌, ◌↔◌, ◌⊎◌, [], Some, Contains, option_map, IfOk, IfErr, OnOk};
 ghost use Rattle.wesl_names.specs.declared.errors.Error as error;
 ghost use Rattle.wesl_syntax.specs.Tree.{trees, respell};
 ghost use Rattle.wesl_syntax.specs.Unit.{name_in};
@@ -12,7 +12,6 @@ ghost use Rattle.wesl_table.specs.Reading.{AreNumbersOfNames};
 
 use crate::numbers::{Numbers, spelling};
 use indexmap::IndexSet;
-use std::alloc::Global;
 use wesl_meanings::Meanings;
 use wesl_names::{Error, Ident, ModulePath, Names};
 use wesl_symbols::ids::{NameId, PathId};
@@ -39,17 +38,19 @@ pub struct Reading<'a, 'b> {
     pub declared: &'a IndexSet<NameId>,
 }
 
-/// The numbers of these names. Refused for want of memory alone.
-pub fn name_ids(alloc: Global, numbers: &mut Numbers, names: &Names) -> Result<Vec<NameId>, Error>
-    ensures numbered { IfOk result (λ ids. AreRelated (NameAt (numbering numbers.new)) ids.items names.now) }
+/// Adds the numbers of these names. Refused for want of memory alone.
+pub fn add_ids(numbers: &mut Numbers, names: &Names, ids: &mut Vec<NameId>) -> Result<(), Error>
+    requires { ids.old.items ≡ [] }
+    ensures numbered { OnOk result (AreRelated (NameAt (numbering numbers.new)) ids.new.items names.now) }
     ensures grows { Grows (numbering numbers.old) (numbering numbers.new) }
     ensures refused { IfErr result (λ e. e ≡ error.Memory) }
 {
-    let mut ids = Vec::with_capacity(alloc, names.len())?;
+    ids.reserve_exact(names.len())?;
     for i in 0..names.len() {
-        ids.push(numbers.name(names.name(Ident(i)))?)?;
+        let id = numbers.name(names.name(Ident(i)))?;
+        ids.push(id)?;
     }
-    Ok(ids)
+    Ok(())
 }
 
 /// The name that a global declaration binds; a const_assert and a void bind none.
@@ -82,23 +83,25 @@ fn number_ident(
     }
 }
 
-/// Of each declaration the number of the name that it binds, if it binds one. Refused for want of memory alone.
-pub fn names_of(
-    alloc: Global,
+/// Adds of each declaration the number of the name that it binds, if it binds one. Refused for want of memory alone.
+pub fn add_names(
     numbers: &mut Numbers,
     names: &Names,
     nodes: &Vec<GlobalDeclarationNode>,
-) -> Result<Vec<Option<NameId>>, Error>
-    ensures numbered { IfOk result (λ found. AreNumbersOfNames (numbering numbers.new) found.items (trees (respell (name_in names.now) (declarations_tree nodes.now)).children)) }
+    found: &mut Vec<Option<NameId>>,
+) -> Result<(), Error>
+    requires { found.old.items ≡ [] }
+    ensures numbered { OnOk result (AreNumbersOfNames (numbering numbers.new) found.new.items (trees (respell (name_in names.now) (declarations_tree nodes.now)).children)) }
     ensures grows { Grows (numbering numbers.old) (numbering numbers.new) }
     ensures refused { IfErr result (λ e. e ≡ error.Memory) }
 {
-    let mut found = Vec::with_capacity(alloc, nodes.len())?;
+    found.reserve_exact(nodes.len())?;
     for node in nodes {
         let ident = declared_ident(&node.node);
-        found.push(number_ident(numbers, names, ident)?)?;
+        let number = number_ident(numbers, names, ident)?;
+        found.push(number)?;
     }
-    Ok(found)
+    Ok(())
 }
 
 /// One more name, if there is one and it is not there yet.
@@ -115,14 +118,14 @@ fn add_name(set: &mut IndexSet<NameId>, name: Option<NameId>) -> Result<(), Erro
     }
 }
 
-/// The names among these, each once. Refused for want of memory alone.
-pub fn name_set(alloc: Global, names: &[Option<NameId>]) -> Result<IndexSet<NameId>, Error>
-    ensures names { IfOk result (λ set. (n : NameId) → Contains set.keys n ↔ Contains names.now (Some n)) }
+/// Adds the names among these, each once. Refused for want of memory alone.
+pub fn add_set(names: &[Option<NameId>], set: &mut IndexSet<NameId>) -> Result<(), Error>
+    requires { set.old.keys ≡ [] }
+    ensures names { OnOk result ((n : NameId) → Contains set.new.keys n ↔ Contains names.now (Some n)) }
     ensures refused { IfErr result (λ e. e ≡ error.Memory) }
 {
-    let mut set = IndexSet::new(alloc);
     for name in names {
-        add_name(&mut set, *name)?;
+        add_name(set, *name)?;
     }
-    Ok(set)
+    Ok(())
 }

@@ -1,23 +1,23 @@
 //! The symbol table of a module.
-ghost use Rattle.std.specs.Prelude.{◌≡◌, ◌<◌, ◌↔◌, Some, suc, false, All, Contains, IfOk, IfErr, length, get_or};
+ghost use Rattle.std.specs.Prelude.{◌≡◌, ◌<◌, ◌++◌, ◌∷◌, [], suc, false, All, IfOk, IfErr, OnOk, length, get_or};
 ghost use Rattle.wesl_names.specs.Path.{path_view, is_relative};
 ghost use Rattle.wesl_names.specs.declared.errors.Error as error;
 ghost use Rattle.wesl_syntax.specs.Unit.{spelled};
 ghost use Rattle.wesl_tree.specs.Translation.{unit_view};
 ghost use Rattle.wesl_occurrences.specs.Pieces.{declarations_in};
-ghost use Rattle.wesl_symbols.specs.declared.ids.NameId.{NameId};
 ghost use Rattle.wesl_table.specs.Imports.{imports as imports_in};
 ghost use Rattle.wesl_table.specs.Marks.{AreMarked};
-ghost use Rattle.wesl_table.specs.Numbering.{AreRelated, IsNumberedImport, AreNumberedImports, AreNumberedDeclarations, IsNumbered, Grows, NameAt, PathAt};
+ghost use Rattle.wesl_table.specs.Numbering.{IsNumberedImport, AreNumberedImports, IsNumbered, Grows, PathAt};
 ghost use Rattle.wesl_table.specs.NumbersView.{numbering};
-ghost use Rattle.wesl_table.specs.Reading.{AreNumbersOfNames, IsRead, IsNumberedBy, own_path, table_in, unit_in};
+ghost use Rattle.wesl_table.specs.Parts.{IsDeclared, IsNumberedUnit, IsUndeclared, IsUnnumbered};
+ghost use Rattle.wesl_table.specs.Reading.{AreNumbersOfNames, IsRead, IsNumberedBy, own_path, unit_in};
 ghost use Rattle.wesl_table.specs.Spelling.{spelled_import, spelled_imports};
 ghost use Rattle.wesl_table.specs.Tables.{uses, table_at};
 
 use crate::imports::imports;
-use crate::marks::{Mark, mark_piece};
+use crate::marks::{Mark, Marked, mark_piece};
 use crate::numbers::{Numbers, spelling};
-use crate::reading::{Reading, name_ids, name_set, names_of};
+use crate::reading::{Reading, add_ids, add_names, add_set};
 use indexmap::IndexSet;
 use std::alloc::Global;
 use wesl_meanings::meanings_of;
@@ -56,23 +56,26 @@ fn number_import(
     })
 }
 
-/// The imports with numbers in place of names and paths.
-fn number_imports(
+/// Adds the imports with numbers in place of names and paths.
+fn add_imports(
     alloc: Global,
     numbers: &mut Numbers,
     names: &Names,
     imports: &[Import<ModulePath, Ident>],
-) -> Result<Vec<Import<PathId, NameId>>, Error>
-    requires { All (λ i. is_relative (path_view i.path) ≡ false) imports.now }
-    ensures numbered { IfOk result (λ found. AreNumberedImports (numbering numbers.new) found.items (spelled_imports names.now imports.now)) }
+    found: &mut Vec<Import<PathId, NameId>>,
+) -> Result<(), Error>
+    requires asked { All (λ i. is_relative (path_view i.path) ≡ false) imports.now }
+    requires empty { found.old.items ≡ [] }
+    ensures numbered { OnOk result (AreNumberedImports (numbering numbers.new) found.new.items (spelled_imports names.now imports.now)) }
     ensures grows { Grows (numbering numbers.old) (numbering numbers.new) }
     ensures refused { IfErr result (λ e. e ≡ error.Memory) }
 {
-    let mut found = Vec::with_capacity(alloc, imports.len())?;
+    found.reserve_exact(imports.len())?;
     for import in imports {
-        found.push(number_import(alloc, numbers, names, import)?)?;
+        let number = number_import(alloc, numbers, names, import)?;
+        found.push(number)?;
     }
-    Ok(found)
+    Ok(())
 }
 
 /// Where the identifiers of a declaration end: where those of the next begin, and those of the last with the module's.
@@ -93,34 +96,55 @@ struct Declared {
     marks: Vec<Vec<Mark>>,
 }
 
-/// The declarations that bind these names, if they bind one, with what their identifiers are.
-fn mark_declarations(
+impl Declared {
+    /// Makes room for so many declarations.
+    fn reserve(&mut self, room: usize) -> Result<(), Error>
+        ensures declarations { self.new.declarations.items ≡ self.old.declarations.items }
+        ensures marks { self.new.marks.items ≡ self.old.marks.items }
+        ensures refused { IfErr result (λ e. e ≡ error.Memory) }
+    {
+        self.declarations.reserve_exact(room)?;
+        self.marks.reserve_exact(room)?;
+        Ok(())
+    }
+
+    /// Adds the declaration that binds this name, if it binds one, with what its identifiers are.
+    fn add(&mut self, name: Option<NameId>, marked: Marked) -> Result<(), Error>
+        ensures declarations { OnOk result (self.new.declarations.items ≡ self.old.declarations.items ++ record { name = name; references = marked.references.items } ∷ []) }
+        ensures marks { OnOk result (self.new.marks.items ≡ self.old.marks.items ++ marked.marks ∷ []) }
+        ensures refused { IfErr result (λ e. e ≡ error.Memory) }
+    {
+        let declaration = Declaration::new(name, marked.references);
+        self.declarations.push(declaration)?;
+        self.marks.push(marked.marks)?;
+        Ok(())
+    }
+}
+
+/// Adds the declarations that bind these names, if they bind one, with what their identifiers are.
+fn add_declarations(
     alloc: Global,
     numbers: &mut Numbers,
-    reading: Reading<'_, '_>,
+    reading: &Reading<'_, '_>,
     names: &[Option<NameId>],
-) -> Result<Declared, Error>
-    requires read { IsRead reading }
-    requires numbered { IsNumberedBy (numbering numbers.now) reading }
-    requires named { AreNumbersOfNames (numbering numbers.now) names.now (declarations_in (unit_in reading)) }
-    ensures declared { IfOk result (λ d. AreNumberedDeclarations (numbering numbers.new) d.declarations.items (table_in reading.entry).declarations) }
-    ensures marked { IfOk result (λ d. AreMarked (numbering numbers.new) d.marks.items (uses (own_path reading.entry) (unit_in reading.entry))) }
+    declared: &mut Declared,
+) -> Result<(), Error>
+    requires read { IsRead reading.now }
+    requires numbered { IsNumberedBy (numbering numbers.now) reading.now }
+    requires named { AreNumbersOfNames (numbering numbers.now) names.now (declarations_in (unit_in reading.now)) }
+    requires empty { IsUndeclared declared.old }
+    ensures declared { OnOk result (IsDeclared (numbering numbers.new) (own_path reading.now) (unit_in reading.now) declared.new) }
     ensures grows { Grows (numbering numbers.old) (numbering numbers.new) }
     ensures refused { IfErr result (λ e. e ≡ error.Memory) }
 {
     let found = &reading.meanings.found;
-    let mut declarations = Vec::with_capacity(alloc, names.len())?;
-    let mut marks = Vec::with_capacity(alloc, names.len())?;
+    declared.reserve(names.len())?;
     for i in 0..names.len() {
         let end = end_of(&found.starts, i, found.all.len());
         let one = mark_piece(alloc, numbers, reading, found.starts[i], end)?;
-        declarations.push(Declaration::new(names[i], one.references))?;
-        marks.push(one.marks)?;
+        declared.add(names[i], one)?;
     }
-    Ok(Declared {
-        declarations,
-        marks,
-    })
+    Ok(())
 }
 
 /// The numbers of a unit's imports and names, of the name that each declaration binds, if it binds one, and of these each
@@ -133,34 +157,32 @@ struct UnitNumbers {
     declared: IndexSet<NameId>,
 }
 
-/// Numbers for a unit, which has these imports.
-fn unit_numbers(
+/// Numbers a unit, which has these imports.
+fn number_unit(
     alloc: Global,
     numbers: &mut Numbers,
     unit: &TranslationUnit,
     imports: &[Import<ModulePath, Ident>],
-) -> Result<UnitNumbers, Error>
-    requires { All (λ i. is_relative (path_view i.path) ≡ false) imports.now }
-    ensures imports { IfOk result (λ n. AreNumberedImports (numbering numbers.new) n.imports.items (spelled_imports (unit_view unit.now).names imports.now)) }
-    ensures ids { IfOk result (λ n. AreRelated (NameAt (numbering numbers.new)) n.ids.items (unit_view unit.now).names) }
-    ensures names { IfOk result (λ n. AreNumbersOfNames (numbering numbers.new) n.names.items (declarations_in (spelled (unit_view unit.now)))) }
-    ensures declared { IfOk result (λ n. (x : NameId) → Contains n.declared.keys x ↔ Contains n.names.items (Some x)) }
+    numbered: &mut UnitNumbers,
+) -> Result<(), Error>
+    requires asked { All (λ i. is_relative (path_view i.path) ≡ false) imports.now }
+    requires empty { IsUnnumbered numbered.old }
+    ensures numbered { OnOk result (IsNumberedUnit (numbering numbers.new) (spelled_imports (unit_view unit.now).names imports.now) (unit_view unit.now) numbered.new) }
     ensures grows { Grows (numbering numbers.old) (numbering numbers.new) }
     ensures refused { IfErr result (λ e. e ≡ error.Memory) }
 {
-    let numbered = number_imports(alloc, numbers, unit.names(), imports)?;
-    let ids = name_ids(alloc, numbers, unit.names())?;
-    let names = names_of(alloc, numbers, unit.names(), unit.global_declarations())?;
-    let declared = name_set(alloc, &names)?;
-    Ok(UnitNumbers {
-        imports: numbered,
-        ids,
-        names,
-        declared,
-    })
+    add_imports(alloc, numbers, unit.names(), imports, &mut numbered.imports)?;
+    add_ids(numbers, unit.names(), &mut numbered.ids)?;
+    add_names(
+        numbers,
+        unit.names(),
+        unit.global_declarations(),
+        &mut numbered.names,
+    )?;
+    add_set(&numbered.names, &mut numbered.declared)
 }
 
-/// The declarations of a unit that stands at a path, which has this number, and the marks of their identifiers.
+/// Marks the declarations of a unit that stands at a path, which has this number.
 fn mark_unit(
     alloc: Global,
     numbers: &mut Numbers,
@@ -169,17 +191,15 @@ fn mark_unit(
     unit: &TranslationUnit,
     imports: &[Import<ModulePath, Ident>],
     numbered: &UnitNumbers,
-) -> Result<Declared, Error>
+    declared: &mut Declared,
+) -> Result<(), Error>
     requires asked { is_relative (path_view path.now) ≡ false }
     requires held { PathAt (numbering numbers.old) id (path_view path.now) }
     requires targets { All (λ i. is_relative (path_view i.path) ≡ false) imports.now }
     requires imports { spelled_imports (unit_view unit.now).names imports.now ≡ imports_in (path_view path.now) (spelled (unit_view unit.now)) }
-    requires numbered { AreNumberedImports (numbering numbers.old) numbered.now.imports.items (imports_in (path_view path.now) (spelled (unit_view unit.now))) }
-    requires ids { AreRelated (NameAt (numbering numbers.old)) numbered.now.ids.items (unit_view unit.now).names }
-    requires names { AreNumbersOfNames (numbering numbers.old) numbered.now.names.items (declarations_in (spelled (unit_view unit.now))) }
-    requires declared { (x : NameId) → Contains numbered.now.declared.keys x ↔ Contains numbered.now.names.items (Some x) }
-    ensures declared { IfOk result (λ d. AreNumberedDeclarations (numbering numbers.new) d.declarations.items (table_at (path_view path.now) (spelled (unit_view unit.now))).declarations) }
-    ensures marked { IfOk result (λ d. AreMarked (numbering numbers.new) d.marks.items (uses (path_view path.now) (spelled (unit_view unit.now)))) }
+    requires numbered { IsNumberedUnit (numbering numbers.old) (imports_in (path_view path.now) (spelled (unit_view unit.now))) (unit_view unit.now) numbered.now }
+    requires empty { IsUndeclared declared.old }
+    ensures declared { OnOk result (IsDeclared (numbering numbers.new) (path_view path.now) (spelled (unit_view unit.now)) declared.new) }
     ensures grows { Grows (numbering numbers.old) (numbering numbers.new) }
     ensures refused { IfErr result (λ e. e ≡ error.Memory) }
 {
@@ -194,23 +214,87 @@ fn mark_unit(
         ids: &numbered.ids,
         declared: &numbered.declared,
     };
-    mark_declarations(alloc, numbers, reading, &numbered.names)
+    add_declarations(alloc, numbers, &reading, &numbered.names, declared)
+}
+
+/// What a table is made of.
+#[derive(Drop)]
+struct Parts {
+    numbered: UnitNumbers,
+    declared: Declared,
+}
+
+impl Parts {
+    /// No parts. They take no memory.
+    fn new(alloc: Global) -> Parts
+        ensures numbered { IsUnnumbered result.numbered }
+        ensures declared { IsUndeclared result.declared }
+    {
+        Parts {
+            numbered: UnitNumbers {
+                imports: Vec::new(alloc),
+                ids: Vec::new(alloc),
+                names: Vec::new(alloc),
+                declared: IndexSet::new(alloc),
+            },
+            declared: Declared {
+                declarations: Vec::new(alloc),
+                marks: Vec::new(alloc),
+            },
+        }
+    }
+
+    /// Makes the parts of a unit that stands at a path, which has this number, and has these imports. It holds nothing,
+    /// so where memory is wanting nothing is let go.
+    fn fill(
+        &mut self,
+        alloc: Global,
+        numbers: &mut Numbers,
+        id: PathId,
+        path: &ModulePath,
+        unit: &TranslationUnit,
+        imports: &[Import<ModulePath, Ident>],
+    ) -> Result<(), Error>
+        requires asked { is_relative (path_view path.now) ≡ false }
+        requires held { PathAt (numbering numbers.old) id (path_view path.now) }
+        requires targets { All (λ i. is_relative (path_view i.path) ≡ false) imports.now }
+        requires imports { spelled_imports (unit_view unit.now).names imports.now ≡ imports_in (path_view path.now) (spelled (unit_view unit.now)) }
+        requires unnumbered { IsUnnumbered self.old.numbered }
+        requires undeclared { IsUndeclared self.old.declared }
+        ensures numbered { OnOk result (AreNumberedImports (numbering numbers.new) self.new.numbered.imports.items (imports_in (path_view path.now) (spelled (unit_view unit.now)))) }
+        ensures declared { OnOk result (IsDeclared (numbering numbers.new) (path_view path.now) (spelled (unit_view unit.now)) self.new.declared) }
+        ensures grows { Grows (numbering numbers.old) (numbering numbers.new) }
+        ensures refused { IfErr result (λ e. e ≡ error.Memory) }
+    {
+        number_unit(alloc, numbers, unit, imports, &mut self.numbered)?;
+        mark_unit(
+            alloc,
+            numbers,
+            id,
+            path,
+            unit,
+            imports,
+            &self.numbered,
+            &mut self.declared,
+        )
+    }
 }
 
 /// The symbol table of the module at this path with these imports and declarations, and the marks.
 fn make_tabled(
     alloc: Global,
     id: PathId,
-    numbered: UnitNumbers,
-    found: Declared,
+    imports: Vec<Import<PathId, NameId>>,
+    declared: Declared,
 ) -> Result<Tabled, Error>
-    ensures table { IfOk result (λ t. t.table ≡ record { path = id; imports = numbered.imports.items; declarations = found.declarations.items }) }
-    ensures marks { IfOk result (λ t. t.marks ≡ found.marks) }
+    ensures table { IfOk result (λ t. t.table ≡ record { path = id; imports = imports.items; declarations = declared.declarations.items }) }
+    ensures marks { IfOk result (λ t. t.marks ≡ declared.marks) }
     ensures refused { IfErr result (λ e. e ≡ error.Memory) }
 {
+    let table = Table::new(alloc, id, imports, declared.declarations)?;
     Ok(Tabled {
-        table: Table::new(alloc, id, numbered.imports, found.declarations)?,
-        marks: found.marks,
+        table,
+        marks: declared.marks,
     })
 }
 
@@ -233,7 +317,8 @@ pub fn table_of(
     ensures refused { IfErr result (λ e. e ≡ error.Memory) }
 {
     let imports = imports(alloc, path, unit.imports())?;
-    let numbered = unit_numbers(alloc, numbers, unit, &imports)?;
-    let found = mark_unit(alloc, numbers, id, path, unit, &imports, &numbered)?;
-    make_tabled(alloc, id, numbered, found)
+    let mut parts = Parts::new(alloc);
+    parts.fill(alloc, numbers, id, path, unit, &imports)?;
+    let Parts { numbered, declared } = parts;
+    make_tabled(alloc, id, numbered.imports, declared)
 }

@@ -3,7 +3,7 @@ use std::alloc::{AllocError, AllocFailed};
 use wesl_symbols::ids::{NameId, PathId};
 
 /// Why a link is refused, where the loader refuses with an `E`.
-#[derive(Debug, Drop)]
+#[derive(Drop)]
 pub enum LinkError<E> {
     /// Two binders of the name in one module have different targets.
     DuplicateSymbol(NameId),

@@ -10,7 +10,7 @@ use wesl_symbols::ids::PathId;
 use wesl_symbols::table::Table;
 
 /// Why a loader hands out no table.
-#[derive(Debug, Drop)]
+#[derive(Drop)]
 pub enum LoadError<E> {
     /// The path is refused.
     Refused(E),

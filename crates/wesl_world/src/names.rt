@@ -17,7 +17,7 @@ use wesl_symbols::symbols::{Import, LookUp, Reference};
 use wesl_symbols::table::{Declaration, Table};
 
 /// What a module answers to a look-up.
-#[derive(Clone, Copy, Debug, Drop)]
+#[derive(Clone, Copy, Drop)]
 pub enum Answer {
     /// It declares the name.
     Declared,

@@ -1,6 +1,7 @@
 use Rattle.std.proofs.Common.{IsTrue, rules}
 use Rattle.wesl_linker.specs.Holding.{is_added}
 use Rattle.wesl_linker.proofs.Meant.{askable}
+use Rattle.wesl_linker.proofs.Told.{pushed}
 use Rattle.wesl_linker.proofs.assemble.add_declaration.Goals as goal
 
 pub add_denotations-requires-clause-held : goal.add_denotations-requires-clause-held
@@ -8,8 +9,9 @@ add_denotations-requires-clause-held c =
     let reached : IsTrue c.is_held.result = search rules in
     askable c.args.link.now.linked c.args.table.now c.args.row.now c.args.declaration.now.node c.args.marks.now c.requires.inside c.requires.refers (c.is_held.ensures.0 reached)
 
-pub returns-clause-added : goal.returns-clause-added
-returns-clause-added c =
+pub returns-then-add_denotations : goal.returns-then-add_denotations
+returns-then-add_denotations c = λ h.
     let reached : IsTrue c.is_held.result = search rules in
-    let (ds, denots, meant) = c.in_ok-add_denotations.ensures.added in
-    is_added ds (c.is_held.ensures.0 reached) c.in_ok-push.ensures.items denots meant
+    let meanings : IsTrue c.add_denotations.result = search rules in
+    let (ds, denots, meant) = c.add_denotations.ensures meanings in
+    is_added ds (c.is_held.ensures.0 reached) (pushed c.args.parts.now.declarations.items c.push.new.self.items c.args.declaration c.push.result (search rules) c.push.ensures.items) denots meant

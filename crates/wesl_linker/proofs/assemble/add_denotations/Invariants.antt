@@ -4,4 +4,4 @@ use Rattle.wesl_linker.proofs.Adding.{AllMeant}
 use Rattle.wesl_linker.proofs.assemble.add_denotations.Given as goal
 
 abbrev pub invariant-loop-mark : goal.invariant-loop-mark
-invariant-loop-mark l = AllMeant (numbering l.link.numbers) l.link.linked l.table l.initial.denotations.items (take l.mark-index l.marks) l.denotations.items
+invariant-loop-mark l = AllMeant (numbering l.numbers) l.linked l.table l.initial.denotations.items (take l.mark-index l.marks) l.denotations.items

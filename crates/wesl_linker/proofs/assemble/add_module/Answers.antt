@@ -1,4 +1,4 @@
-use Rattle.std.proofs.Common.{◌<◌, List, length, sym, subst, ap, ◌∙◌}
+use Rattle.std.proofs.Common.{◌<◌, List, length, sym, subst, ap, ◌∙◌, rules}
 use Rattle.std.proofs.lemmas.List.{take_all}
 use Rattle.wesl_table.specs.NumbersView.{numbering}
 use Rattle.wesl_linker.specs.Linked.{Placed, placed}
@@ -65,10 +65,10 @@ loop-index-preserved c =
     let one : OneAt nb m c.loop-index.index c.declaration-item.result row ms =
     told_at nb m t c.module_table-table.ensures.numbered c.module_table-table.ensures.marked xs all c.loop-index.index c.declaration-item.result c.declarations-rows.result.now row c.index-marks.result.now ms
     c.loop-index-test.true c.declarations-rows.ensures c.declaration-item.is c.index-rows-index.is c.index-marks.ensures c.deref.ensures.value in
-    adds_next c.args.link.now c.requires.sound m t c.module_table-table.ensures.numbered c.args.parts.now c.loop-index.parts c.add_declaration.new.parts c.loop-index.index _ row ms one c.loop-index.invariant c.in_ok-add_declaration.ensures.added
+    adds_next c.args.link.now c.requires.sound m t c.module_table-table.ensures.numbered c.args.parts.now c.loop-index.parts c.add_declaration.new.parts c.loop-index.index _ row ms one c.loop-index.invariant (c.add_declaration.ensures (search rules))
 
-pub returns-clause-added : goal.returns-clause-added
-returns-clause-added c =
+pub returns : goal.returns
+returns c = λ h.
     let l = c.args.link.now in
     let m = c.args.module.now in
     let xs = c.deref-declaration-items.result.now in

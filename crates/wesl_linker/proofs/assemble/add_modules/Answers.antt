@@ -1,4 +1,4 @@
-use Rattle.std.proofs.Common.{List, [], ◌∷◌, sym, subst, ◌∙◌, take, Contains}
+use Rattle.std.proofs.Common.{List, [], ◌∷◌, sym, subst, ◌∙◌, take, Contains, rules}
 use Rattle.std.proofs.lemmas.List.{take_all}
 use Rattle.wesl_symbols.proofs.Lists.{contains_first, contains_later}
 use Rattle.wesl_table.proofs.Lists.{take_next}
@@ -12,7 +12,7 @@ pub add_module-requires-clause-inside : goal.add_module-requires-clause-inside
 add_module-requires-clause-inside c = contains_first c.args.link.now.root c.args.link.now.others.items
 
 pub loop-module-init : goal.loop-module-init
-loop-module-init c = λ words h. parts_more c.args.link.now words [] c.args.link.now.root c.args.parts.now c.add_module.new.parts h c.in_ok-add_module.ensures.added
+loop-module-init c = λ words h. parts_more c.args.link.now words [] c.args.link.now.root c.args.parts.now c.add_module.new.parts h (c.add_module.ensures (search rules))
 
 pub add_module-requires-in-loop-module-clause-inside : goal.add_module-requires-in-loop-module-clause-inside
 add_module-requires-in-loop-module-clause-inside c =
@@ -28,10 +28,10 @@ loop-module-preserved c = λ words h.
     let i = c.loop-module.module-index in
     let m = c.module-item.result in
     subst (λ (ms : List LoadedModule). AreParts l (l.root ∷ ms) words c.add_module-in-loop-module.new.parts) (sym (take_next xs i m c.loop-module-test.true c.module-item.is))
-    (parts_more l words (l.root ∷ take i xs) m c.loop-module.parts c.add_module-in-loop-module.new.parts (c.loop-module.invariant words h) c.in_ok-add_module-2.ensures.added)
+    (parts_more l words (l.root ∷ take i xs) m c.loop-module.parts c.add_module-in-loop-module.new.parts (c.loop-module.invariant words h) (c.add_module-in-loop-module.ensures (search rules)))
 
-pub returns-clause-added : goal.returns-clause-added
-returns-clause-added c = λ words h.
+pub returns : goal.returns
+returns c = λ t words h.
     let l = c.args.link.now in
     let xs = c.deref-module-items.result.now in
     subst (λ (ms : List LoadedModule). AreParts l (l.root ∷ ms) words c.loop-module.parts) (take_all c.loop-module.module-index xs c.loop-module-test.false ∙ c.deref-module-items.ensures.value) (c.loop-module.invariant words h)

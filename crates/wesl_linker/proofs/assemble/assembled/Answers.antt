@@ -1,4 +1,4 @@
-use Rattle.std.proofs.Common.{◌≡◌, ℕ, suc, List, [], ◌∷◌, length, ap, sym, subst, refl, ◌∙◌, map}
+use Rattle.std.proofs.Common.{◌≡◌, ℕ, suc, List, [], ◌∷◌, length, ap, sym, subst, refl, ◌∙◌, map, rules}
 use Rattle.std.specs.Prelude.{IfOk, Result, Ok, Err}
 use Rattle.wesl_syntax.specs.Tree.{identifiers}
 use Rattle.wesl_names.specs.Path.{Text}
@@ -33,7 +33,7 @@ linked_unit-requires c =
     let us = map (λ u. unit_view u.now) c.deref.result.now in
     let units = ap (map (λ u. unit_view u.now)) c.deref.ensures.value ∙ c.in_ok-units.ensures.units in
     let start : Parts = record { declarations = c.new.result; denotations = c.in_ok-nodes.field-0.words } in
-    let all : AreParts l (all_loaded l) words parts = c.in_ok-add_modules.ensures.added words (parts_none l words start c.new.ensures.items refl) in
+    let all : AreParts l (all_loaded l) words parts = c.add_modules.ensures (search rules) words (parts_none l words start c.new.ensures.items refl) in
     let to : nodes_of c.deref-2.result.now c.deref-3.result.now ≡ nodes_of nodes parts.declarations.items = ap (λ ns. nodes_of ns c.deref-3.result.now) c.deref-2.ensures.value ∙ ap (nodes_of nodes) c.deref-3.ensures.value in
     record {
       one_each = ap length c.deref-4.ensures.value ∙ (sym (same_length denotation_view parts.denotations.items)
@@ -49,7 +49,7 @@ returns-clause-assembled c =
     let us = map (λ u. unit_view u.now) c.deref.result.now in
     let units = ap (map (λ u. unit_view u.now)) c.deref.ensures.value ∙ c.in_ok-units.ensures.units in
     let start : Parts = record { declarations = c.new.result; denotations = c.in_ok-nodes.field-0.words } in
-    let all : AreParts l (all_loaded l) words parts = c.in_ok-add_modules.ensures.added words (parts_none l words start c.new.ensures.items refl) in
+    let all : AreParts l (all_loaded l) words parts = c.add_modules.ensures (search rules) words (parts_none l words start c.new.ensures.items refl) in
     let to : nodes_of c.deref-2.result.now c.deref-3.result.now ≡ nodes_of nodes parts.declarations.items = ap (λ ns. nodes_of ns c.deref-3.result.now) c.deref-2.ensures.value ∙ ap (nodes_of nodes) c.deref-3.ensures.value in
     let print : Meaning → Text = printed_as (printed_by (numbering l.numbers) (given c.args.given.now)) in
     if_ok c.linked_unit.result

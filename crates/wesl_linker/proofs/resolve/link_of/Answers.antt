@@ -2,6 +2,8 @@ use Rattle.std.proofs.Common.{◌≡◌, ◌-◌, List, take, drop, length, leng
 use Rattle.wesl_symbols.specs.declared.ids.PathId.{PathId}
 use Rattle.wesl_symbols.specs.declared.ids.NameId.{NameId}
 use Rattle.wesl_symbols.specs.Tables.{Table}
+use Rattle.wesl_world.specs.Faults.{AreDistinct}
+use Rattle.wesl_world.specs.Linking.{paths}
 use Rattle.wesl_table.specs.Numbering.{AreRelated}
 use Rattle.wesl_table.specs.NumbersView.{numbering}
 use Rattle.wesl_table.proofs.Lists.{taken_all}
@@ -17,6 +19,10 @@ rest_is xs ys e =
 pub take_modules-requires-clause-kept : goal.take_modules-requires-clause-kept
 take_modules-requires-clause-kept c =
     subst (λ (ts : List (Table PathId NameId)). AreKept (numbering c.args.numbers) c.args.units.now.entries ts) (sym (rest_is c.tables.result.now c.args.linked.tables c.tables.ensures)) c.requires.left
+
+pub take_modules-requires-clause-once : goal.take_modules-requires-clause-once
+take_modules-requires-clause-once c =
+    subst (λ (ts : List (Table PathId NameId)). AreDistinct (paths ts)) (sym (rest_is c.tables.result.now c.args.linked.tables c.tables.ensures)) c.requires.once
 
 pub returns-clause-found : goal.returns-clause-found
 returns-clause-found c = (

@@ -18,3 +18,6 @@ loop-name-preserved c = record {
 
 pub returns-in_err-name-clause-grows : goal.returns-in_err-name-clause-grows
 returns-in_err-name-clause-grows c = grows_trans (numbering c.args.numbers.now) (numbering c.loop-name.numbers) _ c.loop-name.invariant.grows c.name.ensures.grows
+
+pub returns-in_err-push-clause-grows : goal.returns-in_err-push-clause-grows
+returns-in_err-push-clause-grows c = grows_trans (numbering c.args.numbers.now) (numbering c.loop-name.numbers) _ c.loop-name.invariant.grows c.name.ensures.grows

@@ -1,4 +1,4 @@
-use Rattle.std.proofs.Common.{◌≡◌, List, drop, subst, sym, ◌∙◌}
+use Rattle.std.proofs.Common.{◌≡◌, List, drop, subst, sym, ap, ◌∙◌}
 use Rattle.wesl_names.specs.Path.{path_view}
 use Rattle.wesl_syntax.specs.Unit.{spelled}
 use Rattle.wesl_tree.specs.Translation.{unit_view}
@@ -130,8 +130,8 @@ error_of-requires g c =
     let rm = module_at c.args.root.path c.args.root.unit in
     reach_numbers first nb grown g.S.Source.hands g.S.Source.refuses end.units.now.entries kept.one_unit c.args.table rm c.requires.root end.numbers.now.paths.different end.numbers.now.names.different end.numbers.now.paths.asked c.args.root.kept.items c.requires.kept.0 c.requires.kept.1 c.args.root.is_eager c.args.max_modules c.in-Err.fault c.in-Err.ensures.refused
 
-pub returns-in_ok-link-in-Ok-clause-linked : goal.returns-in_ok-link-in-Ok-clause-linked
-returns-in_ok-link-in-Ok-clause-linked g c =
+pub returns-in_ok-link-in-Ok-clause-reached : goal.returns-in_ok-link-in-Ok-clause-reached
+returns-in_ok-link-in-Ok-clause-reached g c =
     let first = numbering c.args.modules.now.numbers.now in
     let start : Keeps (g.R.Resolver.hands c.args.modules.now.resolver.now) (g.R.Resolver.refuses c.args.modules.now.resolver.now) g.S.Source.hands g.S.Source.refuses g.S.Source.first first c.args.modules.now.units.now.entries =
     keeps_nothing (g.R.Resolver.hands c.args.modules.now.resolver.now) g.S.Source.hands (g.R.Resolver.refuses c.args.modules.now.resolver.now) g.S.Source.refuses g.S.Source.first first c.args.modules.now.units.now.entries c.requires.follows c.requires.first c.requires.nothing in
@@ -151,76 +151,15 @@ returns-in_ok-link-in-Ok-clause-linked g c =
     let l = c.in_ok-link-in-Ok.link in
     let (ms, rel, same, sorted) = c.in_ok-link-in-Ok.ensures.found in
     let taken : AreRelated (IsTaken nb end.units.now.entries ts) ts ms = subst (λ (xs : List (Table PathId NameId)). AreRelated (IsTaken nb end.units.now.entries (drop 1 xs)) (drop 1 xs) ms) is rel in
-    λ keep kept_so. sound.linked_told numbers first grown g.S.Source.hands g.S.Source.refuses end.units.now.entries kept.one_unit kept.handed_out c.args.table c.args.root.path c.args.root.unit c.args.root.marks c.requires.root c.requires.marked c.args.root.kept keep kept_so c.args.root.is_eager c.args.max_modules c.in-Ok.linked linked ts is ms l.others taken same (resolved c.of_link.result) (subst (λ (x : Link). IsFoundBy x (resolved c.of_link.result)) c.in_ok-link-in-Ok.ensures.rest c.of_link.ensures.found)
-
-pub returns-in_ok-link-in-Ok-clause-order : goal.returns-in_ok-link-in-Ok-clause-order
-returns-in_ok-link-in-Ok-clause-order g c =
-    let first = numbering c.args.modules.now.numbers.now in
-    let start : Keeps (g.R.Resolver.hands c.args.modules.now.resolver.now) (g.R.Resolver.refuses c.args.modules.now.resolver.now) g.S.Source.hands g.S.Source.refuses g.S.Source.first first c.args.modules.now.units.now.entries =
-    keeps_nothing (g.R.Resolver.hands c.args.modules.now.resolver.now) g.S.Source.hands (g.R.Resolver.refuses c.args.modules.now.resolver.now) g.S.Source.refuses g.S.Source.first first c.args.modules.now.units.now.entries c.requires.follows c.requires.first c.requires.nothing in
-    let end = c.linked_by.new.loader in
-    let there = (c.linked_by.ensures.adds.ready c.args.table.path ((path_view c.args.root.path, c.requires.root.path), ((c.requires.ready, c.requires.stays), start))).1 in
-    let numbers = c.replace-numbers.result in
-    let moved : end.numbers.now ≡ numbers = sym c.replace-numbers.ensures.value in
-    let nb = numbering numbers in
-    let kept : Keeps (g.R.Resolver.hands end.resolver.now) (g.R.Resolver.refuses end.resolver.now) g.S.Source.hands g.S.Source.refuses g.S.Source.first nb end.units.now.entries =
-    subst (λ (n : Numbers). Keeps (g.R.Resolver.hands end.resolver.now) (g.R.Resolver.refuses end.resolver.now) g.S.Source.hands g.S.Source.refuses g.S.Source.first (numbering n) end.units.now.entries) moved there.1 in
-    let grown : Grows first nb = subst (λ (x : Numbering). Grows x nb) c.requires.first kept.grows in
-    let rm = module_at c.args.root.path c.args.root.unit in
-    let named = c.in-Ok.ensures.linked in
-    let linked = subst (λ (n : Numbers). IsLinked (IsHandedTable g.S.Source.hands (numbering n) end.units.now.entries) (IsRefusedPath g.S.Source.refuses (numbering n)) c.args.table (task_of c.args.table c.args.root.kept.items c.args.root.is_eager) c.args.max_modules c.in-Ok.linked) moved named in
-    let ts = linked.root_first.0 in
-    let is = linked.root_first.1 in
-    let l = c.in_ok-link-in-Ok.link in
-    let (ms, rel, same, sorted) = c.in_ok-link-in-Ok.ensures.found in
-    let taken : AreRelated (IsTaken nb end.units.now.entries ts) ts ms = subst (λ (xs : List (Table PathId NameId)). AreRelated (IsTaken nb end.units.now.entries (drop 1 xs)) (drop 1 xs) ms) is rel in
-    sound.order_told numbers first grown g.S.Source.hands g.S.Source.refuses end.units.now.entries kept.one_unit kept.handed_out c.args.table c.args.root.path c.args.root.unit c.args.root.marks c.requires.root c.requires.marked c.args.root.kept c.requires.kept.0 c.requires.kept.1 c.args.root.is_eager c.args.max_modules c.in-Ok.linked linked ts is ms l.others taken same (resolved c.of_link.result) (subst (λ (x : Link). IsFoundBy x (resolved c.of_link.result)) c.in_ok-link-in-Ok.ensures.rest c.of_link.ensures.found) sorted
-
-pub returns-in_ok-link-in-Ok-clause-kept : goal.returns-in_ok-link-in-Ok-clause-kept
-returns-in_ok-link-in-Ok-clause-kept g c =
-    let first = numbering c.args.modules.now.numbers.now in
-    let start : Keeps (g.R.Resolver.hands c.args.modules.now.resolver.now) (g.R.Resolver.refuses c.args.modules.now.resolver.now) g.S.Source.hands g.S.Source.refuses g.S.Source.first first c.args.modules.now.units.now.entries =
-    keeps_nothing (g.R.Resolver.hands c.args.modules.now.resolver.now) g.S.Source.hands (g.R.Resolver.refuses c.args.modules.now.resolver.now) g.S.Source.refuses g.S.Source.first first c.args.modules.now.units.now.entries c.requires.follows c.requires.first c.requires.nothing in
-    let end = c.linked_by.new.loader in
-    let there = (c.linked_by.ensures.adds.ready c.args.table.path ((path_view c.args.root.path, c.requires.root.path), ((c.requires.ready, c.requires.stays), start))).1 in
-    let numbers = c.replace-numbers.result in
-    let moved : end.numbers.now ≡ numbers = sym c.replace-numbers.ensures.value in
-    let nb = numbering numbers in
-    let kept : Keeps (g.R.Resolver.hands end.resolver.now) (g.R.Resolver.refuses end.resolver.now) g.S.Source.hands g.S.Source.refuses g.S.Source.first nb end.units.now.entries =
-    subst (λ (n : Numbers). Keeps (g.R.Resolver.hands end.resolver.now) (g.R.Resolver.refuses end.resolver.now) g.S.Source.hands g.S.Source.refuses g.S.Source.first (numbering n) end.units.now.entries) moved there.1 in
-    let grown : Grows first nb = subst (λ (x : Numbering). Grows x nb) c.requires.first kept.grows in
-    let rm = module_at c.args.root.path c.args.root.unit in
-    let named = c.in-Ok.ensures.linked in
-    let linked = subst (λ (n : Numbers). IsLinked (IsHandedTable g.S.Source.hands (numbering n) end.units.now.entries) (IsRefusedPath g.S.Source.refuses (numbering n)) c.args.table (task_of c.args.table c.args.root.kept.items c.args.root.is_eager) c.args.max_modules c.in-Ok.linked) moved named in
-    let ts = linked.root_first.0 in
-    let is = linked.root_first.1 in
-    let l = c.in_ok-link-in-Ok.link in
-    let (ms, rel, same, sorted) = c.in_ok-link-in-Ok.ensures.found in
-    let taken : AreRelated (IsTaken nb end.units.now.entries ts) ts ms = subst (λ (xs : List (Table PathId NameId)). AreRelated (IsTaken nb end.units.now.entries (drop 1 xs)) (drop 1 xs) ms) is rel in
-    λ keep kept_so. sound.kept_told numbers first grown g.S.Source.hands g.S.Source.refuses end.units.now.entries kept.one_unit kept.handed_out c.args.table c.args.root.path c.args.root.unit c.args.root.marks c.requires.root c.requires.marked c.args.root.kept keep kept_so c.args.root.is_eager c.args.max_modules c.in-Ok.linked linked ts is ms l.others taken same (resolved c.of_link.result) (subst (λ (x : Link). IsFoundBy x (resolved c.of_link.result)) c.in_ok-link-in-Ok.ensures.rest c.of_link.ensures.found)
-
-pub returns-in_ok-link-in-Ok-clause-eager : goal.returns-in_ok-link-in-Ok-clause-eager
-returns-in_ok-link-in-Ok-clause-eager g c =
-    let first = numbering c.args.modules.now.numbers.now in
-    let start : Keeps (g.R.Resolver.hands c.args.modules.now.resolver.now) (g.R.Resolver.refuses c.args.modules.now.resolver.now) g.S.Source.hands g.S.Source.refuses g.S.Source.first first c.args.modules.now.units.now.entries =
-    keeps_nothing (g.R.Resolver.hands c.args.modules.now.resolver.now) g.S.Source.hands (g.R.Resolver.refuses c.args.modules.now.resolver.now) g.S.Source.refuses g.S.Source.first first c.args.modules.now.units.now.entries c.requires.follows c.requires.first c.requires.nothing in
-    let end = c.linked_by.new.loader in
-    let there = (c.linked_by.ensures.adds.ready c.args.table.path ((path_view c.args.root.path, c.requires.root.path), ((c.requires.ready, c.requires.stays), start))).1 in
-    let numbers = c.replace-numbers.result in
-    let moved : end.numbers.now ≡ numbers = sym c.replace-numbers.ensures.value in
-    let nb = numbering numbers in
-    let kept : Keeps (g.R.Resolver.hands end.resolver.now) (g.R.Resolver.refuses end.resolver.now) g.S.Source.hands g.S.Source.refuses g.S.Source.first nb end.units.now.entries =
-    subst (λ (n : Numbers). Keeps (g.R.Resolver.hands end.resolver.now) (g.R.Resolver.refuses end.resolver.now) g.S.Source.hands g.S.Source.refuses g.S.Source.first (numbering n) end.units.now.entries) moved there.1 in
-    let grown : Grows first nb = subst (λ (x : Numbering). Grows x nb) c.requires.first kept.grows in
-    let rm = module_at c.args.root.path c.args.root.unit in
-    let named = c.in-Ok.ensures.linked in
-    let linked = subst (λ (n : Numbers). IsLinked (IsHandedTable g.S.Source.hands (numbering n) end.units.now.entries) (IsRefusedPath g.S.Source.refuses (numbering n)) c.args.table (task_of c.args.table c.args.root.kept.items c.args.root.is_eager) c.args.max_modules c.in-Ok.linked) moved named in
-    let ts = linked.root_first.0 in
-    let is = linked.root_first.1 in
-    let l = c.in_ok-link-in-Ok.link in
-    let (ms, rel, same, sorted) = c.in_ok-link-in-Ok.ensures.found in
-    let taken : AreRelated (IsTaken nb end.units.now.entries ts) ts ms = subst (λ (xs : List (Table PathId NameId)). AreRelated (IsTaken nb end.units.now.entries (drop 1 xs)) (drop 1 xs) ms) is rel in
-    sound.eager_told numbers first grown g.S.Source.hands g.S.Source.refuses end.units.now.entries kept.one_unit kept.handed_out c.args.table c.args.root.path c.args.root.unit c.args.root.marks c.requires.root c.requires.marked c.args.root.kept c.requires.kept.0 c.requires.kept.1 c.args.root.is_eager c.args.max_modules c.in-Ok.linked linked ts is ms l.others taken same (resolved c.of_link.result) (subst (λ (x : Link). IsFoundBy x (resolved c.of_link.result)) c.in_ok-link-in-Ok.ensures.rest c.of_link.ensures.found)
+    let found = subst (λ (x : Link). IsFoundBy x (resolved c.of_link.result)) c.in_ok-link-in-Ok.ensures.rest c.of_link.ensures.found in
+    record {
+      linked = λ keep kept_so. sound.linked_told numbers first grown g.S.Source.hands g.S.Source.refuses end.units.now.entries kept.one_unit kept.handed_out c.args.table c.args.root.path c.args.root.unit c.args.root.marks c.requires.root c.requires.marked c.args.root.kept keep kept_so c.args.root.is_eager c.args.max_modules c.in-Ok.linked linked ts is ms l.others taken same (resolved c.of_link.result) found;
+      order = sound.order_told numbers first grown g.S.Source.hands g.S.Source.refuses end.units.now.entries kept.one_unit kept.handed_out c.args.table c.args.root.path c.args.root.unit c.args.root.marks c.requires.root c.requires.marked c.args.root.kept c.requires.kept.0 c.requires.kept.1 c.args.root.is_eager c.args.max_modules c.in-Ok.linked linked ts is ms l.others taken same (resolved c.of_link.result) found sorted;
+      kept = λ keep kept_so. sound.kept_told numbers first grown g.S.Source.hands g.S.Source.refuses end.units.now.entries kept.one_unit kept.handed_out c.args.table c.args.root.path c.args.root.unit c.args.root.marks c.requires.root c.requires.marked c.args.root.kept keep kept_so c.args.root.is_eager c.args.max_modules c.in-Ok.linked linked ts is ms l.others taken same (resolved c.of_link.result) found;
+      eager = c.of_link.ensures.found.eager ∙ ap (λ (x : Link). x.is_eager) c.in_ok-link-in-Ok.ensures.rest;
+      sound = c.of_link.ensures.sound;
+      names = c.of_link.ensures.found.names;
+    }
 
 pub returns-in-Err-clause-refused : goal.returns-in-Err-clause-refused
 returns-in-Err-clause-refused g c =

@@ -5,7 +5,7 @@ use Rattle.wesl_table.specs.Base.{base_view}
 use Rattle.wesl_table.specs.Walks.{import_view, imported}
 use Rattle.wesl_table.proofs.imports.+imports.Given as goal
 
-abbrev pub invariant-loop-entry : goal.invariant-loop-entry
-invariant-loop-entry l =
+abbrev pub invariant-add_entries-loop-entry : goal.invariant-add_entries-loop-entry
+invariant-add_entries-loop-entry l =
     imported l.published (base_view l.base) (map import_view l.initial.found.items) (forest_of (map entry_view l.entry-items))
     ≡ imported l.published (base_view l.base) (map import_view l.found.items) (forest_of (map entry_view (drop l.entry-index l.entry-items)))

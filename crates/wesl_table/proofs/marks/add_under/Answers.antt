@@ -1,4 +1,9 @@
+use Rattle.std.proofs.Common.{◌≡◌, false, map, subst, sym}
+use Rattle.wesl_names.specs.Path.{path_view, is_relative}
 use Rattle.wesl_table.specs.NumbersView.{numbering}
+use Rattle.wesl_table.specs.Reading.{Adds}
+use Rattle.wesl_table.specs.Uses.{under}
+use Rattle.wesl_table.proofs.Lists.{taken_all}
 use Rattle.wesl_table.proofs.Added.{adds_none, under_next}
 use Rattle.wesl_table.proofs.Related.{grows_itself, grows_trans}
 use Rattle.wesl_table.proofs.marks.add_under.Goals as goal
@@ -16,3 +21,17 @@ loop-module-preserved c = record {
 
 pub returns-in_err-path-clause-grows : goal.returns-in_err-path-clause-grows
 returns-in_err-path-clause-grows c = grows_trans (numbering c.args.numbers.now) (numbering c.loop-module.numbers) (numbering c.path.new.self) c.loop-module.invariant.grows c.path.ensures.grows
+
+pub path-requires : goal.path-requires
+path-requires c = subst (λ p. is_relative (path_view p) ≡ false) (sym c.module-item.is) (c.requires c.loop-module.module-index c.module-item.result c.loop-module-test.true)
+
+pub returns-in_err-push-clause-grows : goal.returns-in_err-push-clause-grows
+returns-in_err-push-clause-grows c = grows_trans (numbering c.args.numbers.now) (numbering c.loop-module.numbers) (numbering c.path.new.self) c.loop-module.invariant.grows c.path.ensures.grows
+
+pub returns-clause-grows : goal.returns-clause-grows
+returns-clause-grows c = c.loop-module.invariant.grows
+
+pub returns-clause-added : goal.returns-clause-added
+returns-clause-added c = λ x n.
+    subst (λ ms. Adds (numbering c.loop-module.numbers) c.args.found.now.items c.loop-module.found.items (map (under x) (map path_view ms)))
+    (taken_all c.args.modules.now c.loop-module.module-index c.loop-module-test.false) (c.loop-module.invariant.added x n)

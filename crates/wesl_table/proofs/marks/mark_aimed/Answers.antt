@@ -12,7 +12,7 @@ use Rattle.wesl_table.proofs.marks.mark_aimed.Goals as goal
 
 pub returns-clause-marked : goal.returns-clause-marked
 returns-clause-marked c = λ x n.
-    let r = c.args.reading in
+    let r = c.args.reading.now in
     let a = numbering c.args.numbers.now in
     let b = numbering c.add_under.new.numbers in
     let path = path_view c.args.path.now in

@@ -6,27 +6,21 @@ use Rattle.wesl_table.specs.NumbersView.{numbering}
 use Rattle.wesl_table.specs.Reading.{view_in}
 use Rattle.wesl_table.proofs.Added.{marks_declared, marks_word}
 use Rattle.wesl_table.proofs.Asked.{if_ok}
-use Rattle.wesl_table.proofs.Seen.{keys_length, mark_there, key_there, id_there, name_there}
+use Rattle.wesl_table.proofs.Seen.{keys_length, mark_there, mark_meant, key_there, id_there, name_there}
 use Rattle.wesl_table.proofs.marks.mark_at.Goals as goal
 
 pub id_of-name-requires : goal.id_of-name-requires
-id_of-name-requires c = id_there c.args.reading c.requires.read spelled_occurrences (numbering c.args.numbers.now) c.requires.numbered c.args.index c.index-occurrence.result.now c.requires.inside c.index-occurrence.ensures
+id_of-name-requires c = id_there c.args.reading.now c.requires.read spelled_occurrences (numbering c.args.numbers.now) c.requires.numbered c.args.index c.index-occurrence.result.now c.requires.inside c.index-occurrence.ensures
 
 pub index-key-requires : goal.index-key-requires
-index-key-requires c = omega (arith, c.requires.inside, keys_length c.args.reading c.requires.read spelled_occurrences, c.args.reading.meanings.now.keys.ok.0)
+index-key-requires c = omega (arith, c.requires.inside, keys_length c.args.reading.now c.requires.read spelled_occurrences, c.args.reading.now.meanings.now.keys.ok.0)
 
 pub mark_reference-requires-clause-below : goal.mark_reference-requires-clause-below
-mark_reference-requires-clause-below c = key_there c.args.reading c.requires.read spelled_occurrences c.args.index c.index-key.result.now c.requires.inside c.index-key.ensures
-
-pub mark_reference-requires-in-Local-clause-below : goal.mark_reference-requires-in-Local-clause-below
-mark_reference-requires-in-Local-clause-below c = key_there c.args.reading c.requires.read spelled_occurrences c.args.index c.index-key.result.now c.requires.inside c.index-key.ensures
-
-pub mark_reference-requires-in-Reference-clause-below : goal.mark_reference-requires-in-Reference-clause-below
-mark_reference-requires-in-Reference-clause-below c = key_there c.args.reading c.requires.read spelled_occurrences c.args.index c.index-key.result.now c.requires.inside c.index-key.ensures
+mark_reference-requires-clause-below c = key_there c.args.reading.now c.requires.read spelled_occurrences c.args.index c.index-key.result.now c.requires.inside c.index-key.ensures
 
 pub returns-in-ModuleName-clause-marked : goal.returns-in-ModuleName-clause-marked
 returns-in-ModuleName-clause-marked c =
-    let r = c.args.reading in
+    let r = c.args.reading.now in
     let a = numbering c.args.numbers.now in
     let o = c.index-occurrence.result.now in
     let x = name_in (view_in r).names o.ident.0 in
@@ -36,7 +30,7 @@ returns-in-ModuleName-clause-marked c =
 
 pub returns-in-Word-clause-marked : goal.returns-in-Word-clause-marked
 returns-in-Word-clause-marked c =
-    let r = c.args.reading in
+    let r = c.args.reading.now in
     let a = numbering c.args.numbers.now in
     let o = c.index-occurrence.result.now in
     let x = name_in (view_in r).names o.ident.0 in
@@ -44,35 +38,13 @@ returns-in-Word-clause-marked c =
     mark_there r c.requires.read spelled_occurrences a _ c.args.found.now.items c.args.found.now.items c.args.index o c.index-key.result.now standings.Word c.requires.inside c.index-occurrence.ensures c.index-key.ensures c.in-Word.is
     (marks_word a c.id_of-name.result x c.args.found.now.items at)
 
-pub returns-in-Parameter-clause-marked : goal.returns-in-Parameter-clause-marked
-returns-in-Parameter-clause-marked c =
-    let r = c.args.reading in
+pub returns-in_default-clause-marked : goal.returns-in_default-clause-marked
+returns-in_default-clause-marked c =
+    let r = c.args.reading.now in
     let a = numbering c.args.numbers.now in
     let o = c.index-occurrence.result.now in
     let x = name_in (view_in r).names o.ident.0 in
     let at = name_there r c.requires.read spelled_occurrences a c.requires.numbered c.args.index o c.id_of-name.result c.requires.inside c.index-occurrence.ensures c.id_of-name.ensures in
     if_ok c.mark_reference.result
-    (λ m f. mark_there r c.requires.read spelled_occurrences (numbering c.mark_reference.new.numbers) m c.args.found.now.items c.mark_reference.new.found.items c.args.index o c.index-key.result.now standings.Parameter c.requires.inside c.index-occurrence.ensures c.index-key.ensures c.in-Parameter.is (f x at))
+    (λ m f. mark_meant r c.requires.read spelled_occurrences (numbering c.mark_reference.new.numbers) m c.args.found.now.items c.mark_reference.new.found.items c.args.index o c.index-key.result.now c.requires.inside c.index-occurrence.ensures c.index-key.ensures c.in_default.not-ModuleName c.in_default.not-Word (f x at))
     c.mark_reference.ensures.marked
-
-pub returns-in-Local-clause-marked : goal.returns-in-Local-clause-marked
-returns-in-Local-clause-marked c =
-    let r = c.args.reading in
-    let a = numbering c.args.numbers.now in
-    let o = c.index-occurrence.result.now in
-    let x = name_in (view_in r).names o.ident.0 in
-    let at = name_there r c.requires.read spelled_occurrences a c.requires.numbered c.args.index o c.id_of-name.result c.requires.inside c.index-occurrence.ensures c.id_of-name.ensures in
-    if_ok c.mark_reference-in-Local.result
-    (λ m f. mark_there r c.requires.read spelled_occurrences (numbering c.mark_reference-in-Local.new.numbers) m c.args.found.now.items c.mark_reference-in-Local.new.found.items c.args.index o c.index-key.result.now (standings.Local c.in-Local.end) c.requires.inside c.index-occurrence.ensures c.index-key.ensures c.in-Local.is (f x at))
-    c.mark_reference-in-Local.ensures.marked
-
-pub returns-in-Reference-clause-marked : goal.returns-in-Reference-clause-marked
-returns-in-Reference-clause-marked c =
-    let r = c.args.reading in
-    let a = numbering c.args.numbers.now in
-    let o = c.index-occurrence.result.now in
-    let x = name_in (view_in r).names o.ident.0 in
-    let at = name_there r c.requires.read spelled_occurrences a c.requires.numbered c.args.index o c.id_of-name.result c.requires.inside c.index-occurrence.ensures c.id_of-name.ensures in
-    if_ok c.mark_reference-in-Reference.result
-    (λ m f. mark_there r c.requires.read spelled_occurrences (numbering c.mark_reference-in-Reference.new.numbers) m c.args.found.now.items c.mark_reference-in-Reference.new.found.items c.args.index o c.index-key.result.now (standings.Reference c.in-Reference.field-0) c.requires.inside c.index-occurrence.ensures c.index-key.ensures c.in-Reference.is (f x at))
-    c.mark_reference-in-Reference.ensures.marked

@@ -1,11 +1,14 @@
-use Rattle.std.proofs.Common.{◌≡◌, Some, None, sym, ap, ◌∙◌}
-use Rattle.wesl_linker.proofs.Giving.{more_named, more_unnamed, gives_all, declared}
+use Rattle.std.proofs.Common.{◌≡◌, Some, None, refl, sym, ap, ◌∙◌}
+use Rattle.wesl_linker.proofs.Giving.{names_none, more_named, more_unnamed, gives_all, declared, undeclared_stay, undeclared_on}
 use Rattle.std.proofs.lemmas.List.{take_all}
 use Rattle.wesl_names.specs.Path.{path_view}
 use Rattle.wesl_table.specs.NumbersView.{numbering}
 use Rattle.wesl_linker.specs.GivenView.{given}
 use Rattle.wesl_linker.specs.Recorded.{all_written, writes_of, firsts, declared_texts}
 use Rattle.wesl_linker.proofs.Recording as recording
+use Rattle.wesl_symbols.specs.declared.ids.PathId.{PathId}
+use Rattle.wesl_symbols.specs.declared.ids.NameId.{NameId}
+use Rattle.wesl_symbols.specs.declared.symbols.Symbol.{Symbol}
 use Rattle.wesl_linker.proofs.given.GivenNames.add_table.Goals as goal
 use Rattle.wesl_linker.proofs.given.GivenNames.add_table.Goals.{in-Some+in-Some-name+in_ok-add_name, in_default}
 
@@ -47,3 +50,23 @@ returns-clause-recorded g c = λ none x.
     c.loop-declaration.invariant.recorded none x
     ∙ ap (λ ds. all_written g.M.Mangler.writes (writes_of (g.M.Mangler.name_of c.args.mangler.now) (path_view c.args.path.now) (firsts (declared_texts (numbering c.args.numbers.now) ds))) (g.M.Mangler.recorded c.args.mangler.now) x)
     (take_all c.loop-declaration.declaration-index _ c.loop-declaration-test.false ∙ c.declarations-declaration-items.ensures)
+
+pub loop-declaration-init : goal.loop-declaration-init
+loop-declaration-init g c = record { names = names_none (numbering c.args.numbers.now) (g.M.Mangler.name_of c.args.mangler.now (path_view c.args.path.now)) c.args.table.now.path (given c.args.self.now); recorded = λ none x. refl; same = λ p i. refl }
+
+pub returns-clause-undeclared : goal.returns-clause-undeclared
+returns-clause-undeclared g c = undeclared_stay _ _ c.args.table.now _ _ _ _ c.declarations-declaration-items.ensures c.loop-declaration.invariant.names
+
+pub returns-in_err-add_name-clause-undeclared : goal.returns-in_err-add_name-clause-undeclared
+returns-in_err-add_name-clause-undeclared g c =
+    undeclared_on _ _ c.args.table.now _ _ _ _ _ _ c.declarations-declaration-items.ensures c.loop-declaration.invariant.names
+    (declared c.args.table.now _ _ _ _ c.declarations-declaration-items.ensures c.loop-declaration-test.true c.declaration-item.is c.in-Some.ensures) c.add_name.ensures.others
+
+pub returns-in_err-add_name-clause-keeps : goal.returns-in_err-add_name-clause-keeps
+returns-in_err-add_name-clause-keeps g c = λ s x h. c.add_name.ensures.keeps s x (c.loop-declaration.invariant.names.keeps s x h)
+
+pub returns-in_err-add_name-clause-others : goal.returns-in_err-add_name-clause-others
+returns-in_err-add_name-clause-others g c = λ s no. c.add_name.ensures.others s (λ e. no (ap (λ (k : Symbol PathId NameId). k.path) e ∙ c.path.ensures)) ∙ c.loop-declaration.invariant.names.others s no
+
+pub returns-in_err-add_name-clause-same : goal.returns-in_err-add_name-clause-same
+returns-in_err-add_name-clause-same g c = λ p i. c.add_name.ensures.same p i ∙ c.loop-declaration.invariant.same p i

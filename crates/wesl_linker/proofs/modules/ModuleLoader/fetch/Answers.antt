@@ -1,38 +1,31 @@
-use Rattle.std.proofs.Common.{refl}
 use Rattle.wesl_names.specs.Path.{path_view}
 use Rattle.wesl_syntax.specs.Unit.{spelled}
 use Rattle.wesl_tree.specs.Translation.{unit_view}
+use Rattle.wesl_symbols.specs.declared.ids.PathId.{PathId}
+use Rattle.wesl_symbols.specs.declared.ids.NameId.{NameId}
+use Rattle.wesl_symbols.specs.Tables.{Table}
 use Rattle.wesl_table.specs.NumbersView.{numbering}
 use Rattle.wesl_table.proofs.Related.{path_later}
-use Rattle.wesl_linker.proofs.Readying.{keeps_on, keeps_put, put_keeps}
+use Rattle.wesl_linker.specs.Handing.{IsHandedTable, KeepsUnit}
+use Rattle.wesl_linker.proofs.Readying.{in_ok, keeps_kept, kept_keeps, kept_handed}
 use Rattle.wesl_linker.proofs.modules.ModuleLoader.fetch.Goals as goal
 
-pub returns-in_err-table-clause-keeps : goal.returns-in_err-table-clause-keeps
-returns-in_err-table-clause-keeps g c =
-    keeps_on (g.R.Resolver.hands c.args.self.now.resolver.now) (g.R.Resolver.hands c.resolve_module.new.self) g.S.Source.hands (g.R.Resolver.refuses c.args.self.now.resolver.now) (g.R.Resolver.refuses c.resolve_module.new.self) g.S.Source.refuses g.S.Source.first
-    (numbering c.args.self.now.numbers.now) (numbering c.read.new.numbers) c.args.self.now.units.now.entries c.args.self.now.units.now.entries c.requires.keeps c.resolve_module.ensures.same.units c.resolve_module.ensures.same.faults c.read.ensures.grows refl
+pub returns-in-Ok-clause-handed : goal.returns-in-Ok-clause-handed
+returns-in-Ok-clause-handed g c =
+    let b = numbering c.keep.new.numbers in
+    let q = path_view c.args.path.now in
+    let units = c.args.self.now.units.now.entries in
+    let more = c.keep.new.units.entries in
+    in_ok (λ (t : Table PathId NameId). KeepsUnit b units c.args.id q c.in-Ok.unit t more) (IsHandedTable g.S.Source.hands b more c.args.id) c.keep.result
+    (λ t h. kept_handed g.S.Source.hands b units more c.args.id q c.in-Ok.unit t
+    (path_later (numbering c.args.self.now.numbers.now) b c.keep.ensures.grows c.args.id q c.requires.held)
+    (c.requires.keeps.follows.hands q (spelled (unit_view c.in-Ok.unit)) c.in-Ok.ensures.handed) h) c.keep.ensures.kept
 
-pub returns-in_err-put-clause-keeps : goal.returns-in_err-put-clause-keeps
-returns-in_err-put-clause-keeps g c =
-    keeps_on (g.R.Resolver.hands c.args.self.now.resolver.now) (g.R.Resolver.hands c.resolve_module.new.self) g.S.Source.hands (g.R.Resolver.refuses c.args.self.now.resolver.now) (g.R.Resolver.refuses c.resolve_module.new.self) g.S.Source.refuses g.S.Source.first
-    (numbering c.args.self.now.numbers.now) (numbering c.read.new.numbers) c.args.self.now.units.now.entries c.put.new.units.entries c.requires.keeps c.resolve_module.ensures.same.units c.resolve_module.ensures.same.faults c.read.ensures.grows
-    c.in_err-put.ensures.unchanged
+pub returns-in-Ok-clause-units : goal.returns-in-Ok-clause-units
+returns-in-Ok-clause-units g c = kept_keeps (numbering c.keep.new.numbers) c.args.self.now.units.now.entries c.keep.new.units.entries c.args.id (path_view c.args.path.now) c.in-Ok.unit c.requires.absent c.keep.result c.keep.ensures.kept c.keep.ensures.unchanged
 
-pub returns-clause-handed : goal.returns-clause-handed
-returns-clause-handed g c = (
-  path_view c.args.path.now,
-  record { unit = c.in-Ok.unit; marks = c.in_ok-table.field-0.marks },
-  path_later (numbering c.args.self.now.numbers.now) (numbering c.read.new.numbers) c.read.ensures.grows c.args.id (path_view c.args.path.now) c.requires.held,
-  c.in_ok-put.ensures.put.has,
-  c.requires.keeps.follows.hands (path_view c.args.path.now) (spelled (unit_view c.in-Ok.unit)) c.in-Ok.ensures.handed,
-  c.in_ok-table.ensures.numbered,
-)
-
-pub returns-clause-units : goal.returns-clause-units
-returns-clause-units g c = put_keeps c.args.self.now.units.now.entries c.put.new.units.entries c.args.id (record { unit = c.in-Ok.unit; marks = c.in_ok-table.field-0.marks }) c.requires.absent c.in_ok-put.ensures.put
-
-pub returns-clause-keeps : goal.returns-clause-keeps
-returns-clause-keeps g c =
-    keeps_put (g.R.Resolver.hands c.args.self.now.resolver.now) (g.R.Resolver.hands c.resolve_module.new.self) g.S.Source.hands (g.R.Resolver.refuses c.args.self.now.resolver.now) (g.R.Resolver.refuses c.resolve_module.new.self) g.S.Source.refuses g.S.Source.first
-    (numbering c.args.self.now.numbers.now) (numbering c.read.new.numbers) c.args.self.now.units.now.entries c.put.new.units.entries c.args.id (record { unit = c.in-Ok.unit; marks = c.in_ok-table.field-0.marks }) (path_view c.args.path.now) c.requires.keeps c.resolve_module.ensures.same.units
-    c.resolve_module.ensures.same.faults c.read.ensures.grows c.requires.held c.in-Ok.ensures.handed c.in_ok-table.ensures.marked c.in_ok-put.ensures.put
+pub returns-in-Ok-clause-keeps : goal.returns-in-Ok-clause-keeps
+returns-in-Ok-clause-keeps g c =
+    keeps_kept (g.R.Resolver.hands c.args.self.now.resolver.now) (g.R.Resolver.hands c.resolve_module.new.self) g.S.Source.hands (g.R.Resolver.refuses c.args.self.now.resolver.now) (g.R.Resolver.refuses c.resolve_module.new.self) g.S.Source.refuses g.S.Source.first
+    (numbering c.args.self.now.numbers.now) (numbering c.keep.new.numbers) c.args.self.now.units.now.entries c.keep.new.units.entries c.args.id c.in-Ok.unit (path_view c.args.path.now) c.requires.keeps c.resolve_module.ensures.same.units
+    c.resolve_module.ensures.same.faults c.keep.ensures.grows c.requires.held c.in-Ok.ensures.handed c.keep.result c.keep.ensures.kept c.keep.ensures.unchanged

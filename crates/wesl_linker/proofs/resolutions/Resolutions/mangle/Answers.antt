@@ -1,4 +1,6 @@
-use Rattle.std.proofs.Common.{ap}
+use Rattle.std.proofs.Common.{Option, ap, subst}
+use Rattle.wesl_linker.specs.Keeping.{IsSoundLink}
+use Rattle.wesl_linker.specs.declared.link.Link.{Link}
 use Rattle.wesl_linker.specs.declared.resolutions.Resolutions.{Resolutions}
 use Rattle.wesl_linker.proofs.Naming.{mangled_found, mangled_nothing}
 use Rattle.wesl_linker.proofs.Recorded.{recorded_found, recorded_none}
@@ -22,3 +24,6 @@ returns-clause-recorded g c =
           rw w.mangler-is (recorded_found c.args.self.now w.in-Some.link w.in-Some.is g.M.Mangler.writes f c.args.mangle_root (g.M.Mangler.recorded c.args.mangler.now) _ w.in_ok-self.ensures.recorded)
       | in_default w ↦ rw w.mangler-is (recorded_none c.args.self.now w.in_default.not-Some g.M.Mangler.writes f c.args.mangle_root (g.M.Mangler.recorded c.args.mangler.now))
     ]
+
+pub names_of-requires : goal.names_of-requires
+names_of-requires g c = record { sound = subst (λ (o : Option Link). IsSoundLink o) c.in-Some.is c.requires.sound }

@@ -1,0 +1,27 @@
+-- What is told of a result, told of the value that was taken from it.
+use Rattle.std.proofs.Common.{◌≡◌, Some, None, List, ◌++◌, ◌∷◌, [], true, Result, Ok, Err, IfOk, OnOk, OnErr, sym, subst}
+use Rattle.std.specs.Prelude.{is_ok, if◌then◌else◌}
+use Rattle.std.specs.Result.{result_ok}
+
+pub ok_told : {T E : Type 0} (P : T → Type 0) (r : Result T E) (x : T) → Some x ≡ result_ok r → IfOk r P → P x
+ok_told P (Ok y) x e h = let same : x ≡ y = cc in subst P (sym same) h
+ok_told P (Err z) x e h = cc
+
+-- what holds where there is a value
+pub ok_so : {T E P : Type 0} (r : Result T E) → is_ok r ≡ true → OnOk r P → P
+ok_so (Ok y) e h = h
+ok_so (Err z) e h = cc
+
+-- what was pushed
+pub pushed : {T R E : Type 0} (old new : List T) (x : T) (r : Result R E) → is_ok r ≡ true → new ≡ (if is_ok r then old ++ x ∷ [] else old) → new ≡ old ++ x ∷ []
+pushed old new x (Ok y) e h = h
+pushed old new x (Err z) e h = cc
+
+-- the same of the value that was taken, and of none
+pub ok_on : {T E P : Type 0} (r : Result T E) (x : T) → Some x ≡ result_ok r → OnOk r P → P
+ok_on (Ok y) x e h = h
+ok_on (Err z) x e h = cc
+
+pub err_on : {T E P : Type 0} (r : Result T E) → None ≡ result_ok r → OnErr r P → P
+err_on (Ok y) e h = cc
+err_on (Err z) e h = h

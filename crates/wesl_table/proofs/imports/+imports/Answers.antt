@@ -1,0 +1,30 @@
+use Rattle.std.proofs.Common.{◌∙◌, ap, map, refl, string_bytes}
+use Rattle.wesl_table.specs.Base.{base_view}
+use Rattle.wesl_table.specs.Imports.{entered}
+use Rattle.wesl_table.specs.Walks.{import_view}
+use Rattle.wesl_table.proofs.Walked.{on_ok, item_walked, collection_walked, entry_walked, entries_next, entries_all}
+use Rattle.wesl_table.proofs.imports.+imports.Goals as goal
+
+pub add_content-returns-in-Item-clause-found : goal.add_content-returns-in-Item-clause-found
+add_content-returns-in-Item-clause-found t c = on_ok c.add_item.result (λ h. item_walked c.args.published (base_view c.args.base.now) _ _ c.args.content.now c.in-Item.item c.in-Item.is h) c.add_item.ensures.found
+
+pub add_content-returns-in-Collection-clause-found : goal.add_content-returns-in-Collection-clause-found
+add_content-returns-in-Collection-clause-found t c =
+    on_ok c.add_entries.result (λ h. collection_walked c.args.published (base_view c.args.base.now) _ _ c.args.content.now c.in-Collection.entries c.in-Collection.is h) c.add_entries.ensures.found
+
+pub add_entries-loop-entry-init : goal.add_entries-loop-entry-init
+add_entries-loop-entry-init t c = refl
+
+pub add_entries-loop-entry-preserved : goal.add_entries-loop-entry-preserved
+add_entries-loop-entry-preserved t c =
+    entries_next c.args.published (base_view c.args.base.now) _ _ _ c.loop-entry.entry-index c.entry-item.result _ c.loop-entry-test.true c.entry-item.is c.loop-entry.invariant c.in_ok-add_entry.ensures.found
+
+pub add_entries-returns-clause-found : goal.add_entries-returns-clause-found
+add_entries-returns-clause-found t c =
+    entries_all c.args.published (base_view c.args.base.now) (map import_view c.args.found.now.items) _ _ _ c.loop-entry.entry-index c.deref-entry-items.ensures.value c.loop-entry-test.false c.loop-entry.invariant
+
+pub add_entry-returns-clause-found : goal.add_entry-returns-clause-found
+add_entry-returns-clause-found t c =
+    let b = base_view c.args.base.now in
+    let inner = c.in_ok-inner.ensures.base ∙ ap (λ l. entered b (map string_bytes l)) c.deref.ensures.value in
+    on_ok c.add_content.result (λ h. entry_walked c.args.published b _ _ c.args.entry.now _ inner h) c.add_content.ensures.found
