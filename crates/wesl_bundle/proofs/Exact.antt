@@ -214,23 +214,26 @@ modules-field : (ms : Members) → Given (said.modules_below ms) → IsFieldRead
 modules-field ms h =
     may (or_default said.no_modules said.package_modules_in) (codes "modules") (a_list_of a_package_module) (λ e x. list-read said.package_module_in a_package_module (λ e y. y) e (modules-listed e x.0 x.1)) (get (codes "modules") (object ms)) (h.0, sym (below-modules ms) ∙ h.1)
 
+not-given : {A P : Type 0} → Given {A = A} None → P
+not-given h = absurd (let no : ⊥ = cc (h.1) in no)
+
 package-module-object : (d : Data) → Given (said.package_module_in d) → IsObjectRead a_package_module d
-package-module-object null h = cc (h.1)
-package-module-object (boolean b) h = cc (h.1)
-package-module-object (number n) h = cc (h.1)
-package-module-object (string s) h = cc (h.1)
-package-module-object (array ds) h = cc (h.1)
+package-module-object null h = not-given h
+package-module-object (boolean b) h = not-given h
+package-module-object (number n) h = not-given h
+package-module-object (string s) h = not-given h
+package-module-object (array ds) h = not-given h
 package-module-object (object ms) h =
     let known = if_given (has_only said.package_module_keys (object ms)) (said.module_with (object ms) (said.modules_below ms)) h.0 h.1 in
     let parts = module-parts (object ms) (said.modules_below ms) (h.0, known.1) in
     (known.0, (parts.0, (parts.1, (modules-field ms parts.2, tt))))
 
 package-object : (d : Data) → Given (said.package_in d) → IsObjectRead a_package d
-package-object null h = cc (h.1)
-package-object (boolean b) h = cc (h.1)
-package-object (number n) h = cc (h.1)
-package-object (string s) h = cc (h.1)
-package-object (array ds) h = cc (h.1)
+package-object null h = not-given h
+package-object (boolean b) h = not-given h
+package-object (number n) h = not-given h
+package-object (string s) h = not-given h
+package-object (array ds) h = not-given h
 package-object (object ms) h =
     let root = said.module_with (object ms) (said.modules_below ms) in
     let known = if_given (has_only said.package_keys (object ms)) (said.package_with root (said.dependencies_below ms)) h.0 h.1 in
@@ -393,3 +396,7 @@ no-bundle d place (inr broken) = none_there (has_float d) (spec.bundle_in d) (λ
     none_there true o never = refl
     none_there false None never = refl
     none_there false (Some x) never = absurd (never x refl)
+
+-- a bundle whose numbers are read as whole ones
+pub whole-bundle : (d : Data) (b : spec.Bundle) → has_float d ≡ false → spec.bundle_in d ≡ Some b → spec.bundle_of d ≡ Some b
+whole-bundle d b whole read = rw whole read

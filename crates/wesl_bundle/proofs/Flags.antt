@@ -1,22 +1,29 @@
 -- Flags, one after another in the order of their names.
-use Rattle.std.proofs.Common.{◌≡◌, List, [], ◌∷◌, ◌++◌, ℕ, map, Option, Some, None, option_and_then, String, Global, Less, Equal, Greater, string_bytes, string_cmp, nat_cmp, refl, sym, ap, ◌∙◌}
+use Rattle.std.proofs.Common.{◌≡◌, List, [], ◌∷◌, ◌++◌, ℕ, map, Option, Some, None, option_and_then, Result, inl, inr, String, Global, Less, Equal, Greater, string_bytes, string_cmp, nat_cmp, refl, sym, ap, ◌∙◌}
 use Rattle.std.proofs.lemmas.Cmp.{nat_list_cmp_total, tied_itself}
 use Rattle.std.proofs.lemmas.List.{map-append}
 use Rattle.std.proofs.lemmas.Map.Text.{is_eq-slice_cmp}
-use Rattle.std.specs.BTreeMap.{insert_entry, is_at}
+use Rattle.std.proofs.lemmas.Result.{IfOk-at_ok, IfErr-at_err, IfOk-weaker, IfErr-weaker}
+use Rattle.std.specs.BTreeMap.{BTreeMap, insert_entry, is_at}
 use Rattle.std.specs.Cmp.Lexicographic.{slice_cmp}
 use Rattle.std.specs.List.{AllByRecursion}
 use Rattle.std.specs.List.Sorted.{IsStrictlySortedBy}
 use Rattle.std.specs.Map.{keys_of, lookup}
 use Rattle.std.specs.Ordering.{ordering_reverse}
+use Rattle.std.specs.Prelude.{IfOk, IfErr}
 use Rattle.serde_json.specs.Data.{Data, Members, null, boolean, number, string, array, object}
 use Rattle.serde_json.specs.Find.{as_object, get, get_member}
 use Rattle.serde_json.specs.View.{view, members_view}
 use Rattle.serde_json.proofs.Views.{Entry}
 use Rattle.wesl_formula.specs.declared.features.Feature.{Feature}
 use Rattle.wesl_names.specs.Path.{Text}
+use Rattle.wesl_bundle.specs.declared.members.BundleError.{BundleError}
+use Rattle.wesl_bundle.specs.Broken.{Locates}
 use Rattle.wesl_bundle.specs.Features.{Flag, feature_in, flags_of, listed_answer}
-use Rattle.wesl_bundle.specs.Views.{flag_view}
+use Rattle.wesl_bundle.specs.Forms.{IsBroken, a_feature, an_object_of}
+use Rattle.wesl_bundle.specs.Parts.{IsFlagFault, IsUnread, IsWithFlag}
+use Rattle.wesl_bundle.specs.Views.{flag_view, flags_view}
+use Rattle.wesl_bundle.proofs.Places.{IfPlace-memory, Locates-here, Locates-member}
 
 abbrev Listed : Type 0
 Listed = List (String Global × Feature)
@@ -97,3 +104,34 @@ object-get k (object os) ms h = let same : os ≡ ms = cc in ap (get_member k) s
 pub answers-listed : (name : Text) (es : Listed) → lookup (is_at (λ k. slice_cmp nat_cmp name (string_bytes k))) es ≡ listed_answer name (map flag_view es)
 answers-listed name [] = refl
 answers-listed name (e ∷ es) = rw (is_eq-slice_cmp name (string_bytes e.0), answers-listed name es) refl
+
+-- ---- the flags of the members so far are read, or there is a fault
+
+module _ (d : Data) (done : List Entry) where
+  abbrev pub AreFlags : Result (BTreeMap (String Global) Feature) BundleError → Type 0
+  AreFlags flags = IfOk flags (λ f. flags_of (members_view done) ≡ Some (flags_view f)) × IfErr flags (Locates (an_object_of a_feature) d)
+
+module _ (d : Data) (done : List Entry) (e : Entry) (more : List Entry) (is : as_object d ≡ Some (members_view (done ++ e ∷ more))) (sorted : IsStrictlySortedBy string_cmp (keys_of (done ++ e ∷ more))) where
+  module _ (flags : Result (BTreeMap (String Global) Feature) BundleError) (before : AreFlags d done flags) (read : Option Feature) (same : feature_in (view e.1) ≡ read) (answer : Result Feature BundleError) (good : IfOk answer (λ x. read ≡ Some x)) (bad : IfErr answer (IsUnread (string_bytes e.0) read)) where
+    grown : (all : BTreeMap (String Global) Feature) → IsWithFlag flags e.0 answer all → flags_of (members_view (done ++ e ∷ [])) ≡ Some (flags_view all)
+    grown all (earlier, last, was, this, (own, named, added)) =
+        flags-turn done earlier.entries all.entries e more own last
+        (IfOk-at_ok (λ (f : BTreeMap (String Global) Feature). flags_of (members_view done) ≡ Some (flags_view f)) was before.0) sorted named
+        (same ∙ IfOk-at_ok (λ x. read ≡ Some x) this good) added
+
+    wrong : (fault : BundleError) → IsUnread (string_bytes e.0) read fault → Locates (an_object_of a_feature) d fault
+    wrong fault (inner, none, here, under) =
+        let found : get (string_bytes e.0) d ≡ Some (view e.1) = object-get (string_bytes e.0) d (members_view (done ++ e ∷ more)) is ∙ found-middle done e more sorted in
+        Locates-member a_feature (string_bytes e.0) d (view e.1) inner fault found (Locates-here a_feature (view e.1) inner here (same ∙ none)) under
+
+    faulty : (fault : BundleError) → IsFlagFault flags answer fault → Locates (an_object_of a_feature) d fault
+    faulty fault (inl refused) = IfPlace-memory (IsBroken (an_object_of a_feature) d) fault refused
+    faulty fault (inr (inl was)) = IfErr-at_err (Locates (an_object_of a_feature) d) was before.1
+    faulty fault (inr (inr this)) = wrong fault (IfErr-at_err (IsUnread (string_bytes e.0) read) this bad)
+
+    -- a turn of the loop
+    pub one-flag : (all : Result (BTreeMap (String Global) Feature) BundleError) → IfOk all (IsWithFlag flags e.0 answer) → IfErr all (IsFlagFault flags answer) → AreFlags d (done ++ e ∷ []) all
+    one-flag all ok place = (
+      IfOk-weaker all (IsWithFlag flags e.0 answer) (λ f. flags_of (members_view (done ++ e ∷ [])) ≡ Some (flags_view f)) grown ok,
+      IfErr-weaker all (IsFlagFault flags answer) (Locates (an_object_of a_feature) d) faulty place,
+    )

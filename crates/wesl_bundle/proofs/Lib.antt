@@ -3,5 +3,7 @@ pub mod Readings
 pub mod Wholes
 pub mod Flags
 pub mod Depths
+pub mod Together
 pub mod Listed
+pub mod Lists
 pub mod Exact

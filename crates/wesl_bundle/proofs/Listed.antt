@@ -1,17 +1,15 @@
 -- Packages and their modules, list by list.
-use Rattle.std.proofs.Common.{◌≡◌, ℕ, ◌≤◌, List, ◌∷◌, length, map, take, Bool, true, false, if◌then◌else◌, Ordering, Less, Equal, Greater, is_eq, Option, Some, None, option_map, option_and_then, bytes_eq, nat_cmp, codes, string_bytes, refl, sym, ap, ◌∙◌}
-use Rattle.std.proofs.lemmas.List.{take_all}
+use Rattle.std.proofs.Common.{◌≡◌, ℕ, List, [], ◌∷◌, map, Bool, true, false, if◌then◌else◌, Ordering, Less, Equal, Greater, is_eq, Option, Some, None, option_map, option_and_then, bytes_eq, nat_cmp, codes, string_bytes, refl, sym, ap, ◌∙◌}
 use Rattle.std.proofs.lemmas.Map.Text.{is_eq-slice_cmp}
 use Rattle.std.specs.Cmp.Lexicographic.{slice_cmp}
 use Rattle.std.specs.Ordering.{match_ordering}
 use Rattle.serde_json.specs.Data.{Data, null, boolean, number, string, array, object, Items, no_items, item, Members, no_members, member}
 use Rattle.serde_json.specs.Find.{as_array, get, get_member}
-use Rattle.wesl_borrowed.specs.View.{items_view, borrowed_view}
-use Rattle.wesl_borrowed.specs.declared.value.BorrowedValue.{BorrowedValue}
+use Rattle.wesl_borrowed.specs.View.{borrowed_view}
 use Rattle.wesl_names.specs.Path.{Text}
 use Rattle.wesl_bundle.specs.Packages as said
 use Rattle.wesl_bundle.specs.PackageViews.{package_modules, module_step, package_module_view, package_step, package_view, packages_of}
-use Rattle.wesl_bundle.specs.Reading.{items_in, list_in, name_in, or_default, required_in}
+use Rattle.wesl_bundle.specs.Reading.{items_in, list_in, name_in, or_default, or_empty, required_in}
 use Rattle.wesl_pointer.specs.Keys.{has_only}
 use Rattle.wesl_bundle.specs.declared.packages.PackageModule.{PackageModule}
 use Rattle.wesl_bundle.specs.declared.packages.PackageModule.TheOpen.{PackageModule-F}
@@ -54,13 +52,20 @@ below-dependencies (member k d ms) =
 
 -- ---- modules
 
-pub module-read : (d : Data) (name : Text) (unit : Data) (modules : said.PackageModules) → has_only said.package_module_keys d ≡ true → required_in name_in (codes "name") d ≡ Some name → get (codes "unit") d ≡ Some unit → or_default said.no_modules said.package_modules_in (get (codes "modules") d) ≡ Some modules → said.package_module_in d ≡ Some (record { name = name; unit = unit; modules = modules })
-module-read null name unit modules known is_name is_unit are = cc
-module-read (boolean b) name unit modules known is_name is_unit are = cc
-module-read (number n) name unit modules known is_name is_unit are = cc
-module-read (string s) name unit modules known is_name is_unit are = cc
-module-read (array ds) name unit modules known is_name is_unit are = cc
-module-read (object ms) name unit modules known is_name is_unit are = rw (known, is_name, is_unit, below-modules ms, are) refl
+-- the modules below one that is read
+abbrev pub below : Data → Option said.PackageModules
+below d = or_default said.no_modules said.package_modules_in (get (codes "modules") d)
+
+pub module_with-read : (d : Data) (name : Text) (unit : Data) (found : said.PackageModules) → required_in name_in (codes "name") d ≡ Some name → get (codes "unit") d ≡ Some unit → below d ≡ Some found → said.module_with d (below d) ≡ Some (made-package-module name unit found)
+module_with-read d name unit found is_name is_unit are = rw (is_name, is_unit, are) refl
+
+pub module-whole : (d : Data) (m : said.PackageModule) → has_only said.package_module_keys d ≡ true → said.module_with d (below d) ≡ Some m → said.package_module_in d ≡ Some m
+module-whole null m known read = cc
+module-whole (boolean b) m known read = cc
+module-whole (number n) m known read = cc
+module-whole (string s) m known read = cc
+module-whole (array ds) m known read = cc
+module-whole (object ms) m known read = rw (known, below-modules ms) read
 
 each_module-listed : (ds : Items) → said.each_module ds ≡ option_map package_modules (items_in said.package_module_in ds)
 each_module-listed no_items = refl
@@ -71,15 +76,18 @@ each_module-listed (item d ds) = step (said.package_module_in d) (said.each_modu
     step (Some m) rest None e = rw e refl
     step (Some m) rest (Some ms) e = rw e refl
 
-pub modules-whole : (d : Data) (vs : List BorrowedValue) (i : ℕ) (xs : List said.PackageModule) → as_array d ≡ Some (items_view vs) → length vs ≤ i → items_in said.package_module_in (items_view (take i vs)) ≡ Some xs → said.package_modules_in d ≡ Some (package_modules xs)
-modules-whole null vs i xs is all read = cc
-modules-whole (boolean b) vs i xs is all read = cc
-modules-whole (number n) vs i xs is all read = cc
-modules-whole (string s) vs i xs is all read = cc
-modules-whole (object ms) vs i xs is all read = cc
-modules-whole (array ds) vs i xs is all read =
-    let same : ds ≡ items_view vs = cc in
-    ap said.each_module same ∙ each_module-listed (items_view vs) ∙ ap (λ ws. option_map package_modules (items_in said.package_module_in (items_view ws))) (sym (take_all i vs all)) ∙ ap (option_map package_modules) read
+modules-in : (d : Data) (xs : List said.PackageModule) → list_in said.package_module_in d ≡ Some xs → said.package_modules_in d ≡ Some (package_modules xs)
+modules-in null xs h = cc
+modules-in (boolean b) xs h = cc
+modules-in (number n) xs h = cc
+modules-in (string s) xs h = cc
+modules-in (object ms) xs h = cc
+modules-in (array ds) xs h = each_module-listed ds ∙ ap (option_map package_modules) h
+
+-- the modules of a list that is there, or of none
+pub modules-of-list : (o : Option Data) (xs : List said.PackageModule) → or_empty said.package_module_in o ≡ Some xs → or_default said.no_modules said.package_modules_in o ≡ Some (package_modules xs)
+modules-of-list None xs h = let none : [] ≡ xs = cc in ap (λ ys. Some (package_modules ys)) none
+modules-of-list (Some d) xs h = modules-in d xs h
 
 -- a module that is made of its fields
 pub module-made : (x : PackageModule-F PackageModule) → package_module_view (roll-PackageModule x) ≡ made-package-module (string_bytes x.name) (borrowed_view x.unit) (package_modules (map package_module_view x.modules.items))
@@ -87,13 +95,13 @@ module-made = fold-roll-PackageModule said.PackageModule module_step
 
 -- ---- packages
 
-pub package-read : (d : Data) (name : Text) (unit : Data) (modules : said.PackageModules) (dependencies : said.Packages) → has_only said.package_keys d ≡ true → required_in name_in (codes "name") d ≡ Some name → get (codes "unit") d ≡ Some unit → or_default said.no_modules said.package_modules_in (get (codes "modules") d) ≡ Some modules → or_default said.no_packages said.packages_in (get (codes "dependencies") d) ≡ Some dependencies → said.package_in d ≡ Some (record { root = record { name = name; unit = unit; modules = modules }; dependencies = dependencies })
-package-read null name unit modules dependencies known is_name is_unit are depend = cc
-package-read (boolean b) name unit modules dependencies known is_name is_unit are depend = cc
-package-read (number n) name unit modules dependencies known is_name is_unit are depend = cc
-package-read (string s) name unit modules dependencies known is_name is_unit are depend = cc
-package-read (array ds) name unit modules dependencies known is_name is_unit are depend = cc
-package-read (object ms) name unit modules dependencies known is_name is_unit are depend = rw (known, is_name, is_unit, below-modules ms, are, below-dependencies ms, depend) refl
+pub package-whole : (d : Data) (root : said.PackageModule) (dependencies : said.Packages) → has_only said.package_keys d ≡ true → said.module_with d (below d) ≡ Some root → or_default said.no_packages said.packages_in (get (codes "dependencies") d) ≡ Some dependencies → said.package_in d ≡ Some (made-package root dependencies)
+package-whole null root dependencies known read depend = cc
+package-whole (boolean b) root dependencies known read depend = cc
+package-whole (number n) root dependencies known read depend = cc
+package-whole (string s) root dependencies known read depend = cc
+package-whole (array ds) root dependencies known read depend = cc
+package-whole (object ms) root dependencies known read depend = rw (known, below-modules ms, read, below-dependencies ms, depend) refl
 
 each_package-listed : (ds : Items) → said.each_package ds ≡ option_map packages_of (items_in said.package_in ds)
 each_package-listed no_items = refl
@@ -104,15 +112,18 @@ each_package-listed (item d ds) = step (said.package_in d) (said.each_package ds
     step (Some p) rest None e = rw e refl
     step (Some p) rest (Some ps) e = rw e refl
 
-pub packages-whole : (d : Data) (vs : List BorrowedValue) (i : ℕ) (xs : List said.Package) → as_array d ≡ Some (items_view vs) → length vs ≤ i → items_in said.package_in (items_view (take i vs)) ≡ Some xs → said.packages_in d ≡ Some (packages_of xs)
-packages-whole null vs i xs is all read = cc
-packages-whole (boolean b) vs i xs is all read = cc
-packages-whole (number n) vs i xs is all read = cc
-packages-whole (string s) vs i xs is all read = cc
-packages-whole (object ms) vs i xs is all read = cc
-packages-whole (array ds) vs i xs is all read =
-    let same : ds ≡ items_view vs = cc in
-    ap said.each_package same ∙ each_package-listed (items_view vs) ∙ ap (λ ws. option_map packages_of (items_in said.package_in (items_view ws))) (sym (take_all i vs all)) ∙ ap (option_map packages_of) read
+packages-in : (d : Data) (xs : List said.Package) → list_in said.package_in d ≡ Some xs → said.packages_in d ≡ Some (packages_of xs)
+packages-in null xs h = cc
+packages-in (boolean b) xs h = cc
+packages-in (number n) xs h = cc
+packages-in (string s) xs h = cc
+packages-in (object ms) xs h = cc
+packages-in (array ds) xs h = each_package-listed ds ∙ ap (option_map packages_of) h
+
+-- the packages of a list that is there, or of none
+pub packages-of-list : (o : Option Data) (xs : List said.Package) → or_empty said.package_in o ≡ Some xs → or_default said.no_packages said.packages_in o ≡ Some (packages_of xs)
+packages-of-list None xs h = let none : [] ≡ xs = cc in ap (λ ys. Some (packages_of ys)) none
+packages-of-list (Some d) xs h = packages-in d xs h
 
 -- what is read as modules is a list of such
 pub modules-listed : (d : Data) (x : said.PackageModules) → said.package_modules_in d ≡ Some x → (xs : List said.PackageModule) × (list_in said.package_module_in d ≡ Some xs)

@@ -1,5 +1,5 @@
 -- Where an error of a part is one of the whole.
-use Rattle.std.proofs.Common.{◌≡◌, ℕ, [], ◌∷◌, ◌++◌, true, Some, None, option_map, string_bytes, refl, sym, ap, ◌∙◌, subst, inl, inr}
+use Rattle.std.proofs.Common.{◌≡◌, ℕ, [], ◌∷◌, ◌++◌, true, Some, None, option_map, codes, string_bytes, refl, sym, ap, ◌∙◌, subst, inl, inr}
 use Rattle.serde_json.specs.Data.{Data, Items, Members, array, object}
 use Rattle.serde_json.specs.Find.{get, at, get_item}
 use Rattle.wesl_names.specs.Path.{Text}
@@ -7,8 +7,9 @@ use Rattle.wesl_bundle.specs.declared.members.BundleError.{BundleError}
 use Rattle.wesl_bundle.specs.declared.members.BundleError.TheVariants.{At, Memory}
 use Rattle.wesl_pointer.specs.Keys.{HasMember}
 use Rattle.wesl_pointer.specs.Pointer.{Part, key, index, part_text}
-use Rattle.wesl_bundle.specs.Forms.{Form, a_list_of, an_object_of, Field, fields, find_field, IsWrong, IsWrongObject, IsBroken, HasFloatAt}
+use Rattle.wesl_bundle.specs.Forms.{Form, a_list_of, a_name, a_package, a_package_module, a_unit, an_object_of, Field, fields, find_field, optional, required, IsWrong, IsWrongObject, IsBroken, HasFloatAt}
 use Rattle.wesl_bundle.specs.Broken.{IfPlace, place_of, Locates, IsMemberBroken, LocatesMember, IsUnder}
+use Rattle.wesl_bundle.specs.Parts.{IsModuleMemberBroken, LocatesModuleMember}
 
 -- an error that tells this place
 told : (P : Text → Type 0) (place : Text) (e : BundleError) → place_of e ≡ Some place → P place → IfPlace e P
@@ -61,6 +62,18 @@ broken_member g f d place wrong there (inr inside) = (key f.named ∷ inside.1, 
 -- a member of an object
 pub Locates-field : (g : Form) (f : Field) (d : Data) (e : BundleError) → (IsWrongObject (fields g) d → IsWrong g d) → find_field f.named (fields g) ≡ Some f → LocatesMember f d e → Locates g d e
 Locates-field g f d e wrong there = IfPlace-more (IsMemberBroken f d) (IsBroken g d) e (λ place h. broken_member g f d place wrong there h)
+
+-- a member of a module, of a package as its root
+module_broken : (g : Form) (d : Data) (place : Text) → (IsWrongObject (fields g) d → IsWrong g d) → find_field (codes "name") (fields g) ≡ Some (required (codes "name") a_name) → find_field (codes "unit") (fields g) ≡ Some (required (codes "unit") a_unit) → find_field (codes "modules") (fields g) ≡ Some (optional (codes "modules") (a_list_of a_package_module)) → IsModuleMemberBroken d place → IsBroken g d place
+module_broken g d place wrong name unit modules (inl h) = broken_member g (required (codes "name") a_name) d place wrong name h
+module_broken g d place wrong name unit modules (inr (inl h)) = broken_member g (required (codes "unit") a_unit) d place wrong unit h
+module_broken g d place wrong name unit modules (inr (inr h)) = broken_member g (optional (codes "modules") (a_list_of a_package_module)) d place wrong modules h
+
+pub module-fault : (d : Data) (e : BundleError) → LocatesModuleMember d e → Locates a_package_module d e
+module-fault d e = IfPlace-more (IsModuleMemberBroken d) (IsBroken a_package_module d) e (λ place h. module_broken a_package_module d place (λ w. w) refl refl refl h)
+
+pub package-fault : (d : Data) (e : BundleError) → LocatesModuleMember d e → Locates a_package d e
+package-fault d e = IfPlace-more (IsModuleMemberBroken d) (IsBroken a_package d) e (λ place h. module_broken a_package d place (λ w. w) refl refl refl h)
 
 -- a number in an item, and one in a member
 pub HasFloatAt-item : (i : ℕ) (ds : Items) (d : Data) (inner outer : BundleError) → get_item i ds ≡ Some d → IfPlace inner (HasFloatAt d) → IsUnder (index i) inner outer → IfPlace outer (HasFloatAt (array ds))

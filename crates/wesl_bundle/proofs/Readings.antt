@@ -1,12 +1,12 @@
 -- Lists and objects, read item by item and member by member.
 use Rattle.std.proofs.Common.{◌≡◌, ℕ, zero, suc, ◌+◌, ◌<◌, ◌≤◌, List, [], ◌∷◌, ◌++◌, take, length, get_or, Bool, true, false, Option, Some, None, option_and_then, refl, sym, ap, ◌∙◌, codes, arith}
-use Rattle.std.proofs.lemmas.List.{take_more, take_all}
+use Rattle.std.proofs.lemmas.List.{take_more}
 use Rattle.serde_json.specs.Data.{Data, null, boolean, number, string, array, object}
 use Rattle.serde_json.specs.Find.{get, at, get_item, as_array, as_bool, as_str}
 use Rattle.wesl_borrowed.specs.View.{borrowed_view, items_view}
 use Rattle.wesl_borrowed.specs.declared.value.BorrowedValue.{BorrowedValue}
 use Rattle.wesl_names.specs.Path.{Text, Path}
-use Rattle.wesl_bundle.specs.Bundle.{bundle_keys, module_in, bundle_in, Module, Options, options_in, naming_in, limit_in}
+use Rattle.wesl_bundle.specs.Bundle.{bundle_keys, module_keys, module_in, bundle_in, Module, Options, options_in, naming_in, limit_in}
 use Rattle.wesl_bundle.specs.Builtins.{Builtins, builtins_in, builtins_keys}
 use Rattle.wesl_bundle.specs.Features.{Features, Flag, feature_in, features_in, features_keys, flags_in}
 use Rattle.wesl_bundle.specs.Packages.{Packages, no_packages, packages_in}
@@ -53,10 +53,10 @@ items_in-append {A = A} r (w ∷ vs) v xs x before here = step (r (borrowed_view
 pub items_in-turn : {A : Type 0} (r : Data → Option A) (vs : List BorrowedValue) (i : ℕ) (v : BorrowedValue) (xs ys : List A) (x : A) → i < length vs → v ≡ get_or vs i v → ys ≡ xs ++ x ∷ [] → items_in r (items_view (take i vs)) ≡ Some xs → r (borrowed_view v) ≡ Some x → items_in r (items_view (take (i + 1) vs)) ≡ Some ys
 items_in-turn r vs i v xs ys x low e grown before here = ap (λ ws. items_in r (items_view ws)) (longer vs i v low e) ∙ items_in-append r (take i vs) v xs x before here ∙ ap Some (sym grown)
 
-pub list_in-whole : {A : Type 0} (r : Data → Option A) (d : Data) (vs : List BorrowedValue) (i : ℕ) (xs : List A) → as_array d ≡ Some (items_view vs) → length vs ≤ i → items_in r (items_view (take i vs)) ≡ Some xs → option_and_then (items_in r) (as_array d) ≡ Some xs
-list_in-whole r d vs i xs is all read = ap (option_and_then (items_in r)) is ∙ ap (λ ws. items_in r (items_view ws)) (sym (take_all i vs all)) ∙ read
-
 -- ---- objects
+
+pub module-read : (d : Data) (path : Path) (unit : Data) → has_only module_keys d ≡ true → required_in path_in (codes "path") d ≡ Some path → get (codes "unit") d ≡ Some unit → module_in d ≡ Some (record { path = path; unit = unit })
+module-read d path unit known is_path is_unit = rw (known, is_path, is_unit) refl
 
 pub features-read : (d : Data) (default : Feature) (flags : List Flag) → has_only features_keys d ≡ true → or_default feature.Disable feature_in (get (codes "default") d) ≡ Some default → or_default [] flags_in (get (codes "flags") d) ≡ Some flags → features_in d ≡ Some (record { default = default; flags = flags })
 features-read d default flags known is_default are_flags = rw (known, is_default, are_flags) refl

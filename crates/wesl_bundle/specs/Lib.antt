@@ -6,5 +6,6 @@ pub mod Packages
 pub mod Bundle
 pub mod Forms
 pub mod Broken
+pub mod Parts
 pub mod PackageViews
 pub mod Views

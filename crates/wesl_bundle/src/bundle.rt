@@ -1,20 +1,21 @@
 //! The bundle: the root's path, the names that are kept, and the modules.
-ghost use Rattle.std.specs.Prelude.{◌≡◌, None, Some, IfOk, IfErr, map, string_bytes, false};
+ghost use Rattle.std.specs.Prelude.{◌≡◌, None, Ok, Some, IfOk, IfErr, OnOk, map, false, true};
 ghost use Rattle.serde_json.specs.Find.{get};
 ghost use Rattle.wesl_borrowed.specs.View.{borrowed_view};
 ghost use Rattle.wesl_names.specs.Path.{path_view, is_relative};
+ghost use Rattle.wesl_pointer.specs.Keys.{has_only};
 ghost use Rattle.wesl_bundle.specs.Broken.{IfPlace, Locates, LocatesMember};
-ghost use Rattle.wesl_bundle.specs.Bundle.{module_in, bundle_in, bundle_of};
-ghost use Rattle.wesl_bundle.specs.Forms.{optional, a_list_of, a_name, a_module, a_bundle, IsBrokenBundle};
-ghost use Rattle.wesl_bundle.specs.Reading.{or_empty, list_in, name_in};
+ghost use Rattle.wesl_bundle.specs.Bundle.{bundle_in, bundle_keys, bundle_of, module_in};
+ghost use Rattle.wesl_bundle.specs.Forms.{optional, a_list_of, a_module, a_bundle, IsBrokenBundle};
+ghost use Rattle.wesl_bundle.specs.Parts.{IsKeyOr};
+ghost use Rattle.wesl_bundle.specs.Reading.{or_empty};
 ghost use Rattle.wesl_bundle.specs.Views.{bundle_view, module_view};
 
 use crate::builtins::{BuiltinNames, builtins_member};
 use crate::features::features_member;
 use crate::floats::check_whole;
-use crate::members::{
-    BundleError, check_keys, member, name_of, path_member, under, under_index, wrong,
-};
+use crate::joined::{both, inside, only, with_item};
+use crate::members::{BundleError, path_member, texts_member, under, unit_member, wrong};
 use crate::options::{Options, read_options};
 use crate::packages::{Package, packages_member};
 use std::alloc::Global;
@@ -58,14 +59,56 @@ pub fn read_bundle<'t>(alloc: Global, value: &BorrowedValue<'t>) -> Result<Bundl
     ensures place { IfErr result (λ e. IfPlace e (IsBrokenBundle (borrowed_view value.now))) }
     ensures unread { IfErr result (λ e. IfPlace e (λ _. bundle_of (borrowed_view value.now) ≡ None)) }
 {
-    check_whole(alloc, value)?;
-    read_members(alloc, value)
+    match check_whole(alloc, value) {
+        Ok(()) => read_members(alloc, value),
+        Err(error) => Err(error),
+    }
 }
 
 fn read_members<'t>(alloc: Global, value: &BorrowedValue<'t>) -> Result<Bundle<'t>, BundleError>
     ensures ok { IfOk result (λ b. bundle_in (borrowed_view value.now) ≡ Some (bundle_view b)) }
     ensures fixed { IfOk result (λ b. is_relative (path_view b.root) ≡ false) }
     ensures place { IfErr result (Locates a_bundle (borrowed_view value.now)) }
+{
+    let root = path_member(alloc, value, "root");
+    let keep = texts_member(alloc, value, "keep", false);
+    let modules = modules_member(alloc, value, "modules");
+    let packages = packages_member(alloc, value, "packages");
+    let features = features_member(alloc, value, "features");
+    let options = read_options(alloc, value);
+    let builtins = builtins_member(alloc, value, "builtins");
+    let sources = both(both(root, keep), both(modules, packages));
+    let settings = both(features, both(options, builtins));
+    match only_known(alloc, value, both(sources, settings)) {
+        Ok((sources, settings)) => {
+            let (named, listed) = sources;
+            let (root, keep) = named;
+            let (modules, packages) = listed;
+            let (features, others) = settings;
+            let (options, builtins) = others;
+            Ok(Bundle {
+                root,
+                keep,
+                modules,
+                packages,
+                features,
+                options,
+                builtins,
+            })
+        }
+        Err(error) => Err(error),
+    }
+}
+
+// What is read of a bundle, if it has no keys but a bundle's.
+fn only_known<T: Drop>(
+    alloc: Global,
+    value: &BorrowedValue<'_>,
+    read: Result<T, BundleError>,
+) -> Result<T, BundleError>
+    ensures ok { IfOk result (λ x. read ≡ Ok x) }
+    ensures keys { OnOk result (has_only bundle_keys (borrowed_view value.now) ≡ true) }
+    ensures place { IfErr result (IsKeyOr (has_only bundle_keys (borrowed_view value.now)) read) }
 {
     let known = [
         "root",
@@ -79,58 +122,7 @@ fn read_members<'t>(alloc: Global, value: &BorrowedValue<'t>) -> Result<Bundle<'
         "max_modules",
         "builtins",
     ];
-    check_keys(alloc, value, &known)?;
-    let root = path_member(alloc, value, "root")?;
-    let keep = names_member(alloc, value, "keep")?;
-    let modules = modules_member(alloc, value, "modules")?;
-    let packages = packages_member(alloc, value, "packages")?;
-    let features = features_member(alloc, value, "features")?;
-    let options = read_options(alloc, value)?;
-    let builtins = builtins_member(alloc, value, "builtins")?;
-    Ok(Bundle {
-        root,
-        keep,
-        modules,
-        packages,
-        features,
-        options,
-        builtins,
-    })
-}
-
-// The names at the key, none where it is not there.
-fn names_member(
-    alloc: Global,
-    value: &BorrowedValue<'_>,
-    key: &str,
-) -> Result<Vec<String>, BundleError>
-    ensures ok { IfOk result (λ v. or_empty name_in (get key.now (borrowed_view value.now)) ≡ Some (map string_bytes v.items)) }
-    ensures place { IfErr result (LocatesMember (optional key.now (a_list_of a_name)) (borrowed_view value.now)) }
-{
-    let Some(list) = value.get(key) else {
-        return Ok(Vec::new(alloc));
-    };
-    match names_of(alloc, list) {
-        Ok(names) => Ok(names),
-        Err(error) => Err(under(alloc, error, key)),
-    }
-}
-
-fn names_of(alloc: Global, value: &BorrowedValue<'_>) -> Result<Vec<String>, BundleError>
-    ensures ok { IfOk result (λ v. list_in name_in (borrowed_view value.now) ≡ Some (map string_bytes v.items)) }
-    ensures place { IfErr result (Locates (a_list_of a_name) (borrowed_view value.now)) }
-{
-    let Some(items) = value.as_array() else {
-        return Err(wrong(alloc));
-    };
-    let mut names = Vec::new(alloc);
-    for (index, item) in items.iter().enumerate() {
-        match name_of(alloc, item) {
-            Ok(name) => names.push(name)?,
-            Err(error) => return Err(under_index(alloc, error, index)),
-        }
-    }
-    Ok(names)
+    only(alloc, value, &known, read)
 }
 
 // The modules at the key, none where it is not there.
@@ -145,39 +137,25 @@ fn modules_member<'t>(
     let Some(list) = value.get(key) else {
         return Ok(Vec::new(alloc));
     };
-    match modules_of(alloc, list) {
-        Ok(modules) => Ok(modules),
-        Err(error) => Err(under(alloc, error, key)),
-    }
-}
-
-fn modules_of<'t>(
-    alloc: Global,
-    value: &BorrowedValue<'t>,
-) -> Result<Vec<BundleModule<'t>>, BundleError>
-    ensures ok { IfOk result (λ ms. list_in module_in (borrowed_view value.now) ≡ Some (map module_view ms.items)) }
-    ensures place { IfErr result (Locates (a_list_of a_module) (borrowed_view value.now)) }
-{
-    let Some(items) = value.as_array() else {
-        return Err(wrong(alloc));
+    let Some(items) = list.as_array() else {
+        return Err(under(alloc, wrong(alloc), key));
     };
-    let mut modules = Vec::new(alloc);
+    let mut modules = Ok(Vec::new(alloc));
     for (index, item) in items.iter().enumerate() {
-        match module_of(alloc, item) {
-            Ok(module) => modules.push(module)?,
-            Err(error) => return Err(under_index(alloc, error, index)),
-        }
+        let module = module_of(alloc, item);
+        modules = with_item(alloc, modules, index, module);
     }
-    Ok(modules)
+    inside(alloc, key, modules)
 }
 
 fn module_of<'t>(alloc: Global, value: &BorrowedValue<'t>) -> Result<BundleModule<'t>, BundleError>
     ensures ok { IfOk result (λ m. module_in (borrowed_view value.now) ≡ Some (module_view m)) }
     ensures place { IfErr result (Locates a_module (borrowed_view value.now)) }
 {
-    check_keys(alloc, value, &["path", "unit"])?;
-    let path = path_member(alloc, value, "path")?;
-    let found = member(alloc, value, "unit")?;
-    let unit = found.try_clone(alloc)?;
-    Ok(BundleModule { path, unit })
+    let path = path_member(alloc, value, "path");
+    let unit = unit_member(alloc, value, "unit");
+    match only(alloc, value, &["path", "unit"], both(path, unit)) {
+        Ok((path, unit)) => Ok(BundleModule { path, unit }),
+        Err(error) => Err(error),
+    }
 }

@@ -9,10 +9,13 @@ ghost use Rattle.wesl_bundle.specs.Forms.{a_feature, an_object_of, optional, som
 ghost use Rattle.wesl_bundle.specs.Reading.{optional_in, or_default};
 ghost use Rattle.wesl_bundle.specs.Views.{features_view, flags_view};
 ghost use Rattle.wesl_formula.specs.Features.{answer_to};
+ghost use Rattle.wesl_bundle.specs.Parts.{IsFlagFault, IsGrown, IsWithFlag};
+ghost use Rattle.wesl_bundle.specs.declared.members.BundleError.TheVariants.{Memory};
 ghost use Rattle.wesl_formula.specs.declared.features.Feature.TheVariants.{Disable};
 ghost use Rattle.wesl_names.specs.Path.{Text};
 
-use crate::members::{BundleError, check_keys, under, wrong};
+use crate::joined::{both, inside, only, stated};
+use crate::members::{BundleError, wrong};
 use serde_json::Value;
 use std::alloc::Global;
 use std::collections::BTreeMap;
@@ -33,23 +36,22 @@ pub(crate) fn features_member(
     ensures ok { IfOk result (λ f. optional_in features_in (get key.now (borrowed_view value.now)) ≡ Some (option_map features_view f)) }
     ensures place { IfErr result (LocatesMember (optional key.now some_features) (borrowed_view value.now)) }
 {
-    let Some(found) = value.get(key) else {
-        return Ok(None);
-    };
-    match features_of(alloc, found) {
-        Ok(features) => Ok(Some(features)),
-        Err(error) => Err(under(alloc, error, key)),
+    match value.get(key) {
+        Some(found) => inside(alloc, key, features_of(alloc, found)),
+        None => Ok(None),
     }
 }
 
-fn features_of(alloc: Global, value: &BorrowedValue<'_>) -> Result<Features, BundleError>
-    ensures ok { IfOk result (λ f. features_in (borrowed_view value.now) ≡ Some (features_view f)) }
+fn features_of(alloc: Global, value: &BorrowedValue<'_>) -> Result<Option<Features>, BundleError>
+    ensures ok { IfOk result (λ f. optional_in features_in (Some (borrowed_view value.now)) ≡ Some (option_map features_view f)) }
     ensures place { IfErr result (Locates some_features (borrowed_view value.now)) }
 {
-    check_keys(alloc, value, &["default", "flags"])?;
-    let default = feature_member(alloc, value, "default")?;
-    let flags = flags_member(alloc, value, "flags")?;
-    Ok(Features { default, flags })
+    let default = feature_member(alloc, value, "default");
+    let flags = flags_member(alloc, value, "flags");
+    match only(alloc, value, &["default", "flags"], both(default, flags)) {
+        Ok((default, flags)) => Ok(Some(Features { default, flags })),
+        Err(error) => Err(error),
+    }
 }
 
 // The answer at the key; where it is not there, flags are disabled.
@@ -61,33 +63,14 @@ fn feature_member(
     ensures ok { IfOk result (λ f. or_default Disable feature_in (get key.now (borrowed_view value.now)) ≡ Some f) }
     ensures place { IfErr result (LocatesMember (optional key.now a_feature) (borrowed_view value.now)) }
 {
-    let Some(word) = value.get(key) else {
-        return Ok(Feature::Disable);
-    };
-    match feature_of(alloc, word) {
-        Ok(feature) => Ok(feature),
-        Err(error) => Err(under(alloc, error, key)),
+    match value.get(key) {
+        Some(word) => stated(alloc, key, feature_of(word.as_str())),
+        None => Ok(Feature::Disable),
     }
 }
 
 // The answer that a word names.
-fn feature_of(alloc: Global, value: &BorrowedValue<'_>) -> Result<Feature, BundleError>
-    ensures ok { IfOk result (λ f. feature_in (borrowed_view value.now) ≡ Some f) }
-    ensures place { IfErr result (Locates a_feature (borrowed_view value.now)) }
-{
-    feature_named(value.as_str()).ok_or(wrong(alloc))
-}
-
-// The answer that a flag's word names.
-fn answer_of(alloc: Global, value: &Value) -> Result<Feature, BundleError>
-    ensures ok { IfOk result (λ f. feature_in (view value.now) ≡ Some f) }
-    ensures place { IfErr result (Locates a_feature (view value.now)) }
-{
-    feature_named(value.as_str()).ok_or(wrong(alloc))
-}
-
-// The answer of this word, where there is one.
-fn feature_named(word: Option<&str>) -> Option<Feature>
+fn feature_of(word: Option<&str>) -> Option<Feature>
     ensures { result ≡ option_and_then named_feature (option_map (λ s. s.now) word.entry) }
 {
     match word {
@@ -108,12 +91,9 @@ fn flags_member(
     ensures ok { IfOk result (λ f. or_default [] flags_in (get key.now (borrowed_view value.now)) ≡ Some (flags_view f)) }
     ensures place { IfErr result (LocatesMember (optional key.now (an_object_of a_feature)) (borrowed_view value.now)) }
 {
-    let Some(found) = value.get(key) else {
-        return Ok(BTreeMap::new(alloc));
-    };
-    match sorted_flags(alloc, found) {
-        Ok(flags) => Ok(flags),
-        Err(error) => Err(under(alloc, error, key)),
+    match value.get(key) {
+        Some(found) => inside(alloc, key, sorted_flags(alloc, found)),
+        None => Ok(BTreeMap::new(alloc)),
     }
 }
 
@@ -125,8 +105,10 @@ fn sorted_flags(
     ensures ok { IfOk result (λ f. flags_in (borrowed_view value.now) ≡ Some (flags_view f)) }
     ensures place { IfErr result (Locates (an_object_of a_feature) (borrowed_view value.now)) }
 {
-    let sorted = value_of_borrowed(alloc, value)?;
-    flags_of(alloc, &sorted)
+    match value_of_borrowed(alloc, value) {
+        Ok(sorted) => flags_of(alloc, &sorted),
+        Err(_) => Err(BundleError::Memory),
+    }
 }
 
 fn flags_of(alloc: Global, value: &Value) -> Result<BTreeMap<String, Feature>, BundleError>
@@ -136,14 +118,42 @@ fn flags_of(alloc: Global, value: &Value) -> Result<BTreeMap<String, Feature>, B
     let Some(members) = value.as_object() else {
         return Err(wrong(alloc));
     };
-    let mut flags = BTreeMap::new(alloc);
+    let mut flags = Ok(BTreeMap::new(alloc));
     for (name, word) in members.iter() {
-        match answer_of(alloc, word) {
-            Ok(feature) => {
-                flags.insert(name.clone()?, feature)?;
-            }
-            Err(error) => return Err(under(alloc, error, name.as_str())),
-        }
+        let answer = stated(alloc, name.as_str(), feature_of(word.as_str()));
+        flags = with_flag(flags, name, answer);
     }
-    Ok(flags)
+    flags
+}
+
+// The flags, with one more, or the first fault.
+fn with_flag(
+    flags: Result<BTreeMap<String, Feature>, BundleError>,
+    name: &String,
+    answer: Result<Feature, BundleError>,
+) -> Result<BTreeMap<String, Feature>, BundleError>
+    ensures ok { IfOk result (IsWithFlag flags name.now answer) }
+    ensures place { IfErr result (IsFlagFault flags answer) }
+{
+    match both(flags, answer) {
+        Ok((flags, feature)) => put_flag(flags, name, feature),
+        Err(error) => Err(error),
+    }
+}
+
+fn put_flag(
+    mut flags: BTreeMap<String, Feature>,
+    name: &String,
+    feature: Feature,
+) -> Result<BTreeMap<String, Feature>, BundleError>
+    ensures ok { IfOk result (IsGrown flags name.now feature) }
+    ensures refused { IfErr result (λ e. e ≡ Memory) }
+{
+    match name.clone() {
+        Ok(name) => match flags.insert(name, feature) {
+            Ok(_) => Ok(flags),
+            Err(_) => Err(BundleError::Memory),
+        },
+        Err(_) => Err(BundleError::Memory),
+    }
 }

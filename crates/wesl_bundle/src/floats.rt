@@ -20,8 +20,10 @@ pub(crate) fn check_whole(alloc: Global, value: &BorrowedValue<'_>) -> Result<()
     if is_whole(value) {
         return Ok(());
     }
-    let owned = value_of_borrowed(alloc, value)?;
-    check_value(alloc, &owned)
+    match value_of_borrowed(alloc, value) {
+        Ok(owned) => check_value(alloc, &owned),
+        Err(_) => Err(BundleError::Memory),
+    }
 }
 
 // Whether each number that stands in it is read as a whole one. A member counts that a later one with its key replaces, so

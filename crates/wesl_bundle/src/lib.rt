@@ -5,6 +5,7 @@ mod builtins;
 mod bundle;
 mod features;
 mod floats;
+mod joined;
 mod members;
 mod options;
 mod packages;

@@ -1,18 +1,16 @@
 //! Reading the members of a bundle's objects, and the places of their faults.
-ghost use Rattle.std.specs.Prelude.{◌≡◌, ◌∷◌, ◌++◌, [], map, true, false, Some, None, IfOk, IfErr, OnOk, OnErr, option_map, string_bytes};
-ghost use Rattle.std.specs.List.{list_any};
-ghost use Rattle.std.specs.Str.{bytes_eq};
+ghost use Rattle.std.specs.Prelude.{◌≡◌, [], false, None, Some, IfOk, IfErr, map, option_and_then, option_map, string_bytes};
 ghost use Rattle.serde_json.specs.Find.{get};
 ghost use Rattle.wesl_borrowed.specs.View.{borrowed_view};
 ghost use Rattle.wesl_names.specs.Path.{path_view, is_relative};
 ghost use Rattle.wesl_names.specs.PathText.{parse};
-ghost use Rattle.wesl_bundle.specs.declared.members.BundleError.TheVariants.{Memory};
-ghost use Rattle.wesl_pointer.specs.Pointer.{escaped, key as key_part, index as index_part};
-ghost use Rattle.wesl_bundle.specs.Forms.{required, a_name, a_path};
-ghost use Rattle.wesl_bundle.specs.Reading.{name_in, path_in, required_in};
-ghost use Rattle.wesl_pointer.specs.Keys.{all_known, has_only};
-ghost use Rattle.wesl_bundle.specs.Broken.{place_of, IsUnder, Locates, LocatesMember};
+ghost use Rattle.wesl_pointer.specs.Pointer.{key as key_part, index as index_part};
+ghost use Rattle.wesl_bundle.specs.Broken.{place_of, IfPlace, IsUnder, Locates, LocatesMember};
+ghost use Rattle.wesl_bundle.specs.Forms.{a_list_of, a_name, a_path, a_unit, optional, required};
+ghost use Rattle.wesl_bundle.specs.Parts.{text_form, text_in};
+ghost use Rattle.wesl_bundle.specs.Reading.{name_in, or_empty, path_in, required_in, unless_relative};
 
+use crate::joined::{inside, with_item};
 use std::alloc::{AllocError, AllocFailed, Global};
 use wesl_borrowed::BorrowedValue;
 use wesl_names::{Error, ModulePath};
@@ -95,76 +93,92 @@ pub(crate) fn under_index(alloc: Global, error: BundleError, index: usize) -> Bu
     }
 }
 
-// An object with no keys but these.
-pub(crate) fn check_keys(
-    alloc: Global,
-    value: &BorrowedValue<'_>,
-    known: &[&str],
-) -> Result<(), BundleError>
-    ensures ok { OnOk result (has_only (map (λ k. k.now) known.now) (borrowed_view value.now) ≡ true) }
-    ensures refused { OnErr result (has_only (map (λ k. k.now) known.now) (borrowed_view value.now) ≡ false) }
-    ensures place { IfErr result (λ e. place_of e ≡ Some []) }
-{
-    if wesl_pointer::has_only(value, known) {
-        Ok(())
-    } else {
-        Err(wrong(alloc))
-    }
-}
-
-// The member at the key, which has to be there.
-pub(crate) fn member<'v, 't>(
-    alloc: Global,
-    value: &'v BorrowedValue<'t>,
-    key: &str,
-) -> Result<&'v BorrowedValue<'t>, BundleError>
-    ensures ok { IfOk result (λ v. get key.now (borrowed_view value.now) ≡ Some (borrowed_view v.now)) }
-    ensures refused { OnErr result (get key.now (borrowed_view value.now) ≡ None) }
-    ensures place { IfErr result (λ e. place_of e ≡ Some []) }
-{
-    value.get(key).ok_or(wrong(alloc))
-}
-
-// A nonempty text.
-pub(crate) fn name_of(alloc: Global, value: &BorrowedValue<'_>) -> Result<String, BundleError>
-    ensures ok { IfOk result (λ s. name_in (borrowed_view value.now) ≡ Some (string_bytes s)) }
-    ensures place { IfErr result (Locates a_name (borrowed_view value.now)) }
+// The text that a value is, an empty one only where it may be empty.
+fn text_in<'t>(value: &BorrowedValue<'t>, may_be_empty: bool) -> Option<&'t str>
+    ensures { option_map (λ s. s.now) result ≡ text_in may_be_empty (borrowed_view value.now) }
 {
     match value.as_str() {
-        Some(text) if !text.is_empty() => Ok(String::from_str(alloc, text)?),
-        _ => Err(wrong(alloc)),
+        Some("") if !may_be_empty => None,
+        text => text,
     }
 }
 
-// The path that a value's text says, unless it is relative.
-fn path_of(alloc: Global, value: &BorrowedValue<'_>) -> Result<ModulePath, BundleError>
-    ensures ok { IfOk result (λ p. path_in (borrowed_view value.now) ≡ Some (path_view p)) }
-    ensures fixed { IfOk result (λ p. is_relative (path_view p) ≡ false) }
-    ensures place { IfErr result (Locates a_path (borrowed_view value.now)) }
+// The same, as a text of its own.
+fn text_of(
+    alloc: Global,
+    value: &BorrowedValue<'_>,
+    may_be_empty: bool,
+) -> Result<String, BundleError>
+    ensures ok { IfOk result (λ s. text_in may_be_empty (borrowed_view value.now) ≡ Some (string_bytes s)) }
+    ensures place { IfErr result (Locates (text_form may_be_empty) (borrowed_view value.now)) }
 {
-    let Some(text) = value.as_str() else {
-        return Err(wrong(alloc));
-    };
-    let Some(path) = parsed(alloc, text)? else {
-        return Err(wrong(alloc));
-    };
-    if path.is_relative() {
-        return Err(wrong(alloc));
+    match text_in(value, may_be_empty) {
+        Some(text) => match String::from_str(alloc, text) {
+            Ok(text) => Ok(text),
+            Err(_) => Err(BundleError::Memory),
+        },
+        None => Err(wrong(alloc)),
     }
-    Ok(path)
 }
 
-fn parsed(alloc: Global, text: &str) -> Result<Option<ModulePath>, BundleError>
-    ensures parsed { IfOk result (λ found. option_map path_view found ≡ parse text.now) }
-    ensures refused { IfErr result (λ e. e ≡ Memory) }
+// The texts at the key, none where it is not there.
+pub(crate) fn texts_member(
+    alloc: Global,
+    value: &BorrowedValue<'_>,
+    key: &str,
+    may_be_empty: bool,
+) -> Result<Vec<String>, BundleError>
+    ensures ok { IfOk result (λ v. or_empty (text_in may_be_empty) (get key.now (borrowed_view value.now)) ≡ Some (map string_bytes v.items)) }
+    ensures place { IfErr result (LocatesMember (optional key.now (a_list_of (text_form may_be_empty))) (borrowed_view value.now)) }
 {
-    match ModulePath::parse(alloc, text) {
-        Ok(found) => Ok(found),
-        Err(_) => Err(BundleError::Memory),
+    let Some(list) = value.get(key) else {
+        return Ok(Vec::new(alloc));
+    };
+    let Some(items) = list.as_array() else {
+        return Err(under(alloc, wrong(alloc), key));
+    };
+    let mut texts = Ok(Vec::new(alloc));
+    for (index, item) in items.iter().enumerate() {
+        let text = text_of(alloc, item, may_be_empty);
+        texts = with_item(alloc, texts, index, text);
+    }
+    inside(alloc, key, texts)
+}
+
+// The name at the key, a nonempty text.
+pub(crate) fn name_member(
+    alloc: Global,
+    value: &BorrowedValue<'_>,
+    key: &str,
+) -> Result<String, BundleError>
+    ensures ok { IfOk result (λ s. required_in name_in key.now (borrowed_view value.now) ≡ Some (string_bytes s)) }
+    ensures place { IfErr result (LocatesMember (required key.now a_name) (borrowed_view value.now)) }
+{
+    match value.get(key) {
+        Some(name) => inside(alloc, key, text_of(alloc, name, false)),
+        None => Err(wrong(alloc)),
     }
 }
 
-// The path at the key.
+// A copy of what is at the key, which has to be there.
+pub(crate) fn unit_member<'t>(
+    alloc: Global,
+    value: &BorrowedValue<'t>,
+    key: &str,
+) -> Result<BorrowedValue<'t>, BundleError>
+    ensures ok { IfOk result (λ u. get key.now (borrowed_view value.now) ≡ Some (borrowed_view u)) }
+    ensures place { IfErr result (LocatesMember (required key.now a_unit) (borrowed_view value.now)) }
+{
+    match value.get(key) {
+        Some(unit) => match unit.try_clone(alloc) {
+            Ok(unit) => Ok(unit),
+            Err(_) => Err(BundleError::Memory),
+        },
+        None => Err(wrong(alloc)),
+    }
+}
+
+// The path at the key, which is not relative.
 pub(crate) fn path_member(
     alloc: Global,
     value: &BorrowedValue<'_>,
@@ -174,9 +188,39 @@ pub(crate) fn path_member(
     ensures fixed { IfOk result (λ p. is_relative (path_view p) ≡ false) }
     ensures place { IfErr result (LocatesMember (required key.now a_path) (borrowed_view value.now)) }
 {
-    let found = member(alloc, value, key)?;
-    match path_of(alloc, found) {
-        Ok(path) => Ok(path),
-        Err(error) => Err(under(alloc, error, key)),
+    match value.get(key) {
+        Some(path) => inside(alloc, key, path_of(alloc, path)),
+        None => Err(wrong(alloc)),
+    }
+}
+
+// The path that a value's text says, unless it is relative.
+fn path_of(alloc: Global, value: &BorrowedValue<'_>) -> Result<ModulePath, BundleError>
+    ensures ok { IfOk result (λ p. path_in (borrowed_view value.now) ≡ Some (path_view p)) }
+    ensures fixed { IfOk result (λ p. is_relative (path_view p) ≡ false) }
+    ensures place { IfErr result (Locates a_path (borrowed_view value.now)) }
+{
+    match value.as_str() {
+        Some(text) => fixed_path(alloc, text),
+        None => Err(wrong(alloc)),
+    }
+}
+
+// The path that a text says, unless it is relative.
+fn fixed_path(alloc: Global, text: &str) -> Result<ModulePath, BundleError>
+    ensures ok { IfOk result (λ p. option_and_then unless_relative (parse text.now) ≡ Some (path_view p)) }
+    ensures fixed { IfOk result (λ p. is_relative (path_view p) ≡ false) }
+    ensures place { IfErr result (λ e. IfPlace e (λ p. (p ≡ []) × (option_and_then unless_relative (parse text.now) ≡ None))) }
+{
+    match ModulePath::parse(alloc, text) {
+        Ok(Some(path)) => {
+            if path.is_relative() {
+                Err(wrong(alloc))
+            } else {
+                Ok(path)
+            }
+        }
+        Ok(None) => Err(wrong(alloc)),
+        Err(_) => Err(BundleError::Memory),
     }
 }

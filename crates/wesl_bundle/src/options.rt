@@ -1,15 +1,16 @@
 //! How the modules of a bundle are linked.
-ghost use Rattle.std.specs.Prelude.{◌≡◌, Some, IfOk, IfErr, false};
+ghost use Rattle.std.specs.Prelude.{◌≡◌, Some, IfOk, IfErr, false, option_and_then, option_map};
 ghost use Rattle.serde_json.specs.Find.{get, as_bool};
 ghost use Rattle.wesl_borrowed.specs.View.{borrowed_view};
-ghost use Rattle.wesl_bundle.specs.Bundle.{naming_in, limit_in, options_in};
+ghost use Rattle.wesl_bundle.specs.Bundle.{below_limit, naming_in, naming_of as word_naming, limit_in, options_in};
 ghost use Rattle.wesl_bundle.specs.Forms.{optional, a_mangler, a_truth, a_limit, a_bundle};
 ghost use Rattle.wesl_bundle.specs.Reading.{or_default};
 ghost use Rattle.wesl_bundle.specs.Broken.{Locates, LocatesMember};
 ghost use Rattle.wesl_bundle.specs.Views.{options_view};
 ghost use Rattle.wesl_bundle.specs.declared.options.Naming.TheVariants.{Escape};
 
-use crate::members::{BundleError, under, wrong};
+use crate::joined::{both, stated};
+use crate::members::BundleError;
 use std::alloc::Global;
 use wesl_borrowed::BorrowedValue;
 
@@ -42,16 +43,23 @@ pub(crate) fn read_options(alloc: Global, value: &BorrowedValue<'_>) -> Result<O
     ensures ok { IfOk result (λ o. options_in (borrowed_view value.now) ≡ Some (options_view o)) }
     ensures place { IfErr result (Locates a_bundle (borrowed_view value.now)) }
 {
-    let mangler = naming_member(alloc, value, "mangler")?;
-    let mangle_root = truth_member(alloc, value, "mangle_root")?;
-    let eager = truth_member(alloc, value, "eager")?;
-    let max_modules = limit_member(alloc, value, "max_modules")?;
-    Ok(Options {
-        mangler,
-        mangle_root,
-        eager,
-        max_modules,
-    })
+    let mangler = naming_member(alloc, value, "mangler");
+    let mangle_root = truth_member(alloc, value, "mangle_root");
+    let eager = truth_member(alloc, value, "eager");
+    let max_modules = limit_member(alloc, value, "max_modules");
+    match both(both(mangler, mangle_root), both(eager, max_modules)) {
+        Ok((naming, extent)) => {
+            let (mangler, mangle_root) = naming;
+            let (eager, max_modules) = extent;
+            Ok(Options {
+                mangler,
+                mangle_root,
+                eager,
+                max_modules,
+            })
+        }
+        Err(error) => Err(error),
+    }
 }
 
 // The mangler at the key, the escape form where it is not there.
@@ -59,25 +67,21 @@ fn naming_member(alloc: Global, value: &BorrowedValue<'_>, key: &str) -> Result<
     ensures ok { IfOk result (λ n. or_default Escape naming_in (get key.now (borrowed_view value.now)) ≡ Some n) }
     ensures place { IfErr result (LocatesMember (optional key.now a_mangler) (borrowed_view value.now)) }
 {
-    let Some(word) = value.get(key) else {
-        return Ok(Naming::Escape);
-    };
-    match naming_of(alloc, word) {
-        Ok(naming) => Ok(naming),
-        Err(error) => Err(under(alloc, error, key)),
+    match value.get(key) {
+        Some(word) => stated(alloc, key, naming_of(word.as_str())),
+        None => Ok(Naming::Escape),
     }
 }
 
 // The mangler that a word names.
-fn naming_of(alloc: Global, value: &BorrowedValue<'_>) -> Result<Naming, BundleError>
-    ensures ok { IfOk result (λ n. naming_in (borrowed_view value.now) ≡ Some n) }
-    ensures place { IfErr result (Locates a_mangler (borrowed_view value.now)) }
+fn naming_of(word: Option<&str>) -> Option<Naming>
+    ensures { result ≡ option_and_then word_naming (option_map (λ s. s.now) word.entry) }
 {
-    match value.as_str() {
-        Some("escape") => Ok(Naming::Escape),
-        Some("unicode") => Ok(Naming::Unicode),
-        Some("none") => Ok(Naming::Own),
-        _ => Err(wrong(alloc)),
+    match word {
+        Some("escape") => Some(Naming::Escape),
+        Some("unicode") => Some(Naming::Unicode),
+        Some("none") => Some(Naming::Own),
+        _ => None,
     }
 }
 
@@ -86,20 +90,10 @@ fn truth_member(alloc: Global, value: &BorrowedValue<'_>, key: &str) -> Result<b
     ensures ok { IfOk result (λ b. or_default false as_bool (get key.now (borrowed_view value.now)) ≡ Some b) }
     ensures place { IfErr result (LocatesMember (optional key.now a_truth) (borrowed_view value.now)) }
 {
-    let Some(found) = value.get(key) else {
-        return Ok(false);
-    };
-    match truth_of(alloc, found) {
-        Ok(truth) => Ok(truth),
-        Err(error) => Err(under(alloc, error, key)),
+    match value.get(key) {
+        Some(found) => stated(alloc, key, found.as_bool()),
+        None => Ok(false),
     }
-}
-
-fn truth_of(alloc: Global, value: &BorrowedValue<'_>) -> Result<bool, BundleError>
-    ensures ok { IfOk result (λ b. as_bool (borrowed_view value.now) ≡ Some b) }
-    ensures place { IfErr result (Locates a_truth (borrowed_view value.now)) }
-{
-    value.as_bool().ok_or(wrong(alloc))
 }
 
 // The number at the key, a thousand where it is not there.
@@ -107,22 +101,18 @@ fn limit_member(alloc: Global, value: &BorrowedValue<'_>, key: &str) -> Result<u
     ensures ok { IfOk result (λ n. or_default 1000 limit_in (get key.now (borrowed_view value.now)) ≡ Some n) }
     ensures place { IfErr result (LocatesMember (optional key.now a_limit) (borrowed_view value.now)) }
 {
-    let Some(found) = value.get(key) else {
-        return Ok(1000);
-    };
-    match limit_of(alloc, found) {
-        Ok(limit) => Ok(limit),
-        Err(error) => Err(under(alloc, error, key)),
+    match value.get(key) {
+        Some(found) => stated(alloc, key, limit_of(found.as_u64())),
+        None => Ok(1000),
     }
 }
 
 // A whole number of at most 32 bits.
-fn limit_of(alloc: Global, value: &BorrowedValue<'_>) -> Result<usize, BundleError>
-    ensures ok { IfOk result (λ n. limit_in (borrowed_view value.now) ≡ Some n) }
-    ensures place { IfErr result (Locates a_limit (borrowed_view value.now)) }
+fn limit_of(number: Option<u64>) -> Option<usize>
+    ensures { result ≡ option_and_then below_limit number }
 {
-    match value.as_u64() {
-        Some(limit) if limit < 4294967296 => Ok(limit as usize),
-        _ => Err(wrong(alloc)),
+    match number {
+        Some(limit) if limit < 4294967296 => Some(limit as usize),
+        _ => None,
     }
 }

@@ -1,14 +1,16 @@
 //! The packages of a bundle.
-ghost use Rattle.std.specs.Prelude.{◌≡◌, Some, IfOk, IfErr, string_bytes};
+ghost use Rattle.std.specs.Prelude.{◌≡◌, Some, IfOk, IfErr, codes};
 ghost use Rattle.serde_json.specs.Find.{get};
 ghost use Rattle.wesl_borrowed.specs.View.{borrowed_view};
 ghost use Rattle.wesl_bundle.specs.Broken.{Locates, LocatesMember};
-ghost use Rattle.wesl_bundle.specs.Forms.{a_list_of, a_name, a_package, a_package_module, optional, required};
+ghost use Rattle.wesl_bundle.specs.Forms.{a_list_of, a_package, a_package_module, optional};
 ghost use Rattle.wesl_bundle.specs.PackageViews.{package_module_view, package_modules_view, package_view, packages_view};
-ghost use Rattle.wesl_bundle.specs.Packages.{no_modules, no_packages, package_in, package_module_in, package_modules_in, packages_in};
-ghost use Rattle.wesl_bundle.specs.Reading.{name_in, or_default, required_in};
+ghost use Rattle.wesl_bundle.specs.Packages.{module_with, no_modules, no_packages, package_in, package_module_in, package_modules_in, packages_in};
+ghost use Rattle.wesl_bundle.specs.Parts.{LocatesModuleMember};
+ghost use Rattle.wesl_bundle.specs.Reading.{or_default};
 
-use crate::members::{BundleError, check_keys, member, name_of, under, under_index, wrong};
+use crate::joined::{both, inside, only, with_item};
+use crate::members::{BundleError, name_member, under, unit_member, wrong};
 use std::alloc::Global;
 use wesl_borrowed::BorrowedValue;
 
@@ -45,31 +47,15 @@ pub(crate) fn packages_member<'t>(
     let Some(list) = value.get(key) else {
         return Ok(Vec::new(alloc));
     };
-    match packages_of(alloc, list) {
-        Ok(packages) => Ok(packages),
-        Err(error) => Err(under(alloc, error, key)),
-    }
-}
-
-#[cycle(packages)]
-fn packages_of<'t>(
-    alloc: Global,
-    value: &BorrowedValue<'t>,
-) -> Result<Vec<Package<'t>>, BundleError>
-    ensures ok { IfOk result (λ ps. packages_in (borrowed_view value.now) ≡ Some (packages_view ps.items)) }
-    ensures place { IfErr result (Locates (a_list_of a_package) (borrowed_view value.now)) }
-{
-    let Some(items) = value.as_array() else {
-        return Err(wrong(alloc));
+    let Some(items) = list.as_array() else {
+        return Err(under(alloc, wrong(alloc), key));
     };
-    let mut packages = Vec::new(alloc);
+    let mut packages = Ok(Vec::new(alloc));
     for (index, item) in items.iter().enumerate() {
-        match package_of(alloc, item) {
-            Ok(package) => packages.push(package)?,
-            Err(error) => return Err(under_index(alloc, error, index)),
-        }
+        let package = package_of(alloc, item);
+        packages = with_item(alloc, packages, index, package);
     }
-    Ok(packages)
+    inside(alloc, key, packages)
 }
 
 #[cycle(packages)]
@@ -77,19 +63,13 @@ fn package_of<'t>(alloc: Global, value: &BorrowedValue<'t>) -> Result<Package<'t
     ensures ok { IfOk result (λ p. package_in (borrowed_view value.now) ≡ Some (package_view p)) }
     ensures place { IfErr result (Locates a_package (borrowed_view value.now)) }
 {
+    let root = module_members(alloc, value);
+    let dependencies = packages_member(alloc, value, "dependencies");
     let known = ["name", "unit", "modules", "dependencies"];
-    check_keys(alloc, value, &known)?;
-    let name = name_member(alloc, value, "name")?;
-    let found = member(alloc, value, "unit")?;
-    let unit = found.try_clone(alloc)?;
-    let modules = modules_member(alloc, value, "modules")?;
-    let dependencies = packages_member(alloc, value, "dependencies")?;
-    let root = PackageModule {
-        name,
-        unit,
-        modules,
-    };
-    Ok(Package { root, dependencies })
+    match only(alloc, value, &known, both(root, dependencies)) {
+        Ok((root, dependencies)) => Ok(Package { root, dependencies }),
+        Err(error) => Err(error),
+    }
 }
 
 // The modules at the key, none where it is not there.
@@ -105,31 +85,15 @@ fn modules_member<'t>(
     let Some(list) = value.get(key) else {
         return Ok(Vec::new(alloc));
     };
-    match modules_of(alloc, list) {
-        Ok(modules) => Ok(modules),
-        Err(error) => Err(under(alloc, error, key)),
-    }
-}
-
-#[cycle(modules)]
-fn modules_of<'t>(
-    alloc: Global,
-    value: &BorrowedValue<'t>,
-) -> Result<Vec<PackageModule<'t>>, BundleError>
-    ensures ok { IfOk result (λ ms. package_modules_in (borrowed_view value.now) ≡ Some (package_modules_view ms.items)) }
-    ensures place { IfErr result (Locates (a_list_of a_package_module) (borrowed_view value.now)) }
-{
-    let Some(items) = value.as_array() else {
-        return Err(wrong(alloc));
+    let Some(items) = list.as_array() else {
+        return Err(under(alloc, wrong(alloc), key));
     };
-    let mut modules = Vec::new(alloc);
+    let mut modules = Ok(Vec::new(alloc));
     for (index, item) in items.iter().enumerate() {
-        match module_of(alloc, item) {
-            Ok(module) => modules.push(module)?,
-            Err(error) => return Err(under_index(alloc, error, index)),
-        }
+        let module = module_of(alloc, item);
+        modules = with_item(alloc, modules, index, module);
     }
-    Ok(modules)
+    inside(alloc, key, modules)
 }
 
 #[cycle(modules)]
@@ -137,26 +101,31 @@ fn module_of<'t>(alloc: Global, value: &BorrowedValue<'t>) -> Result<PackageModu
     ensures ok { IfOk result (λ m. package_module_in (borrowed_view value.now) ≡ Some (package_module_view m)) }
     ensures place { IfErr result (Locates a_package_module (borrowed_view value.now)) }
 {
-    check_keys(alloc, value, &["name", "unit", "modules"])?;
-    let name = name_member(alloc, value, "name")?;
-    let found = member(alloc, value, "unit")?;
-    let unit = found.try_clone(alloc)?;
-    let modules = modules_member(alloc, value, "modules")?;
-    Ok(PackageModule {
-        name,
-        unit,
-        modules,
-    })
+    let members = module_members(alloc, value);
+    only(alloc, value, &["name", "unit", "modules"], members)
 }
 
-// The name at the key.
-fn name_member(alloc: Global, value: &BorrowedValue<'_>, key: &str) -> Result<String, BundleError>
-    ensures ok { IfOk result (λ s. required_in name_in key.now (borrowed_view value.now) ≡ Some (string_bytes s)) }
-    ensures place { IfErr result (LocatesMember (required key.now a_name) (borrowed_view value.now)) }
+// What a module has: a package has it too, for its root.
+#[cycle(modules)]
+fn module_members<'t>(
+    alloc: Global,
+    value: &BorrowedValue<'t>,
+) -> Result<PackageModule<'t>, BundleError>
+    ensures ok { IfOk result (λ m. module_with (borrowed_view value.now) (or_default no_modules package_modules_in (get (codes "modules") (borrowed_view value.now))) ≡ Some (package_module_view m)) }
+    ensures place { IfErr result (LocatesModuleMember (borrowed_view value.now)) }
 {
-    let found = member(alloc, value, key)?;
-    match name_of(alloc, found) {
-        Ok(name) => Ok(name),
-        Err(error) => Err(under(alloc, error, key)),
+    let name = name_member(alloc, value, "name");
+    let unit = unit_member(alloc, value, "unit");
+    let modules = modules_member(alloc, value, "modules");
+    match both(name, both(unit, modules)) {
+        Ok((name, content)) => {
+            let (unit, modules) = content;
+            Ok(PackageModule {
+                name,
+                unit,
+                modules,
+            })
+        }
+        Err(error) => Err(error),
     }
 }

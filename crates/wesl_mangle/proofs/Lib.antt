@@ -9,3 +9,4 @@ pub mod Separators
 pub mod TypeTexts
 pub mod Words
 pub mod Writing
+pub mod Written

@@ -1,5 +1,5 @@
 -- Places among pieces, and what is read from them on.
-use Rattle.std.proofs.Common.{◌≡◌, ◌<◌, ◌≤◌, ◌+◌, ◌-◌, ◌^◌, ℕ, zero, suc, Bool, true, false, not, ◌&&◌, List, [], ◌∷◌, ◌++◌, length, map, take, drop, Option, Some, None, option_map, IfSome, Err, refl, ap, sym, ◌∙◌, ◌==◌, arith, append_assoc, length-drop, String, Global, string_bytes, add-one, codes}
+use Rattle.std.proofs.Common.{◌≡◌, ◌<◌, ◌≤◌, ◌+◌, ◌-◌, ◌^◌, ℕ, zero, suc, Bool, true, false, not, ◌&&◌, List, [], ◌∷◌, ◌++◌, length, map, take, drop, Option, Some, None, option_map, option_and_then, IfSome, Err, refl, ap, sym, ◌∙◌, ◌==◌, arith, append_assoc, length-drop, String, Global, string_bytes, add-one, codes}
 use Rattle.std.proofs.lemmas.Bool.{eqb-false}
 use Rattle.std.proofs.lemmas.List.{take_all, drop-map, drop-drop, append-nil}
 use Rattle.std.proofs.lemmas.Slice.Eq.{bytes_eq-Decides}
@@ -160,8 +160,9 @@ origin-supers w ps pieces n e s f =
 
 -- the whole
 
-pub whole-none : (ps : List Text) (o : Origin) (rest : List Text) → read_origin ps ≡ Some (o, rest) → read_all_names (length rest) rest ≡ None → unescaped ps ≡ None
-whole-none ps o rest e h = step (read_origin ps) e
-  where
-    step : (r : Option (Origin × List Text)) → r ≡ Some (o, rest) → (r >>= λ x. read_all_names (length x.1) x.1 >>= λ ns. item_below x.0 ns) ≡ None
-    step r e = rw (e, h) refl
+after-origin : (r : Option (Origin × List Text)) (o : Origin) (rest : List Text) → r ≡ Some (o, rest)
+    → (r >>= λ x. read_all_names (length x.1) x.1 >>= λ ns. item_below x.0 ns) ≡ option_and_then (item_below o) (read_all_names (length rest) rest)
+after-origin r o rest e = rw e refl
+
+pub whole : (ps : List Text) (o : Origin) (rest : List Text) → read_origin ps ≡ Some (o, rest) → unescaped ps ≡ option_and_then (item_below o) (read_all_names (length rest) rest)
+whole ps o rest e = after-origin (read_origin ps) o rest e

@@ -2,14 +2,68 @@
 ghost use Rattle.std.specs.Prelude.{◌≡◌, None, Some, true, IfOk, IfErr, OnOk, OnErr, string_bytes};
 ghost use Rattle.wesl_names.specs.Path.{Text, Path, path_view};
 ghost use Rattle.wesl_names.specs.declared.errors.Error as error;
-ghost use Rattle.wesl_mangle.specs.Mangler.{IsWrittenOrKept, numbered, written_if};
+ghost use Rattle.wesl_mangle.specs.Mangler.{IsWrittenOrKept, item_view, numbered, written_if};
+ghost use Rattle.wesl_mangle.specs.Shown.{shown};
 
 use crate::mangler::Mangler;
-use crate::numbered::number_item;
+use crate::numbered::{is_made, number_item};
 use std::alloc::Global;
 use std::collections::BTreeMap;
 use wesl_names::{Error, ModulePath, Names};
 use wesl_syntax::TypeExpression;
+
+/// A name, and the item that it is given for.
+type Entry = (String, (ModulePath, String));
+
+/// A copy of the item.
+fn copied(alloc: Global, path: &ModulePath, item: &str) -> Result<(ModulePath, String), Error>
+    ensures copied { IfOk result (λ copy. item_view copy ≡ (path_view path.now, item.now)) }
+    ensures refused { IfErr result (λ e. e ≡ error.Memory) }
+{
+    match path.try_clone(alloc) {
+        Ok(path) => match String::from_str(alloc, item) {
+            Ok(item) => Ok((path, item)),
+            Err(_) => Err(Error::Memory),
+        },
+        Err(error) => Err(error),
+    }
+}
+
+/// A copy of the name, with a copy of the item.
+fn entry(alloc: Global, name: &str, path: &ModulePath, item: &str) -> Result<Entry, Error>
+    ensures copied { IfOk result (λ entry. (string_bytes entry.0 ≡ name.now) × (item_view entry.1 ≡ (path_view path.now, item.now))) }
+    ensures refused { IfErr result (λ e. e ≡ error.Memory) }
+{
+    match String::from_str(alloc, name) {
+        Ok(name) => match copied(alloc, path, item) {
+            Ok(item) => Ok((name, item)),
+            Err(error) => Err(error),
+        },
+        Err(_) => Err(Error::Memory),
+    }
+}
+
+/// Writes the entry into the record.
+fn record(
+    items: &mut BTreeMap<String, (ModulePath, String)>,
+    entry: Result<Entry, Error>,
+) -> Result<(), Error>
+    ensures written { (name : Text) (item : Path × Text) → IfOk entry (λ e. (string_bytes e.0 ≡ name) × (item_view e.1 ≡ item))
+        → OnOk result ((n : Text) → shown items.new n ≡ written_if true name item (shown items.old) n) }
+    ensures unwritten { OnErr result ((n : Text) → shown items.new n ≡ shown items.old n) }
+    ensures refused { IfErr entry (λ e. e ≡ error.Memory) → IfErr result (λ e. e ≡ error.Memory) }
+{
+    match entry {
+        Ok((name, written)) => {
+            if is_made(items.insert(name, written)) {
+                Ok(())
+            } else {
+                Err(Error::Memory)
+            }
+        }
+        Err(error) => Err(error),
+    }
+}
 
 /// Gives the names of another mangler, and remembers the item that each name was last given for.
 pub struct CacheMangler<M> {
@@ -72,9 +126,7 @@ impl<M: Mangler> Mangler for CacheMangler<M> {
             (M.recorded (inner self.old)) (M.recorded (inner self.new))) }
     {
         let mangled = self.mangler.mangle(alloc, path, item)?;
-        let name = mangled.clone()?;
-        let written = (path.try_clone(alloc)?, String::from_str(alloc, item)?);
-        self.items.insert(name, written)?;
+        record(&mut self.items, entry(alloc, mangled.as_str(), path, item))?;
         Ok(mangled)
     }
 
@@ -84,7 +136,7 @@ impl<M: Mangler> Mangler for CacheMangler<M> {
         mangled: &str,
     ) -> Result<Option<(ModulePath, String)>, Error> {
         match self.items.get(mangled) {
-            Some((path, item)) => Ok(Some((path.try_clone(alloc)?, item.clone()?))),
+            Some((path, item)) => Ok(Some(copied(alloc, path, item.as_str())?)),
             None => self.mangler.unmangle(alloc, mangled),
         }
     }
@@ -97,6 +149,6 @@ impl<M: Mangler> Mangler for CacheMangler<M> {
         variant: u32,
         _: &[TypeExpression],
     ) -> Result<String, Error> {
-        Ok(number_item(alloc, item, u64::from(variant))?)
+        number_item(alloc, item, u64::from(variant))
     }
 }

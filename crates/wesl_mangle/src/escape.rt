@@ -1,16 +1,18 @@
 //! The escape form (WESL, "NameMangling": the number of underscores stands before a name that has some).
-ghost use Rattle.std.specs.Prelude.{◌≡◌, ◌++◌, ◌∷◌, [], map, length, IfOk, IfErr, string_bytes, Some, None, true, false, count_by, ◌==◌, codes};
-ghost use Rattle.std.specs.List.{flat_map};
+ghost use Rattle.std.specs.Prelude.{◌≡◌, ◌++◌, ◌∷◌, IfOk, IfErr, string_bytes, Some, None, true, false, count_by, ◌==◌, codes};
 ghost use Rattle.std.specs.Fmt.{decimal};
 ghost use Rattle.wesl_names.specs.Path.{path_view, origin_view, relative};
 ghost use Rattle.wesl_names.specs.declared.errors.Error as error;
 ghost use Rattle.wesl_mangle.specs.Mangler.{numbered};
 ghost use Rattle.wesl_mangle.specs.Identifier.{is_ascii_identifier, begins_with_two_underscores, has_identifiers};
+ghost use Rattle.wesl_mangle.specs.Views.{texts};
+ghost use Rattle.wesl_mangle.specs.Written.{Adds, imported};
 ghost use Rattle.wesl_mangle.specs.Escape.{from_pieces, parts_of, escaped_part, escaped, escaped_origin, escape, unescape, is_reversible};
 
 use crate::mangler::Mangler;
 use crate::numbered::number_item;
 use crate::unescape::unescape;
+use crate::writer::Writer;
 use std::alloc::{AllocError, Global};
 use wesl_names::{Error, ModulePath, Names, PathOrigin};
 use wesl_syntax::TypeExpression;
@@ -20,12 +22,12 @@ use wesl_syntax::TypeExpression;
 #[derive(Clone, Copy, Debug, Default)]
 pub struct EscapeMangler;
 
-/// Appends an underscore and the piece.
-pub fn push_piece(text: &mut String, piece: &str) -> Result<(), AllocError>
-    ensures { IfOk result (λ _. string_bytes text.new ≡ string_bytes text.old ++ 95 ∷ piece.now) }
+/// Adds an underscore and the piece.
+fn push_piece(text: &mut Writer, piece: &str)
+    ensures { Adds text.old text.new (95 ∷ piece.now) }
 {
-    text.push('_')?;
-    text.push_str(piece)
+    text.push("_");
+    text.push(piece);
 }
 
 /// How many underscores the text has.
@@ -49,90 +51,97 @@ fn import_count(alloc: Global, count: usize) -> Result<String, AllocError>
     format!(in alloc; "import_{count}")
 }
 
-/// A part of a name, after an underscore and the number of its underscores where it has some.
-fn escaped_part(alloc: Global, part: &str) -> Result<String, AllocError>
-    ensures { IfOk result (λ text. string_bytes text ≡ from_pieces (escaped_part part.now)) }
+/// Adds a part of a name, after an underscore and the number of its underscores where it has some.
+fn push_part(text: &mut Writer, part: &str)
+    ensures { Adds text.old text.new (from_pieces (escaped_part part.now)) }
 {
     let count = underscores(part);
     if count == 0 {
-        String::from_str(alloc, part)
+        text.push(part);
     } else {
-        told_part(alloc, count, part)
+        text.add(told_part(text.alloc, count, part));
     }
 }
 
-/// The parts of a package's name, after `import` and their number.
-fn imported(alloc: Global, parts: &[&str]) -> Result<String, AllocError>
-    ensures { IfOk result (λ text. string_bytes text ≡ from_pieces (codes "import" ∷ decimal (length parts.now) ∷ flat_map escaped_part (map (λ part. part.now) parts.now))) }
+/// Adds the parts of a package's name, after `import` and their number.
+fn push_imported(text: &mut Writer, parts: &[&str])
+    ensures { Adds text.old text.new (from_pieces (imported (texts parts.now))) }
 {
-    let mut text = import_count(alloc, parts.len())?;
+    text.add(import_count(text.alloc, parts.len()));
     for part in parts {
-        let piece = escaped_part(alloc, part)?;
-        push_piece(&mut text, piece.as_str())?;
+        text.push("_");
+        push_part(text, part);
     }
-    Ok(text)
 }
 
 /// The texts between the slashes.
 fn parts_of(alloc: Global, name: &str) -> Result<Vec<&str>, AllocError>
-    ensures { IfOk result (λ parts. map (λ part. part.now) parts.items ≡ parts_of name.now) }
+    ensures { IfOk result (λ parts. texts parts.items ≡ parts_of name.now) }
 {
     name.split('/').collect(alloc)
 }
 
-/// A name that may have several parts.
-fn escaped(alloc: Global, name: &str) -> Result<String, AllocError>
-    ensures { IfOk result (λ text. string_bytes text ≡ from_pieces (escaped name.now)) }
+/// Adds a name that has these parts.
+fn push_parts(text: &mut Writer, name: &str, parts: &[&str])
+    requires { texts parts.now ≡ parts_of name.now }
+    ensures { Adds text.old text.new (from_pieces (escaped name.now)) }
 {
-    let parts = parts_of(alloc, name)?;
-    let parts = parts.as_slice();
     if parts.len() == 1 {
-        escaped_part(alloc, name)
+        push_part(text, name);
     } else {
-        imported(alloc, parts)
+        push_imported(text, parts);
     }
 }
 
-/// `self`, or `super` so many times.
-fn escaped_relative(alloc: Global, up: usize) -> Result<String, AllocError>
-    ensures { IfOk result (λ text. string_bytes text ≡ from_pieces (escaped_origin (relative up))) }
+/// Adds a name that may have several parts.
+fn push_escaped(text: &mut Writer, name: &str)
+    ensures { Adds text.old text.new (from_pieces (escaped name.now)) }
+{
+    match parts_of(text.alloc, name) {
+        Ok(parts) => push_parts(text, name, parts.as_slice()),
+        Err(_) => text.refuse(),
+    }
+}
+
+/// Adds `self`, or `super` so many times.
+fn push_relative(text: &mut Writer, up: usize)
+    ensures { Adds text.old text.new (from_pieces (escaped_origin (relative up))) }
 {
     if up == 0 {
-        return String::from_str(alloc, "self");
+        text.push("self");
+        return;
     }
-    let mut text = String::from_str(alloc, "super")?;
+    text.push("super");
     for _done in 1..up {
-        push_piece(&mut text, "super")?;
+        push_piece(text, "super");
     }
-    Ok(text)
 }
 
-/// What the origin is written as.
-fn escaped_origin(alloc: Global, origin: &PathOrigin) -> Result<String, AllocError>
-    ensures { IfOk result (λ text. string_bytes text ≡ from_pieces (escaped_origin (origin_view origin.now))) }
+/// Adds what the origin is written as.
+fn push_origin(text: &mut Writer, origin: &PathOrigin)
+    ensures { Adds text.old text.new (from_pieces (escaped_origin (origin_view origin.now))) }
 {
     match origin {
-        PathOrigin::Absolute => String::from_str(alloc, "package"),
-        PathOrigin::Relative(up) => escaped_relative(alloc, *up),
-        PathOrigin::Package(name) => escaped(alloc, name.as_str()),
+        PathOrigin::Absolute => text.push("package"),
+        PathOrigin::Relative(up) => push_relative(text, *up),
+        PathOrigin::Package(name) => push_escaped(text, name.as_str()),
     }
 }
 
 /// The pieces of the origin, the components and the item, joined by `_`.
-fn escape_item(alloc: Global, path: &ModulePath, item: &str) -> Result<String, AllocError>
+fn escape_item(alloc: Global, path: &ModulePath, item: &str) -> Result<String, Error>
     ensures form { IfOk result (λ text. string_bytes text ≡ escape (path_view path.now) item.now) }
-    ensures identifier { IfOk result (λ text. has_identifiers (path_view path.now) item.now ≡ true
-        → (is_ascii_identifier (string_bytes text) ≡ true) × (begins_with_two_underscores (string_bytes text) ≡ false)) }
-    ensures read_back { IfOk result (λ text. is_reversible (path_view path.now) item.now ≡ true → unescape (string_bytes text) ≡ Some (path_view path.now, item.now)) }
+    ensures refused { IfErr result (λ e. e ≡ error.Memory) }
 {
-    let mut text = escaped_origin(alloc, &path.origin)?;
+    let mut text = Writer::new(alloc);
+    push_origin(&mut text, &path.origin);
     for component in &path.components {
-        let piece = escaped(alloc, component.as_str())?;
-        push_piece(&mut text, piece.as_str())?;
+        text.push("_");
+        push_escaped(&mut text, component.as_str());
     }
-    let piece = escaped(alloc, item)?;
-    push_piece(&mut text, piece.as_str())?;
-    Ok(text)
+    text.push("_");
+    push_escaped(&mut text, item);
+    text.end()
 }
 
 impl Mangler for EscapeMangler {
@@ -157,7 +166,7 @@ impl Mangler for EscapeMangler {
         ensures read_back { IfOk result (λ name. is_reversible (path_view path.now) item.now ≡ true → unescape (string_bytes name) ≡ Some (path_view path.now, item.now)) }
         ensures refused { IfErr result (λ e. e ≡ error.Memory) }
     {
-        Ok(escape_item(alloc, path, item)?)
+        escape_item(alloc, path, item)
     }
 
     fn unmangle(
@@ -165,7 +174,7 @@ impl Mangler for EscapeMangler {
         alloc: Global,
         mangled: &str,
     ) -> Result<Option<(ModulePath, String)>, Error> {
-        Ok(unescape(alloc, mangled)?)
+        unescape(alloc, mangled)
     }
 
     fn mangle_types(
@@ -176,6 +185,6 @@ impl Mangler for EscapeMangler {
         variant: u32,
         _: &[TypeExpression],
     ) -> Result<String, Error> {
-        Ok(number_item(alloc, item, u64::from(variant))?)
+        number_item(alloc, item, u64::from(variant))
     }
 }

@@ -57,7 +57,7 @@ impl<H: PathHash> Mangler for HashMangler<H> {
         ensures unchanged { self.new ≡ self.old }
     {
         let hash = self.hasher.hash(path, item);
-        Ok(number_item(alloc, item, hash)?)
+        number_item(alloc, item, hash)
     }
 
     fn unmangle(&self, _: Global, _: &str) -> Result<Option<(ModulePath, String)>, Error> {
@@ -72,6 +72,6 @@ impl<H: PathHash> Mangler for HashMangler<H> {
         variant: u32,
         _: &[TypeExpression],
     ) -> Result<String, Error> {
-        Ok(number_item(alloc, item, u64::from(variant))?)
+        number_item(alloc, item, u64::from(variant))
     }
 }

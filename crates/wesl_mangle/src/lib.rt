@@ -12,6 +12,7 @@ mod types;
 mod unescape;
 mod unicode;
 mod ununicode;
+mod writer;
 
 pub use cache::CacheMangler;
 pub use escape::EscapeMangler;

@@ -7,7 +7,7 @@ ghost use Rattle.wesl_syntax.specs.View.{type_view};
 ghost use Rattle.wesl_names.specs.declared.errors.Error as error;
 ghost use Rattle.wesl_mangle.specs.Mangler.{item_view, written_if, numbered, IsRefusedVariant};
 
-use crate::numbered::number_item;
+use crate::numbered::{number_item, told};
 use std::alloc::Global;
 use wesl_names::{Error, ModulePath, Names};
 use wesl_syntax::TypeExpression;
@@ -154,7 +154,7 @@ impl Mangler for NoMangler {
     ghost variant_of = { λ _ names item number types. Some (numbered item number) };
 
     fn mangle(&mut self, alloc: Global, _: &ModulePath, item: &str) -> Result<String, Error> {
-        Ok(String::from_str(alloc, item)?)
+        told(String::from_str(alloc, item))
     }
 
     fn unmangle(&self, _: Global, _: &str) -> Result<Option<(ModulePath, String)>, Error> {
@@ -169,6 +169,6 @@ impl Mangler for NoMangler {
         variant: u32,
         _: &[TypeExpression],
     ) -> Result<String, Error> {
-        Ok(number_item(alloc, item, u64::from(variant))?)
+        number_item(alloc, item, u64::from(variant))
     }
 }

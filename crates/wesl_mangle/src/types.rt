@@ -1,11 +1,13 @@
 //! Types as the Unicode form writes them.
-ghost use Rattle.std.specs.Prelude.{◌≡◌, ◌++◌, ◌&&◌, true, length, map, IfOk, string_bytes};
+ghost use Rattle.std.specs.Prelude.{◌≡◌, ◌&&◌, List, true, length, map};
+ghost use Rattle.wesl_names.specs.Path.{Text};
 ghost use Rattle.std.specs.List.{list_all};
 ghost use Rattle.wesl_syntax.specs.Tree.{tree_below, list};
-ghost use Rattle.wesl_syntax.specs.View.{type_view, argument_view, expression_view, listed};
+ghost use Rattle.wesl_syntax.specs.View.{type_view, argument_view, expression_view, listed, literal_tree};
 ghost use Rattle.wesl_mangle.specs.TypeText.{mark_before, tree_text, is_literal_or_type, is_normal, is_normal_type, bracketed};
+ghost use Rattle.wesl_mangle.specs.Written.{Adds};
 
-use std::alloc::AllocError;
+use crate::writer::Writer;
 use wesl_names::Names;
 use wesl_syntax::{Expression, Literal, TemplateArg, TypeExpression};
 
@@ -55,63 +57,48 @@ fn is_normal_argument(expression: &Expression) -> bool
     }
 }
 
-/// Appends the mark between two types, except before the first place.
-fn push_mark(text: &mut String, place: usize) -> Result<(), AllocError>
-    ensures { IfOk result (λ _. string_bytes text.new ≡ string_bytes text.old ++ mark_before place) }
+/// Adds the mark between two types, except before the first place.
+fn push_mark(text: &mut Writer, place: usize)
+    ensures { Adds text.old text.new (mark_before place) }
 {
-    if place > 0 {
-        text.push_str(BETWEEN)?;
-    }
-    Ok(())
+    text.push(if place == 0 { "" } else { BETWEEN });
 }
 
-/// Appends the name of the type, and its arguments in brackets.
+/// Adds the name of the type, and its arguments in brackets.
 #[cycle(written)]
-pub fn push_type(text: &mut String, names: &Names, ty: &TypeExpression) -> Result<(), AllocError>
+fn push_type(text: &mut Writer, names: &Names, ty: &TypeExpression)
     requires below { tree_below (length names.now) (type_view ty.now) ≡ true }
     requires normal { is_normal_type (type_view ty.now) ≡ true }
-    ensures { IfOk result (λ _. string_bytes text.new ≡ string_bytes text.old ++ tree_text names.now (type_view ty.now)) }
+    ensures { Adds text.old text.new (tree_text names.now (type_view ty.now)) }
 {
-    text.push_str(names.name(ty.ident))?;
-    match &ty.template_args {
-        None => Ok(()),
-        Some(arguments) => push_arguments(text, names, arguments),
+    text.push(names.name(ty.ident));
+    if let Some(arguments) = &ty.template_args {
+        push_arguments(text, names, arguments);
     }
 }
 
 #[cycle(written)]
-fn push_arguments(
-    text: &mut String,
-    names: &Names,
-    arguments: &Vec<TemplateArg>,
-) -> Result<(), AllocError>
+fn push_arguments(text: &mut Writer, names: &Names, arguments: &Vec<TemplateArg>)
     requires below { tree_below (length names.now) (listed argument_view list arguments.now) ≡ true }
     requires normal { is_normal_type (listed argument_view list arguments.now) ≡ true }
-    ensures { IfOk result (λ _. string_bytes text.new ≡ string_bytes text.old ++ tree_text names.now (listed argument_view list arguments.now)) }
+    ensures { Adds text.old text.new (tree_text names.now (listed argument_view list arguments.now)) }
 {
-    text.push_str(OPENING)?;
+    text.push(OPENING);
     for (place, argument) in arguments.iter().enumerate() {
-        push_mark(text, place)?;
-        push_argument(text, names, &argument.expression.node)?;
+        push_mark(text, place);
+        push_argument(text, names, &argument.expression.node);
     }
-    text.push_str(CLOSING)
+    text.push(CLOSING);
 }
 
 #[cycle(written)]
-fn push_argument(
-    text: &mut String,
-    names: &Names,
-    expression: &Expression,
-) -> Result<(), AllocError>
+fn push_argument(text: &mut Writer, names: &Names, expression: &Expression)
     requires below { tree_below (length names.now) (expression_view expression.now) ≡ true }
     requires normal { (is_literal_or_type (expression_view expression.now).label && is_normal (expression_view expression.now).children) ≡ true }
-    ensures { IfOk result (λ _. string_bytes text.new ≡ string_bytes text.old ++ tree_text names.now (expression_view expression.now)) }
+    ensures { Adds text.old text.new (tree_text names.now (expression_view expression.now)) }
 {
     match expression {
-        Expression::Literal(Literal::Bool(value)) => {
-            text.push_str(if *value { "true" } else { "false" })
-        }
-        Expression::Literal(Literal::Text(literal)) => text.push_str(literal.as_str()),
+        Expression::Literal(literal) => push_literal(text, literal),
         Expression::TypeOrIdentifier(ty) => push_type(text, names, ty),
         Expression::Parenthesized { .. }
         | Expression::NamedComponent { .. }
@@ -122,20 +109,26 @@ fn push_argument(
     }
 }
 
-/// Appends the types in brackets.
-pub fn push_types(
-    text: &mut String,
-    names: &Names,
-    types: &[TypeExpression],
-) -> Result<(), AllocError>
+/// Adds the literal as it is spelled.
+fn push_literal(text: &mut Writer, literal: &Literal)
+    ensures { (names : List Text) → Adds text.old text.new (tree_text names (literal_tree literal.now)) }
+{
+    match literal {
+        Literal::Bool(value) => text.push(if *value { "true" } else { "false" }),
+        Literal::Text(spelled) => text.push(spelled.as_str()),
+    }
+}
+
+/// Adds the types in brackets.
+pub fn push_types(text: &mut Writer, names: &Names, types: &[TypeExpression])
     requires below { list_all (tree_below (length names.now)) (map type_view types.now) ≡ true }
     requires normal { list_all is_normal_type (map type_view types.now) ≡ true }
-    ensures { IfOk result (λ _. string_bytes text.new ≡ string_bytes text.old ++ bracketed (map (tree_text names.now) (map type_view types.now))) }
+    ensures { Adds text.old text.new (bracketed (map (tree_text names.now) (map type_view types.now))) }
 {
-    text.push_str(OPENING)?;
+    text.push(OPENING);
     for (place, ty) in types.iter().enumerate() {
-        push_mark(text, place)?;
-        push_type(text, names, ty)?;
+        push_mark(text, place);
+        push_type(text, names, ty);
     }
-    text.push_str(CLOSING)
+    text.push(CLOSING);
 }

@@ -1,17 +1,18 @@
 //! Reading the escape form. What is read from the front of some pieces is given with the number of
 //! pieces that it took.
-ghost use Rattle.std.specs.Prelude.{◌≡◌, ◌<◌, ◌≤◌, ◌^◌, ◌∷◌, ◌++◌, Some, None, IfOk, IfSome, MatchOption, true, false, length, string_bytes, option_map};
+ghost use Rattle.std.specs.Prelude.{◌≡◌, ◌<◌, ◌≤◌, ◌^◌, ◌∷◌, ◌++◌, Some, None, IfErr, IfOk, IfSome, List, MatchOption, Option, true, false, length, string_bytes, option_and_then, option_map};
 ghost use Rattle.std.specs.List.{prefix_len};
 ghost use Rattle.std.specs.Char.{is_ascii_digit};
 ghost use Rattle.std.specs.Str.Parse.{digits_value};
-ghost use Rattle.wesl_names.specs.Path.{origin_view, from_package};
-ghost use Rattle.wesl_mangle.specs.Escape.{from_pieces, pieces_of, counted, read_name, read_names, read_all_names, is_number, read_import, is_super, read_origin, item_below, unescape};
+ghost use Rattle.wesl_names.specs.Path.{Text, origin_view, from_package};
+ghost use Rattle.wesl_names.specs.declared.errors.Error as error;
+ghost use Rattle.wesl_mangle.specs.Escape.{from_pieces, pieces_of, counted, read_name, read_names, read_all_names, is_number, read_import, is_super, read_origin, item_below, unescape, unescaped};
 ghost use Rattle.wesl_mangle.specs.Mangler.{item_view};
 ghost use Rattle.wesl_mangle.specs.Views.{texts, names_view, name_before, names_before, origin_before};
 
-use crate::escape::push_piece;
+use crate::numbered::told;
 use std::alloc::{AllocError, Global};
-use wesl_names::{ModulePath, PathOrigin};
+use wesl_names::{Error, ModulePath, PathOrigin};
 
 /// How many digits the piece begins with.
 fn leading_digits(piece: &str) -> usize
@@ -21,6 +22,14 @@ fn leading_digits(piece: &str) -> usize
         .bytes()
         .take_while(|byte| byte.is_ascii_digit())
         .count()
+}
+
+/// Appends an underscore and the piece.
+fn push_piece(text: &mut String, piece: &str) -> Result<(), AllocError>
+    ensures { IfOk result (λ _. string_bytes text.new ≡ string_bytes text.old ++ 95 ∷ piece.now) }
+{
+    text.push('_')?;
+    text.push_str(piece)
 }
 
 /// The pieces with an underscore between each two.
@@ -219,17 +228,38 @@ fn pieces_of(alloc: Global, text: &str) -> Result<Vec<&str>, AllocError>
     text.split('_').collect(alloc)
 }
 
-/// The item that the escape form stands for.
-pub fn unescape(alloc: Global, text: &str) -> Result<Option<(ModulePath, String)>, AllocError>
-    ensures { IfOk result (λ found. option_map item_view found ≡ unescape text.now) }
+/// The item of these names, where they were read.
+fn item_of(
+    origin: PathOrigin,
+    names: Result<Option<Vec<String>>, AllocError>,
+) -> Result<Option<(ModulePath, String)>, AllocError>
+    ensures { (ns : Option (List Text)) → IfOk names (λ found. option_map names_view found ≡ ns)
+        → IfOk result (λ found. option_map item_view found ≡ option_and_then (item_below (origin_view origin)) ns) }
 {
-    let pieces = pieces_of(alloc, text)?;
-    let pieces = pieces.as_slice();
-    let Some((origin, taken)) = read_origin(alloc, pieces)? else {
-        return Ok(None);
-    };
-    let Some(names) = read_all_names(alloc, &pieces[taken..])? else {
-        return Ok(None);
-    };
-    Ok(item_below(origin, names))
+    match names {
+        Ok(Some(names)) => Ok(item_below(origin, names)),
+        Ok(None) => Ok(None),
+        Err(_) => Err(AllocError),
+    }
+}
+
+/// The item that the pieces stand for.
+fn unescaped(alloc: Global, pieces: &[&str]) -> Result<Option<(ModulePath, String)>, AllocError>
+    ensures { IfOk result (λ found. option_map item_view found ≡ unescaped (texts pieces.now)) }
+{
+    match read_origin(alloc, pieces)? {
+        Some((origin, taken)) => item_of(origin, read_all_names(alloc, &pieces[taken..])),
+        None => Ok(None),
+    }
+}
+
+/// The item that the escape form stands for.
+pub fn unescape(alloc: Global, text: &str) -> Result<Option<(ModulePath, String)>, Error>
+    ensures read { IfOk result (λ found. option_map item_view found ≡ unescape text.now) }
+    ensures refused { IfErr result (λ e. e ≡ error.Memory) }
+{
+    match pieces_of(alloc, text) {
+        Ok(pieces) => told(unescaped(alloc, pieces.as_slice())),
+        Err(_) => Err(Error::Memory),
+    }
 }

@@ -7,12 +7,14 @@ ghost use Rattle.wesl_syntax.specs.Tree.{tree_below};
 ghost use Rattle.wesl_syntax.specs.View.{type_view};
 ghost use Rattle.wesl_mangle.specs.Mangler.{item_view};
 ghost use Rattle.wesl_mangle.specs.TypeText.{is_normal_type, bracketed, tree_text, unicode_variant};
+ghost use Rattle.wesl_mangle.specs.Written.{Adds};
 ghost use Rattle.wesl_mangle.specs.Unicode.{separator, from_words, origin_words, unicode, from_unicode, has_own_words};
 
 use crate::mangler::Mangler;
 use crate::types::{is_normal_type, push_types};
 use crate::ununicode::read_item;
-use std::alloc::{AllocError, Global};
+use crate::writer::Writer;
+use std::alloc::Global;
 use wesl_names::{Error, ModulePath, Names, PathOrigin};
 use wesl_syntax::TypeExpression;
 
@@ -24,49 +26,51 @@ pub const SEPARATOR: &str = "\u{2d0}\u{2d0}";
 #[derive(Clone, Copy, Debug, Default)]
 pub struct UnicodeMangler;
 
-/// Appends a separator and the word.
-fn push_word(text: &mut String, word: &str) -> Result<(), AllocError>
-    ensures { IfOk result (λ _. string_bytes text.new ≡ string_bytes text.old ++ (separator ++ word.now)) }
+/// Adds a separator and the word.
+fn push_word(text: &mut Writer, word: &str)
+    ensures { Adds text.old text.new (separator ++ word.now) }
 {
-    text.push_str(SEPARATOR)?;
-    text.push_str(word)
+    text.push(SEPARATOR);
+    text.push(word);
 }
 
-/// `self`, or `super` so many times.
-fn write_relative(alloc: Global, up: usize) -> Result<String, AllocError>
-    ensures { IfOk result (λ text. string_bytes text ≡ from_words (origin_words (relative up))) }
+/// Adds `self`, or `super` so many times.
+fn push_relative(text: &mut Writer, up: usize)
+    ensures { Adds text.old text.new (from_words (origin_words (relative up))) }
 {
     if up == 0 {
-        return String::from_str(alloc, "self");
+        text.push("self");
+        return;
     }
-    let mut text = String::from_str(alloc, "super")?;
+    text.push("super");
     for _done in 1..up {
-        push_word(&mut text, "super")?;
+        push_word(text, "super");
     }
-    Ok(text)
 }
 
-/// What the origin is written as.
-fn write_origin(alloc: Global, origin: &PathOrigin) -> Result<String, AllocError>
-    ensures { IfOk result (λ text. string_bytes text ≡ from_words (origin_words (origin_view origin.now))) }
+/// Adds what the origin is written as.
+fn push_origin(text: &mut Writer, origin: &PathOrigin)
+    ensures { Adds text.old text.new (from_words (origin_words (origin_view origin.now))) }
 {
     match origin {
-        PathOrigin::Absolute => String::from_str(alloc, "package"),
-        PathOrigin::Relative(up) => write_relative(alloc, *up),
-        PathOrigin::Package(name) => String::from_str(alloc, name.as_str()),
+        PathOrigin::Absolute => text.push("package"),
+        PathOrigin::Relative(up) => push_relative(text, *up),
+        PathOrigin::Package(name) => text.push(name.as_str()),
     }
 }
 
 /// The words of the origin, the components and the item.
-fn write_item(alloc: Global, path: &ModulePath, item: &str) -> Result<String, AllocError>
-    ensures { IfOk result (λ text. string_bytes text ≡ unicode (path_view path.now) item.now) }
+fn write_item(alloc: Global, path: &ModulePath, item: &str) -> Result<String, Error>
+    ensures form { IfOk result (λ text. string_bytes text ≡ unicode (path_view path.now) item.now) }
+    ensures refused { IfErr result (λ e. e ≡ error.Memory) }
 {
-    let mut text = write_origin(alloc, &path.origin)?;
+    let mut text = Writer::new(alloc);
+    push_origin(&mut text, &path.origin);
     for component in &path.components {
-        push_word(&mut text, component.as_str())?;
+        push_word(&mut text, component.as_str());
     }
-    push_word(&mut text, item)?;
-    Ok(text)
+    push_word(&mut text, item);
+    text.end()
 }
 
 /// Whether each of the types can be written.
@@ -87,14 +91,16 @@ fn write_variant(
     names: &Names,
     item: &str,
     types: &[TypeExpression],
-) -> Result<String, AllocError>
+) -> Result<String, Error>
     requires below { list_all (tree_below (length names.now)) (map type_view types.now) ≡ true }
     requires normal { list_all is_normal_type (map type_view types.now) ≡ true }
-    ensures { IfOk result (λ text. string_bytes text ≡ item.now ++ bracketed (map (tree_text names.now) (map type_view types.now))) }
+    ensures form { IfOk result (λ text. string_bytes text ≡ item.now ++ bracketed (map (tree_text names.now) (map type_view types.now))) }
+    ensures refused { IfErr result (λ e. e ≡ error.Memory) }
 {
-    let mut text = String::from_str(alloc, item)?;
-    push_types(&mut text, names, types)?;
-    Ok(text)
+    let mut text = Writer::new(alloc);
+    text.push(item);
+    push_types(&mut text, names, types);
+    text.end()
 }
 
 impl Mangler for UnicodeMangler {
@@ -116,7 +122,7 @@ impl Mangler for UnicodeMangler {
         ensures read_back { IfOk result (λ name. has_own_words (path_view path.now) item.now ≡ true → from_unicode (string_bytes name) ≡ Some (path_view path.now, item.now)) }
         ensures refused { IfErr result (λ e. e ≡ error.Memory) }
     {
-        Ok(write_item(alloc, path, item)?)
+        write_item(alloc, path, item)
     }
 
     fn unmangle(
@@ -124,7 +130,7 @@ impl Mangler for UnicodeMangler {
         alloc: Global,
         mangled: &str,
     ) -> Result<Option<(ModulePath, String)>, Error> {
-        Ok(read_item(alloc, mangled)?)
+        read_item(alloc, mangled)
     }
 
     fn mangle_types(
@@ -138,6 +144,6 @@ impl Mangler for UnicodeMangler {
         if !are_normal_types(types) {
             return Err(Error::NotNormalType);
         }
-        Ok(write_variant(alloc, names, item, types)?)
+        write_variant(alloc, names, item, types)
     }
 }

@@ -1,13 +1,17 @@
 //! Reading the Unicode form.
-ghost use Rattle.std.specs.Prelude.{◌≡◌, ◌≤◌, IfOk, IfSome, option_map, length};
+ghost use Rattle.std.specs.Prelude.{◌≡◌, ◌≤◌, IfOk, IfErr, IfSome, List, option_map, length};
+ghost use Rattle.wesl_names.specs.Path.{Text, origin_view};
+ghost use Rattle.wesl_names.specs.declared.errors.Error as error;
+ghost use Rattle.wesl_mangle.specs.Escape.{item_below};
 ghost use Rattle.wesl_mangle.specs.Mangler.{item_view};
-ghost use Rattle.wesl_mangle.specs.Unicode.{words_of, read_origin_words, from_unicode};
+ghost use Rattle.wesl_mangle.specs.Unicode.{words_of, read_origin_words, item_of_words, from_unicode};
 ghost use Rattle.wesl_mangle.specs.Views.{texts, names_view, origin_before};
 
+use crate::numbered::told;
 use crate::unescape::{item_below, supers};
 use crate::unicode::SEPARATOR;
 use std::alloc::{AllocError, Global};
-use wesl_names::{ModulePath, PathOrigin};
+use wesl_names::{Error, ModulePath, PathOrigin};
 
 /// The texts between the separators.
 fn words_of(alloc: Global, text: &str) -> Result<Vec<&str>, AllocError>
@@ -49,15 +53,36 @@ fn copied(alloc: Global, words: &[&str]) -> Result<Vec<String>, AllocError>
     Ok(names)
 }
 
-/// The item that the Unicode form stands for.
-pub fn read_item(alloc: Global, text: &str) -> Result<Option<(ModulePath, String)>, AllocError>
-    ensures { IfOk result (λ found. option_map item_view found ≡ from_unicode text.now) }
+/// The item of these names, where there was memory for them.
+fn item_of(
+    origin: PathOrigin,
+    names: Result<Vec<String>, AllocError>,
+) -> Result<Option<(ModulePath, String)>, AllocError>
+    ensures { (ns : List Text) → IfOk names (λ found. names_view found ≡ ns) → IfOk result (λ found. option_map item_view found ≡ item_below (origin_view origin) ns) }
 {
-    let words = words_of(alloc, text)?;
-    let words = words.as_slice();
-    let Some((origin, taken)) = read_origin(alloc, words)? else {
-        return Ok(None);
-    };
-    let names = copied(alloc, &words[taken..])?;
-    Ok(item_below(origin, names))
+    match names {
+        Ok(names) => Ok(item_below(origin, names)),
+        Err(_) => Err(AllocError),
+    }
+}
+
+/// The item that the words stand for.
+fn item_of_words(alloc: Global, words: &[&str]) -> Result<Option<(ModulePath, String)>, AllocError>
+    ensures { IfOk result (λ found. option_map item_view found ≡ item_of_words (texts words.now)) }
+{
+    match read_origin(alloc, words)? {
+        Some((origin, taken)) => item_of(origin, copied(alloc, &words[taken..])),
+        None => Ok(None),
+    }
+}
+
+/// The item that the Unicode form stands for.
+pub fn read_item(alloc: Global, text: &str) -> Result<Option<(ModulePath, String)>, Error>
+    ensures read { IfOk result (λ found. option_map item_view found ≡ from_unicode text.now) }
+    ensures refused { IfErr result (λ e. e ≡ error.Memory) }
+{
+    match words_of(alloc, text) {
+        Ok(words) => told(item_of_words(alloc, words.as_slice())),
+        Err(_) => Err(Error::Memory),
+    }
 }

@@ -1,6 +1,9 @@
 -- A fact of a result, weakened.
-use Rattle.std.proofs.Common.{◌⊎◌, ◌↔◌, Result, Ok, Err, IfOk, IfErr, inl, inr, ⊎_elim}
-use Rattle.wesl_names.specs.Errors.{OrMemory}
+use Rattle.std.proofs.Common.{◌⊎◌, ◌↔◌, Result, Ok, Err, IfOk, IfErr, IfSome, IsOkAnd, String, ◌≡◌, subst, string_bytes, inl, inr, ⊎_elim}
+use Rattle.std.specs.Result.{result_ok}
+use Rattle.std.specs.declared.alloc.Global.{Global}
+use Rattle.wesl_names.specs.Path.{Text, Path}
+use Rattle.wesl_names.specs.Errors.{OrMemory, IsModuleNotFound}
 use Rattle.wesl_names.specs.declared.errors.ResolveError.{ResolveError}
 
 pub IfOk-to : {A E : Type 0} (P Q : A → Type 0) → ((a : A) → P a → Q a) → (r : Result A E) → IfOk r P → IfOk r Q
@@ -17,8 +20,24 @@ OrMemory-to P Q f e = ⊎_elim inl (λ p. inr (f e p))
 pub refused-to : {A : Type 0} (P Q : ResolveError → Type 0) → ((e : ResolveError) → P e → Q e) → (r : Result A ResolveError) → IfErr r (OrMemory P) → IfErr r (OrMemory Q)
 refused-to P Q f r = IfErr-to (OrMemory P) (OrMemory Q) (OrMemory-to P Q f) r
 
+pub IfSome-ok : {A E : Type 0} (P : A → Type 0) (r : Result A E) → IfOk r P → IfSome (result_ok r) P
+IfSome-ok P (Ok a) h = h
+IfSome-ok P (Err e) h = tt
+
 pub either-iff : {P Q R S : Type 0} → P ↔ Q → R ↔ S → (P ⊎ R) ↔ (Q ⊎ S)
 either-iff h k = (⊎_elim (λ p. inl (h.0 p)) (λ r. inr (k.0 r)), ⊎_elim (λ q. inl (h.1 q)) (λ s. inr (k.1 s)))
 
 pub both-iff : {P Q R S : Type 0} → P ↔ Q → R ↔ S → (P × R) ↔ (Q × S)
 both-iff h k = ((λ b. (h.0 b.0, k.0 b.1)), (λ b. (h.1 b.0, k.1 b.1)))
+
+told-as : {E : Type 0} (p : Path) (message : Text) (e : ResolveError) (r : Result (String Global) E) → IfOk r (λ text. string_bytes text ≡ message)
+    → IsOkAnd r (λ text. IsModuleNotFound p (string_bytes text) e) → IsModuleNotFound p message e
+told-as p message e (Ok text) is h =
+    let Told : Text → Type 0 = λ t. IsModuleNotFound p t e in
+    subst Told is h
+told-as p message e (Err fault) is h = absurd h
+
+-- the refusal tells the message, by a reason that says it
+pub said-as : {E : Type 0} (p : Path) (message : Text) (e : ResolveError) (r : Result (String Global) E) → IfOk r (λ text. string_bytes text ≡ message)
+    → OrMemory (λ x. IsOkAnd r (λ text. IsModuleNotFound p (string_bytes text) x)) e → OrMemory (IsModuleNotFound p message) e
+said-as p message e r is = OrMemory-to _ (IsModuleNotFound p message) (λ x h. told-as p message x r is h) e

@@ -1,5 +1,5 @@
 -- What a router means, once the resolver that a path went to was asked.
-use Rattle.std.proofs.Common.{◌≡◌, ◌≤◌, ◌⊎◌, ◌↔◌, ℕ, zero, suc, Bool, true, false, ◌&&◌, List, [], ◌∷◌, ◌++◌, Option, Some, slice_get, get_or, set, length, arith, subst, sym, ◌∙◌, inl, inr, ⊎_elim, true≢false, refl, ap}
+use Rattle.std.proofs.Common.{◌≡◌, ◌≤◌, ◌⊎◌, ◌↔◌, ℕ, zero, suc, Bool, true, false, ◌&&◌, List, [], ◌∷◌, ◌++◌, Option, Some, IsSomeAnd, IfSome, slice_get, get_or, set, length, arith, subst, sym, ◌∙◌, inl, inr, ⊎_elim, true≢false, refl, ap}
 use Rattle.std.proofs.Math.Seq.{map-set_same}
 use Rattle.std.proofs.lemmas.Option.{get_or_from_slice_get, none-some, same_Some}
 use Rattle.std.specs.Str.{bytes_eq}
@@ -113,6 +113,13 @@ module _ {B : Type 0} where
         no_fallback = λ no. absurd (none-some a (sym no ∙ is));
       }
 
+  -- what the fallback answers at the whole path is what the router answers
+  pub Routed-beside : (A : B → Path → Type 0) (seen mounts : List (ModulePath × B)) (fallback : Option B) (a : B) (p : Path) → seen ≡ mounts → TakenByNone seen p → fallback ≡ Some a
+      → A a (suffix 0 p) → Routed A mounts fallback p
+  Routed-beside A seen mounts fallback a p same none is h =
+      let Answered : Option B → Type 0 = λ o. IsSomeAnd o (λ b. A b (suffix 0 p)) in
+      inr (TakenByNone-read seen mounts p same none, subst Answered (sym is) h)
+
   -- nothing was asked
   pub LeavesOthers-same : (mounts : List (ModulePath × B)) (fallback : Option B) (p : Path) → LeavesOthers p mounts fallback mounts fallback
   LeavesOthers-same mounts fallback p = record { prefixes = refl; mounted = λ k other at no. at; beside = λ some. refl; no_fallback = λ none. none }
@@ -133,6 +140,15 @@ module _ {B : Type 0} (ready : B → Type 0) where
         mounted = λ k x at. ⊎_elim (λ e. subst Is (sym e.1) is) (λ before. all.mounted k x before) (set-cases mounts place k (m.0, b) x at);
         beside = all.beside;
       }
+
+  -- so may the fallback
+  pub AllReady-beside : (mounts : List (ModulePath × B)) (fallback : Option B) (b : B) → AllReady ready mounts fallback → ready b → AllReady ready mounts (Some b)
+  AllReady-beside mounts fallback b all is = record { mounted = all.mounted; beside = is }
+
+  pub ready-beside : (mounts : List (ModulePath × B)) (fallback : Option B) (a : B) → AllReady ready mounts fallback → fallback ≡ Some a → ready a
+  ready-beside mounts fallback a all is =
+      let Ready : Option B → Type 0 = λ o. IfSome o ready in
+      subst Ready is all.beside
 
   pub AllReady-push : (mounts after : List (ModulePath × B)) (fallback : Option B) (m : ModulePath × B) → after ≡ mounts ++ m ∷ [] → AllReady ready mounts fallback → ready m.1 → AllReady ready after fallback
   AllReady-push mounts after fallback m is all here =
@@ -179,3 +195,7 @@ module _ {B : Type 0} (hands : B → Path → UnitOf Text → Type 0) (refuses :
             either-iff (Routed-fallback (λ b q. shown b q name) r.mount_points.items r.fallback a b p is (λ q. same.names q name))
             (both-iff (NoRoute-fallback r.mount_points.items r.fallback a b p is) ((λ x. x), (λ x. x)));
       }
+
+  -- nothing was asked
+  pub RouterMeans-same : (r : Router B) → RouterMeans hands refuses source lacks shown r r
+  RouterMeans-same r = record { units = λ p u. ((λ h. h), (λ h. h)); faults = λ p e. ((λ h. h), (λ h. h)); sources = λ p text. ((λ h. h), (λ h. h)); missing = λ p e. ((λ h. h), (λ h. h)); names = λ p name. ((λ h. h), (λ h. h)) }

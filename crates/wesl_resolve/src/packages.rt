@@ -9,7 +9,7 @@ ghost use Rattle.wesl_resolve.specs.declared.packages.CodegenModule.{CodegenModu
 ghost use Rattle.wesl_resolve.specs.declared.packages.CodegenPkg.{CodegenPkg, out-CodegenPkg};
 ghost use Rattle.wesl_resolve.specs.Packages.{has_name, root_has_name, no_submodule, no_package, no_dependency, module_name, module_below, package_below, package_at, module_at, IsSaid, IsMissingIn};
 
-use crate::refusals::not_found;
+use crate::refusals::{not_found, not_found_for};
 use std::alloc::{AllocError, Global};
 use wesl_names::{ModulePath, PathOrigin, ResolveError};
 
@@ -84,28 +84,25 @@ fn missing_submodule(
     ensures { OrMemory (IsModuleNotFound (path_view path.now) (no_submodule (module_name «module».now) component.now)) result }
 {
     let name = module.name.as_str();
-    match format!(in alloc; "in module `{name}`, no submodule named `{component}`") {
-        Ok(message) => not_found(alloc, path, message.as_str()),
-        Err(_) => ResolveError::Memory,
-    }
+    let message = format!(in alloc; "in module `{name}`, no submodule named `{component}`");
+    not_found_for(alloc, path, message)
 }
 
 fn missing_package(alloc: Global, path: &ModulePath, whole: &str) -> ResolveError
     ensures { OrMemory (IsModuleNotFound (path_view path.now) (no_package whole.now)) result }
 {
-    match format!(in alloc; "dependency `{whole}` not found") {
-        Ok(message) => not_found(alloc, path, message.as_str()),
-        Err(_) => ResolveError::Memory,
-    }
+    not_found_for(
+        alloc,
+        path,
+        format!(in alloc; "dependency `{whole}` not found"),
+    )
 }
 
 fn missing_dependency(alloc: Global, path: &ModulePath, whole: &str, part: &str) -> ResolveError
     ensures { OrMemory (IsModuleNotFound (path_view path.now) (no_dependency part.now whole.now)) result }
 {
-    match format!(in alloc; "dependency `{part}` not found in package path `{whole}`") {
-        Ok(message) => not_found(alloc, path, message.as_str()),
-        Err(_) => ResolveError::Memory,
-    }
+    let message = format!(in alloc; "dependency `{part}` not found in package path `{whole}`");
+    not_found_for(alloc, path, message)
 }
 
 /// The module that components lead to, each among the submodules of the one before.
@@ -120,9 +117,10 @@ fn module_below<'m>(
 {
     let mut module = root;
     for component in components {
-        match submodule(module, component.as_str()) {
+        let name = component.as_str();
+        match submodule(module, name) {
             Some(next) => module = next,
-            None => return Err(missing_submodule(alloc, path, module, component.as_str())),
+            None => return Err(missing_submodule(alloc, path, module, name)),
         }
     }
     Ok(module)
@@ -155,7 +153,27 @@ fn parts_of(alloc: Global, name: &str) -> Result<Vec<&str>, AllocError>
     name.split('/').collect(alloc)
 }
 
-/// The package that the parts of a name lead to.
+/// The package that the parts of a name lead to, the first of them among these packages.
+fn package_among<'p>(
+    alloc: Global,
+    packages: &'p [CodegenPkg],
+    path: &ModulePath,
+    whole: &str,
+    parts: &[&str],
+) -> Result<&'p CodegenPkg, ResolveError>
+    ensures found { IfOk result (λ k. package_at packages.now whole.now (texts parts.now) ≡ Ok k.now) }
+    ensures missing { IfErr result (OrMemory (IsSaid (path_view path.now) (package_at packages.now whole.now (texts parts.now)))) }
+{
+    let Some((first, others)) = parts.split_first() else {
+        return Err(missing_package(alloc, path, whole));
+    };
+    match package_named(packages, first) {
+        Some(package) => package_below(alloc, path, whole, package, others),
+        None => Err(missing_package(alloc, path, whole)),
+    }
+}
+
+/// The package that a name leads to.
 fn package_at<'p>(
     alloc: Global,
     packages: &'p [CodegenPkg],
@@ -165,13 +183,9 @@ fn package_at<'p>(
     ensures found { IfOk result (λ k. package_at packages.now whole.now (cut slash whole.now) ≡ Ok k.now) }
     ensures missing { IfErr result (OrMemory (IsSaid (path_view path.now) (package_at packages.now whole.now (cut slash whole.now)))) }
 {
-    let parts = parts_of(alloc, whole)?;
-    let Some((first, others)) = parts.as_slice().split_first() else {
-        return Err(missing_package(alloc, path, whole));
-    };
-    match package_named(packages, first) {
-        Some(package) => package_below(alloc, path, whole, package, others),
-        None => Err(missing_package(alloc, path, whole)),
+    match parts_of(alloc, whole) {
+        Ok(parts) => package_among(alloc, packages, path, whole, &parts),
+        Err(_) => Err(ResolveError::Memory),
     }
 }
 
@@ -188,6 +202,8 @@ pub(crate) fn module_at<'p>(
         let message = "resolver can only resolve package imports";
         return Err(not_found(alloc, path, message));
     };
-    let package = package_at(alloc, packages, path, name.as_str())?;
-    module_below(alloc, path, &package.root, &path.components)
+    match package_at(alloc, packages, path, name.as_str()) {
+        Ok(package) => module_below(alloc, path, &package.root, &path.components),
+        Err(refusal) => Err(refusal),
+    }
 }

@@ -8,6 +8,7 @@ ghost use Rattle.wesl_tree.specs.Translation.{unit_view};
 ghost use Rattle.wesl_resolve.specs.Packages.{IsMissingIn, IsReadIn, IsRefusedIn, IsSourceIn};
 
 use crate::packages::{CodegenPkg, module_at};
+use crate::refusals::copied;
 use crate::resolver::Resolver;
 use crate::unit_text::{UnitText, read_module};
 use std::alloc::Global;
@@ -61,28 +62,6 @@ impl<P> PkgResolver<P> {
     }
 }
 
-impl<P: UnitText> PkgResolver<P> {
-    ghost use Rattle.wesl_resolve.specs.Held.{packages_of, package_reader_of};
-
-    /// The source of the module at a path.
-    fn source_at(&self, alloc: Global, path: &ModulePath) -> Result<String, ResolveError>
-        ensures given { IfOk result (λ text. IsSourceIn (packages_of self.now) (path_view path.now) (string_bytes text)) }
-        ensures refused { IfErr result (OrMemory (IsMissingIn (packages_of self.now) (path_view path.now))) }
-    {
-        let module = module_at(alloc, &self.packages, path)?;
-        Ok(String::from_str(alloc, module.source.as_str())?)
-    }
-
-    /// The unit of the module at a path.
-    fn read_at(&self, alloc: Global, path: &ModulePath) -> Result<TranslationUnit, ResolveError>
-        ensures read { IfOk result (λ u. IsReadIn (P.reads (package_reader_of self.now)) (packages_of self.now) (path_view path.now) (spelled (unit_view u))) }
-        ensures refused { IfErr result (OrMemory (IsRefusedIn (P.unreadable (package_reader_of self.now)) (packages_of self.now) (path_view path.now))) }
-    {
-        let module = module_at(alloc, &self.packages, path)?;
-        read_module(&self.text, alloc, path, module.source.as_str())
-    }
-}
-
 impl<P: UnitText> Resolver for PkgResolver<P> {
     ghost use Rattle.wesl_resolve.specs.Packages.{IsMissingIn, IsReadIn, IsRefusedIn, IsSourceIn};
     ghost use Rattle.wesl_resolve.specs.Held.{packages_of, package_reader_of};
@@ -105,7 +84,10 @@ impl<P: UnitText> Resolver for PkgResolver<P> {
         ensures refused { IfErr result (OrMemory (IsMissingIn (packages_of self.old) (path_view path.now))) }
         ensures unchanged { self.new ≡ self.old }
     {
-        self.source_at(alloc, path)
+        match module_at(alloc, &self.packages, path) {
+            Ok(module) => copied(alloc, module.source.as_str()),
+            Err(refusal) => Err(refusal),
+        }
     }
 
     /// The unit that the source of the module at a path is read as. Refused where there is no module or its source
@@ -119,7 +101,10 @@ impl<P: UnitText> Resolver for PkgResolver<P> {
         ensures refused { IfErr result (OrMemory (IsRefusedIn (P.unreadable (package_reader_of self.old)) (packages_of self.old) (path_view path.now))) }
         ensures unchanged { self.new ≡ self.old }
     {
-        self.read_at(alloc, path)
+        match module_at(alloc, &self.packages, path) {
+            Ok(module) => read_module(&self.text, alloc, path, module.source.as_str()),
+            Err(refusal) => Err(refusal),
+        }
     }
 
     fn display_name(

@@ -9,7 +9,7 @@ ghost use Rattle.wesl_resolve.specs.Preprocessor.{IsMade, IsMadeFault};
 use crate::refusals::refused;
 use crate::resolver::Resolver;
 use std::alloc::Global;
-use wesl_names::{Error, ModulePath, ResolveError};
+use wesl_names::{Diagnostic, Error, ModulePath, ResolveError};
 use wesl_tree::TranslationUnit;
 
 /// Hands out what a function makes of the units of another resolver.
@@ -53,7 +53,11 @@ fn refused_by<R: Resolver>(
 {
     match resolver.display_name(alloc, path) {
         Ok(display) => refused(alloc, fault, path, display, None),
-        Err(_) => ResolveError::Memory,
+        Err(refusal) => {
+            // An error is let go as a diagnostic, by one call.
+            let _fault = Diagnostic::of(fault);
+            refusal
+        }
     }
 }
 
@@ -81,12 +85,14 @@ impl<R: Resolver, F: Fn(TranslationUnit) -> Result<TranslationUnit, Error>> Reso
         alloc: Global,
         path: &ModulePath,
     ) -> Result<TranslationUnit, ResolveError> {
-        let unit = self.resolver.resolve_module(alloc, path)?;
-        let fault = match (self.preprocess)(unit) {
-            Ok(unit) => return Ok(unit),
-            Err(fault) => fault,
+        let unit = match self.resolver.resolve_module(alloc, path) {
+            Ok(unit) => unit,
+            Err(refusal) => return Err(refusal),
         };
-        Err(refused_by(&self.resolver, alloc, fault, path))
+        match (self.preprocess)(unit) {
+            Ok(unit) => Ok(unit),
+            Err(fault) => Err(refused_by(&self.resolver, alloc, fault, path)),
+        }
     }
 
     fn display_name(

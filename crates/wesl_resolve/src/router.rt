@@ -1,5 +1,5 @@
 //! A resolver that sends each path to one of several others.
-ghost use Rattle.std.specs.Prelude.{◌≡◌, ◌≤◌, ◌++◌, ◌∷◌, [], false, OnOk, OnErr, IfOk, IfErr, Some, None, length, option_map, string_bytes};
+ghost use Rattle.std.specs.Prelude.{◌≡◌, ◌≤◌, ◌++◌, ◌∷◌, [], false, OnOk, OnErr, IfOk, IfErr, IfSome, Some, None, length, option_map, string_bytes};
 ghost use Rattle.wesl_names.specs.Path.{Path, path_view, is_relative};
 ghost use Rattle.wesl_names.specs.Errors.{OrMemory};
 ghost use Rattle.wesl_names.specs.declared.errors.Error as error;
@@ -9,7 +9,7 @@ ghost use Rattle.wesl_tree.specs.Translation.{unit_view};
 ghost use Rattle.wesl_resolve.specs.Resolver.{MeansTheSame};
 ghost use Rattle.wesl_resolve.specs.Router.{IsRoute, AllReady, suffix};
 
-use crate::refusals::not_found;
+use crate::refusals::{made, not_found};
 use crate::resolver::Resolver;
 use std::alloc::Global;
 use wesl_names::{Error, ModulePath, ResolveError};
@@ -22,13 +22,12 @@ fn depth(path: &ModulePath) -> usize
     path.components.as_slice().len()
 }
 
-/// The path of the components after the first `count`, from the root.
-fn path_after(alloc: Global, path: &ModulePath, count: usize) -> Result<ModulePath, Error>
+/// The path of the components after the first `count`, from the root; none for want of memory.
+fn path_after(alloc: Global, path: &ModulePath, count: usize) -> Option<ModulePath>
     requires { count ≤ length (path_view path.now).components }
-    ensures after { IfOk result (λ p. path_view p ≡ suffix count (path_view path.now)) }
-    ensures refused { IfErr result (λ e. e ≡ error.Memory) }
+    ensures { IfSome result (λ p. path_view p ≡ suffix count (path_view path.now)) }
 {
-    ModulePath::new_root(alloc).join(alloc, &path.components[count..])
+    made(ModulePath::new_root(alloc).join(alloc, &path.components[count..]))
 }
 
 /// The place of the mount that takes the path.
@@ -66,8 +65,8 @@ fn source_after<R: Resolver>(
     ensures stays_ready { R.ready resolver.new }
 {
     match path_after(alloc, path, count) {
-        Ok(after) => resolver.resolve_source(alloc, &after),
-        Err(_) => Err(ResolveError::Memory),
+        Some(after) => resolver.resolve_source(alloc, &after),
+        None => Err(ResolveError::Memory),
     }
 }
 
@@ -86,8 +85,8 @@ fn module_after<R: Resolver>(
     ensures stays_ready { R.ready resolver.new }
 {
     match path_after(alloc, path, count) {
-        Ok(after) => resolver.resolve_module(alloc, &after),
-        Err(_) => Err(ResolveError::Memory),
+        Some(after) => resolver.resolve_module(alloc, &after),
+        None => Err(ResolveError::Memory),
     }
 }
 
@@ -104,8 +103,8 @@ fn name_after<R: Resolver>(
     ensures refused { IfErr result (λ e. e ≡ resolve_error.Memory) }
 {
     match path_after(alloc, path, count) {
-        Ok(after) => resolver.display_name(alloc, &after),
-        Err(_) => Err(ResolveError::Memory),
+        Some(after) => resolver.display_name(alloc, &after),
+        None => Err(ResolveError::Memory),
     }
 }
 

@@ -7,7 +7,7 @@ ghost use Rattle.wesl_syntax.specs.Unit.{spelled};
 ghost use Rattle.wesl_tree.specs.Translation.{unit_view};
 ghost use Rattle.wesl_resolve.specs.Texts.{texts_of, text_at, put, IsLast, IsMissing, IsReadAt, IsRefusedAt};
 
-use crate::refusals::not_found;
+use crate::refusals::{copied, not_found};
 use crate::resolver::Resolver;
 use crate::unit_text::{UnitText, read_module};
 use indexmap::IndexMap;
@@ -120,11 +120,10 @@ impl<P: UnitText> VirtualResolver<P> {
         ensures text { reader_of self.new ≡ reader_of self.old }
         ensures refused { IfErr result (λ e. e ≡ error.Memory) }
     {
-        let source = match self.text.print(alloc, &unit) {
-            Ok(source) => source,
-            Err(_) => return Err(Error::Memory),
-        };
-        self.add_module(path, source)
+        match self.text.print(alloc, &unit).ok() {
+            Some(source) => self.add_module(path, source),
+            None => Err(Error::Memory),
+        }
     }
 
     /// The unit of the module at a path.
@@ -159,8 +158,10 @@ impl<P: UnitText> Resolver for VirtualResolver<P> {
         ensures refused { IfErr result (OrMemory (IsMissing (held_sources self.old) (path_view path.now))) }
         ensures unchanged { self.new ≡ self.old }
     {
-        let source = self.get_module(alloc, path)?;
-        Ok(String::from_str(alloc, source)?)
+        match self.get_module(alloc, path) {
+            Ok(source) => copied(alloc, source),
+            Err(refusal) => Err(refusal),
+        }
     }
 
     /// The unit that the text of the module at a path is read as. Refused where there is no text or it cannot be

@@ -1,30 +1,25 @@
-use Rattle.std.proofs.Common.{refl, codes, rules}
+use Rattle.std.proofs.Common.{◌≡◌, refl, codes, rules}
 use Rattle.wesl_borrowed.specs.View.{borrowed_view}
-use Rattle.wesl_bundle.specs.Forms.{a_bundle, a_mangler, a_truth, a_limit, optional}
 use Rattle.wesl_bundle.specs.Broken.{Locates}
-use Rattle.wesl_bundle.proofs.Places.{Locates-field}
+use Rattle.wesl_bundle.specs.Forms.{a_bundle, a_limit, a_mangler, a_truth, optional}
+use Rattle.wesl_bundle.proofs.Together.{either, of-both, of-field, part}
 use Rattle.wesl_bundle.proofs.Readings.{options-read}
 use Rattle.wesl_bundle.proofs.options.read_options.Goals as goal
 
-pub returns-in_err-mangler-clause-place : goal.returns-in_err-mangler-clause-place
-returns-in_err-mangler-clause-place c =
-    let located : Locates a_bundle (borrowed_view c.args.value.now) c.in_err-mangler.field-0.0 = Locates-field a_bundle (optional (codes "mangler") a_mangler) _ _ (λ h. h) refl c.in_err-mangler.ensures.place in
-    search rules
+pub returns-in-Ok-clause-ok : goal.returns-in-Ok-clause-ok
+returns-in-Ok-clause-ok c =
+    let all = c.in-Ok.ensures.ok in
+    let names = part _ c.both.result all.0 c.both.ensures.ok in
+    let extent = part _ c.both-2.result all.1 c.both-2.ensures.ok in
+    options-read (borrowed_view c.args.value.now) _ _ _ _ (part _ c.naming_member-mangler.result names.0 c.naming_member-mangler.ensures.ok) (part _ c.truth_member-mangle_root.result names.1 c.truth_member-mangle_root.ensures.ok) (part _ c.truth_member-eager.result extent.0 c.truth_member-eager.ensures.ok) (part _ c.limit_member-max_modules.result extent.1 c.limit_member-max_modules.ensures.ok)
 
-pub returns-in_err-mangle_root-clause-place : goal.returns-in_err-mangle_root-clause-place
-returns-in_err-mangle_root-clause-place c =
-    let located : Locates a_bundle (borrowed_view c.args.value.now) c.in_err-mangle_root.field-0.0 = Locates-field a_bundle (optional (codes "mangle_root") a_truth) _ _ (λ h. h) refl c.in_err-mangle_root.ensures.place in
-    search rules
-
-pub returns-in_err-eager-clause-place : goal.returns-in_err-eager-clause-place
-returns-in_err-eager-clause-place c =
-    let located : Locates a_bundle (borrowed_view c.args.value.now) c.in_err-eager.field-0.0 = Locates-field a_bundle (optional (codes "eager") a_truth) _ _ (λ h. h) refl c.in_err-eager.ensures.place in
-    search rules
-
-pub returns-in_err-max_modules-clause-place : goal.returns-in_err-max_modules-clause-place
-returns-in_err-max_modules-clause-place c =
-    let located : Locates a_bundle (borrowed_view c.args.value.now) c.in_err-max_modules.field-0.0 = Locates-field a_bundle (optional (codes "max_modules") a_limit) _ _ (λ h. h) refl c.in_err-max_modules.ensures.place in
-    search rules
-
-pub returns-clause-ok : goal.returns-clause-ok
-returns-clause-ok c = options-read (borrowed_view c.args.value.now) _ _ _ _ c.in_ok-mangler.ensures.ok c.in_ok-mangle_root.ensures.ok c.in_ok-eager.ensures.ok c.in_ok-max_modules.ensures.ok
+pub returns-in-Err-clause-place : goal.returns-in-Err-clause-place
+returns-in-Err-clause-place c =
+    let d = borrowed_view c.args.value.now in
+    either (Locates a_bundle d) c.both.result c.both-2.result c.in-Err.error c.in-Err.ensures.place
+    (of-both (Locates a_bundle d) c.both.result c.naming_member-mangler.result c.truth_member-mangle_root.result c.both.ensures.place
+    (of-field a_bundle (optional (codes "mangler") a_mangler) d c.naming_member-mangler.result (λ w. w) refl c.naming_member-mangler.ensures.place)
+    (of-field a_bundle (optional (codes "mangle_root") a_truth) d c.truth_member-mangle_root.result (λ w. w) refl c.truth_member-mangle_root.ensures.place))
+    (of-both (Locates a_bundle d) c.both-2.result c.truth_member-eager.result c.limit_member-max_modules.result c.both-2.ensures.place
+    (of-field a_bundle (optional (codes "eager") a_truth) d c.truth_member-eager.result (λ w. w) refl c.truth_member-eager.ensures.place)
+    (of-field a_bundle (optional (codes "max_modules") a_limit) d c.limit_member-max_modules.result (λ w. w) refl c.limit_member-max_modules.ensures.place))

@@ -1,67 +1,82 @@
-use Rattle.std.proofs.Common.{◌≡◌, ◌<◌, ◌≤◌, ◌++◌, [], ◌∷◌, Some, map, true, refl, sym, ap, ◌∙◌, arith, codes, rules}
-use Rattle.std.proofs.lemmas.Grind.{common_steps}
-use Rattle.std.proofs.lemmas.List.{map-append}
-use Rattle.serde_json.specs.Data.{depth, items_depth}
-use Rattle.serde_json.specs.Find.{as_array, get}
-use Rattle.wesl_borrowed.specs.View.{items_view, borrowed_view}
-use Rattle.wesl_bundle.specs.Broken.{Locates}
-use Rattle.wesl_bundle.specs.Forms.{a_list_of, a_name, a_package_module, optional, required}
+use Rattle.std.proofs.Common.{◌≡◌, ◌<◌, Some, map, true, codes, refl, sym, ap, ◌∙◌, inl, inr, string_bytes, arith, rules}
+use Rattle.std.specs.Prelude.{IfErr}
+use Rattle.std.proofs.lemmas.Result.{IfErr-weaker, IfOk-at_ok, IfOk-weaker}
+use Rattle.serde_json.specs.Data.{depth}
+use Rattle.serde_json.specs.Find.{get}
+use Rattle.wesl_borrowed.specs.View.{borrowed_view}
+use Rattle.wesl_bundle.specs.Broken.{IfPlace, Locates}
+use Rattle.wesl_bundle.specs.Forms.{a_package_module}
 use Rattle.wesl_bundle.specs.PackageViews.{package_module_view}
 use Rattle.wesl_bundle.specs.Packages.{package_module_in, package_module_keys}
+use Rattle.wesl_bundle.specs.Parts.{AreItems, IsModuleMemberBroken, LocatesModuleMember}
 use Rattle.wesl_pointer.specs.Keys.{has_only}
 use Rattle.wesl_bundle.specs.declared.packages.PackageModule.{PackageModule}
 use Rattle.wesl_bundle.specs.declared.packages.PackageModule.TheOpen.{PackageModule-F}
-use Rattle.wesl_bundle.proofs.Depths.{array-depth, get-depth, item-depth}
-use Rattle.wesl_bundle.proofs.Listed.{module-made, module-read, modules-whole}
-use Rattle.wesl_bundle.proofs.Places.{Locates-field, Locates-item}
-use Rattle.wesl_bundle.proofs.Readings.{item-at, items_in-turn}
+use Rattle.wesl_bundle.proofs.Together.{IfOk-keyed, either, of-both, of-only, part}
+use Rattle.wesl_bundle.proofs.Listed.{module-made, module-whole, module_with-read, modules-of-list}
+use Rattle.wesl_bundle.proofs.Lists.{all-read, item-deep, items-there, list-fault, no-list, none-read, one-read}
+use Rattle.wesl_bundle.proofs.Places.{IfPlace-more, Locates-here, module-fault}
 use Rattle.wesl_bundle.proofs.packages.+modules.Goals as goal
 
-pub modules_of-returns-in-Err-clause-place : goal.modules_of-returns-in-Err-clause-place
-modules_of-returns-in-Err-clause-place t c =
+pub modules_member-loop-index-init : goal.modules_member-loop-index-init
+modules_member-loop-index-init t c = none-read package_module_view package_module_in a_package_module c.args.key.now (borrowed_view c.args.value.now) c.deref-item-items.result.now c.new-2.result (search rules)
+
+pub modules_member-loop-index-preserved : goal.modules_member-loop-index-preserved
+modules_member-loop-index-preserved t c =
     let vs = c.deref-item-items.result.now in
-    let is : as_array (borrowed_view c.args.value.now) ≡ Some (items_view vs) = search rules in
-    Locates-item a_package_module c.loop-index.index _ (borrowed_view c.item-item.result) c.in-Err.error _ (item-at _ vs c.loop-index.index c.item-item.result is (search rules) (search rules)) c.in-Err.ensures.place c.under_index.ensures
+    let are : AreItems (get c.args.key.now (borrowed_view c.args.value.now)) c.deref-item-items.result.now = items-there _ (borrowed_view c.in-Some.list.now) c.in-Some-as_array.items.now.items c.deref-item-items.result.now (sym c.in-Some.ensures) (sym c.in-Some-as_array.ensures) c.deref-item-items.ensures.value in
+    one-read package_module_view package_module_in a_package_module c.args.key.now (borrowed_view c.args.value.now) vs are c.loop-index.index c.loop-index.modules c.loop-index.invariant c.item-item.result c.loop-index-test.true c.item-item.is c.module_of-module.result c.module_of-module.ensures.ok c.module_of-module.ensures.place c.with_item-modules.result c.with_item-modules.ensures.ok c.with_item-modules.ensures.place
 
-pub modules_of-loop-index-preserved : goal.modules_of-loop-index-preserved
-modules_of-loop-index-preserved t c =
+pub modules_member-returns-clause-ok : goal.modules_member-returns-clause-ok
+modules_member-returns-clause-ok t c =
     let vs = c.deref-item-items.result.now in
-    let grown : map package_module_view c.push.new.self.items ≡ map package_module_view c.loop-index.modules.items ++ package_module_view c.in-Ok.module ∷ [] = grind (arith, common_steps, map-append) in
-    items_in-turn package_module_in vs c.loop-index.index c.item-item.result _ _ (package_module_view c.in-Ok.module) (search rules) (search rules) grown c.loop-index.invariant c.in-Ok.ensures.ok
+    let are : AreItems (get c.args.key.now (borrowed_view c.args.value.now)) c.deref-item-items.result.now = items-there _ (borrowed_view c.in-Some.list.now) c.in-Some-as_array.items.now.items c.deref-item-items.result.now (sym c.in-Some.ensures) (sym c.in-Some-as_array.ensures) c.deref-item-items.ensures.value in
+    IfOk-weaker c.inside.result _ _ (λ xs h. modules-of-list (get c.args.key.now (borrowed_view c.args.value.now)) (map package_module_view xs.items) h) (all-read package_module_view package_module_in a_package_module c.args.key.now (borrowed_view c.args.value.now) vs are c.loop-index.index c.loop-index.modules c.loop-index.invariant c.loop-index-test.false c.inside.result c.inside.ensures.ok)
 
-pub modules_of-returns-clause-ok : goal.modules_of-returns-clause-ok
-modules_of-returns-clause-ok t c =
+pub modules_member-returns-clause-place : goal.modules_member-returns-clause-place
+modules_member-returns-clause-place t c =
     let vs = c.deref-item-items.result.now in
-    let is : as_array (borrowed_view c.args.value.now) ≡ Some (items_view vs) = search rules in
-    modules-whole (borrowed_view c.args.value.now) vs c.loop-index.index _ is (search rules) c.loop-index.invariant
+    let are : AreItems (get c.args.key.now (borrowed_view c.args.value.now)) c.deref-item-items.result.now = items-there _ (borrowed_view c.in-Some.list.now) c.in-Some-as_array.items.now.items c.deref-item-items.result.now (sym c.in-Some.ensures) (sym c.in-Some-as_array.ensures) c.deref-item-items.ensures.value in
+    list-fault package_module_view package_module_in a_package_module c.args.key.now (borrowed_view c.args.value.now) vs are c.loop-index.index c.loop-index.modules c.loop-index.invariant c.inside.result c.inside.ensures.place
 
-pub module_of-returns-in_err-name-clause-place : goal.module_of-returns-in_err-name-clause-place
-module_of-returns-in_err-name-clause-place t c =
-    let located : Locates a_package_module (borrowed_view c.args.value.now) c.in_err-name.field-0.0 = Locates-field a_package_module (required (codes "name") a_name) _ _ (λ h. h) refl c.in_err-name.ensures.place in
-    search rules
+pub modules_member-returns-in_default-as_array-clause-place : goal.modules_member-returns-in_default-as_array-clause-place
+modules_member-returns-in_default-as_array-clause-place t c = no-list a_package_module c.args.key.now (borrowed_view c.args.value.now) (borrowed_view c.in-Some.list.now) c.wrong.result c.under.result (sym c.in-Some.ensures) (sym c.in_default-as_array.ensures) c.wrong.ensures c.under.ensures
 
-pub module_of-returns-in_err-modules-clause-place : goal.module_of-returns-in_err-modules-clause-place
-module_of-returns-in_err-modules-clause-place t c =
-    let located : Locates a_package_module (borrowed_view c.args.value.now) c.in_err-modules.field-0.0 = Locates-field a_package_module (optional (codes "modules") (a_list_of a_package_module)) _ _ (λ h. h) refl c.in_err-modules.ensures.place in
-    search rules
-
-pub modules_member-modules_of-requires : goal.modules_member-modules_of-requires
-modules_member-modules_of-requires t c =
-    let found : get c.args.key.now (borrowed_view c.args.value.now) ≡ Some (borrowed_view c.in-Some.list.now) = search rules in
-    let low : depth (borrowed_view c.in-Some.list.now) < depth (borrowed_view c.args.value.now) = get-depth c.args.key.now (borrowed_view c.args.value.now) (borrowed_view c.in-Some.list.now) found in
-    (omega arith, tt)
-
-pub modules_of-module_of-requires : goal.modules_of-module_of-requires
-modules_of-module_of-requires t c =
-    let vs = c.deref-item-items.result.now in
-    let is : as_array (borrowed_view c.args.value.now) ≡ Some (items_view vs) = search rules in
-    let below : depth (borrowed_view c.item-item.result) ≤ items_depth (items_view vs) = item-depth vs c.loop-index.index c.item-item.result (search rules) (search rules) in
-    let deep : items_depth (items_view vs) < depth (borrowed_view c.args.value.now) = array-depth _ _ is in
+pub modules_member-module_of-module-requires : goal.modules_member-module_of-module-requires
+modules_member-module_of-module-requires t c =
+    let are : AreItems (get c.args.key.now (borrowed_view c.args.value.now)) c.deref-item-items.result.now = items-there _ (borrowed_view c.in-Some.list.now) c.in-Some-as_array.items.now.items c.deref-item-items.result.now (sym c.in-Some.ensures) (sym c.in-Some-as_array.ensures) c.deref-item-items.ensures.value in
+    let low : depth (borrowed_view c.item-item.result) < depth (borrowed_view c.args.value.now) =
+    item-deep c.args.key.now (borrowed_view c.args.value.now) c.deref-item-items.result.now c.loop-index.index c.item-item.result are c.loop-index-test.true c.item-item.is in
     (omega arith, tt)
 
 pub module_of-returns-clause-ok : goal.module_of-returns-clause-ok
 module_of-returns-clause-ok t c =
     let d = borrowed_view c.args.value.now in
-    let known : has_only package_module_keys d ≡ true = search rules in
-    let x : PackageModule-F PackageModule = record { name = c.in_ok-name.name; unit = c.in_ok-unit.unit; modules = c.in_ok-modules.modules } in
-    module-read d _ _ _ known c.in_ok-name.ensures.ok (c.in_ok-found.ensures.ok ∙ ap Some (sym c.in_ok-unit.ensures)) c.in_ok-modules.ensures.ok ∙ ap Some (sym (module-made x))
+    IfOk-keyed (λ m. package_module_in d ≡ Some (package_module_view m)) (has_only package_module_keys d) c.only.result c.module_members-members.result c.only.ensures.keys c.only.ensures.ok
+    (IfOk-weaker c.module_members-members.result _ _ (λ m h known. module-whole d (package_module_view m) known h) c.module_members-members.ensures.ok)
+
+pub module_of-returns-clause-place : goal.module_of-returns-clause-place
+module_of-returns-clause-place t c =
+    let d = borrowed_view c.args.value.now in
+    IfErr-weaker c.only.result _ (Locates a_package_module d)
+    (λ e told. of-only (Locates a_package_module d) (has_only package_module_keys d) c.module_members-members.result e told
+    (λ unknown is. Locates-here a_package_module d e is (inl unknown))
+    (IfErr-weaker c.module_members-members.result (LocatesModuleMember d) (Locates a_package_module d) (λ x h. module-fault d x h) c.module_members-members.ensures.place))
+    c.only.ensures.place
+
+pub module_members-returns-in-Ok-clause-ok : goal.module_members-returns-in-Ok-clause-ok
+module_members-returns-in-Ok-clause-ok t c =
+    let all = c.in-Ok.ensures.ok in
+    let others = part _ c.both.result all.1 c.both.ensures.ok in
+    let x : PackageModule-F PackageModule = record { name = c.in-Ok.name; unit = c.in-Ok.content.0; modules = c.in-Ok.content.1 } in
+    module_with-read (borrowed_view c.args.value.now) _ _ _ (part _ c.name_member-name.result all.0 c.name_member-name.ensures.ok) (part _ c.unit_member-unit.result others.0 c.unit_member-unit.ensures.ok) (part _ c.modules_member-modules.result others.1 c.modules_member-modules.ensures.ok)
+    ∙ ap Some (sym (module-made x))
+
+pub module_members-returns-in-Err-clause-place : goal.module_members-returns-in-Err-clause-place
+module_members-returns-in-Err-clause-place t c =
+    let d = borrowed_view c.args.value.now in
+    either (LocatesModuleMember d) c.name_member-name.result c.both.result c.in-Err.error c.in-Err.ensures.place
+    (IfErr-weaker c.name_member-name.result _ (LocatesModuleMember d) (λ e h. IfPlace-more _ (IsModuleMemberBroken d) e (λ p broken. inl broken) h) c.name_member-name.ensures.place)
+    (of-both (LocatesModuleMember d) c.both.result c.unit_member-unit.result c.modules_member-modules.result c.both.ensures.place
+    (IfErr-weaker c.unit_member-unit.result _ (LocatesModuleMember d) (λ e h. IfPlace-more _ (IsModuleMemberBroken d) e (λ p broken. inr (inl broken)) h) c.unit_member-unit.ensures.place)
+    (IfErr-weaker c.modules_member-modules.result _ (LocatesModuleMember d) (λ e h. IfPlace-more _ (IsModuleMemberBroken d) e (λ p broken. inr (inr broken)) h) c.modules_member-modules.ensures.place))

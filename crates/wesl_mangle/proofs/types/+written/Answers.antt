@@ -1,15 +1,24 @@
-use Rattle.std.proofs.Common.{◌≡◌, ◌++◌, ◌∙◌, sym, ap, List, length, map, take, string_bytes, append_assoc}
-use Rattle.std.proofs.lemmas.List.{take_all}
-use Rattle.std.specs.List.{join_by}
-use Rattle.wesl_names.specs.Path.{Text}
-use Rattle.wesl_syntax.specs.Tree.{forest_of}
-use Rattle.wesl_syntax.specs.declared.expression.TemplateArg.{TemplateArg}
+use Rattle.std.proofs.Common.{◌∙◌, sym, length}
 use Rattle.wesl_syntax.specs.View.{argument_view}
-use Rattle.wesl_mangle.specs.TypeText.{opening, between, closing, mark_before, texts_in, tree_text}
+use Rattle.wesl_syntax.specs.declared.expression.TemplateArg.{TemplateArg}
+use Rattle.wesl_mangle.specs.TypeText.{tree_text}
 use Rattle.wesl_mangle.proofs.Cuts.{and-both}
-use Rattle.wesl_mangle.proofs.TypeTexts.{appended, argument-text, joined-more, written-on, texts_in-map, below_next, normal_next}
-use Rattle.wesl_mangle.proofs.Writing.{IfOk-to}
+use Rattle.wesl_mangle.proofs.TypeTexts.{all-of-it, argument-text, below_next, inner-text, literal-text, normal_next, one-more, texts_in-map, type-ident, type-text, type-texts}
+use Rattle.wesl_mangle.proofs.Written.{then, worded}
 use Rattle.wesl_mangle.proofs.types.+written.Goals as goal
+
+pub push_type-name-requires : goal.push_type-name-requires
+push_type-name-requires t c = type-ident c.args.ty.now (length c.args.names.now) c.requires.below
+
+pub push_type-returns-in-Some : goal.push_type-returns-in-Some
+push_type-returns-in-Some t c = worded (type-texts c.args.ty.now c.in-Some.arguments c.in-Some.is c.args.names.now) (then (worded c.name.ensures c.push.ensures) c.push_arguments.ensures)
+
+pub push_type-returns-in_default : goal.push_type-returns-in_default
+push_type-returns-in_default t c = worded (c.name.ensures ∙ type-text c.args.ty.now c.args.names.now c.in_default.is) c.push.ensures
+
+pub push_arguments-loop-place-init : goal.push_arguments-loop-place-init
+push_arguments-loop-place-init t c =
+    record { text = c.push.ensures; below = rw c.deref-argument-items.ensures.value c.requires.below; normal = rw c.deref-argument-items.ensures.value c.requires.normal }
 
 pub push_arguments-loop-place-preserved : goal.push_arguments-loop-place-preserved
 push_arguments-loop-place-preserved t c =
@@ -17,27 +26,21 @@ push_arguments-loop-place-preserved t c =
     let i = c.loop-place.place in
     let a = c.argument-item.result in
     let names = c.args.names.now in
-    let f = λ (x : TemplateArg). tree_text names (argument_view x) in
-    let b = below_next argument_view (length names) xs i a a c.loop-place-test.true c.argument-item.is in
-    let m = normal_next xs i a a c.loop-place-test.true c.argument-item.is in
+    let is = c.argument-item.is in
     record {
-      text = c.in_ok-push_argument.ensures
-          ∙ ap (λ (s : Text). string_bytes c.push_mark.new.text ++ s) (argument-text names a)
-          ∙ ap (λ (s : Text). s ++ f a) (c.in_ok-push_mark.ensures ∙ ap (λ (s : Text). s ++ mark_before i) c.loop-place.invariant.text)
-          ∙ written-on (string_bytes c.args.text.now) opening (join_by (λ (s : Text). s) between (map f (take i xs))) (mark_before i) (f a) _ (joined-more f xs i a a c.loop-place-test.true c.argument-item.is);
-      below = (and-both _ _ (sym b ∙ c.loop-place.invariant.below)).1;
-      normal = (and-both _ _ (sym m ∙ c.loop-place.invariant.normal)).1;
+      text = one-more (λ (x : TemplateArg). tree_text names (argument_view x)) xs i a a c.loop-place-test.true is c.loop-place.invariant.text c.push_mark.ensures (worded (argument-text names a) c.push_argument.ensures);
+      below = (and-both _ _ (sym (below_next argument_view (length names) xs i a a c.loop-place-test.true is) ∙ c.loop-place.invariant.below)).1;
+      normal = (and-both _ _ (sym (normal_next xs i a a c.loop-place-test.true is) ∙ c.loop-place.invariant.normal)).1;
     }
 
 pub push_arguments-returns : goal.push_arguments-returns
 push_arguments-returns t c =
-    let xs = c.deref-argument-items.result.now in
     let names = c.args.names.now in
-    let f = λ (x : TemplateArg). tree_text names (argument_view x) in
-    let old = string_bytes c.args.text.now in
-    let e : string_bytes c.loop-place.text ≡ old ++ (opening ++ join_by (λ s. s) between (texts_in names (forest_of (map argument_view c.args.arguments.now.items)))) =
-    c.loop-place.invariant.text
-    ∙ ap (λ (ys : List TemplateArg). old ++ (opening ++ join_by (λ (s : Text). s) between (map f ys))) (take_all c.loop-place.place xs c.loop-place-test.false ∙ c.deref-argument-items.ensures.value)
-    ∙ ap (λ (ts : List Text). old ++ (opening ++ join_by (λ (s : Text). s) between ts)) (sym (texts_in-map argument_view names c.args.arguments.now.items)) in
-    IfOk-to _ _ (λ _ h. h ∙ ap (λ (s : Text). s ++ closing) e ∙ append_assoc old (opening ++ join_by (λ s. s) between (texts_in names (forest_of (map argument_view c.args.arguments.now.items)))) closing) c.push_str-2.result
-    (appended c.push_str-2.result _ _ closing c.push_str-2.ensures.bytes)
+    all-of-it (λ (x : TemplateArg). tree_text names (argument_view x)) c.deref-argument-items.result.now c.args.arguments.now.items c.loop-place.place _ c.loop-place-test.false c.deref-argument-items.ensures.value
+    (sym (texts_in-map argument_view names c.args.arguments.now.items)) c.loop-place.invariant.text c.push-2.ensures
+
+pub push_argument-returns-in-Literal : goal.push_argument-returns-in-Literal
+push_argument-returns-in-Literal t c = worded (literal-text c.args.names.now c.args.expression.now c.in-Literal.literal c.in-Literal.is) (c.push_literal.ensures c.args.names.now)
+
+pub push_argument-returns-in-TypeOrIdentifier : goal.push_argument-returns-in-TypeOrIdentifier
+push_argument-returns-in-TypeOrIdentifier t c = worded (inner-text c.args.expression.now c.in-TypeOrIdentifier.ty c.in-TypeOrIdentifier.is c.args.names.now) c.push_type.ensures

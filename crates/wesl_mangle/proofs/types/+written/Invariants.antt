@@ -1,7 +1,8 @@
-use Rattle.std.proofs.Common.{◌≡◌, ◌++◌, true, length, map, take, drop, string_bytes}
+use Rattle.std.proofs.Common.{◌≡◌, ◌++◌, true, length, map, take, drop}
 use Rattle.std.specs.List.{join_by}
 use Rattle.wesl_syntax.specs.Tree.{forest_of, forest_below}
 use Rattle.wesl_syntax.specs.View.{argument_view}
+use Rattle.wesl_mangle.specs.Written.{Adds}
 use Rattle.wesl_mangle.specs.TypeText.{opening, between, tree_text, is_normal}
 use Rattle.wesl_mangle.proofs.types.+written.Given as goal
 
@@ -9,7 +10,7 @@ abbrev pub invariant-push_arguments-loop-place : goal.invariant-push_arguments-l
 invariant-push_arguments-loop-place l =
     let rest = forest_of (map argument_view (drop l.place l.argument-items)) in
     record {
-      text : string_bytes l.text ≡ string_bytes l.fn.text ++ (opening ++ join_by (λ t. t) between (map (λ a. tree_text l.names (argument_view a)) (take l.place l.argument-items)));
+      text : Adds l.fn.text l.text (opening ++ join_by (λ t. t) between (map (λ a. tree_text l.names (argument_view a)) (take l.place l.argument-items)));
       below : forest_below (length l.names) rest ≡ true;
       normal : is_normal rest ≡ true;
     }

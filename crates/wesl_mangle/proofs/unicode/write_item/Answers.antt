@@ -1,28 +1,32 @@
-use Rattle.std.proofs.Common.{◌∙◌, ap, ◌++◌, List, map, arith, string_bytes, length-append}
-use Rattle.std.proofs.lemmas.List.{take_all}
+use Rattle.std.proofs.Common.{◌∙◌, ap, sym, ◌++◌, List, map, arith, string_bytes, length-append}
+use Rattle.std.proofs.lemmas.List.{append-nil, take_all}
 use Rattle.wesl_names.specs.Path.{Text, origin_view}
 use Rattle.wesl_mangle.specs.Unicode.{separator, from_words, origin_words}
 use Rattle.wesl_mangle.proofs.Words.{words-more, words-last, some-words}
+use Rattle.wesl_mangle.proofs.Written.{more, saying, worded}
 use Rattle.wesl_mangle.proofs.unicode.write_item.Goals as goal
+
+pub loop-component-init : goal.loop-component-init
+loop-component-init c =
+    saying (ap from_words (sym (append-nil (origin_words (origin_view c.args.path.now.origin))))) (more c.new-text.ensures c.push_origin.ensures)
 
 pub loop-component-preserved : goal.loop-component-preserved
 loop-component-preserved c =
-    let ps = c.deref-component-items.result.now in
-    let k = c.loop-component.component-index in
     let a = c.component-item.result in
     let o = origin_view c.args.path.now.origin in
-    c.in_ok-push_word.ensures
-    ∙ ap (λ (t : Text). string_bytes c.loop-component.text ++ (separator ++ t)) c.as_str.ensures.value
-    ∙ ap (λ (t : Text). t ++ (separator ++ string_bytes a)) c.loop-component.invariant
-    ∙ words-more string_bytes (origin_words o) ps k a a (some-words o) c.loop-component-test.true c.component-item.is
+    saying
+    (words-more string_bytes (origin_words o) c.deref-component-items.result.now c.loop-component.component-index a a (some-words o) c.loop-component-test.true c.component-item.is)
+    (more c.loop-component.invariant (worded (ap (λ (t : Text). separator ++ t) c.as_str.ensures.value) c.push_word.ensures))
 
-pub returns : goal.returns
-returns c =
-    let ps = c.deref-component-items.result.now in
-    let t = take_all c.loop-component.component-index ps c.loop-component-test.false in
+pub returns-clause-form : goal.returns-clause-form
+returns-clause-form c =
     let o = origin_view c.args.path.now.origin in
+    let item = c.args.item.now in
     let cs : List Text = map string_bytes c.args.path.now.components.items in
+    let t = take_all c.loop-component.component-index c.deref-component-items.result.now c.loop-component-test.false in
     let l = length-append (origin_words o) cs in
-    c.in_ok-push_word-2.ensures
-    ∙ ap (λ (t : Text). t ++ (separator ++ c.args.item.now)) (c.loop-component.invariant ∙ ap (λ items. from_words (origin_words o ++ map string_bytes items)) (t ∙ c.deref-component-items.ensures.value))
-    ∙ words-last (origin_words o ++ cs) c.args.item.now (omega (arith, l, some-words o))
+    c.end.ensures.said _
+    (saying
+    (ap (λ items. from_words (origin_words o ++ map string_bytes items) ++ (separator ++ item)) (t ∙ c.deref-component-items.ensures.value)
+    ∙ words-last (origin_words o ++ cs) item (omega (arith, l, some-words o)))
+    (more c.loop-component.invariant c.push_word-2.ensures))

@@ -1,18 +1,23 @@
-use Rattle.std.proofs.Common.{◌≡◌, ◌-◌, ◌∙◌, ℕ, List, ap, sym, take, drop, length, map, string_bytes, String}
+use Rattle.std.proofs.Common.{◌≡◌, ◌-◌, ◌∙◌, ℕ, List, ap, sym, take, drop, length, map, string_bytes, String, subst, Option, IfSome}
 use Rattle.std.specs.declared.alloc.Global.{Global}
 use Rattle.std.proofs.Math.Seq.{take-length}
 use Rattle.std.proofs.lemmas.List.{length-drop, drop-map}
-use Rattle.wesl_names.specs.Path.{Text, Path, absolute, extend}
-use Rattle.wesl_resolve.proofs.ResultLemmas.{IfOk-to}
+use Rattle.wesl_names.specs.Path.{Text, Path, absolute, extend, path_view}
+use Rattle.wesl_names.specs.declared.path.ModulePath.{ModulePath}
+use Rattle.wesl_resolve.specs.Router.{suffix}
+use Rattle.wesl_resolve.proofs.ResultLemmas.{IfOk-to, IfSome-ok}
 use Rattle.wesl_resolve.proofs.router.path_after.Goals as goal
 
 rest : {X : Type 0} (n : ℕ) (xs : List X) → take (length xs - n) (drop n xs) ≡ drop n xs
 rest n xs = ap (λ k. take k (drop n xs)) (sym (length-drop n xs)) ∙ take-length (drop n xs)
 
-pub returns-clause-after : goal.returns-clause-after
-returns-clause-after c =
+pub returns : goal.returns
+returns c =
     let names = c.args.path.now.components.items in
     let below : List (String Global) → List Text = λ xs. map string_bytes (take (length xs - c.args.count) (drop c.args.count xs)) in
     let kept : below c.deref.result.now ≡ drop c.args.count (map string_bytes names) = ap below c.deref.ensures.value ∙ ap (map string_bytes) (rest c.args.count names) ∙ sym (drop-map string_bytes c.args.count names) in
     let after : List Text → Path = λ cs. record { origin = absolute; components = cs } in
-    IfOk-to _ _ (λ p e. e ∙ ap (λ root. extend root (below c.deref.result.now)) c.new_root.ensures ∙ ap after kept) c.join.result c.join.ensures.joined
+    let Is : ModulePath → Type 0 = λ p. path_view p ≡ suffix c.args.count (path_view c.args.path.now) in
+    let Some-is : Option ModulePath → Type 0 = λ o. IfSome o Is in
+    subst Some-is (sym c.made.ensures)
+    (IfSome-ok Is c.join.result (IfOk-to _ Is (λ p e. e ∙ ap (λ root. extend root (below c.deref.result.now)) c.new_root.ensures ∙ ap after kept) c.join.result c.join.ensures.joined))

@@ -1,12 +1,22 @@
-use Rattle.std.proofs.Common.{◌∙◌, string_bytes}
-use Rattle.std.proofs.lemmas.Map.Text.{btree_map_updates_text}
+use Rattle.std.proofs.Common.{◌≡◌, ◌∙◌, string_bytes}
+use Rattle.wesl_names.specs.Path.{Text, path_view}
 use Rattle.wesl_mangle.specs.Mangler.{item_view}
-use Rattle.wesl_mangle.proofs.Records.{view-update, pair-is}
+use Rattle.wesl_mangle.proofs.Writing.{IfOk-to}
 use Rattle.wesl_mangle.proofs.cache.CacheManglerMangler.mangle.Goals as goal
+
+pub returns-clause-named : goal.returns-clause-named
+returns-clause-named g c = c.in_ok-mangled.ensures.named
+
+pub returns-clause-same : goal.returns-clause-same
+returns-clause-same g c = c.in_ok-mangled.ensures.same
+
+pub returns-clause-inner_written : goal.returns-clause-inner_written
+returns-clause-inner_written g c = c.in_ok-mangled.ensures.written
 
 pub returns-clause-written : goal.returns-clause-written
 returns-clause-written g c =
-    view-update item_view c.args.self.now.items c.insert.new.self (string_bytes c.in_ok-name.name) _ (c.in_ok-try_clone.field-0, c.in_ok-from_str.field-0) _
-    (btree_map_updates_text (string_bytes c.in_ok-name.name) c.args.self.now.items c.insert.new.self _ c.in_ok-insert.ensures.updates)
-    (c.in_ok-name.ensures.cases ∙ c.in_ok-mangled.ensures.named)
-    (pair-is _ _ c.in_ok-try_clone.ensures.equal c.in_ok-from_str.ensures.ok)
+    let path = path_view c.args.path.now in
+    let item = c.args.item.now in
+    let name : Text = g.M.Mangler.name_of c.args.self.now.mangler path item in
+    c.in_ok-record.ensures.written name (path, item)
+    (IfOk-to _ (λ e. (string_bytes e.0 ≡ name) × (item_view e.1 ≡ (path, item))) (λ e k. (k.0 ∙ c.as_str.ensures.value ∙ c.in_ok-mangled.ensures.named, k.1)) c.entry.result c.entry.ensures.copied)

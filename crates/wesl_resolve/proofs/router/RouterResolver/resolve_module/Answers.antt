@@ -1,10 +1,10 @@
-use Rattle.std.proofs.Common.{inl}
+use Rattle.std.proofs.Common.{inl, inr, ⊎_elim, arith}
 use Rattle.wesl_names.specs.Path.{path_view}
 use Rattle.wesl_syntax.specs.Unit.{spelled}
 use Rattle.wesl_tree.specs.Translation.{unit_view}
 use Rattle.wesl_tree.specs.declared.unit.TranslationUnit.{TranslationUnit}
 use Rattle.wesl_resolve.proofs.ResultLemmas.{IfOk-to, refused-to}
-use Rattle.wesl_resolve.proofs.RouterLemmas.{Takes-read, Takes-fits, Routed-by, RouterMeans-set, RouterMeans-fallback, AllReady-set, LeavesOthers-set, LeavesOthers-fallback, TakenByNone-read}
+use Rattle.wesl_resolve.proofs.RouterLemmas.{Takes-read, Takes-fits, Routed-by, RouterMeans-set, RouterMeans-fallback, AllReady-set, LeavesOthers-set, LeavesOthers-fallback, LeavesOthers-same, TakenByNone-read, Routed-beside, AllReady-beside, ready-beside, RouterMeans-same}
 use Rattle.wesl_resolve.proofs.router.RouterResolver.resolve_module.Goals as goal
 
 pub module_after-requires-clause-asked : goal.module_after-requires-clause-asked
@@ -69,3 +69,45 @@ returns-in-Some-fallback-clause-others g c =
     let mounts = c.args.self.now.mount_points.items in
     let p = path_view c.args.path.now in
     LeavesOthers-fallback mounts c.args.self.now.fallback p _ c.module_after-in-Some-fallback.new.resolver c.in-Some-fallback.is (TakenByNone-read c.deref.result.now mounts p c.deref.ensures.value c.in-None.ensures)
+
+pub module_after-requires-in-Some-fallback-clause-asked : goal.module_after-requires-in-Some-fallback-clause-asked
+module_after-requires-in-Some-fallback-clause-asked g c =
+    ready-beside g.B.Resolver.ready c.args.self.now.mount_points.items c.args.self.now.fallback _ c.requires.asked c.in-Some-fallback.is
+
+pub module_after-requires-in-Some-fallback-clause-within : goal.module_after-requires-in-Some-fallback-clause-within
+module_after-requires-in-Some-fallback-clause-within g c = omega arith
+
+pub returns-in-Some-fallback-clause-handed : goal.returns-in-Some-fallback-clause-handed
+returns-in-Some-fallback-clause-handed g c =
+    let mounts = c.args.self.now.mount_points.items in
+    let p = path_view c.args.path.now in
+    IfOk-to {A = TranslationUnit} _ _ (λ u h. Routed-beside (λ b q. g.B.Resolver.hands b q (spelled (unit_view u))) c.deref.result.now mounts c.args.self.now.fallback _ p c.deref.ensures.value c.in-None.ensures c.in-Some-fallback.is h) c.module_after-in-Some-fallback.result c.module_after-in-Some-fallback.ensures.handed
+
+pub returns-in-Some-fallback-clause-refused : goal.returns-in-Some-fallback-clause-refused
+returns-in-Some-fallback-clause-refused g c =
+    let mounts = c.args.self.now.mount_points.items in
+    let p = path_view c.args.path.now in
+    refused-to _ _ (λ e h. inl (Routed-beside (λ b q. g.B.Resolver.refuses b q e) c.deref.result.now mounts c.args.self.now.fallback _ p c.deref.ensures.value c.in-None.ensures c.in-Some-fallback.is h)) c.module_after-in-Some-fallback.result c.module_after-in-Some-fallback.ensures.refused
+
+pub returns-in-Some-fallback-clause-stays_ready : goal.returns-in-Some-fallback-clause-stays_ready
+returns-in-Some-fallback-clause-stays_ready g c =
+    AllReady-beside g.B.Resolver.ready c.args.self.now.mount_points.items c.args.self.now.fallback c.module_after-in-Some-fallback.new.resolver c.requires.asked c.module_after-in-Some-fallback.ensures.stays_ready
+
+pub returns-in-None-fallback-clause-handed : goal.returns-in-None-fallback-clause-handed
+returns-in-None-fallback-clause-handed g c = tt
+
+pub returns-in-None-fallback-clause-refused : goal.returns-in-None-fallback-clause-refused
+returns-in-None-fallback-clause-refused g c =
+    let none = TakenByNone-read c.deref.result.now c.args.self.now.mount_points.items (path_view c.args.path.now) c.deref.ensures.value c.in-None.ensures in
+    ⊎_elim inl (λ refusal. inr (inr ((none, c.in-None-fallback.is), refusal))) c.not_found.ensures
+
+pub returns-in-None-fallback-clause-same : goal.returns-in-None-fallback-clause-same
+returns-in-None-fallback-clause-same g c =
+    RouterMeans-same g.B.Resolver.hands g.B.Resolver.refuses g.B.Resolver.source g.B.Resolver.lacks g.B.Resolver.shown c.args.self.now
+
+pub returns-in-None-fallback-clause-stays_ready : goal.returns-in-None-fallback-clause-stays_ready
+returns-in-None-fallback-clause-stays_ready g c = c.requires.asked
+
+pub returns-in-None-fallback-clause-others : goal.returns-in-None-fallback-clause-others
+returns-in-None-fallback-clause-others g c =
+    LeavesOthers-same c.args.self.now.mount_points.items c.args.self.now.fallback (path_view c.args.path.now)

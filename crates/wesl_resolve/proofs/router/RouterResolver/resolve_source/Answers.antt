@@ -1,7 +1,7 @@
-use Rattle.std.proofs.Common.{inl, string_bytes}
+use Rattle.std.proofs.Common.{inl, inr, ⊎_elim, arith, string_bytes}
 use Rattle.wesl_names.specs.Path.{path_view}
 use Rattle.wesl_resolve.proofs.ResultLemmas.{IfOk-to, refused-to}
-use Rattle.wesl_resolve.proofs.RouterLemmas.{Takes-read, Takes-fits, Routed-by, RouterMeans-set, RouterMeans-fallback, AllReady-set, LeavesOthers-set, LeavesOthers-fallback, TakenByNone-read}
+use Rattle.wesl_resolve.proofs.RouterLemmas.{Takes-read, Takes-fits, Routed-by, RouterMeans-set, RouterMeans-fallback, AllReady-set, LeavesOthers-set, LeavesOthers-fallback, LeavesOthers-same, TakenByNone-read, Routed-beside, AllReady-beside, ready-beside, RouterMeans-same}
 use Rattle.wesl_resolve.proofs.router.RouterResolver.resolve_source.Goals as goal
 
 pub source_after-requires-clause-asked : goal.source_after-requires-clause-asked
@@ -66,3 +66,45 @@ returns-in-Some-fallback-clause-others g c =
     let mounts = c.args.self.now.mount_points.items in
     let p = path_view c.args.path.now in
     LeavesOthers-fallback mounts c.args.self.now.fallback p _ c.source_after-in-Some-fallback.new.resolver c.in-Some-fallback.is (TakenByNone-read c.deref.result.now mounts p c.deref.ensures.value c.in-None.ensures)
+
+pub source_after-requires-in-Some-fallback-clause-asked : goal.source_after-requires-in-Some-fallback-clause-asked
+source_after-requires-in-Some-fallback-clause-asked g c =
+    ready-beside g.B.Resolver.ready c.args.self.now.mount_points.items c.args.self.now.fallback _ c.requires.asked c.in-Some-fallback.is
+
+pub source_after-requires-in-Some-fallback-clause-within : goal.source_after-requires-in-Some-fallback-clause-within
+source_after-requires-in-Some-fallback-clause-within g c = omega arith
+
+pub returns-in-Some-fallback-clause-given : goal.returns-in-Some-fallback-clause-given
+returns-in-Some-fallback-clause-given g c =
+    let mounts = c.args.self.now.mount_points.items in
+    let p = path_view c.args.path.now in
+    IfOk-to _ _ (λ text h. Routed-beside (λ b q. g.B.Resolver.source b q (string_bytes text)) c.deref.result.now mounts c.args.self.now.fallback _ p c.deref.ensures.value c.in-None.ensures c.in-Some-fallback.is h) c.source_after-in-Some-fallback.result c.source_after-in-Some-fallback.ensures.given
+
+pub returns-in-Some-fallback-clause-refused : goal.returns-in-Some-fallback-clause-refused
+returns-in-Some-fallback-clause-refused g c =
+    let mounts = c.args.self.now.mount_points.items in
+    let p = path_view c.args.path.now in
+    refused-to _ _ (λ e h. inl (Routed-beside (λ b q. g.B.Resolver.lacks b q e) c.deref.result.now mounts c.args.self.now.fallback _ p c.deref.ensures.value c.in-None.ensures c.in-Some-fallback.is h)) c.source_after-in-Some-fallback.result c.source_after-in-Some-fallback.ensures.refused
+
+pub returns-in-Some-fallback-clause-stays_ready : goal.returns-in-Some-fallback-clause-stays_ready
+returns-in-Some-fallback-clause-stays_ready g c =
+    AllReady-beside g.B.Resolver.ready c.args.self.now.mount_points.items c.args.self.now.fallback c.source_after-in-Some-fallback.new.resolver c.requires.asked c.source_after-in-Some-fallback.ensures.stays_ready
+
+pub returns-in-None-fallback-clause-given : goal.returns-in-None-fallback-clause-given
+returns-in-None-fallback-clause-given g c = tt
+
+pub returns-in-None-fallback-clause-refused : goal.returns-in-None-fallback-clause-refused
+returns-in-None-fallback-clause-refused g c =
+    let none = TakenByNone-read c.deref.result.now c.args.self.now.mount_points.items (path_view c.args.path.now) c.deref.ensures.value c.in-None.ensures in
+    ⊎_elim inl (λ refusal. inr (inr ((none, c.in-None-fallback.is), refusal))) c.not_found.ensures
+
+pub returns-in-None-fallback-clause-same : goal.returns-in-None-fallback-clause-same
+returns-in-None-fallback-clause-same g c =
+    RouterMeans-same g.B.Resolver.hands g.B.Resolver.refuses g.B.Resolver.source g.B.Resolver.lacks g.B.Resolver.shown c.args.self.now
+
+pub returns-in-None-fallback-clause-stays_ready : goal.returns-in-None-fallback-clause-stays_ready
+returns-in-None-fallback-clause-stays_ready g c = c.requires.asked
+
+pub returns-in-None-fallback-clause-others : goal.returns-in-None-fallback-clause-others
+returns-in-None-fallback-clause-others g c =
+    LeavesOthers-same c.args.self.now.mount_points.items c.args.self.now.fallback (path_view c.args.path.now)
