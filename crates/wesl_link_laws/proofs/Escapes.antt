@@ -17,9 +17,9 @@ use Rattle.wesl_faith.specs.Faithful.{IsFaithful}
 use Rattle.wesl_table.specs.Numbering.{Numbering, NameAt, PathAt, AreRelated, IsRelatedOption, SameDeclaration, IsNumbered}
 use Rattle.wesl_table.specs.NumbersView.{numbering}
 use Rattle.wesl_assembly.specs.Denotations.{symbol, printed_as}
-use Rattle.wesl_mangle.specs.Escape.{escape, unescape, is_reversible}
-use Rattle.wesl_mangle.specs.Laws.{IsShort, HasShortNames, RoundTrip}
-use Rattle.wesl_mangle.proofs.Writing.{text_small, short-names}
+use Rattle.wesl_item_forms.specs.Escape.{escape, unescape, is_reversible}
+use Rattle.wesl_item_forms.specs.Laws.{IsShort, HasShortNames, RoundTrip}
+use Rattle.wesl_item_forms.proofs.Writing.{text_small, short-names}
 use Rattle.wesl_linker.specs.Given.{Given}
 use Rattle.wesl_linker.specs.Worlds.{Module, table, tables, task_of}
 use Rattle.wesl_linker.specs.Linked.{Denotation}

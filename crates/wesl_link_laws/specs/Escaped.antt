@@ -6,7 +6,7 @@ use Rattle.wesl_occurrences.specs.Occurrences.{Occurrence, occurrences}
 use Rattle.wesl_faith.specs.Faithful.{name_of}
 use Rattle.wesl_symbols.specs.declared.symbols.Symbol.{Symbol}
 use Rattle.wesl_world.specs.World.{Reached}
-use Rattle.wesl_mangle.specs.Escape.{is_reversible}
+use Rattle.wesl_item_forms.specs.Escape.{is_reversible}
 use Rattle.wesl_linker.specs.Worlds.{Module, tables, task_of}
 use Rattle.wesl_linker.specs.Resolved.{Resolved}
 use Rattle.wesl_link_laws.specs.Apart.{OfLocalsAndFree}

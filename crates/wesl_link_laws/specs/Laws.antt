@@ -5,7 +5,7 @@ use Rattle.wesl_syntax.specs.Numbers.{AreNumbers}
 use Rattle.wesl_occurrences.specs.Occurrences.{occurrences}
 use Rattle.wesl_meanings.specs.Scopes.{keys}
 use Rattle.wesl_faith.specs.Faithful.{IsFaithful}
-use Rattle.wesl_mangle.specs.Escape.{escape}
+use Rattle.wesl_item_forms.specs.Escape.{escape}
 use Rattle.wesl_linker.specs.Resolved.{AssemblesTo, IsMangled}
 use Rattle.wesl_link.specs.Keeping.{IsSound, resolved}
 use Rattle.wesl_link.specs.declared.resolutions.Resolutions.{Resolutions}

@@ -1,12 +1,1 @@
-pub mod Cuts
-pub mod Counting
-pub mod Identifiers
-pub mod Names
-pub mod Reading
-pub mod Places
 pub mod Records
-pub mod Separators
-pub mod TypeTexts
-pub mod Words
-pub mod Writing
-pub mod Written

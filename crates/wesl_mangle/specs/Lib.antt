@@ -1,11 +1,3 @@
-pub mod Escape
 pub mod Held
-pub mod Identifier
-pub mod Laws
 pub mod Mangler
-pub mod Rows
 pub mod Shown
-pub mod TypeText
-pub mod Unicode
-pub mod Views
-pub mod Written

@@ -2,13 +2,14 @@
 ghost use Rattle.std.specs.Prelude.{◌≡◌, None, Some, true, IfOk, IfErr, OnOk, OnErr, string_bytes};
 ghost use Rattle.wesl_names.specs.Path.{Text, Path, path_view};
 ghost use Rattle.wesl_names.specs.declared.errors.Error as error;
-ghost use Rattle.wesl_mangle.specs.Mangler.{IsWrittenOrKept, item_view, numbered, written_if};
+ghost use Rattle.wesl_item_forms.specs.Items.{item_view, numbered};
+ghost use Rattle.wesl_mangle.specs.Mangler.{IsWrittenOrKept, written_if};
 ghost use Rattle.wesl_mangle.specs.Shown.{shown};
 
 use crate::mangler::Mangler;
-use crate::numbered::{is_made, number_item};
 use std::alloc::Global;
 use std::collections::BTreeMap;
+use wesl_item_forms::{is_made, number_item};
 use wesl_names::{Error, ModulePath, Names};
 use wesl_syntax::TypeExpression;
 

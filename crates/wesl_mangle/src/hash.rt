@@ -2,11 +2,11 @@
 ghost use Rattle.std.specs.Prelude.{◌≡◌, ℕ, Some, None, false, IfOk, IfErr, string_bytes};
 ghost use Rattle.wesl_names.specs.Path.{Text, Path, path_view};
 ghost use Rattle.wesl_names.specs.declared.errors.Error as error;
-ghost use Rattle.wesl_mangle.specs.Mangler.{numbered};
+ghost use Rattle.wesl_item_forms.specs.Items.{numbered};
 
 use crate::mangler::Mangler;
-use crate::numbered::number_item;
 use std::alloc::Global;
+use wesl_item_forms::number_item;
 use wesl_names::{Error, ModulePath, Names};
 use wesl_syntax::TypeExpression;
 

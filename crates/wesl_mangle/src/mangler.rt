@@ -5,10 +5,11 @@ ghost use Rattle.std.specs.List.{list_all};
 ghost use Rattle.wesl_syntax.specs.Tree.{Tree, tree_below};
 ghost use Rattle.wesl_syntax.specs.View.{type_view};
 ghost use Rattle.wesl_names.specs.declared.errors.Error as error;
-ghost use Rattle.wesl_mangle.specs.Mangler.{item_view, written_if, numbered, IsRefusedVariant};
+ghost use Rattle.wesl_item_forms.specs.Items.{item_view, numbered, IsRefusedVariant};
+ghost use Rattle.wesl_mangle.specs.Mangler.{written_if};
 
-use crate::numbered::{number_item, told};
 use std::alloc::Global;
+use wesl_item_forms::{number_item, told};
 use wesl_names::{Error, ModulePath, Names};
 use wesl_syntax::TypeExpression;
 

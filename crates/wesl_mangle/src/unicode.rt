@@ -1,107 +1,20 @@
-//! The Unicode form.
-ghost use Rattle.std.specs.Prelude.{◌≡◌, ◌≤◌, ◌++◌, IfOk, IfErr, IfSome, string_bytes, option_map, Some, None, true, false, length, map};
-ghost use Rattle.std.specs.List.{list_all};
-ghost use Rattle.wesl_names.specs.Path.{path_view, origin_view, relative};
+//! The mangler of the Unicode form.
+ghost use Rattle.std.specs.Prelude.{◌≡◌, IfOk, IfErr, string_bytes, Some, None, true, false};
+ghost use Rattle.wesl_names.specs.Path.{path_view};
 ghost use Rattle.wesl_names.specs.declared.errors.Error as error;
-ghost use Rattle.wesl_syntax.specs.Tree.{tree_below};
-ghost use Rattle.wesl_syntax.specs.View.{type_view};
-ghost use Rattle.wesl_mangle.specs.Mangler.{item_view};
-ghost use Rattle.wesl_mangle.specs.TypeText.{is_normal_type, bracketed, tree_text, unicode_variant};
-ghost use Rattle.wesl_mangle.specs.Written.{Adds};
-ghost use Rattle.wesl_mangle.specs.Unicode.{separator, from_words, origin_words, unicode, from_unicode, has_own_words};
+ghost use Rattle.wesl_item_forms.specs.TypeText.{unicode_variant};
+ghost use Rattle.wesl_item_forms.specs.Unicode.{unicode, from_unicode, has_own_words};
 
 use crate::mangler::Mangler;
-use crate::types::{is_normal_type, push_types};
-use crate::ununicode::read_item;
-use crate::writer::Writer;
 use std::alloc::Global;
-use wesl_names::{Error, ModulePath, Names, PathOrigin};
+use wesl_item_forms::{read_unicode, unicode_form, unicode_variant};
+use wesl_names::{Error, ModulePath, Names};
 use wesl_syntax::TypeExpression;
-
-/// Stands between two words: U+02D0, which looks like a colon, twice.
-pub const SEPARATOR: &str = "\u{2d0}\u{2d0}";
 
 /// Joins the names of a path and an item by marks that look like colons, and writes types in brackets
 /// that look like angle brackets. It remembers nothing, and reads the names that it writes.
 #[derive(Clone, Copy, Debug, Default)]
 pub struct UnicodeMangler;
-
-/// Adds a separator and the word.
-fn push_word(text: &mut Writer, word: &str)
-    ensures { Adds text.old text.new (separator ++ word.now) }
-{
-    text.push(SEPARATOR);
-    text.push(word);
-}
-
-/// Adds `self`, or `super` so many times.
-fn push_relative(text: &mut Writer, up: usize)
-    ensures { Adds text.old text.new (from_words (origin_words (relative up))) }
-{
-    if up == 0 {
-        text.push("self");
-        return;
-    }
-    text.push("super");
-    for _done in 1..up {
-        push_word(text, "super");
-    }
-}
-
-/// Adds what the origin is written as.
-fn push_origin(text: &mut Writer, origin: &PathOrigin)
-    ensures { Adds text.old text.new (from_words (origin_words (origin_view origin.now))) }
-{
-    match origin {
-        PathOrigin::Absolute => text.push("package"),
-        PathOrigin::Relative(up) => push_relative(text, *up),
-        PathOrigin::Package(name) => text.push(name.as_str()),
-    }
-}
-
-/// The words of the origin, the components and the item.
-fn write_item(alloc: Global, path: &ModulePath, item: &str) -> Result<String, Error>
-    ensures form { IfOk result (λ text. string_bytes text ≡ unicode (path_view path.now) item.now) }
-    ensures refused { IfErr result (λ e. e ≡ error.Memory) }
-{
-    let mut text = Writer::new(alloc);
-    push_origin(&mut text, &path.origin);
-    for component in &path.components {
-        push_word(&mut text, component.as_str());
-    }
-    push_word(&mut text, item);
-    text.end()
-}
-
-/// Whether each of the types can be written.
-fn are_normal_types(types: &[TypeExpression]) -> bool
-    ensures { result ≡ list_all is_normal_type (map type_view types.now) }
-{
-    for ty in types {
-        if !is_normal_type(ty) {
-            return false;
-        }
-    }
-    true
-}
-
-/// The item, and the types in brackets.
-fn write_variant(
-    alloc: Global,
-    names: &Names,
-    item: &str,
-    types: &[TypeExpression],
-) -> Result<String, Error>
-    requires below { list_all (tree_below (length names.now)) (map type_view types.now) ≡ true }
-    requires normal { list_all is_normal_type (map type_view types.now) ≡ true }
-    ensures form { IfOk result (λ text. string_bytes text ≡ item.now ++ bracketed (map (tree_text names.now) (map type_view types.now))) }
-    ensures refused { IfErr result (λ e. e ≡ error.Memory) }
-{
-    let mut text = Writer::new(alloc);
-    text.push(item);
-    push_types(&mut text, names, types);
-    text.end()
-}
 
 impl Mangler for UnicodeMangler {
     ghost name_of = { λ _ p i. unicode p i };
@@ -122,7 +35,7 @@ impl Mangler for UnicodeMangler {
         ensures read_back { IfOk result (λ name. has_own_words (path_view path.now) item.now ≡ true → from_unicode (string_bytes name) ≡ Some (path_view path.now, item.now)) }
         ensures refused { IfErr result (λ e. e ≡ error.Memory) }
     {
-        write_item(alloc, path, item)
+        unicode_form(alloc, path, item)
     }
 
     fn unmangle(
@@ -130,7 +43,7 @@ impl Mangler for UnicodeMangler {
         alloc: Global,
         mangled: &str,
     ) -> Result<Option<(ModulePath, String)>, Error> {
-        read_item(alloc, mangled)
+        read_unicode(alloc, mangled)
     }
 
     fn mangle_types(
@@ -141,9 +54,6 @@ impl Mangler for UnicodeMangler {
         _: u32,
         types: &[TypeExpression],
     ) -> Result<String, Error> {
-        if !are_normal_types(types) {
-            return Err(Error::NotNormalType);
-        }
-        write_variant(alloc, names, item, types)
+        unicode_variant(alloc, names, item, types)
     }
 }

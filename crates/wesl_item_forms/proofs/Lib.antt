@@ -1,0 +1,11 @@
+pub mod Cuts
+pub mod Counting
+pub mod Identifiers
+pub mod Names
+pub mod Reading
+pub mod Places
+pub mod Separators
+pub mod TypeTexts
+pub mod Words
+pub mod Writing
+pub mod Written

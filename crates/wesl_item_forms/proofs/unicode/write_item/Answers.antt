@@ -1,0 +1,32 @@
+use Rattle.std.proofs.Common.{◌∙◌, ap, sym, ◌++◌, List, map, arith, string_bytes, length-append}
+use Rattle.std.proofs.lemmas.List.{append-nil, take_all}
+use Rattle.wesl_names.specs.Path.{Text, origin_view}
+use Rattle.wesl_item_forms.specs.Unicode.{separator, from_words, origin_words}
+use Rattle.wesl_item_forms.proofs.Words.{words-more, words-last, some-words}
+use Rattle.wesl_item_forms.proofs.Written.{more, saying, worded}
+use Rattle.wesl_item_forms.proofs.unicode.write_item.Goals as goal
+
+pub loop-component-init : goal.loop-component-init
+loop-component-init c =
+    saying (ap from_words (sym (append-nil (origin_words (origin_view c.args.path.now.origin))))) (more c.new-text.ensures c.push_origin.ensures)
+
+pub loop-component-preserved : goal.loop-component-preserved
+loop-component-preserved c =
+    let a = c.component-item.result in
+    let o = origin_view c.args.path.now.origin in
+    saying
+    (words-more string_bytes (origin_words o) c.deref-component-items.result.now c.loop-component.component-index a a (some-words o) c.loop-component-test.true c.component-item.is)
+    (more c.loop-component.invariant (worded (ap (λ (t : Text). separator ++ t) c.as_str.ensures.value) c.push_word.ensures))
+
+pub returns-clause-form : goal.returns-clause-form
+returns-clause-form c =
+    let o = origin_view c.args.path.now.origin in
+    let item = c.args.item.now in
+    let cs : List Text = map string_bytes c.args.path.now.components.items in
+    let t = take_all c.loop-component.component-index c.deref-component-items.result.now c.loop-component-test.false in
+    let l = length-append (origin_words o) cs in
+    c.end.ensures.said _
+    (saying
+    (ap (λ items. from_words (origin_words o ++ map string_bytes items) ++ (separator ++ item)) (t ∙ c.deref-component-items.ensures.value)
+    ∙ words-last (origin_words o ++ cs) item (omega (arith, l, some-words o)))
+    (more c.loop-component.invariant c.push_word-2.ensures))

@@ -1,0 +1,9 @@
+pub mod Escape
+pub mod Identifier
+pub mod Items
+pub mod Laws
+pub mod Rows
+pub mod TypeText
+pub mod Unicode
+pub mod Views
+pub mod Written

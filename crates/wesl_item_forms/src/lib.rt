@@ -1,0 +1,21 @@
+//! The names that items of modules are given, written and read back: the escape form and the Unicode form
+//! (WESL, "NameMangling"). The manglers stand over them.
+#![tactic(auto)]
+
+mod escape;
+mod laws;
+mod numbered;
+mod reversible;
+mod types;
+mod unescape;
+mod unicode;
+mod ununicode;
+mod writer;
+
+pub use escape::escape_form;
+pub use laws::{escape_round_trip, escape_rows, unicode_round_trip, unicode_rows};
+pub use numbered::{is_made, number_item, told};
+pub use reversible::is_reversible;
+pub use unescape::read_escape;
+pub use unicode::{unicode_form, unicode_variant};
+pub use ununicode::read_unicode;
