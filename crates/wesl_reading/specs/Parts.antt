@@ -1,26 +1,14 @@
--- What is read of several parts, put together: all of it, or one of the faults.
-use Rattle.std.specs.Prelude.{◌≡◌, ◌⊎◌, ℕ, Bool, true, false, ◌∷◌, [], ◌++◌, Vec, Result, Ok, Err}
+-- What is read and put into a box or a list, or one of the faults.
+use Rattle.std.specs.Prelude.{◌≡◌, ◌⊎◌, ℕ, ◌∷◌, [], ◌++◌, Vec, Result, Ok, Err}
 use Rattle.std.specs.Global.{Global}
 use Rattle.wesl_names.specs.declared.errors.Error as error
-use Rattle.wesl_names.specs.Path.{Text}
-use Rattle.wesl_reading.specs.Faults.{IsAtRoot, IsUnder, IsUnderIndex}
-
--- the fault of one of two
-abbrev pub IsEither : {A B : Type 0} → Result A error.Error → Result B error.Error → error.Error → Type 0
-IsEither one other e = (one ≡ Err e) ⊎ (other ≡ Err e)
-
--- a key too many, or a fault of what is read
-abbrev pub IsKeyOr : {A : Type 0} → Bool → Result A error.Error → error.Error → Type 0
-IsKeyOr known read e = (known ≡ false) × IsAtRoot e ⊎ (known ≡ true) × (read ≡ Err e)
+use Rattle.wesl_reading.specs.Faults.{IsUnderIndex}
 
 -- want of memory, or a fault of what is read
 abbrev pub IsMemoryOr : {A : Type 0} → Result A error.Error → error.Error → Type 0
 IsMemoryOr read e = (e ≡ error.Memory) ⊎ (read ≡ Err e)
 
--- the fault of what is read, told of what has it as its member k, or at i
-abbrev pub IsFaultUnder : {A : Type 0} → Text → Result A error.Error → error.Error → Type 0
-IsFaultUnder k read e = (inner : error.Error) × (read ≡ Err inner) × IsUnder k inner e
-
+-- the fault of what is read, told of the list that has it at i
 abbrev pub IsFaultAt : {A : Type 0} → ℕ → Result A error.Error → error.Error → Type 0
 IsFaultAt i read e = (inner : error.Error) × (read ≡ Err inner) × IsUnderIndex i inner e
 

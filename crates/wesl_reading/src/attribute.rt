@@ -10,16 +10,16 @@ ghost use Rattle.wesl_reading.specs.Faults.{Locates, LocatesInside};
 ghost use Rattle.wesl_reading.specs.Forms.{HasWord, attribute_text, operand_kind, operand_text};
 ghost use Rattle.wesl_reading.specs.Numbers.{Reads, ReadsMany};
 
-use crate::expression::{expression_member, optional_expression, optional_expressions, unplaced};
+use crate::expression::{expression_member, optional_expression, optional_expressions};
 use crate::fields::{own_name, own_text, under, wrong};
-use crate::joined::{both, only, room, with_item};
+use crate::joined::{room, with_item};
 use crate::names::names_member;
 use crate::numbering::Numbering;
 use crate::words::{AttributeWord, OperandWord, attribute_word};
 use std::alloc::Global;
 use wesl_borrowed::BorrowedValue;
-use wesl_names::Error;
-use wesl_syntax::{Attribute, AttributeNode, Attributes, ExpressionNode};
+use wesl_names::{Error, Span};
+use wesl_syntax::{Attribute, AttributeNode, Attributes, ExpressionNode, Spanned};
 
 /// The attributes at `key`, a list.
 pub fn attributes_member(
@@ -69,7 +69,7 @@ fn read_attribute(
 {
     if let Some(text) = value.as_str() {
         return match plain_attribute(text) {
-            Some(attribute) => Ok(unplaced(attribute)),
+            Some(attribute) => Ok(placed_nowhere(attribute)),
             None => Err(wrong(alloc)),
         };
     }
@@ -96,6 +96,17 @@ fn read_worded_attribute(
         AttributeWord::Interpolate => read_interpolate(alloc, value),
         AttributeWord::Diagnostic => read_diagnostic(alloc, value),
         AttributeWord::Custom => read_custom(alloc, numbering, value),
+    }
+}
+
+// An attribute that stands in no source text.
+fn placed_nowhere(attribute: Attribute) -> AttributeNode
+    ensures { result ≡ record { node = attribute; span = record { start = 0; end = 0 } } }
+{
+    let span = Span { start: 0, end: 0 };
+    Spanned {
+        node: attribute,
+        span,
     }
 }
 
@@ -157,9 +168,11 @@ fn read_operand(
     ensures ok { IfOk result (λ e. Reads (node_form an_attribute) (borrowed_view value.now) (placed attribute_view attribute_node e) numbering.old numbering.new) }
     ensures place { IfErr result (Locates (node_form an_attribute) (borrowed_view value.now)) }
 {
-    let operand = expression_member(alloc, numbering, value, "expr");
-    match only(alloc, value, &["k", "expr"], operand) {
-        Ok(operand) => Ok(unplaced(attribute_of(word, operand))),
+    if !wesl_pointer::has_only(value, &["k", "expr"]) {
+        return Err(wrong(alloc));
+    }
+    match expression_member(alloc, numbering, value, "expr") {
+        Ok(operand) => Ok(placed_nowhere(attribute_of(word, operand))),
         Err(error) => Err(error),
     }
 }
@@ -173,14 +186,17 @@ fn read_workgroup_size(
     ensures ok { IfOk result (λ e. Reads (node_form an_attribute) (borrowed_view value.now) (placed attribute_view attribute_node e) numbering.old numbering.new) }
     ensures place { IfErr result (Locates (node_form an_attribute) (borrowed_view value.now)) }
 {
-    let x = expression_member(alloc, numbering, value, "x");
-    let y = optional_expression(alloc, numbering, value, "y");
-    let z = optional_expression(alloc, numbering, value, "z");
-    match only(alloc, value, &["k", "x", "y", "z"], both(x, both(y, z))) {
-        Ok((x, others)) => {
-            let (y, z) = others;
-            Ok(unplaced(Attribute::WorkgroupSize { x, y, z }))
-        }
+    if !wesl_pointer::has_only(value, &["k", "x", "y", "z"]) {
+        return Err(wrong(alloc));
+    }
+    match expression_member(alloc, numbering, value, "x") {
+        Ok(x) => match optional_expression(alloc, numbering, value, "y") {
+            Ok(y) => match optional_expression(alloc, numbering, value, "z") {
+                Ok(z) => Ok(placed_nowhere(Attribute::WorkgroupSize { x, y, z })),
+                Err(error) => Err(error),
+            },
+            Err(error) => Err(error),
+        },
         Err(error) => Err(error),
     }
 }
@@ -190,9 +206,11 @@ fn read_builtin(alloc: Global, value: &BorrowedValue<'_>) -> Result<AttributeNod
     ensures ok { IfOk result (λ e. (names : List (List ℕ)) → Reads (node_form an_attribute) (borrowed_view value.now) (placed attribute_view attribute_node e) names names) }
     ensures place { IfErr result (Locates (node_form an_attribute) (borrowed_view value.now)) }
 {
-    let name = own_name(alloc, value, "name");
-    match only(alloc, value, &["k", "name"], name) {
-        Ok(name) => Ok(unplaced(Attribute::Builtin(name))),
+    if !wesl_pointer::has_only(value, &["k", "name"]) {
+        return Err(wrong(alloc));
+    }
+    match own_name(alloc, value, "name") {
+        Ok(name) => Ok(placed_nowhere(Attribute::Builtin(name))),
         Err(error) => Err(error),
     }
 }
@@ -202,15 +220,14 @@ fn read_diagnostic(alloc: Global, value: &BorrowedValue<'_>) -> Result<Attribute
     ensures ok { IfOk result (λ e. (names : List (List ℕ)) → Reads (node_form an_attribute) (borrowed_view value.now) (placed attribute_view attribute_node e) names names) }
     ensures place { IfErr result (Locates (node_form an_attribute) (borrowed_view value.now)) }
 {
-    let severity = own_text(alloc, value, "severity");
-    let rule = own_text(alloc, value, "rule");
-    match only(
-        alloc,
-        value,
-        &["k", "severity", "rule"],
-        both(severity, rule),
-    ) {
-        Ok((severity, rule)) => Ok(unplaced(Attribute::Diagnostic { severity, rule })),
+    if !wesl_pointer::has_only(value, &["k", "severity", "rule"]) {
+        return Err(wrong(alloc));
+    }
+    match own_text(alloc, value, "severity") {
+        Ok(severity) => match own_text(alloc, value, "rule") {
+            Ok(rule) => Ok(placed_nowhere(Attribute::Diagnostic { severity, rule })),
+            Err(error) => Err(error),
+        },
         Err(error) => Err(error),
     }
 }
@@ -224,10 +241,14 @@ fn read_custom(
     ensures ok { IfOk result (λ e. Reads (node_form an_attribute) (borrowed_view value.now) (placed attribute_view attribute_node e) numbering.old numbering.new) }
     ensures place { IfErr result (Locates (node_form an_attribute) (borrowed_view value.now)) }
 {
-    let name = own_name(alloc, value, "name");
-    let arguments = optional_expressions(alloc, numbering, value, "args");
-    match only(alloc, value, &["k", "name", "args"], both(name, arguments)) {
-        Ok((name, arguments)) => Ok(unplaced(Attribute::Custom { name, arguments })),
+    if !wesl_pointer::has_only(value, &["k", "name", "args"]) {
+        return Err(wrong(alloc));
+    }
+    match own_name(alloc, value, "name") {
+        Ok(name) => match optional_expressions(alloc, numbering, value, "args") {
+            Ok(arguments) => Ok(placed_nowhere(Attribute::Custom { name, arguments })),
+            Err(error) => Err(error),
+        },
         Err(error) => Err(error),
     }
 }
@@ -237,9 +258,11 @@ fn read_interpolate(alloc: Global, value: &BorrowedValue<'_>) -> Result<Attribut
     ensures ok { IfOk result (λ e. (names : List (List ℕ)) → Reads (node_form an_attribute) (borrowed_view value.now) (placed attribute_view attribute_node e) names names) }
     ensures place { IfErr result (Locates (node_form an_attribute) (borrowed_view value.now)) }
 {
-    let names = names_member(alloc, value, "names");
-    match only(alloc, value, &["k", "names"], names) {
-        Ok(names) => Ok(unplaced(Attribute::Interpolate(names))),
+    if !wesl_pointer::has_only(value, &["k", "names"]) {
+        return Err(wrong(alloc));
+    }
+    match names_member(alloc, value, "names") {
+        Ok(names) => Ok(placed_nowhere(Attribute::Interpolate(names))),
         Err(error) => Err(error),
     }
 }

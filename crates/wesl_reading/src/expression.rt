@@ -1,4 +1,5 @@
 //! Reading expressions and types.
+ghost use Rattle.std.specs.Box.{box_value};
 ghost use Rattle.std.specs.Prelude.{◌≡◌, ◌∷◌, List, [], ℕ, Some, None, Ok, Err, IfOk, IfErr, codes, is_some, true};
 ghost use Rattle.serde_json.specs.Find.{as_object, get};
 ghost use Rattle.wesl_borrowed.specs.View.{borrowed_view};
@@ -14,7 +15,7 @@ ghost use Rattle.wesl_reading.specs.Forms.{HasExpressionWord, HasWord};
 ghost use Rattle.wesl_reading.specs.Numbers.{IsNumbered, Reads, ReadsMany, ReadsMay, ReadsNeeded, ReadsPlain, ReadsType};
 
 use crate::fields::{name_member, name_of, own_literal, own_name, path_of, under, wrong};
-use crate::joined::{both, boxed, only, room, with_item};
+use crate::joined::{boxed, room, with_item};
 use crate::numbering::Numbering;
 use crate::words::{
     ExpressionWord, binary_operator_member, expression_word, unary_operator_member,
@@ -36,6 +37,17 @@ pub fn unplaced<T>(node: T) -> Spanned<T>
     }
 }
 
+// An expression that stands in no source text.
+fn placed_nowhere(expression: Expression) -> ExpressionNode
+    ensures { result ≡ record { node = expression; span = record { start = 0; end = 0 } } }
+{
+    let span = Span { start: 0, end: 0 };
+    Spanned {
+        node: expression,
+        span,
+    }
+}
+
 /// The expression that a value is: a truth value, an object, or the name of a type or an identifier.
 #[cycle(expressions)]
 pub fn read_expression(
@@ -47,13 +59,13 @@ pub fn read_expression(
     ensures place { IfErr result (Locates (node_form an_expression) (borrowed_view value.now)) }
 {
     if let Some(truth) = value.as_bool() {
-        return Ok(unplaced(Expression::Literal(Literal::Bool(truth))));
+        return Ok(placed_nowhere(Expression::Literal(Literal::Bool(truth))));
     }
     if value.is_object() {
         return read_expression_object(alloc, numbering, value);
     }
     match read_plain_type(alloc, numbering, value) {
-        Ok(ty) => Ok(unplaced(Expression::TypeOrIdentifier(ty))),
+        Ok(ty) => Ok(placed_nowhere(Expression::TypeOrIdentifier(ty))),
         Err(error) => Err(error),
     }
 }
@@ -104,9 +116,11 @@ fn read_literal(alloc: Global, value: &BorrowedValue<'_>) -> Result<ExpressionNo
     ensures ok { IfOk result (λ e. (names : List (List ℕ)) → Reads (node_form an_expression) (borrowed_view value.now) (expression_tree e) names names) }
     ensures place { IfErr result (Locates (node_form an_expression) (borrowed_view value.now)) }
 {
-    let text = own_literal(alloc, value, "text");
-    match only(alloc, value, &["k", "text"], text) {
-        Ok(text) => Ok(unplaced(Expression::Literal(Literal::Text(text)))),
+    if !wesl_pointer::has_only(value, &["k", "text"]) {
+        return Err(wrong(alloc));
+    }
+    match own_literal(alloc, value, "text") {
+        Ok(text) => Ok(placed_nowhere(Expression::Literal(Literal::Text(text)))),
         Err(error) => Err(error),
     }
 }
@@ -121,9 +135,11 @@ fn read_parenthesized(
     ensures ok { IfOk result (λ e. Reads (node_form an_expression) (borrowed_view value.now) (expression_tree e) numbering.old numbering.new) }
     ensures place { IfErr result (Locates (node_form an_expression) (borrowed_view value.now)) }
 {
-    let expression = boxed(alloc, expression_member(alloc, numbering, value, "expr"));
-    match only(alloc, value, &["k", "expr"], expression) {
-        Ok(expression) => Ok(unplaced(Expression::Parenthesized { expression })),
+    if !wesl_pointer::has_only(value, &["k", "expr"]) {
+        return Err(wrong(alloc));
+    }
+    match boxed_member(alloc, numbering, value, "expr") {
+        Ok(expression) => Ok(placed_nowhere(Expression::Parenthesized { expression })),
         Err(error) => Err(error),
     }
 }
@@ -138,10 +154,14 @@ fn read_component(
     ensures ok { IfOk result (λ e. Reads (node_form an_expression) (borrowed_view value.now) (expression_tree e) numbering.old numbering.new) }
     ensures place { IfErr result (Locates (node_form an_expression) (borrowed_view value.now)) }
 {
-    let base = boxed(alloc, expression_member(alloc, numbering, value, "base"));
-    let component = own_name(alloc, value, "name");
-    match only(alloc, value, &["k", "base", "name"], both(base, component)) {
-        Ok((base, component)) => Ok(unplaced(Expression::NamedComponent { base, component })),
+    if !wesl_pointer::has_only(value, &["k", "base", "name"]) {
+        return Err(wrong(alloc));
+    }
+    match boxed_member(alloc, numbering, value, "base") {
+        Ok(base) => match own_name(alloc, value, "name") {
+            Ok(component) => Ok(placed_nowhere(Expression::NamedComponent { base, component })),
+            Err(error) => Err(error),
+        },
         Err(error) => Err(error),
     }
 }
@@ -156,10 +176,14 @@ fn read_indexing(
     ensures ok { IfOk result (λ e. Reads (node_form an_expression) (borrowed_view value.now) (expression_tree e) numbering.old numbering.new) }
     ensures place { IfErr result (Locates (node_form an_expression) (borrowed_view value.now)) }
 {
-    let base = boxed(alloc, expression_member(alloc, numbering, value, "base"));
-    let index = boxed(alloc, expression_member(alloc, numbering, value, "index"));
-    match only(alloc, value, &["k", "base", "index"], both(base, index)) {
-        Ok((base, index)) => Ok(unplaced(Expression::Indexing { base, index })),
+    if !wesl_pointer::has_only(value, &["k", "base", "index"]) {
+        return Err(wrong(alloc));
+    }
+    match boxed_member(alloc, numbering, value, "base") {
+        Ok(base) => match boxed_member(alloc, numbering, value, "index") {
+            Ok(index) => Ok(placed_nowhere(Expression::Indexing { base, index })),
+            Err(error) => Err(error),
+        },
         Err(error) => Err(error),
     }
 }
@@ -174,10 +198,14 @@ fn read_unary(
     ensures ok { IfOk result (λ e. Reads (node_form an_expression) (borrowed_view value.now) (expression_tree e) numbering.old numbering.new) }
     ensures place { IfErr result (Locates (node_form an_expression) (borrowed_view value.now)) }
 {
-    let operator = unary_operator_member(alloc, value);
-    let operand = boxed(alloc, expression_member(alloc, numbering, value, "expr"));
-    match only(alloc, value, &["k", "op", "expr"], both(operator, operand)) {
-        Ok((operator, operand)) => Ok(unplaced(Expression::Unary { operator, operand })),
+    if !wesl_pointer::has_only(value, &["k", "op", "expr"]) {
+        return Err(wrong(alloc));
+    }
+    match unary_operator_member(alloc, value) {
+        Ok(operator) => match boxed_member(alloc, numbering, value, "expr") {
+            Ok(operand) => Ok(placed_nowhere(Expression::Unary { operator, operand })),
+            Err(error) => Err(error),
+        },
         Err(error) => Err(error),
     }
 }
@@ -192,21 +220,21 @@ fn read_binary(
     ensures ok { IfOk result (λ e. Reads (node_form an_expression) (borrowed_view value.now) (expression_tree e) numbering.old numbering.new) }
     ensures place { IfErr result (Locates (node_form an_expression) (borrowed_view value.now)) }
 {
-    let operator = binary_operator_member(alloc, value);
-    let left = boxed(alloc, expression_member(alloc, numbering, value, "left"));
-    let right = boxed(alloc, expression_member(alloc, numbering, value, "right"));
-    let operands = both(left, right);
-    match only(
-        alloc,
-        value,
-        &["k", "op", "left", "right"],
-        both(operator, operands),
-    ) {
-        Ok((operator, (left, right))) => Ok(unplaced(Expression::Binary {
-            operator,
-            left,
-            right,
-        })),
+    if !wesl_pointer::has_only(value, &["k", "op", "left", "right"]) {
+        return Err(wrong(alloc));
+    }
+    match binary_operator_member(alloc, value) {
+        Ok(operator) => match boxed_member(alloc, numbering, value, "left") {
+            Ok(left) => match boxed_member(alloc, numbering, value, "right") {
+                Ok(right) => Ok(placed_nowhere(Expression::Binary {
+                    operator,
+                    left,
+                    right,
+                })),
+                Err(error) => Err(error),
+            },
+            Err(error) => Err(error),
+        },
         Err(error) => Err(error),
     }
 }
@@ -221,12 +249,17 @@ fn read_call_expression(
     ensures ok { IfOk result (λ e. Reads (node_form an_expression) (borrowed_view value.now) (expression_tree e) numbering.old numbering.new) }
     ensures place { IfErr result (Locates (node_form an_expression) (borrowed_view value.now)) }
 {
-    let ty = type_member(alloc, numbering, value, "ty");
-    let arguments = expressions_member(alloc, numbering, value, "args");
-    match only(alloc, value, &["k", "ty", "args"], both(ty, arguments)) {
-        Ok((ty, arguments)) => {
-            Ok(unplaced(Expression::FunctionCall(FunctionCall { ty, arguments })))
-        }
+    if !wesl_pointer::has_only(value, &["k", "ty", "args"]) {
+        return Err(wrong(alloc));
+    }
+    match type_member(alloc, numbering, value, "ty") {
+        Ok(ty) => match expressions_member(alloc, numbering, value, "args") {
+            Ok(arguments) => Ok(placed_nowhere(Expression::FunctionCall(FunctionCall {
+                ty,
+                arguments,
+            }))),
+            Err(error) => Err(error),
+        },
         Err(error) => Err(error),
     }
 }
@@ -243,7 +276,7 @@ fn read_type_or_identifier(
     ensures place { IfErr result (Locates (node_form an_expression) (borrowed_view value.now)) }
 {
     match read_type_object(alloc, numbering, value) {
-        Ok(ty) => Ok(unplaced(Expression::TypeOrIdentifier(ty))),
+        Ok(ty) => Ok(placed_nowhere(Expression::TypeOrIdentifier(ty))),
         Err(error) => Err(error),
     }
 }
@@ -266,6 +299,20 @@ pub fn expression_member(
         Ok(expression) => Ok(expression),
         Err(error) => Err(under(alloc, error, key)),
     }
+}
+
+// The expression at `key`, which must be there, in a box.
+#[cycle(expressions)]
+fn boxed_member(
+    alloc: Global,
+    numbering: &mut Numbering,
+    value: &BorrowedValue<'_>,
+    key: &str,
+) -> Result<Box<ExpressionNode>, Error>
+    ensures ok { IfOk result (λ e. ReadsNeeded key.now (node_form an_expression) (borrowed_view value.now) (expression_tree (box_value e)) numbering.old numbering.new) }
+    ensures place { IfErr result (LocatesMember key.now (node_form an_expression) (borrowed_view value.now)) }
+{
+    boxed(alloc, expression_member(alloc, numbering, value, key))
 }
 
 /// The expressions at `key`, a list.
@@ -389,19 +436,21 @@ fn read_type_object(
     ensures ok { IfOk result (λ e. ReadsType (borrowed_view value.now) (type_view e) numbering.old numbering.new) }
     ensures place { IfErr result (LocatesRow type_row (borrowed_view value.now)) }
 {
-    let path = optional_path(alloc, value);
-    let ident = reference_member(alloc, numbering, value);
-    let template_args = arguments_member(alloc, numbering, value);
-    let parts = both(path, both(ident, template_args));
-    match only(alloc, value, &["path", "name", "args"], parts) {
-        Ok((path, others)) => {
-            let (ident, template_args) = others;
-            Ok(TypeExpression {
-                path,
-                ident,
-                template_args,
-            })
-        }
+    if !wesl_pointer::has_only(value, &["path", "name", "args"]) {
+        return Err(wrong(alloc));
+    }
+    match optional_path(alloc, value) {
+        Ok(path) => match reference_member(alloc, numbering, value) {
+            Ok(ident) => match arguments_member(alloc, numbering, value) {
+                Ok(template_args) => Ok(TypeExpression {
+                    path,
+                    ident,
+                    template_args,
+                }),
+                Err(error) => Err(error),
+            },
+            Err(error) => Err(error),
+        },
         Err(error) => Err(error),
     }
 }
@@ -493,10 +542,14 @@ pub fn read_call(
     ensures ok { IfOk result (λ e. Reads (node_form a_call) (borrowed_view value.now) (call_view e) numbering.old numbering.new) }
     ensures place { IfErr result (Locates (node_form a_call) (borrowed_view value.now)) }
 {
-    let ty = type_member(alloc, numbering, value, "ty");
-    let arguments = expressions_member(alloc, numbering, value, "args");
-    match only(alloc, value, &["ty", "args"], both(ty, arguments)) {
-        Ok((ty, arguments)) => Ok(FunctionCall { ty, arguments }),
+    if !wesl_pointer::has_only(value, &["ty", "args"]) {
+        return Err(wrong(alloc));
+    }
+    match type_member(alloc, numbering, value, "ty") {
+        Ok(ty) => match expressions_member(alloc, numbering, value, "args") {
+            Ok(arguments) => Ok(FunctionCall { ty, arguments }),
+            Err(error) => Err(error),
+        },
         Err(error) => Err(error),
     }
 }

@@ -135,8 +135,8 @@ pub fn literal_member<'a>(
     }
 }
 
-// The path that a text says.
-pub fn path_of(alloc: Global, value: &BorrowedValue<'_>) -> Result<ModulePath, Error>
+/// The path that a text says.
+pub(crate) fn path_of(alloc: Global, value: &BorrowedValue<'_>) -> Result<ModulePath, Error>
     ensures ok { IfOk result (λ p. path_in (borrowed_view value.now) ≡ Some (path_view p)) }
     ensures place { IfErr result (LocatesHere (path_in (borrowed_view value.now))) }
 {

@@ -1,63 +1,14 @@
-//! Parts that are read, put together: all of them, or the first fault.
+//! What is read of items and put into lists, and what is read and put into a box.
 //!
-//! What is read of each part is handed on as it is, a fault too, so that a node has one place where it asks for faults.
-ghost use Rattle.std.specs.Prelude.{◌≡◌, [], Ok, IfOk, IfErr, OnOk, map, true};
+//! What is read is handed on as it is, a fault too, so that a list has one place where it asks for faults.
+ghost use Rattle.std.specs.Prelude.{◌≡◌, [], Ok, IfOk, IfErr};
 ghost use Rattle.std.specs.Box.{box_value};
-ghost use Rattle.wesl_borrowed.specs.View.{borrowed_view};
 ghost use Rattle.wesl_names.specs.declared.errors.Error as error;
-ghost use Rattle.wesl_pointer.specs.Keys.{has_only};
-ghost use Rattle.wesl_reading.specs.Parts.{IsEither, IsFaultAt, IsFaultUnder, IsItemFault, IsKeyOr, IsMemoryOr, IsWithItem};
+ghost use Rattle.wesl_reading.specs.Parts.{IsFaultAt, IsItemFault, IsMemoryOr, IsWithItem};
 
-use crate::fields::{under, under_index, wrong};
+use crate::fields::under_index;
 use std::alloc::Global;
-use wesl_borrowed::BorrowedValue;
 use wesl_names::Error;
-
-/// Both parts.
-pub fn both<A: Drop, B: Drop>(
-    first: Result<A, Error>,
-    second: Result<B, Error>,
-) -> Result<(A, B), Error>
-    ensures ok { IfOk result (λ parts. (first ≡ Ok parts.0) × (second ≡ Ok parts.1)) }
-    ensures place { IfErr result (IsEither first second) }
-{
-    match first {
-        Ok(first) => match second {
-            Ok(second) => Ok((first, second)),
-            Err(error) => Err(error),
-        },
-        Err(error) => Err(error),
-    }
-}
-
-/// What is read of an object, if it has no keys but these.
-pub fn only<T: Drop>(
-    alloc: Global,
-    value: &BorrowedValue<'_>,
-    known: &[&str],
-    read: Result<T, Error>,
-) -> Result<T, Error>
-    ensures ok { IfOk result (λ x. read ≡ Ok x) }
-    ensures keys { OnOk result (has_only (map (λ k. k.now) known.now) (borrowed_view value.now) ≡ true) }
-    ensures place { IfErr result (IsKeyOr (has_only (map (λ k. k.now) known.now) (borrowed_view value.now)) read) }
-{
-    if wesl_pointer::has_only(value, known) {
-        read
-    } else {
-        Err(wrong(alloc))
-    }
-}
-
-/// What is read of the member `key`, with its fault told of the object.
-pub fn inside<T: Drop>(alloc: Global, key: &str, read: Result<T, Error>) -> Result<T, Error>
-    ensures ok { IfOk result (λ x. read ≡ Ok x) }
-    ensures place { IfErr result (IsFaultUnder key.now read) }
-{
-    match read {
-        Ok(part) => Ok(part),
-        Err(error) => Err(under(alloc, error, key)),
-    }
-}
 
 /// What is read of the item at `index`, with its fault told of the list.
 fn inside_index<T: Drop>(alloc: Global, index: usize, read: Result<T, Error>) -> Result<T, Error>
@@ -105,11 +56,17 @@ pub fn with_item<T: Drop>(
     ensures ok { IfOk result (IsWithItem list item) }
     ensures place { IfErr result (IsItemFault index list item) }
 {
-    match both(list, inside_index(alloc, index, item)) {
-        Ok((mut list, item)) => match list.push(item) {
-            Ok(()) => Ok(list),
-            Err(_) => Err(Error::Memory),
+    match list {
+        Ok(mut list) => match inside_index(alloc, index, item) {
+            Ok(item) => match list.push(item) {
+                Ok(()) => Ok(list),
+                Err(_) => Err(Error::Memory),
+            },
+            Err(error) => Err(error),
         },
-        Err(error) => Err(error),
+        Err(error) => {
+            let _ = item.ok();
+            Err(error)
+        }
     }
 }

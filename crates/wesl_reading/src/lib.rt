@@ -18,6 +18,6 @@ pub use expression::{
 pub use fields::{
     check_keys, name_member, name_of, path_member, required, text_member, under, under_index, wrong,
 };
-pub use joined::{both, boxed, inside, only, room, with_item};
+pub use joined::{boxed, room, with_item};
 pub use names::names_member;
 pub use numbering::Numbering;

@@ -1,6 +1,6 @@
--- What is left to show where a `?` ends a function, where a list begins, and where a function of the cycle calls another.
-use Rattle.std.proofs.Common.{◌≡◌, ℕ, ◌+◌, ◌*◌, ◌<◌, List, [], Result, Ok, Err, Vec, Global, map, sym, subst, refl, arith}
-use Rattle.std.specs.Prelude.{IfOk, IfErr, IsErrAnd, ltb, true, None}
+-- What is left to show where a list begins, and where a function of the cycle calls another.
+use Rattle.std.proofs.Common.{◌≡◌, ℕ, ◌+◌, ◌*◌, ◌<◌, List, [], Result, Vec, Global, map, sym, subst, refl, arith}
+use Rattle.std.specs.Prelude.{IfOk, IfErr, ltb, true, None}
 use borrow.Author.Tests.{ltb-true}
 use Rattle.serde_json.specs.Data.{Data}
 use Rattle.serde_json.specs.Find.{as_array, get}
@@ -18,15 +18,6 @@ use Rattle.wesl_reading_statements.specs.declared.words.StatementWord.{Statement
 use Rattle.wesl_syntax.specs.declared.statement.Statement.{Statement}
 use Rattle.wesl_syntax.specs.Tree.{Kind, Tree, branch}
 use Rattle.wesl_syntax.specs.View.{listed, statement_view}
-
--- the error that a `?` returns
-pub exit : {T E : Type 0} (P : E → Type 0) (r : Result T E) (e : E) → IsErrAnd r (λ y. y ≡ e) → P e → IfErr r P
-exit P (Ok x) e is h = tt
-exit P (Err y) e is h = subst P (sym is) h
-
-pub no_value : {T E : Type 0} (P : T → Type 0) (Q : E → Type 0) (r : Result T E) → IsErrAnd r Q → IfOk r P
-no_value P Q (Ok x) is = absurd is
-no_value P Q (Err y) is = tt
 
 -- the measure of a call on the same value, and on a member of it
 pub to_next : (n k j t : ℕ) → 10 * n + j ≡ t → ltb k j ≡ true → 10 * n + k < t

@@ -1,4 +1,3 @@
-pub mod Several
 pub mod Named
 pub mod Worded
 pub mod Exits

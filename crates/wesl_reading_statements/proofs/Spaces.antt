@@ -1,15 +1,18 @@
--- The members of a variable with an address space, and without one.
-use Rattle.std.proofs.Common.{◌≡◌, List, [], ◌∷◌, ◌++◌, Bool, true, false, if◌then◌else◌, Option, Some, None, option_map, codes, refl, ap}
+-- The members of a variable with an address space, and without one, and those of every declaration.
+use Rattle.std.proofs.Common.{◌≡◌, List, [], ◌∷◌, ◌++◌, Bool, true, false, if◌then◌else◌, Option, Some, None, option_map, codes, refl, ap, inl, inr}
 use Rattle.std.specs.Option.{is_some}
 use Rattle.serde_json.specs.Data.{Data}
 use Rattle.serde_json.specs.Find.{get}
 use Rattle.wesl_names.specs.Path.{Text}
+use Rattle.wesl_names.specs.declared.errors.Error as error
 use Rattle.wesl_syntax.specs.Tree.{kind, binder, attributes, present}
 use Rattle.wesl_form.specs.Schema.{SpelledLabel, leaf, list_of, node, one_of, an_attribute, an_expression, a_text, a_type, an_ident, Row, may, nothing}
 use Rattle.wesl_form.specs.Words.{access_words, space_words}
 use Rattle.wesl_form.specs.Reading.{known_keys}
-use Rattle.wesl_form.specs.Place.{Field, field, fields}
-use Rattle.wesl_reading_statements.specs.Forms.{declared_worded}
+use Rattle.wesl_form.specs.Place.{Field, field, fields, find_field}
+use Rattle.wesl_reading.specs.Faults.{LocatesRow}
+use Rattle.wesl_reading.proofs.Places.{row-inside, row-member}
+use Rattle.wesl_reading_statements.specs.Forms.{LocatesTyped, declared_worded}
 use Rattle.wesl_reading_statements.specs.declared.words.DeclaredWord.TheVariants as declareds
 
 abbrev pub access_row : Row
@@ -47,3 +50,9 @@ var-fields d h = ap (λ o. var_fields (is_some o)) h
 
 pub space-fields : (d : Data) → is_some (get (codes "space") d) ≡ true → fields (declared_worded declareds.Var) d ≡ var_fields true
 space-fields d h = ap var_fields h
+
+-- a broken name, type or initial value is a broken member of the row
+pub typed-place : (row : Row) (d : Data) (e : error.Error) → find_field (codes "name") (fields row d) ≡ Some (field (codes "name") true (leaf (an_ident binder))) → find_field (codes "ty") (fields row d) ≡ Some (field (codes "ty") false (node a_type)) → find_field (codes "init") (fields row d) ≡ Some (field (codes "init") false (node an_expression)) → LocatesTyped d e → LocatesRow row d e
+typed-place row d e name ty init (inl h) = row-member row (codes "name") (leaf (an_ident binder)) d e name h
+typed-place row d e name ty init (inr (inl h)) = row-inside row (codes "ty") false (node a_type) d e ty h
+typed-place row d e name ty init (inr (inr h)) = row-inside row (codes "init") false (node an_expression) d e init h

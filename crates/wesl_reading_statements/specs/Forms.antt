@@ -1,15 +1,17 @@
 -- What is read of an object by the word at `k`.
-use Rattle.std.specs.Prelude.{◌≡◌, List, Bool, true, false, Some, None, codes, option_and_then}
+use Rattle.std.specs.Prelude.{◌≡◌, ◌⊎◌, List, Bool, true, false, Some, None, codes, option_and_then}
 use Rattle.std.specs.Str.{bytes_eq}
 use Rattle.serde_json.specs.Data.{Data}
 use Rattle.serde_json.specs.Find.{get, as_str}
 use Rattle.wesl_names.specs.Path.{Text}
-use Rattle.wesl_syntax.specs.Tree.{Kind, kind, Tree, before, end, list, attributes, clauses, statement_node, compound_statement, compound, increment, decrement, if_statement, if_clause, switch, loop, for_loop, while_loop, break, continue, return, discard, call_statement, declaration, const_assert, void, const_kind, override_kind, let_kind, var_kind}
-use Rattle.wesl_form.specs.Schema.{Head, fixed, chosen, Row, nothing, marked, needs, may, many, inner, Node, node, list_of, a_body, a_call, a_clause, a_continuing, an_elif, an_else, a_statement, an_attribute}
+use Rattle.wesl_names.specs.declared.errors.Error as error
+use Rattle.wesl_syntax.specs.Tree.{Kind, binder, kind, Tree, before, end, list, attributes, clauses, statement_node, compound_statement, compound, increment, decrement, if_statement, if_clause, switch, loop, for_loop, while_loop, break, continue, return, discard, call_statement, declaration, const_assert, void, const_kind, override_kind, let_kind, var_kind}
+use Rattle.wesl_form.specs.Schema.{Head, fixed, chosen, Row, nothing, marked, needs, may, many, inner, Node, leaf, node, list_of, an_ident, a_type, a_body, a_call, a_clause, a_continuing, an_elif, an_else, a_statement, an_attribute}
 use Rattle.wesl_form.specs.Words.{assignment_words}
 use Rattle.wesl_form.specs.Nodes.{expression, one_expression, operand, attrs, body_row, condition_row, declared, space_row}
 use Rattle.wesl_form.specs.Reading.{known_keys}
 use Rattle.wesl_pointer.specs.Keys.{has_only}
+use Rattle.wesl_reading.specs.Faults.{LocatesInside, LocatesMember}
 use Rattle.wesl_reading.specs.Forms.{worded_node}
 use Rattle.wesl_reading.specs.Numbers.{ReadsRows}
 use Rattle.wesl_reading_statements.specs.declared.words.ValueWord.{ValueWord}
@@ -57,6 +59,14 @@ declared_row (declareds.Value w) = declared (value_kind w) nothing
 declared_row declareds.Var = declared var_kind space_row
 declared_row declareds.Assert = attrs operand
 declared_row declareds.Void = nothing
+
+-- the members of a declaration after its attributes and its address space
+abbrev pub typed_members : Row
+typed_members = needs (codes "name") (leaf (an_ident binder)) (may (codes "ty") (node a_type) (may (codes "init") expression nothing))
+
+-- its name lacks or is broken, or its type, or its initial value
+abbrev pub LocatesTyped : Data → error.Error → Type 0
+LocatesTyped d e = LocatesMember (codes "name") (leaf (an_ident binder)) d e ⊎ LocatesInside (codes "ty") (node a_type) d e ⊎ LocatesInside (codes "init") expression d e
 
 abbrev pub declared_of : Kind → DeclaredWord → Node
 declared_of outer w = worded_node outer (declared_text w) (fixed (kind (declared_kind w))) (declared_row w)

@@ -1,3 +1,2 @@
 pub mod Forms
 pub mod Views
-pub mod Several

@@ -8,22 +8,24 @@ ghost use Rattle.wesl_syntax.specs.View.{access_tree, kind_tree, optional as opt
 ghost use Rattle.wesl_form.specs.Schema.{leaf, one_of};
 ghost use Rattle.wesl_form.specs.Words.{access_words};
 ghost use Rattle.wesl_reading.specs.Faults.{LocatesInside, LocatesRow};
-ghost use Rattle.wesl_reading.specs.Numbers.{ReadsMay};
+ghost use Rattle.wesl_reading.specs.Numbers.{ReadsMay, ReadsRows};
 ghost use Rattle.wesl_reading_statements.specs.declared.words.DeclaredWord.TheVariants as declareds;
-ghost use Rattle.wesl_reading_statements.specs.Forms.{ReadsDeclared, declared_worded, value_kind};
-ghost use Rattle.wesl_reading_statements.specs.Views.{declared_view};
+ghost use Rattle.wesl_reading_statements.specs.Forms.{LocatesTyped, ReadsDeclared, declared_worded, typed_members, value_kind};
+ghost use Rattle.wesl_reading_statements.specs.Views.{declared_view, typed_forest};
 
-use crate::joined::{four, six};
 use crate::parts::binder_member;
 use crate::words::{DeclaredWord, ValueWord, access_mode_of, space_member};
 use std::alloc::Global;
 use wesl_borrowed::BorrowedValue;
-use wesl_names::Error;
+use wesl_names::{Error, Ident};
 use wesl_reading::{
-    Numbering, attributes_member, both, check_keys, expression_member, only, optional_expression,
-    optional_type, under,
+    Numbering, attributes_member, expression_member, optional_expression, optional_type, under,
+    wrong,
 };
-use wesl_syntax::{AccessMode, ConstAssert, Declaration, DeclarationKind, Statement};
+use wesl_syntax::{
+    AccessMode, ConstAssert, Declaration, DeclarationKind, ExpressionNode, Statement,
+    TypeExpression,
+};
 
 /// What stands in modules and in functions.
 #[derive(Drop)]
@@ -75,7 +77,9 @@ fn read_void(alloc: Global, value: &BorrowedValue<'_>) -> Result<Declared, Error
     ensures ok { IfOk result (λ e. (names : List (List ℕ)) → ReadsDeclared declareds.Void (borrowed_view value.now) (declared_view e) names names) }
     ensures place { IfErr result (LocatesRow (declared_worded declareds.Void) (borrowed_view value.now)) }
 {
-    check_keys(alloc, value, &["k"])?;
+    if !wesl_pointer::has_only(value, &["k"]) {
+        return Err(wrong(alloc));
+    }
     Ok(Declared::Void)
 }
 
@@ -89,6 +93,27 @@ fn kind_of(word: ValueWord) -> DeclarationKind
     }
 }
 
+// The name, the type and the initial value of a declaration.
+fn typed_parts(
+    alloc: Global,
+    numbering: &mut Numbering,
+    value: &BorrowedValue<'_>,
+) -> Result<(Ident, Option<TypeExpression>, Option<ExpressionNode>), Error>
+    ensures ok { IfOk result (λ parts. ReadsRows typed_members (borrowed_view value.now) (typed_forest parts.0 parts.1 parts.2) numbering.old numbering.new) }
+    ensures place { IfErr result (LocatesTyped (borrowed_view value.now)) }
+{
+    match binder_member(alloc, numbering, value) {
+        Ok(ident) => match optional_type(alloc, numbering, value, "ty") {
+            Ok(ty) => match optional_expression(alloc, numbering, value, "init") {
+                Ok(initializer) => Ok((ident, ty, initializer)),
+                Err(error) => Err(error),
+            },
+            Err(error) => Err(error),
+        },
+        Err(error) => Err(error),
+    }
+}
+
 fn read_value(
     alloc: Global,
     numbering: &mut Numbering,
@@ -98,19 +123,20 @@ fn read_value(
     ensures ok { IfOk result (λ e. ReadsDeclared (declareds.Value word) (borrowed_view value.now) (declared_view e) numbering.old numbering.new) }
     ensures place { IfErr result (LocatesRow (declared_worded (declareds.Value word)) (borrowed_view value.now)) }
 {
-    let attributes = attributes_member(alloc, numbering, value, "attrs");
-    let ident = binder_member(alloc, numbering, value);
-    let ty = optional_type(alloc, numbering, value, "ty");
-    let initializer = optional_expression(alloc, numbering, value, "init");
-    let parts = four(attributes, ident, ty, initializer);
-    match only(alloc, value, &["k", "attrs", "name", "ty", "init"], parts) {
-        Ok((attributes, ident, ty, initializer)) => Ok(Declared::Declaration(Declaration {
-            attributes,
-            kind: kind_of(word),
-            ident,
-            ty,
-            initializer,
-        })),
+    if !wesl_pointer::has_only(value, &["k", "attrs", "name", "ty", "init"]) {
+        return Err(wrong(alloc));
+    }
+    match attributes_member(alloc, numbering, value, "attrs") {
+        Ok(attributes) => match typed_parts(alloc, numbering, value) {
+            Ok((ident, ty, initializer)) => Ok(Declared::Declaration(Declaration {
+                attributes,
+                kind: kind_of(word),
+                ident,
+                ty,
+                initializer,
+            })),
+            Err(error) => Err(error),
+        },
         Err(error) => Err(error),
     }
 }
@@ -125,19 +151,20 @@ fn read_var(
     ensures ok { IfOk result (λ e. ReadsDeclared declareds.Var (borrowed_view value.now) (declared_view e) numbering.old numbering.new) }
     ensures place { IfErr result (LocatesRow (declared_worded declareds.Var) (borrowed_view value.now)) }
 {
-    let attributes = attributes_member(alloc, numbering, value, "attrs");
-    let ident = binder_member(alloc, numbering, value);
-    let ty = optional_type(alloc, numbering, value, "ty");
-    let initializer = optional_expression(alloc, numbering, value, "init");
-    let parts = four(attributes, ident, ty, initializer);
-    match only(alloc, value, &["k", "attrs", "name", "ty", "init"], parts) {
-        Ok((attributes, ident, ty, initializer)) => Ok(Declared::Declaration(Declaration {
-            attributes,
-            kind: DeclarationKind::Var(None),
-            ident,
-            ty,
-            initializer,
-        })),
+    if !wesl_pointer::has_only(value, &["k", "attrs", "name", "ty", "init"]) {
+        return Err(wrong(alloc));
+    }
+    match attributes_member(alloc, numbering, value, "attrs") {
+        Ok(attributes) => match typed_parts(alloc, numbering, value) {
+            Ok((ident, ty, initializer)) => Ok(Declared::Declaration(Declaration {
+                attributes,
+                kind: DeclarationKind::Var(None),
+                ident,
+                ty,
+                initializer,
+            })),
+            Err(error) => Err(error),
+        },
         Err(error) => Err(error),
     }
 }
@@ -152,28 +179,29 @@ fn read_var_in_space(
     ensures ok { IfOk result (λ e. ReadsDeclared declareds.Var (borrowed_view value.now) (declared_view e) numbering.old numbering.new) }
     ensures place { IfErr result (LocatesRow (declared_worded declareds.Var) (borrowed_view value.now)) }
 {
-    let attributes = attributes_member(alloc, numbering, value, "attrs");
-    let space = space_member(alloc, value);
-    let access = optional_access(alloc, value);
-    let ident = binder_member(alloc, numbering, value);
-    let ty = optional_type(alloc, numbering, value, "ty");
-    let initializer = optional_expression(alloc, numbering, value, "init");
-    let parts = six(attributes, space, access, ident, ty, initializer);
-    match only(
-        alloc,
+    if !wesl_pointer::has_only(
         value,
         &["k", "attrs", "space", "access", "name", "ty", "init"],
-        parts,
     ) {
-        Ok((attributes, space, access, ident, ty, initializer)) => Ok(Declared::Declaration(
-            Declaration {
-                attributes,
-                kind: DeclarationKind::Var(Some((space, access))),
-                ident,
-                ty,
-                initializer,
+        return Err(wrong(alloc));
+    }
+    match attributes_member(alloc, numbering, value, "attrs") {
+        Ok(attributes) => match space_member(alloc, value) {
+            Ok(space) => match optional_access(alloc, value) {
+                Ok(access) => match typed_parts(alloc, numbering, value) {
+                    Ok((ident, ty, initializer)) => Ok(Declared::Declaration(Declaration {
+                        attributes,
+                        kind: DeclarationKind::Var(Some((space, access))),
+                        ident,
+                        ty,
+                        initializer,
+                    })),
+                    Err(error) => Err(error),
+                },
+                Err(error) => Err(error),
             },
-        )),
+            Err(error) => Err(error),
+        },
         Err(error) => Err(error),
     }
 }
@@ -200,14 +228,17 @@ fn read_assert(
     ensures ok { IfOk result (λ e. ReadsDeclared declareds.Assert (borrowed_view value.now) (declared_view e) numbering.old numbering.new) }
     ensures place { IfErr result (LocatesRow (declared_worded declareds.Assert) (borrowed_view value.now)) }
 {
-    let attributes = attributes_member(alloc, numbering, value, "attrs");
-    let expression = expression_member(alloc, numbering, value, "expr");
-    let parts = both(attributes, expression);
-    match only(alloc, value, &["k", "attrs", "expr"], parts) {
-        Ok((attributes, expression)) => Ok(Declared::Assert(ConstAssert {
-            attributes,
-            expression,
-        })),
+    if !wesl_pointer::has_only(value, &["k", "attrs", "expr"]) {
+        return Err(wrong(alloc));
+    }
+    match attributes_member(alloc, numbering, value, "attrs") {
+        Ok(attributes) => match expression_member(alloc, numbering, value, "expr") {
+            Ok(expression) => Ok(Declared::Assert(ConstAssert {
+                attributes,
+                expression,
+            })),
+            Err(error) => Err(error),
+        },
         Err(error) => Err(error),
     }
 }

@@ -2,7 +2,6 @@
 #![tactic(auto)]
 
 mod declared;
-mod joined;
 mod parts;
 mod selector;
 mod simple;
@@ -10,7 +9,6 @@ mod statement;
 mod words;
 
 pub use declared::{Declared, read_declared};
-pub use joined::{five, four, six, three};
 pub use parts::{binder_member, plain_name_member, plain_text_member};
 pub use statement::body_member;
 pub use words::{DeclaredWord, ValueWord, declared_word};

@@ -37,9 +37,13 @@ pub fn plain_name_member(
     ensures ok { IfOk result (λ e. (names : List (List ℕ)) → ReadsNeeded key.now (leaf a_name) (borrowed_view value.now) (text_tree e) names names) }
     ensures place { IfErr result (LocatesMember key.now (leaf a_name) (borrowed_view value.now)) }
 {
-    let name = name_member(alloc, value, key)?;
-    let text = String::from_str(alloc, name)?;
-    Ok(text)
+    match name_member(alloc, value, key) {
+        Ok(name) => match String::from_str(alloc, name) {
+            Ok(own) => Ok(own),
+            Err(_) => Err(Error::Memory),
+        },
+        Err(error) => Err(error),
+    }
 }
 
 /// The text at `key`, which may be empty.
@@ -51,9 +55,13 @@ pub fn plain_text_member(
     ensures ok { IfOk result (λ e. (names : List (List ℕ)) → ReadsNeeded key.now (leaf a_text) (borrowed_view value.now) (text_tree e) names names) }
     ensures place { IfErr result (LocatesMember key.now (leaf a_text) (borrowed_view value.now)) }
 {
-    let name = text_member(alloc, value, key)?;
-    let text = String::from_str(alloc, name)?;
-    Ok(text)
+    match text_member(alloc, value, key) {
+        Ok(text) => match String::from_str(alloc, text) {
+            Ok(own) => Ok(own),
+            Err(_) => Err(Error::Memory),
+        },
+        Err(error) => Err(error),
+    }
 }
 
 /// The call at `call`.

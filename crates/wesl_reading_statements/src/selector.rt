@@ -12,8 +12,8 @@ use std::alloc::Global;
 use wesl_borrowed::BorrowedValue;
 use wesl_names::Error;
 use wesl_reading::{
-    Numbering, attributes_member, both, check_keys, expression_member, only, read_expression, room,
-    under, with_item, wrong,
+    Numbering, attributes_member, check_keys, expression_member, read_expression, room, under,
+    with_item, wrong,
 };
 use wesl_syntax::{BreakIfStatement, CaseSelector};
 
@@ -66,8 +66,10 @@ fn read_case(
     if is_default(value) {
         read_default(alloc, value)
     } else {
-        let expression = read_expression(alloc, numbering, value)?;
-        Ok(CaseSelector::Expression(expression))
+        match read_expression(alloc, numbering, value) {
+            Ok(expression) => Ok(CaseSelector::Expression(expression)),
+            Err(error) => Err(error),
+        }
     }
 }
 
@@ -118,14 +120,17 @@ fn read_break_if(
     ensures ok { IfOk result (λ e. Reads (node_form a_break_if) (borrowed_view value.now) (break_if_view e) numbering.old numbering.new) }
     ensures place { IfErr result (Locates (node_form a_break_if) (borrowed_view value.now)) }
 {
-    let attributes = attributes_member(alloc, numbering, value, "attrs");
-    let expression = expression_member(alloc, numbering, value, "expr");
-    let parts = both(attributes, expression);
-    match only(alloc, value, &["attrs", "expr"], parts) {
-        Ok((attributes, expression)) => Ok(BreakIfStatement {
-            attributes,
-            expression,
-        }),
+    if !wesl_pointer::has_only(value, &["attrs", "expr"]) {
+        return Err(wrong(alloc));
+    }
+    match attributes_member(alloc, numbering, value, "attrs") {
+        Ok(attributes) => match expression_member(alloc, numbering, value, "expr") {
+            Ok(expression) => Ok(BreakIfStatement {
+                attributes,
+                expression,
+            }),
+            Err(error) => Err(error),
+        },
         Err(error) => Err(error),
     }
 }

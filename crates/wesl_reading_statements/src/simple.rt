@@ -6,15 +6,12 @@ ghost use Rattle.wesl_reading.specs.Faults.{LocatesRow};
 ghost use Rattle.wesl_reading_statements.specs.declared.words.StatementWord.TheVariants as stated;
 ghost use Rattle.wesl_reading_statements.specs.Forms.{ReadsStatement, statement_worded};
 
-use crate::joined::four;
 use crate::parts::call_member;
 use crate::words::assignment_member;
 use std::alloc::Global;
 use wesl_borrowed::BorrowedValue;
 use wesl_names::Error;
-use wesl_reading::{
-    Numbering, attributes_member, both, expression_member, only, optional_expression,
-};
+use wesl_reading::{Numbering, attributes_member, expression_member, optional_expression, wrong};
 use wesl_syntax::Statement;
 
 /// An assignment, by its operator at `op`.
@@ -26,18 +23,25 @@ pub(crate) fn read_assignment(
     ensures ok { IfOk result (λ e. ReadsStatement stated.Assign (borrowed_view value.now) (statement_view e) numbering.old numbering.new) }
     ensures place { IfErr result (LocatesRow (statement_worded stated.Assign) (borrowed_view value.now)) }
 {
-    let operator = assignment_member(alloc, value);
-    let attributes = attributes_member(alloc, numbering, value, "attrs");
-    let lhs = expression_member(alloc, numbering, value, "lhs");
-    let rhs = expression_member(alloc, numbering, value, "rhs");
-    let parts = four(operator, attributes, lhs, rhs);
-    match only(alloc, value, &["k", "op", "attrs", "lhs", "rhs"], parts) {
-        Ok((operator, attributes, lhs, rhs)) => Ok(Statement::Assignment {
-            attributes,
-            operator,
-            lhs,
-            rhs,
-        }),
+    if !wesl_pointer::has_only(value, &["k", "op", "attrs", "lhs", "rhs"]) {
+        return Err(wrong(alloc));
+    }
+    match assignment_member(alloc, value) {
+        Ok(operator) => match attributes_member(alloc, numbering, value, "attrs") {
+            Ok(attributes) => match expression_member(alloc, numbering, value, "lhs") {
+                Ok(lhs) => match expression_member(alloc, numbering, value, "rhs") {
+                    Ok(rhs) => Ok(Statement::Assignment {
+                        attributes,
+                        operator,
+                        lhs,
+                        rhs,
+                    }),
+                    Err(error) => Err(error),
+                },
+                Err(error) => Err(error),
+            },
+            Err(error) => Err(error),
+        },
         Err(error) => Err(error),
     }
 }
@@ -51,14 +55,17 @@ pub(crate) fn read_increment(
     ensures ok { IfOk result (λ e. ReadsStatement stated.Increment (borrowed_view value.now) (statement_view e) numbering.old numbering.new) }
     ensures place { IfErr result (LocatesRow (statement_worded stated.Increment) (borrowed_view value.now)) }
 {
-    let attributes = attributes_member(alloc, numbering, value, "attrs");
-    let expression = expression_member(alloc, numbering, value, "expr");
-    let parts = both(attributes, expression);
-    match only(alloc, value, &["k", "attrs", "expr"], parts) {
-        Ok((attributes, expression)) => Ok(Statement::Increment {
-            attributes,
-            expression,
-        }),
+    if !wesl_pointer::has_only(value, &["k", "attrs", "expr"]) {
+        return Err(wrong(alloc));
+    }
+    match attributes_member(alloc, numbering, value, "attrs") {
+        Ok(attributes) => match expression_member(alloc, numbering, value, "expr") {
+            Ok(expression) => Ok(Statement::Increment {
+                attributes,
+                expression,
+            }),
+            Err(error) => Err(error),
+        },
         Err(error) => Err(error),
     }
 }
@@ -72,14 +79,17 @@ pub(crate) fn read_decrement(
     ensures ok { IfOk result (λ e. ReadsStatement stated.Decrement (borrowed_view value.now) (statement_view e) numbering.old numbering.new) }
     ensures place { IfErr result (LocatesRow (statement_worded stated.Decrement) (borrowed_view value.now)) }
 {
-    let attributes = attributes_member(alloc, numbering, value, "attrs");
-    let expression = expression_member(alloc, numbering, value, "expr");
-    let parts = both(attributes, expression);
-    match only(alloc, value, &["k", "attrs", "expr"], parts) {
-        Ok((attributes, expression)) => Ok(Statement::Decrement {
-            attributes,
-            expression,
-        }),
+    if !wesl_pointer::has_only(value, &["k", "attrs", "expr"]) {
+        return Err(wrong(alloc));
+    }
+    match attributes_member(alloc, numbering, value, "attrs") {
+        Ok(attributes) => match expression_member(alloc, numbering, value, "expr") {
+            Ok(expression) => Ok(Statement::Decrement {
+                attributes,
+                expression,
+            }),
+            Err(error) => Err(error),
+        },
         Err(error) => Err(error),
     }
 }
@@ -93,8 +103,10 @@ pub(crate) fn read_break(
     ensures ok { IfOk result (λ e. ReadsStatement stated.Break (borrowed_view value.now) (statement_view e) numbering.old numbering.new) }
     ensures place { IfErr result (LocatesRow (statement_worded stated.Break) (borrowed_view value.now)) }
 {
-    let attributes = attributes_member(alloc, numbering, value, "attrs");
-    match only(alloc, value, &["k", "attrs"], attributes) {
+    if !wesl_pointer::has_only(value, &["k", "attrs"]) {
+        return Err(wrong(alloc));
+    }
+    match attributes_member(alloc, numbering, value, "attrs") {
         Ok(attributes) => Ok(Statement::Break { attributes }),
         Err(error) => Err(error),
     }
@@ -109,8 +121,10 @@ pub(crate) fn read_continue(
     ensures ok { IfOk result (λ e. ReadsStatement stated.Continue (borrowed_view value.now) (statement_view e) numbering.old numbering.new) }
     ensures place { IfErr result (LocatesRow (statement_worded stated.Continue) (borrowed_view value.now)) }
 {
-    let attributes = attributes_member(alloc, numbering, value, "attrs");
-    match only(alloc, value, &["k", "attrs"], attributes) {
+    if !wesl_pointer::has_only(value, &["k", "attrs"]) {
+        return Err(wrong(alloc));
+    }
+    match attributes_member(alloc, numbering, value, "attrs") {
         Ok(attributes) => Ok(Statement::Continue { attributes }),
         Err(error) => Err(error),
     }
@@ -125,8 +139,10 @@ pub(crate) fn read_discard(
     ensures ok { IfOk result (λ e. ReadsStatement stated.Discard (borrowed_view value.now) (statement_view e) numbering.old numbering.new) }
     ensures place { IfErr result (LocatesRow (statement_worded stated.Discard) (borrowed_view value.now)) }
 {
-    let attributes = attributes_member(alloc, numbering, value, "attrs");
-    match only(alloc, value, &["k", "attrs"], attributes) {
+    if !wesl_pointer::has_only(value, &["k", "attrs"]) {
+        return Err(wrong(alloc));
+    }
+    match attributes_member(alloc, numbering, value, "attrs") {
         Ok(attributes) => Ok(Statement::Discard { attributes }),
         Err(error) => Err(error),
     }
@@ -141,14 +157,17 @@ pub(crate) fn read_return(
     ensures ok { IfOk result (λ e. ReadsStatement stated.Return (borrowed_view value.now) (statement_view e) numbering.old numbering.new) }
     ensures place { IfErr result (LocatesRow (statement_worded stated.Return) (borrowed_view value.now)) }
 {
-    let attributes = attributes_member(alloc, numbering, value, "attrs");
-    let expression = optional_expression(alloc, numbering, value, "expr");
-    let parts = both(attributes, expression);
-    match only(alloc, value, &["k", "attrs", "expr"], parts) {
-        Ok((attributes, expression)) => Ok(Statement::Return {
-            attributes,
-            expression,
-        }),
+    if !wesl_pointer::has_only(value, &["k", "attrs", "expr"]) {
+        return Err(wrong(alloc));
+    }
+    match attributes_member(alloc, numbering, value, "attrs") {
+        Ok(attributes) => match optional_expression(alloc, numbering, value, "expr") {
+            Ok(expression) => Ok(Statement::Return {
+                attributes,
+                expression,
+            }),
+            Err(error) => Err(error),
+        },
         Err(error) => Err(error),
     }
 }
@@ -162,11 +181,14 @@ pub(crate) fn read_call_statement(
     ensures ok { IfOk result (λ e. ReadsStatement stated.Call (borrowed_view value.now) (statement_view e) numbering.old numbering.new) }
     ensures place { IfErr result (LocatesRow (statement_worded stated.Call) (borrowed_view value.now)) }
 {
-    let attributes = attributes_member(alloc, numbering, value, "attrs");
-    let call = call_member(alloc, numbering, value);
-    let parts = both(attributes, call);
-    match only(alloc, value, &["k", "attrs", "call"], parts) {
-        Ok((attributes, call)) => Ok(Statement::FunctionCall { attributes, call }),
+    if !wesl_pointer::has_only(value, &["k", "attrs", "call"]) {
+        return Err(wrong(alloc));
+    }
+    match attributes_member(alloc, numbering, value, "attrs") {
+        Ok(attributes) => match call_member(alloc, numbering, value) {
+            Ok(call) => Ok(Statement::FunctionCall { attributes, call }),
+            Err(error) => Err(error),
+        },
         Err(error) => Err(error),
     }
 }

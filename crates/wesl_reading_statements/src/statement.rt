@@ -12,7 +12,6 @@ ghost use Rattle.wesl_reading_statements.specs.declared.words.StatementWord.TheV
 ghost use Rattle.wesl_reading_statements.specs.Forms.{ReadsStatement, statement_text, statement_worded};
 
 use crate::declared::{read_declared, statement_of};
-use crate::joined::{five, four, three};
 use crate::selector::{cases_member, optional_break_if};
 use crate::simple::{
     read_assignment, read_break, read_call_statement, read_continue, read_decrement, read_discard,
@@ -23,8 +22,8 @@ use std::alloc::Global;
 use wesl_borrowed::BorrowedValue;
 use wesl_names::Error;
 use wesl_reading::{
-    Numbering, attributes_member, both, boxed, expression_member, only, optional_expression, room,
-    under, unplaced, with_item, wrong,
+    Numbering, attributes_member, boxed, expression_member, optional_expression, room, under,
+    unplaced, with_item, wrong,
 };
 use wesl_syntax::{
     CompoundStatement, ContinuingStatement, ElseClause, ElseIfClause, IfClause, Statement,
@@ -41,9 +40,11 @@ pub(crate) fn read_statement(
     ensures ok { IfOk result (λ e. Reads (node_form a_statement) (borrowed_view value.now) (statement_tree e) numbering.old numbering.new) }
     ensures place { IfErr result (Locates (node_form a_statement) (borrowed_view value.now)) }
 {
-    let word = statement_word_of(alloc, value)?;
-    match read_worded(alloc, numbering, value, word) {
-        Ok(statement) => Ok(unplaced(statement)),
+    match statement_word_of(alloc, value) {
+        Ok(word) => match read_worded(alloc, numbering, value, word) {
+            Ok(statement) => Ok(unplaced(statement)),
+            Err(error) => Err(error),
+        },
         Err(error) => Err(error),
     }
 }
@@ -103,14 +104,17 @@ fn read_block(
     ensures ok { IfOk result (λ e. ReadsStatement stated.Block (borrowed_view value.now) (statement_view e) numbering.old numbering.new) }
     ensures place { IfErr result (LocatesRow (statement_worded stated.Block) (borrowed_view value.now)) }
 {
-    let attributes = attributes_member(alloc, numbering, value, "attrs");
-    let statements = statements_member(alloc, numbering, value);
-    let parts = both(attributes, statements);
-    match only(alloc, value, &["k", "attrs", "stmts"], parts) {
-        Ok((attributes, statements)) => Ok(Statement::Compound(CompoundStatement {
-            attributes,
-            statements,
-        })),
+    if !wesl_pointer::has_only(value, &["k", "attrs", "stmts"]) {
+        return Err(wrong(alloc));
+    }
+    match attributes_member(alloc, numbering, value, "attrs") {
+        Ok(attributes) => match statements_member(alloc, numbering, value) {
+            Ok(statements) => Ok(Statement::Compound(CompoundStatement {
+                attributes,
+                statements,
+            })),
+            Err(error) => Err(error),
+        },
         Err(error) => Err(error),
     }
 }
@@ -124,24 +128,28 @@ fn read_if(
     ensures ok { IfOk result (λ e. ReadsStatement stated.If (borrowed_view value.now) (statement_view e) numbering.old numbering.new) }
     ensures place { IfErr result (LocatesRow (statement_worded stated.If) (borrowed_view value.now)) }
 {
-    let attributes = attributes_member(alloc, numbering, value, "attrs");
-    let expression = expression_member(alloc, numbering, value, "cond");
-    let body = body_member(alloc, numbering, value);
-    let else_if_clauses = elifs_member(alloc, numbering, value);
-    let else_clause = optional_else(alloc, numbering, value);
-    let parts = five(attributes, expression, body, else_if_clauses, else_clause);
-    match only(
-        alloc,
-        value,
-        &["k", "attrs", "cond", "body", "elifs", "else"],
-        parts,
-    ) {
-        Ok((attributes, expression, body, else_if_clauses, else_clause)) => Ok(Statement::If {
-            attributes,
-            if_clause: IfClause { expression, body },
-            else_if_clauses,
-            else_clause,
-        }),
+    if !wesl_pointer::has_only(value, &["k", "attrs", "cond", "body", "elifs", "else"]) {
+        return Err(wrong(alloc));
+    }
+    match attributes_member(alloc, numbering, value, "attrs") {
+        Ok(attributes) => match expression_member(alloc, numbering, value, "cond") {
+            Ok(expression) => match body_member(alloc, numbering, value) {
+                Ok(body) => match elifs_member(alloc, numbering, value) {
+                    Ok(else_if_clauses) => match optional_else(alloc, numbering, value) {
+                        Ok(else_clause) => Ok(Statement::If {
+                            attributes,
+                            if_clause: IfClause { expression, body },
+                            else_if_clauses,
+                            else_clause,
+                        }),
+                        Err(error) => Err(error),
+                    },
+                    Err(error) => Err(error),
+                },
+                Err(error) => Err(error),
+            },
+            Err(error) => Err(error),
+        },
         Err(error) => Err(error),
     }
 }
@@ -155,23 +163,25 @@ fn read_switch(
     ensures ok { IfOk result (λ e. ReadsStatement stated.Switch (borrowed_view value.now) (statement_view e) numbering.old numbering.new) }
     ensures place { IfErr result (LocatesRow (statement_worded stated.Switch) (borrowed_view value.now)) }
 {
-    let attributes = attributes_member(alloc, numbering, value, "attrs");
-    let expression = expression_member(alloc, numbering, value, "expr");
-    let body_attributes = attributes_member(alloc, numbering, value, "body_attrs");
-    let clauses = clauses_member(alloc, numbering, value);
-    let parts = four(attributes, expression, body_attributes, clauses);
-    match only(
-        alloc,
-        value,
-        &["k", "attrs", "expr", "body_attrs", "clauses"],
-        parts,
-    ) {
-        Ok((attributes, expression, body_attributes, clauses)) => Ok(Statement::Switch {
-            attributes,
-            expression,
-            body_attributes,
-            clauses,
-        }),
+    if !wesl_pointer::has_only(value, &["k", "attrs", "expr", "body_attrs", "clauses"]) {
+        return Err(wrong(alloc));
+    }
+    match attributes_member(alloc, numbering, value, "attrs") {
+        Ok(attributes) => match expression_member(alloc, numbering, value, "expr") {
+            Ok(expression) => match attributes_member(alloc, numbering, value, "body_attrs") {
+                Ok(body_attributes) => match clauses_member(alloc, numbering, value) {
+                    Ok(clauses) => Ok(Statement::Switch {
+                        attributes,
+                        expression,
+                        body_attributes,
+                        clauses,
+                    }),
+                    Err(error) => Err(error),
+                },
+                Err(error) => Err(error),
+            },
+            Err(error) => Err(error),
+        },
         Err(error) => Err(error),
     }
 }
@@ -185,16 +195,21 @@ fn read_loop(
     ensures ok { IfOk result (λ e. ReadsStatement stated.Loop (borrowed_view value.now) (statement_view e) numbering.old numbering.new) }
     ensures place { IfErr result (LocatesRow (statement_worded stated.Loop) (borrowed_view value.now)) }
 {
-    let attributes = attributes_member(alloc, numbering, value, "attrs");
-    let body = body_member(alloc, numbering, value);
-    let continuing = optional_continuing(alloc, numbering, value);
-    let parts = three(attributes, body, continuing);
-    match only(alloc, value, &["k", "attrs", "body", "continuing"], parts) {
-        Ok((attributes, body, continuing)) => Ok(Statement::Loop {
-            attributes,
-            body,
-            continuing,
-        }),
+    if !wesl_pointer::has_only(value, &["k", "attrs", "body", "continuing"]) {
+        return Err(wrong(alloc));
+    }
+    match attributes_member(alloc, numbering, value, "attrs") {
+        Ok(attributes) => match body_member(alloc, numbering, value) {
+            Ok(body) => match optional_continuing(alloc, numbering, value) {
+                Ok(continuing) => Ok(Statement::Loop {
+                    attributes,
+                    body,
+                    continuing,
+                }),
+                Err(error) => Err(error),
+            },
+            Err(error) => Err(error),
+        },
         Err(error) => Err(error),
     }
 }
@@ -208,25 +223,29 @@ fn read_for(
     ensures ok { IfOk result (λ e. ReadsStatement stated.For (borrowed_view value.now) (statement_view e) numbering.old numbering.new) }
     ensures place { IfErr result (LocatesRow (statement_worded stated.For) (borrowed_view value.now)) }
 {
-    let attributes = attributes_member(alloc, numbering, value, "attrs");
-    let initializer = optional_statement(alloc, numbering, value, "init");
-    let condition = optional_expression(alloc, numbering, value, "cond");
-    let update = optional_statement(alloc, numbering, value, "update");
-    let body = body_member(alloc, numbering, value);
-    let parts = five(attributes, initializer, condition, update, body);
-    match only(
-        alloc,
-        value,
-        &["k", "attrs", "init", "cond", "update", "body"],
-        parts,
-    ) {
-        Ok((attributes, initializer, condition, update, body)) => Ok(Statement::For {
-            attributes,
-            initializer,
-            condition,
-            update,
-            body,
-        }),
+    if !wesl_pointer::has_only(value, &["k", "attrs", "init", "cond", "update", "body"]) {
+        return Err(wrong(alloc));
+    }
+    match attributes_member(alloc, numbering, value, "attrs") {
+        Ok(attributes) => match optional_statement(alloc, numbering, value, "init") {
+            Ok(initializer) => match optional_expression(alloc, numbering, value, "cond") {
+                Ok(condition) => match optional_statement(alloc, numbering, value, "update") {
+                    Ok(update) => match body_member(alloc, numbering, value) {
+                        Ok(body) => Ok(Statement::For {
+                            attributes,
+                            initializer,
+                            condition,
+                            update,
+                            body,
+                        }),
+                        Err(error) => Err(error),
+                    },
+                    Err(error) => Err(error),
+                },
+                Err(error) => Err(error),
+            },
+            Err(error) => Err(error),
+        },
         Err(error) => Err(error),
     }
 }
@@ -240,16 +259,21 @@ fn read_while(
     ensures ok { IfOk result (λ e. ReadsStatement stated.While (borrowed_view value.now) (statement_view e) numbering.old numbering.new) }
     ensures place { IfErr result (LocatesRow (statement_worded stated.While) (borrowed_view value.now)) }
 {
-    let attributes = attributes_member(alloc, numbering, value, "attrs");
-    let condition = expression_member(alloc, numbering, value, "cond");
-    let body = body_member(alloc, numbering, value);
-    let parts = three(attributes, condition, body);
-    match only(alloc, value, &["k", "attrs", "cond", "body"], parts) {
-        Ok((attributes, condition, body)) => Ok(Statement::While {
-            attributes,
-            condition,
-            body,
-        }),
+    if !wesl_pointer::has_only(value, &["k", "attrs", "cond", "body"]) {
+        return Err(wrong(alloc));
+    }
+    match attributes_member(alloc, numbering, value, "attrs") {
+        Ok(attributes) => match expression_member(alloc, numbering, value, "cond") {
+            Ok(condition) => match body_member(alloc, numbering, value) {
+                Ok(body) => Ok(Statement::While {
+                    attributes,
+                    condition,
+                    body,
+                }),
+                Err(error) => Err(error),
+            },
+            Err(error) => Err(error),
+        },
         Err(error) => Err(error),
     }
 }
@@ -282,14 +306,17 @@ fn read_body(
     ensures ok { IfOk result (λ e. Reads (node_form a_body) (borrowed_view value.now) (compound_view e) numbering.old numbering.new) }
     ensures place { IfErr result (Locates (node_form a_body) (borrowed_view value.now)) }
 {
-    let attributes = attributes_member(alloc, numbering, value, "attrs");
-    let statements = statements_member(alloc, numbering, value);
-    let parts = both(attributes, statements);
-    match only(alloc, value, &["attrs", "stmts"], parts) {
-        Ok((attributes, statements)) => Ok(CompoundStatement {
-            attributes,
-            statements,
-        }),
+    if !wesl_pointer::has_only(value, &["attrs", "stmts"]) {
+        return Err(wrong(alloc));
+    }
+    match attributes_member(alloc, numbering, value, "attrs") {
+        Ok(attributes) => match statements_member(alloc, numbering, value) {
+            Ok(statements) => Ok(CompoundStatement {
+                attributes,
+                statements,
+            }),
+            Err(error) => Err(error),
+        },
         Err(error) => Err(error),
     }
 }
@@ -401,16 +428,21 @@ fn read_elif(
     ensures ok { IfOk result (λ e. Reads (node_form an_elif) (borrowed_view value.now) (else_if_view e) numbering.old numbering.new) }
     ensures place { IfErr result (Locates (node_form an_elif) (borrowed_view value.now)) }
 {
-    let attributes = attributes_member(alloc, numbering, value, "attrs");
-    let expression = expression_member(alloc, numbering, value, "cond");
-    let body = body_member(alloc, numbering, value);
-    let parts = three(attributes, expression, body);
-    match only(alloc, value, &["attrs", "cond", "body"], parts) {
-        Ok((attributes, expression, body)) => Ok(ElseIfClause {
-            attributes,
-            expression,
-            body,
-        }),
+    if !wesl_pointer::has_only(value, &["attrs", "cond", "body"]) {
+        return Err(wrong(alloc));
+    }
+    match attributes_member(alloc, numbering, value, "attrs") {
+        Ok(attributes) => match expression_member(alloc, numbering, value, "cond") {
+            Ok(expression) => match body_member(alloc, numbering, value) {
+                Ok(body) => Ok(ElseIfClause {
+                    attributes,
+                    expression,
+                    body,
+                }),
+                Err(error) => Err(error),
+            },
+            Err(error) => Err(error),
+        },
         Err(error) => Err(error),
     }
 }
@@ -443,11 +475,14 @@ fn read_else(
     ensures ok { IfOk result (λ e. Reads (node_form an_else) (borrowed_view value.now) (else_view e) numbering.old numbering.new) }
     ensures place { IfErr result (Locates (node_form an_else) (borrowed_view value.now)) }
 {
-    let attributes = attributes_member(alloc, numbering, value, "attrs");
-    let body = body_member(alloc, numbering, value);
-    let parts = both(attributes, body);
-    match only(alloc, value, &["attrs", "body"], parts) {
-        Ok((attributes, body)) => Ok(ElseClause { attributes, body }),
+    if !wesl_pointer::has_only(value, &["attrs", "body"]) {
+        return Err(wrong(alloc));
+    }
+    match attributes_member(alloc, numbering, value, "attrs") {
+        Ok(attributes) => match body_member(alloc, numbering, value) {
+            Ok(body) => Ok(ElseClause { attributes, body }),
+            Err(error) => Err(error),
+        },
         Err(error) => Err(error),
     }
 }
@@ -500,16 +535,21 @@ fn read_clause(
     ensures ok { IfOk result (λ e. Reads (node_form a_clause) (borrowed_view value.now) (clause_view e) numbering.old numbering.new) }
     ensures place { IfErr result (Locates (node_form a_clause) (borrowed_view value.now)) }
 {
-    let attributes = attributes_member(alloc, numbering, value, "attrs");
-    let case_selectors = cases_member(alloc, numbering, value);
-    let body = body_member(alloc, numbering, value);
-    let parts = three(attributes, case_selectors, body);
-    match only(alloc, value, &["attrs", "cases", "body"], parts) {
-        Ok((attributes, case_selectors, body)) => Ok(SwitchClause {
-            attributes,
-            case_selectors,
-            body,
-        }),
+    if !wesl_pointer::has_only(value, &["attrs", "cases", "body"]) {
+        return Err(wrong(alloc));
+    }
+    match attributes_member(alloc, numbering, value, "attrs") {
+        Ok(attributes) => match cases_member(alloc, numbering, value) {
+            Ok(case_selectors) => match body_member(alloc, numbering, value) {
+                Ok(body) => Ok(SwitchClause {
+                    attributes,
+                    case_selectors,
+                    body,
+                }),
+                Err(error) => Err(error),
+            },
+            Err(error) => Err(error),
+        },
         Err(error) => Err(error),
     }
 }
@@ -542,16 +582,21 @@ fn read_continuing(
     ensures ok { IfOk result (λ e. Reads (node_form a_continuing) (borrowed_view value.now) (continuing_view e) numbering.old numbering.new) }
     ensures place { IfErr result (Locates (node_form a_continuing) (borrowed_view value.now)) }
 {
-    let attributes = attributes_member(alloc, numbering, value, "attrs");
-    let body = body_member(alloc, numbering, value);
-    let break_if = optional_break_if(alloc, numbering, value);
-    let parts = three(attributes, body, break_if);
-    match only(alloc, value, &["attrs", "body", "break_if"], parts) {
-        Ok((attributes, body, break_if)) => Ok(ContinuingStatement {
-            attributes,
-            body,
-            break_if,
-        }),
+    if !wesl_pointer::has_only(value, &["attrs", "body", "break_if"]) {
+        return Err(wrong(alloc));
+    }
+    match attributes_member(alloc, numbering, value, "attrs") {
+        Ok(attributes) => match body_member(alloc, numbering, value) {
+            Ok(body) => match optional_break_if(alloc, numbering, value) {
+                Ok(break_if) => Ok(ContinuingStatement {
+                    attributes,
+                    body,
+                    break_if,
+                }),
+                Err(error) => Err(error),
+            },
+            Err(error) => Err(error),
+        },
         Err(error) => Err(error),
     }
 }

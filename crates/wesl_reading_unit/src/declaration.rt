@@ -16,11 +16,11 @@ use std::alloc::Global;
 use wesl_borrowed::BorrowedValue;
 use wesl_names::Error;
 use wesl_reading::{
-    Numbering, attributes_member, only, optional_type, required, room, type_member, under,
-    unplaced, with_item, wrong,
+    Numbering, attributes_member, optional_type, room, type_member, under, unplaced, with_item,
+    wrong,
 };
 use wesl_reading_statements::{
-    Declared, binder_member, body_member, plain_name_member, read_declared, six, three,
+    Declared, binder_member, body_member, plain_name_member, read_declared,
 };
 use wesl_syntax::{
     FormalParameter, Function, GlobalDeclaration, GlobalDeclarationNode, Struct, StructMember,
@@ -72,9 +72,11 @@ fn read_declaration(
     ensures ok { IfOk result (λ e. Reads (node_form a_declaration) (borrowed_view value.now) (placed global_view declaration_node e) numbering.old numbering.new) }
     ensures place { IfErr result (Locates (node_form a_declaration) (borrowed_view value.now)) }
 {
-    let word = declaration_word_of(alloc, value)?;
-    match read_worded(alloc, numbering, value, word) {
-        Ok(declaration) => Ok(unplaced(declaration)),
+    match declaration_word_of(alloc, value) {
+        Ok(word) => match read_worded(alloc, numbering, value, word) {
+            Ok(declaration) => Ok(unplaced(declaration)),
+            Err(error) => Err(error),
+        },
         Err(error) => Err(error),
     }
 }
@@ -84,7 +86,9 @@ fn declaration_word_of(alloc: Global, value: &BorrowedValue<'_>) -> Result<Decla
     ensures word { IfOk result (λ w. HasWord (declaration_text w) (borrowed_view value.now)) }
     ensures place { IfErr result (Locates (node_form a_declaration) (borrowed_view value.now)) }
 {
-    let word = required(alloc, value, "k")?;
+    let Some(word) = value.get("k") else {
+        return Err(wrong(alloc));
+    };
     match word.as_str().and_then(declaration_word) {
         Some(word) => Ok(word),
         None => Err(under(alloc, wrong(alloc), "k")),
@@ -130,16 +134,21 @@ fn read_alias(
     ensures ok { IfOk result (λ e. ReadsDeclaration globals.Alias (borrowed_view value.now) (global_view e) numbering.old numbering.new) }
     ensures place { IfErr result (LocatesRow (declaration_worded globals.Alias) (borrowed_view value.now)) }
 {
-    let attributes = attributes_member(alloc, numbering, value, "attrs");
-    let ident = binder_member(alloc, numbering, value);
-    let ty = type_member(alloc, numbering, value, "ty");
-    let parts = three(attributes, ident, ty);
-    match only(alloc, value, &["k", "attrs", "name", "ty"], parts) {
-        Ok((attributes, ident, ty)) => Ok(GlobalDeclaration::TypeAlias(TypeAlias {
-            attributes,
-            ident,
-            ty,
-        })),
+    if !wesl_pointer::has_only(value, &["k", "attrs", "name", "ty"]) {
+        return Err(wrong(alloc));
+    }
+    match attributes_member(alloc, numbering, value, "attrs") {
+        Ok(attributes) => match binder_member(alloc, numbering, value) {
+            Ok(ident) => match type_member(alloc, numbering, value, "ty") {
+                Ok(ty) => Ok(GlobalDeclaration::TypeAlias(TypeAlias {
+                    attributes,
+                    ident,
+                    ty,
+                })),
+                Err(error) => Err(error),
+            },
+            Err(error) => Err(error),
+        },
         Err(error) => Err(error),
     }
 }
@@ -152,16 +161,21 @@ fn read_struct(
     ensures ok { IfOk result (λ e. ReadsDeclaration globals.Struct (borrowed_view value.now) (global_view e) numbering.old numbering.new) }
     ensures place { IfErr result (LocatesRow (declaration_worded globals.Struct) (borrowed_view value.now)) }
 {
-    let attributes = attributes_member(alloc, numbering, value, "attrs");
-    let ident = binder_member(alloc, numbering, value);
-    let members = members_member(alloc, numbering, value);
-    let parts = three(attributes, ident, members);
-    match only(alloc, value, &["k", "attrs", "name", "members"], parts) {
-        Ok((attributes, ident, members)) => Ok(GlobalDeclaration::Struct(Struct {
-            attributes,
-            ident,
-            members,
-        })),
+    if !wesl_pointer::has_only(value, &["k", "attrs", "name", "members"]) {
+        return Err(wrong(alloc));
+    }
+    match attributes_member(alloc, numbering, value, "attrs") {
+        Ok(attributes) => match binder_member(alloc, numbering, value) {
+            Ok(ident) => match members_member(alloc, numbering, value) {
+                Ok(members) => Ok(GlobalDeclaration::Struct(Struct {
+                    attributes,
+                    ident,
+                    members,
+                })),
+                Err(error) => Err(error),
+            },
+            Err(error) => Err(error),
+        },
         Err(error) => Err(error),
     }
 }
@@ -174,36 +188,36 @@ fn read_function(
     ensures ok { IfOk result (λ e. ReadsDeclaration globals.Function (borrowed_view value.now) (global_view e) numbering.old numbering.new) }
     ensures place { IfErr result (LocatesRow (declaration_worded globals.Function) (borrowed_view value.now)) }
 {
-    let attributes = attributes_member(alloc, numbering, value, "attrs");
-    let ident = binder_member(alloc, numbering, value);
-    let parameters = parameters_member(alloc, numbering, value);
-    let return_attributes = attributes_member(alloc, numbering, value, "ret_attrs");
-    let return_type = optional_type(alloc, numbering, value, "ret");
-    let body = body_member(alloc, numbering, value);
-    let parts = six(
-        attributes,
-        ident,
-        parameters,
-        return_attributes,
-        return_type,
-        body,
-    );
-    match only(
-        alloc,
+    if !wesl_pointer::has_only(
         value,
         &["k", "attrs", "name", "params", "ret_attrs", "ret", "body"],
-        parts,
     ) {
-        Ok((attributes, ident, parameters, return_attributes, return_type, body)) => Ok(
-            GlobalDeclaration::Function(Function {
-                attributes,
-                ident,
-                parameters,
-                return_attributes,
-                return_type,
-                body,
-            }),
-        ),
+        return Err(wrong(alloc));
+    }
+    match attributes_member(alloc, numbering, value, "attrs") {
+        Ok(attributes) => match binder_member(alloc, numbering, value) {
+            Ok(ident) => match parameters_member(alloc, numbering, value) {
+                Ok(parameters) => match attributes_member(alloc, numbering, value, "ret_attrs") {
+                    Ok(return_attributes) => match optional_type(alloc, numbering, value, "ret") {
+                        Ok(return_type) => match body_member(alloc, numbering, value) {
+                            Ok(body) => Ok(GlobalDeclaration::Function(Function {
+                                attributes,
+                                ident,
+                                parameters,
+                                return_attributes,
+                                return_type,
+                                body,
+                            })),
+                            Err(error) => Err(error),
+                        },
+                        Err(error) => Err(error),
+                    },
+                    Err(error) => Err(error),
+                },
+                Err(error) => Err(error),
+            },
+            Err(error) => Err(error),
+        },
         Err(error) => Err(error),
     }
 }
@@ -253,16 +267,21 @@ fn read_member(
     ensures ok { IfOk result (λ e. Reads (node_form a_member) (borrowed_view value.now) (placed member_view member_node e) numbering.old numbering.new) }
     ensures place { IfErr result (Locates (node_form a_member) (borrowed_view value.now)) }
 {
-    let attributes = attributes_member(alloc, numbering, value, "attrs");
-    let name = plain_name_member(alloc, value, "name");
-    let ty = type_member(alloc, numbering, value, "ty");
-    let parts = three(attributes, name, ty);
-    match only(alloc, value, &["attrs", "name", "ty"], parts) {
-        Ok((attributes, name, ty)) => Ok(unplaced(StructMember {
-            attributes,
-            name,
-            ty,
-        })),
+    if !wesl_pointer::has_only(value, &["attrs", "name", "ty"]) {
+        return Err(wrong(alloc));
+    }
+    match attributes_member(alloc, numbering, value, "attrs") {
+        Ok(attributes) => match plain_name_member(alloc, value, "name") {
+            Ok(name) => match type_member(alloc, numbering, value, "ty") {
+                Ok(ty) => Ok(unplaced(StructMember {
+                    attributes,
+                    name,
+                    ty,
+                })),
+                Err(error) => Err(error),
+            },
+            Err(error) => Err(error),
+        },
         Err(error) => Err(error),
     }
 }
@@ -312,16 +331,21 @@ fn read_parameter(
     ensures ok { IfOk result (λ e. Reads (node_form a_parameter) (borrowed_view value.now) (parameter_view e) numbering.old numbering.new) }
     ensures place { IfErr result (Locates (node_form a_parameter) (borrowed_view value.now)) }
 {
-    let attributes = attributes_member(alloc, numbering, value, "attrs");
-    let ident = binder_member(alloc, numbering, value);
-    let ty = type_member(alloc, numbering, value, "ty");
-    let parts = three(attributes, ident, ty);
-    match only(alloc, value, &["attrs", "name", "ty"], parts) {
-        Ok((attributes, ident, ty)) => Ok(FormalParameter {
-            attributes,
-            ident,
-            ty,
-        }),
+    if !wesl_pointer::has_only(value, &["attrs", "name", "ty"]) {
+        return Err(wrong(alloc));
+    }
+    match attributes_member(alloc, numbering, value, "attrs") {
+        Ok(attributes) => match binder_member(alloc, numbering, value) {
+            Ok(ident) => match type_member(alloc, numbering, value, "ty") {
+                Ok(ty) => Ok(FormalParameter {
+                    attributes,
+                    ident,
+                    ty,
+                }),
+                Err(error) => Err(error),
+            },
+            Err(error) => Err(error),
+        },
         Err(error) => Err(error),
     }
 }

@@ -15,10 +15,9 @@ use std::alloc::Global;
 use wesl_borrowed::BorrowedValue;
 use wesl_names::Error;
 use wesl_reading::{
-    Numbering, attributes_member, both, names_member, only, required, room, under, unplaced,
-    with_item, wrong,
+    Numbering, attributes_member, names_member, room, under, unplaced, with_item, wrong,
 };
-use wesl_reading_statements::{plain_text_member, three};
+use wesl_reading_statements::plain_text_member;
 use wesl_syntax::{GlobalDirective, GlobalDirectiveNode};
 
 /// The directives at `directives`, a list.
@@ -66,9 +65,11 @@ fn read_directive(
     ensures ok { IfOk result (λ e. Reads (node_form a_directive) (borrowed_view value.now) (placed directive_view directive_node e) numbering.old numbering.new) }
     ensures place { IfErr result (Locates (node_form a_directive) (borrowed_view value.now)) }
 {
-    let word = directive_word_of(alloc, value)?;
-    match read_worded(alloc, numbering, value, word) {
-        Ok(directive) => Ok(unplaced(directive)),
+    match directive_word_of(alloc, value) {
+        Ok(word) => match read_worded(alloc, numbering, value, word) {
+            Ok(directive) => Ok(unplaced(directive)),
+            Err(error) => Err(error),
+        },
         Err(error) => Err(error),
     }
 }
@@ -78,7 +79,9 @@ fn directive_word_of(alloc: Global, value: &BorrowedValue<'_>) -> Result<Directi
     ensures word { IfOk result (λ w. HasWord (directive_text w) (borrowed_view value.now)) }
     ensures place { IfErr result (Locates (node_form a_directive) (borrowed_view value.now)) }
 {
-    let word = required(alloc, value, "k")?;
+    let Some(word) = value.get("k") else {
+        return Err(wrong(alloc));
+    };
     match word.as_str().and_then(directive_word) {
         Some(word) => Ok(word),
         None => Err(under(alloc, wrong(alloc), "k")),
@@ -109,11 +112,14 @@ fn read_enable(
     ensures ok { IfOk result (λ e. ReadsDirective directed.Enable (borrowed_view value.now) (directive_view e) numbering.old numbering.new) }
     ensures place { IfErr result (LocatesRow (directive_worded directed.Enable) (borrowed_view value.now)) }
 {
-    let attributes = attributes_member(alloc, numbering, value, "attrs");
-    let names = names_member(alloc, value, "names");
-    let parts = both(attributes, names);
-    match only(alloc, value, &["k", "attrs", "names"], parts) {
-        Ok((attributes, names)) => Ok(GlobalDirective::Enable { attributes, names }),
+    if !wesl_pointer::has_only(value, &["k", "attrs", "names"]) {
+        return Err(wrong(alloc));
+    }
+    match attributes_member(alloc, numbering, value, "attrs") {
+        Ok(attributes) => match names_member(alloc, value, "names") {
+            Ok(names) => Ok(GlobalDirective::Enable { attributes, names }),
+            Err(error) => Err(error),
+        },
         Err(error) => Err(error),
     }
 }
@@ -126,11 +132,14 @@ fn read_requires(
     ensures ok { IfOk result (λ e. ReadsDirective directed.Requires (borrowed_view value.now) (directive_view e) numbering.old numbering.new) }
     ensures place { IfErr result (LocatesRow (directive_worded directed.Requires) (borrowed_view value.now)) }
 {
-    let attributes = attributes_member(alloc, numbering, value, "attrs");
-    let names = names_member(alloc, value, "names");
-    let parts = both(attributes, names);
-    match only(alloc, value, &["k", "attrs", "names"], parts) {
-        Ok((attributes, names)) => Ok(GlobalDirective::Requires { attributes, names }),
+    if !wesl_pointer::has_only(value, &["k", "attrs", "names"]) {
+        return Err(wrong(alloc));
+    }
+    match attributes_member(alloc, numbering, value, "attrs") {
+        Ok(attributes) => match names_member(alloc, value, "names") {
+            Ok(names) => Ok(GlobalDirective::Requires { attributes, names }),
+            Err(error) => Err(error),
+        },
         Err(error) => Err(error),
     }
 }
@@ -143,16 +152,21 @@ fn read_diagnostic(
     ensures ok { IfOk result (λ e. ReadsDirective directed.Diagnostic (borrowed_view value.now) (directive_view e) numbering.old numbering.new) }
     ensures place { IfErr result (LocatesRow (directive_worded directed.Diagnostic) (borrowed_view value.now)) }
 {
-    let attributes = attributes_member(alloc, numbering, value, "attrs");
-    let severity = plain_text_member(alloc, value, "severity");
-    let rule = plain_text_member(alloc, value, "rule");
-    let parts = three(attributes, severity, rule);
-    match only(alloc, value, &["k", "attrs", "severity", "rule"], parts) {
-        Ok((attributes, severity, rule)) => Ok(GlobalDirective::Diagnostic {
-            attributes,
-            severity,
-            rule,
-        }),
+    if !wesl_pointer::has_only(value, &["k", "attrs", "severity", "rule"]) {
+        return Err(wrong(alloc));
+    }
+    match attributes_member(alloc, numbering, value, "attrs") {
+        Ok(attributes) => match plain_text_member(alloc, value, "severity") {
+            Ok(severity) => match plain_text_member(alloc, value, "rule") {
+                Ok(rule) => Ok(GlobalDirective::Diagnostic {
+                    attributes,
+                    severity,
+                    rule,
+                }),
+                Err(error) => Err(error),
+            },
+            Err(error) => Err(error),
+        },
         Err(error) => Err(error),
     }
 }

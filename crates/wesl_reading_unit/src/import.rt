@@ -12,10 +12,9 @@ use std::alloc::Global;
 use wesl_borrowed::BorrowedValue;
 use wesl_names::{Error, Ident};
 use wesl_reading::{
-    Numbering, attributes_member, both, check_keys, name_member, name_of, names_member, only,
-    optional_path, required, room, under, unplaced, with_item, wrong,
+    Numbering, attributes_member, name_member, name_of, names_member, optional_path, required,
+    room, under, unplaced, with_item, wrong,
 };
-use wesl_reading_statements::three;
 use wesl_syntax::{Import, ImportContent, ImportItem, ImportStatement, ImportStatementNode};
 
 /// The imports at `imports`, a list.
@@ -63,16 +62,21 @@ fn read_import(
     ensures ok { IfOk result (λ e. Reads (node_form an_import) (borrowed_view value.now) (placed import_view import_node e) numbering.old numbering.new) }
     ensures place { IfErr result (Locates (node_form an_import) (borrowed_view value.now)) }
 {
-    let attributes = attributes_member(alloc, numbering, value, "attrs");
-    let path = optional_path(alloc, value);
-    let content = content_member(alloc, numbering, value);
-    let parts = three(attributes, path, content);
-    match only(alloc, value, &["attrs", "path", "content"], parts) {
-        Ok((attributes, path, content)) => Ok(unplaced(ImportStatement {
-            attributes,
-            path,
-            content,
-        })),
+    if !wesl_pointer::has_only(value, &["attrs", "path", "content"]) {
+        return Err(wrong(alloc));
+    }
+    match attributes_member(alloc, numbering, value, "attrs") {
+        Ok(attributes) => match optional_path(alloc, value) {
+            Ok(path) => match content_member(alloc, numbering, value) {
+                Ok(content) => Ok(unplaced(ImportStatement {
+                    attributes,
+                    path,
+                    content,
+                })),
+                Err(error) => Err(error),
+            },
+            Err(error) => Err(error),
+        },
         Err(error) => Err(error),
     }
 }
@@ -122,8 +126,10 @@ fn read_collection(
     ensures ok { IfOk result (λ e. Reads (node_form a_content) (borrowed_view value.now) (content_view e) numbering.old numbering.new) }
     ensures place { IfErr result (Locates (node_form a_content) (borrowed_view value.now)) }
 {
-    let entries = entries_member(alloc, numbering, value);
-    match only(alloc, value, &["list"], entries) {
+    if !wesl_pointer::has_only(value, &["list"]) {
+        return Err(wrong(alloc));
+    }
+    match entries_member(alloc, numbering, value) {
         Ok(entries) => Ok(ImportContent::Collection(entries)),
         Err(error) => Err(error),
     }
@@ -175,11 +181,14 @@ fn read_entry(
     ensures ok { IfOk result (λ e. Reads (node_form an_entry) (borrowed_view value.now) (entry_view e) numbering.old numbering.new) }
     ensures place { IfErr result (Locates (node_form an_entry) (borrowed_view value.now)) }
 {
-    let path = names_member(alloc, value, "path");
-    let content = content_member(alloc, numbering, value);
-    let parts = both(path, content);
-    match only(alloc, value, &["path", "content"], parts) {
-        Ok((path, content)) => Ok(Import { path, content }),
+    if !wesl_pointer::has_only(value, &["path", "content"]) {
+        return Err(wrong(alloc));
+    }
+    match names_member(alloc, value, "path") {
+        Ok(path) => match content_member(alloc, numbering, value) {
+            Ok(content) => Ok(Import { path, content }),
+            Err(error) => Err(error),
+        },
         Err(error) => Err(error),
     }
 }
@@ -194,10 +203,19 @@ fn read_item(
     ensures ok { IfOk result (λ e. Reads (node_form a_content) (borrowed_view value.now) (item_view e) numbering.old numbering.new) }
     ensures place { IfErr result (Locates (node_form a_content) (borrowed_view value.now)) }
 {
-    check_keys(alloc, value, &["item", "as"])?;
-    let ident = numbering.number(alloc, name_member(alloc, value, "item")?)?;
-    let rename = optional_rename(alloc, numbering, value)?;
-    Ok(ImportItem { ident, rename })
+    if !wesl_pointer::has_only(value, &["item", "as"]) {
+        return Err(wrong(alloc));
+    }
+    match name_member(alloc, value, "item") {
+        Ok(name) => match numbering.number(alloc, name) {
+            Ok(ident) => match optional_rename(alloc, numbering, value) {
+                Ok(rename) => Ok(ImportItem { ident, rename }),
+                Err(error) => Err(error),
+            },
+            Err(error) => Err(error),
+        },
+        Err(error) => Err(error),
+    }
 }
 
 // The name at `as`, an option.

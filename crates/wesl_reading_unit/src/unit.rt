@@ -11,7 +11,7 @@ use crate::directive::directives_member;
 use crate::import::imports_member;
 use std::alloc::Global;
 use wesl_borrowed::BorrowedValue;
-use wesl_reading::{Numbering, check_keys, wrong};
+use wesl_reading::{Numbering, wrong};
 use wesl_tree::{Error, TranslationUnit};
 
 /// The unit that a value stands for.
@@ -32,14 +32,31 @@ fn read_unit(alloc: Global, value: &BorrowedValue<'_>) -> Result<TranslationUnit
     ensures unit { IfOk result (λ u. IsUnitOf whole_form (borrowed_view value.now) (unit_view u)) }
     ensures place { IfErr result (λ e. IfPlace e (IsBrokenUnit whole_form (borrowed_view value.now))) }
 {
-    check_keys(alloc, value, &["imports", "directives", "declarations"])?;
+    if !wesl_pointer::has_only(value, &["imports", "directives", "declarations"]) {
+        return Err(wrong(alloc));
+    }
     let mut numbering = Numbering::new(alloc);
-    let imports = imports_member(alloc, &mut numbering, value)?;
-    let directives = directives_member(alloc, &mut numbering, value)?;
-    let declarations = declarations_member(alloc, &mut numbering, value)?;
-    let names = numbering.into_names(alloc)?;
-    match TranslationUnit::from_parts(names, imports, directives, declarations) {
-        Some(unit) => Ok(unit),
-        None => Err(wrong(alloc)),
+    match imports_member(alloc, &mut numbering, value) {
+        Ok(imports) => match directives_member(alloc, &mut numbering, value) {
+            Ok(directives) => match declarations_member(alloc, &mut numbering, value) {
+                Ok(declarations) => match numbering.into_names(alloc) {
+                    Ok(names) => {
+                        match TranslationUnit::from_parts(
+                            names,
+                            imports,
+                            directives,
+                            declarations,
+                        ) {
+                            Some(unit) => Ok(unit),
+                            None => Err(wrong(alloc)),
+                        }
+                    }
+                    Err(error) => Err(error),
+                },
+                Err(error) => Err(error),
+            },
+            Err(error) => Err(error),
+        },
+        Err(error) => Err(error),
     }
 }

@@ -11,7 +11,7 @@ use Rattle.wesl_form.specs.Nodes.{type_row}
 use Rattle.wesl_form.specs.Words.{unary_words, binary_words}
 use Rattle.wesl_form.specs.Reading.{known_keys, word_in, name_in}
 use Rattle.wesl_pointer.specs.Keys.{has_only}
-use Rattle.wesl_reading.specs.Faults.{Locates, LocatesRow}
+use Rattle.wesl_reading.specs.Faults.{IsMemberBroken, Locates}
 use Rattle.wesl_reading.specs.Forms.{expression_of}
 use Rattle.wesl_reading.specs.declared.words.ExpressionWord.TheVariants as words
 use Rattle.wesl_reading.specs.Numbers.{Reads}
@@ -20,10 +20,8 @@ use Rattle.wesl_reading.proofs.Depths.{get-depth, item-depth, array-depth}
 use Rattle.wesl_reading.proofs.Places.{member-lacks, row-inside, row-keys, row-text}
 use Rattle.wesl_reading.proofs.Steps.{may-absent, needed-there, may-there, many-there, plain-type-reads, same-reads}
 use Rattle.wesl_reading.proofs.Expressions.{call-reads, call-rows, expression-inside, expression-keys, expression-member, expression-text, type-expression-place, type-expression-reads, type-place, type-reads, type-rows, parenthesized-reads, component-reads, indexing-reads, unary-reads, binary-reads}
-use Rattle.wesl_form.specs.Nodes.{whole_form}
-use Rattle.wesl_form.specs.Place.{IsBroken}
 use Rattle.wesl_reading.proofs.ReadLists.{list-none, list-turn, list-whole}
-use Rattle.wesl_reading.proofs.Wholes.{of-both, of-boxed, of-only, part}
+use Rattle.wesl_reading.proofs.Wholes.{of-boxed, part}
 use Rattle.wesl_reading.proofs.Trees.{as_expression, tree-type, made_type, tree-made-call, tree-parenthesized, tree-component, tree-indexing, tree-unary, tree-binary}
 use Rattle.wesl_reading.proofs.Exits.{no_list, none_listed, to_member, to_next}
 use Rattle.wesl_reading.proofs.expression.+expressions.Goals as goal
@@ -98,114 +96,6 @@ pub arguments_member-returns-in_default-clause-ok : goal.arguments_member-return
 arguments_member-returns-in_default-clause-ok t c =
     may-absent (codes "args") (list_of list a_template_argument) (borrowed_view c.args.value.now) c.args.numbering.now (sym c.in_default.ensures)
 
-pub read_parenthesized-expression_member-requires : goal.read_parenthesized-expression_member-requires
-read_parenthesized-expression_member-requires t c =
-    (to_next (depth (borrowed_view c.args.value.now)) 3 7 t c.decreases refl, tt)
-
-pub read_component-expression_member-requires : goal.read_component-expression_member-requires
-read_component-expression_member-requires t c =
-    (to_next (depth (borrowed_view c.args.value.now)) 3 7 t c.decreases refl, tt)
-
-pub read_indexing-expression_member-requires : goal.read_indexing-expression_member-requires
-read_indexing-expression_member-requires t c =
-    (to_next (depth (borrowed_view c.args.value.now)) 3 7 t c.decreases refl, tt)
-
-pub read_indexing-expression_member-requires-2 : goal.read_indexing-expression_member-requires-2
-read_indexing-expression_member-requires-2 t c =
-    (to_next (depth (borrowed_view c.args.value.now)) 3 7 t c.decreases refl, tt)
-
-pub read_unary-expression_member-requires : goal.read_unary-expression_member-requires
-read_unary-expression_member-requires t c =
-    (to_next (depth (borrowed_view c.args.value.now)) 3 7 t c.decreases refl, tt)
-
-pub read_binary-expression_member-requires : goal.read_binary-expression_member-requires
-read_binary-expression_member-requires t c =
-    (to_next (depth (borrowed_view c.args.value.now)) 3 7 t c.decreases refl, tt)
-
-pub read_binary-expression_member-requires-2 : goal.read_binary-expression_member-requires-2
-read_binary-expression_member-requires-2 t c =
-    (to_next (depth (borrowed_view c.args.value.now)) 3 7 t c.decreases refl, tt)
-
-pub read_call_expression-type_member-ty-requires : goal.read_call_expression-type_member-ty-requires
-read_call_expression-type_member-ty-requires t c =
-    (to_next (depth (borrowed_view c.args.value.now)) 3 7 t c.decreases refl, tt)
-
-pub read_call_expression-expressions_member-arguments-requires : goal.read_call_expression-expressions_member-arguments-requires
-read_call_expression-expressions_member-arguments-requires t c =
-    (to_next (depth (borrowed_view c.args.value.now)) 3 7 t c.decreases refl, tt)
-
-pub read_indexing-returns-in-Ok-clause-ok : goal.read_indexing-returns-in-Ok-clause-ok
-read_indexing-returns-in-Ok-clause-ok t c =
-    let d = borrowed_view c.args.value.now in
-    let known : has_only (known_keys (expression_of words.Indexing).row d) d ≡ true = c.in-Ok.ensures.keys in
-    let parts = part _ c.both.result c.in-Ok.ensures.ok c.both.ensures.ok in
-    let base = part _ c.expression_member.result (part _ c.boxed-base.result parts.0 c.boxed-base.ensures.ok) c.expression_member.ensures.ok in
-    let index = part _ c.expression_member-2.result (part _ c.boxed-index.result parts.1 c.boxed-index.ensures.ok) c.expression_member-2.ensures.ok in
-    same-reads (indexing-reads d _ _ _ _ _ c.requires known base index) (sym (tree-indexing c.unplaced.result c.in-Ok.base c.in-Ok.index c.unplaced.ensures))
-
-pub read_indexing-returns-in-Err-clause-place : goal.read_indexing-returns-in-Err-clause-place
-read_indexing-returns-in-Err-clause-place t c =
-    let d = borrowed_view c.args.value.now in
-    let base = IfErr-weaker c.expression_member.result _ (Locates (node an_expression) d) (λ e h. expression-member words.Indexing d c.requires (codes "base") (node an_expression) e refl h) c.expression_member.ensures.place in
-    let index = IfErr-weaker c.expression_member-2.result _ (Locates (node an_expression) d) (λ e h. expression-member words.Indexing d c.requires (codes "index") (node an_expression) e refl h) c.expression_member-2.ensures.place in
-    let both = of-both (Locates (node an_expression) d) c.both.result c.boxed-base.result c.boxed-index.result c.both.ensures.place (of-boxed (IsBroken whole_form (node an_expression) d) c.boxed-base.result c.expression_member.result c.boxed-base.ensures.place base) (of-boxed (IsBroken whole_form (node an_expression) d) c.boxed-index.result c.expression_member-2.result c.boxed-index.ensures.place index) in
-    of-only (Locates (node an_expression) d) _ c.both.result c.in-Err.error c.in-Err.ensures.place (expression-keys words.Indexing d c.requires) (λ known. both)
-
-pub read_unary-returns-in-Ok-clause-ok : goal.read_unary-returns-in-Ok-clause-ok
-read_unary-returns-in-Ok-clause-ok t c =
-    let d = borrowed_view c.args.value.now in
-    let known : has_only (known_keys (expression_of words.Unary).row d) d ≡ true = c.in-Ok.ensures.keys in
-    let parts = part _ c.both.result c.in-Ok.ensures.ok c.both.ensures.ok in
-    let operator = part _ c.unary_operator_member-operator.result parts.0 c.unary_operator_member-operator.ensures.ok in
-    let operand = part _ c.expression_member.result (part _ c.boxed-operand.result parts.1 c.boxed-operand.ensures.ok) c.expression_member.ensures.ok in
-    same-reads (unary-reads d c.in-Ok.operator _ _ _ c.requires known operator operand) (sym (tree-unary c.unplaced.result c.in-Ok.operator c.in-Ok.operand c.unplaced.ensures))
-
-pub read_unary-returns-in-Err-clause-place : goal.read_unary-returns-in-Err-clause-place
-read_unary-returns-in-Err-clause-place t c =
-    let d = borrowed_view c.args.value.now in
-    let operator = IfErr-weaker c.unary_operator_member-operator.result _ (Locates (node an_expression) d) (λ e h. expression-text words.Unary d c.requires (word_in unary_words) (codes "op") (one_of unary_words) e refl (λ v n. n) h) c.unary_operator_member-operator.ensures.place in
-    let operand = IfErr-weaker c.expression_member.result _ (Locates (node an_expression) d) (λ e h. expression-member words.Unary d c.requires (codes "expr") (node an_expression) e refl h) c.expression_member.ensures.place in
-    let both = of-both (Locates (node an_expression) d) c.both.result c.unary_operator_member-operator.result c.boxed-operand.result c.both.ensures.place operator (of-boxed (IsBroken whole_form (node an_expression) d) c.boxed-operand.result c.expression_member.result c.boxed-operand.ensures.place operand) in
-    of-only (Locates (node an_expression) d) _ c.both.result c.in-Err.error c.in-Err.ensures.place (expression-keys words.Unary d c.requires) (λ known. both)
-
-pub read_binary-returns-in-Ok-clause-ok : goal.read_binary-returns-in-Ok-clause-ok
-read_binary-returns-in-Ok-clause-ok t c =
-    let d = borrowed_view c.args.value.now in
-    let known : has_only (known_keys (expression_of words.Binary).row d) d ≡ true = c.in-Ok.ensures.keys in
-    let parts = part _ c.both.result c.in-Ok.ensures.ok c.both.ensures.ok in
-    let operands = part _ c.both-operands.result parts.1 c.both-operands.ensures.ok in
-    let operator = part _ c.binary_operator_member-operator.result parts.0 c.binary_operator_member-operator.ensures.ok in
-    let left = part _ c.expression_member.result (part _ c.boxed-left.result operands.0 c.boxed-left.ensures.ok) c.expression_member.ensures.ok in
-    let right = part _ c.expression_member-2.result (part _ c.boxed-right.result operands.1 c.boxed-right.ensures.ok) c.expression_member-2.ensures.ok in
-    same-reads (binary-reads d c.in-Ok.operator _ _ _ _ _ c.requires known operator left right) (sym (tree-binary c.unplaced.result c.in-Ok.operator c.in-Ok.left c.in-Ok.right c.unplaced.ensures))
-
-pub read_binary-returns-in-Err-clause-place : goal.read_binary-returns-in-Err-clause-place
-read_binary-returns-in-Err-clause-place t c =
-    let d = borrowed_view c.args.value.now in
-    let operator = IfErr-weaker c.binary_operator_member-operator.result _ (Locates (node an_expression) d) (λ e h. expression-text words.Binary d c.requires (word_in binary_words) (codes "op") (one_of binary_words) e refl (λ v n. n) h) c.binary_operator_member-operator.ensures.place in
-    let left = IfErr-weaker c.expression_member.result _ (Locates (node an_expression) d) (λ e h. expression-member words.Binary d c.requires (codes "left") (node an_expression) e refl h) c.expression_member.ensures.place in
-    let right = IfErr-weaker c.expression_member-2.result _ (Locates (node an_expression) d) (λ e h. expression-member words.Binary d c.requires (codes "right") (node an_expression) e refl h) c.expression_member-2.ensures.place in
-    let operands = of-both (Locates (node an_expression) d) c.both-operands.result c.boxed-left.result c.boxed-right.result c.both-operands.ensures.place (of-boxed (IsBroken whole_form (node an_expression) d) c.boxed-left.result c.expression_member.result c.boxed-left.ensures.place left) (of-boxed (IsBroken whole_form (node an_expression) d) c.boxed-right.result c.expression_member-2.result c.boxed-right.ensures.place right) in
-    let both = of-both (Locates (node an_expression) d) c.both.result c.binary_operator_member-operator.result c.both-operands.result c.both.ensures.place operator operands in
-    of-only (Locates (node an_expression) d) _ c.both.result c.in-Err.error c.in-Err.ensures.place (expression-keys words.Binary d c.requires) (λ known. both)
-
-pub read_call_expression-returns-in-Ok-clause-ok : goal.read_call_expression-returns-in-Ok-clause-ok
-read_call_expression-returns-in-Ok-clause-ok t c =
-    let d = borrowed_view c.args.value.now in
-    let known : has_only (known_keys (expression_of words.FunctionCall).row d) d ≡ true = c.in-Ok.ensures.keys in
-    let parts = part _ c.both.result c.in-Ok.ensures.ok c.both.ensures.ok in
-    let ty = part _ c.type_member-ty.result parts.0 c.type_member-ty.ensures.ok in
-    let arguments = part _ c.expressions_member-arguments.result parts.1 c.expressions_member-arguments.ensures.ok in
-    same-reads (call-reads d _ _ _ c.requires known (call-rows d _ _ _ _ _ ty arguments)) (sym (tree-made-call c.unplaced.result c.in-Ok.ty c.in-Ok.arguments c.unplaced.ensures))
-
-pub read_call_expression-returns-in-Err-clause-place : goal.read_call_expression-returns-in-Err-clause-place
-read_call_expression-returns-in-Err-clause-place t c =
-    let d = borrowed_view c.args.value.now in
-    let ty = IfErr-weaker c.type_member-ty.result _ (Locates (node an_expression) d) (λ e h. expression-member words.FunctionCall d c.requires (codes "ty") (node a_type) e refl h) c.type_member-ty.ensures.place in
-    let arguments = IfErr-weaker c.expressions_member-arguments.result _ (Locates (node an_expression) d) (λ e h. expression-inside words.FunctionCall d c.requires (codes "args") false (list_of list an_expression) e refl h) c.expressions_member-arguments.ensures.place in
-    let both = of-both (Locates (node an_expression) d) c.both.result c.type_member-ty.result c.expressions_member-arguments.result c.both.ensures.place ty arguments in
-    of-only (Locates (node an_expression) d) _ c.both.result c.in-Err.error c.in-Err.ensures.place (expression-keys words.FunctionCall d c.requires) (λ known. both)
-
 pub read_arguments-loop-index-init : goal.read_arguments-loop-index-init
 read_arguments-loop-index-init t c =
     list-none argument_view list a_template_argument (borrowed_view c.args.value.now) c.deref-item-items.result.now c.args.numbering.now c.room-arguments.result c.room-arguments.ensures.ok c.room-arguments.ensures.refused
@@ -247,61 +137,6 @@ read_expressions-returns-clause-ok t c =
 pub read_expressions-returns-clause-place : goal.read_expressions-returns-clause-place
 read_expressions-returns-clause-place t c = c.loop-index.invariant.1
 
-pub read_parenthesized-returns-in-Ok-clause-ok : goal.read_parenthesized-returns-in-Ok-clause-ok
-read_parenthesized-returns-in-Ok-clause-ok t c =
-    let d = borrowed_view c.args.value.now in
-    let known : has_only (known_keys (expression_of words.Parenthesized).row d) d ≡ true = c.in-Ok.ensures.keys in
-    let expression = part _ c.expression_member.result (part _ c.boxed-expression.result c.in-Ok.ensures.ok c.boxed-expression.ensures.ok) c.expression_member.ensures.ok in
-    same-reads (parenthesized-reads d _ _ _ c.requires known expression) (sym (tree-parenthesized c.unplaced.result c.in-Ok.expression c.unplaced.ensures))
-
-pub read_parenthesized-returns-in-Err-clause-place : goal.read_parenthesized-returns-in-Err-clause-place
-read_parenthesized-returns-in-Err-clause-place t c =
-    let d = borrowed_view c.args.value.now in
-    let expression = IfErr-weaker c.expression_member.result _ (Locates (node an_expression) d) (λ e h. expression-member words.Parenthesized d c.requires (codes "expr") (node an_expression) e refl h) c.expression_member.ensures.place in
-    of-only (Locates (node an_expression) d) _ c.boxed-expression.result c.in-Err.error c.in-Err.ensures.place (expression-keys words.Parenthesized d c.requires) (λ known. of-boxed (IsBroken whole_form (node an_expression) d) c.boxed-expression.result c.expression_member.result c.boxed-expression.ensures.place expression)
-
-pub read_component-returns-in-Ok-clause-ok : goal.read_component-returns-in-Ok-clause-ok
-read_component-returns-in-Ok-clause-ok t c =
-    let d = borrowed_view c.args.value.now in
-    let known : has_only (known_keys (expression_of words.NamedComponent).row d) d ≡ true = c.in-Ok.ensures.keys in
-    let parts = part _ c.both.result c.in-Ok.ensures.ok c.both.ensures.ok in
-    let base = part _ c.expression_member.result (part _ c.boxed-base.result parts.0 c.boxed-base.ensures.ok) c.expression_member.ensures.ok in
-    let component = part _ c.own_name-component.result parts.1 c.own_name-component.ensures.ok in
-    same-reads (component-reads d _ (string_bytes c.in-Ok.component) _ _ c.requires known base component) (sym (tree-component c.unplaced.result c.in-Ok.base c.in-Ok.component c.unplaced.ensures))
-
-pub read_component-returns-in-Err-clause-place : goal.read_component-returns-in-Err-clause-place
-read_component-returns-in-Err-clause-place t c =
-    let d = borrowed_view c.args.value.now in
-    let base = IfErr-weaker c.expression_member.result _ (Locates (node an_expression) d) (λ e h. expression-member words.NamedComponent d c.requires (codes "base") (node an_expression) e refl h) c.expression_member.ensures.place in
-    let component = IfErr-weaker c.own_name-component.result _ (Locates (node an_expression) d) (λ e h. expression-text words.NamedComponent d c.requires name_in (codes "name") a_name e refl (λ v n. ap (option_map text) n) h) c.own_name-component.ensures.place in
-    let both = of-both (Locates (node an_expression) d) c.both.result c.boxed-base.result c.own_name-component.result c.both.ensures.place (of-boxed (IsBroken whole_form (node an_expression) d) c.boxed-base.result c.expression_member.result c.boxed-base.ensures.place base) component in
-    of-only (Locates (node an_expression) d) _ c.both.result c.in-Err.error c.in-Err.ensures.place (expression-keys words.NamedComponent d c.requires) (λ known. both)
-
-pub read_type_object-arguments_member-template_args-requires : goal.read_type_object-arguments_member-template_args-requires
-read_type_object-arguments_member-template_args-requires t c =
-    (to_next (depth (borrowed_view c.args.value.now)) 3 6 t c.decreases refl, tt)
-
-pub read_type_object-returns-in-Ok-clause-ok : goal.read_type_object-returns-in-Ok-clause-ok
-read_type_object-returns-in-Ok-clause-ok t c =
-    let d = borrowed_view c.args.value.now in
-    let parts = part _ c.both-parts.result c.in-Ok.ensures.ok c.both-parts.ensures.ok in
-    let others = part _ c.both.result parts.1 c.both.ensures.ok in
-    let path = part _ c.optional_path-path.result parts.0 c.optional_path-path.ensures.ok in
-    let ident = part _ c.reference_member-ident.result others.0 c.reference_member-ident.ensures.ok in
-    let template_args = part _ c.arguments_member-template_args.result others.1 c.arguments_member-template_args.ensures.ok in
-    let rows = type-rows d _ _ _ _ _ _ _ (path c.args.numbering.now) ident template_args in
-    record { children = _; is_type = made_type c.in-Ok.path c.in-Ok.others.0 c.in-Ok.others.1; known = c.in-Ok.ensures.keys; row_is = rows.row_is }
-
-pub read_type_object-returns-in-Err-clause-place : goal.read_type_object-returns-in-Err-clause-place
-read_type_object-returns-in-Err-clause-place t c =
-    let d = borrowed_view c.args.value.now in
-    let path = IfErr-weaker c.optional_path-path.result _ (LocatesRow type_row d) (λ e h. row-inside type_row (codes "path") false (leaf a_path) d e refl h) c.optional_path-path.ensures.place in
-    let ident_fault = IfErr-weaker c.reference_member-ident.result _ (LocatesRow type_row d) (λ e h. row-text type_row name_in (codes "name") (an_ident reference) d e refl (λ v n. ap (option_map (ident reference)) n) h) c.reference_member-ident.ensures.place in
-    let template_args = IfErr-weaker c.arguments_member-template_args.result _ (LocatesRow type_row d) (λ e h. row-inside type_row (codes "args") false (list_of list a_template_argument) d e refl h) c.arguments_member-template_args.ensures.place in
-    let others = of-both (LocatesRow type_row d) c.both.result c.reference_member-ident.result c.arguments_member-template_args.result c.both.ensures.place ident_fault template_args in
-    let all = of-both (LocatesRow type_row d) c.both-parts.result c.optional_path-path.result c.both.result c.both-parts.ensures.place path others in
-    of-only (LocatesRow type_row d) _ c.both-parts.result c.in-Err.error c.in-Err.ensures.place (λ e wrong is. row-keys type_row d e wrong is) (λ known. all)
-
 pub read_type_or_identifier-read_type_object-requires : goal.read_type_or_identifier-read_type_object-requires
 read_type_or_identifier-read_type_object-requires t c =
     (to_next (depth (borrowed_view c.args.value.now)) 6 7 t c.decreases refl, tt)
@@ -309,7 +144,7 @@ read_type_or_identifier-read_type_object-requires t c =
 pub read_type_or_identifier-returns-in-Ok-clause-ok : goal.read_type_or_identifier-returns-in-Ok-clause-ok
 read_type_or_identifier-returns-in-Ok-clause-ok t c =
     let h = c.in-Ok.ensures.ok in
-    same-reads (type-expression-reads (borrowed_view c.args.value.now) _ _ _ c.requires.object c.requires.unmarked h.known (record { row_is = h.row_is })) (sym (tree-type c.unplaced.result c.in-Ok.ty c.unplaced.ensures ∙ ap (λ u. as_expression (branch type_or_identifier (u ∷ []))) h.is_type))
+    same-reads (type-expression-reads (borrowed_view c.args.value.now) _ _ _ c.requires.object c.requires.unmarked h.known (record { row_is = h.row_is })) (sym (tree-type c.placed_nowhere.result c.in-Ok.ty c.placed_nowhere.ensures ∙ ap (λ u. as_expression (branch type_or_identifier (u ∷ []))) h.is_type))
 
 pub read_type_or_identifier-returns-in-Err-clause-place : goal.read_type_or_identifier-returns-in-Err-clause-place
 read_type_or_identifier-returns-in-Err-clause-place t c =
@@ -337,3 +172,225 @@ expression_member-returns-in_default-clause-place t c =
 pub type_member-returns-in_default-clause-place : goal.type_member-returns-in_default-clause-place
 type_member-returns-in_default-clause-place t c =
     member-lacks c.args.key.now (node a_type) (borrowed_view c.args.value.now) c.wrong.result (sym c.in_default.ensures) c.wrong.ensures
+
+pub boxed_member-expression_member-requires : goal.boxed_member-expression_member-requires
+boxed_member-expression_member-requires t c = (omega arith, tt)
+
+pub boxed_member-returns-clause-ok : goal.boxed_member-returns-clause-ok
+boxed_member-returns-clause-ok t c =
+    IfOk-weaker c.boxed.result _ _ (λ e is. part _ c.expression_member.result is c.expression_member.ensures.ok) c.boxed.ensures.ok
+
+pub boxed_member-returns-clause-place : goal.boxed_member-returns-clause-place
+boxed_member-returns-clause-place t c =
+    of-boxed (IsMemberBroken c.args.key.now (node an_expression) (borrowed_view c.args.value.now)) c.boxed.result c.expression_member.result c.boxed.ensures.place c.expression_member.ensures.place
+
+pub read_parenthesized-boxed_member-requires : goal.read_parenthesized-boxed_member-requires
+read_parenthesized-boxed_member-requires t c =
+    (to_next (depth (borrowed_view c.args.value.now)) 4 7 t c.decreases refl, tt)
+
+pub read_parenthesized-returns-then-not-has_only-clause-place : goal.read_parenthesized-returns-then-not-has_only-clause-place
+read_parenthesized-returns-then-not-has_only-clause-place t c =
+    let d = borrowed_view c.args.value.now in
+    let lacking : has_only (known_keys (expression_of words.Parenthesized).row d) d ≡ false = sym c.has_only.ensures ∙ c.if-not-has_only.true in
+    expression-keys words.Parenthesized d c.requires c.wrong.result lacking c.wrong.ensures
+
+pub read_parenthesized-returns-in-Err-clause-place : goal.read_parenthesized-returns-in-Err-clause-place
+read_parenthesized-returns-in-Err-clause-place t c =
+    let d = borrowed_view c.args.value.now in
+    expression-member words.Parenthesized d c.requires (codes "expr") (node an_expression) c.in-Err.error refl c.in-Err.ensures.place
+
+pub read_parenthesized-returns-in-Ok-clause-ok : goal.read_parenthesized-returns-in-Ok-clause-ok
+read_parenthesized-returns-in-Ok-clause-ok t c =
+    let d = borrowed_view c.args.value.now in
+    let known : has_only (known_keys (expression_of words.Parenthesized).row d) d ≡ true = sym c.has_only.ensures ∙ c.if-not-has_only.false in
+    let expression = c.in-Ok.ensures.ok in
+    same-reads (parenthesized-reads d _ _ _ c.requires known expression) (sym (tree-parenthesized c.placed_nowhere.result c.in-Ok.expression c.placed_nowhere.ensures))
+
+pub read_component-boxed_member-requires : goal.read_component-boxed_member-requires
+read_component-boxed_member-requires t c =
+    (to_next (depth (borrowed_view c.args.value.now)) 4 7 t c.decreases refl, tt)
+
+pub read_component-returns-then-not-has_only-clause-place : goal.read_component-returns-then-not-has_only-clause-place
+read_component-returns-then-not-has_only-clause-place t c =
+    let d = borrowed_view c.args.value.now in
+    let lacking : has_only (known_keys (expression_of words.NamedComponent).row d) d ≡ false = sym c.has_only.ensures ∙ c.if-not-has_only.true in
+    expression-keys words.NamedComponent d c.requires c.wrong.result lacking c.wrong.ensures
+
+pub read_component-returns-in-Err-clause-place : goal.read_component-returns-in-Err-clause-place
+read_component-returns-in-Err-clause-place t c =
+    let d = borrowed_view c.args.value.now in
+    expression-member words.NamedComponent d c.requires (codes "base") (node an_expression) c.in-Err.error refl c.in-Err.ensures.place
+
+pub read_component-returns-in-Err-own_name-clause-place : goal.read_component-returns-in-Err-own_name-clause-place
+read_component-returns-in-Err-own_name-clause-place t c =
+    let d = borrowed_view c.args.value.now in
+    expression-text words.NamedComponent d c.requires name_in (codes "name") a_name c.in-Err-own_name.error refl (λ v n. ap (option_map text) n) c.in-Err-own_name.ensures.place
+
+pub read_component-returns-in-Ok-own_name-clause-ok : goal.read_component-returns-in-Ok-own_name-clause-ok
+read_component-returns-in-Ok-own_name-clause-ok t c =
+    let d = borrowed_view c.args.value.now in
+    let known : has_only (known_keys (expression_of words.NamedComponent).row d) d ≡ true = sym c.has_only.ensures ∙ c.if-not-has_only.false in
+    let base = c.in-Ok.ensures.ok in
+    let component = c.in-Ok-own_name.ensures.ok in
+    same-reads (component-reads d _ (string_bytes c.in-Ok-own_name.component) _ _ c.requires known base component) (sym (tree-component c.placed_nowhere.result c.in-Ok.base c.in-Ok-own_name.component c.placed_nowhere.ensures))
+
+pub read_indexing-boxed_member-requires : goal.read_indexing-boxed_member-requires
+read_indexing-boxed_member-requires t c =
+    (to_next (depth (borrowed_view c.args.value.now)) 4 7 t c.decreases refl, tt)
+
+pub read_indexing-boxed_member-requires-in-Ok : goal.read_indexing-boxed_member-requires-in-Ok
+read_indexing-boxed_member-requires-in-Ok t c =
+    (to_next (depth (borrowed_view c.args.value.now)) 4 7 t c.decreases refl, tt)
+
+pub read_indexing-returns-then-not-has_only-clause-place : goal.read_indexing-returns-then-not-has_only-clause-place
+read_indexing-returns-then-not-has_only-clause-place t c =
+    let d = borrowed_view c.args.value.now in
+    let lacking : has_only (known_keys (expression_of words.Indexing).row d) d ≡ false = sym c.has_only.ensures ∙ c.if-not-has_only.true in
+    expression-keys words.Indexing d c.requires c.wrong.result lacking c.wrong.ensures
+
+pub read_indexing-returns-in-Err-clause-place : goal.read_indexing-returns-in-Err-clause-place
+read_indexing-returns-in-Err-clause-place t c =
+    let d = borrowed_view c.args.value.now in
+    expression-member words.Indexing d c.requires (codes "base") (node an_expression) c.in-Err.error refl c.in-Err.ensures.place
+
+pub read_indexing-returns-in-Err-boxed_member-clause-place : goal.read_indexing-returns-in-Err-boxed_member-clause-place
+read_indexing-returns-in-Err-boxed_member-clause-place t c =
+    let d = borrowed_view c.args.value.now in
+    expression-member words.Indexing d c.requires (codes "index") (node an_expression) c.in-Err-boxed_member.error refl c.in-Err-boxed_member.ensures.place
+
+pub read_indexing-returns-in-Ok-boxed_member-clause-ok : goal.read_indexing-returns-in-Ok-boxed_member-clause-ok
+read_indexing-returns-in-Ok-boxed_member-clause-ok t c =
+    let d = borrowed_view c.args.value.now in
+    let known : has_only (known_keys (expression_of words.Indexing).row d) d ≡ true = sym c.has_only.ensures ∙ c.if-not-has_only.false in
+    let base = c.in-Ok.ensures.ok in
+    let index = c.in-Ok-boxed_member.ensures.ok in
+    same-reads (indexing-reads d _ _ _ _ _ c.requires known base index) (sym (tree-indexing c.placed_nowhere.result c.in-Ok.base c.in-Ok-boxed_member.index c.placed_nowhere.ensures))
+
+pub read_unary-boxed_member-requires : goal.read_unary-boxed_member-requires
+read_unary-boxed_member-requires t c =
+    (to_next (depth (borrowed_view c.args.value.now)) 4 7 t c.decreases refl, tt)
+
+pub read_unary-returns-then-not-has_only-clause-place : goal.read_unary-returns-then-not-has_only-clause-place
+read_unary-returns-then-not-has_only-clause-place t c =
+    let d = borrowed_view c.args.value.now in
+    let lacking : has_only (known_keys (expression_of words.Unary).row d) d ≡ false = sym c.has_only.ensures ∙ c.if-not-has_only.true in
+    expression-keys words.Unary d c.requires c.wrong.result lacking c.wrong.ensures
+
+pub read_unary-returns-in-Err-clause-place : goal.read_unary-returns-in-Err-clause-place
+read_unary-returns-in-Err-clause-place t c =
+    let d = borrowed_view c.args.value.now in
+    expression-text words.Unary d c.requires (word_in unary_words) (codes "op") (one_of unary_words) c.in-Err.error refl (λ v n. n) c.in-Err.ensures.place
+
+pub read_unary-returns-in-Err-boxed_member-clause-place : goal.read_unary-returns-in-Err-boxed_member-clause-place
+read_unary-returns-in-Err-boxed_member-clause-place t c =
+    let d = borrowed_view c.args.value.now in
+    expression-member words.Unary d c.requires (codes "expr") (node an_expression) c.in-Err-boxed_member.error refl c.in-Err-boxed_member.ensures.place
+
+pub read_unary-returns-in-Ok-boxed_member-clause-ok : goal.read_unary-returns-in-Ok-boxed_member-clause-ok
+read_unary-returns-in-Ok-boxed_member-clause-ok t c =
+    let d = borrowed_view c.args.value.now in
+    let known : has_only (known_keys (expression_of words.Unary).row d) d ≡ true = sym c.has_only.ensures ∙ c.if-not-has_only.false in
+    let operator = c.in-Ok.ensures.ok in
+    let operand = c.in-Ok-boxed_member.ensures.ok in
+    same-reads (unary-reads d c.in-Ok.operator _ _ _ c.requires known operator operand) (sym (tree-unary c.placed_nowhere.result c.in-Ok.operator c.in-Ok-boxed_member.operand c.placed_nowhere.ensures))
+
+pub read_binary-boxed_member-requires : goal.read_binary-boxed_member-requires
+read_binary-boxed_member-requires t c =
+    (to_next (depth (borrowed_view c.args.value.now)) 4 7 t c.decreases refl, tt)
+
+pub read_binary-boxed_member-requires-in-Ok-boxed_member : goal.read_binary-boxed_member-requires-in-Ok-boxed_member
+read_binary-boxed_member-requires-in-Ok-boxed_member t c =
+    (to_next (depth (borrowed_view c.args.value.now)) 4 7 t c.decreases refl, tt)
+
+pub read_binary-returns-then-not-has_only-clause-place : goal.read_binary-returns-then-not-has_only-clause-place
+read_binary-returns-then-not-has_only-clause-place t c =
+    let d = borrowed_view c.args.value.now in
+    let lacking : has_only (known_keys (expression_of words.Binary).row d) d ≡ false = sym c.has_only.ensures ∙ c.if-not-has_only.true in
+    expression-keys words.Binary d c.requires c.wrong.result lacking c.wrong.ensures
+
+pub read_binary-returns-in-Err-clause-place : goal.read_binary-returns-in-Err-clause-place
+read_binary-returns-in-Err-clause-place t c =
+    let d = borrowed_view c.args.value.now in
+    expression-text words.Binary d c.requires (word_in binary_words) (codes "op") (one_of binary_words) c.in-Err.error refl (λ v n. n) c.in-Err.ensures.place
+
+pub read_binary-returns-in-Err-boxed_member-clause-place : goal.read_binary-returns-in-Err-boxed_member-clause-place
+read_binary-returns-in-Err-boxed_member-clause-place t c =
+    let d = borrowed_view c.args.value.now in
+    expression-member words.Binary d c.requires (codes "left") (node an_expression) c.in-Err-boxed_member.error refl c.in-Err-boxed_member.ensures.place
+
+pub read_binary-returns-in-Err-boxed_member-2-clause-place : goal.read_binary-returns-in-Err-boxed_member-2-clause-place
+read_binary-returns-in-Err-boxed_member-2-clause-place t c =
+    let d = borrowed_view c.args.value.now in
+    expression-member words.Binary d c.requires (codes "right") (node an_expression) c.in-Err-boxed_member-2.error refl c.in-Err-boxed_member-2.ensures.place
+
+pub read_binary-returns-in-Ok-boxed_member-2-clause-ok : goal.read_binary-returns-in-Ok-boxed_member-2-clause-ok
+read_binary-returns-in-Ok-boxed_member-2-clause-ok t c =
+    let d = borrowed_view c.args.value.now in
+    let known : has_only (known_keys (expression_of words.Binary).row d) d ≡ true = sym c.has_only.ensures ∙ c.if-not-has_only.false in
+    let operator = c.in-Ok.ensures.ok in
+    let left = c.in-Ok-boxed_member.ensures.ok in
+    let right = c.in-Ok-boxed_member-2.ensures.ok in
+    same-reads (binary-reads d c.in-Ok.operator _ _ _ _ _ c.requires known operator left right) (sym (tree-binary c.placed_nowhere.result c.in-Ok.operator c.in-Ok-boxed_member.left c.in-Ok-boxed_member-2.right c.placed_nowhere.ensures))
+
+pub read_call_expression-type_member-requires : goal.read_call_expression-type_member-requires
+read_call_expression-type_member-requires t c =
+    (to_next (depth (borrowed_view c.args.value.now)) 3 7 t c.decreases refl, tt)
+
+pub read_call_expression-expressions_member-requires : goal.read_call_expression-expressions_member-requires
+read_call_expression-expressions_member-requires t c =
+    (to_next (depth (borrowed_view c.args.value.now)) 3 7 t c.decreases refl, tt)
+
+pub read_call_expression-returns-then-not-has_only-clause-place : goal.read_call_expression-returns-then-not-has_only-clause-place
+read_call_expression-returns-then-not-has_only-clause-place t c =
+    let d = borrowed_view c.args.value.now in
+    let lacking : has_only (known_keys (expression_of words.FunctionCall).row d) d ≡ false = sym c.has_only.ensures ∙ c.if-not-has_only.true in
+    expression-keys words.FunctionCall d c.requires c.wrong.result lacking c.wrong.ensures
+
+pub read_call_expression-returns-in-Err-clause-place : goal.read_call_expression-returns-in-Err-clause-place
+read_call_expression-returns-in-Err-clause-place t c =
+    let d = borrowed_view c.args.value.now in
+    expression-member words.FunctionCall d c.requires (codes "ty") (node a_type) c.in-Err.error refl c.in-Err.ensures.place
+
+pub read_call_expression-returns-in-Err-expressions_member-clause-place : goal.read_call_expression-returns-in-Err-expressions_member-clause-place
+read_call_expression-returns-in-Err-expressions_member-clause-place t c =
+    let d = borrowed_view c.args.value.now in
+    expression-inside words.FunctionCall d c.requires (codes "args") false (list_of list an_expression) c.in-Err-expressions_member.error refl c.in-Err-expressions_member.ensures.place
+
+pub read_call_expression-returns-in-Ok-expressions_member-clause-ok : goal.read_call_expression-returns-in-Ok-expressions_member-clause-ok
+read_call_expression-returns-in-Ok-expressions_member-clause-ok t c =
+    let d = borrowed_view c.args.value.now in
+    let known : has_only (known_keys (expression_of words.FunctionCall).row d) d ≡ true = sym c.has_only.ensures ∙ c.if-not-has_only.false in
+    let ty = c.in-Ok.ensures.ok in
+    let arguments = c.in-Ok-expressions_member.ensures.ok in
+    same-reads (call-reads d _ _ _ c.requires known (call-rows d _ _ _ _ _ ty arguments)) (sym (tree-made-call c.placed_nowhere.result c.in-Ok.ty c.in-Ok-expressions_member.arguments c.placed_nowhere.ensures))
+
+pub read_type_object-arguments_member-requires : goal.read_type_object-arguments_member-requires
+read_type_object-arguments_member-requires t c =
+    (to_next (depth (borrowed_view c.args.value.now)) 3 6 t c.decreases refl, tt)
+
+pub read_type_object-returns-then-not-has_only-clause-place : goal.read_type_object-returns-then-not-has_only-clause-place
+read_type_object-returns-then-not-has_only-clause-place t c =
+    let d = borrowed_view c.args.value.now in
+    let lacking : has_only (known_keys type_row d) d ≡ false = sym c.has_only.ensures ∙ c.if-not-has_only.true in
+    row-keys type_row d c.wrong.result lacking c.wrong.ensures
+
+pub read_type_object-returns-in-Err-clause-place : goal.read_type_object-returns-in-Err-clause-place
+read_type_object-returns-in-Err-clause-place t c =
+    let d = borrowed_view c.args.value.now in
+    row-inside type_row (codes "path") false (leaf a_path) d c.in-Err.error refl c.in-Err.ensures.place
+
+pub read_type_object-returns-in-Err-reference_member-clause-place : goal.read_type_object-returns-in-Err-reference_member-clause-place
+read_type_object-returns-in-Err-reference_member-clause-place t c =
+    let d = borrowed_view c.args.value.now in
+    row-text type_row name_in (codes "name") (an_ident reference) d c.in-Err-reference_member.error refl (λ v n. ap (option_map (ident reference)) n) c.in-Err-reference_member.ensures.place
+
+pub read_type_object-returns-in-Err-arguments_member-clause-place : goal.read_type_object-returns-in-Err-arguments_member-clause-place
+read_type_object-returns-in-Err-arguments_member-clause-place t c =
+    let d = borrowed_view c.args.value.now in
+    row-inside type_row (codes "args") false (list_of list a_template_argument) d c.in-Err-arguments_member.error refl c.in-Err-arguments_member.ensures.place
+
+pub read_type_object-returns-in-Ok-arguments_member-clause-ok : goal.read_type_object-returns-in-Ok-arguments_member-clause-ok
+read_type_object-returns-in-Ok-arguments_member-clause-ok t c =
+    let d = borrowed_view c.args.value.now in
+    let rows = type-rows d _ _ _ _ _ _ _ (c.in-Ok.ensures.ok c.args.numbering.now) c.in-Ok-reference_member.ensures.ok c.in-Ok-arguments_member.ensures.ok in
+    record { children = _; is_type = made_type c.in-Ok.path c.in-Ok-reference_member.ident c.in-Ok-arguments_member.template_args; known = sym c.has_only.ensures ∙ c.if-not-has_only.false; row_is = rows.row_is }

@@ -43,6 +43,9 @@ decreases-read_type_object l = 10 * depth (borrowed_view l.value.now) + 6
 abbrev pub decreases-expression_member : goal.decreases-expression_member
 decreases-expression_member l = 10 * depth (borrowed_view l.value.now) + 3
 
+abbrev pub decreases-boxed_member : goal.decreases-boxed_member
+decreases-boxed_member l = 10 * depth (borrowed_view l.value.now) + 4
+
 abbrev pub decreases-expressions_member : goal.decreases-expressions_member
 decreases-expressions_member l = 10 * depth (borrowed_view l.value.now) + 3
 

@@ -1,5 +1,5 @@
 use Rattle.wesl_borrowed.specs.View.{borrowed_view}
-use Rattle.std.proofs.Common.{codes, false, refl, true, ◌≡◌}
+use Rattle.std.proofs.Common.{◌∙◌, sym, codes, false, refl, true, ◌≡◌}
 use Rattle.wesl_form.specs.Nodes.{attrs, operand}
 use Rattle.wesl_form.specs.Reading.{known_keys}
 use Rattle.wesl_pointer.specs.Keys.{has_only}
@@ -7,27 +7,31 @@ use Rattle.wesl_form.specs.Schema.{a_break_if, an_attribute, an_expression, list
 use Rattle.wesl_reading.proofs.Expressions.{bare-keys, bare-place, bare-reads}
 use Rattle.wesl_reading.proofs.Places.{row-inside, row-member}
 use Rattle.wesl_reading.proofs.Steps.{many-then, needs-then, none-then}
-use Rattle.wesl_reading.specs.Faults.{Locates}
 use Rattle.wesl_syntax.specs.Tree.{attributes, break_if}
-use Rattle.std.proofs.lemmas.Result.{IfErr-weaker}
-use Rattle.wesl_reading.proofs.Wholes.{of-both, of-only, part}
 use Rattle.wesl_reading_statements.proofs.selector.read_break_if.Goals as goal
+
+pub returns-then-not-has_only-clause-place : goal.returns-then-not-has_only-clause-place
+returns-then-not-has_only-clause-place c =
+    let d = borrowed_view c.args.value.now in
+    let lacking : has_only (known_keys (attrs operand) d) d ≡ false = sym c.has_only.ensures ∙ c.if-not-has_only.true in
+    bare-keys a_break_if break_if (attrs operand) d refl c.wrong.result refl lacking c.wrong.ensures
 
 pub returns-in-Err-clause-place : goal.returns-in-Err-clause-place
 returns-in-Err-clause-place c =
     let d = borrowed_view c.args.value.now in
-    of-only (Locates (node a_break_if) d) _ c.both-parts.result c.in-Err.error c.in-Err.ensures.place
-    (λ e unknown is. let wrong : has_only (known_keys (attrs operand) d) d ≡ false = unknown in bare-keys a_break_if break_if (attrs operand) d refl e refl wrong is)
-    (λ only_known.
-    let attributes_fault = IfErr-weaker c.attributes_member-attributes.result _ (Locates (node a_break_if) d) (λ e h. let known : has_only (known_keys (attrs operand) d) d ≡ true = only_known in bare-place a_break_if break_if (attrs operand) d refl e known (row-inside (attrs operand) (codes "attrs") false (list_of attributes an_attribute) d e refl h)) c.attributes_member-attributes.ensures.place in
-    let expression_fault = IfErr-weaker c.expression_member-expression.result _ (Locates (node a_break_if) d) (λ e h. let known : has_only (known_keys (attrs operand) d) d ≡ true = only_known in bare-place a_break_if break_if (attrs operand) d refl e known (row-member (attrs operand) (codes "expr") (node an_expression) d e refl h)) c.expression_member-expression.ensures.place in
-    of-both (Locates (node a_break_if) d) c.both-parts.result c.attributes_member-attributes.result c.expression_member-expression.result c.both-parts.ensures.place attributes_fault expression_fault)
+    let known : has_only (known_keys (attrs operand) d) d ≡ true = sym c.has_only.ensures ∙ c.if-not-has_only.false in
+    bare-place a_break_if break_if (attrs operand) d refl c.in-Err.error known (row-inside (attrs operand) (codes "attrs") false (list_of attributes an_attribute) d c.in-Err.error refl c.in-Err.ensures.place)
 
-pub returns-in-Ok-clause-ok : goal.returns-in-Ok-clause-ok
-returns-in-Ok-clause-ok c =
+pub returns-in-Err-expression_member-clause-place : goal.returns-in-Err-expression_member-clause-place
+returns-in-Err-expression_member-clause-place c =
     let d = borrowed_view c.args.value.now in
-    let parts = part _ c.both-parts.result c.in-Ok.ensures.ok c.both-parts.ensures.ok in
-    let attributes_read = part _ c.attributes_member-attributes.result parts.0 c.attributes_member-attributes.ensures.ok in
-    let expression_read = part _ c.expression_member-expression.result parts.1 c.expression_member-expression.ensures.ok in
-    let known : has_only (known_keys (attrs operand) d) d ≡ true = c.in-Ok.ensures.keys in
+    let known : has_only (known_keys (attrs operand) d) d ≡ true = sym c.has_only.ensures ∙ c.if-not-has_only.false in
+    bare-place a_break_if break_if (attrs operand) d refl c.in-Err-expression_member.error known (row-member (attrs operand) (codes "expr") (node an_expression) d c.in-Err-expression_member.error refl c.in-Err-expression_member.ensures.place)
+
+pub returns-in-Ok-expression_member-clause-ok : goal.returns-in-Ok-expression_member-clause-ok
+returns-in-Ok-expression_member-clause-ok c =
+    let d = borrowed_view c.args.value.now in
+    let attributes_read = c.in-Ok.ensures.ok in
+    let expression_read = c.in-Ok-expression_member.ensures.ok in
+    let known : has_only (known_keys (attrs operand) d) d ≡ true = sym c.has_only.ensures ∙ c.if-not-has_only.false in
     bare-reads a_break_if break_if (attrs operand) d refl _ _ _ known (many-then attributes_read (needs-then expression_read (none-then d _)))

@@ -1,36 +1,38 @@
 use Rattle.wesl_borrowed.specs.View.{borrowed_view}
-use Rattle.std.proofs.Common.{codes, false, refl, sym, true, ◌≡◌}
+use Rattle.std.proofs.Common.{◌∙◌, codes, false, refl, sym, true, ◌≡◌}
 use Rattle.wesl_form.specs.Reading.{known_keys}
 use Rattle.wesl_pointer.specs.Keys.{has_only}
 use Rattle.wesl_form.specs.Schema.{an_attribute, an_expression, list_of, node}
 use Rattle.wesl_reading.proofs.Places.{row-inside, row-keys}
 use Rattle.wesl_reading.proofs.Rows.{plain-kind}
 use Rattle.wesl_reading.proofs.Steps.{many-then, may-then, none-then}
-use Rattle.wesl_reading.specs.Faults.{LocatesRow}
 use Rattle.wesl_reading_statements.proofs.Views.{view-return}
 use Rattle.wesl_reading_statements.proofs.Worded.{same-worded, worded-reads}
 use Rattle.wesl_reading_statements.specs.Forms.{statement_worded}
 use Rattle.wesl_syntax.specs.Tree.{attributes, return}
 use Rattle.wesl_reading_statements.specs.declared.words.StatementWord.TheVariants as stated
-use Rattle.std.proofs.lemmas.Result.{IfErr-weaker}
-use Rattle.wesl_reading.proofs.Wholes.{of-both, of-only, part}
 use Rattle.wesl_reading_statements.proofs.simple.read_return.Goals as goal
+
+pub returns-then-not-has_only-clause-place : goal.returns-then-not-has_only-clause-place
+returns-then-not-has_only-clause-place c =
+    let d = borrowed_view c.args.value.now in
+    let lacking : has_only (known_keys (statement_worded stated.Return) d) d ≡ false = sym c.has_only.ensures ∙ c.if-not-has_only.true in
+    row-keys (statement_worded stated.Return) d c.wrong.result lacking c.wrong.ensures
 
 pub returns-in-Err-clause-place : goal.returns-in-Err-clause-place
 returns-in-Err-clause-place c =
     let d = borrowed_view c.args.value.now in
-    of-only (LocatesRow (statement_worded stated.Return) d) _ c.both-parts.result c.in-Err.error c.in-Err.ensures.place
-    (λ e unknown is. let wrong : has_only (known_keys (statement_worded stated.Return) d) d ≡ false = unknown in row-keys (statement_worded stated.Return) d e wrong is)
-    (λ only_known.
-    let attributes_fault = IfErr-weaker c.attributes_member-attributes.result _ (LocatesRow (statement_worded stated.Return) d) (λ e h. row-inside (statement_worded stated.Return) (codes "attrs") false (list_of attributes an_attribute) d e refl h) c.attributes_member-attributes.ensures.place in
-    let expression_fault = IfErr-weaker c.optional_expression-expression.result _ (LocatesRow (statement_worded stated.Return) d) (λ e h. row-inside (statement_worded stated.Return) (codes "expr") false (node an_expression) d e refl h) c.optional_expression-expression.ensures.place in
-    of-both (LocatesRow (statement_worded stated.Return) d) c.both-parts.result c.attributes_member-attributes.result c.optional_expression-expression.result c.both-parts.ensures.place attributes_fault expression_fault)
+    row-inside (statement_worded stated.Return) (codes "attrs") false (list_of attributes an_attribute) d c.in-Err.error refl c.in-Err.ensures.place
 
-pub returns-in-Ok-clause-ok : goal.returns-in-Ok-clause-ok
-returns-in-Ok-clause-ok c =
+pub returns-in-Err-optional_expression-clause-place : goal.returns-in-Err-optional_expression-clause-place
+returns-in-Err-optional_expression-clause-place c =
     let d = borrowed_view c.args.value.now in
-    let parts = part _ c.both-parts.result c.in-Ok.ensures.ok c.both-parts.ensures.ok in
-    let attributes_read = part _ c.attributes_member-attributes.result parts.0 c.attributes_member-attributes.ensures.ok in
-    let expression_read = part _ c.optional_expression-expression.result parts.1 c.optional_expression-expression.ensures.ok in
-    let known : has_only (known_keys (statement_worded stated.Return) d) d ≡ true = c.in-Ok.ensures.keys in
-    same-worded (worded-reads known (plain-kind return) refl (many-then attributes_read (may-then expression_read (none-then d _)))) (sym (view-return c.in-Ok.attributes c.in-Ok.expression))
+    row-inside (statement_worded stated.Return) (codes "expr") false (node an_expression) d c.in-Err-optional_expression.error refl c.in-Err-optional_expression.ensures.place
+
+pub returns-in-Ok-optional_expression-clause-ok : goal.returns-in-Ok-optional_expression-clause-ok
+returns-in-Ok-optional_expression-clause-ok c =
+    let d = borrowed_view c.args.value.now in
+    let attributes_read = c.in-Ok.ensures.ok in
+    let expression_read = c.in-Ok-optional_expression.ensures.ok in
+    let known : has_only (known_keys (statement_worded stated.Return) d) d ≡ true = sym c.has_only.ensures ∙ c.if-not-has_only.false in
+    same-worded (worded-reads known (plain-kind return) refl (many-then attributes_read (may-then expression_read (none-then d _)))) (sym (view-return c.in-Ok.attributes c.in-Ok-optional_expression.expression))

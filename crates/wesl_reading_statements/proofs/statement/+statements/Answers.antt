@@ -1,4 +1,4 @@
-use Rattle.wesl_reading_statements.proofs.Exits.{exit, no_list, no_value, none_listed, same_word, same_word_place, to_member, to_next}
+use Rattle.wesl_reading_statements.proofs.Exits.{no_list, none_listed, same_word, same_word_place, to_member, to_next}
 use Rattle.serde_json.specs.Data.{depth, items_depth}
 use Rattle.serde_json.specs.Find.{as_array, get}
 use Rattle.wesl_borrowed.specs.View.{borrowed_view, items_view}
@@ -22,9 +22,8 @@ use Rattle.wesl_syntax.specs.View.{clause_view, else_if_view, statement_tree, st
 use Rattle.wesl_reading_statements.specs.declared.words.StatementWord.TheVariants as stated
 use Rattle.wesl_form.specs.Nodes.{statement_words}
 use Rattle.wesl_reading_statements.specs.Forms.{statement_head, statement_row}
-use Rattle.std.proofs.lemmas.Result.{IfErr-at_err, IfErr-weaker}
-use Rattle.wesl_reading.proofs.Wholes.{of-both, of-boxed, of-only, part}
-use Rattle.wesl_reading_statements.proofs.Several.{of-three, of-four, of-five}
+use Rattle.std.proofs.lemmas.Result.{IfErr-at_err}
+use Rattle.wesl_reading.proofs.Wholes.{of-boxed, part}
 use Rattle.wesl_reading.proofs.ReadLists.{list-none, list-turn, list-whole}
 use Rattle.wesl_form.specs.Nodes.{whole_form}
 use Rattle.wesl_form.specs.Place.{IsBroken}
@@ -178,18 +177,6 @@ optional_continuing-returns-in-Err-clause-place t c =
     let found : get (codes "continuing") d ≡ Some (borrowed_view c.in-Some.member.now) = sym c.in-Some.ensures in
     inside-under (codes "continuing") (node a_continuing) d (borrowed_view c.in-Some.member.now) c.in-Err.error c.under.result found c.in-Err.ensures.place c.under.ensures
 
-pub read_statement-returns-in-Ok-clause-ok : goal.read_statement-returns-in-Ok-clause-ok
-read_statement-returns-in-Ok-clause-ok t c =
-    let d = borrowed_view c.args.value.now in
-    let word = c.in_ok-word.word in
-    same-reads (node-reads a_statement statement_node statement_words (statement_text word) (statement_head word) (statement_row word) d c.in_ok-word.ensures.word (statement-looked word) refl (statement_view c.in-Ok.statement) _ _ (statement-marked word) c.in-Ok.ensures.ok) (sym (ap statement_tree c.unplaced.ensures))
-
-pub read_statement-returns-in-Err-clause-place : goal.read_statement-returns-in-Err-clause-place
-read_statement-returns-in-Err-clause-place t c =
-    let d = borrowed_view c.args.value.now in
-    let word = c.in_ok-word.word in
-    node-place a_statement statement_node statement_words (statement_text word) (statement_head word) (statement_row word) d c.in_ok-word.ensures.word (statement-looked word) refl c.in-Err.error c.in-Err.ensures.place
-
 pub clauses_member-returns-in_default-clause-ok : goal.clauses_member-returns-in_default-clause-ok
 clauses_member-returns-in_default-clause-ok t c =
     none_listed clause_view clauses a_clause (borrowed_view c.args.value.now) c.args.numbering.now (codes "clauses") c.new.result (sym c.in_default.ensures) c.new.ensures.items
@@ -210,73 +197,69 @@ pub optional_statement-returns-in_default-clause-ok : goal.optional_statement-re
 optional_statement-returns-in_default-clause-ok t c =
     may-absent c.args.key.now (node a_statement) (borrowed_view c.args.value.now) c.args.numbering.now (sym c.in_default.ensures)
 
-pub read_block-statements_member-statements-requires : goal.read_block-statements_member-statements-requires
-read_block-statements_member-statements-requires t c =
+pub read_block-statements_member-requires : goal.read_block-statements_member-requires
+read_block-statements_member-requires t c =
     (to_next (depth (borrowed_view c.args.value.now)) 3 7 t c.decreases refl, tt)
 
-pub read_body-statements_member-statements-requires : goal.read_body-statements_member-statements-requires
-read_body-statements_member-statements-requires t c =
+pub read_body-statements_member-requires : goal.read_body-statements_member-requires
+read_body-statements_member-requires t c =
     (to_next (depth (borrowed_view c.args.value.now)) 3 7 t c.decreases refl, tt)
 
-pub read_clause-body_member-body-requires : goal.read_clause-body_member-body-requires
-read_clause-body_member-body-requires t c =
+pub read_clause-body_member-requires : goal.read_clause-body_member-requires
+read_clause-body_member-requires t c =
     (to_next (depth (borrowed_view c.args.value.now)) 3 7 t c.decreases refl, tt)
 
 pub read_clauses-returns-in_default-clause-place : goal.read_clauses-returns-in_default-clause-place
 read_clauses-returns-in_default-clause-place t c =
     no_list clauses a_clause (borrowed_view c.args.value.now) c.wrong.result (sym c.in_default.ensures) c.wrong.ensures
 
-pub read_continuing-body_member-body-requires : goal.read_continuing-body_member-body-requires
-read_continuing-body_member-body-requires t c =
+pub read_continuing-body_member-requires : goal.read_continuing-body_member-requires
+read_continuing-body_member-requires t c =
     (to_next (depth (borrowed_view c.args.value.now)) 3 7 t c.decreases refl, tt)
 
-pub read_elif-body_member-body-requires : goal.read_elif-body_member-body-requires
-read_elif-body_member-body-requires t c =
+pub read_elif-body_member-requires : goal.read_elif-body_member-requires
+read_elif-body_member-requires t c =
     (to_next (depth (borrowed_view c.args.value.now)) 3 7 t c.decreases refl, tt)
 
 pub read_elifs-returns-in_default-clause-place : goal.read_elifs-returns-in_default-clause-place
 read_elifs-returns-in_default-clause-place t c =
     no_list list an_elif (borrowed_view c.args.value.now) c.wrong.result (sym c.in_default.ensures) c.wrong.ensures
 
-pub read_else-body_member-body-requires : goal.read_else-body_member-body-requires
-read_else-body_member-body-requires t c =
+pub read_else-body_member-requires : goal.read_else-body_member-requires
+read_else-body_member-requires t c =
     (to_next (depth (borrowed_view c.args.value.now)) 3 7 t c.decreases refl, tt)
 
-pub read_for-optional_statement-initializer-requires : goal.read_for-optional_statement-initializer-requires
-read_for-optional_statement-initializer-requires t c =
+pub read_for-optional_statement-requires : goal.read_for-optional_statement-requires
+read_for-optional_statement-requires t c =
     (to_next (depth (borrowed_view c.args.value.now)) 3 7 t c.decreases refl, tt)
 
-pub read_for-optional_statement-update-requires : goal.read_for-optional_statement-update-requires
-read_for-optional_statement-update-requires t c =
+pub read_for-optional_statement-requires-in-Ok-optional_expression : goal.read_for-optional_statement-requires-in-Ok-optional_expression
+read_for-optional_statement-requires-in-Ok-optional_expression t c =
     (to_next (depth (borrowed_view c.args.value.now)) 3 7 t c.decreases refl, tt)
 
-pub read_for-body_member-body-requires : goal.read_for-body_member-body-requires
-read_for-body_member-body-requires t c =
+pub read_for-body_member-requires : goal.read_for-body_member-requires
+read_for-body_member-requires t c =
     (to_next (depth (borrowed_view c.args.value.now)) 3 7 t c.decreases refl, tt)
 
-pub read_if-body_member-body-requires : goal.read_if-body_member-body-requires
-read_if-body_member-body-requires t c =
+pub read_if-body_member-requires : goal.read_if-body_member-requires
+read_if-body_member-requires t c =
     (to_next (depth (borrowed_view c.args.value.now)) 3 7 t c.decreases refl, tt)
 
-pub read_if-elifs_member-else_if_clauses-requires : goal.read_if-elifs_member-else_if_clauses-requires
-read_if-elifs_member-else_if_clauses-requires t c =
+pub read_if-elifs_member-requires : goal.read_if-elifs_member-requires
+read_if-elifs_member-requires t c =
     (to_next (depth (borrowed_view c.args.value.now)) 3 7 t c.decreases refl, tt)
 
-pub read_if-optional_else-else_clause-requires : goal.read_if-optional_else-else_clause-requires
-read_if-optional_else-else_clause-requires t c =
+pub read_if-optional_else-requires : goal.read_if-optional_else-requires
+read_if-optional_else-requires t c =
     (to_next (depth (borrowed_view c.args.value.now)) 3 7 t c.decreases refl, tt)
 
-pub read_loop-body_member-body-requires : goal.read_loop-body_member-body-requires
-read_loop-body_member-body-requires t c =
+pub read_loop-body_member-requires : goal.read_loop-body_member-requires
+read_loop-body_member-requires t c =
     (to_next (depth (borrowed_view c.args.value.now)) 3 7 t c.decreases refl, tt)
 
-pub read_loop-optional_continuing-continuing-requires : goal.read_loop-optional_continuing-continuing-requires
-read_loop-optional_continuing-continuing-requires t c =
+pub read_loop-optional_continuing-requires : goal.read_loop-optional_continuing-requires
+read_loop-optional_continuing-requires t c =
     (to_next (depth (borrowed_view c.args.value.now)) 3 7 t c.decreases refl, tt)
-
-pub read_statement-returns-in_err-word-clause-ok : goal.read_statement-returns-in_err-word-clause-ok
-read_statement-returns-in_err-word-clause-ok t c =
-    no_value _ _ c.from_residual.result c.from_residual.ensures.1
 
 pub read_statement-read_worded-requires : goal.read_statement-read_worded-requires
 read_statement-read_worded-requires t c =
@@ -286,12 +269,12 @@ pub read_statements-returns-in_default-clause-place : goal.read_statements-retur
 read_statements-returns-in_default-clause-place t c =
     no_list statements a_statement (borrowed_view c.args.value.now) c.wrong.result (sym c.in_default.ensures) c.wrong.ensures
 
-pub read_switch-clauses_member-clauses-requires : goal.read_switch-clauses_member-clauses-requires
-read_switch-clauses_member-clauses-requires t c =
+pub read_switch-clauses_member-requires : goal.read_switch-clauses_member-requires
+read_switch-clauses_member-requires t c =
     (to_next (depth (borrowed_view c.args.value.now)) 3 7 t c.decreases refl, tt)
 
-pub read_while-body_member-body-requires : goal.read_while-body_member-body-requires
-read_while-body_member-body-requires t c =
+pub read_while-body_member-requires : goal.read_while-body_member-requires
+read_while-body_member-requires t c =
     (to_next (depth (borrowed_view c.args.value.now)) 3 7 t c.decreases refl, tt)
 
 pub read_worded-read_block-requires : goal.read_worded-read_block-requires
@@ -443,244 +426,360 @@ pub read_worded-returns-in-Err-clause-place : goal.read_worded-returns-in-Err-cl
 read_worded-returns-in-Err-clause-place t c =
     subst (λ w. LocatesRow (statement_worded w) (borrowed_view c.args.value.now) c.in-Err.error) (sym c.in-Declared.is) c.in-Err.ensures.place
 
-pub read_statement-returns-in_err-word-clause-place : goal.read_statement-returns-in_err-word-clause-place
-read_statement-returns-in_err-word-clause-place t c =
-    exit (Locates (node a_statement) (borrowed_view c.args.value.now)) c.from_residual.result c.in_err-word.field-0.0 c.from_residual.ensures.1 c.in_err-word.ensures.place
+pub read_block-returns-then-not-has_only-clause-place : goal.read_block-returns-then-not-has_only-clause-place
+read_block-returns-then-not-has_only-clause-place t c =
+    let d = borrowed_view c.args.value.now in
+    let lacking : has_only (known_keys (statement_worded stated.Block) d) d ≡ false = sym c.has_only.ensures ∙ c.if-not-has_only.true in
+    row-keys (statement_worded stated.Block) d c.wrong.result lacking c.wrong.ensures
 
 pub read_block-returns-in-Err-clause-place : goal.read_block-returns-in-Err-clause-place
 read_block-returns-in-Err-clause-place t c =
     let d = borrowed_view c.args.value.now in
-    of-only (LocatesRow (statement_worded stated.Block) d) _ c.both-parts.result c.in-Err.error c.in-Err.ensures.place
-    (λ e unknown is. let wrong : has_only (known_keys (statement_worded stated.Block) d) d ≡ false = unknown in row-keys (statement_worded stated.Block) d e wrong is)
-    (λ only_known.
-    let attributes_fault = IfErr-weaker c.attributes_member-attributes.result _ (LocatesRow (statement_worded stated.Block) d) (λ e h. row-inside (statement_worded stated.Block) (codes "attrs") false (list_of attributes an_attribute) d e refl h) c.attributes_member-attributes.ensures.place in
-    let statements_fault = IfErr-weaker c.statements_member-statements.result _ (LocatesRow (statement_worded stated.Block) d) (λ e h. row-inside (statement_worded stated.Block) (codes "stmts") false (list_of statements a_statement) d e refl h) c.statements_member-statements.ensures.place in
-    of-both (LocatesRow (statement_worded stated.Block) d) c.both-parts.result c.attributes_member-attributes.result c.statements_member-statements.result c.both-parts.ensures.place attributes_fault statements_fault)
+    row-inside (statement_worded stated.Block) (codes "attrs") false (list_of attributes an_attribute) d c.in-Err.error refl c.in-Err.ensures.place
 
-pub read_block-returns-in-Ok-clause-ok : goal.read_block-returns-in-Ok-clause-ok
-read_block-returns-in-Ok-clause-ok t c =
+pub read_block-returns-in-Err-statements_member-clause-place : goal.read_block-returns-in-Err-statements_member-clause-place
+read_block-returns-in-Err-statements_member-clause-place t c =
     let d = borrowed_view c.args.value.now in
-    let parts = part _ c.both-parts.result c.in-Ok.ensures.ok c.both-parts.ensures.ok in
-    let attributes_read = part _ c.attributes_member-attributes.result parts.0 c.attributes_member-attributes.ensures.ok in
-    let statements_read = part _ c.statements_member-statements.result parts.1 c.statements_member-statements.ensures.ok in
-    let known : has_only (known_keys (statement_worded stated.Block) d) d ≡ true = c.in-Ok.ensures.keys in
-    same-worded (worded-reads known (plain-kind compound_statement) refl (inner-then (plain-kind compound) refl (many-then attributes_read (many-then statements_read (none-then d _))) (none-then d _))) (sym (view-block c.in-Ok.attributes c.in-Ok.statements))
+    row-inside (statement_worded stated.Block) (codes "stmts") false (list_of statements a_statement) d c.in-Err-statements_member.error refl c.in-Err-statements_member.ensures.place
+
+pub read_block-returns-in-Ok-statements_member-clause-ok : goal.read_block-returns-in-Ok-statements_member-clause-ok
+read_block-returns-in-Ok-statements_member-clause-ok t c =
+    let d = borrowed_view c.args.value.now in
+    let attributes_read = c.in-Ok.ensures.ok in
+    let statements_read = c.in-Ok-statements_member.ensures.ok in
+    let known : has_only (known_keys (statement_worded stated.Block) d) d ≡ true = sym c.has_only.ensures ∙ c.if-not-has_only.false in
+    same-worded (worded-reads known (plain-kind compound_statement) refl (inner-then (plain-kind compound) refl (many-then attributes_read (many-then statements_read (none-then d _))) (none-then d _))) (sym (view-block c.in-Ok.attributes c.in-Ok-statements_member.statements))
+
+pub read_if-returns-then-not-has_only-clause-place : goal.read_if-returns-then-not-has_only-clause-place
+read_if-returns-then-not-has_only-clause-place t c =
+    let d = borrowed_view c.args.value.now in
+    let lacking : has_only (known_keys (statement_worded stated.If) d) d ≡ false = sym c.has_only.ensures ∙ c.if-not-has_only.true in
+    row-keys (statement_worded stated.If) d c.wrong.result lacking c.wrong.ensures
 
 pub read_if-returns-in-Err-clause-place : goal.read_if-returns-in-Err-clause-place
 read_if-returns-in-Err-clause-place t c =
     let d = borrowed_view c.args.value.now in
-    of-only (LocatesRow (statement_worded stated.If) d) _ c.five-parts.result c.in-Err.error c.in-Err.ensures.place
-    (λ e unknown is. let wrong : has_only (known_keys (statement_worded stated.If) d) d ≡ false = unknown in row-keys (statement_worded stated.If) d e wrong is)
-    (λ only_known.
-    let attributes_fault = IfErr-weaker c.attributes_member-attributes.result _ (LocatesRow (statement_worded stated.If) d) (λ e h. row-inside (statement_worded stated.If) (codes "attrs") false (list_of attributes an_attribute) d e refl h) c.attributes_member-attributes.ensures.place in
-    let expression_fault = IfErr-weaker c.expression_member-expression.result _ (LocatesRow (statement_worded stated.If) d) (λ e h. row-member (statement_worded stated.If) (codes "cond") (node an_expression) d e refl h) c.expression_member-expression.ensures.place in
-    let body_fault = IfErr-weaker c.body_member-body.result _ (LocatesRow (statement_worded stated.If) d) (λ e h. row-member (statement_worded stated.If) (codes "body") (node a_body) d e refl h) c.body_member-body.ensures.place in
-    let else_if_clauses_fault = IfErr-weaker c.elifs_member-else_if_clauses.result _ (LocatesRow (statement_worded stated.If) d) (λ e h. row-inside (statement_worded stated.If) (codes "elifs") false (list_of list an_elif) d e refl h) c.elifs_member-else_if_clauses.ensures.place in
-    let else_clause_fault = IfErr-weaker c.optional_else-else_clause.result _ (LocatesRow (statement_worded stated.If) d) (λ e h. row-inside (statement_worded stated.If) (codes "else") false (node an_else) d e refl h) c.optional_else-else_clause.ensures.place in
-    of-five (LocatesRow (statement_worded stated.If) d) c.five-parts.result c.attributes_member-attributes.result c.expression_member-expression.result c.body_member-body.result c.elifs_member-else_if_clauses.result c.optional_else-else_clause.result c.five-parts.ensures.place attributes_fault expression_fault body_fault else_if_clauses_fault else_clause_fault)
+    row-inside (statement_worded stated.If) (codes "attrs") false (list_of attributes an_attribute) d c.in-Err.error refl c.in-Err.ensures.place
 
-pub read_if-returns-in-Ok-clause-ok : goal.read_if-returns-in-Ok-clause-ok
-read_if-returns-in-Ok-clause-ok t c =
+pub read_if-returns-in-Err-expression_member-clause-place : goal.read_if-returns-in-Err-expression_member-clause-place
+read_if-returns-in-Err-expression_member-clause-place t c =
     let d = borrowed_view c.args.value.now in
-    let parts = part _ c.five-parts.result c.in-Ok.ensures.ok c.five-parts.ensures.ok in
-    let attributes_read = part _ c.attributes_member-attributes.result parts.0 c.attributes_member-attributes.ensures.ok in
-    let expression_read = part _ c.expression_member-expression.result parts.1 c.expression_member-expression.ensures.ok in
-    let body_read = part _ c.body_member-body.result parts.2 c.body_member-body.ensures.ok in
-    let else_if_clauses_read = part _ c.elifs_member-else_if_clauses.result parts.3 c.elifs_member-else_if_clauses.ensures.ok in
-    let else_clause_read = part _ c.optional_else-else_clause.result parts.4 c.optional_else-else_clause.ensures.ok in
-    let known : has_only (known_keys (statement_worded stated.If) d) d ≡ true = c.in-Ok.ensures.keys in
-    same-worded (worded-reads known (plain-kind if_statement) refl (many-then attributes_read (inner-then (plain-kind if_clause) refl (needs-then expression_read (needs-then body_read (none-then d _))) (many-then else_if_clauses_read (may-then else_clause_read (none-then d _)))))) (sym (view-if c.in-Ok.attributes c.in-Ok.expression c.in-Ok.body c.in-Ok.else_if_clauses c.in-Ok.else_clause))
+    row-member (statement_worded stated.If) (codes "cond") (node an_expression) d c.in-Err-expression_member.error refl c.in-Err-expression_member.ensures.place
+
+pub read_if-returns-in-Err-body_member-clause-place : goal.read_if-returns-in-Err-body_member-clause-place
+read_if-returns-in-Err-body_member-clause-place t c =
+    let d = borrowed_view c.args.value.now in
+    row-member (statement_worded stated.If) (codes "body") (node a_body) d c.in-Err-body_member.error refl c.in-Err-body_member.ensures.place
+
+pub read_if-returns-in-Err-elifs_member-clause-place : goal.read_if-returns-in-Err-elifs_member-clause-place
+read_if-returns-in-Err-elifs_member-clause-place t c =
+    let d = borrowed_view c.args.value.now in
+    row-inside (statement_worded stated.If) (codes "elifs") false (list_of list an_elif) d c.in-Err-elifs_member.error refl c.in-Err-elifs_member.ensures.place
+
+pub read_if-returns-in-Err-optional_else-clause-place : goal.read_if-returns-in-Err-optional_else-clause-place
+read_if-returns-in-Err-optional_else-clause-place t c =
+    let d = borrowed_view c.args.value.now in
+    row-inside (statement_worded stated.If) (codes "else") false (node an_else) d c.in-Err-optional_else.error refl c.in-Err-optional_else.ensures.place
+
+pub read_if-returns-in-Ok-optional_else-clause-ok : goal.read_if-returns-in-Ok-optional_else-clause-ok
+read_if-returns-in-Ok-optional_else-clause-ok t c =
+    let d = borrowed_view c.args.value.now in
+    let attributes_read = c.in-Ok.ensures.ok in
+    let expression_read = c.in-Ok-expression_member.ensures.ok in
+    let body_read = c.in-Ok-body_member.ensures.ok in
+    let else_if_clauses_read = c.in-Ok-elifs_member.ensures.ok in
+    let else_clause_read = c.in-Ok-optional_else.ensures.ok in
+    let known : has_only (known_keys (statement_worded stated.If) d) d ≡ true = sym c.has_only.ensures ∙ c.if-not-has_only.false in
+    same-worded (worded-reads known (plain-kind if_statement) refl (many-then attributes_read (inner-then (plain-kind if_clause) refl (needs-then expression_read (needs-then body_read (none-then d _))) (many-then else_if_clauses_read (may-then else_clause_read (none-then d _)))))) (sym (view-if c.in-Ok.attributes c.in-Ok-expression_member.expression c.in-Ok-body_member.body c.in-Ok-elifs_member.else_if_clauses c.in-Ok-optional_else.else_clause))
+
+pub read_switch-returns-then-not-has_only-clause-place : goal.read_switch-returns-then-not-has_only-clause-place
+read_switch-returns-then-not-has_only-clause-place t c =
+    let d = borrowed_view c.args.value.now in
+    let lacking : has_only (known_keys (statement_worded stated.Switch) d) d ≡ false = sym c.has_only.ensures ∙ c.if-not-has_only.true in
+    row-keys (statement_worded stated.Switch) d c.wrong.result lacking c.wrong.ensures
 
 pub read_switch-returns-in-Err-clause-place : goal.read_switch-returns-in-Err-clause-place
 read_switch-returns-in-Err-clause-place t c =
     let d = borrowed_view c.args.value.now in
-    of-only (LocatesRow (statement_worded stated.Switch) d) _ c.four-parts.result c.in-Err.error c.in-Err.ensures.place
-    (λ e unknown is. let wrong : has_only (known_keys (statement_worded stated.Switch) d) d ≡ false = unknown in row-keys (statement_worded stated.Switch) d e wrong is)
-    (λ only_known.
-    let attributes_fault = IfErr-weaker c.attributes_member-attributes.result _ (LocatesRow (statement_worded stated.Switch) d) (λ e h. row-inside (statement_worded stated.Switch) (codes "attrs") false (list_of attributes an_attribute) d e refl h) c.attributes_member-attributes.ensures.place in
-    let expression_fault = IfErr-weaker c.expression_member-expression.result _ (LocatesRow (statement_worded stated.Switch) d) (λ e h. row-member (statement_worded stated.Switch) (codes "expr") (node an_expression) d e refl h) c.expression_member-expression.ensures.place in
-    let body_attributes_fault = IfErr-weaker c.attributes_member-body_attributes.result _ (LocatesRow (statement_worded stated.Switch) d) (λ e h. row-inside (statement_worded stated.Switch) (codes "body_attrs") false (list_of attributes an_attribute) d e refl h) c.attributes_member-body_attributes.ensures.place in
-    let clauses_fault = IfErr-weaker c.clauses_member-clauses.result _ (LocatesRow (statement_worded stated.Switch) d) (λ e h. row-inside (statement_worded stated.Switch) (codes "clauses") false (list_of clauses a_clause) d e refl h) c.clauses_member-clauses.ensures.place in
-    of-four (LocatesRow (statement_worded stated.Switch) d) c.four-parts.result c.attributes_member-attributes.result c.expression_member-expression.result c.attributes_member-body_attributes.result c.clauses_member-clauses.result c.four-parts.ensures.place attributes_fault expression_fault body_attributes_fault clauses_fault)
+    row-inside (statement_worded stated.Switch) (codes "attrs") false (list_of attributes an_attribute) d c.in-Err.error refl c.in-Err.ensures.place
 
-pub read_switch-returns-in-Ok-clause-ok : goal.read_switch-returns-in-Ok-clause-ok
-read_switch-returns-in-Ok-clause-ok t c =
+pub read_switch-returns-in-Err-expression_member-clause-place : goal.read_switch-returns-in-Err-expression_member-clause-place
+read_switch-returns-in-Err-expression_member-clause-place t c =
     let d = borrowed_view c.args.value.now in
-    let parts = part _ c.four-parts.result c.in-Ok.ensures.ok c.four-parts.ensures.ok in
-    let attributes_read = part _ c.attributes_member-attributes.result parts.0 c.attributes_member-attributes.ensures.ok in
-    let expression_read = part _ c.expression_member-expression.result parts.1 c.expression_member-expression.ensures.ok in
-    let body_attributes_read = part _ c.attributes_member-body_attributes.result parts.2 c.attributes_member-body_attributes.ensures.ok in
-    let clauses_read = part _ c.clauses_member-clauses.result parts.3 c.clauses_member-clauses.ensures.ok in
-    let known : has_only (known_keys (statement_worded stated.Switch) d) d ≡ true = c.in-Ok.ensures.keys in
-    same-worded (worded-reads known (plain-kind switch) refl (many-then attributes_read (needs-then expression_read (many-then body_attributes_read (many-then clauses_read (none-then d _)))))) (sym (view-switch c.in-Ok.attributes c.in-Ok.expression c.in-Ok.body_attributes c.in-Ok.clauses))
+    row-member (statement_worded stated.Switch) (codes "expr") (node an_expression) d c.in-Err-expression_member.error refl c.in-Err-expression_member.ensures.place
+
+pub read_switch-returns-in-Err-attributes_member-clause-place : goal.read_switch-returns-in-Err-attributes_member-clause-place
+read_switch-returns-in-Err-attributes_member-clause-place t c =
+    let d = borrowed_view c.args.value.now in
+    row-inside (statement_worded stated.Switch) (codes "body_attrs") false (list_of attributes an_attribute) d c.in-Err-attributes_member.error refl c.in-Err-attributes_member.ensures.place
+
+pub read_switch-returns-in-Err-clauses_member-clause-place : goal.read_switch-returns-in-Err-clauses_member-clause-place
+read_switch-returns-in-Err-clauses_member-clause-place t c =
+    let d = borrowed_view c.args.value.now in
+    row-inside (statement_worded stated.Switch) (codes "clauses") false (list_of clauses a_clause) d c.in-Err-clauses_member.error refl c.in-Err-clauses_member.ensures.place
+
+pub read_switch-returns-in-Ok-clauses_member-clause-ok : goal.read_switch-returns-in-Ok-clauses_member-clause-ok
+read_switch-returns-in-Ok-clauses_member-clause-ok t c =
+    let d = borrowed_view c.args.value.now in
+    let attributes_read = c.in-Ok.ensures.ok in
+    let expression_read = c.in-Ok-expression_member.ensures.ok in
+    let body_attributes_read = c.in-Ok-attributes_member.ensures.ok in
+    let clauses_read = c.in-Ok-clauses_member.ensures.ok in
+    let known : has_only (known_keys (statement_worded stated.Switch) d) d ≡ true = sym c.has_only.ensures ∙ c.if-not-has_only.false in
+    same-worded (worded-reads known (plain-kind switch) refl (many-then attributes_read (needs-then expression_read (many-then body_attributes_read (many-then clauses_read (none-then d _)))))) (sym (view-switch c.in-Ok.attributes c.in-Ok-expression_member.expression c.in-Ok-attributes_member.body_attributes c.in-Ok-clauses_member.clauses))
+
+pub read_loop-returns-then-not-has_only-clause-place : goal.read_loop-returns-then-not-has_only-clause-place
+read_loop-returns-then-not-has_only-clause-place t c =
+    let d = borrowed_view c.args.value.now in
+    let lacking : has_only (known_keys (statement_worded stated.Loop) d) d ≡ false = sym c.has_only.ensures ∙ c.if-not-has_only.true in
+    row-keys (statement_worded stated.Loop) d c.wrong.result lacking c.wrong.ensures
 
 pub read_loop-returns-in-Err-clause-place : goal.read_loop-returns-in-Err-clause-place
 read_loop-returns-in-Err-clause-place t c =
     let d = borrowed_view c.args.value.now in
-    of-only (LocatesRow (statement_worded stated.Loop) d) _ c.three-parts.result c.in-Err.error c.in-Err.ensures.place
-    (λ e unknown is. let wrong : has_only (known_keys (statement_worded stated.Loop) d) d ≡ false = unknown in row-keys (statement_worded stated.Loop) d e wrong is)
-    (λ only_known.
-    let attributes_fault = IfErr-weaker c.attributes_member-attributes.result _ (LocatesRow (statement_worded stated.Loop) d) (λ e h. row-inside (statement_worded stated.Loop) (codes "attrs") false (list_of attributes an_attribute) d e refl h) c.attributes_member-attributes.ensures.place in
-    let body_fault = IfErr-weaker c.body_member-body.result _ (LocatesRow (statement_worded stated.Loop) d) (λ e h. row-member (statement_worded stated.Loop) (codes "body") (node a_body) d e refl h) c.body_member-body.ensures.place in
-    let continuing_fault = IfErr-weaker c.optional_continuing-continuing.result _ (LocatesRow (statement_worded stated.Loop) d) (λ e h. row-inside (statement_worded stated.Loop) (codes "continuing") false (node a_continuing) d e refl h) c.optional_continuing-continuing.ensures.place in
-    of-three (LocatesRow (statement_worded stated.Loop) d) c.three-parts.result c.attributes_member-attributes.result c.body_member-body.result c.optional_continuing-continuing.result c.three-parts.ensures.place attributes_fault body_fault continuing_fault)
+    row-inside (statement_worded stated.Loop) (codes "attrs") false (list_of attributes an_attribute) d c.in-Err.error refl c.in-Err.ensures.place
 
-pub read_loop-returns-in-Ok-clause-ok : goal.read_loop-returns-in-Ok-clause-ok
-read_loop-returns-in-Ok-clause-ok t c =
+pub read_loop-returns-in-Err-body_member-clause-place : goal.read_loop-returns-in-Err-body_member-clause-place
+read_loop-returns-in-Err-body_member-clause-place t c =
     let d = borrowed_view c.args.value.now in
-    let parts = part _ c.three-parts.result c.in-Ok.ensures.ok c.three-parts.ensures.ok in
-    let attributes_read = part _ c.attributes_member-attributes.result parts.0 c.attributes_member-attributes.ensures.ok in
-    let body_read = part _ c.body_member-body.result parts.1 c.body_member-body.ensures.ok in
-    let continuing_read = part _ c.optional_continuing-continuing.result parts.2 c.optional_continuing-continuing.ensures.ok in
-    let known : has_only (known_keys (statement_worded stated.Loop) d) d ≡ true = c.in-Ok.ensures.keys in
-    same-worded (worded-reads known (plain-kind loop) refl (many-then attributes_read (needs-then body_read (may-then continuing_read (none-then d _))))) (sym (view-loop c.in-Ok.attributes c.in-Ok.body c.in-Ok.continuing))
+    row-member (statement_worded stated.Loop) (codes "body") (node a_body) d c.in-Err-body_member.error refl c.in-Err-body_member.ensures.place
+
+pub read_loop-returns-in-Err-optional_continuing-clause-place : goal.read_loop-returns-in-Err-optional_continuing-clause-place
+read_loop-returns-in-Err-optional_continuing-clause-place t c =
+    let d = borrowed_view c.args.value.now in
+    row-inside (statement_worded stated.Loop) (codes "continuing") false (node a_continuing) d c.in-Err-optional_continuing.error refl c.in-Err-optional_continuing.ensures.place
+
+pub read_loop-returns-in-Ok-optional_continuing-clause-ok : goal.read_loop-returns-in-Ok-optional_continuing-clause-ok
+read_loop-returns-in-Ok-optional_continuing-clause-ok t c =
+    let d = borrowed_view c.args.value.now in
+    let attributes_read = c.in-Ok.ensures.ok in
+    let body_read = c.in-Ok-body_member.ensures.ok in
+    let continuing_read = c.in-Ok-optional_continuing.ensures.ok in
+    let known : has_only (known_keys (statement_worded stated.Loop) d) d ≡ true = sym c.has_only.ensures ∙ c.if-not-has_only.false in
+    same-worded (worded-reads known (plain-kind loop) refl (many-then attributes_read (needs-then body_read (may-then continuing_read (none-then d _))))) (sym (view-loop c.in-Ok.attributes c.in-Ok-body_member.body c.in-Ok-optional_continuing.continuing))
+
+pub read_for-returns-then-not-has_only-clause-place : goal.read_for-returns-then-not-has_only-clause-place
+read_for-returns-then-not-has_only-clause-place t c =
+    let d = borrowed_view c.args.value.now in
+    let lacking : has_only (known_keys (statement_worded stated.For) d) d ≡ false = sym c.has_only.ensures ∙ c.if-not-has_only.true in
+    row-keys (statement_worded stated.For) d c.wrong.result lacking c.wrong.ensures
 
 pub read_for-returns-in-Err-clause-place : goal.read_for-returns-in-Err-clause-place
 read_for-returns-in-Err-clause-place t c =
     let d = borrowed_view c.args.value.now in
-    of-only (LocatesRow (statement_worded stated.For) d) _ c.five-parts.result c.in-Err.error c.in-Err.ensures.place
-    (λ e unknown is. let wrong : has_only (known_keys (statement_worded stated.For) d) d ≡ false = unknown in row-keys (statement_worded stated.For) d e wrong is)
-    (λ only_known.
-    let attributes_fault = IfErr-weaker c.attributes_member-attributes.result _ (LocatesRow (statement_worded stated.For) d) (λ e h. row-inside (statement_worded stated.For) (codes "attrs") false (list_of attributes an_attribute) d e refl h) c.attributes_member-attributes.ensures.place in
-    let initializer_fault = IfErr-weaker c.optional_statement-initializer.result _ (LocatesRow (statement_worded stated.For) d) (λ e h. row-inside (statement_worded stated.For) (codes "init") false (node a_statement) d e refl h) c.optional_statement-initializer.ensures.place in
-    let condition_fault = IfErr-weaker c.optional_expression-condition.result _ (LocatesRow (statement_worded stated.For) d) (λ e h. row-inside (statement_worded stated.For) (codes "cond") false (node an_expression) d e refl h) c.optional_expression-condition.ensures.place in
-    let update_fault = IfErr-weaker c.optional_statement-update.result _ (LocatesRow (statement_worded stated.For) d) (λ e h. row-inside (statement_worded stated.For) (codes "update") false (node a_statement) d e refl h) c.optional_statement-update.ensures.place in
-    let body_fault = IfErr-weaker c.body_member-body.result _ (LocatesRow (statement_worded stated.For) d) (λ e h. row-member (statement_worded stated.For) (codes "body") (node a_body) d e refl h) c.body_member-body.ensures.place in
-    of-five (LocatesRow (statement_worded stated.For) d) c.five-parts.result c.attributes_member-attributes.result c.optional_statement-initializer.result c.optional_expression-condition.result c.optional_statement-update.result c.body_member-body.result c.five-parts.ensures.place attributes_fault initializer_fault condition_fault update_fault body_fault)
+    row-inside (statement_worded stated.For) (codes "attrs") false (list_of attributes an_attribute) d c.in-Err.error refl c.in-Err.ensures.place
 
-pub read_for-returns-in-Ok-clause-ok : goal.read_for-returns-in-Ok-clause-ok
-read_for-returns-in-Ok-clause-ok t c =
+pub read_for-returns-in-Err-optional_statement-clause-place : goal.read_for-returns-in-Err-optional_statement-clause-place
+read_for-returns-in-Err-optional_statement-clause-place t c =
     let d = borrowed_view c.args.value.now in
-    let parts = part _ c.five-parts.result c.in-Ok.ensures.ok c.five-parts.ensures.ok in
-    let attributes_read = part _ c.attributes_member-attributes.result parts.0 c.attributes_member-attributes.ensures.ok in
-    let initializer_read = part _ c.optional_statement-initializer.result parts.1 c.optional_statement-initializer.ensures.ok in
-    let condition_read = part _ c.optional_expression-condition.result parts.2 c.optional_expression-condition.ensures.ok in
-    let update_read = part _ c.optional_statement-update.result parts.3 c.optional_statement-update.ensures.ok in
-    let body_read = part _ c.body_member-body.result parts.4 c.body_member-body.ensures.ok in
-    let known : has_only (known_keys (statement_worded stated.For) d) d ≡ true = c.in-Ok.ensures.keys in
-    same-worded (worded-reads known (plain-kind for_loop) refl (many-then attributes_read (may-then initializer_read (may-then condition_read (may-then update_read (needs-then body_read (none-then d _))))))) (sym (view-for c.in-Ok.attributes c.in-Ok.initializer c.in-Ok.condition c.in-Ok.update c.in-Ok.body))
+    row-inside (statement_worded stated.For) (codes "init") false (node a_statement) d c.in-Err-optional_statement.error refl c.in-Err-optional_statement.ensures.place
+
+pub read_for-returns-in-Err-optional_expression-clause-place : goal.read_for-returns-in-Err-optional_expression-clause-place
+read_for-returns-in-Err-optional_expression-clause-place t c =
+    let d = borrowed_view c.args.value.now in
+    row-inside (statement_worded stated.For) (codes "cond") false (node an_expression) d c.in-Err-optional_expression.error refl c.in-Err-optional_expression.ensures.place
+
+pub read_for-returns-in-Err-optional_statement-2-clause-place : goal.read_for-returns-in-Err-optional_statement-2-clause-place
+read_for-returns-in-Err-optional_statement-2-clause-place t c =
+    let d = borrowed_view c.args.value.now in
+    row-inside (statement_worded stated.For) (codes "update") false (node a_statement) d c.in-Err-optional_statement-2.error refl c.in-Err-optional_statement-2.ensures.place
+
+pub read_for-returns-in-Err-body_member-clause-place : goal.read_for-returns-in-Err-body_member-clause-place
+read_for-returns-in-Err-body_member-clause-place t c =
+    let d = borrowed_view c.args.value.now in
+    row-member (statement_worded stated.For) (codes "body") (node a_body) d c.in-Err-body_member.error refl c.in-Err-body_member.ensures.place
+
+pub read_for-returns-in-Ok-body_member-clause-ok : goal.read_for-returns-in-Ok-body_member-clause-ok
+read_for-returns-in-Ok-body_member-clause-ok t c =
+    let d = borrowed_view c.args.value.now in
+    let attributes_read = c.in-Ok.ensures.ok in
+    let initializer_read = c.in-Ok-optional_statement.ensures.ok in
+    let condition_read = c.in-Ok-optional_expression.ensures.ok in
+    let update_read = c.in-Ok-optional_statement-2.ensures.ok in
+    let body_read = c.in-Ok-body_member.ensures.ok in
+    let known : has_only (known_keys (statement_worded stated.For) d) d ≡ true = sym c.has_only.ensures ∙ c.if-not-has_only.false in
+    same-worded (worded-reads known (plain-kind for_loop) refl (many-then attributes_read (may-then initializer_read (may-then condition_read (may-then update_read (needs-then body_read (none-then d _))))))) (sym (view-for c.in-Ok.attributes c.in-Ok-optional_statement.initializer c.in-Ok-optional_expression.condition c.in-Ok-optional_statement-2.update c.in-Ok-body_member.body))
+
+pub read_while-returns-then-not-has_only-clause-place : goal.read_while-returns-then-not-has_only-clause-place
+read_while-returns-then-not-has_only-clause-place t c =
+    let d = borrowed_view c.args.value.now in
+    let lacking : has_only (known_keys (statement_worded stated.While) d) d ≡ false = sym c.has_only.ensures ∙ c.if-not-has_only.true in
+    row-keys (statement_worded stated.While) d c.wrong.result lacking c.wrong.ensures
 
 pub read_while-returns-in-Err-clause-place : goal.read_while-returns-in-Err-clause-place
 read_while-returns-in-Err-clause-place t c =
     let d = borrowed_view c.args.value.now in
-    of-only (LocatesRow (statement_worded stated.While) d) _ c.three-parts.result c.in-Err.error c.in-Err.ensures.place
-    (λ e unknown is. let wrong : has_only (known_keys (statement_worded stated.While) d) d ≡ false = unknown in row-keys (statement_worded stated.While) d e wrong is)
-    (λ only_known.
-    let attributes_fault = IfErr-weaker c.attributes_member-attributes.result _ (LocatesRow (statement_worded stated.While) d) (λ e h. row-inside (statement_worded stated.While) (codes "attrs") false (list_of attributes an_attribute) d e refl h) c.attributes_member-attributes.ensures.place in
-    let condition_fault = IfErr-weaker c.expression_member-condition.result _ (LocatesRow (statement_worded stated.While) d) (λ e h. row-member (statement_worded stated.While) (codes "cond") (node an_expression) d e refl h) c.expression_member-condition.ensures.place in
-    let body_fault = IfErr-weaker c.body_member-body.result _ (LocatesRow (statement_worded stated.While) d) (λ e h. row-member (statement_worded stated.While) (codes "body") (node a_body) d e refl h) c.body_member-body.ensures.place in
-    of-three (LocatesRow (statement_worded stated.While) d) c.three-parts.result c.attributes_member-attributes.result c.expression_member-condition.result c.body_member-body.result c.three-parts.ensures.place attributes_fault condition_fault body_fault)
+    row-inside (statement_worded stated.While) (codes "attrs") false (list_of attributes an_attribute) d c.in-Err.error refl c.in-Err.ensures.place
 
-pub read_while-returns-in-Ok-clause-ok : goal.read_while-returns-in-Ok-clause-ok
-read_while-returns-in-Ok-clause-ok t c =
+pub read_while-returns-in-Err-expression_member-clause-place : goal.read_while-returns-in-Err-expression_member-clause-place
+read_while-returns-in-Err-expression_member-clause-place t c =
     let d = borrowed_view c.args.value.now in
-    let parts = part _ c.three-parts.result c.in-Ok.ensures.ok c.three-parts.ensures.ok in
-    let attributes_read = part _ c.attributes_member-attributes.result parts.0 c.attributes_member-attributes.ensures.ok in
-    let condition_read = part _ c.expression_member-condition.result parts.1 c.expression_member-condition.ensures.ok in
-    let body_read = part _ c.body_member-body.result parts.2 c.body_member-body.ensures.ok in
-    let known : has_only (known_keys (statement_worded stated.While) d) d ≡ true = c.in-Ok.ensures.keys in
-    same-worded (worded-reads known (plain-kind while_loop) refl (many-then attributes_read (needs-then condition_read (needs-then body_read (none-then d _))))) (sym (view-while c.in-Ok.attributes c.in-Ok.condition c.in-Ok.body))
+    row-member (statement_worded stated.While) (codes "cond") (node an_expression) d c.in-Err-expression_member.error refl c.in-Err-expression_member.ensures.place
+
+pub read_while-returns-in-Err-body_member-clause-place : goal.read_while-returns-in-Err-body_member-clause-place
+read_while-returns-in-Err-body_member-clause-place t c =
+    let d = borrowed_view c.args.value.now in
+    row-member (statement_worded stated.While) (codes "body") (node a_body) d c.in-Err-body_member.error refl c.in-Err-body_member.ensures.place
+
+pub read_while-returns-in-Ok-body_member-clause-ok : goal.read_while-returns-in-Ok-body_member-clause-ok
+read_while-returns-in-Ok-body_member-clause-ok t c =
+    let d = borrowed_view c.args.value.now in
+    let attributes_read = c.in-Ok.ensures.ok in
+    let condition_read = c.in-Ok-expression_member.ensures.ok in
+    let body_read = c.in-Ok-body_member.ensures.ok in
+    let known : has_only (known_keys (statement_worded stated.While) d) d ≡ true = sym c.has_only.ensures ∙ c.if-not-has_only.false in
+    same-worded (worded-reads known (plain-kind while_loop) refl (many-then attributes_read (needs-then condition_read (needs-then body_read (none-then d _))))) (sym (view-while c.in-Ok.attributes c.in-Ok-expression_member.condition c.in-Ok-body_member.body))
+
+pub read_body-returns-then-not-has_only-clause-place : goal.read_body-returns-then-not-has_only-clause-place
+read_body-returns-then-not-has_only-clause-place t c =
+    let d = borrowed_view c.args.value.now in
+    let lacking : has_only (known_keys (body_row) d) d ≡ false = sym c.has_only.ensures ∙ c.if-not-has_only.true in
+    bare-keys a_body compound (body_row) d refl c.wrong.result refl lacking c.wrong.ensures
 
 pub read_body-returns-in-Err-clause-place : goal.read_body-returns-in-Err-clause-place
 read_body-returns-in-Err-clause-place t c =
     let d = borrowed_view c.args.value.now in
-    of-only (Locates (node a_body) d) _ c.both-parts.result c.in-Err.error c.in-Err.ensures.place
-    (λ e unknown is. let wrong : has_only (known_keys (body_row) d) d ≡ false = unknown in bare-keys a_body compound (body_row) d refl e refl wrong is)
-    (λ only_known.
-    let attributes_fault = IfErr-weaker c.attributes_member-attributes.result _ (Locates (node a_body) d) (λ e h. let known : has_only (known_keys (body_row) d) d ≡ true = only_known in bare-place a_body compound (body_row) d refl e known (row-inside (body_row) (codes "attrs") false (list_of attributes an_attribute) d e refl h)) c.attributes_member-attributes.ensures.place in
-    let statements_fault = IfErr-weaker c.statements_member-statements.result _ (Locates (node a_body) d) (λ e h. let known : has_only (known_keys (body_row) d) d ≡ true = only_known in bare-place a_body compound (body_row) d refl e known (row-inside (body_row) (codes "stmts") false (list_of statements a_statement) d e refl h)) c.statements_member-statements.ensures.place in
-    of-both (Locates (node a_body) d) c.both-parts.result c.attributes_member-attributes.result c.statements_member-statements.result c.both-parts.ensures.place attributes_fault statements_fault)
+    let known : has_only (known_keys (body_row) d) d ≡ true = sym c.has_only.ensures ∙ c.if-not-has_only.false in
+    bare-place a_body compound (body_row) d refl c.in-Err.error known (row-inside (body_row) (codes "attrs") false (list_of attributes an_attribute) d c.in-Err.error refl c.in-Err.ensures.place)
 
-pub read_body-returns-in-Ok-clause-ok : goal.read_body-returns-in-Ok-clause-ok
-read_body-returns-in-Ok-clause-ok t c =
+pub read_body-returns-in-Err-statements_member-clause-place : goal.read_body-returns-in-Err-statements_member-clause-place
+read_body-returns-in-Err-statements_member-clause-place t c =
     let d = borrowed_view c.args.value.now in
-    let parts = part _ c.both-parts.result c.in-Ok.ensures.ok c.both-parts.ensures.ok in
-    let attributes_read = part _ c.attributes_member-attributes.result parts.0 c.attributes_member-attributes.ensures.ok in
-    let statements_read = part _ c.statements_member-statements.result parts.1 c.statements_member-statements.ensures.ok in
-    let known : has_only (known_keys (body_row) d) d ≡ true = c.in-Ok.ensures.keys in
-    same-reads (bare-reads a_body compound (body_row) d refl _ _ _ known (many-then attributes_read (many-then statements_read (none-then d _)))) (sym (made-block c.in-Ok.attributes c.in-Ok.statements))
+    let known : has_only (known_keys (body_row) d) d ≡ true = sym c.has_only.ensures ∙ c.if-not-has_only.false in
+    bare-place a_body compound (body_row) d refl c.in-Err-statements_member.error known (row-inside (body_row) (codes "stmts") false (list_of statements a_statement) d c.in-Err-statements_member.error refl c.in-Err-statements_member.ensures.place)
+
+pub read_body-returns-in-Ok-statements_member-clause-ok : goal.read_body-returns-in-Ok-statements_member-clause-ok
+read_body-returns-in-Ok-statements_member-clause-ok t c =
+    let d = borrowed_view c.args.value.now in
+    let attributes_read = c.in-Ok.ensures.ok in
+    let statements_read = c.in-Ok-statements_member.ensures.ok in
+    let known : has_only (known_keys (body_row) d) d ≡ true = sym c.has_only.ensures ∙ c.if-not-has_only.false in
+    same-reads (bare-reads a_body compound (body_row) d refl _ _ _ known (many-then attributes_read (many-then statements_read (none-then d _)))) (sym (made-block c.in-Ok.attributes c.in-Ok-statements_member.statements))
+
+pub read_elif-returns-then-not-has_only-clause-place : goal.read_elif-returns-then-not-has_only-clause-place
+read_elif-returns-then-not-has_only-clause-place t c =
+    let d = borrowed_view c.args.value.now in
+    let lacking : has_only (known_keys (attrs condition_row) d) d ≡ false = sym c.has_only.ensures ∙ c.if-not-has_only.true in
+    bare-keys an_elif else_if_clause (attrs condition_row) d refl c.wrong.result refl lacking c.wrong.ensures
 
 pub read_elif-returns-in-Err-clause-place : goal.read_elif-returns-in-Err-clause-place
 read_elif-returns-in-Err-clause-place t c =
     let d = borrowed_view c.args.value.now in
-    of-only (Locates (node an_elif) d) _ c.three-parts.result c.in-Err.error c.in-Err.ensures.place
-    (λ e unknown is. let wrong : has_only (known_keys (attrs condition_row) d) d ≡ false = unknown in bare-keys an_elif else_if_clause (attrs condition_row) d refl e refl wrong is)
-    (λ only_known.
-    let attributes_fault = IfErr-weaker c.attributes_member-attributes.result _ (Locates (node an_elif) d) (λ e h. let known : has_only (known_keys (attrs condition_row) d) d ≡ true = only_known in bare-place an_elif else_if_clause (attrs condition_row) d refl e known (row-inside (attrs condition_row) (codes "attrs") false (list_of attributes an_attribute) d e refl h)) c.attributes_member-attributes.ensures.place in
-    let expression_fault = IfErr-weaker c.expression_member-expression.result _ (Locates (node an_elif) d) (λ e h. let known : has_only (known_keys (attrs condition_row) d) d ≡ true = only_known in bare-place an_elif else_if_clause (attrs condition_row) d refl e known (row-member (attrs condition_row) (codes "cond") (node an_expression) d e refl h)) c.expression_member-expression.ensures.place in
-    let body_fault = IfErr-weaker c.body_member-body.result _ (Locates (node an_elif) d) (λ e h. let known : has_only (known_keys (attrs condition_row) d) d ≡ true = only_known in bare-place an_elif else_if_clause (attrs condition_row) d refl e known (row-member (attrs condition_row) (codes "body") (node a_body) d e refl h)) c.body_member-body.ensures.place in
-    of-three (Locates (node an_elif) d) c.three-parts.result c.attributes_member-attributes.result c.expression_member-expression.result c.body_member-body.result c.three-parts.ensures.place attributes_fault expression_fault body_fault)
+    let known : has_only (known_keys (attrs condition_row) d) d ≡ true = sym c.has_only.ensures ∙ c.if-not-has_only.false in
+    bare-place an_elif else_if_clause (attrs condition_row) d refl c.in-Err.error known (row-inside (attrs condition_row) (codes "attrs") false (list_of attributes an_attribute) d c.in-Err.error refl c.in-Err.ensures.place)
 
-pub read_elif-returns-in-Ok-clause-ok : goal.read_elif-returns-in-Ok-clause-ok
-read_elif-returns-in-Ok-clause-ok t c =
+pub read_elif-returns-in-Err-expression_member-clause-place : goal.read_elif-returns-in-Err-expression_member-clause-place
+read_elif-returns-in-Err-expression_member-clause-place t c =
     let d = borrowed_view c.args.value.now in
-    let parts = part _ c.three-parts.result c.in-Ok.ensures.ok c.three-parts.ensures.ok in
-    let attributes_read = part _ c.attributes_member-attributes.result parts.0 c.attributes_member-attributes.ensures.ok in
-    let expression_read = part _ c.expression_member-expression.result parts.1 c.expression_member-expression.ensures.ok in
-    let body_read = part _ c.body_member-body.result parts.2 c.body_member-body.ensures.ok in
-    let known : has_only (known_keys (attrs condition_row) d) d ≡ true = c.in-Ok.ensures.keys in
-    same-reads (bare-reads an_elif else_if_clause (attrs condition_row) d refl _ _ _ known (many-then attributes_read (needs-then expression_read (needs-then body_read (none-then d _))))) (sym (made-elif c.in-Ok.attributes c.in-Ok.expression c.in-Ok.body))
+    let known : has_only (known_keys (attrs condition_row) d) d ≡ true = sym c.has_only.ensures ∙ c.if-not-has_only.false in
+    bare-place an_elif else_if_clause (attrs condition_row) d refl c.in-Err-expression_member.error known (row-member (attrs condition_row) (codes "cond") (node an_expression) d c.in-Err-expression_member.error refl c.in-Err-expression_member.ensures.place)
+
+pub read_elif-returns-in-Err-body_member-clause-place : goal.read_elif-returns-in-Err-body_member-clause-place
+read_elif-returns-in-Err-body_member-clause-place t c =
+    let d = borrowed_view c.args.value.now in
+    let known : has_only (known_keys (attrs condition_row) d) d ≡ true = sym c.has_only.ensures ∙ c.if-not-has_only.false in
+    bare-place an_elif else_if_clause (attrs condition_row) d refl c.in-Err-body_member.error known (row-member (attrs condition_row) (codes "body") (node a_body) d c.in-Err-body_member.error refl c.in-Err-body_member.ensures.place)
+
+pub read_elif-returns-in-Ok-body_member-clause-ok : goal.read_elif-returns-in-Ok-body_member-clause-ok
+read_elif-returns-in-Ok-body_member-clause-ok t c =
+    let d = borrowed_view c.args.value.now in
+    let attributes_read = c.in-Ok.ensures.ok in
+    let expression_read = c.in-Ok-expression_member.ensures.ok in
+    let body_read = c.in-Ok-body_member.ensures.ok in
+    let known : has_only (known_keys (attrs condition_row) d) d ≡ true = sym c.has_only.ensures ∙ c.if-not-has_only.false in
+    same-reads (bare-reads an_elif else_if_clause (attrs condition_row) d refl _ _ _ known (many-then attributes_read (needs-then expression_read (needs-then body_read (none-then d _))))) (sym (made-elif c.in-Ok.attributes c.in-Ok-expression_member.expression c.in-Ok-body_member.body))
+
+pub read_else-returns-then-not-has_only-clause-place : goal.read_else-returns-then-not-has_only-clause-place
+read_else-returns-then-not-has_only-clause-place t c =
+    let d = borrowed_view c.args.value.now in
+    let lacking : has_only (known_keys (attrs (needs (codes "body") (node a_body) nothing)) d) d ≡ false = sym c.has_only.ensures ∙ c.if-not-has_only.true in
+    bare-keys an_else else_clause (attrs (needs (codes "body") (node a_body) nothing)) d refl c.wrong.result refl lacking c.wrong.ensures
 
 pub read_else-returns-in-Err-clause-place : goal.read_else-returns-in-Err-clause-place
 read_else-returns-in-Err-clause-place t c =
     let d = borrowed_view c.args.value.now in
-    of-only (Locates (node an_else) d) _ c.both-parts.result c.in-Err.error c.in-Err.ensures.place
-    (λ e unknown is. let wrong : has_only (known_keys (attrs (needs (codes "body") (node a_body) nothing)) d) d ≡ false = unknown in bare-keys an_else else_clause (attrs (needs (codes "body") (node a_body) nothing)) d refl e refl wrong is)
-    (λ only_known.
-    let attributes_fault = IfErr-weaker c.attributes_member-attributes.result _ (Locates (node an_else) d) (λ e h. let known : has_only (known_keys (attrs (needs (codes "body") (node a_body) nothing)) d) d ≡ true = only_known in bare-place an_else else_clause (attrs (needs (codes "body") (node a_body) nothing)) d refl e known (row-inside (attrs (needs (codes "body") (node a_body) nothing)) (codes "attrs") false (list_of attributes an_attribute) d e refl h)) c.attributes_member-attributes.ensures.place in
-    let body_fault = IfErr-weaker c.body_member-body.result _ (Locates (node an_else) d) (λ e h. let known : has_only (known_keys (attrs (needs (codes "body") (node a_body) nothing)) d) d ≡ true = only_known in bare-place an_else else_clause (attrs (needs (codes "body") (node a_body) nothing)) d refl e known (row-member (attrs (needs (codes "body") (node a_body) nothing)) (codes "body") (node a_body) d e refl h)) c.body_member-body.ensures.place in
-    of-both (Locates (node an_else) d) c.both-parts.result c.attributes_member-attributes.result c.body_member-body.result c.both-parts.ensures.place attributes_fault body_fault)
+    let known : has_only (known_keys (attrs (needs (codes "body") (node a_body) nothing)) d) d ≡ true = sym c.has_only.ensures ∙ c.if-not-has_only.false in
+    bare-place an_else else_clause (attrs (needs (codes "body") (node a_body) nothing)) d refl c.in-Err.error known (row-inside (attrs (needs (codes "body") (node a_body) nothing)) (codes "attrs") false (list_of attributes an_attribute) d c.in-Err.error refl c.in-Err.ensures.place)
 
-pub read_else-returns-in-Ok-clause-ok : goal.read_else-returns-in-Ok-clause-ok
-read_else-returns-in-Ok-clause-ok t c =
+pub read_else-returns-in-Err-body_member-clause-place : goal.read_else-returns-in-Err-body_member-clause-place
+read_else-returns-in-Err-body_member-clause-place t c =
     let d = borrowed_view c.args.value.now in
-    let parts = part _ c.both-parts.result c.in-Ok.ensures.ok c.both-parts.ensures.ok in
-    let attributes_read = part _ c.attributes_member-attributes.result parts.0 c.attributes_member-attributes.ensures.ok in
-    let body_read = part _ c.body_member-body.result parts.1 c.body_member-body.ensures.ok in
-    let known : has_only (known_keys (attrs (needs (codes "body") (node a_body) nothing)) d) d ≡ true = c.in-Ok.ensures.keys in
-    same-reads (bare-reads an_else else_clause (attrs (needs (codes "body") (node a_body) nothing)) d refl _ _ _ known (many-then attributes_read (needs-then body_read (none-then d _)))) (sym (made-else c.in-Ok.attributes c.in-Ok.body))
+    let known : has_only (known_keys (attrs (needs (codes "body") (node a_body) nothing)) d) d ≡ true = sym c.has_only.ensures ∙ c.if-not-has_only.false in
+    bare-place an_else else_clause (attrs (needs (codes "body") (node a_body) nothing)) d refl c.in-Err-body_member.error known (row-member (attrs (needs (codes "body") (node a_body) nothing)) (codes "body") (node a_body) d c.in-Err-body_member.error refl c.in-Err-body_member.ensures.place)
+
+pub read_else-returns-in-Ok-body_member-clause-ok : goal.read_else-returns-in-Ok-body_member-clause-ok
+read_else-returns-in-Ok-body_member-clause-ok t c =
+    let d = borrowed_view c.args.value.now in
+    let attributes_read = c.in-Ok.ensures.ok in
+    let body_read = c.in-Ok-body_member.ensures.ok in
+    let known : has_only (known_keys (attrs (needs (codes "body") (node a_body) nothing)) d) d ≡ true = sym c.has_only.ensures ∙ c.if-not-has_only.false in
+    same-reads (bare-reads an_else else_clause (attrs (needs (codes "body") (node a_body) nothing)) d refl _ _ _ known (many-then attributes_read (needs-then body_read (none-then d _)))) (sym (made-else c.in-Ok.attributes c.in-Ok-body_member.body))
+
+pub read_clause-returns-then-not-has_only-clause-place : goal.read_clause-returns-then-not-has_only-clause-place
+read_clause-returns-then-not-has_only-clause-place t c =
+    let d = borrowed_view c.args.value.now in
+    let lacking : has_only (known_keys (attrs (many (codes "cases") (list_of list a_case) (needs (codes "body") (node a_body) nothing))) d) d ≡ false = sym c.has_only.ensures ∙ c.if-not-has_only.true in
+    bare-keys a_clause switch_clause (attrs (many (codes "cases") (list_of list a_case) (needs (codes "body") (node a_body) nothing))) d refl c.wrong.result refl lacking c.wrong.ensures
 
 pub read_clause-returns-in-Err-clause-place : goal.read_clause-returns-in-Err-clause-place
 read_clause-returns-in-Err-clause-place t c =
     let d = borrowed_view c.args.value.now in
-    of-only (Locates (node a_clause) d) _ c.three-parts.result c.in-Err.error c.in-Err.ensures.place
-    (λ e unknown is. let wrong : has_only (known_keys (attrs (many (codes "cases") (list_of list a_case) (needs (codes "body") (node a_body) nothing))) d) d ≡ false = unknown in bare-keys a_clause switch_clause (attrs (many (codes "cases") (list_of list a_case) (needs (codes "body") (node a_body) nothing))) d refl e refl wrong is)
-    (λ only_known.
-    let attributes_fault = IfErr-weaker c.attributes_member-attributes.result _ (Locates (node a_clause) d) (λ e h. let known : has_only (known_keys (attrs (many (codes "cases") (list_of list a_case) (needs (codes "body") (node a_body) nothing))) d) d ≡ true = only_known in bare-place a_clause switch_clause (attrs (many (codes "cases") (list_of list a_case) (needs (codes "body") (node a_body) nothing))) d refl e known (row-inside (attrs (many (codes "cases") (list_of list a_case) (needs (codes "body") (node a_body) nothing))) (codes "attrs") false (list_of attributes an_attribute) d e refl h)) c.attributes_member-attributes.ensures.place in
-    let case_selectors_fault = IfErr-weaker c.cases_member-case_selectors.result _ (Locates (node a_clause) d) (λ e h. let known : has_only (known_keys (attrs (many (codes "cases") (list_of list a_case) (needs (codes "body") (node a_body) nothing))) d) d ≡ true = only_known in bare-place a_clause switch_clause (attrs (many (codes "cases") (list_of list a_case) (needs (codes "body") (node a_body) nothing))) d refl e known (row-inside (attrs (many (codes "cases") (list_of list a_case) (needs (codes "body") (node a_body) nothing))) (codes "cases") false (list_of list a_case) d e refl h)) c.cases_member-case_selectors.ensures.place in
-    let body_fault = IfErr-weaker c.body_member-body.result _ (Locates (node a_clause) d) (λ e h. let known : has_only (known_keys (attrs (many (codes "cases") (list_of list a_case) (needs (codes "body") (node a_body) nothing))) d) d ≡ true = only_known in bare-place a_clause switch_clause (attrs (many (codes "cases") (list_of list a_case) (needs (codes "body") (node a_body) nothing))) d refl e known (row-member (attrs (many (codes "cases") (list_of list a_case) (needs (codes "body") (node a_body) nothing))) (codes "body") (node a_body) d e refl h)) c.body_member-body.ensures.place in
-    of-three (Locates (node a_clause) d) c.three-parts.result c.attributes_member-attributes.result c.cases_member-case_selectors.result c.body_member-body.result c.three-parts.ensures.place attributes_fault case_selectors_fault body_fault)
+    let known : has_only (known_keys (attrs (many (codes "cases") (list_of list a_case) (needs (codes "body") (node a_body) nothing))) d) d ≡ true = sym c.has_only.ensures ∙ c.if-not-has_only.false in
+    bare-place a_clause switch_clause (attrs (many (codes "cases") (list_of list a_case) (needs (codes "body") (node a_body) nothing))) d refl c.in-Err.error known (row-inside (attrs (many (codes "cases") (list_of list a_case) (needs (codes "body") (node a_body) nothing))) (codes "attrs") false (list_of attributes an_attribute) d c.in-Err.error refl c.in-Err.ensures.place)
 
-pub read_clause-returns-in-Ok-clause-ok : goal.read_clause-returns-in-Ok-clause-ok
-read_clause-returns-in-Ok-clause-ok t c =
+pub read_clause-returns-in-Err-cases_member-clause-place : goal.read_clause-returns-in-Err-cases_member-clause-place
+read_clause-returns-in-Err-cases_member-clause-place t c =
     let d = borrowed_view c.args.value.now in
-    let parts = part _ c.three-parts.result c.in-Ok.ensures.ok c.three-parts.ensures.ok in
-    let attributes_read = part _ c.attributes_member-attributes.result parts.0 c.attributes_member-attributes.ensures.ok in
-    let case_selectors_read = part _ c.cases_member-case_selectors.result parts.1 c.cases_member-case_selectors.ensures.ok in
-    let body_read = part _ c.body_member-body.result parts.2 c.body_member-body.ensures.ok in
-    let known : has_only (known_keys (attrs (many (codes "cases") (list_of list a_case) (needs (codes "body") (node a_body) nothing))) d) d ≡ true = c.in-Ok.ensures.keys in
-    same-reads (bare-reads a_clause switch_clause (attrs (many (codes "cases") (list_of list a_case) (needs (codes "body") (node a_body) nothing))) d refl _ _ _ known (many-then attributes_read (many-then case_selectors_read (needs-then body_read (none-then d _))))) (sym (made-clause c.in-Ok.attributes c.in-Ok.case_selectors c.in-Ok.body))
+    let known : has_only (known_keys (attrs (many (codes "cases") (list_of list a_case) (needs (codes "body") (node a_body) nothing))) d) d ≡ true = sym c.has_only.ensures ∙ c.if-not-has_only.false in
+    bare-place a_clause switch_clause (attrs (many (codes "cases") (list_of list a_case) (needs (codes "body") (node a_body) nothing))) d refl c.in-Err-cases_member.error known (row-inside (attrs (many (codes "cases") (list_of list a_case) (needs (codes "body") (node a_body) nothing))) (codes "cases") false (list_of list a_case) d c.in-Err-cases_member.error refl c.in-Err-cases_member.ensures.place)
+
+pub read_clause-returns-in-Err-body_member-clause-place : goal.read_clause-returns-in-Err-body_member-clause-place
+read_clause-returns-in-Err-body_member-clause-place t c =
+    let d = borrowed_view c.args.value.now in
+    let known : has_only (known_keys (attrs (many (codes "cases") (list_of list a_case) (needs (codes "body") (node a_body) nothing))) d) d ≡ true = sym c.has_only.ensures ∙ c.if-not-has_only.false in
+    bare-place a_clause switch_clause (attrs (many (codes "cases") (list_of list a_case) (needs (codes "body") (node a_body) nothing))) d refl c.in-Err-body_member.error known (row-member (attrs (many (codes "cases") (list_of list a_case) (needs (codes "body") (node a_body) nothing))) (codes "body") (node a_body) d c.in-Err-body_member.error refl c.in-Err-body_member.ensures.place)
+
+pub read_clause-returns-in-Ok-body_member-clause-ok : goal.read_clause-returns-in-Ok-body_member-clause-ok
+read_clause-returns-in-Ok-body_member-clause-ok t c =
+    let d = borrowed_view c.args.value.now in
+    let attributes_read = c.in-Ok.ensures.ok in
+    let case_selectors_read = c.in-Ok-cases_member.ensures.ok in
+    let body_read = c.in-Ok-body_member.ensures.ok in
+    let known : has_only (known_keys (attrs (many (codes "cases") (list_of list a_case) (needs (codes "body") (node a_body) nothing))) d) d ≡ true = sym c.has_only.ensures ∙ c.if-not-has_only.false in
+    same-reads (bare-reads a_clause switch_clause (attrs (many (codes "cases") (list_of list a_case) (needs (codes "body") (node a_body) nothing))) d refl _ _ _ known (many-then attributes_read (many-then case_selectors_read (needs-then body_read (none-then d _))))) (sym (made-clause c.in-Ok.attributes c.in-Ok-cases_member.case_selectors c.in-Ok-body_member.body))
+
+pub read_continuing-returns-then-not-has_only-clause-place : goal.read_continuing-returns-then-not-has_only-clause-place
+read_continuing-returns-then-not-has_only-clause-place t c =
+    let d = borrowed_view c.args.value.now in
+    let lacking : has_only (known_keys (attrs (needs (codes "body") (node a_body) (may (codes "break_if") (node a_break_if) nothing))) d) d ≡ false = sym c.has_only.ensures ∙ c.if-not-has_only.true in
+    bare-keys a_continuing continuing (attrs (needs (codes "body") (node a_body) (may (codes "break_if") (node a_break_if) nothing))) d refl c.wrong.result refl lacking c.wrong.ensures
 
 pub read_continuing-returns-in-Err-clause-place : goal.read_continuing-returns-in-Err-clause-place
 read_continuing-returns-in-Err-clause-place t c =
     let d = borrowed_view c.args.value.now in
-    of-only (Locates (node a_continuing) d) _ c.three-parts.result c.in-Err.error c.in-Err.ensures.place
-    (λ e unknown is. let wrong : has_only (known_keys (attrs (needs (codes "body") (node a_body) (may (codes "break_if") (node a_break_if) nothing))) d) d ≡ false = unknown in bare-keys a_continuing continuing (attrs (needs (codes "body") (node a_body) (may (codes "break_if") (node a_break_if) nothing))) d refl e refl wrong is)
-    (λ only_known.
-    let attributes_fault = IfErr-weaker c.attributes_member-attributes.result _ (Locates (node a_continuing) d) (λ e h. let known : has_only (known_keys (attrs (needs (codes "body") (node a_body) (may (codes "break_if") (node a_break_if) nothing))) d) d ≡ true = only_known in bare-place a_continuing continuing (attrs (needs (codes "body") (node a_body) (may (codes "break_if") (node a_break_if) nothing))) d refl e known (row-inside (attrs (needs (codes "body") (node a_body) (may (codes "break_if") (node a_break_if) nothing))) (codes "attrs") false (list_of attributes an_attribute) d e refl h)) c.attributes_member-attributes.ensures.place in
-    let body_fault = IfErr-weaker c.body_member-body.result _ (Locates (node a_continuing) d) (λ e h. let known : has_only (known_keys (attrs (needs (codes "body") (node a_body) (may (codes "break_if") (node a_break_if) nothing))) d) d ≡ true = only_known in bare-place a_continuing continuing (attrs (needs (codes "body") (node a_body) (may (codes "break_if") (node a_break_if) nothing))) d refl e known (row-member (attrs (needs (codes "body") (node a_body) (may (codes "break_if") (node a_break_if) nothing))) (codes "body") (node a_body) d e refl h)) c.body_member-body.ensures.place in
-    let break_if_fault = IfErr-weaker c.optional_break_if-break_if.result _ (Locates (node a_continuing) d) (λ e h. let known : has_only (known_keys (attrs (needs (codes "body") (node a_body) (may (codes "break_if") (node a_break_if) nothing))) d) d ≡ true = only_known in bare-place a_continuing continuing (attrs (needs (codes "body") (node a_body) (may (codes "break_if") (node a_break_if) nothing))) d refl e known (row-inside (attrs (needs (codes "body") (node a_body) (may (codes "break_if") (node a_break_if) nothing))) (codes "break_if") false (node a_break_if) d e refl h)) c.optional_break_if-break_if.ensures.place in
-    of-three (Locates (node a_continuing) d) c.three-parts.result c.attributes_member-attributes.result c.body_member-body.result c.optional_break_if-break_if.result c.three-parts.ensures.place attributes_fault body_fault break_if_fault)
+    let known : has_only (known_keys (attrs (needs (codes "body") (node a_body) (may (codes "break_if") (node a_break_if) nothing))) d) d ≡ true = sym c.has_only.ensures ∙ c.if-not-has_only.false in
+    bare-place a_continuing continuing (attrs (needs (codes "body") (node a_body) (may (codes "break_if") (node a_break_if) nothing))) d refl c.in-Err.error known (row-inside (attrs (needs (codes "body") (node a_body) (may (codes "break_if") (node a_break_if) nothing))) (codes "attrs") false (list_of attributes an_attribute) d c.in-Err.error refl c.in-Err.ensures.place)
 
-pub read_continuing-returns-in-Ok-clause-ok : goal.read_continuing-returns-in-Ok-clause-ok
-read_continuing-returns-in-Ok-clause-ok t c =
+pub read_continuing-returns-in-Err-body_member-clause-place : goal.read_continuing-returns-in-Err-body_member-clause-place
+read_continuing-returns-in-Err-body_member-clause-place t c =
     let d = borrowed_view c.args.value.now in
-    let parts = part _ c.three-parts.result c.in-Ok.ensures.ok c.three-parts.ensures.ok in
-    let attributes_read = part _ c.attributes_member-attributes.result parts.0 c.attributes_member-attributes.ensures.ok in
-    let body_read = part _ c.body_member-body.result parts.1 c.body_member-body.ensures.ok in
-    let break_if_read = part _ c.optional_break_if-break_if.result parts.2 c.optional_break_if-break_if.ensures.ok in
-    let known : has_only (known_keys (attrs (needs (codes "body") (node a_body) (may (codes "break_if") (node a_break_if) nothing))) d) d ≡ true = c.in-Ok.ensures.keys in
-    same-reads (bare-reads a_continuing continuing (attrs (needs (codes "body") (node a_body) (may (codes "break_if") (node a_break_if) nothing))) d refl _ _ _ known (many-then attributes_read (needs-then body_read (may-then break_if_read (none-then d _))))) (sym (made-continuing c.in-Ok.attributes c.in-Ok.body c.in-Ok.break_if))
+    let known : has_only (known_keys (attrs (needs (codes "body") (node a_body) (may (codes "break_if") (node a_break_if) nothing))) d) d ≡ true = sym c.has_only.ensures ∙ c.if-not-has_only.false in
+    bare-place a_continuing continuing (attrs (needs (codes "body") (node a_body) (may (codes "break_if") (node a_break_if) nothing))) d refl c.in-Err-body_member.error known (row-member (attrs (needs (codes "body") (node a_body) (may (codes "break_if") (node a_break_if) nothing))) (codes "body") (node a_body) d c.in-Err-body_member.error refl c.in-Err-body_member.ensures.place)
+
+pub read_continuing-returns-in-Err-optional_break_if-clause-place : goal.read_continuing-returns-in-Err-optional_break_if-clause-place
+read_continuing-returns-in-Err-optional_break_if-clause-place t c =
+    let d = borrowed_view c.args.value.now in
+    let known : has_only (known_keys (attrs (needs (codes "body") (node a_body) (may (codes "break_if") (node a_break_if) nothing))) d) d ≡ true = sym c.has_only.ensures ∙ c.if-not-has_only.false in
+    bare-place a_continuing continuing (attrs (needs (codes "body") (node a_body) (may (codes "break_if") (node a_break_if) nothing))) d refl c.in-Err-optional_break_if.error known (row-inside (attrs (needs (codes "body") (node a_body) (may (codes "break_if") (node a_break_if) nothing))) (codes "break_if") false (node a_break_if) d c.in-Err-optional_break_if.error refl c.in-Err-optional_break_if.ensures.place)
+
+pub read_continuing-returns-in-Ok-optional_break_if-clause-ok : goal.read_continuing-returns-in-Ok-optional_break_if-clause-ok
+read_continuing-returns-in-Ok-optional_break_if-clause-ok t c =
+    let d = borrowed_view c.args.value.now in
+    let attributes_read = c.in-Ok.ensures.ok in
+    let body_read = c.in-Ok-body_member.ensures.ok in
+    let break_if_read = c.in-Ok-optional_break_if.ensures.ok in
+    let known : has_only (known_keys (attrs (needs (codes "body") (node a_body) (may (codes "break_if") (node a_break_if) nothing))) d) d ≡ true = sym c.has_only.ensures ∙ c.if-not-has_only.false in
+    same-reads (bare-reads a_continuing continuing (attrs (needs (codes "body") (node a_body) (may (codes "break_if") (node a_break_if) nothing))) d refl _ _ _ known (many-then attributes_read (needs-then body_read (may-then break_if_read (none-then d _))))) (sym (made-continuing c.in-Ok.attributes c.in-Ok-body_member.body c.in-Ok-optional_break_if.break_if))
 
 pub read_statements-loop-index-init : goal.read_statements-loop-index-init
 read_statements-loop-index-init t c =
@@ -742,3 +841,18 @@ read_clauses-returns-clause-place t c = c.loop-index.invariant.1
 pub body_member-returns-in_default-clause-place : goal.body_member-returns-in_default-clause-place
 body_member-returns-in_default-clause-place t c =
     member-lacks (codes "body") (node a_body) (borrowed_view c.args.value.now) c.wrong.result (sym c.in_default.ensures) c.wrong.ensures
+
+pub read_statement-returns-in-Ok-read_worded-clause-ok : goal.read_statement-returns-in-Ok-read_worded-clause-ok
+read_statement-returns-in-Ok-read_worded-clause-ok t c =
+    let d = borrowed_view c.args.value.now in
+    let word = c.in-Ok.word in
+    same-reads (node-reads a_statement statement_node statement_words (statement_text word) (statement_head word) (statement_row word) d c.in-Ok.ensures.word (statement-looked word) refl (statement_view c.in-Ok-read_worded.statement) _ _ (statement-marked word) c.in-Ok-read_worded.ensures.ok) (sym (ap statement_tree c.unplaced.ensures))
+
+pub read_statement-returns-in-Err-read_worded-clause-place : goal.read_statement-returns-in-Err-read_worded-clause-place
+read_statement-returns-in-Err-read_worded-clause-place t c =
+    let d = borrowed_view c.args.value.now in
+    let word = c.in-Ok.word in
+    node-place a_statement statement_node statement_words (statement_text word) (statement_head word) (statement_row word) d c.in-Ok.ensures.word (statement-looked word) refl c.in-Err-read_worded.error c.in-Err-read_worded.ensures.place
+
+pub read_statement-returns-in-Err-clause-place : goal.read_statement-returns-in-Err-clause-place
+read_statement-returns-in-Err-clause-place t c = c.in-Err.ensures.place

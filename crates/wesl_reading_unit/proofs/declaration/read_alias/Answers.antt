@@ -1,38 +1,43 @@
 use Rattle.wesl_borrowed.specs.View.{borrowed_view}
-use Rattle.std.proofs.Common.{codes, false, refl, true, ◌≡◌}
+use Rattle.std.proofs.Common.{◌∙◌, sym, codes, false, refl, true, ◌≡◌}
 use Rattle.wesl_form.specs.Reading.{known_keys}
 use Rattle.wesl_pointer.specs.Keys.{has_only}
 use Rattle.wesl_form.specs.Schema.{a_type, an_attribute, an_ident, leaf, list_of, node}
 use Rattle.wesl_reading.proofs.Places.{row-inside, row-keys, row-member}
 use Rattle.wesl_reading.proofs.Rows.{plain-kind}
 use Rattle.wesl_reading.proofs.Steps.{many-then, needs-then, none-then}
-use Rattle.wesl_reading.specs.Faults.{LocatesRow}
 use Rattle.wesl_reading_statements.proofs.Worded.{worded-reads}
 use Rattle.wesl_syntax.specs.Tree.{attributes, binder, type_alias}
 use Rattle.wesl_reading_unit.specs.Forms.{declaration_worded}
 use Rattle.wesl_reading_unit.specs.declared.words.DeclarationWord.TheVariants as globals
-use Rattle.std.proofs.lemmas.Result.{IfErr-weaker}
-use Rattle.wesl_reading_statements.proofs.Several.{of-three}
-use Rattle.wesl_reading.proofs.Wholes.{of-only, part}
 use Rattle.wesl_reading_unit.proofs.declaration.read_alias.Goals as goal
+
+pub returns-then-not-has_only-clause-place : goal.returns-then-not-has_only-clause-place
+returns-then-not-has_only-clause-place c =
+    let d = borrowed_view c.args.value.now in
+    let lacking : has_only (known_keys (declaration_worded globals.Alias) d) d ≡ false = sym c.has_only.ensures ∙ c.if-not-has_only.true in
+    row-keys (declaration_worded globals.Alias) d c.wrong.result lacking c.wrong.ensures
 
 pub returns-in-Err-clause-place : goal.returns-in-Err-clause-place
 returns-in-Err-clause-place c =
     let d = borrowed_view c.args.value.now in
-    of-only (LocatesRow (declaration_worded globals.Alias) d) _ c.three-parts.result c.in-Err.error c.in-Err.ensures.place
-    (λ e unknown is. let wrong : has_only (known_keys (declaration_worded globals.Alias) d) d ≡ false = unknown in row-keys (declaration_worded globals.Alias) d e wrong is)
-    (λ only_known.
-    let attributes_fault = IfErr-weaker c.attributes_member-attributes.result _ (LocatesRow (declaration_worded globals.Alias) d) (λ e h. row-inside (declaration_worded globals.Alias) (codes "attrs") false (list_of attributes an_attribute) d e refl h) c.attributes_member-attributes.ensures.place in
-    let ident_fault = IfErr-weaker c.binder_member-ident.result _ (LocatesRow (declaration_worded globals.Alias) d) (λ e h. row-member (declaration_worded globals.Alias) (codes "name") (leaf (an_ident binder)) d e refl h) c.binder_member-ident.ensures.place in
-    let ty_fault = IfErr-weaker c.type_member-ty.result _ (LocatesRow (declaration_worded globals.Alias) d) (λ e h. row-member (declaration_worded globals.Alias) (codes "ty") (node a_type) d e refl h) c.type_member-ty.ensures.place in
-    of-three (LocatesRow (declaration_worded globals.Alias) d) c.three-parts.result c.attributes_member-attributes.result c.binder_member-ident.result c.type_member-ty.result c.three-parts.ensures.place attributes_fault ident_fault ty_fault)
+    row-inside (declaration_worded globals.Alias) (codes "attrs") false (list_of attributes an_attribute) d c.in-Err.error refl c.in-Err.ensures.place
 
-pub returns-in-Ok-clause-ok : goal.returns-in-Ok-clause-ok
-returns-in-Ok-clause-ok c =
+pub returns-in-Err-binder_member-clause-place : goal.returns-in-Err-binder_member-clause-place
+returns-in-Err-binder_member-clause-place c =
     let d = borrowed_view c.args.value.now in
-    let parts = part _ c.three-parts.result c.in-Ok.ensures.ok c.three-parts.ensures.ok in
-    let attributes_read = part _ c.attributes_member-attributes.result parts.0 c.attributes_member-attributes.ensures.ok in
-    let ident_read = part _ c.binder_member-ident.result parts.1 c.binder_member-ident.ensures.ok in
-    let ty_read = part _ c.type_member-ty.result parts.2 c.type_member-ty.ensures.ok in
-    let known : has_only (known_keys (declaration_worded globals.Alias) d) d ≡ true = c.in-Ok.ensures.keys in
+    row-member (declaration_worded globals.Alias) (codes "name") (leaf (an_ident binder)) d c.in-Err-binder_member.error refl c.in-Err-binder_member.ensures.place
+
+pub returns-in-Err-type_member-clause-place : goal.returns-in-Err-type_member-clause-place
+returns-in-Err-type_member-clause-place c =
+    let d = borrowed_view c.args.value.now in
+    row-member (declaration_worded globals.Alias) (codes "ty") (node a_type) d c.in-Err-type_member.error refl c.in-Err-type_member.ensures.place
+
+pub returns-in-Ok-type_member-clause-ok : goal.returns-in-Ok-type_member-clause-ok
+returns-in-Ok-type_member-clause-ok c =
+    let d = borrowed_view c.args.value.now in
+    let attributes_read = c.in-Ok.ensures.ok in
+    let ident_read = c.in-Ok-binder_member.ensures.ok in
+    let ty_read = c.in-Ok-type_member.ensures.ok in
+    let known : has_only (known_keys (declaration_worded globals.Alias) d) d ≡ true = sym c.has_only.ensures ∙ c.if-not-has_only.false in
     worded-reads known (plain-kind type_alias) refl (many-then attributes_read (needs-then ident_read (needs-then ty_read (none-then d _))))

@@ -9,13 +9,10 @@ use Rattle.wesl_reading.proofs.Depths.{array-depth, get-depth, item-depth}
 use Rattle.wesl_reading.proofs.Expressions.{bare-keys, bare-place, bare-reads}
 use Rattle.wesl_reading.proofs.Places.{inside-under, member-inside, row-inside, row-member}
 use Rattle.wesl_reading.proofs.Steps.{many-then, needed-there, needs-then, none-then, same-reads}
-use Rattle.wesl_reading.specs.Faults.{Locates}
 use Rattle.wesl_syntax.specs.Tree.{import_collection, import_entry, list}
 use Rattle.wesl_syntax.specs.View.{entry_view}
 use Rattle.wesl_reading_unit.proofs.Imports.{content-collection, made-entry, view-collection, view-item}
 use Rattle.wesl_reading.proofs.ReadLists.{list-none, list-turn, list-whole}
-use Rattle.std.proofs.lemmas.Result.{IfErr-weaker}
-use Rattle.wesl_reading.proofs.Wholes.{of-both, of-only, part}
 use Rattle.wesl_reading_unit.proofs.import.+contents.Goals as goal
 
 pub content_member-read_content-requires : goal.content_member-read_content-requires
@@ -58,40 +55,50 @@ pub read_content-returns-in_ok-item-clause-ok : goal.read_content-returns-in_ok-
 read_content-returns-in_ok-item-clause-ok t c =
     same-reads c.in_ok-item.ensures.ok (sym (view-item c.in_ok-item.item))
 
+pub read_collection-returns-then-not-has_only-clause-place : goal.read_collection-returns-then-not-has_only-clause-place
+read_collection-returns-then-not-has_only-clause-place t c =
+    let d = borrowed_view c.args.value.now in
+    let lacking : has_only (known_keys (needs (codes "list") (list_of list an_entry) nothing) d) d ≡ false = sym c.has_only.ensures ∙ c.if-not-has_only.true in
+    bare-keys a_content import_collection (needs (codes "list") (list_of list an_entry) nothing) d (content-collection d c.requires) c.wrong.result refl lacking c.wrong.ensures
+
 pub read_collection-returns-in-Err-clause-place : goal.read_collection-returns-in-Err-clause-place
 read_collection-returns-in-Err-clause-place t c =
     let d = borrowed_view c.args.value.now in
-    of-only (Locates (node a_content) d) _ c.entries_member-entries.result c.in-Err.error c.in-Err.ensures.place
-    (λ e unknown is. let wrong : has_only (known_keys (needs (codes "list") (list_of list an_entry) nothing) d) d ≡ false = unknown in bare-keys a_content import_collection (needs (codes "list") (list_of list an_entry) nothing) d (content-collection d c.requires) e refl wrong is)
-    (λ only_known.
-    let entries_fault = IfErr-weaker c.entries_member-entries.result _ (Locates (node a_content) d) (λ e h. let known : has_only (known_keys (needs (codes "list") (list_of list an_entry) nothing) d) d ≡ true = only_known in bare-place a_content import_collection (needs (codes "list") (list_of list an_entry) nothing) d (content-collection d c.requires) e known (row-member (needs (codes "list") (list_of list an_entry) nothing) (codes "list") (list_of list an_entry) d e refl h)) c.entries_member-entries.ensures.place in
-    entries_fault)
+    let known : has_only (known_keys (needs (codes "list") (list_of list an_entry) nothing) d) d ≡ true = sym c.has_only.ensures ∙ c.if-not-has_only.false in
+    bare-place a_content import_collection (needs (codes "list") (list_of list an_entry) nothing) d (content-collection d c.requires) c.in-Err.error known (row-member (needs (codes "list") (list_of list an_entry) nothing) (codes "list") (list_of list an_entry) d c.in-Err.error refl c.in-Err.ensures.place)
 
 pub read_collection-returns-in-Ok-clause-ok : goal.read_collection-returns-in-Ok-clause-ok
 read_collection-returns-in-Ok-clause-ok t c =
     let d = borrowed_view c.args.value.now in
-    let entries_read = part _ c.entries_member-entries.result c.in-Ok.ensures.ok c.entries_member-entries.ensures.ok in
-    let known : has_only (known_keys (needs (codes "list") (list_of list an_entry) nothing) d) d ≡ true = c.in-Ok.ensures.keys in
+    let entries_read = c.in-Ok.ensures.ok in
+    let known : has_only (known_keys (needs (codes "list") (list_of list an_entry) nothing) d) d ≡ true = sym c.has_only.ensures ∙ c.if-not-has_only.false in
     same-reads (bare-reads a_content import_collection (needs (codes "list") (list_of list an_entry) nothing) d (content-collection d c.requires) _ _ _ known (needs-then entries_read (none-then d _))) (sym (view-collection c.in-Ok.entries))
+
+pub read_entry-returns-then-not-has_only-clause-place : goal.read_entry-returns-then-not-has_only-clause-place
+read_entry-returns-then-not-has_only-clause-place t c =
+    let d = borrowed_view c.args.value.now in
+    let lacking : has_only (known_keys (many (codes "path") (leaf some_names) (needs (codes "content") (node a_content) nothing)) d) d ≡ false = sym c.has_only.ensures ∙ c.if-not-has_only.true in
+    bare-keys an_entry import_entry (many (codes "path") (leaf some_names) (needs (codes "content") (node a_content) nothing)) d refl c.wrong.result refl lacking c.wrong.ensures
 
 pub read_entry-returns-in-Err-clause-place : goal.read_entry-returns-in-Err-clause-place
 read_entry-returns-in-Err-clause-place t c =
     let d = borrowed_view c.args.value.now in
-    of-only (Locates (node an_entry) d) _ c.both-parts.result c.in-Err.error c.in-Err.ensures.place
-    (λ e unknown is. let wrong : has_only (known_keys (many (codes "path") (leaf some_names) (needs (codes "content") (node a_content) nothing)) d) d ≡ false = unknown in bare-keys an_entry import_entry (many (codes "path") (leaf some_names) (needs (codes "content") (node a_content) nothing)) d refl e refl wrong is)
-    (λ only_known.
-    let path_fault = IfErr-weaker c.names_member-path.result _ (Locates (node an_entry) d) (λ e h. let known : has_only (known_keys (many (codes "path") (leaf some_names) (needs (codes "content") (node a_content) nothing)) d) d ≡ true = only_known in bare-place an_entry import_entry (many (codes "path") (leaf some_names) (needs (codes "content") (node a_content) nothing)) d refl e known (row-inside (many (codes "path") (leaf some_names) (needs (codes "content") (node a_content) nothing)) (codes "path") false (leaf some_names) d e refl h)) c.names_member-path.ensures.place in
-    let content_fault = IfErr-weaker c.content_member-content.result _ (Locates (node an_entry) d) (λ e h. let known : has_only (known_keys (many (codes "path") (leaf some_names) (needs (codes "content") (node a_content) nothing)) d) d ≡ true = only_known in bare-place an_entry import_entry (many (codes "path") (leaf some_names) (needs (codes "content") (node a_content) nothing)) d refl e known (row-member (many (codes "path") (leaf some_names) (needs (codes "content") (node a_content) nothing)) (codes "content") (node a_content) d e refl h)) c.content_member-content.ensures.place in
-    of-both (Locates (node an_entry) d) c.both-parts.result c.names_member-path.result c.content_member-content.result c.both-parts.ensures.place path_fault content_fault)
+    let known : has_only (known_keys (many (codes "path") (leaf some_names) (needs (codes "content") (node a_content) nothing)) d) d ≡ true = sym c.has_only.ensures ∙ c.if-not-has_only.false in
+    bare-place an_entry import_entry (many (codes "path") (leaf some_names) (needs (codes "content") (node a_content) nothing)) d refl c.in-Err.error known (row-inside (many (codes "path") (leaf some_names) (needs (codes "content") (node a_content) nothing)) (codes "path") false (leaf some_names) d c.in-Err.error refl c.in-Err.ensures.place)
 
-pub read_entry-returns-in-Ok-clause-ok : goal.read_entry-returns-in-Ok-clause-ok
-read_entry-returns-in-Ok-clause-ok t c =
+pub read_entry-returns-in-Err-content_member-clause-place : goal.read_entry-returns-in-Err-content_member-clause-place
+read_entry-returns-in-Err-content_member-clause-place t c =
     let d = borrowed_view c.args.value.now in
-    let parts = part _ c.both-parts.result c.in-Ok.ensures.ok c.both-parts.ensures.ok in
-    let path_read = part _ c.names_member-path.result parts.0 c.names_member-path.ensures.ok in
-    let content_read = part _ c.content_member-content.result parts.1 c.content_member-content.ensures.ok in
-    let known : has_only (known_keys (many (codes "path") (leaf some_names) (needs (codes "content") (node a_content) nothing)) d) d ≡ true = c.in-Ok.ensures.keys in
-    same-reads (bare-reads an_entry import_entry (many (codes "path") (leaf some_names) (needs (codes "content") (node a_content) nothing)) d refl _ _ _ known (many-then (path_read _) (needs-then content_read (none-then d _)))) (sym (made-entry c.in-Ok.path c.in-Ok.content))
+    let known : has_only (known_keys (many (codes "path") (leaf some_names) (needs (codes "content") (node a_content) nothing)) d) d ≡ true = sym c.has_only.ensures ∙ c.if-not-has_only.false in
+    bare-place an_entry import_entry (many (codes "path") (leaf some_names) (needs (codes "content") (node a_content) nothing)) d refl c.in-Err-content_member.error known (row-member (many (codes "path") (leaf some_names) (needs (codes "content") (node a_content) nothing)) (codes "content") (node a_content) d c.in-Err-content_member.error refl c.in-Err-content_member.ensures.place)
+
+pub read_entry-returns-in-Ok-content_member-clause-ok : goal.read_entry-returns-in-Ok-content_member-clause-ok
+read_entry-returns-in-Ok-content_member-clause-ok t c =
+    let d = borrowed_view c.args.value.now in
+    let path_read = c.in-Ok.ensures.ok in
+    let content_read = c.in-Ok-content_member.ensures.ok in
+    let known : has_only (known_keys (many (codes "path") (leaf some_names) (needs (codes "content") (node a_content) nothing)) d) d ≡ true = sym c.has_only.ensures ∙ c.if-not-has_only.false in
+    same-reads (bare-reads an_entry import_entry (many (codes "path") (leaf some_names) (needs (codes "content") (node a_content) nothing)) d refl _ _ _ known (many-then (path_read _) (needs-then content_read (none-then d _)))) (sym (made-entry c.in-Ok.path c.in-Ok-content_member.content))
 
 pub read_entries-loop-index-init : goal.read_entries-loop-index-init
 read_entries-loop-index-init t c =
