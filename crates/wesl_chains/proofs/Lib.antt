@@ -1,3 +1,4 @@
+pub mod Bodies
 pub mod Walk
 pub mod FormulaStages
 pub mod ReadBack

@@ -5,6 +5,7 @@ use Rattle.wesl_formula.specs.declared.chain.Role.{Role}
 use Rattle.wesl_formula.specs.Answers.{Answers}
 use Rattle.wesl_chains.specs.Chains.{Judged, is_branch, branch}
 use Rattle.wesl_formula.specs.Branch.{fate, kept_after, decided_after}
+use Rattle.wesl_chains.proofs.Bodies.{pair_cases}
 use Rattle.wesl_chains.proofs.Walk.{enact, scan}
 use Rattle.wesl_chains.specs.Conditions.{first_condition, recast, is_statements, is_list, attributes_in, with_attributes, is_void}
 use Rattle.wesl_syntax.specs.Nodes.{is_attributes}
@@ -192,10 +193,10 @@ module _ {I : Type 0} where
     pair_passed : (b : LabelOf I) (body : ForestOf I) (o : LabelOf I) (last others : ForestOf I)
         → through g true (cond (is_compound b && is_option o) (closed_body f b body o last others) (tree b body (tree o last others)))
         ≡ cond (is_compound b && is_option o) (closed_body f b (cond (is_entered b) (judged g true b (through g (holds_body true b) body)) body) o (cond (is_entered o) (judged g true o (through g (holds_body true o) last)) last) (through g true others)) (through g true (tree b body (tree o last others)))
-    pair_passed (kind compound) body (kind present) last others = body_passed body (kind present) last (through g false last) others refl refl refl
-    pair_passed (kind compound) body (kind absent) last others = body_passed body (kind absent) last (through g false last) others refl refl refl
-    pair_passed (kind compound) body o last others = refl
-    pair_passed b body o last others = refl
+    pair_passed b body o last others =
+        pair_cases (λ b o. through g true (cond (is_compound b && is_option o) (closed_body f b body o last others) (tree b body (tree o last others)))
+        ≡ cond (is_compound b && is_option o) (closed_body f b (cond (is_entered b) (judged g true b (through g (holds_body true b) body)) body) o (cond (is_entered o) (judged g true o (through g (holds_body true o) last)) last) (through g true others)) (through g true (tree b body (tree o last others))))
+        (body_passed body (kind present) last (through g false last) others refl refl refl) (body_passed body (kind absent) last (through g false last) others refl refl refl) (λ b o e. rw e refl) b o
 
     closed_passed : (c : ForestOf I) → through g true (closed f c) ≡ closed f (through g true c)
     closed_passed end = refl
@@ -228,10 +229,10 @@ module _ {I : Type 0} where
     pair_again : (a : LabelOf I) (x : ForestOf I) (b : LabelOf I) (body : ForestOf I) (o : LabelOf I) (last others : ForestOf I)
         → closed g (tree a x (cond (is_compound b && is_option o) (closed_body f b body o last others) (tree b body (tree o last others))))
         ≡ tree a x (cond (is_compound b && is_option o) (closed_body h b body o last others) (tree b body (tree o last others)))
-    pair_again a x (kind compound) body (kind present) last others = body_again a x body (kind present) last others refl
-    pair_again a x (kind compound) body (kind absent) last others = body_again a x body (kind absent) last others refl
-    pair_again a x (kind compound) body o last others = refl
-    pair_again a x b body o last others = refl
+    pair_again a x b body o last others =
+        pair_cases (λ b o. closed g (tree a x (cond (is_compound b && is_option o) (closed_body f b body o last others) (tree b body (tree o last others))))
+        ≡ tree a x (cond (is_compound b && is_option o) (closed_body h b body o last others) (tree b body (tree o last others))))
+        (body_again a x body (kind present) last others refl) (body_again a x body (kind absent) last others refl) (λ b o e. rw e (rw e refl)) b o
 
     closed_again : (c : ForestOf I) → closed g (closed f c) ≡ closed h c
     closed_again end = refl

@@ -6,6 +6,7 @@ use Rattle.wesl_chains.specs.Flags.{identifier, flags_in, flags_of, AgreesOn}
 use Rattle.wesl_chains.specs.Lists.{Element, element, elements, back, is_closed, is_compound, is_option, option_of, is_entered, holds_body, alone, closed_body, closed, judged, through}
 use Rattle.wesl_chains.specs.Picked.{Choice, picked_unit}
 use Rattle.wesl_chains.specs.Residual.{residual_tree, residual_unit}
+use Rattle.wesl_chains.proofs.Bodies.{pair_cases}
 use Rattle.wesl_chains.proofs.Passing.{attributes_through}
 use Rattle.wesl_chains.proofs.Picks.{picked_unit_again}
 use Rattle.wesl_chains.proofs.Same.{SameOn, AllSameAt, below, beside, outside, join, own, attributes_same, list_same}
@@ -59,10 +60,10 @@ module _ {I : Type 0} (F G : Answers I) where
   pair_same : (b : LabelOf I) (body : ForestOf I) (o : LabelOf I) (last others : ForestOf I) → SameOn F G (flags_in false body) → SameOn F G (flags_in false last)
       → cond (is_compound b && is_option o) (closed_body (judge F) b (inner b body) o (inner o last) (through (judge F) true others)) (tree b (inner b body) (tree o (inner o last) (through (judge F) true others)))
       ≡ cond (is_compound b && is_option o) (closed_body (judge G) b (inner b body) o (inner o last) (through (judge F) true others)) (tree b (inner b body) (tree o (inner o last) (through (judge F) true others)))
-  pair_same (kind compound) body (kind present) last others h k = body_same body (kind present) last (through (judge F) true others) h k
-  pair_same (kind compound) body (kind absent) last others h k = body_same body (kind absent) last (through (judge F) true others) h k
-  pair_same (kind compound) body o last others h k = refl
-  pair_same b body o last others h k = refl
+  pair_same b body o last others h k =
+      pair_cases (λ b o. cond (is_compound b && is_option o) (closed_body (judge F) b (inner b body) o (inner o last) (through (judge F) true others)) (tree b (inner b body) (tree o (inner o last) (through (judge F) true others)))
+      ≡ cond (is_compound b && is_option o) (closed_body (judge G) b (inner b body) o (inner o last) (through (judge F) true others)) (tree b (inner b body) (tree o (inner o last) (through (judge F) true others))))
+      (body_same body (kind present) last (through (judge F) true others) h k) (body_same body (kind absent) last (through (judge F) true others) h k) (λ b o e. rw e refl) b o
 
   children_flags : (l : LabelOf I) (c o : ForestOf I) → SameOn F G (flags_in false (tree l c o)) → SameOn F G (flags_in false c)
   children_flags l c o h = outside F G (is_formula l) c (below F G false l c o h)

@@ -37,6 +37,13 @@ node_stays known kept decided closes t u f h kept' decided' role v is o a b e = 
     taken known kept decided closes t f h rest v is
     ∙ rw (← o, ← a, ← b) (ap (λ x. x ∷ scan element known kept' decided' rest) (sym (in_role_is known role closes t u e))))
 
+-- a node that goes
+pub node_goes : (known : Answers ℕ) (kept decided closes : Bool) (t : Tree) (u : Element ℕ) (f : Bool) (h : Truth) (kept' decided' : Bool) → is_void t.label t.children ≡ false → Goes known t f h
+    → None ≡ fate (f && kept) (f && decided) h → kept' ≡ kept_after (f && kept) (f && decided) h → decided' ≡ decided_after (f && decided) h
+    → IsTurn element known kept decided (as_element closes t) kept' decided' u false
+node_goes known kept decided closes t u f h kept' decided' v is o a b = turn_of element known kept decided (as_element closes t) kept' decided' u false (λ rest.
+    taken known kept decided closes t f h rest v is ∙ rw (← o, ← a, ← b) refl)
+
 -- a node that is left as it is
 enact_still : (known : Answers ℕ) (o : Option Role) (x : Element ℕ) (rest : List (Element ℕ)) → enact still known o x rest ≡ cond (is_some o) (x ∷ rest) rest
 enact_still known None x rest = refl

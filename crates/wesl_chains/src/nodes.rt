@@ -121,9 +121,9 @@ impl Conditional for Spanned<GlobalDirective> {
 
     fn attributes(&self) -> &[AttributeNode] {
         match &self.node {
-            GlobalDirective::Diagnostic { attributes, .. } => attributes,
-            GlobalDirective::Enable { attributes, .. } => attributes,
-            GlobalDirective::Requires { attributes, .. } => attributes,
+            GlobalDirective::Diagnostic { attributes, .. }
+            | GlobalDirective::Enable { attributes, .. }
+            | GlobalDirective::Requires { attributes, .. } => attributes,
         }
     }
 
@@ -234,19 +234,19 @@ fn statement_attributes(statement: &Statement) -> &[AttributeNode]
     match statement {
         Statement::Void => &[],
         Statement::Compound(body) => &body.attributes,
-        Statement::Assignment { attributes, .. } => attributes,
-        Statement::Increment { attributes, .. } => attributes,
-        Statement::Decrement { attributes, .. } => attributes,
-        Statement::If { attributes, .. } => attributes,
-        Statement::Switch { attributes, .. } => attributes,
-        Statement::Loop { attributes, .. } => attributes,
-        Statement::For { attributes, .. } => attributes,
-        Statement::While { attributes, .. } => attributes,
-        Statement::Break { attributes } => attributes,
-        Statement::Continue { attributes } => attributes,
-        Statement::Return { attributes, .. } => attributes,
-        Statement::Discard { attributes } => attributes,
-        Statement::FunctionCall { attributes, .. } => attributes,
+        Statement::Assignment { attributes, .. }
+        | Statement::Increment { attributes, .. }
+        | Statement::Decrement { attributes, .. }
+        | Statement::If { attributes, .. }
+        | Statement::Switch { attributes, .. }
+        | Statement::Loop { attributes, .. }
+        | Statement::For { attributes, .. }
+        | Statement::While { attributes, .. }
+        | Statement::Break { attributes, .. }
+        | Statement::Continue { attributes, .. }
+        | Statement::Return { attributes, .. }
+        | Statement::Discard { attributes, .. }
+        | Statement::FunctionCall { attributes, .. } => attributes,
         Statement::ConstAssert(assertion) => &assertion.attributes,
         Statement::Declaration(declaration) => &declaration.attributes,
     }

@@ -1,12 +1,12 @@
 -- The names that a map lists.
-use Rattle.std.proofs.Common.{◌≡◌, ℕ, List, [], ◌∷◌, ◌++◌, Bool, true, false, cond, ◌||◌, Option, Some, None, map, String, string_bytes, bytes_eq, refl, sym, ap, ◌∙◌, is_some}
-use Rattle.std.specs.BTreeMap.{BTreeMap, get_by_text, is_at}
+use Rattle.std.proofs.Common.{◌≡◌, ℕ, List, [], ◌∷◌, Bool, true, false, ◌||◌, Option, map, String, string_bytes, bytes_eq, refl, ap, ◌∙◌, is_some}
+use Rattle.std.specs.BTreeMap.{is_at}
 use Rattle.std.specs.Cmp.Lexicographic.{slice_cmp}
 use Rattle.std.specs.List.{list_any}
 use Rattle.std.specs.Map.{lookup, keys_of}
 use Rattle.std.specs.Map.Iter.{deref}
 use denote.Ref.{Bor}
-use Rattle.std.specs.Ordering.{is_eq, nat_cmp}
+use Rattle.std.specs.Ordering.{nat_cmp}
 use Rattle.std.proofs.lemmas.Map.Text.{is_eq-slice_cmp}
 use Rattle.std.specs.declared.alloc.Global.{Global}
 

@@ -1,5 +1,5 @@
 -- One step of what is left of a formula, and of its faults.
-use Rattle.std.proofs.Common.{◌≡◌, ℕ, rules, List, [], ◌∷◌, ◌++◌, Bool, true, false, cond, Option, Some, None, ◌⊎◌, inl, inr, refl, sym, ap, ◌∙◌}
+use Rattle.std.proofs.Common.{◌≡◌, ℕ, rules, List, [], ◌∷◌, ◌++◌, cond, Option, inl, inr, refl, sym, ap, ◌∙◌}
 use Rattle.wesl_formula.specs.declared.features.Truth.{Truth}
 use Rattle.wesl_formula.specs.declared.features.Truth.TheVariants.{Yes, No, Undecided}
 use Rattle.wesl_formula.specs.Answers.{Answers, opposite, both_hold, one_holds}
@@ -8,7 +8,7 @@ use Rattle.wesl_formula.specs.Residual.{literal, parenthesized, negated, both_as
 use Rattle.std.specs.Box.{with_value}
 use Rattle.wesl_formula.specs.Step.{operands_left, step, instead}
 use Rattle.wesl_formula.specs.Features.{Replies}
-use Rattle.wesl_formula.specs.Faults.{Fault, IsAmong, Tells, formula_faults}
+use Rattle.wesl_formula.specs.Faults.{Fault, IsAmong, formula_faults}
 use Rattle.wesl_formula.specs.Evaluation.{Refuses}
 use Rattle.wesl_formula.proofs.WrittenBack.{written_back}
 use Rattle.wesl_names.specs.Path.{Text}
@@ -148,6 +148,28 @@ form_disjunction e d = search (rules, the_lemmas)
 pub decided_within : (known : Answers ℕ) (e : Box (Spanned Expression)) → decided known (form (expression_view (made.Parenthesized e))) ≡ decided known (form (expression_view e.value.node))
 decided_within known e =
     ap (decided known) (form_within e) ∙ literal-parenthesized e.value.span (residual known (form (expression_view e.value.node)))
+
+-- what decides an operand, or two, decides the whole
+pub decided_both : (known : Answers ℕ) (f : Expression) (o : BinaryOperator) (e d : Box (Spanned Expression)) (x y : Spanned Expression) (s t r : Truth) → f ≡ made.Binary o e d → o ≡ ShortCircuitAnd → x ≡ e.value → y ≡ d.value
+    → s ≡ decided known (form (expression_view x.node)) → t ≡ decided known (form (expression_view y.node)) → r ≡ both_hold s t → r ≡ decided known (form (expression_view f))
+decided_both known f o e d x y s t r is same lent also first second whole =
+    whole ∙ rw (first, second, lent, also) refl
+    ∙ sym (ap (decided known) (form_conjunction e d) ∙ literal-both e.value.span (residual known (form (expression_view e.value.node))) d.value.span (residual known (form (expression_view d.value.node))))
+    ∙ ap (λ g. decided known (form (expression_view g))) (sym (is ∙ ap (λ q. made.Binary q e d) same))
+
+pub decided_either : (known : Answers ℕ) (f : Expression) (o : BinaryOperator) (e d : Box (Spanned Expression)) (x y : Spanned Expression) (s t r : Truth) → f ≡ made.Binary o e d → o ≡ ShortCircuitOr → x ≡ e.value → y ≡ d.value
+    → s ≡ decided known (form (expression_view x.node)) → t ≡ decided known (form (expression_view y.node)) → r ≡ one_holds s t → r ≡ decided known (form (expression_view f))
+decided_either known f o e d x y s t r is same lent also first second whole =
+    whole ∙ rw (first, second, lent, also) refl
+    ∙ sym (ap (decided known) (form_disjunction e d) ∙ literal-either e.value.span (residual known (form (expression_view e.value.node))) d.value.span (residual known (form (expression_view d.value.node))))
+    ∙ ap (λ g. decided known (form (expression_view g))) (sym (is ∙ ap (λ q. made.Binary q e d) same))
+
+pub decided_negation : (known : Answers ℕ) (f : Expression) (o : UnaryOperator) (e : Box (Spanned Expression)) (x : Spanned Expression) (s r : Truth) → f ≡ made.Unary o e → o ≡ LogicalNegation → x ≡ e.value
+    → s ≡ decided known (form (expression_view x.node)) → r ≡ opposite s → r ≡ decided known (form (expression_view f))
+decided_negation known f o e x s r is same lent first whole =
+    whole ∙ rw (first, lent) refl
+    ∙ sym (ap (decided known) (form_negation e) ∙ literal-negated e.value.span (residual known (form (expression_view e.value.node))))
+    ∙ ap (λ g. decided known (form (expression_view g))) (sym (is ∙ ap (λ q. made.Unary q e) same))
 
 -- The steps of an expression f, of which e and d are the operands, lent as x and y and given back as v and w.
 module _ (known : Answers ℕ) (f : Expression) (e : Box (Spanned Expression)) (x v : Spanned Expression) where

@@ -1,9 +1,9 @@
 -- The expression that a formula of an expression is written as is that expression.
-use Rattle.std.proofs.Common.{◌≡◌, ℕ, [], ◌∷◌, Bool, true, false, Option, Some, None, refl, ap, sym, subst}
+use Rattle.std.proofs.Common.{◌≡◌, ℕ, [], ◌∷◌, Bool, true, false, Option, Some, None, refl, ap, subst}
 use Rattle.std.specs.Box.{box_value}
-use Rattle.wesl_formula.specs.Formulas.{type_name, has_arguments, named_as, spot, form, written}
+use Rattle.wesl_formula.specs.Formulas.{named_as, spot, form, written}
 use Rattle.wesl_names.specs.declared.span.Span.{Span}
-use Rattle.wesl_syntax.specs.Tree.{Tree, Forest, branch, end, tree, kind, unary, binary, literal as literal_kind, parenthesized, type_or_identifier}
+use Rattle.wesl_syntax.specs.Tree.{Tree, Forest, branch, end, kind, unary, binary, literal as literal_kind, parenthesized, type_or_identifier}
 use Rattle.wesl_syntax.specs.View.{literal_tree, expression_view, call_view, argument_view, type_view, expression_step, call_step, argument_step, type_step}
 use Rattle.wesl_syntax.specs.declared.expression.BinaryOperator.{BinaryOperator}
 use Rattle.wesl_syntax.specs.declared.expression.BinaryOperator.TheVariants.{ShortCircuitAnd, ShortCircuitOr}
@@ -12,7 +12,6 @@ use Rattle.wesl_syntax.specs.declared.expression.UnaryOperator.TheVariants.{Logi
 use Rattle.wesl_syntax.specs.declared.expression.Literal.{Literal}
 use Rattle.wesl_syntax.specs.declared.expression.Literal.TheVariants as literals
 use Rattle.wesl_syntax.specs.declared.expression.Expression.{Expression, roll-Expression, map-Expression}
-use Rattle.wesl_syntax.specs.declared.expression.Expression.TheOpen as Expression-F
 use Rattle.wesl_syntax.specs.declared.expression.Expression.TheOpen.{Expression-F}
 use Rattle.wesl_syntax.specs.declared.expression.Expression.TheFolds.{fold-roll-Expression, ind-Expression}
 use Rattle.wesl_syntax.specs.declared.expression.FunctionCall.{FunctionCall}

@@ -240,22 +240,20 @@ pub fn decided(formula: &Expression, names: &Names, features: &Features) -> Trut
             | UnaryOperator::Indirection => Truth::Undecided,
         },
         Expression::Binary {
-            operator: BinaryOperator::ShortCircuitAnd,
+            operator,
             left,
             right,
-        } => {
-            let left = decided(&left.node, names, features);
-            left.and(decided(&right.node, names, features))
-        }
-        Expression::Binary {
-            operator: BinaryOperator::ShortCircuitOr,
-            left,
-            right,
-        } => {
-            let left = decided(&left.node, names, features);
-            left.or(decided(&right.node, names, features))
-        }
-        Expression::Binary { .. } => Truth::Undecided,
+        } => match operator {
+            BinaryOperator::ShortCircuitAnd => {
+                let left = decided(&left.node, names, features);
+                left.and(decided(&right.node, names, features))
+            }
+            BinaryOperator::ShortCircuitOr => {
+                let left = decided(&left.node, names, features);
+                left.or(decided(&right.node, names, features))
+            }
+            _ => Truth::Undecided,
+        },
         Expression::FunctionCall(_) => Truth::Undecided,
         Expression::TypeOrIdentifier(ty) => match &ty.template_args {
             None => features.answer(name_of(names, ty.ident)).says(),

@@ -29,15 +29,15 @@ impl Tables<'_> {
         ensures { result ≡ same_in self.now (attribute_view left.now) (attribute_view right.now) }
     {
         match (left, right) {
-            (Attribute::Align(left), Attribute::Align(right)) => self.same_node(left, right),
-            (Attribute::Binding(left), Attribute::Binding(right)) => self.same_node(left, right),
-            (Attribute::BlendSrc(left), Attribute::BlendSrc(right)) => self.same_node(left, right),
-            (Attribute::Group(left), Attribute::Group(right)) => self.same_node(left, right),
-            (Attribute::Id(left), Attribute::Id(right)) => self.same_node(left, right),
-            (Attribute::Location(left), Attribute::Location(right)) => self.same_node(left, right),
-            (Attribute::Size(left), Attribute::Size(right)) => self.same_node(left, right),
-            (Attribute::If(left), Attribute::If(right)) => self.same_node(left, right),
-            (Attribute::Elif(left), Attribute::Elif(right)) => self.same_node(left, right),
+            (Attribute::Align(left), Attribute::Align(right))
+            | (Attribute::Binding(left), Attribute::Binding(right))
+            | (Attribute::BlendSrc(left), Attribute::BlendSrc(right))
+            | (Attribute::Group(left), Attribute::Group(right))
+            | (Attribute::Id(left), Attribute::Id(right))
+            | (Attribute::Location(left), Attribute::Location(right))
+            | (Attribute::Size(left), Attribute::Size(right))
+            | (Attribute::If(left), Attribute::If(right))
+            | (Attribute::Elif(left), Attribute::Elif(right)) => self.same_node(left, right),
             (Attribute::Builtin(left), Attribute::Builtin(right)) => *left == *right,
             (Attribute::Interpolate(left), Attribute::Interpolate(right)) => same_texts(
                 left, right,
@@ -76,19 +76,18 @@ impl Tables<'_> {
                     arguments: right_arguments,
                 },
             ) => *left == *right && self.same_optional_nodes(left_arguments, right_arguments),
-            (Attribute::Const, Attribute::Const) => true,
-            (Attribute::Invariant, Attribute::Invariant) => true,
-            (Attribute::MustUse, Attribute::MustUse) => true,
-            (Attribute::Vertex, Attribute::Vertex) => true,
-            (Attribute::Fragment, Attribute::Fragment) => true,
-            (Attribute::Compute, Attribute::Compute) => true,
-            (Attribute::Publish, Attribute::Publish) => true,
-            (Attribute::Else, Attribute::Else) => true,
+            (Attribute::Const, Attribute::Const)
+            | (Attribute::Invariant, Attribute::Invariant)
+            | (Attribute::MustUse, Attribute::MustUse)
+            | (Attribute::Vertex, Attribute::Vertex)
+            | (Attribute::Fragment, Attribute::Fragment)
+            | (Attribute::Compute, Attribute::Compute)
+            | (Attribute::Publish, Attribute::Publish)
+            | (Attribute::Else, Attribute::Else) => true,
             _ => false,
         }
     }
 
-    #[tactic(auto, using(crate::proofs::Pairs::steps))]
     pub fn same_attributes(&self, left: &Vec<AttributeNode>, right: &Vec<AttributeNode>) -> bool
         ensures { result ≡ same_in self.now (attributes_tree left.now) (attributes_tree right.now) }
     {

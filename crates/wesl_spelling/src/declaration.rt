@@ -40,8 +40,8 @@ impl Tables<'_> {
                     attributes: right_attributes,
                     names: right,
                 },
-            ) => self.same_attributes(left_attributes, right_attributes) && same_texts(left, right),
-            (
+            )
+            | (
                 GlobalDirective::Requires {
                     attributes: left_attributes,
                     names: left,
@@ -55,7 +55,6 @@ impl Tables<'_> {
         }
     }
 
-    #[tactic(auto, using(crate::proofs::Pairs::steps))]
     pub fn same_directives(
         &self,
         left: &Vec<GlobalDirectiveNode>,
@@ -145,7 +144,6 @@ impl Tables<'_> {
             && self.same_type(&left.ty, &right.ty)
     }
 
-    #[tactic(auto, using(crate::proofs::Pairs::steps))]
     fn same_members(&self, left: &Vec<StructMemberNode>, right: &Vec<StructMemberNode>) -> bool
         ensures { result ≡ same_in self.now (listed (placed member_view member_node) members left.now) (listed (placed member_view member_node) members right.now) }
     {
@@ -178,7 +176,6 @@ impl Tables<'_> {
             && self.same_type(&left.ty, &right.ty)
     }
 
-    #[tactic(auto, using(crate::proofs::Pairs::steps))]
     pub fn same_parameters(&self, left: &Vec<FormalParameter>, right: &Vec<FormalParameter>) -> bool
         ensures { result ≡ same_in self.now (listed parameter_view parameters left.now) (listed parameter_view parameters right.now) }
     {

@@ -75,8 +75,8 @@ impl Tables<'_> {
                 },
             ) => {
                 *left_operator == *right_operator
-                    && self.same_node(left_first, right_first)
-                    && self.same_node(left_second, right_second)
+                    && (self.same_node(left_first, right_first)
+                        && self.same_node(left_second, right_second))
             }
             (Expression::FunctionCall(left), Expression::FunctionCall(right)) => {
                 self.same_call(left, right)
@@ -96,7 +96,6 @@ impl Tables<'_> {
     }
 
     #[cycle(expression)]
-    #[tactic(auto, using(crate::proofs::Pairs::steps))]
     pub fn same_nodes(&self, left: &Vec<ExpressionNode>, right: &Vec<ExpressionNode>) -> bool
         ensures { result ≡ same_in self.now (listed expression_tree list left.now) (listed expression_tree list right.now) }
     {
@@ -124,18 +123,16 @@ impl Tables<'_> {
     pub fn same_type(&self, left: &TypeExpression, right: &TypeExpression) -> bool
         ensures { result ≡ same_in self.now (type_view left.now) (type_view right.now) }
     {
-        if !self.same_path(&left.path, &right.path) || !self.same_ident(left.ident, right.ident) {
-            return false;
-        }
-        match (&left.template_args, &right.template_args) {
-            (None, None) => true,
-            (Some(left), Some(right)) => self.same_arguments(left, right),
-            _ => false,
-        }
+        self.same_path(&left.path, &right.path)
+            && (self.same_ident(left.ident, right.ident)
+                && match (&left.template_args, &right.template_args) {
+                    (None, None) => true,
+                    (Some(left), Some(right)) => self.same_arguments(left, right),
+                    _ => false,
+                })
     }
 
     #[cycle(expression)]
-    #[tactic(auto, using(crate::proofs::Pairs::steps))]
     fn same_arguments(&self, left: &Vec<TemplateArg>, right: &Vec<TemplateArg>) -> bool
         ensures { result ≡ same_in self.now (listed argument_view list left.now) (listed argument_view list right.now) }
     {

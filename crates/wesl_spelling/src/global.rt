@@ -41,7 +41,6 @@ impl Tables<'_> {
         }
     }
 
-    #[tactic(auto, using(crate::proofs::Pairs::steps))]
     pub fn same_declarations(
         &self,
         left: &Vec<GlobalDeclarationNode>,

@@ -35,7 +35,13 @@ impl Tables<'_> {
     }
 
     #[cycle(import)]
-    #[tactic(auto, using(crate::proofs::Pairs::steps))]
+    fn same_entry(&self, left: &Import, right: &Import) -> bool
+        ensures { result ≡ same_in self.now (entry_view left.now) (entry_view right.now) }
+    {
+        same_texts(&left.path, &right.path) && self.same_content(&left.content, &right.content)
+    }
+
+    #[cycle(import)]
     fn same_entries(&self, left: &Vec<Import>, right: &Vec<Import>) -> bool
         ensures { result ≡ same_in self.now (listed entry_view list left.now) (listed entry_view list right.now) }
     {
@@ -43,9 +49,7 @@ impl Tables<'_> {
             return false;
         }
         for i in 0..left.len() {
-            if !(same_texts(&left[i].path, &right[i].path)
-                && self.same_content(&left[i].content, &right[i].content))
-            {
+            if !self.same_entry(&left[i], &right[i]) {
                 return false;
             }
         }
@@ -61,7 +65,6 @@ impl Tables<'_> {
             && self.same_content(&left.content, &right.content)
     }
 
-    #[tactic(auto, using(crate::proofs::Pairs::steps))]
     pub fn same_imports(
         &self,
         left: &Vec<ImportStatementNode>,

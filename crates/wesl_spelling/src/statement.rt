@@ -27,7 +27,6 @@ impl Tables<'_> {
         }
     }
 
-    #[tactic(auto, using(crate::proofs::Pairs::steps))]
     fn same_selectors(&self, left: &Vec<CaseSelector>, right: &Vec<CaseSelector>) -> bool
         ensures { result ≡ same_in self.now (listed selector_view list left.now) (listed selector_view list right.now) }
     {
@@ -50,31 +49,52 @@ impl Tables<'_> {
             && self.same_node(&left.expression, &right.expression)
     }
 
+    #[tactic(auto, using(crate::proofs::Bools::steps))]
+    fn same_optional_break_if(
+        &self,
+        left: &Option<BreakIfStatement>,
+        right: &Option<BreakIfStatement>,
+    ) -> bool
+        ensures { result ≡ same_in self.now (optional break_if_view left.now) (optional break_if_view right.now) }
+    {
+        match (left, right) {
+            (None, None) => true,
+            (Some(left), Some(right)) => self.same_break_if(left, right),
+            _ => false,
+        }
+    }
+
     /// Whether the left one breaks, continues, returns or discards, and the right one is the same.
     #[tactic(auto, using(crate::proofs::Bools::steps))]
     fn same_jump(&self, left: &Statement, right: &Statement) -> bool
         ensures { result ≡ is_jump (statement_view left.now).label && same_in self.now (statement_view left.now) (statement_view right.now) }
     {
-        match (left, right) {
-            (Statement::Break { attributes: left }, Statement::Break { attributes: right }) => {
-                self.same_attributes(left, right)
-            }
-            (Statement::Continue { attributes: left }, Statement::Continue { attributes: right }) =>
-                self.same_attributes(left, right),
-            (
-                Statement::Return {
-                    attributes: left_attributes,
-                    expression: left_expression,
-                },
+        match left {
+            Statement::Break { attributes: left } => match right {
+                Statement::Break { attributes: right } => self.same_attributes(left, right),
+                _ => false,
+            },
+            Statement::Continue { attributes: left } => match right {
+                Statement::Continue { attributes: right } => self.same_attributes(left, right),
+                _ => false,
+            },
+            Statement::Return {
+                attributes: left_attributes,
+                expression: left_expression,
+            } => match right {
                 Statement::Return {
                     attributes: right_attributes,
                     expression: right_expression,
-                },
-            ) => self.same_attributes(left_attributes, right_attributes)
-                && self.same_optional_node(left_expression, right_expression),
-            (Statement::Discard { attributes: left }, Statement::Discard { attributes: right }) => {
-                self.same_attributes(left, right)
-            }
+                } => {
+                    self.same_attributes(left_attributes, right_attributes)
+                        && self.same_optional_node(left_expression, right_expression)
+                }
+                _ => false,
+            },
+            Statement::Discard { attributes: left } => match right {
+                Statement::Discard { attributes: right } => self.same_attributes(left, right),
+                _ => false,
+            },
             _ => false,
         }
     }
@@ -84,29 +104,33 @@ impl Tables<'_> {
     fn same_step(&self, left: &Statement, right: &Statement) -> bool
         ensures { result ≡ is_step (statement_view left.now).label && same_in self.now (statement_view left.now) (statement_view right.now) }
     {
-        match (left, right) {
-            (
-                Statement::Increment {
-                    attributes: left_attributes,
-                    expression: left_expression,
-                },
+        match left {
+            Statement::Increment {
+                attributes: left_attributes,
+                expression: left_expression,
+            } => match right {
                 Statement::Increment {
                     attributes: right_attributes,
                     expression: right_expression,
-                },
-            ) => self.same_attributes(left_attributes, right_attributes)
-                && self.same_node(left_expression, right_expression),
-            (
-                Statement::Decrement {
-                    attributes: left_attributes,
-                    expression: left_expression,
-                },
+                } => {
+                    self.same_attributes(left_attributes, right_attributes)
+                        && self.same_node(left_expression, right_expression)
+                }
+                _ => false,
+            },
+            Statement::Decrement {
+                attributes: left_attributes,
+                expression: left_expression,
+            } => match right {
                 Statement::Decrement {
                     attributes: right_attributes,
                     expression: right_expression,
-                },
-            ) => self.same_attributes(left_attributes, right_attributes)
-                && self.same_node(left_expression, right_expression),
+                } => {
+                    self.same_attributes(left_attributes, right_attributes)
+                        && self.same_node(left_expression, right_expression)
+                }
+                _ => false,
+            },
             _ => false,
         }
     }
@@ -116,35 +140,39 @@ impl Tables<'_> {
     fn same_action(&self, left: &Statement, right: &Statement) -> bool
         ensures { result ≡ is_action (statement_view left.now).label && same_in self.now (statement_view left.now) (statement_view right.now) }
     {
-        match (left, right) {
-            (
-                Statement::Assignment {
-                    attributes: left_attributes,
-                    operator: left_operator,
-                    lhs: left_lhs,
-                    rhs: left_rhs,
-                },
+        match left {
+            Statement::Assignment {
+                attributes: left_attributes,
+                operator: left_operator,
+                lhs: left_lhs,
+                rhs: left_rhs,
+            } => match right {
                 Statement::Assignment {
                     attributes: right_attributes,
                     operator: right_operator,
                     lhs: right_lhs,
                     rhs: right_rhs,
-                },
-            ) => *left_operator == *right_operator
-                && self.same_attributes(left_attributes, right_attributes)
-                && self.same_node(left_lhs, right_lhs)
-                && self.same_node(left_rhs, right_rhs),
-            (
-                Statement::FunctionCall {
-                    attributes: left_attributes,
-                    call: left_call,
-                },
+                } => {
+                    *left_operator == *right_operator
+                        && (self.same_attributes(left_attributes, right_attributes)
+                            && (self.same_node(left_lhs, right_lhs)
+                                && self.same_node(left_rhs, right_rhs)))
+                }
+                _ => false,
+            },
+            Statement::FunctionCall {
+                attributes: left_attributes,
+                call: left_call,
+            } => match right {
                 Statement::FunctionCall {
                     attributes: right_attributes,
                     call: right_call,
-                },
-            ) => self.same_attributes(left_attributes, right_attributes)
-                && self.same_call(left_call, right_call),
+                } => {
+                    self.same_attributes(left_attributes, right_attributes)
+                        && self.same_call(left_call, right_call)
+                }
+                _ => false,
+            },
             _ => false,
         }
     }
@@ -155,26 +183,28 @@ impl Tables<'_> {
     fn same_if_statement(&self, left: &Statement, right: &Statement) -> bool
         ensures { result ≡ is_if (statement_view left.now).label && same_in self.now (statement_view left.now) (statement_view right.now) }
     {
-        match (left, right) {
-            (
-                Statement::If {
-                    attributes: left_attributes,
-                    if_clause: left_if_clause,
-                    else_if_clauses: left_else_if_clauses,
-                    else_clause: left_else_clause,
-                },
-                Statement::If {
-                    attributes: right_attributes,
-                    if_clause: right_if_clause,
-                    else_if_clauses: right_else_if_clauses,
-                    else_clause: right_else_clause,
-                },
-            ) => self.same_attributes(left_attributes, right_attributes)
-                && self.same_if(left_if_clause, right_if_clause)
-                && self.same_else_ifs(left_else_if_clauses, right_else_if_clauses)
-                && self.same_optional_else(left_else_clause, right_else_clause),
-            _ => false,
-        }
+        let Statement::If {
+            attributes: left_attributes,
+            if_clause: left_if_clause,
+            else_if_clauses: left_else_if_clauses,
+            else_clause: left_else_clause,
+        } = left
+        else {
+            return false;
+        };
+        let Statement::If {
+            attributes: right_attributes,
+            if_clause: right_if_clause,
+            else_if_clauses: right_else_if_clauses,
+            else_clause: right_else_clause,
+        } = right
+        else {
+            return false;
+        };
+        self.same_attributes(left_attributes, right_attributes)
+            && (self.same_if(left_if_clause, right_if_clause)
+                && (self.same_else_ifs(left_else_if_clauses, right_else_if_clauses)
+                    && self.same_optional_else(left_else_clause, right_else_clause)))
     }
 
     /// Whether the left one is a `switch`, and the right one is the same.
@@ -183,26 +213,28 @@ impl Tables<'_> {
     fn same_switch(&self, left: &Statement, right: &Statement) -> bool
         ensures { result ≡ is_switch (statement_view left.now).label && same_in self.now (statement_view left.now) (statement_view right.now) }
     {
-        match (left, right) {
-            (
-                Statement::Switch {
-                    attributes: left_attributes,
-                    expression: left_expression,
-                    body_attributes: left_body_attributes,
-                    clauses: left_clauses,
-                },
-                Statement::Switch {
-                    attributes: right_attributes,
-                    expression: right_expression,
-                    body_attributes: right_body_attributes,
-                    clauses: right_clauses,
-                },
-            ) => self.same_attributes(left_attributes, right_attributes)
-                && self.same_node(left_expression, right_expression)
-                && self.same_attributes(left_body_attributes, right_body_attributes)
-                && self.same_clauses(left_clauses, right_clauses),
-            _ => false,
-        }
+        let Statement::Switch {
+            attributes: left_attributes,
+            expression: left_expression,
+            body_attributes: left_body_attributes,
+            clauses: left_clauses,
+        } = left
+        else {
+            return false;
+        };
+        let Statement::Switch {
+            attributes: right_attributes,
+            expression: right_expression,
+            body_attributes: right_body_attributes,
+            clauses: right_clauses,
+        } = right
+        else {
+            return false;
+        };
+        self.same_attributes(left_attributes, right_attributes)
+            && (self.same_node(left_expression, right_expression)
+                && (self.same_attributes(left_body_attributes, right_body_attributes)
+                    && self.same_clauses(left_clauses, right_clauses)))
     }
 
     /// Whether the left one is a `loop` or a `while`, and the right one is the same.
@@ -211,35 +243,39 @@ impl Tables<'_> {
     fn same_plain_loop(&self, left: &Statement, right: &Statement) -> bool
         ensures { result ≡ is_plain_loop (statement_view left.now).label && same_in self.now (statement_view left.now) (statement_view right.now) }
     {
-        match (left, right) {
-            (
-                Statement::Loop {
-                    attributes: left_attributes,
-                    body: left_body,
-                    continuing: left_continuing,
-                },
+        match left {
+            Statement::Loop {
+                attributes: left_attributes,
+                body: left_body,
+                continuing: left_continuing,
+            } => match right {
                 Statement::Loop {
                     attributes: right_attributes,
                     body: right_body,
                     continuing: right_continuing,
-                },
-            ) => self.same_attributes(left_attributes, right_attributes)
-                && self.same_compound(left_body, right_body)
-                && self.same_optional_continuing(left_continuing, right_continuing),
-            (
-                Statement::While {
-                    attributes: left_attributes,
-                    condition: left_condition,
-                    body: left_body,
-                },
+                } => {
+                    self.same_attributes(left_attributes, right_attributes)
+                        && (self.same_compound(left_body, right_body)
+                            && self.same_optional_continuing(left_continuing, right_continuing))
+                }
+                _ => false,
+            },
+            Statement::While {
+                attributes: left_attributes,
+                condition: left_condition,
+                body: left_body,
+            } => match right {
                 Statement::While {
                     attributes: right_attributes,
                     condition: right_condition,
                     body: right_body,
-                },
-            ) => self.same_attributes(left_attributes, right_attributes)
-                && self.same_node(left_condition, right_condition)
-                && self.same_compound(left_body, right_body),
+                } => {
+                    self.same_attributes(left_attributes, right_attributes)
+                        && (self.same_node(left_condition, right_condition)
+                            && self.same_compound(left_body, right_body))
+                }
+                _ => false,
+            },
             _ => false,
         }
     }
@@ -250,29 +286,31 @@ impl Tables<'_> {
     fn same_for(&self, left: &Statement, right: &Statement) -> bool
         ensures { result ≡ is_for (statement_view left.now).label && same_in self.now (statement_view left.now) (statement_view right.now) }
     {
-        match (left, right) {
-            (
-                Statement::For {
-                    attributes: left_attributes,
-                    initializer: left_initializer,
-                    condition: left_condition,
-                    update: left_update,
-                    body: left_body,
-                },
-                Statement::For {
-                    attributes: right_attributes,
-                    initializer: right_initializer,
-                    condition: right_condition,
-                    update: right_update,
-                    body: right_body,
-                },
-            ) => self.same_attributes(left_attributes, right_attributes)
-                && self.same_optional_statement(left_initializer, right_initializer)
-                && self.same_optional_node(left_condition, right_condition)
-                && self.same_optional_statement(left_update, right_update)
-                && self.same_compound(left_body, right_body),
-            _ => false,
-        }
+        let Statement::For {
+            attributes: left_attributes,
+            initializer: left_initializer,
+            condition: left_condition,
+            update: left_update,
+            body: left_body,
+        } = left
+        else {
+            return false;
+        };
+        let Statement::For {
+            attributes: right_attributes,
+            initializer: right_initializer,
+            condition: right_condition,
+            update: right_update,
+            body: right_body,
+        } = right
+        else {
+            return false;
+        };
+        self.same_attributes(left_attributes, right_attributes)
+            && (self.same_optional_statement(left_initializer, right_initializer)
+                && (self.same_optional_node(left_condition, right_condition)
+                    && (self.same_optional_statement(left_update, right_update)
+                        && self.same_compound(left_body, right_body))))
     }
 
     #[cycle(statement)]
@@ -280,37 +318,37 @@ impl Tables<'_> {
     fn same_statement(&self, left: &Statement, right: &Statement) -> bool
         ensures { result ≡ same_in self.now (statement_view left.now) (statement_view right.now) }
     {
-        match (left, right) {
-            (Statement::Void, Statement::Void) => true,
-            (Statement::Compound(left), Statement::Compound(right)) => self.same_compound(
-                left, right,
-            ),
-            (Statement::ConstAssert(left), Statement::ConstAssert(right)) => self.same_assert(
-                left, right,
-            ),
-            (Statement::Declaration(left), Statement::Declaration(right)) => self.same_declaration(
-                left, right,
-            ),
-            (Statement::Assignment { .. } | Statement::FunctionCall { .. }, _) => {
+        match left {
+            Statement::Void => match right {
+                Statement::Void => true,
+                _ => false,
+            },
+            Statement::Compound(body) => match right {
+                Statement::Compound(other) => self.same_compound(body, other),
+                _ => false,
+            },
+            Statement::ConstAssert(assertion) => match right {
+                Statement::ConstAssert(other) => self.same_assert(assertion, other),
+                _ => false,
+            },
+            Statement::Declaration(declaration) => match right {
+                Statement::Declaration(other) => self.same_declaration(declaration, other),
+                _ => false,
+            },
+            Statement::Assignment { .. } | Statement::FunctionCall { .. } => {
                 self.same_action(left, right)
             }
-            (Statement::Increment { .. } | Statement::Decrement { .. }, _) => {
-                self.same_step(left, right)
-            }
-            (Statement::If { .. }, _) => self.same_if_statement(left, right),
-            (Statement::Switch { .. }, _) => self.same_switch(left, right),
-            (Statement::Loop { .. } | Statement::While { .. }, _) => {
-                self.same_plain_loop(left, right)
-            }
-            (Statement::For { .. }, _) => self.same_for(left, right),
-            (
-                Statement::Break { .. }
-                | Statement::Continue { .. }
-                | Statement::Return { .. }
-                | Statement::Discard { .. },
-                _,
-            ) => self.same_jump(left, right),
-            _ => false,
+            Statement::Increment { .. } | Statement::Decrement { .. } => self.same_step(
+                left, right,
+            ),
+            Statement::If { .. } => self.same_if_statement(left, right),
+            Statement::Switch { .. } => self.same_switch(left, right),
+            Statement::Loop { .. } | Statement::While { .. } => self.same_plain_loop(left, right),
+            Statement::For { .. } => self.same_for(left, right),
+            Statement::Break { .. }
+            | Statement::Continue { .. }
+            | Statement::Return { .. }
+            | Statement::Discard { .. } => self.same_jump(left, right),
         }
     }
 
@@ -340,7 +378,6 @@ impl Tables<'_> {
     }
 
     #[cycle(statement)]
-    #[tactic(auto, using(crate::proofs::Pairs::steps))]
     fn same_statements(&self, left: &Vec<StatementNode>, right: &Vec<StatementNode>) -> bool
         ensures { result ≡ same_in self.now (listed statement_tree statements left.now) (listed statement_tree statements right.now) }
     {
@@ -370,12 +407,11 @@ impl Tables<'_> {
         ensures { result ≡ same_in self.now (else_if_view left.now) (else_if_view right.now) }
     {
         self.same_attributes(&left.attributes, &right.attributes)
-            && self.same_node(&left.expression, &right.expression)
-            && self.same_compound(&left.body, &right.body)
+            && (self.same_node(&left.expression, &right.expression)
+                && self.same_compound(&left.body, &right.body))
     }
 
     #[cycle(statement)]
-    #[tactic(auto, using(crate::proofs::Pairs::steps))]
     fn same_else_ifs(&self, left: &Vec<ElseIfClause>, right: &Vec<ElseIfClause>) -> bool
         ensures { result ≡ same_in self.now (listed else_if_view list left.now) (listed else_if_view list right.now) }
     {
@@ -417,12 +453,11 @@ impl Tables<'_> {
         ensures { result ≡ same_in self.now (clause_view left.now) (clause_view right.now) }
     {
         self.same_attributes(&left.attributes, &right.attributes)
-            && self.same_selectors(&left.case_selectors, &right.case_selectors)
-            && self.same_compound(&left.body, &right.body)
+            && (self.same_selectors(&left.case_selectors, &right.case_selectors)
+                && self.same_compound(&left.body, &right.body))
     }
 
     #[cycle(statement)]
-    #[tactic(auto, using(crate::proofs::Pairs::steps))]
     fn same_clauses(&self, left: &Vec<SwitchClause>, right: &Vec<SwitchClause>) -> bool
         ensures { result ≡ same_in self.now (listed clause_view clauses left.now) (listed clause_view clauses right.now) }
     {
@@ -443,12 +478,8 @@ impl Tables<'_> {
         ensures { result ≡ same_in self.now (continuing_view left.now) (continuing_view right.now) }
     {
         self.same_attributes(&left.attributes, &right.attributes)
-            && self.same_compound(&left.body, &right.body)
-            && match (&left.break_if, &right.break_if) {
-                (None, None) => true,
-                (Some(left), Some(right)) => self.same_break_if(left, right),
-                _ => false,
-            }
+            && (self.same_compound(&left.body, &right.body)
+                && self.same_optional_break_if(&left.break_if, &right.break_if))
     }
 
     #[cycle(statement)]

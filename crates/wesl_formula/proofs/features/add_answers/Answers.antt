@@ -1,4 +1,4 @@
-use Rattle.std.proofs.Common.{◌≡◌, List, ℕ, map, Some, cond, ap, arith, rules, ◌∙◌, sym}
+use Rattle.std.proofs.Common.{◌≡◌, map, Some, cond, ap, arith, rules, ◌∙◌}
 use Rattle.std.specs.BTreeMap.{get_by_text}
 use Rattle.std.specs.Map.{keys_of}
 use Rattle.std.specs.Map.Iter.{deref}

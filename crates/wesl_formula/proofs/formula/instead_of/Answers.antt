@@ -1,7 +1,7 @@
 use Rattle.std.proofs.Common.{◌≡◌, ap, sym, ◌∙◌}
 use Rattle.wesl_formula.specs.Features.{answer_to, known, by_number}
 use Rattle.wesl_formula.specs.Formulas.{form}
-use Rattle.wesl_formula.specs.Step.{instead, step}
+use Rattle.wesl_formula.specs.Step.{instead}
 use Rattle.wesl_syntax.specs.View.{expression_view}
 use Rattle.wesl_syntax.specs.declared.expression.BinaryOperator.TheVariants.{ShortCircuitAnd, ShortCircuitOr}
 use Rattle.wesl_syntax.specs.declared.expression.UnaryOperator.TheVariants.{LogicalNegation}

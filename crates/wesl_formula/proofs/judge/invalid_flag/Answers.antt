@@ -1,4 +1,4 @@
-use Rattle.std.proofs.Common.{◌≡◌, inl, inr, refl, sym, ◌∙◌}
+use Rattle.std.proofs.Common.{inl, inr, refl, sym, ◌∙◌}
 use Rattle.wesl_formula.specs.Faults.{invalid_flag}
 use Rattle.wesl_formula.proofs.judge.invalid_flag.Goals as goal
 

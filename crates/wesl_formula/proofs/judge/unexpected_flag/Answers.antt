@@ -1,4 +1,4 @@
-use Rattle.std.proofs.Common.{◌≡◌, inl, inr, refl, sym, ◌∙◌}
+use Rattle.std.proofs.Common.{inl, inr, refl, sym, ◌∙◌}
 use Rattle.wesl_formula.specs.Faults.{unexpected_flag}
 use Rattle.wesl_formula.proofs.judge.unexpected_flag.Goals as goal
 

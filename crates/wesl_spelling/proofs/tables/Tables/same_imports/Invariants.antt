@@ -1,10 +1,7 @@
-use Rattle.std.proofs.Common.{◌≡◌, drop}
 use Rattle.wesl_syntax.specs.Tree.{import_node}
 use Rattle.wesl_syntax.specs.View.{import_view, placed}
-use Rattle.wesl_spelling.proofs.Pairs.{all_same}
+use Rattle.wesl_spelling.proofs.Pairs.{Compared, all_same}
 use Rattle.wesl_spelling.proofs.tables.Tables.same_imports.Given as goal
 
 abbrev pub invariant-loop-i : goal.invariant-loop-i
-invariant-loop-i l =
-    all_same (placed import_view import_node) l.self.left.now l.self.right.now l.left.items l.right.items
-    ≡ all_same (placed import_view import_node) l.self.left.now l.self.right.now (drop l.i l.left.items) (drop l.i l.right.items)
+invariant-loop-i l = Compared (all_same (placed import_view import_node) l.self.left.now l.self.right.now) l.left l.right l.i

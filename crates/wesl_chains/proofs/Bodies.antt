@@ -1,0 +1,10 @@
+-- A pair of a body and of what may close it, and any other pair.
+use Rattle.std.proofs.Common.{◌≡◌, false, ◌&&◌, refl}
+use Rattle.wesl_chains.specs.Lists.{is_compound, is_option}
+use Rattle.wesl_syntax.specs.Tree.{LabelOf, kind, compound, present, absent}
+
+pub pair_cases : {I : Type 0} (P : LabelOf I → LabelOf I → Type 0) → P (kind compound) (kind present) → P (kind compound) (kind absent) → ((b o : LabelOf I) → (is_compound b && is_option o) ≡ false → P b o) → (b o : LabelOf I) → P b o
+pair_cases P x y z (kind compound) (kind present) = x
+pair_cases P x y z (kind compound) (kind absent) = y
+pair_cases P x y z (kind compound) o = z (kind compound) o refl
+pair_cases P x y z b o = z b o refl
