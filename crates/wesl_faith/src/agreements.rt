@@ -41,10 +41,15 @@ pub fn is_of_module(key: &Key<'_>) -> bool
 }
 
 /// Of names, the numbers on which their binders agree.
-#[derive(Drop)]
 pub struct Agreements<'a> {
     /// of each name, by what it means
     pub of: IndexMap<Key<'a>, Agreed>,
+}
+
+impl<'a> Drop for Agreements<'a> {
+    fn drop(self) {
+        let Agreements { of: _ } = self;
+    }
 }
 
 impl<'a> Agreements<'a> {

@@ -1,14 +1,17 @@
 //! How the names of a whole module read.
-ghost use Rattle.std.specs.Prelude.{◌≡◌, length, IfOk, IfErr};
+ghost use Rattle.std.specs.Prelude.{◌≡◌, ℕ, ◌==◌, length, map, IfOk, IfErr};
+ghost use Rattle.std.specs.List.{list_any};
 ghost use Rattle.wesl_names.specs.declared.errors.Error as error;
 ghost use Rattle.wesl_syntax.specs.Unit.{trees_of};
 ghost use Rattle.wesl_tree.specs.Translation.{unit_view};
 ghost use Rattle.wesl_occurrences.specs.Occurrences.{occurrences};
-ghost use Rattle.wesl_faith.specs.Test.{are_apart, all_read_right};
+ghost use Rattle.wesl_occurrences.specs.Views.{occurrence_view};
+ghost use Rattle.wesl_faith.specs.Test.{are_apart, all_read_right, has_number};
 ghost use Rattle.wesl_faith.specs.ByEntries.{AreApartBy, AreRightBy};
 
 use crate::agreements::Agreements;
 use crate::judged::{are_globals_right, are_references_right, numbers_bound};
+use indexmap::IndexSet;
 use std::alloc::Global;
 use wesl_meanings::{Key, meanings_of};
 use wesl_occurrences::{Occurrence, law_of_occurrences, law_of_ways};
@@ -34,6 +37,22 @@ fn are_names_apart(alloc: Global, all: &[Occurrence<'_>], keys: &[Key<'_>]) -> R
     Ok(are_globals_right(&globals, all, keys))
 }
 
+/// Whether each reference reads right, by the identifiers, what each means and the numbers of the binders.
+fn are_right_by(
+    alloc: Global,
+    numbers: &IndexSet<usize>,
+    all: &[Occurrence<'_>],
+    keys: &[Key<'_>],
+) -> Result<bool, Error>
+    requires same_length { length keys.now ≡ length all.now }
+    requires numbered { (m : ℕ) → list_any (λ k. k == m) numbers.now.keys ≡ list_any (has_number m) (map occurrence_view all.now) }
+    ensures right { IfOk result (AreRightBy all.now keys.now) }
+    ensures refused { IfErr result (λ e. e ≡ error.Memory) }
+{
+    let binders = Agreements::of_binders(alloc, all, keys)?;
+    Ok(are_references_right(&binders, numbers, all, keys))
+}
+
 /// Whether each reference reads right, by the identifiers and what each means.
 fn are_all_right(alloc: Global, all: &[Occurrence<'_>], keys: &[Key<'_>]) -> Result<bool, Error>
     requires { length keys.now ≡ length all.now }
@@ -41,8 +60,22 @@ fn are_all_right(alloc: Global, all: &[Occurrence<'_>], keys: &[Key<'_>]) -> Res
     ensures refused { IfErr result (λ e. e ≡ error.Memory) }
 {
     let numbers = numbers_bound(alloc, all)?;
-    let binders = Agreements::of_binders(alloc, all, keys)?;
-    Ok(are_references_right(&binders, &numbers, all, keys))
+    are_right_by(alloc, &numbers, all, keys)
+}
+
+/// How names read, by the identifiers and what each means.
+fn all_readings(alloc: Global, all: &[Occurrence<'_>], keys: &[Key<'_>]) -> Result<Readings, Error>
+    requires { length keys.now ≡ length all.now }
+    ensures apart { IfOk result (λ r. AreApartBy all.now keys.now r.are_names_apart) }
+    ensures right { IfOk result (λ r. AreRightBy all.now keys.now r.are_references_right) }
+    ensures refused { IfErr result (λ e. e ≡ error.Memory) }
+{
+    let are_names_apart = are_names_apart(alloc, all, keys)?;
+    let are_references_right = are_all_right(alloc, all, keys)?;
+    Ok(Readings {
+        are_names_apart,
+        are_references_right,
+    })
 }
 
 /// How the names of a module read, by plain scoping. Refused for want of memory alone.
@@ -54,10 +87,5 @@ pub fn readings_of(alloc: Global, unit: &TranslationUnit) -> Result<Readings, Er
     law_of_ways();
     law_of_occurrences();
     let meant = meanings_of(alloc, unit)?;
-    let are_names_apart = are_names_apart(alloc, &meant.found.all, &meant.keys)?;
-    let are_references_right = are_all_right(alloc, &meant.found.all, &meant.keys)?;
-    Ok(Readings {
-        are_names_apart,
-        are_references_right,
-    })
+    all_readings(alloc, &meant.found.all, &meant.keys)
 }

@@ -1,6 +1,7 @@
 -- Searches through a list by an index.
-use Rattle.std.proofs.Common.{◌≡◌, ◌⊎◌, inl, inr, ◌+◌, ◌<◌, ◌||◌, ℕ, zero, suc, Bool, true, false, List, [], ◌∷◌, length, drop, get_or, Some, None, refl, sym, ap, ◌∙◌, subst, arith, add-one, Option}
+use Rattle.std.proofs.Common.{◌≡◌, ◌⊎◌, inl, inr, ◌+◌, ◌<◌, ◌≤◌, ◌||◌, ℕ, zero, suc, Bool, true, false, List, [], ◌∷◌, length, drop, get_or, Some, None, refl, sym, ap, ◌∙◌, subst, arith, add-one, Option}
 use Rattle.std.specs.List.{Contains, list_any}
+use Rattle.std.proofs.lemmas.List.{drop_all}
 use Rattle.wesl_fitting.specs.Judged.{or_else, first_some}
 use Rattle.wesl_fitting.proofs.Members.{contains_none, contains_here, contains_later, contains_cases}
 
@@ -66,3 +67,38 @@ module _ {Y : Type 0} (f : ℕ → Option Y) where
       by (Some v) q h s r = absurd (let g : Some v ≡ None = h in cc)
       by None q h (inl s) r = subst (λ z. f z ≡ None) s q
       by None q h (inr d) r = r h d
+
+-- ---- a loop over a list, which it reads as another that is equal
+
+module _ (xs ys : List ℕ) (i : ℕ) (same : xs ≡ ys) where
+  inside : i < length xs → i < length ys
+  inside h = subst (λ zs. i < length zs) same h
+
+  past : length xs ≤ i → drop i ys ≡ []
+  past h = drop_all i ys (subst (λ zs. length zs ≤ i) same h)
+
+  module _ (p : ℕ → Bool) (so : list_any p (drop i ys) ≡ list_any p ys) where
+    there : (b : Bool) → p (get_or xs i 0) ≡ b → p (get_or ys i 0) ≡ b
+    there b e = ap (λ zs. p (get_or zs i 0)) (sym same) ∙ e
+
+    pub any_on : i < length xs → p (get_or xs i 0) ≡ false → list_any p (drop (i + 1) ys) ≡ list_any p ys
+    any_on h e = sym (any_next p ys i (inside h) (there false e)) ∙ so
+
+    pub any_found : i < length xs → p (get_or xs i 0) ≡ true → true ≡ list_any p ys
+    any_found h e = sym (any_here p ys i (inside h) (there true e)) ∙ so
+
+    pub any_none : length xs ≤ i → false ≡ list_any p ys
+    any_none h = ap (list_any p) (sym (past h)) ∙ so
+
+  module _ {Y : Type 0} (f : ℕ → Option Y) (so : first_some f (drop i ys) ≡ first_some f ys) where
+    shown : (o : Option Y) → f (get_or xs i 0) ≡ o → f (get_or ys i 0) ≡ o
+    shown o e = ap (λ zs. f (get_or zs i 0)) (sym same) ∙ e
+
+    pub some_on : i < length xs → f (get_or xs i 0) ≡ None → first_some f (drop (i + 1) ys) ≡ first_some f ys
+    some_on h e = sym (some_next f ys i (inside h) (shown None e)) ∙ so
+
+    pub some_found : (y : Y) → i < length xs → f (get_or xs i 0) ≡ Some y → Some y ≡ first_some f ys
+    some_found y h e = sym (some_here f ys i y (inside h) (shown (Some y) e)) ∙ so
+
+    pub some_none : length xs ≤ i → None ≡ first_some f ys
+    some_none h = ap (first_some f) (sym (past h)) ∙ so

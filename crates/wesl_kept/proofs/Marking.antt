@@ -1,10 +1,9 @@
 -- Marks of declarations and of numbers.
-use Rattle.std.proofs.Common.{◌≡◌, ◌≢◌, ℕ, zero, suc, ◌+◌, ◌<◌, ◌≤◌, Bool, true, false, not, ◌&&◌, ◌||◌, ◌==◌, List, [], ◌∷◌, length, get_or, set, map, drop, refl, sym, ◌∙◌, ap, subst, arith, add-one, drop-cons, get_or-set_same, get_or-set_other, ◌⊎◌, inl, inr}
-use Rattle.std.specs.Prelude.{Option, Some, None, if◌then◌else◌}
-use Rattle.std.specs.List.{list_any, sum_by}
+use Rattle.std.proofs.Common.{◌≡◌, ◌≢◌, ℕ, ◌+◌, ◌<◌, ◌≤◌, Bool, true, false, not, ◌&&◌, ◌||◌, ◌==◌, List, length, get_or, set, map, drop, refl, sym, ◌∙◌, ap, subst, arith, add-one, drop-cons, get_or-set_same, get_or-set_other}
+use Rattle.std.specs.Prelude.{if◌then◌else◌}
+use Rattle.std.specs.List.{list_any}
+use Rattle.std.proofs.lemmas.List.{drop_all}
 use Rattle.std.proofs.lemmas.List.Sums.{sum_by-set}
-use Rattle.std.proofs.lemmas.List.Folds.{list_any_at}
-use Rattle.std.proofs.lemmas.Bool.{cases_lt}
 use Rattle.std.proofs.lemmas.Bool.Decides.{Decides-eqb}
 use Rattle.wesl_kept.specs.Marks.{mark_at, unmarked}
 
@@ -89,3 +88,27 @@ unset_step false h r = refl
 module _ {A B : Type 0} (f : A → B) (p : B → Bool) where
   pub any_next : (xs : List A) (i : ℕ) (x : A) → i < length xs → x ≡ get_or xs i x → list_any p (map f (drop i xs)) ≡ (p (f x) || list_any p (map f (drop (i + 1) xs)))
   any_next xs i x h is = rw (drop-cons xs i x h, ← is, add-one) refl
+
+  -- a mark and those of the items that follow, past one more item
+  pub marked_next : (xs : List A) (i : ℕ) (x : A) (first old new : Bool) → i < length xs → x ≡ get_or xs i x → new ≡ (old || p (f x)) → (old || list_any p (map f (drop i xs))) ≡ first → (new || list_any p (map f (drop (i + 1) xs))) ≡ first
+  marked_next xs i x first old new h is e so =
+      let rest = list_any p (map f (drop (i + 1) xs)) in
+      ap (λ b. b || rest) e ∙ (or_assoc old (p (f x)) rest ∙ (ap (λ b. old || b) (sym (any_next xs i x h is)) ∙ so))
+
+  -- and past the last
+  pub marked_all : (xs : List A) (i : ℕ) (first old : Bool) → length xs ≤ i → (old || list_any p (map f (drop i xs))) ≡ first → old ≡ first
+  marked_all xs i first old h so = sym (or_false old) ∙ (ap (λ ys. old || list_any p (map f ys)) (sym (drop_all i xs h)) ∙ so)
+
+-- where a mark is new, at this item or before, fewer are not marked
+pub fewer_next : (here before now : Bool) (a b c : ℕ) → now ≡ (here || before) → (here ≡ true → c < b) → (here ≡ false → c ≡ b) → (before ≡ true → b < a) → (before ≡ false → b ≡ a) → now ≡ true → c < a
+fewer_next true true now a b c e f s g t n = omega (arith, f refl, g refl)
+fewer_next true false now a b c e f s g t n = omega (arith, f refl, t refl)
+fewer_next false true now a b c e f s g t n = omega (arith, s refl, g refl)
+fewer_next false false now a b c e f s g t n = absurd (let q : false ≡ true = sym e ∙ n in cc)
+
+-- and where none is, they are as they were
+pub same_next : {A : Type 0} (here before now : Bool) (a b c : A) → now ≡ (here || before) → (here ≡ false → c ≡ b) → (before ≡ false → b ≡ a) → now ≡ false → c ≡ a
+same_next true true now a b c e s t n = absurd (let q : true ≡ false = sym e ∙ n in cc)
+same_next true false now a b c e s t n = absurd (let q : true ≡ false = sym e ∙ n in cc)
+same_next false true now a b c e s t n = absurd (let q : true ≡ false = sym e ∙ n in cc)
+same_next false false now a b c e s t n = s refl ∙ t refl

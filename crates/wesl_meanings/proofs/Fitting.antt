@@ -1,5 +1,5 @@
 -- What the parts of `numbers_by_meaning` say together.
-use Rattle.std.proofs.Common.{◌≡◌, ℕ, zero, suc, ◌<◌, List, [], ◌∷◌, length, map, refl, sym, ◌∙◌, ap, subst, arith, ◌↔◌}
+use Rattle.std.proofs.Common.{◌≡◌, ℕ, ◌<◌, List, [], ◌∷◌, length, map, refl, sym, ◌∙◌, ap, subst, arith, ◌↔◌}
 use Rattle.std.specs.Prelude.{Some, None, Option}
 use Rattle.std.specs.List.{All, Contains}
 use Rattle.std.proofs.lemmas.List.{length-map}
@@ -9,7 +9,7 @@ use Rattle.wesl_syntax.specs.Numbers.{AreNumbers}
 use Rattle.wesl_occurrences.specs.Occurrences.{Standing, module_name, parameter, local, reference, word, Occurrence, occurrences}
 use Rattle.wesl_occurrences.specs.Ways.{AreNested, way}
 use Rattle.wesl_occurrences.specs.Laws.{WaysLeadOutwards, SpellingKeepsOccurrences, OccurrencesAreIdentifiers}
-use Rattle.wesl_meanings.specs.Scopes.{Key, bound, free, qualified, meaning, binder_of, key_as, key_of, keys}
+use Rattle.wesl_meanings.specs.Scopes.{Key, meaning, binder_of, key_as, key_of, keys}
 use Rattle.wesl_meanings.specs.Canonical.{canonical}
 use Rattle.wesl_meanings.specs.declared.keys.Key.{Key as FoundKey}
 use Rattle.wesl_meanings.specs.declared.keys.Key.TheVariants as made
@@ -49,7 +49,7 @@ flat_names outer (made.Free n ∷ ks) = ap (λ ns. n.now ∷ ns) (flat_names out
 flat_names outer (made.Qualified p n ∷ ks) = ap (λ ns. n.now ∷ ns) (flat_names outer ks)
 
 module _ (ways : WaysLeadOutwards) (spelling : SpellingKeepsOccurrences) (identified : OccurrencesAreIdentifiers) (v : UnitView) (outer : List ℕ) (ns : AreNested outer) (ks : List FoundKey) (meant : map (key_view (way outer)) ks ≡ keys (occurrences (spelled v))) (below : All (IsKeyBelow (length outer)) ks)
-    (given : List ℕ) (given_is : given ≡ canonical (map flat ks)) (seen : List FoundKey) (seen_is : map flat seen ≡ distinct (map flat ks)) (names : List Text) (names_are : names ≡ map key_name (map flat seen)) where
+    (given : List ℕ) (given_is : given ≡ canonical (map flat ks)) (names : List Text) (names_is : names ≡ map key_name (distinct (map flat ks))) where
   named_ids : map key_name (map flat ks) ≡ map (name_in v.names) (numbers v)
   named_ids =
       flat_names outer ks
@@ -62,9 +62,6 @@ module _ (ways : WaysLeadOutwards) (spelling : SpellingKeepsOccurrences) (identi
   one_each : length given ≡ length (numbers v)
   one_each =
       ap length given_is ∙ (one_number_each [] (map flat ks) ∙ (sym (length-map (map flat ks) key_name) ∙ (ap length named_ids ∙ length-map (numbers v) (name_in v.names))))
-
-  names_is : names ≡ map key_name (distinct (map flat ks))
-  names_is = names_are ∙ ap (map key_name) seen_is
 
   one_name_each : length names ≡ length (distinct (map flat ks))
   one_name_each = ap length names_is ∙ length-map (distinct (map flat ks)) key_name
@@ -98,18 +95,17 @@ pub record Fits (v : UnitView) (given : List ℕ) (names : List Text) : Type 0 w
   pub named_is : map (name_in names) given ≡ map (name_in v.names) (numbers v)
   pub numbers_are : AreNumbers (keys (occurrences (spelled v))) given
 
-pub fits : WaysLeadOutwards → SpellingKeepsOccurrences → OccurrencesAreIdentifiers → (v : UnitView) (outer : List ℕ) (ks : List FoundKey) (given : List ℕ) (seen : List FoundKey) (names : List Text)
-    (m4 : List FoundKey) (as_found : List FoundKey)
+pub fits : WaysLeadOutwards → SpellingKeepsOccurrences → OccurrencesAreIdentifiers → (v : UnitView) (outer : List ℕ) (ks : List FoundKey) (given : List ℕ) (names : List Text) (slice : List FoundKey)
     → AreNested outer → map (key_view (way outer)) ks ≡ keys (occurrences (spelled v)) → All (IsKeyBelow (length outer)) ks
-    → m4 ≡ ks → given ≡ canonical (map flat m4) → map flat seen ≡ distinct (map flat m4) → as_found ≡ seen → names ≡ map key_name (map flat as_found)
+    → slice ≡ ks → given ≡ canonical (map flat slice) → names ≡ map key_name (distinct (map flat slice))
     → ((xs : List Key) → AreNumbers xs (canonical xs)) → Fits v given names
-fits ways spelling identified v outer ks given seen names m4 as_found ns meant below m4e ge se ase te law =
-    let gf : given ≡ canonical (map flat ks) = ge ∙ ap (λ m. canonical (map flat m)) m4e in
-    let sf : map flat as_found ≡ distinct (map flat ks) = ap (map flat) ase ∙ (se ∙ ap (λ m. distinct (map flat m)) m4e) in
+fits ways spelling identified v outer ks given names slice ns meant below same ge te law =
+    let gf : given ≡ canonical (map flat ks) = ge ∙ ap (λ m. canonical (map flat m)) same in
+    let tf : names ≡ map key_name (distinct (map flat ks)) = te ∙ ap (λ m. map key_name (distinct (map flat m))) same in
     record {
-      one_each_is = one_each ways spelling identified v outer ns ks meant below given gf as_found sf names te;
-      below_is = numbers_fit ways spelling identified v outer ns ks meant below given gf as_found sf names te;
-      used_is = all_used ways spelling identified v outer ns ks meant below given gf as_found sf names te;
-      named_is = names_fit ways spelling identified v outer ns ks meant below given gf as_found sf names te;
-      numbers_are = are_numbers ways spelling identified v outer ns ks meant below given gf as_found sf names te (law (map flat ks));
+      one_each_is = one_each ways spelling identified v outer ns ks meant below given gf names tf;
+      below_is = numbers_fit ways spelling identified v outer ns ks meant below given gf names tf;
+      used_is = all_used ways spelling identified v outer ns ks meant below given gf names tf;
+      named_is = names_fit ways spelling identified v outer ns ks meant below given gf names tf;
+      numbers_are = are_numbers ways spelling identified v outer ns ks meant below given gf names tf (law (map flat ks));
     }

@@ -72,10 +72,15 @@ fn is_reached(from: Option<usize>, place: usize) -> bool
 }
 
 /// The names that blocks bind.
-#[derive(Drop)]
 pub struct Binders<'a> {
     /// from which place on each is visible
     pub from: IndexMap<Key<'a>, usize>,
+}
+
+impl<'a> Drop for Binders<'a> {
+    fn drop(self) {
+        let Binders { from: _ } = self;
+    }
 }
 
 impl<'a> Binders<'a> {

@@ -15,7 +15,7 @@ ghost use Rattle.wesl_meanings.specs.ByBinders.{AreKeysOf};
 
 use crate::keys::{Binders, Key};
 use crate::laws::law_of_numbers;
-use crate::numbers::{names, numbers};
+use crate::numbers::numbers_and_names;
 use std::alloc::Global;
 use wesl_occurrences::{Identifiers, Occurrence, law_of_occurrences, law_of_ways, occurrences};
 use wesl_tree::{Error, Names, TranslationUnit};
@@ -81,7 +81,5 @@ pub fn numbers_by_meaning(
     law_of_ways();
     law_of_occurrences();
     let meant = meanings_of(alloc, unit)?;
-    let (given, different) = numbers(alloc, &meant.keys)?;
-    let table = names(alloc, different.as_slice())?;
-    Ok((given, table))
+    numbers_and_names(alloc, &meant.keys)
 }

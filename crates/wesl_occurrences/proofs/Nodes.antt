@@ -1,10 +1,11 @@
 -- The walk over the nodes whose fields stand in several blocks, and over declarations.
 use Rattle.std.proofs.Common.{◌≡◌, ℕ, suc, List, [], ◌∷◌, ◌++◌, length, refl, arith, length-append}
 use Rattle.std.specs.Prelude.{Some, None, Option}
+use Rattle.std.specs.Option.{option_map}
 use Rattle.std.specs.Box.{box_value}
 use Rattle.std.specs.Global.{Box, Vec}
-use Rattle.wesl_syntax.specs.Tree.{Kind, Tree, forest_of, branch, statements, loop, continuing, for_loop, compound, declaration, binder}
-use Rattle.wesl_syntax.specs.View.{kind_tree, attributes_tree, ident_tree, optional, type_view, expression_tree, statement_tree}
+use Rattle.wesl_syntax.specs.Tree.{Kind, Tree, forest_of, branch, statements, loop, continuing, for_loop, compound, declaration, binder, leaf, kind, absent, present, list, reference, type_expression}
+use Rattle.wesl_syntax.specs.View.{kind_tree, attributes_tree, ident_tree, optional, type_view, expression_tree, statement_tree, path_tree}
 use Rattle.wesl_syntax.specs.declared.attribute.Attribute.{Attribute}
 use Rattle.wesl_syntax.specs.declared.expression.Expression.{Expression}
 use Rattle.wesl_syntax.specs.declared.expression.TypeExpression.{TypeExpression}
@@ -12,10 +13,12 @@ use Rattle.wesl_syntax.specs.declared.span.Spanned.{Spanned}
 use Rattle.wesl_syntax.specs.declared.statement.Statement.{Statement}
 use Rattle.wesl_syntax.specs.declared.declaration.DeclarationKind.{DeclarationKind}
 use Rattle.wesl_syntax.specs.declared.declaration.DeclarationKind.TheVariants as kinds
+use Rattle.wesl_names.specs.Path.{path_view}
 use Rattle.wesl_names.specs.declared.names.Ident.{Ident}
-use Rattle.wesl_occurrences.specs.Occurrences.{standing_in, declared, a_value, shape_of, of_holder}
+use Rattle.wesl_names.specs.declared.path.ModulePath.{ModulePath}
+use Rattle.wesl_occurrences.specs.Occurrences.{standing_in, declared, a_value, shape_of, of_holder, referring}
 use Rattle.wesl_occurrences.specs.Walk.{Here, State, walked, walk, all_of, ended_at}
-use Rattle.wesl_occurrences.specs.Noted.{opened}
+use Rattle.wesl_occurrences.specs.Noted.{opened, added}
 
 abbrev pub holding : Here → State → Here
 holding here s = record here { held_block = length s.outer }
@@ -32,6 +35,17 @@ held_joined here h s k ts shape e = rw (e, shape) refl
 pub body_joined : (here inside : Here) (s : State) (a : Vec (Spanned Attribute)) (bs : List Tree) → inside ≡ standing_in here.held_block here
     → walked inside (walked here s (attributes_tree a)) (branch statements bs) ≡ walked here s (branch compound (attributes_tree a ∷ branch statements bs ∷ []))
 body_joined here inside s a bs e = rw e refl
+
+-- a type, which refers by its path
+pub plain_type_joined : (here : Here) (s : State) (p : Option ModulePath) (i : Ident)
+    → added here (referring here.words (option_map path_view p)) i.0 s ≡ walked here s (branch type_expression (optional path_tree p ∷ ident_tree reference i ∷ leaf (kind absent) ∷ []))
+plain_type_joined here s None i = refl
+plain_type_joined here s (Some p) i = refl
+
+pub type_joined : (here : Here) (s : State) (p : Option ModulePath) (i : Ident) (ts : List Tree)
+    → walked here (added here (referring here.words (option_map path_view p)) i.0 s) (branch list ts) ≡ walked here s (branch type_expression (optional path_tree p ∷ ident_tree reference i ∷ branch present (branch list ts ∷ []) ∷ []))
+type_joined here s None i ts = refl
+type_joined here s (Some p) i ts = refl
 
 abbrev pub inner_statement : Box (Spanned Statement) → Tree
 inner_statement s = statement_tree (box_value s)

@@ -1,19 +1,24 @@
 -- The trees of nodes, by the trees of their parts.
-use Rattle.std.proofs.Common.{◌≡◌, [], ◌∷◌, rules, ◌∙◌, String, Global}
+use Rattle.std.proofs.Common.{◌≡◌, [], ◌∷◌, rules, ◌∙◌, String, Global, refl}
 use mathlib.Core.List.{map-map}
-use Rattle.std.specs.Prelude.{Option}
+use Rattle.std.specs.Prelude.{Option, Some, None}
 use Rattle.std.specs.Box.{box_value}
 use Rattle.std.specs.Global.{Box, Vec}
-use Rattle.wesl_syntax.specs.Tree.{assignment, binary, branch, call, call_expression, call_statement, clauses, compound, compound_statement, continuing, else_clause, else_if_clause, for_loop, forest_of, if_clause, if_statement, indexing, list, loop, named_component, parenthesized, return, statements, switch, switch_clause, Tree, type_or_identifier, unary, while_loop}
-use Rattle.wesl_syntax.specs.View.{text_tree, break_if_view, continuing_view, expression_view, selector_view, argument_step, attributes_tree, call_step, call_view, clause_step, clause_view, compound_step, compound_view, continuing_step, else_if_step, else_if_view, else_step, else_view, expression_step, expression_tree, if_step, if_view, listed, optional, statement_step, statement_tree, statement_view, type_step, type_view}
+use Rattle.wesl_syntax.specs.Tree.{assignment, binary, branch, call, call_expression, call_statement, clauses, compound, compound_statement, continuing, else_clause, else_if_clause, for_loop, forest_of, if_clause, if_statement, indexing, list, loop, named_component, parenthesized, return, statements, switch, switch_clause, Tree, type_or_identifier, unary, while_loop, template_argument, import_entry, reference, type_expression}
+use Rattle.wesl_syntax.specs.View.{text_tree, break_if_view, continuing_view, expression_view, selector_view, argument_step, attributes_tree, call_step, call_view, clause_step, clause_view, compound_step, compound_view, continuing_step, else_if_step, else_if_view, else_step, else_view, expression_step, expression_tree, if_step, if_view, listed, optional, statement_step, statement_tree, statement_view, type_step, type_view, argument_view, entry_view, content_view, content_step, entry_step, names_tree, path_tree, ident_tree, declaration_view, assert_view}
 use Rattle.wesl_syntax.specs.declared.attribute.Attribute.{Attribute}
 use Rattle.wesl_syntax.specs.declared.expression.Expression.{Expression}
 use Rattle.wesl_syntax.specs.declared.expression.Expression as expressions
-use Rattle.wesl_syntax.specs.declared.expression.Expression.TheFolds.{fold_out-FunctionCall}
+use Rattle.wesl_syntax.specs.declared.expression.Expression.TheFolds.{fold_out-FunctionCall, fold_out-TemplateArg, fold_out-TypeExpression}
+use Rattle.wesl_syntax.specs.declared.expression.TemplateArg.{TemplateArg, out-TemplateArg}
+use Rattle.wesl_syntax.specs.declared.import.Import.{Import, out-Import}
+use Rattle.wesl_syntax.specs.declared.import.ImportContent.TheFolds.{fold_out-Import}
 use Rattle.wesl_syntax.specs.declared.expression.FunctionCall.{FunctionCall, out-FunctionCall}
 use Rattle.wesl_syntax.specs.declared.expression.UnaryOperator.{UnaryOperator}
 use Rattle.wesl_syntax.specs.declared.expression.BinaryOperator.{BinaryOperator}
-use Rattle.wesl_syntax.specs.declared.expression.TypeExpression.{TypeExpression}
+use Rattle.wesl_syntax.specs.declared.expression.TypeExpression.{TypeExpression, out-TypeExpression}
+use Rattle.wesl_syntax.specs.declared.declaration.ConstAssert.{ConstAssert}
+use Rattle.wesl_syntax.specs.declared.declaration.Declaration.{Declaration}
 use Rattle.wesl_syntax.specs.declared.span.Spanned.{Spanned}
 use Rattle.wesl_syntax.specs.declared.statement.CompoundStatement.{CompoundStatement, out-CompoundStatement}
 use Rattle.wesl_syntax.specs.declared.statement.AssignmentOperator.{AssignmentOperator}
@@ -28,6 +33,12 @@ use Rattle.wesl_syntax.specs.declared.statement.SwitchClause.{SwitchClause, out-
 
 pub view_call : (c : FunctionCall) → call_view c ≡ branch call (type_view (out-FunctionCall c).ty ∷ listed expression_tree list (out-FunctionCall c).arguments ∷ [])
 view_call c = fold_out-FunctionCall Tree Tree Tree Tree expression_step call_step argument_step type_step c ∙ simp map-map
+
+pub view_argument : (a : TemplateArg) → argument_view a ≡ branch template_argument (expression_tree (out-TemplateArg a).expression ∷ [])
+view_argument a = fold_out-TemplateArg Tree Tree Tree Tree expression_step call_step argument_step type_step a
+
+pub view_entry : (i : Import) → entry_view i ≡ branch import_entry (names_tree (out-Import i).path ∷ content_view (out-Import i).content ∷ [])
+view_entry i = fold_out-Import Tree Tree content_step entry_step i
 
 pub view_compound : (b : CompoundStatement) → compound_view b ≡ branch compound (attributes_tree (out-CompoundStatement b).attributes ∷ listed statement_tree statements (out-CompoundStatement b).statements ∷ [])
 view_compound b = fold_out-CompoundStatement Tree Tree Tree Tree Tree Tree Tree statement_step compound_step continuing_step else_step else_if_step if_step clause_step b ∙ simp map-map
@@ -106,3 +117,15 @@ view_clause c = fold_out-SwitchClause Tree Tree Tree Tree Tree Tree Tree stateme
 
 pub view_continuing : (c : ContinuingStatement) → continuing_view c ≡ branch continuing (attributes_tree (out-ContinuingStatement c).attributes ∷ compound_view (out-ContinuingStatement c).body ∷ optional break_if_view (out-ContinuingStatement c).break_if ∷ [])
 view_continuing c = fold_out-ContinuingStatement Tree Tree Tree Tree Tree Tree Tree statement_step compound_step continuing_step else_step else_if_step if_step clause_step c
+
+-- a type whose template arguments are known
+pub view_type : (t : TypeExpression) (o : Option (Vec TemplateArg)) → (out-TypeExpression t).template_args ≡ o
+    → type_view t ≡ branch type_expression (optional path_tree (out-TypeExpression t).path ∷ ident_tree reference (out-TypeExpression t).ident ∷ optional (listed argument_view list) o ∷ [])
+view_type t None is = fold_out-TypeExpression Tree Tree Tree Tree expression_step call_step argument_step type_step t ∙ rw is refl
+view_type t (Some v) is = fold_out-TypeExpression Tree Tree Tree Tree expression_step call_step argument_step type_step t ∙ rw is (simp map-map)
+
+pub view_asserted : (a : ConstAssert) → statement_view (made.ConstAssert a) ≡ assert_view a
+view_asserted a = search (rules, the_lemmas)
+
+pub view_declared : (d : Declaration) → statement_view (made.Declaration d) ≡ declaration_view d
+view_declared d = search (rules, the_lemmas)

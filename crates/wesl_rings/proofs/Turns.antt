@@ -1,10 +1,9 @@
 -- The turns of a search.
 use Rattle.std.proofs.Common.{replicate, ◌≡◌, ◌≢◌, ◌⊎◌, ℕ, zero, suc, ◌<◌, ◌≤◌, ◌+◌, ◌-◌, ◌++◌, map, reverse, Vec, Global, Option, Some, None, List, [], ◌∷◌, length, get_or, set, refl, sym, ap, ◌∙◌, subst, inl, inr, arith}
 use Rattle.std.specs.Prelude.{IfNone}
-use Rattle.std.specs.List.{Contains}
 use Rattle.std.proofs.lemmas.List.{get_or-set_same, get_or-set_other, length-set, reverse-append, length-map}
 use Rattle.wesl_rings.specs.Graphs.{Graph, graph_view, edges_at, IsClosed, Leads, Path, edge, then, IsGrounded, grounded, IsRing}
-use Rattle.wesl_rings.specs.Searches.{target_at, mark_at, left_at, OnWay, Looked, Onward, AreWay, IsSearch}
+use Rattle.wesl_rings.specs.Searches.{target_at, mark_at, left_at, OnWay, AreWay, IsSearch}
 use Rattle.wesl_rings.specs.declared.graph.Mark.{Mark}
 use Rattle.wesl_rings.specs.declared.graph.Mark.TheVariants.{New, Open, Done}
 
@@ -387,6 +386,12 @@ module _ (graph : List (Vec ℕ Global)) (ms : List Mark) (ls way rest : List �
         let named : IsSearch g (set ms t Open) (set ls a (get_or ls a 0 - 1)) (t ∷ a ∷ reverse rest)
         = subst (λ x. IsSearch g (set ms x Open) (set ls a (get_or ls a 0 - 1)) (x ∷ a ∷ reverse rest)) is_target made in
         subst (λ ws. IsSearch g (set ms t Open) (set ls a (get_or ls a 0 - 1)) ws) (sym (popped last now t f ∙ ap (λ ws. t ∷ ws) (popped now rest a e))) named
+
+  pub in_left : a < length ls
+  in_left = subst (λ x. a < x) (sym at_top.left_sized) at_top.way.0
+
+  pub in_nodes : a < length graph
+  in_nodes = subst (λ x. a < x) (length-map graph (λ w. w.items)) at_top.way.0
 
   pub node_inside : a < length ms
   node_inside = subst (λ x. a < x) (sym at_top.marks_sized) at_top.way.0

@@ -1,12 +1,14 @@
 -- What is gathered are the names that are bound.
-use Rattle.std.proofs.Common.{◌≡◌, ℕ, Bool, false, List, [], ◌∷◌, ◌++◌, map, refl, sym, ap, ◌∙◌, append_assoc}
+use Rattle.std.proofs.Common.{◌≡◌, ℕ, Bool, false, List, [], ◌∷◌, ◌++◌, map, refl, sym, ap, ◌∙◌, append_assoc, ◌+◌, ◌<◌, ◌≤◌, length, get_or, drop, drop-cons, add-one, rules, Vec, Global, take, zero, suc, arith}
 use Rattle.std.specs.Prelude.{flat_map, if◌then◌else◌, Result, Ok, Err, OnOk}
-use Rattle.std.proofs.lemmas.List.{append-nil}
-use Rattle.wesl_syntax.specs.Tree.{Tree, Forest, end, tree, kind, at, ident, text, texts, truth, unary, binary, assignment, space, access, path, binder, reference, word, branch, before, forest_of, import_entry, import_node, declaration_node}
-use Rattle.wesl_syntax.specs.View.{entry_view, content_view, content_step, entry_step, names_tree, import_view, global_view, placed}
+use mathlib.Core.List.{map-map}
+use Rattle.std.proofs.lemmas.List.{append-nil, drop_all}
+use Rattle.wesl_syntax.specs.Tree.{Tree, Forest, end, tree, kind, at, ident, text, texts, truth, unary, binary, assignment, space, access, path, binder, reference, word, branch, before, forest_of, import_entry, import_node, declaration_node, import_collection, list}
+use Rattle.wesl_syntax.specs.View.{entry_view, content_view, content_step, entry_step, names_tree, import_view, global_view, placed, listed}
 use Rattle.wesl_syntax.specs.declared.span.Spanned.{Spanned}
 use Rattle.wesl_syntax.specs.declared.import.Import.{Import, out-Import}
 use Rattle.wesl_syntax.specs.declared.import.ImportStatement.{ImportStatement}
+use Rattle.wesl_syntax.specs.declared.import.ImportContent.{ImportContent, the_lemmas, Collection}
 use Rattle.wesl_syntax.specs.declared.import.ImportContent.TheFolds.{fold_out-Import}
 use Rattle.wesl_syntax.specs.declared.declaration.GlobalDeclaration.{GlobalDeclaration}
 use Rattle.wesl_valid.specs.Names.{binders_in, imported_in, declared_in, imported, declared}
@@ -57,3 +59,36 @@ declared_by s = declared_in (before (global_view s.node) end)
 pub all_declared : (xs : List (Spanned GlobalDeclaration)) → flat_map declared_by xs ≡ declared (forest_of (map (placed global_view declaration_node) xs))
 all_declared [] = refl
 all_declared (x ∷ xs) = ap (λ ns. declared_by x ++ ns) (all_declared xs)
+
+-- the entries of a collection, one after the other
+abbrev entries_gathered : List ℕ → List Import → List ℕ
+entries_gathered found is = gathered found (forest_of (map entry_view is))
+
+pub entry_next : (first found now : List ℕ) (is : List Import) (i : ℕ) (x : Import) → i < length is → x ≡ get_or is i x → now ≡ gathered found (before (content_view (out-Import x).content) end)
+    → entries_gathered first is ≡ entries_gathered found (drop i is) → entries_gathered first is ≡ entries_gathered now (drop (i + 1) is)
+entry_next first found now is i x h e added so =
+    so ∙ (step ∙ ap (λ ns. entries_gathered ns (drop (i + 1) is)) (ap (λ t. gathered found (before t end)) (view_entry x) ∙ sym added))
+  where
+    step : entries_gathered found (drop i is) ≡ entries_gathered (gathered found (before (entry_view x) end)) (drop (i + 1) is)
+    step = rw (drop-cons is i x h, ← e, add-one) refl
+
+view_collection : (es : Vec Import Global) → content_view (Collection es) ≡ branch import_collection (listed entry_view list es ∷ [])
+view_collection es = search (rules, the_lemmas, map-map)
+
+pub entries_all : (first found : List ℕ) (content : ImportContent) (es : Vec Import Global) (is : List Import) (i : ℕ) → content ≡ Collection es → is ≡ es.items → length is ≤ i
+    → entries_gathered first is ≡ entries_gathered found (drop i is) → found ≡ gathered first (before (content_view content) end)
+entries_all first found content es is i shape same past so =
+    sym (ap (λ t. gathered first (before t end)) (ap content_view shape ∙ view_collection es) ∙ (ap (entries_gathered first) (sym same) ∙ (so ∙ ap (entries_gathered found) (drop_all i is past))))
+
+-- what one more node adds
+joined_suc : {X : Type 0} (f : X → List ℕ) (xs : List X) (i : ℕ) (x : X) → i < length xs → x ≡ get_or xs i x → flat_map f (take (suc i) xs) ≡ flat_map f (take i xs) ++ f x
+joined_suc f [] i x h e = absurd (omega (arith, h))
+joined_suc f (y ∷ xs) zero x h e = append-nil (f y) ∙ ap f (sym e)
+joined_suc f (y ∷ xs) (suc i) x h e = ap (λ ns. f y ++ ns) (joined_suc f xs i x (omega (arith, h)) e) ∙ sym (append_assoc (f y) (flat_map f (take i xs)) (f x))
+
+pub added_next : {X : Type 0} (f : X → List ℕ) (xs : List X) (i : ℕ) (x : X) (first old now : List ℕ) → i < length xs → x ≡ get_or xs i x → now ≡ old ++ f x → old ≡ first ++ flat_map f (take i xs) → now ≡ first ++ flat_map f (take (i + 1) xs)
+added_next f xs i x first old now h e added so =
+    added ∙ (ap (λ ns. ns ++ f x) so ∙ (append_assoc first (flat_map f (take i xs)) (f x) ∙ ap (λ ns. first ++ ns) (sym joined)))
+  where
+    joined : flat_map f (take (i + 1) xs) ≡ flat_map f (take i xs) ++ f x
+    joined = rw add-one (joined_suc f xs i x h e)

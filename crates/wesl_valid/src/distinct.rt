@@ -1,5 +1,5 @@
 //! Names that stand twice.
-ghost use Rattle.std.specs.Prelude.{◌≡◌, map, IfOk, IfErr, IfSome, IfNone};
+ghost use Rattle.std.specs.Prelude.{◌≡◌, [], map, IfOk, IfErr, IfSome, IfNone};
 ghost use Rattle.wesl_names.specs.declared.errors.Error as error;
 ghost use Rattle.wesl_syntax.specs.Unit.{name_in};
 ghost use Rattle.wesl_tree.specs.Translation.{unit_view};
@@ -24,13 +24,17 @@ fn name_of(names: &Names, number: usize) -> &str
     }
 }
 
-/// A number whose name one of the numbers before it has too, if there is one.
-fn repeated(alloc: Global, names: &Names, numbers: &Vec<usize>) -> Result<Option<usize>, Error>
+/// A number whose name one of the numbers before it has too, if there is one; `seen` is empty before.
+fn repeated_among<'a>(
+    seen: &mut IndexSet<&'a str>,
+    names: &'a Names,
+    numbers: &Vec<usize>,
+) -> Result<Option<usize>, Error>
+    requires { seen.old.keys ≡ [] }
     ensures repeated { IfOk result (λ r. IfSome r (λ m. StandsTwice (map (name_in names.now) numbers.now.items) (name_in names.now m))) }
     ensures none { IfOk result (λ r. IfNone r (AreApart (map (name_in names.now) numbers.now.items))) }
     ensures refused { IfErr result (λ e. e ≡ error.Memory) }
 {
-    let mut seen = IndexSet::new(alloc);
     for number in numbers {
         let (_, is_new) = seen.insert_full(name_of(names, *number))?;
         if !is_new {
@@ -38,6 +42,16 @@ fn repeated(alloc: Global, names: &Names, numbers: &Vec<usize>) -> Result<Option
         }
     }
     Ok(None)
+}
+
+/// A number whose name one of the numbers before it has too, if there is one.
+fn repeated(alloc: Global, names: &Names, numbers: &Vec<usize>) -> Result<Option<usize>, Error>
+    ensures repeated { IfOk result (λ r. IfSome r (λ m. StandsTwice (map (name_in names.now) numbers.now.items) (name_in names.now m))) }
+    ensures none { IfOk result (λ r. IfNone r (AreApart (map (name_in names.now) numbers.now.items))) }
+    ensures refused { IfErr result (λ e. e ≡ error.Memory) }
+{
+    let mut seen = IndexSet::new(alloc);
+    repeated_among(&mut seen, names, numbers)
 }
 
 /// The number of a name that two imports or declarations without a condition have, if there is one. Refused for want

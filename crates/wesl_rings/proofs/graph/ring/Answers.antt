@@ -38,3 +38,7 @@ pub returns-clause-none : goal.returns-clause-none
 returns-clause-none c =
     all_grounded (graph_view c.args.graph.now) c.loop-start.marks.items c.loop-start.left.items c.loop-start.invariant.search
     (λ a h. c.loop-start.invariant.met a (let e = length-map c.args.graph.now (λ v. v.items) in let t = c.loop-start-test.false in omega (arith, h, e, t)))
+
+pub search_from-requires-clause-begun : goal.search_from-requires-clause-begun
+search_from-requires-clause-begun c =
+    same_search (graph_view c.args.graph.now) c.deref_mut.result.now _ c.deref_mut-in-loop-start.result.now _ c.deref_mut.ensures.value c.deref_mut-in-loop-start.ensures.value c.loop-start.invariant.search

@@ -1,6 +1,6 @@
 use Rattle.std.proofs.Common.{◌≡◌, ◌∙◌, ap, refl, [], ◌∷◌, map}
 use Rattle.wesl_syntax.specs.Tree.{statements, branch, for_loop, loop, continuing, while_loop, compound_statement, if_clause, else_if_clause, else_clause, switch_clause, list}
-use Rattle.wesl_syntax.specs.View.{statement_view, compound_view, continuing_view, break_if_view, selector_view, attributes_tree, listed, statement_tree, optional, expression_tree, else_view}
+use Rattle.wesl_syntax.specs.View.{statement_view, compound_view, continuing_view, break_if_view, selector_view, attributes_tree, listed, statement_tree, optional, expression_tree, else_view, else_if_view, clause_view}
 use Rattle.wesl_syntax.specs.declared.statement.CompoundStatement.{out-CompoundStatement}
 use Rattle.wesl_syntax.specs.declared.statement.ContinuingStatement.{out-ContinuingStatement}
 use Rattle.wesl_syntax.specs.declared.statement.ElseClause.{out-ElseClause}
@@ -8,8 +8,8 @@ use Rattle.wesl_syntax.specs.declared.statement.ElseIfClause.{out-ElseIfClause}
 use Rattle.wesl_syntax.specs.declared.statement.IfClause.{out-IfClause}
 use Rattle.wesl_syntax.specs.declared.statement.SwitchClause.{out-SwitchClause}
 use Rattle.wesl_occurrences.specs.Views.{state_of, here_view}
-use Rattle.wesl_occurrences.proofs.Steps.{none, next, over, at}
-use Rattle.wesl_occurrences.proofs.Views.{view_assignment, view_block, view_called_statement, view_clause, view_compound, view_continuing, view_else, view_else_if, view_for, view_if, view_if_clause, view_loop, view_return, view_switch, view_while}
+use Rattle.wesl_occurrences.proofs.Steps.{all_passed, at, begun, gone_on, inside, next, none, over}
+use Rattle.wesl_occurrences.proofs.Views.{view_assignment, view_block, view_called_statement, view_clause, view_compound, view_continuing, view_else, view_else_if, view_for, view_if, view_if_clause, view_loop, view_return, view_switch, view_while, view_asserted, view_declared}
 use Rattle.wesl_occurrences.proofs.Nodes.{body_joined, continuing_joined, for_joined, for_tree, held_joined, inner_statement, loop_joined}
 use Rattle.wesl_occurrences.proofs.walk.Walk.+statements.Goals as goal
 
@@ -142,3 +142,40 @@ compound-returns t c =
     let h = here_view c.args.here.now in
     over h (next (next (none c.args.self.now) c.attributes.ensures) c.statements.ensures) (view_compound c.args.body.now)
     (body_joined h (here_view c.inside.result) (state_of c.args.self.now) v.attributes (map statement_tree v.statements.items) c.inside.ensures)
+
+pub statements-loop-node-init : goal.statements-loop-node-init
+statements-loop-node-init t c = begun statement_tree (here_view c.args.here.now)
+
+pub statements-loop-node-preserved : goal.statements-loop-node-preserved
+statements-loop-node-preserved t c = gone_on statement_tree (here_view c.args.here.now) c.node-item.result c.loop-node-test.true c.node-item.is c.loop-node.invariant (inside (here_view c.args.here.now) c.statement.ensures refl refl)
+
+pub statements-returns : goal.statements-returns
+statements-returns t c = all_passed statement_tree (here_view c.args.here.now) c.loop-node-test.false c.deref-node-items.ensures.value refl c.loop-node.invariant
+
+pub else_if_clauses-loop-clause-init : goal.else_if_clauses-loop-clause-init
+else_if_clauses-loop-clause-init t c = begun else_if_view (here_view c.args.here.now)
+
+pub else_if_clauses-loop-clause-preserved : goal.else_if_clauses-loop-clause-preserved
+else_if_clauses-loop-clause-preserved t c = gone_on else_if_view (here_view c.args.here.now) c.clause-item.result c.loop-clause-test.true c.clause-item.is c.loop-clause.invariant c.else_if_clause.ensures
+
+pub else_if_clauses-returns : goal.else_if_clauses-returns
+else_if_clauses-returns t c = all_passed else_if_view (here_view c.args.here.now) c.loop-clause-test.false c.deref-clause-items.ensures.value refl c.loop-clause.invariant
+
+pub clauses-loop-clause-init : goal.clauses-loop-clause-init
+clauses-loop-clause-init t c = begun clause_view (here_view c.args.here.now)
+
+pub clauses-loop-clause-preserved : goal.clauses-loop-clause-preserved
+clauses-loop-clause-preserved t c = gone_on clause_view (here_view c.args.here.now) c.clause-item.result c.loop-clause-test.true c.clause-item.is c.loop-clause.invariant c.clause.ensures
+
+pub clauses-returns : goal.clauses-returns
+clauses-returns t c = all_passed clause_view (here_view c.args.here.now) c.loop-clause-test.false c.deref-clause-items.ensures.value refl c.loop-clause.invariant
+
+pub statement-returns-in-ConstAssert : goal.statement-returns-in-ConstAssert
+statement-returns-in-ConstAssert t c =
+    let v = c.in-ConstAssert in
+    over (here_view c.args.here.now) (next (none c.args.self.now) c.assertion.ensures) (ap statement_view v.is ∙ view_asserted v.assertion) refl
+
+pub statement-returns-in-Declaration : goal.statement-returns-in-Declaration
+statement-returns-in-Declaration t c =
+    let v = c.in-Declaration in
+    over (here_view c.args.here.now) (next (none c.args.self.now) c.declaration.ensures) (ap statement_view v.is ∙ view_declared v.declaration) refl

@@ -1,8 +1,18 @@
-use Rattle.std.proofs.Common.{◌≡◌, ◌∙◌, ap, sym}
+use Rattle.std.proofs.Common.{◌∙◌, ◌++◌, map, ap}
+use Rattle.wesl_meanings.specs.Canonical.{canonical_from}
 use Rattle.wesl_meanings.specs.Keys.{flat}
+use Rattle.wesl_meanings.specs.Numbering.{distinct_from}
 use Rattle.wesl_meanings.proofs.Entries.{key_eq, key_test}
 use Rattle.wesl_meanings.proofs.Numbered.{next_given, next_seen}
-use Rattle.wesl_meanings.proofs.numbers.numbers.Goals as goal
+use Rattle.wesl_meanings.proofs.numbers.number_all.Goals as goal
+
+pub loop-key-init : goal.loop-key-init
+loop-key-init c =
+    let ks = map flat c.args.keys.now in
+    record {
+      given = ap (λ ns. ns ++ canonical_from (map flat c.args.seen.now.keys) ks) c.requires.none_given ∙ ap (λ xs. canonical_from (map flat xs) ks) c.requires.none_seen;
+      seen = ap (λ xs. distinct_from (map flat xs) ks) c.requires.none_seen;
+    }
 
 pub loop-key-preserved : goal.loop-key-preserved
 loop-key-preserved c =

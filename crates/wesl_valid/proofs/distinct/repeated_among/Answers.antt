@@ -3,7 +3,7 @@ use Rattle.std.specs.Prelude.{bytes_eq, if◌then◌else◌}
 use Rattle.std.specs.List.{list_any}
 use Rattle.wesl_syntax.specs.Unit.{name_in}
 use Rattle.wesl_valid.proofs.Twice.{turn_twice, turn_apart, turn_seen}
-use Rattle.wesl_valid.proofs.distinct.repeated.Goals as goal
+use Rattle.wesl_valid.proofs.distinct.repeated_among.Goals as goal
 
 stands : (t s : Bool) → t ≡ not s → t ≡ false → s ≡ true
 stands t true e f = refl

@@ -2,7 +2,7 @@ use Rattle.std.proofs.Common.{◌≡◌, ◌++◌, map, drop}
 use Rattle.wesl_meanings.specs.Canonical.{canonical, canonical_from}
 use Rattle.wesl_meanings.specs.Keys.{flat}
 use Rattle.wesl_meanings.specs.Numbering.{distinct, distinct_from}
-use Rattle.wesl_meanings.proofs.numbers.numbers.Given as goal
+use Rattle.wesl_meanings.proofs.numbers.number_all.Given as goal
 
 abbrev pub invariant-loop-key : goal.invariant-loop-key
 invariant-loop-key l = record {

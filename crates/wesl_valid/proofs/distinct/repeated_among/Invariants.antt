@@ -1,7 +1,7 @@
 use Rattle.std.proofs.Common.{◌≡◌, map, take}
 use Rattle.wesl_syntax.specs.Unit.{name_in}
 use Rattle.wesl_valid.specs.Twice.{AreApart}
-use Rattle.wesl_valid.proofs.distinct.repeated.Given as goal
+use Rattle.wesl_valid.proofs.distinct.repeated_among.Given as goal
 
 abbrev pub invariant-loop-number : goal.invariant-loop-number
 invariant-loop-number l = record {
