@@ -1,10 +1,10 @@
 -- Packages and their modules, list by list.
-use Rattle.std.proofs.Common.{◌≡◌, ℕ, List, [], ◌∷◌, map, Bool, true, false, if◌then◌else◌, Ordering, Less, Equal, Greater, is_eq, Option, Some, None, option_map, option_and_then, bytes_eq, nat_cmp, codes, string_bytes, refl, sym, ap, ◌∙◌}
+use Rattle.std.proofs.Common.{◌≡◌, List, [], ◌∷◌, map, Bool, true, false, if◌then◌else◌, Ordering, Less, Equal, Greater, is_eq, Option, Some, None, option_map, option_and_then, bytes_eq, nat_cmp, codes, string_bytes, refl, sym, ap, ◌∙◌}
 use Rattle.std.proofs.lemmas.Map.Text.{is_eq-slice_cmp}
 use Rattle.std.specs.Cmp.Lexicographic.{slice_cmp}
 use Rattle.std.specs.Ordering.{match_ordering}
 use Rattle.serde_json.specs.Data.{Data, null, boolean, number, string, array, object, Items, no_items, item, Members, no_members, member}
-use Rattle.serde_json.specs.Find.{as_array, get, get_member}
+use Rattle.serde_json.specs.Find.{get, get_member}
 use Rattle.wesl_borrowed.specs.View.{borrowed_view}
 use Rattle.wesl_names.specs.Path.{Text}
 use Rattle.wesl_bundle.specs.Packages as said

@@ -12,11 +12,16 @@ use Rattle.wesl_pointer.specs.Pointer.{index, key, part_text}
 use Rattle.wesl_bundle.specs.declared.members.BundleError.{BundleError}
 use Rattle.wesl_bundle.specs.Broken.{IfPlace, IsMemberBroken, IsUnder, Locates, LocatesMember, place_of}
 use Rattle.wesl_bundle.specs.Forms.{Form, IsBroken, a_list_of, optional}
-use Rattle.wesl_bundle.specs.Parts.{AreItems, IsFaultUnder, IsItemFault, IsWithItem}
+use Rattle.wesl_bundle.specs.Parts.{IsFaultUnder, IsItemFault, IsWithItem}
 use Rattle.wesl_bundle.specs.Reading.{items_in, or_empty}
 use Rattle.wesl_bundle.proofs.Depths.{array-depth, get-depth, item-depth}
 use Rattle.wesl_bundle.proofs.Places.{IfPlace-memory, IfPlace-more, IfPlace-under, Locates-here, Locates-item, LocatesMember-under}
 use Rattle.wesl_bundle.proofs.Readings.{item-at, items_in-turn}
+
+-- the items of the list that is there, or none where nothing is
+abbrev pub AreItems : Option Data → List BorrowedValue → Type 0
+AreItems None vs = vs ≡ []
+AreItems (Some d) vs = as_array d ≡ Some (items_view vs)
 
 -- what is there breaks the form at a place
 abbrev pub IsBrokenAt : Form → Option Data → Text → Type 0

@@ -1,15 +1,13 @@
 -- What holds of the parts that are put together holds of the whole, and what holds of each fault of the fault that is told.
-use Rattle.std.proofs.Common.{◌≡◌, ◌⊎◌, [], ◌∷◌, ◌++◌, Bool, true, false, Option, Some, None, Result, Ok, Err, inl, inr, refl, sym, ap, ◌∙◌}
+use Rattle.std.proofs.Common.{◌≡◌, [], Bool, true, false, Option, Some, None, Result, Ok, Err, inl, inr, ap, ◌∙◌}
 use Rattle.std.specs.Prelude.{IfOk, IfErr, OnOk}
 use Rattle.std.proofs.lemmas.Result.{IfOk-at_ok, IfErr-at_err, IfOk-weaker, IfErr-weaker}
 use Rattle.serde_json.specs.Data.{Data}
 use Rattle.serde_json.specs.Find.{get}
-use Rattle.wesl_names.specs.Path.{Text}
 use Rattle.wesl_pointer.specs.Pointer.{key}
 use Rattle.wesl_bundle.specs.declared.members.BundleError.{BundleError}
-use Rattle.wesl_bundle.specs.declared.members.BundleError.TheVariants.{Memory}
 use Rattle.wesl_bundle.specs.Broken.{Locates, LocatesMember, place_of}
-use Rattle.wesl_bundle.specs.Forms.{Field, Form, IsWrong, IsWrongObject, fields, find_field, optional}
+use Rattle.wesl_bundle.specs.Forms.{Field, Form, IsWrong, IsWrongObject, fields, find_field}
 use Rattle.wesl_bundle.specs.Parts.{IsEither, IsFaultUnder, IsKeyOr, IsUnread}
 use Rattle.wesl_bundle.proofs.Places.{Locates-field, Locates-here, LocatesMember-under}
 

@@ -4,7 +4,7 @@ use Rattle.std.specs.Str.{bytes_eq}
 use Rattle.serde_json.specs.Data.{Data, null, boolean, number, string, array, object, Items, no_items, item, Members, no_members, member}
 use Rattle.serde_json.specs.Find.{get}
 use Rattle.wesl_names.specs.Path.{Text}
-use Rattle.wesl_bundle.specs.Reading.{◌>>=◌, name_in, required_in}
+use Rattle.wesl_bundle.specs.Reading.{◌>>=◌, name_in, or_default, required_in}
 use Rattle.wesl_pointer.specs.Keys.{has_only}
 
 -- Modules, in order: the name of one, the value that its unit is read from, the modules below it, and then the others.
@@ -114,3 +114,7 @@ abbrev mutual
     p ← package_in d
     ps ← each_package ds
     Some (package_before p ps)
+
+-- the modules at the key, none where it is not there
+abbrev pub modules_at : Text → Data → Option PackageModules
+modules_at key d = or_default no_modules package_modules_in (get key d)

@@ -1,11 +1,9 @@
 -- What is read of several parts, put together: all of it, or one of the faults.
-use Rattle.std.specs.Prelude.{◌≡◌, ◌⊎◌, ℕ, Bool, true, false, List, [], ◌∷◌, ◌++◌, Option, Some, None, String, Vec, Result, Ok, Err, codes, string_bytes, string_cmp}
+use Rattle.std.specs.Prelude.{◌≡◌, ◌⊎◌, ℕ, Bool, true, false, [], ◌∷◌, ◌++◌, Option, Some, None, String, Vec, Result, Ok, Err, codes, string_bytes, string_cmp}
 use Rattle.std.specs.BTreeMap.{BTreeMap, insert_entry}
 use Rattle.std.specs.Global.{Global}
 use Rattle.serde_json.specs.Data.{Data}
-use Rattle.serde_json.specs.Find.{as_array, as_str}
-use Rattle.wesl_borrowed.specs.View.{items_view}
-use Rattle.wesl_borrowed.specs.declared.value.BorrowedValue.{BorrowedValue}
+use Rattle.serde_json.specs.Find.{as_str}
 use Rattle.wesl_names.specs.Path.{Text}
 use Rattle.wesl_pointer.specs.Pointer.{Part, index, key}
 use Rattle.wesl_bundle.specs.declared.members.BundleError.{BundleError}
@@ -38,13 +36,6 @@ IsWithItem {A} list item more = (earlier : Vec A Global) × (last : A) × (list 
 -- want of memory for the item at i, or a fault of the list, or of the item
 abbrev pub IsItemFault : {A : Type 0} → ℕ → Result (Vec A Global) BundleError → Result A BundleError → BundleError → Type 0
 IsItemFault i list item e = (e ≡ Memory) ⊎ (list ≡ Err e) ⊎ IsFaultUnder (index i) item e
-
--- ---- lists that may be absent
-
--- the items of the list that is there, or none where nothing is
-abbrev pub AreItems : Option Data → List BorrowedValue → Type 0
-AreItems None vs = vs ≡ []
-AreItems (Some d) vs = as_array d ≡ Some (items_view vs)
 
 -- ---- texts
 

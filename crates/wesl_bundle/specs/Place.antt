@@ -2,7 +2,6 @@
 use Rattle.std.specs.Prelude.{◌≡◌, List, [], ◌∷◌, true, Some, option_map}
 use Rattle.serde_json.specs.Data.{Data, Members}
 use Rattle.serde_json.specs.Find.{at, as_number, as_object, is_float}
-use Rattle.wesl_names.specs.Path.{Text}
 use Rattle.wesl_pointer.specs.Keys.{HasMember}
 use Rattle.wesl_pointer.specs.Pointer.{Part, key, index}
 

@@ -5,7 +5,7 @@ ghost use Rattle.wesl_borrowed.specs.View.{borrowed_view};
 ghost use Rattle.wesl_bundle.specs.Broken.{Locates, LocatesMember};
 ghost use Rattle.wesl_bundle.specs.Forms.{a_list_of, a_package, a_package_module, optional};
 ghost use Rattle.wesl_bundle.specs.PackageViews.{package_module_view, package_modules_view, package_view, packages_view};
-ghost use Rattle.wesl_bundle.specs.Packages.{module_with, no_modules, no_packages, package_in, package_module_in, package_modules_in, packages_in};
+ghost use Rattle.wesl_bundle.specs.Packages.{module_with, modules_at, no_packages, package_in, package_module_in, packages_in};
 ghost use Rattle.wesl_bundle.specs.Parts.{LocatesModuleMember};
 ghost use Rattle.wesl_bundle.specs.Reading.{or_default};
 
@@ -79,7 +79,7 @@ fn modules_member<'t>(
     value: &BorrowedValue<'t>,
     key: &str,
 ) -> Result<Vec<PackageModule<'t>>, BundleError>
-    ensures ok { IfOk result (λ ms. or_default no_modules package_modules_in (get key.now (borrowed_view value.now)) ≡ Some (package_modules_view ms.items)) }
+    ensures ok { IfOk result (λ ms. modules_at key.now (borrowed_view value.now) ≡ Some (package_modules_view ms.items)) }
     ensures place { IfErr result (LocatesMember (optional key.now (a_list_of a_package_module)) (borrowed_view value.now)) }
 {
     let Some(list) = value.get(key) else {
@@ -111,7 +111,7 @@ fn module_members<'t>(
     alloc: Global,
     value: &BorrowedValue<'t>,
 ) -> Result<PackageModule<'t>, BundleError>
-    ensures ok { IfOk result (λ m. module_with (borrowed_view value.now) (or_default no_modules package_modules_in (get (codes "modules") (borrowed_view value.now))) ≡ Some (package_module_view m)) }
+    ensures ok { IfOk result (λ m. module_with (borrowed_view value.now) (modules_at (codes "modules") (borrowed_view value.now)) ≡ Some (package_module_view m)) }
     ensures place { IfErr result (LocatesModuleMember (borrowed_view value.now)) }
 {
     let name = name_member(alloc, value, "name");

@@ -10,7 +10,7 @@ use Rattle.wesl_symbols.specs.declared.ids.NameId.{NameId}
 use Rattle.wesl_symbols.specs.declared.symbols.Symbol.{Symbol}
 use Rattle.wesl_symbols.specs.Tables.{Table}
 use Rattle.wesl_world.specs.World as world
-use Rattle.wesl_world.specs.World.{Task, IsAt, Entered, Reached}
+use Rattle.wesl_world.specs.World.{Task, Entered, Reached}
 use Rattle.wesl_world.specs.Faults.{Fault, Stands, AreDistinct}
 use Rattle.wesl_world.specs.Faults.AreDistinct.{none as none_distinct, one_more as one_distinct}
 use Rattle.wesl_world.specs.Linking as linking

@@ -1,5 +1,5 @@
 -- What is told of a result, told of the value that was taken from it.
-use Rattle.std.proofs.Common.{◌≡◌, Some, None, List, ◌++◌, ◌∷◌, [], true, Result, Ok, Err, IfOk, OnOk, OnErr, sym, subst}
+use Rattle.std.proofs.Common.{◌≡◌, Some, List, ◌++◌, ◌∷◌, [], true, Result, Ok, Err, IfOk, OnOk, sym, subst}
 use Rattle.std.specs.Prelude.{is_ok, if◌then◌else◌}
 use Rattle.std.specs.Result.{result_ok}
 
@@ -17,11 +17,7 @@ pub pushed : {T R E : Type 0} (old new : List T) (x : T) (r : Result R E) → is
 pushed old new x (Ok y) e h = h
 pushed old new x (Err z) e h = cc
 
--- the same of the value that was taken, and of none
+-- the same of the value that was taken
 pub ok_on : {T E P : Type 0} (r : Result T E) (x : T) → Some x ≡ result_ok r → OnOk r P → P
 ok_on (Ok y) x e h = h
 ok_on (Err z) x e h = cc
-
-pub err_on : {T E P : Type 0} (r : Result T E) → None ≡ result_ok r → OnErr r P → P
-err_on (Ok y) e h = cc
-err_on (Err z) e h = h

@@ -113,7 +113,7 @@ pub enum ImportError {
     DuplicateSymbol(String),
     /// The resolver refuses a module that is reached. It carries the resolver's refusal, which is not
     /// want of memory.
-    #[error("{0}")]
+    #[error(transparent)]
     ResolveError(ResolveError),
     /// A module has no declaration of a name. It carries the module's path and the name.
     #[error("no declaration `{1}` in `{0}`")]
@@ -129,16 +129,16 @@ pub enum ImportError {
 #[derive(Debug, Drop, Error)]
 pub enum Error {
     /// A fault of a conditional attribute.
-    #[error("{0}")]
+    #[error(transparent)]
     CondComp(CondCompError),
     /// A fault of an import or a path.
-    #[error("{0}")]
+    #[error(transparent)]
     Import(ImportError),
     /// A refusal of a resolver that was asked directly.
-    #[error("{0}")]
+    #[error(transparent)]
     Resolve(ResolveError),
     /// A fault that a validator found.
-    #[error("{0}")]
+    #[error(transparent)]
     Validate(ValidateError),
     /// More modules are reached than the caller allows. It carries how many are allowed.
     #[error("more than {0} modules")]

@@ -5,6 +5,7 @@ pub mod Marks
 pub mod Reading
 pub mod Numbering
 pub mod Walks
+pub mod Scope
 pub mod Spelling
 pub mod NumbersView
 pub mod Base

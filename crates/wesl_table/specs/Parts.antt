@@ -1,14 +1,17 @@
 -- What a table is made of, while it is made.
-use Rattle.std.specs.Prelude.{◌≡◌, ◌↔◌, Some, List, [], Contains}
+use Rattle.std.specs.Prelude.{◌≡◌, ◌↔◌, Option, Some, List, [], Contains}
 use Rattle.wesl_names.specs.Path.{Text, Path}
 use Rattle.wesl_syntax.specs.Unit.{UnitOf, UnitView, spelled}
 use Rattle.wesl_occurrences.specs.Pieces.{declarations_in}
 use Rattle.wesl_symbols.specs.declared.ids.NameId.{NameId}
+use Rattle.wesl_symbols.specs.declared.ids.PathId.{PathId}
+use Rattle.wesl_symbols.specs.Tables.{Declaration}
 use Rattle.wesl_symbols.specs.declared.symbols.Import.{Import}
 use Rattle.wesl_table.specs.Marks.{AreMarked}
 use Rattle.wesl_table.specs.Numbering.{Numbering, AreRelated, AreNumberedImports, AreNumberedDeclarations, NameAt}
 use Rattle.wesl_table.specs.Reading.{AreNumbersOfNames}
 use Rattle.wesl_table.specs.Tables.{uses, table_at}
+use Rattle.wesl_table.specs.declared.marks.Marked.{Marked}
 use Rattle.wesl_table.specs.declared.table.UnitNumbers.{UnitNumbers}
 use Rattle.wesl_table.specs.declared.table.Declared.{Declared}
 
@@ -25,6 +28,10 @@ pub record IsNumberedUnit (nb : Numbering) (js : List (Import Path Text)) (u : U
   pub ids : AreRelated (NameAt nb) n.ids.items u.names
   pub names : AreNumbersOfNames nb n.names.items (declarations_in (spelled u))
   pub declared : (x : NameId) → Contains n.declared.keys x ↔ Contains n.names.items (Some x)
+
+-- the declaration that binds this name, if it binds one, with what its identifiers ask for
+abbrev pub declared_as : Option NameId → Marked → Declaration PathId NameId
+declared_as name marked = record { name = name; references = marked.references.items }
 
 -- nothing is declared
 pub record IsUndeclared (d : Declared) : Type 0 where

@@ -1,17 +1,20 @@
 -- What is known of a module while its identifiers are marked.
-use Rattle.std.specs.Prelude.{◌≡◌, ℕ, ◌<◌, ◌==◌, Bool, false, Option, Some, None, List, [], ◌∷◌, ◌++◌, length, map, flat_map, take, drop, get_or, Contains, if◌then◌else◌}
+use Rattle.std.specs.Prelude.{◌≡◌, ℕ, ◌<◌, ◌==◌, Bool, false, Option, Some, None, List, [], ◌∷◌, ◌++◌, length, map, flat_map, take, drop, get_or, Contains, if◌then◌else◌, Vec}
+use Rattle.std.specs.declared.alloc.Global.{Global}
 use Rattle.std.specs.List.{All, list_any}
 use Rattle.wesl_names.specs.Path.{Text, Path, path_view, is_relative}
 use Rattle.wesl_names.specs.declared.path.ModulePath.{ModulePath}
-use Rattle.wesl_syntax.specs.Tree.{TreeOf, kind, declarations}
-use Rattle.wesl_syntax.specs.Unit.{UnitOf, UnitView, spelled, trees_of}
+use Rattle.wesl_syntax.specs.Tree.{TreeOf, kind, declarations, trees, respell}
+use Rattle.wesl_syntax.specs.Unit.{UnitOf, UnitView, spelled, trees_of, name_in}
+use Rattle.wesl_syntax.specs.View.{declarations_tree}
+use Rattle.wesl_syntax.specs.declared.declaration.GlobalDeclaration.{GlobalDeclaration}
+use Rattle.wesl_syntax.specs.declared.span.Spanned.{Spanned}
 use Rattle.wesl_tree.specs.Translation.{unit_view}
 use Rattle.wesl_symbols.specs.declared.ids.PathId.{PathId}
 use Rattle.wesl_symbols.specs.declared.ids.NameId.{NameId}
 use Rattle.wesl_symbols.specs.declared.symbols.Import.{Import}
 use Rattle.wesl_symbols.specs.declared.symbols.Reference.{Reference}
 use Rattle.wesl_symbols.specs.declared.symbols.Symbol.{Symbol}
-use Rattle.wesl_symbols.specs.Tables.{Table}
 use Rattle.wesl_occurrences.specs.Occurrences.{occurrences}
 use Rattle.wesl_occurrences.specs.Identified.{identified}
 use Rattle.wesl_occurrences.specs.Pieces.{starts}
@@ -24,7 +27,7 @@ use Rattle.wesl_table.specs.Marks.{IsMark}
 use Rattle.wesl_table.specs.Numbering.{Numbering, AreRelated, IsRelatedOption, AreNumberedImports, AreNumberedReferences, NameAt, PathAt}
 use Rattle.wesl_table.specs.NumbersView.{numbering}
 use Rattle.wesl_table.specs.Spelling.{spelled_imports}
-use Rattle.wesl_table.specs.Tables.{name_of, names_declared, reference_to, table_at}
+use Rattle.wesl_table.specs.Tables.{name_of, names_declared, reference_to}
 use Rattle.wesl_table.specs.Uses.{Use, refers, local, asked, asked_plain, under, aims, meant, use_of}
 use Rattle.wesl_table.specs.declared.marks.Mark.{Mark}
 use Rattle.wesl_table.specs.declared.marks.Mark.TheVariants as marks
@@ -66,13 +69,17 @@ all_uses r = map (use_of (own_path r) (names_declared (unit_in r)) (imports_in r
 abbrev pub use_at : Reading → ℕ → Use Path Text
 use_at r i = get_or (all_uses r) i (local 0 [])
 
--- its symbol table
-abbrev pub table_in : Reading → Table Path Text
-table_in r = table_at (own_path r) (unit_in r)
-
 -- the elements from one place to another
 abbrev pub span : {X : Type 0} → ℕ → ℕ → List X → List X
 span from to xs = drop from (take to xs)
+
+-- what the identifiers from one place to another ask for
+abbrev pub references_in : Reading → ℕ → ℕ → List (Reference Path Text)
+references_in r from to = map reference_to (flat_map asked (span from to (all_uses r)))
+
+-- a name without a path as a reference
+abbrev pub plain_use : Reading → Text → Use Path Text
+plain_use r x = refers x (plain_in r x)
 
 -- what was read of it
 pub record IsRead (r : Reading) : Type 0 where
@@ -118,6 +125,10 @@ abbrev pub mark_by : NameId → NameId → Option PathId → Mark
 mark_by n m (Some p) = marks.Asks (record { path = p; name = m })
 mark_by n m None = marks.Free n
 
+-- of a name without a path in the module that is read
+abbrev pub plain_of : Reading → NameId → List (Reference PathId NameId)
+plain_of r name = plain r.own r.declared.now.keys r.numbered.now name
+
 -- the mark of a name that asks for these
 abbrev pub mark_of : NameId → List (Reference PathId NameId) → Mark
 mark_of n [] = marks.Free n
@@ -135,3 +146,11 @@ pub record Marks (nb : Numbering) (m : Mark) (old new : List (Reference PathId N
 -- the mark says what the name of that number is, in these texts, and what it asks for is added
 abbrev pub MarksName : Numbers → Numbers → NameId → (Text → Use Path Text) → Mark → List (Reference PathId NameId) → List (Reference PathId NameId) → Type 0
 MarksName before after name as_use m old new = (x : Text) → NameAt (numbering before) name x → Marks (numbering after) m old new (as_use x)
+
+-- the name of that number is asked for under each of these modules
+abbrev pub AddsUnder : Numbers → Numbers → NameId → List ModulePath → List (Reference PathId NameId) → List (Reference PathId NameId) → Type 0
+AddsUnder before after name modules old new = (x : Text) → NameAt (numbering before) name x → Adds (numbering after) old new (map (under x) (map path_view modules))
+
+-- of each of these declarations the number of the name that it binds by a table of names, if it binds one
+abbrev pub NumbersNames : Numbering → List Text → Vec (Spanned GlobalDeclaration) Global → List (Option NameId) → Type 0
+NumbersNames nb names nodes ids = AreNumbersOfNames nb ids (trees (respell (name_in names) (declarations_tree nodes)).children)

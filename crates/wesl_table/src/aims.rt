@@ -1,9 +1,11 @@
 //! Where the paths before names lead (WESL, "Imports").
-ghost use Rattle.std.specs.Prelude.{◌≡◌, ◌++◌, [], false, All, map, IfOk, IfErr, OnOk};
+ghost use Rattle.std.specs.Prelude.{◌≡◌, [], false, All, IfOk, IfErr, OnOk};
 ghost use Rattle.wesl_names.specs.declared.errors.Error as error;
-ghost use Rattle.wesl_names.specs.Path.{path_view, origin_view, push, extend, join, is_relative};
+ghost use Rattle.wesl_names.specs.Path.{path_view, origin_view, join, is_relative};
 ghost use Rattle.wesl_table.specs.Uses as uses;
-ghost use Rattle.wesl_table.specs.Spelling.{spelled_import, spelled_imports};
+ghost use Rattle.wesl_table.specs.Scope.{aims_in, item_in_place};
+ghost use Rattle.wesl_table.specs.Spelling.{spelled_import};
+ghost use Rattle.wesl_table.specs.Walks.{AddsPaths, paths_of};
 
 use crate::numbers::spelling;
 use std::alloc::Global;
@@ -35,7 +37,7 @@ fn module_in_place(
     path: &ModulePath,
     import: &Import<ModulePath, Ident>,
 ) -> Result<ModulePath, Error>
-    ensures value { let named = spelled_import names.now import.now in IfOk result (λ module_path. path_view module_path ≡ extend (push named.path named.item) (path_view path.now).components) }
+    ensures value { IfOk result (λ m. path_view m ≡ item_in_place (path_view path.now) (spelled_import names.now import.now)) }
     ensures refused { IfErr result (λ e. e ≡ error.Memory) }
 {
     let mut item = import.path.try_clone(alloc)?;
@@ -51,7 +53,7 @@ fn add_in_place(
     path: &ModulePath,
     import: &Import<ModulePath, Ident>,
 ) -> Result<(), Error>
-    ensures found { OnOk result (map path_view found.new.items ≡ map path_view found.old.items ++ uses.module_in_place (path_view path.now) (spelled_import names.now import.now)) }
+    ensures found { OnOk result (AddsPaths found.old found.new (uses.module_in_place (path_view path.now) (spelled_import names.now import.now))) }
     ensures refused { IfErr result (λ e. e ≡ error.Memory) }
 {
     if !is_package(&path.origin, spelling(names, import.bound)) {
@@ -68,7 +70,7 @@ fn add_joined(
     found: &mut Vec<ModulePath>,
     path: &ModulePath,
 ) -> Result<(), Error>
-    ensures found { OnOk result (map path_view found.new.items ≡ uses.or_else (map path_view found.old.items) (join (path_view own.now) (path_view path.now))) }
+    ensures found { OnOk result (paths_of found.new ≡ uses.or_else (paths_of found.old) (join (path_view own.now) (path_view path.now))) }
     ensures refused { IfErr result (λ e. e ≡ error.Memory) }
 {
     if found.is_empty() {
@@ -85,7 +87,7 @@ fn add_aims(
     path: &ModulePath,
 ) -> Result<(), Error>
     requires { found.old.items ≡ [] }
-    ensures found { OnOk result (map path_view found.new.items ≡ uses.aims (path_view scope.now.own.now) (spelled_imports scope.now.names.now scope.now.imports.now) (path_view path.now)) }
+    ensures found { OnOk result (paths_of found.new ≡ aims_in scope.now (path_view path.now)) }
     ensures refused { IfErr result (λ e. e ≡ error.Memory) }
 {
     for import in scope.imports {
@@ -100,7 +102,7 @@ pub fn aims(alloc: Global, scope: &Scope<'_>, path: &ModulePath) -> Result<Vec<M
     requires own { is_relative (path_view scope.now.own.now) ≡ false }
     requires imports { All (λ i. is_relative (path_view i.path) ≡ false) scope.now.imports.now }
     ensures asked { IfOk result (λ found. All (λ p. is_relative (path_view p) ≡ false) found.items) }
-    ensures aims { IfOk result (λ found. map path_view found.items ≡ uses.aims (path_view scope.now.own.now) (spelled_imports scope.now.names.now scope.now.imports.now) (path_view path.now)) }
+    ensures aims { IfOk result (λ found. paths_of found ≡ aims_in scope.now (path_view path.now)) }
     ensures refused { IfErr result (λ e. e ≡ error.Memory) }
 {
     let mut found = Vec::new(alloc);

@@ -3,10 +3,10 @@ ghost use Rattle.std.specs.Prelude.{◌≡◌, ◌++◌, false, All, map, option
 ghost use Rattle.wesl_names.specs.declared.errors.Error as error;
 ghost use Rattle.wesl_names.specs.Path.{path_view, is_relative};
 ghost use Rattle.wesl_syntax.specs.Tree.{before, end, forest_of};
-ghost use Rattle.wesl_syntax.specs.View.{attribute_view, attributes_tree, content_view, entry_view, item_view, import_view as statement_view, imports_tree};
+ghost use Rattle.wesl_syntax.specs.View.{attribute_view, attributes_tree, content_view, entry_view, item_view, imports_tree};
 ghost use Rattle.wesl_table.specs.Imports as imports;
 ghost use Rattle.wesl_table.specs.Base.{base_view};
-ghost use Rattle.wesl_table.specs.Walks.{import_view, imported};
+ghost use Rattle.wesl_table.specs.Walks.{HasImported, imports_of, statement_imports};
 
 use std::alloc::Global;
 use wesl_names::{Error, Ident, ModulePath, PathOrigin};
@@ -72,7 +72,7 @@ pub fn imports(
     statements: &Vec<ImportStatementNode>,
 ) -> Result<Vec<Import<ModulePath, Ident>>, Error>
     requires { is_relative (path_view own.now) ≡ false }
-    ensures imports { IfOk result (λ found. map import_view found.items ≡ imports.all_imports (path_view own.now) (imports_tree statements.now).children) }
+    ensures imports { IfOk result (λ found. imports_of found ≡ imports.all_imports (path_view own.now) (imports_tree statements.now).children) }
     ensures asked { IfOk result (λ found. All (λ i. is_relative (path_view i.path) ≡ false) found.items) }
     ensures refused { IfErr result (λ e. e ≡ error.Memory) }
 {
@@ -89,7 +89,7 @@ fn add_statement(
     found: &mut Vec<Import<ModulePath, Ident>>,
     statement: &ImportStatement,
 ) -> Result<(), Error>
-    ensures found { OnOk result (map import_view found.new.items ≡ map import_view found.old.items ++ imports.statement_imports (path_view own.now) (statement_view statement.now).children) }
+    ensures found { OnOk result (imports_of found.new ≡ imports_of found.old ++ statement_imports own.now statement.now) }
     ensures refused { IfErr result (λ e. e ≡ error.Memory) }
 {
     let base = base_of(alloc, own, &statement.path)?;
@@ -105,7 +105,7 @@ fn add_content(
     base: &Base,
     content: &ImportContent,
 ) -> Result<(), Error>
-    ensures found { OnOk result (map import_view found.new.items ≡ imported published (base_view base.now) (map import_view found.old.items) (before (content_view content.now) end)) }
+    ensures found { OnOk result (HasImported published base.now (before (content_view content.now) end) found.old found.new) }
     ensures refused { IfErr result (λ e. e ≡ error.Memory) }
 {
     match content {
@@ -122,7 +122,7 @@ fn add_entries(
     base: &Base,
     entries: &Vec<ImportEntry>,
 ) -> Result<(), Error>
-    ensures found { OnOk result (map import_view found.new.items ≡ imported published (base_view base.now) (map import_view found.old.items) (forest_of (map entry_view entries.now.items))) }
+    ensures found { OnOk result (HasImported published base.now (forest_of (map entry_view entries.now.items)) found.old found.new) }
     ensures refused { IfErr result (λ e. e ≡ error.Memory) }
 {
     for entry in entries {
@@ -139,7 +139,7 @@ fn add_entry(
     base: &Base,
     entry: &ImportEntry,
 ) -> Result<(), Error>
-    ensures found { OnOk result (map import_view found.new.items ≡ imported published (base_view base.now) (map import_view found.old.items) (before (entry_view entry.now) end)) }
+    ensures found { OnOk result (HasImported published base.now (before (entry_view entry.now) end) found.old found.new) }
     ensures refused { IfErr result (λ e. e ≡ error.Memory) }
 {
     let inner = base.entered(alloc, &entry.path)?;
@@ -153,7 +153,7 @@ fn add_item(
     base: &Base,
     item: &ImportItem,
 ) -> Result<(), Error>
-    ensures found { OnOk result (map import_view found.new.items ≡ imported published (base_view base.now) (map import_view found.old.items) (before (item_view item.now) end)) }
+    ensures found { OnOk result (HasImported published base.now (before (item_view item.now) end) found.old found.new) }
     ensures refused { IfErr result (λ e. e ≡ error.Memory) }
 {
     let Base::At(path) = base else {

@@ -1,14 +1,13 @@
 //! What the identifiers of a module are to a link.
-ghost use Rattle.std.specs.Prelude.{◌≡◌, ◌<◌, ◌≤◌, ◌++◌, [], false, All, length, get_or, map, flat_map, drop, IfOk, IfErr, OnOk};
-ghost use Rattle.wesl_names.specs.Path.{Text, path_view, is_relative};
+ghost use Rattle.std.specs.Prelude.{◌≡◌, ◌<◌, ◌≤◌, ◌++◌, [], false, All, length, get_or, drop, IfOk, IfErr, OnOk};
+ghost use Rattle.wesl_names.specs.Path.{path_view, is_relative};
 ghost use Rattle.wesl_names.specs.declared.errors.Error as error;
 ghost use Rattle.wesl_meanings.specs.Keys.{IsKeyBelow};
-ghost use Rattle.wesl_table.specs.Uses.{refers, under, asked};
+ghost use Rattle.wesl_table.specs.Uses.{under};
 ghost use Rattle.wesl_table.specs.Marks.{IsMark};
-ghost use Rattle.wesl_table.specs.Tables.{reference_to};
-ghost use Rattle.wesl_table.specs.Numbering.{AreRelated, AreNumberedReferences, Grows, NameAt};
+ghost use Rattle.wesl_table.specs.Numbering.{AreRelated, AreNumberedReferences, Grows};
 ghost use Rattle.wesl_table.specs.NumbersView.{numbering};
-ghost use Rattle.wesl_table.specs.Reading.{IsRead, IsNumberedBy, Marks, MarksName, Adds, plain, mark_of, plain_in, aimed_in, meant_by, use_at, all_uses, span};
+ghost use Rattle.wesl_table.specs.Reading.{IsRead, IsNumberedBy, Marks, MarksName, AddsUnder, plain_of, plain_use, mark_of, aimed_in, meant_by, use_at, all_uses, references_in, span};
 
 use crate::aims::{Scope, aims};
 use crate::numbers::Numbers;
@@ -55,7 +54,7 @@ fn add_plain(
     found: &mut Vec<Reference<PathId, NameId>>,
     name: NameId,
 ) -> Result<(), Error>
-    ensures added { OnOk result (found.new.items ≡ found.old.items ++ plain reading.now.own reading.now.declared.now.keys reading.now.numbered.now name) }
+    ensures added { OnOk result (found.new.items ≡ found.old.items ++ plain_of reading.now name) }
     ensures refused { IfErr result (λ e. e ≡ error.Memory) }
 {
     if reading.declared.contains(&name) {
@@ -84,7 +83,7 @@ fn mark_plain(
     name: NameId,
 ) -> Result<Mark, Error>
     requires numbered { IsNumberedBy (numbering numbers.now) reading.now }
-    ensures marked { IfOk result (λ m. MarksName numbers.now numbers.now name (λ x. refers x (plain_in reading.now x)) m found.old.items found.new.items) }
+    ensures marked { IfOk result (λ m. MarksName numbers.now numbers.now name (plain_use reading.now) m found.old.items found.new.items) }
     ensures refused { IfErr result (λ e. e ≡ error.Memory) }
 {
     let before = found.len();
@@ -101,7 +100,7 @@ fn add_under(
     modules: &[ModulePath],
 ) -> Result<(), Error>
     requires { All (λ p. is_relative (path_view p) ≡ false) modules.now }
-    ensures added { OnOk result ((x : Text) → NameAt (numbering numbers.old) name x → Adds (numbering numbers.new) found.old.items found.new.items (map (under x) (map path_view modules.now))) }
+    ensures added { OnOk result (AddsUnder numbers.old numbers.new name modules.now found.old.items found.new.items) }
     ensures grows { Grows (numbering numbers.old) (numbering numbers.new) }
     ensures refused { IfErr result (λ e. e ≡ error.Memory) }
 {
@@ -224,7 +223,7 @@ fn mark_span(
     requires unmarked { marked.old.marks.items ≡ [] }
     requires unasked { marked.old.references.items ≡ [] }
     ensures marks { OnOk result (AreRelated (IsMark (numbering numbers.new)) marked.new.marks.items (span from to (all_uses reading.now))) }
-    ensures references { OnOk result (AreNumberedReferences (numbering numbers.new) marked.new.references.items (map reference_to (flat_map asked (span from to (all_uses reading.now))))) }
+    ensures references { OnOk result (AreNumberedReferences (numbering numbers.new) marked.new.references.items (references_in reading.now from to)) }
     ensures grows { Grows (numbering numbers.old) (numbering numbers.new) }
     ensures refused { IfErr result (λ e. e ≡ error.Memory) }
 {
@@ -249,7 +248,7 @@ pub fn mark_piece(
     requires ordered { from ≤ to }
     requires inside { to ≤ length reading.now.meanings.now.found.all.items }
     ensures marks { IfOk result (λ m. AreRelated (IsMark (numbering numbers.new)) m.marks.items (span from to (all_uses reading.now))) }
-    ensures references { IfOk result (λ m. AreNumberedReferences (numbering numbers.new) m.references.items (map reference_to (flat_map asked (span from to (all_uses reading.now))))) }
+    ensures references { IfOk result (λ m. AreNumberedReferences (numbering numbers.new) m.references.items (references_in reading.now from to)) }
     ensures grows { Grows (numbering numbers.old) (numbering numbers.new) }
     ensures refused { IfErr result (λ e. e ≡ error.Memory) }
 {

@@ -1,14 +1,13 @@
 //! A module as its identifiers are marked.
 ghost use Rattle.std.specs.Prelude.{◌≡◌, ◌↔◌, ◌⊎◌, [], Some, Contains, option_map, IfOk, IfErr, OnOk};
 ghost use Rattle.wesl_names.specs.declared.errors.Error as error;
-ghost use Rattle.wesl_syntax.specs.Tree.{trees, respell};
 ghost use Rattle.wesl_syntax.specs.Unit.{name_in};
-ghost use Rattle.wesl_syntax.specs.View.{global_view, declarations_tree};
+ghost use Rattle.wesl_syntax.specs.View.{global_view};
 ghost use Rattle.wesl_symbols.specs.declared.ids.NameId.{NameId};
 ghost use Rattle.wesl_table.specs.Tables.{declared_name};
 ghost use Rattle.wesl_table.specs.Numbering.{AreRelated, IsRelatedOption, Grows, NameAt};
 ghost use Rattle.wesl_table.specs.NumbersView.{numbering};
-ghost use Rattle.wesl_table.specs.Reading.{AreNumbersOfNames};
+ghost use Rattle.wesl_table.specs.Reading.{NumbersNames};
 
 use crate::numbers::{Numbers, spelling};
 use indexmap::IndexSet;
@@ -91,7 +90,7 @@ pub fn add_names(
     found: &mut Vec<Option<NameId>>,
 ) -> Result<(), Error>
     requires { found.old.items ≡ [] }
-    ensures numbered { OnOk result (AreNumbersOfNames (numbering numbers.new) found.new.items (trees (respell (name_in names.now) (declarations_tree nodes.now)).children)) }
+    ensures numbered { OnOk result (NumbersNames (numbering numbers.new) names.now nodes.now found.new.items) }
     ensures grows { Grows (numbering numbers.old) (numbering numbers.new) }
     ensures refused { IfErr result (λ e. e ≡ error.Memory) }
 {

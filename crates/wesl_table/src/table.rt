@@ -5,12 +5,12 @@ ghost use Rattle.wesl_names.specs.declared.errors.Error as error;
 ghost use Rattle.wesl_syntax.specs.Unit.{spelled};
 ghost use Rattle.wesl_tree.specs.Translation.{unit_view};
 ghost use Rattle.wesl_occurrences.specs.Pieces.{declarations_in};
-ghost use Rattle.wesl_table.specs.Imports.{imports as imports_in};
 ghost use Rattle.wesl_table.specs.Marks.{AreMarked};
 ghost use Rattle.wesl_table.specs.Numbering.{IsNumberedImport, AreNumberedImports, IsNumbered, Grows, PathAt};
 ghost use Rattle.wesl_table.specs.NumbersView.{numbering};
-ghost use Rattle.wesl_table.specs.Parts.{IsDeclared, IsNumberedUnit, IsUndeclared, IsUnnumbered};
+ghost use Rattle.wesl_table.specs.Parts.{declared_as, IsDeclared, IsNumberedUnit, IsUndeclared, IsUnnumbered};
 ghost use Rattle.wesl_table.specs.Reading.{AreNumbersOfNames, IsRead, IsNumberedBy, own_path, unit_in};
+ghost use Rattle.wesl_table.specs.Scope.{imports_at, spelled_in};
 ghost use Rattle.wesl_table.specs.Spelling.{spelled_import, spelled_imports};
 ghost use Rattle.wesl_table.specs.Tables.{uses, table_at};
 
@@ -110,7 +110,7 @@ impl Declared {
 
     /// Adds the declaration that binds this name, if it binds one, with what its identifiers are.
     fn add(&mut self, name: Option<NameId>, marked: Marked) -> Result<(), Error>
-        ensures declarations { OnOk result (self.new.declarations.items ≡ self.old.declarations.items ++ record { name = name; references = marked.references.items } ∷ []) }
+        ensures declarations { OnOk result (self.new.declarations.items ≡ self.old.declarations.items ++ declared_as name marked ∷ []) }
         ensures marks { OnOk result (self.new.marks.items ≡ self.old.marks.items ++ marked.marks ∷ []) }
         ensures refused { IfErr result (λ e. e ≡ error.Memory) }
     {
@@ -167,7 +167,7 @@ fn number_unit(
 ) -> Result<(), Error>
     requires asked { All (λ i. is_relative (path_view i.path) ≡ false) imports.now }
     requires empty { IsUnnumbered numbered.old }
-    ensures numbered { OnOk result (IsNumberedUnit (numbering numbers.new) (spelled_imports (unit_view unit.now).names imports.now) (unit_view unit.now) numbered.new) }
+    ensures numbered { OnOk result (IsNumberedUnit (numbering numbers.new) (spelled_in unit.now imports.now) (unit_view unit.now) numbered.new) }
     ensures grows { Grows (numbering numbers.old) (numbering numbers.new) }
     ensures refused { IfErr result (λ e. e ≡ error.Memory) }
 {
@@ -196,8 +196,8 @@ fn mark_unit(
     requires asked { is_relative (path_view path.now) ≡ false }
     requires held { PathAt (numbering numbers.old) id (path_view path.now) }
     requires targets { All (λ i. is_relative (path_view i.path) ≡ false) imports.now }
-    requires imports { spelled_imports (unit_view unit.now).names imports.now ≡ imports_in (path_view path.now) (spelled (unit_view unit.now)) }
-    requires numbered { IsNumberedUnit (numbering numbers.old) (imports_in (path_view path.now) (spelled (unit_view unit.now))) (unit_view unit.now) numbered.now }
+    requires imports { spelled_in unit.now imports.now ≡ imports_at path.now unit.now }
+    requires numbered { IsNumberedUnit (numbering numbers.old) (imports_at path.now unit.now) (unit_view unit.now) numbered.now }
     requires empty { IsUndeclared declared.old }
     ensures declared { OnOk result (IsDeclared (numbering numbers.new) (path_view path.now) (spelled (unit_view unit.now)) declared.new) }
     ensures grows { Grows (numbering numbers.old) (numbering numbers.new) }
@@ -258,10 +258,10 @@ impl Parts {
         requires asked { is_relative (path_view path.now) ≡ false }
         requires held { PathAt (numbering numbers.old) id (path_view path.now) }
         requires targets { All (λ i. is_relative (path_view i.path) ≡ false) imports.now }
-        requires imports { spelled_imports (unit_view unit.now).names imports.now ≡ imports_in (path_view path.now) (spelled (unit_view unit.now)) }
+        requires imports { spelled_in unit.now imports.now ≡ imports_at path.now unit.now }
         requires unnumbered { IsUnnumbered self.old.numbered }
         requires undeclared { IsUndeclared self.old.declared }
-        ensures numbered { OnOk result (AreNumberedImports (numbering numbers.new) self.new.numbered.imports.items (imports_in (path_view path.now) (spelled (unit_view unit.now)))) }
+        ensures numbered { OnOk result (AreNumberedImports (numbering numbers.new) self.new.numbered.imports.items (imports_at path.now unit.now)) }
         ensures declared { OnOk result (IsDeclared (numbering numbers.new) (path_view path.now) (spelled (unit_view unit.now)) self.new.declared) }
         ensures grows { Grows (numbering numbers.old) (numbering numbers.new) }
         ensures refused { IfErr result (λ e. e ≡ error.Memory) }

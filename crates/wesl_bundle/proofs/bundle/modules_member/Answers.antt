@@ -1,11 +1,10 @@
-use Rattle.std.proofs.Common.{◌≡◌, sym, rules}
+use Rattle.std.proofs.Common.{sym, rules}
 use Rattle.serde_json.specs.Find.{get}
 use Rattle.wesl_borrowed.specs.View.{borrowed_view}
 use Rattle.wesl_bundle.specs.Bundle.{module_in}
 use Rattle.wesl_bundle.specs.Forms.{a_module}
-use Rattle.wesl_bundle.specs.Parts.{AreItems}
 use Rattle.wesl_bundle.specs.Views.{module_view}
-use Rattle.wesl_bundle.proofs.Lists.{all-read, items-there, list-fault, no-list, none-read, one-read}
+use Rattle.wesl_bundle.proofs.Lists.{AreItems, all-read, items-there, list-fault, no-list, none-read, one-read}
 use Rattle.wesl_bundle.proofs.bundle.modules_member.Goals as goal
 
 pub loop-index-init : goal.loop-index-init

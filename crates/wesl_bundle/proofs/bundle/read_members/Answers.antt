@@ -1,4 +1,4 @@
-use Rattle.std.proofs.Common.{◌≡◌, false, inl, refl, codes, rules}
+use Rattle.std.proofs.Common.{◌≡◌, false, inl, refl, codes}
 use Rattle.wesl_borrowed.specs.View.{borrowed_view}
 use Rattle.wesl_names.specs.Path.{is_relative, path_view}
 use Rattle.wesl_bundle.specs.Broken.{Locates}

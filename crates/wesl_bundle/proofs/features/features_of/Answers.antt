@@ -1,4 +1,4 @@
-use Rattle.std.proofs.Common.{◌≡◌, Some, option_map, inl, refl, ap, codes, rules}
+use Rattle.std.proofs.Common.{Some, option_map, inl, refl, ap, codes}
 use Rattle.wesl_borrowed.specs.View.{borrowed_view}
 use Rattle.wesl_bundle.specs.Broken.{Locates}
 use Rattle.wesl_bundle.specs.Features.{features_keys}

@@ -1,4 +1,4 @@
-use Rattle.std.proofs.Common.{◌≡◌, Some, option_and_then, string_bytes, refl, sym}
+use Rattle.std.proofs.Common.{option_and_then, string_bytes, refl, sym}
 use Rattle.serde_json.specs.Find.{get}
 use Rattle.wesl_borrowed.specs.View.{borrowed_view}
 use Rattle.wesl_bundle.specs.Forms.{a_name, required}

@@ -1,4 +1,4 @@
-use Rattle.std.proofs.Common.{◌≡◌, Some, None, option_and_then, refl, sym, ap, ◌∙◌}
+use Rattle.std.proofs.Common.{option_and_then, sym, ap, ◌∙◌}
 use Rattle.serde_json.specs.Find.{get}
 use Rattle.wesl_borrowed.specs.View.{borrowed_view}
 use Rattle.wesl_bundle.specs.Bundle.{below_limit, limit_in}

@@ -1,4 +1,4 @@
-use Rattle.std.proofs.Common.{◌≡◌, refl, codes, rules}
+use Rattle.std.proofs.Common.{refl, codes}
 use Rattle.wesl_borrowed.specs.View.{borrowed_view}
 use Rattle.wesl_bundle.specs.Broken.{Locates}
 use Rattle.wesl_bundle.specs.Forms.{a_bundle, a_limit, a_mangler, a_truth, optional}

@@ -1,20 +1,19 @@
-use Rattle.std.proofs.Common.{◌≡◌, ◌<◌, Some, map, true, codes, refl, sym, ap, ◌∙◌, inl, inr, string_bytes, arith, rules}
-use Rattle.std.specs.Prelude.{IfErr}
-use Rattle.std.proofs.lemmas.Result.{IfErr-weaker, IfOk-at_ok, IfOk-weaker}
+use Rattle.std.proofs.Common.{◌≡◌, ◌<◌, Some, map, true, sym, ap, ◌∙◌, inl, inr, arith, rules}
+use Rattle.std.proofs.lemmas.Result.{IfErr-weaker, IfOk-weaker}
 use Rattle.serde_json.specs.Data.{depth}
 use Rattle.serde_json.specs.Find.{get}
 use Rattle.wesl_borrowed.specs.View.{borrowed_view}
-use Rattle.wesl_bundle.specs.Broken.{IfPlace, Locates}
+use Rattle.wesl_bundle.specs.Broken.{Locates}
 use Rattle.wesl_bundle.specs.Forms.{a_package_module}
 use Rattle.wesl_bundle.specs.PackageViews.{package_module_view}
 use Rattle.wesl_bundle.specs.Packages.{package_module_in, package_module_keys}
-use Rattle.wesl_bundle.specs.Parts.{AreItems, IsModuleMemberBroken, LocatesModuleMember}
+use Rattle.wesl_bundle.specs.Parts.{IsModuleMemberBroken, LocatesModuleMember}
 use Rattle.wesl_pointer.specs.Keys.{has_only}
 use Rattle.wesl_bundle.specs.declared.packages.PackageModule.{PackageModule}
 use Rattle.wesl_bundle.specs.declared.packages.PackageModule.TheOpen.{PackageModule-F}
 use Rattle.wesl_bundle.proofs.Together.{IfOk-keyed, either, of-both, of-only, part}
 use Rattle.wesl_bundle.proofs.Listed.{module-made, module-whole, module_with-read, modules-of-list}
-use Rattle.wesl_bundle.proofs.Lists.{all-read, item-deep, items-there, list-fault, no-list, none-read, one-read}
+use Rattle.wesl_bundle.proofs.Lists.{AreItems, all-read, item-deep, items-there, list-fault, no-list, none-read, one-read}
 use Rattle.wesl_bundle.proofs.Places.{IfPlace-more, Locates-here, module-fault}
 use Rattle.wesl_bundle.proofs.packages.+modules.Goals as goal
 

@@ -1,19 +1,19 @@
-use Rattle.std.proofs.Common.{◌≡◌, ◌<◌, Some, map, true, codes, refl, sym, ap, ◌∙◌, inl, arith, rules}
-use Rattle.std.proofs.lemmas.Result.{IfErr-weaker, IfOk-at_ok, IfOk-weaker}
+use Rattle.std.proofs.Common.{◌<◌, Some, map, true, codes, refl, sym, ap, ◌∙◌, inl, arith, rules}
+use Rattle.std.proofs.lemmas.Result.{IfErr-weaker, IfOk-weaker}
 use Rattle.serde_json.specs.Data.{depth}
 use Rattle.serde_json.specs.Find.{get}
 use Rattle.wesl_borrowed.specs.View.{borrowed_view}
 use Rattle.wesl_bundle.specs.Broken.{Locates}
 use Rattle.wesl_bundle.specs.Forms.{a_list_of, a_package, optional}
-use Rattle.wesl_bundle.specs.PackageViews.{package_view, packages_view}
+use Rattle.wesl_bundle.specs.PackageViews.{package_view}
 use Rattle.wesl_bundle.specs.Packages.{package_in, package_keys}
-use Rattle.wesl_bundle.specs.Parts.{AreItems, LocatesModuleMember}
+use Rattle.wesl_bundle.specs.Parts.{LocatesModuleMember}
 use Rattle.wesl_pointer.specs.Keys.{has_only}
 use Rattle.wesl_bundle.specs.declared.packages.Package.{Package}
 use Rattle.wesl_bundle.specs.declared.packages.Package.TheOpen.{Package-F}
 use Rattle.wesl_bundle.proofs.Together.{of-both, of-field, of-only, part}
-use Rattle.wesl_bundle.proofs.Listed.{made-package, package-made, package-whole, packages-of-list}
-use Rattle.wesl_bundle.proofs.Lists.{all-read, item-deep, items-there, list-fault, no-list, none-read, one-read}
+use Rattle.wesl_bundle.proofs.Listed.{package-made, package-whole, packages-of-list}
+use Rattle.wesl_bundle.proofs.Lists.{AreItems, all-read, item-deep, items-there, list-fault, no-list, none-read, one-read}
 use Rattle.wesl_bundle.proofs.Places.{Locates-here, package-fault}
 use Rattle.wesl_bundle.proofs.packages.+packages.Goals as goal
 
