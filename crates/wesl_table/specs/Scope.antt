@@ -1,4 +1,4 @@
--- What paths aim at in a module as its names are read, and what it is numbered by.
+-- What paths aim at in a module as its names are read, and the imports of a unit.
 use Rattle.std.specs.Prelude.{List}
 use Rattle.wesl_names.specs.Path.{Text, Path, path_view, push, extend}
 use Rattle.wesl_names.specs.declared.names.Ident.{Ident}
@@ -16,12 +16,14 @@ use Rattle.wesl_table.specs.declared.aims.Scope.{Scope}
 abbrev pub item_in_place : Path → Import Path Text → Path
 item_in_place path i = extend (push i.path i.item) path.components
 
+-- the modules that a path aims at there
 abbrev pub aims_in : Scope → Path → List Path
 aims_in scope path = aims (path_view scope.own.now) (spelled_imports scope.names.now scope.imports.now) path
 
--- the imports of a unit, and these as it spells them
+-- the imports that a unit has as the module at this path
 abbrev pub imports_at : ModulePath → TranslationUnit → List (Import Path Text)
 imports_at path unit = imports (path_view path) (spelled (unit_view unit))
 
+-- imports as the names of the unit spell them
 abbrev pub spelled_in : TranslationUnit → List (Import ModulePath Ident) → List (Import Path Text)
 spelled_in unit is = spelled_imports (unit_view unit).names is

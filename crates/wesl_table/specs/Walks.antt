@@ -16,6 +16,7 @@ use Rattle.wesl_table.specs.declared.imports.Base.{Base}
 abbrev pub import_view : Import ModulePath Ident → Import Path ℕ
 import_view i = record { bound = i.bound.0; path = path_view i.path; item = i.item.0; published = i.published }
 
+-- the imports that the code has found
 abbrev pub imports_of : Vec (Import ModulePath Ident) Global → List (Import Path ℕ)
 imports_of found = map import_view found.items
 
@@ -23,6 +24,7 @@ imports_of found = map import_view found.items
 abbrev pub paths_of : Vec ModulePath Global → List Path
 paths_of found = map path_view found.items
 
+-- these paths are found after those before
 abbrev pub AddsPaths : Vec ModulePath Global → Vec ModulePath Global → List Path → Type 0
 AddsPaths old new more = paths_of new ≡ paths_of old ++ more
 
