@@ -1,4 +1,3 @@
 pub mod Conditions
-pub mod Keeping
 pub mod Linking
 pub mod Mapping

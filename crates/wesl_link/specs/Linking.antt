@@ -10,8 +10,8 @@ use Rattle.wesl_syntax.specs.Unit.{UnitOf}
 use Rattle.wesl_formula.specs.declared.features.Features.{Features}
 use Rattle.wesl_linker.specs.Worlds.{Module, task_of, IsLinked, IsRefused, IsModuleOrder}
 use Rattle.wesl_linker.specs.Refusal.{TellsOf}
-use Rattle.wesl_link.specs.Keeping.{modules_of, turns_of}
-use Rattle.wesl_link.specs.declared.resolutions.Resolutions.{Resolutions}
+use Rattle.wesl_resolutions.specs.Keeping.{modules_of, turns_of}
+use Rattle.wesl_resolutions.specs.declared.resolutions.Resolutions.{Resolutions}
 use Rattle.wesl_link.specs.Conditions.{HandsLeft, RefusesLeft}
 
 -- the names that are kept: none where all that is declared is asked for

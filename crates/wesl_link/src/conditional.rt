@@ -10,13 +10,12 @@ ghost use Rattle.wesl_link.specs.Linking.{FindsLink, FindsLinkLeft, TellsRefusal
 ghost use Rattle.wesl_linker.specs.Linking.{LinksRoot, RefusesRoot};
 ghost use Rattle.wesl_linker.specs.Resolved.{module_at};
 ghost use Rattle.wesl_linker.specs.Worlds as worlds;
-ghost use Rattle.wesl_link.specs.Keeping.{IsSound, resolved, modules_of};
+ghost use Rattle.wesl_resolutions.specs.Keeping.{IsSound, resolved, modules_of};
 
-use crate::resolutions::Resolutions;
-use crate::resolve::{resolve_eager, resolve_lazy};
 use crate::units::condition;
 use std::alloc::Global;
 use wesl_cond::Features;
+use wesl_resolutions::{Resolutions, resolve_eager, resolve_lazy};
 use wesl_resolve::{Preprocessor, Resolver};
 use wesl_tree::{Diagnostic, Error, ModulePath, TranslationUnit};
 

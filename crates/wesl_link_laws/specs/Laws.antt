@@ -7,8 +7,8 @@ use Rattle.wesl_meanings.specs.Scopes.{keys}
 use Rattle.wesl_faith.specs.Faithful.{IsFaithful}
 use Rattle.wesl_item_forms.specs.Escape.{escape}
 use Rattle.wesl_linker.specs.Resolved.{AssemblesTo, IsMangled}
-use Rattle.wesl_link.specs.Keeping.{IsSound, resolved}
-use Rattle.wesl_link.specs.declared.resolutions.Resolutions.{Resolutions}
+use Rattle.wesl_resolutions.specs.Keeping.{IsSound, resolved}
+use Rattle.wesl_resolutions.specs.declared.resolutions.Resolutions.{Resolutions}
 use Rattle.wesl_link_laws.specs.Linked.{IsEntered}
 use Rattle.wesl_link_laws.specs.Apart.{NamesAreApart}
 use Rattle.wesl_link_laws.specs.Escaped.{IsReversible, LeavesSymbolNames}

@@ -1,7 +1,7 @@
 //! Links of the modules of a row.
 ghost use Rattle.std.specs.Prelude.{◌≡◌, false, IfOk};
 ghost use Rattle.wesl_names.specs.Path.{path_view, is_relative};
-ghost use Rattle.wesl_link.specs.Keeping.{IsSound};
+ghost use Rattle.wesl_resolutions.specs.Keeping.{IsSound};
 
 use serde_json::Value;
 use wesl_link::{Resolutions, resolve_eager, resolve_lazy};

@@ -4,7 +4,7 @@ use Rattle.wesl_names.specs.Borrowed.{texts}
 use Rattle.wesl_names.specs.Path.{path_view}
 use Rattle.wesl_names.specs.Errors.{error_of_resolve}
 use Rattle.wesl_linker.specs.Resolved.{module_at}
-use Rattle.wesl_link.specs.Keeping.{modules_of, turns_of}
+use Rattle.wesl_resolutions.specs.Keeping.{modules_of, turns_of}
 use Rattle.wesl_linker.specs.Worlds.{task_of}
 use Rattle.wesl_link.specs.Linking.{kept_names}
 use Rattle.wesl_link.proofs.Along.{AreAlike, linked-over, refused-over, both-ok}

@@ -3,7 +3,7 @@ use Rattle.wesl_names.specs.Borrowed.{texts}
 use Rattle.wesl_linker.specs.Refusal.{TellsOf}
 use Rattle.wesl_linker.specs.Resolved.{module_at}
 use Rattle.wesl_linker.specs.Worlds.{task_of, IsLinked, IsRefused}
-use Rattle.wesl_link.specs.Keeping.{resolved, modules_of, turns_of}
+use Rattle.wesl_resolutions.specs.Keeping.{resolved, modules_of, turns_of}
 use Rattle.wesl_link.specs.Linking.{kept_names}
 use Rattle.wesl_link.proofs.conditional.link_unit.Goals as goal
 

@@ -2,7 +2,7 @@ use Rattle.std.proofs.Common.{◌≡◌, IfOk, subst, rules}
 use Rattle.wesl_names.specs.Borrowed.{texts}
 use Rattle.wesl_names.specs.Path.{Path, path_view}
 use Rattle.wesl_tree.specs.Translation.{unit_view}
-use Rattle.wesl_link.specs.Keeping.{resolved}
+use Rattle.wesl_resolutions.specs.Keeping.{resolved}
 use Rattle.wesl_source_map.specs.BasicView.{items}
 use Rattle.wesl_link.proofs.Along.{both-ok}
 use Rattle.wesl_link.specs.Linking.{RefusesLink}

@@ -1,5 +1,5 @@
 use Rattle.wesl_linker.specs.GivenView.{given}
-use Rattle.wesl_link.specs.Keeping.{resolved}
+use Rattle.wesl_resolutions.specs.Keeping.{resolved}
 use Rattle.wesl_link_laws.proofs.Escapes.{links_escaped}
 use Rattle.wesl_link_laws.proofs.laws.law_of_escape_names.Goals as goal
 

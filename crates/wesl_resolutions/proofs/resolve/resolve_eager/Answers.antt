@@ -1,4 +1,4 @@
-use Rattle.wesl_link.proofs.resolve.resolve_lazy.Goals as goal
+use Rattle.wesl_resolutions.proofs.resolve.resolve_eager.Goals as goal
 
 pub returns-in-Ok-clause-linked : goal.returns-in-Ok-clause-linked
 returns-in-Ok-clause-linked g c = c.in-Ok.ensures.linked
@@ -9,8 +9,8 @@ returns-in-Ok-clause-order g c = c.in-Ok.ensures.order
 pub returns-in-Ok-clause-kept : goal.returns-in-Ok-clause-kept
 returns-in-Ok-clause-kept g c = c.in-Ok.ensures.kept
 
-pub returns-in-Ok-clause-lazy : goal.returns-in-Ok-clause-lazy
-returns-in-Ok-clause-lazy g c = c.in-Ok.ensures.lazy
+pub returns-in-Ok-clause-eager : goal.returns-in-Ok-clause-eager
+returns-in-Ok-clause-eager g c = c.in-Ok.ensures.eager
 
 pub returns-in-Ok-clause-sound : goal.returns-in-Ok-clause-sound
 returns-in-Ok-clause-sound g c = c.in-Ok.ensures.sound

@@ -1,4 +1,4 @@
-use Rattle.wesl_link.proofs.resolutions.Resolutions.assemble.Goals as goal
+use Rattle.wesl_resolutions.proofs.resolutions.Resolutions.assemble.Goals as goal
 
 pub returns-clause-assembled : goal.returns-clause-assembled
 returns-clause-assembled c = c.assemble.ensures.assembled

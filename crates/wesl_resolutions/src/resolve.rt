@@ -6,7 +6,7 @@ ghost use Rattle.wesl_resolve.specs.Resolver.{MeansTheSame};
 ghost use Rattle.wesl_linker.specs.Linking.{LinksRoot, RefusesRoot, IsFaultlessRoot, TellsMemory};
 ghost use Rattle.wesl_linker.specs.Resolved.{module_at};
 ghost use Rattle.wesl_linker.specs.Worlds as worlds;
-ghost use Rattle.wesl_link.specs.Keeping.{IsSound, resolved, modules_of};
+ghost use Rattle.wesl_resolutions.specs.Keeping.{IsSound, resolved, modules_of};
 
 use crate::resolutions::Resolutions;
 use std::alloc::Global;

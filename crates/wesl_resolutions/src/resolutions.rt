@@ -5,7 +5,7 @@ ghost use Rattle.wesl_names.specs.Path.{Text, Path, path_view};
 ghost use Rattle.wesl_tree.specs.Translation.{unit_view};
 ghost use Rattle.wesl_linker.specs.Recorded.{IsRecordedBy};
 ghost use Rattle.wesl_linker.specs.Resolved.{paths_of, paths_told, first_path, IsNothing, IsMangled, AssemblesTo, writes};
-ghost use Rattle.wesl_link.specs.Keeping.{IsSound, resolved, modules_of, turns_of};
+ghost use Rattle.wesl_resolutions.specs.Keeping.{IsSound, resolved, modules_of, turns_of};
 
 use std::alloc::Global;
 use wesl_mangle::Mangler;

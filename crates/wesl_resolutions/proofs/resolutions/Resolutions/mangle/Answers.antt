@@ -1,4 +1,4 @@
-use Rattle.wesl_link.proofs.resolutions.Resolutions.mangle.Goals as goal
+use Rattle.wesl_resolutions.proofs.resolutions.Resolutions.mangle.Goals as goal
 
 pub returns-clause-sound : goal.returns-clause-sound
 returns-clause-sound g c = c.mangle.ensures.sound

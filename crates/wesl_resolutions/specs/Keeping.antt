@@ -3,7 +3,7 @@ use Rattle.std.specs.Prelude.{ℕ, List}
 use Rattle.wesl_linker.specs.Keeping as linker
 use Rattle.wesl_linker.specs.Resolved.{Resolved}
 use Rattle.wesl_linker.specs.Worlds.{Module}
-use Rattle.wesl_link.specs.declared.resolutions.Resolutions.{Resolutions}
+use Rattle.wesl_resolutions.specs.declared.resolutions.Resolutions.{Resolutions}
 
 abbrev pub IsSound : Resolutions → Type 0
 IsSound r = linker.IsSound r.found
