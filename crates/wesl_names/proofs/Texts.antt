@@ -1,5 +1,6 @@
 -- Lists of texts, seen as the lists of their bytes.
-use Rattle.std.proofs.Common.{◌≡◌, List, [], ◌∷◌, map, string_bytes, String, refl}
+use Rattle.std.proofs.Common.{◌≡◌, ◌<◌, ◌+◌, ℕ, List, [], ◌∷◌, ◌++◌, length, take, get_or, map, string_bytes, String, refl, sym, ap, ◌∙◌, append_assoc}
+use Rattle.std.proofs.lemmas.List.{map_more, map_push}
 use Rattle.std.specs.List.{AllZip, starts_with}
 use Rattle.std.proofs.lemmas.Cmp.{nat_list_eq_equiv}
 use Rattle.std.specs.String.{string_eq}
@@ -18,3 +19,11 @@ starts_with-texts xs [] = refl
 starts_with-texts [] (y ∷ ys) = refl
 starts_with-texts (x ∷ xs) (y ∷ ys) =
     rw (nat_list_eq_equiv.symm (string_bytes y) (string_bytes x), starts_with-texts xs ys) refl
+
+-- a list of copies, which reads as some texts and then the first of the others do, with a copy of the next one
+pub copied_more : {A B C : Type 0} (f : A → C) (g : B → C) (before : List C) (others : List B) (i : ℕ) (d : B) (copies more : List A) (copy : A)
+    → i < length others → f copy ≡ g (get_or others i d) → more ≡ copies ++ copy ∷ []
+    → map f copies ≡ before ++ map g (take i others) → map f more ≡ before ++ map g (take (i + 1) others)
+copied_more f g before others i d copies more copy h reads pushed so_far =
+    ap (map f) pushed ∙ map_push f copies copy ∙ ap (λ l. l ++ f copy ∷ []) so_far ∙ append_assoc before (map g (take i others)) (f copy ∷ [])
+    ∙ ap (λ c. before ++ (map g (take i others) ++ c ∷ [])) reads ∙ sym (ap (λ l. before ++ l) (map_more g others i d h))
