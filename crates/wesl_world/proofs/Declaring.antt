@@ -1,5 +1,5 @@
 -- The symbols that a module declares.
-use Rattle.std.proofs.Common.{◌≡◌, inl, inr, ℕ, zero, suc, ◌<◌, ◌≤◌, ◌+◌, true, List, [], ◌∷◌, ◌++◌, length, map, take, slice_get, slice_index_or, Some, None, Contains, subst, sym, refl, ap, ◌∙◌}
+use Rattle.std.proofs.Common.{◌≡◌, inl, inr, ℕ, zero, suc, ◌<◌, ◌≤◌, ◌+◌, true, List, [], ◌∷◌, ◌++◌, length, map, take, slice_get, slice_index_or, Option, Some, None, Contains, subst, sym, refl, ap, ◌∙◌}
 use Rattle.std.proofs.lemmas.List.Elements.{Contains-push_cases, Contains-append_left, Contains-push}
 use Rattle.std.proofs.lemmas.List.{take_more, take_all}
 use Rattle.wesl_symbols.specs.declared.symbols.Import.{Import}
@@ -11,7 +11,7 @@ use Rattle.wesl_world.specs.World.{IsAt, Task, Entered, Reached}
 use Rattle.wesl_world.specs.World.Entered.{imported}
 use Rattle.wesl_world.specs.World.Reached.{declared}
 use Rattle.wesl_world.specs.Asked.{Gains}
-use Rattle.wesl_world.specs.Eager.{IsDeclaredAmong}
+use Rattle.wesl_world.specs.Eager.{IsDeclaredAmong, with_named}
 use Rattle.wesl_world.specs.Loading.{GoesOn, IsSoundIn, CanEnter}
 use Rattle.wesl_symbols.proofs.Lists.{contains_nil}
 use Rattle.wesl_world.proofs.Lists.{contains_map, map_contains}
@@ -78,6 +78,11 @@ module _ {P N : Type 0} (t : Table P N) where
           | inr same ↦ absurd (let h : None ≡ Some x.name = sym unnamed ∙ (ap (λ (z : Declaration P N). z.name) same ∙ f) in cc)
         ];
       }
+
+  pub declaring_more : (ds : List (Declaration P N)) (i : ℕ) (d : Declaration P N) (name : Option N) (mid to : List (Symbol P N)) → i < length ds → d ≡ slice_index_or ds i d → d.name ≡ name
+      → to ≡ with_named t.path name mid → Gains [] mid (IsDeclaredAmong t (take i ds)) → Gains [] to (IsDeclaredAmong t (take (i + 1) ds))
+  declaring_more ds i d None mid to b is named e g = subst (λ (xs : List (Symbol P N)). Gains [] xs (IsDeclaredAmong t (take (i + 1) ds))) (sym e) (declaring_none ds i d mid b is named g)
+  declaring_more ds i d (Some n) mid to b is named e g = declaring_some ds i d n (record { path = t.path; name = n }) mid to b is named refl refl g e
 
   pub declaring_all : (ds es : List (Declaration P N)) (i : ℕ) (to : List (Symbol P N)) → ds ≡ es → length ds ≤ i → Gains [] to (IsDeclaredAmong t (take i ds)) → Gains [] to (IsDeclaredAmong t es)
   declaring_all ds es i to e b g = subst (λ (xs : List (Declaration P N)). Gains [] to (IsDeclaredAmong t xs)) (take_all i ds b ∙ e) g

@@ -6,7 +6,7 @@ ghost use Rattle.wesl_symbols.specs.Tables as tables;
 ghost use Rattle.wesl_symbols.specs.declared.symbols.Symbol.{Symbol};
 ghost use Rattle.wesl_world.specs.World.{IsAt, Entered, Reached};
 ghost use Rattle.wesl_world.specs.Asked.{Gains};
-ghost use Rattle.wesl_world.specs.Eager.{IsDeclaredAmong};
+ghost use Rattle.wesl_world.specs.Eager.{IsDeclaredAmong, with_named};
 ghost use Rattle.wesl_world.specs.Loader.{OnlyAdds};
 ghost use Rattle.wesl_world.specs.Refusal.{IsExplained};
 ghost use Rattle.wesl_world.specs.Loading.{IsSound, Grows, CanEnter, HasImported, HoldsDeclared, OfModuleAt, world_of, task_at};
@@ -77,19 +77,27 @@ pub fn enter_imports<E, L: Loader<E>>(
     Ok(())
 }
 
+/// Adds the symbol of a name at a path, where there is a name.
+fn add_named(
+    symbols: &mut Vec<Symbol<PathId, NameId>>,
+    path: PathId,
+    name: Option<NameId>,
+) -> Result<(), AllocError>
+    ensures { OnOk result (symbols.new.items ≡ with_named path name symbols.old.items) }
+{
+    match name {
+        Some(name) => Ok(symbols.push(Symbol { path, name })?),
+        None => Ok(()),
+    }
+}
+
 /// The symbols that a module declares.
 fn declared_symbols(alloc: Global, table: &Table) -> Result<Vec<Symbol<PathId, NameId>>, AllocError>
     ensures { IfOk result (λ v. Gains [] v.items (IsDeclaredAmong table.now table.now.declarations)) }
 {
     let mut symbols = Vec::new(alloc);
     for declaration in table.declarations() {
-        match declaration.name() {
-            Some(name) => symbols.push(Symbol {
-                path: table.path(),
-                name,
-            })?,
-            None => {}
-        }
+        add_named(&mut symbols, table.path(), declaration.name())?;
     }
     Ok(symbols)
 }

@@ -1,5 +1,5 @@
 //! Linking: what a root module reaches.
-ghost use Rattle.std.specs.Prelude.{◌≡◌, ◌↔◌, ◌<◌, Some, None, [], true, false, IsTrue, IfSome, IfNone, IfOk, IfErr, Contains};
+ghost use Rattle.std.specs.Prelude.{◌≡◌, ◌↔◌, ◌<◌, ◌∷◌, Some, None, [], true, false, IsTrue, IfSome, IfNone, IfOk, IfErr, Contains};
 ghost use Rattle.wesl_symbols.specs.declared.ids.PathId.{PathId};
 ghost use Rattle.wesl_symbols.specs.declared.ids.NameId.{NameId};
 ghost use Rattle.wesl_symbols.specs.declared.symbols.Symbol.{Symbol};
@@ -18,7 +18,7 @@ use crate::names;
 use crate::request::{Loaded, Request};
 use crate::run::{self, Reach};
 use indexmap::{IndexMap, IndexSet};
-use std::alloc::Global;
+use std::alloc::{AllocError, Global};
 use std::marker::Model;
 use wesl_symbols::ids::{NameId, PathId};
 use wesl_symbols::keyed;
@@ -108,6 +108,20 @@ impl Linked {
     }
 }
 
+/// The table of the root, and then those of the other modules, which are taken.
+fn all_tables(
+    alloc: Global,
+    root: Table,
+    others: &mut Vec<Table>,
+) -> Result<Vec<Table>, AllocError>
+    ensures { IfOk result (λ v. v.items ≡ root ∷ others.old.items) }
+{
+    let mut tables = Vec::new(alloc);
+    tables.push(root)?;
+    tables.append(others)?;
+    Ok(tables)
+}
+
 /// Links a root whose binders agree.
 fn link<E, L: Loader<E>>(
     alloc: Global,
@@ -121,24 +135,21 @@ fn link<E, L: Loader<E>>(
     ensures refused { IfErr result (IsExplained (L.hands loader.new) (L.refuses loader.new) request.root (task_of request.root request.kept.items request.is_eager) request.max_modules) }
     ensures adds { OnlyAdds (L.hands loader.old) (L.refuses loader.old) (L.ready loader.old) (L.hands loader.new) (L.refuses loader.new) (L.ready loader.new) }
 {
-    let reach = run::reach_all(alloc, &request, loader)?;
+    let mut reach = run::reach_all(alloc, &request, loader)?;
     let Request {
         root,
         kept: _,
         is_eager: _,
         max_modules: _,
     } = request;
+    let tables = all_tables(alloc, root, &mut reach.loaded.others)?;
     let Reach { loaded, turns } = reach;
     let Loaded {
-        others,
+        others: _,
         places: _,
         symbols,
         answers,
     } = loaded;
-    let mut others = others;
-    let mut tables = Vec::new(alloc);
-    tables.push(root)?;
-    tables.append(&mut others)?;
     Ok(Linked {
         tables,
         symbols,

@@ -6,17 +6,14 @@ use Rattle.wesl_world.specs.Keeping.{IsKept}
 use Rattle.wesl_world.proofs.Turns.{kept_by, linked_by}
 use Rattle.wesl_world.proofs.link.link.Goals as goal
 
-joined : (root : Table PathId NameId) (start one others all : List (Table PathId NameId)) → start ≡ [] → one ≡ start ++ root ∷ [] → all ≡ one ++ others → all ≡ root ∷ others
-joined root start one others all e f g = g ∙ ap (λ (xs : List (Table PathId NameId)). xs ++ others) (f ∙ ap (λ (xs : List (Table PathId NameId)). xs ++ root ∷ []) e)
-
 pub invariant_of-result : goal.invariant_of-result
 invariant_of-result g c =
-    let all = joined c.args.request.root _ _ c.in_ok-reach.reach.loaded.others.items _ c.new-tables.ensures.items c.in_ok-push.ensures.items c.in_ok-append.ensures.items in
+    let all = c.in_ok-tables.ensures in
     subst (λ (ts : List (Table PathId NameId)). IsKept ts c.in_ok-reach.reach.loaded.symbols.keys c.in_ok-reach.reach.loaded.answers.entries) (sym all)
     (kept_by c.args.request c.in_ok-reach.reach.loaded c.in_ok-reach.ensures.sound c.in_ok-reach.ensures.modules c.in_ok-reach.ensures.symbols)
 
 pub returns-clause-linked : goal.returns-clause-linked
 returns-clause-linked g c =
-    let all = joined c.args.request.root _ _ c.in_ok-reach.reach.loaded.others.items _ c.new-tables.ensures.items c.in_ok-push.ensures.items c.in_ok-append.ensures.items in
+    let all = c.in_ok-tables.ensures in
     linked_by (g.L.Loader.refuses c.reach_all.new.loader) c.args.request c.in_ok-reach.reach.loaded _ c.in_ok-reach.ensures.sound c.in_ok-reach.ensures.kept c.in_ok-reach.ensures.modules c.in_ok-reach.ensures.symbols
     all refl c.in_ok-reach.ensures.turns
