@@ -1,17 +1,14 @@
-//! The calls by their names: those of the crate that a row names, if it does; what is not among the calls of one list is
-//! looked up in the next.
+//! The calls by their names: what is not among the calls of one list is looked up in the next.
 use crate::{builtins, conditions, features, mappers, maps, paths, program};
 use serde_json::Value;
 use wesl_row::Row;
 
-/// What the call of a row answers: a call of the crate that its key `of` names, or else of this one.
+/// What the call of a row answers.
 pub fn answered(row: Row<'_>) -> Value {
-    match row.text("of") {
-        "trees" => wesl_tree_rows::answered(row),
-        "links" => wesl_link_rows::answered(row),
-        "faults" => wesl_faults::answered(row),
-        "example" => example(row),
-        _ => of_programs(row),
+    if row.text("of") == "example" {
+        example(row)
+    } else {
+        of_programs(row)
     }
 }
 

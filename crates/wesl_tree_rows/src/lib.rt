@@ -9,4 +9,16 @@ mod units;
 mod validators;
 mod visits;
 
-pub use calls::answered;
+use serde_json::Value;
+use std::alloc::Global;
+use std::cell::Cell;
+use wesl_row::{Row, line};
+
+/// The line that is written for the text of a row, of which this crate has the call. Refused where something is noted of
+/// it. Only texts go in and out, so that a crate above proves nothing of what a row holds.
+pub fn line_of(alloc: Global, text: &str) -> Result<String, anyhow::Error> {
+    let value = Value::from_str(alloc, text)?;
+    let note = Cell::new("");
+    let row = Row::new(alloc, &value, &note);
+    line(row, calls::answered(row))
+}

@@ -109,11 +109,7 @@ impl Linked {
 }
 
 /// The table of the root, and then those of the other modules, which are taken.
-fn all_tables(
-    alloc: Global,
-    root: Table,
-    others: &mut Vec<Table>,
-) -> Result<Vec<Table>, AllocError>
+fn all_tables(alloc: Global, root: Table, others: &mut Vec<Table>) -> Result<Vec<Table>, AllocError>
     ensures { IfOk result (λ v. v.items ≡ root ∷ others.old.items) }
 {
     let mut tables = Vec::new(alloc);
