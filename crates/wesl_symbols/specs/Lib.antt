@@ -3,3 +3,5 @@ pub mod Tables
 pub mod Names
 pub mod Index
 pub mod Indexed
+pub mod Different
+pub mod Interned

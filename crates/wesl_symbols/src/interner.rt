@@ -3,12 +3,12 @@ ghost use Rattle.std.specs.Prelude.{◌≡◌, ◌<◌, ℕ, [], true, length, S
 ghost use Rattle.std.specs.Global.{Global};
 ghost use Rattle.indexmap.specs.IndexSet.{insert_key};
 ghost use Rattle.wesl_names.specs.declared.errors.Error as error;
-ghost use Rattle.wesl_interner.specs.Different.{AreDifferent, PutsOrKeeps};
+ghost use Rattle.wesl_symbols.specs.Different.{AreDifferent, PutsOrKeeps};
 
+use crate::ids::NameId;
 use indexmap::IndexSet;
 use std::alloc::Global;
 use wesl_names::Error;
-use wesl_symbols::ids::NameId;
 
 /// The index of a name, which goes last unless it is there.
 fn put(names: &mut IndexSet<String>, name: String) -> Result<usize, Error>
@@ -36,7 +36,7 @@ impl Drop for Interner {
 }
 
 impl Interner {
-    ghost use Rattle.wesl_interner.specs.Interned.{texts_of, with_text};
+    ghost use Rattle.wesl_symbols.specs.Interned.{texts_of, with_text};
 
     /// No names. It takes no memory.
     pub fn new(alloc: Global) -> Interner

@@ -1,9 +1,9 @@
 use Rattle.std.proofs.Common.{◌∙◌, sym, ap, Some, map}
 use Rattle.std.specs.Prelude.{string_bytes}
 use Rattle.std.proofs.lemmas.Slice.Eq.{bytes_eq-Decides}
-use Rattle.wesl_interner.specs.Interned.{with_text}
-use Rattle.wesl_interner.proofs.Numbered.{position_held, get_map, different_put, texts_known, texts_with}
-use Rattle.wesl_interner.proofs.interner.Interner.intern.Goals as goal
+use Rattle.wesl_symbols.specs.Interned.{with_text}
+use Rattle.wesl_symbols.proofs.Numbered.{position_held, get_map, different_put, texts_known, texts_with}
+use Rattle.wesl_symbols.proofs.interner.Interner.intern.Goals as goal
 
 pub returns-in-Some-clause-held : goal.returns-in-Some-clause-held
 returns-in-Some-clause-held c =

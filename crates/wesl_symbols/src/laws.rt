@@ -1,6 +1,6 @@
 //! What holds of all numbers for names.
-ghost use Rattle.wesl_interner.specs.Different.{AreDifferent};
-ghost use Rattle.wesl_interner.specs.Interned.{texts_of};
+ghost use Rattle.wesl_symbols.specs.Different.{AreDifferent};
+ghost use Rattle.wesl_symbols.specs.Interned.{texts_of};
 
 use crate::interner::Interner;
 

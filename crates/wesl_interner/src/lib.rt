@@ -1,9 +1,0 @@
-//! Numbers for names: each distinct text has one.
-#![tactic(auto)]
-
-mod interner;
-mod laws;
-
-pub use interner::Interner;
-pub use laws::law_of_ids;
-pub use wesl_symbols::ids::NameId;
