@@ -136,69 +136,67 @@ impl<T: Kind + Shown> Rewrite<T> for Met<'_> {
     }
 }
 
-/// Meets the nodes of a kind below a holder, as the call of the row does.
-fn walk<T: Replace + Shown + Visit<T>, N: Visit<T>>(
-    holder: &mut N,
-    met: &mut Met,
-) -> Result<(), Error> {
+/// Meets the nodes of a kind below a holder, as the call of the row does, and tells whether it was refused, as all that
+/// call it do.
+fn walk<T: Replace + Shown + Visit<T>, N: Visit<T>>(holder: &mut N, met: &mut Met) -> bool {
     let alloc = met.row.alloc;
-    match met.row.text("call") {
+    is_refused(match met.row.text("call") {
         "Visit::visit" => met.all(holder.visit(alloc)),
         "Visit::visit_rec" => holder.visit_rec(alloc, met),
         "Visit::rewrite" => holder.rewrite(alloc, met),
         _ => holder.rewrite_rec(alloc, met),
-    }
+    })
 }
 
 /// Meets the lists of attributes below a holder, as the call of the row does.
-fn walk_lists<N: Visit<Attributes>>(holder: &mut N, met: &mut Met) -> Result<(), Error> {
+fn walk_lists<N: Visit<Attributes>>(holder: &mut N, met: &mut Met) -> bool {
     let alloc = met.row.alloc;
-    if met.row.text("call") == "Visit::rewrite" {
+    is_refused(if met.row.text("call") == "Visit::rewrite" {
         holder.rewrite(alloc, met)
     } else {
         met.all(holder.visit(alloc))
-    }
+    })
 }
 
 /// Meets the types below a declaration, its initial value or its first attribute.
-fn walk_declaration(declaration: &mut Declaration, met: &mut Met) -> Result<(), Error> {
+fn walk_declaration(declaration: &mut Declaration, met: &mut Met) -> bool {
     match met.row.text("holder") {
         "declaration" => walk::<TypeExpression, _>(declaration, met),
         "expression" => match &mut declaration.initializer {
             Some(expression) => walk::<TypeExpression, _>(&mut expression.node, met),
-            None => Ok(()),
+            None => false,
         },
         _ => match declaration.attributes.first_mut() {
             Some(attribute) => walk::<TypeExpression, _>(&mut attribute.node, met),
-            None => Ok(()),
+            None => false,
         },
     }
 }
 
 /// Meets the types below a structure or its first member.
-fn walk_struct(structure: &mut Struct, met: &mut Met) -> Result<(), Error> {
+fn walk_struct(structure: &mut Struct, met: &mut Met) -> bool {
     if met.row.text("holder") == "struct" {
         return walk::<TypeExpression, _>(structure, met);
     }
     match structure.members.first_mut() {
         Some(member) => walk::<TypeExpression, _>(&mut member.node, met),
-        None => Ok(()),
+        None => false,
     }
 }
 
 /// Meets the types below a function or the first statement of its body.
-fn walk_function(function: &mut Function, met: &mut Met) -> Result<(), Error> {
+fn walk_function(function: &mut Function, met: &mut Met) -> bool {
     if met.row.text("holder") == "function" {
         return walk::<TypeExpression, _>(function, met);
     }
     match function.body.statements.first_mut() {
         Some(statement) => walk::<TypeExpression, _>(&mut statement.node, met),
-        None => Ok(()),
+        None => false,
     }
 }
 
 /// Meets the types below a type alias or its type.
-fn walk_alias(alias: &mut TypeAlias, met: &mut Met) -> Result<(), Error> {
+fn walk_alias(alias: &mut TypeAlias, met: &mut Met) -> bool {
     if met.row.text("holder") == "type" {
         walk::<TypeExpression, _>(&mut alias.ty, met)
     } else {
@@ -207,7 +205,7 @@ fn walk_alias(alias: &mut TypeAlias, met: &mut Met) -> Result<(), Error> {
 }
 
 /// Meets the types below a global declaration or a part of it.
-fn walk_types(global: &mut GlobalDeclarationNode, met: &mut Met) -> Result<(), Error> {
+fn walk_types(global: &mut GlobalDeclarationNode, met: &mut Met) -> bool {
     if met.row.text("holder") == "global declaration" {
         return walk::<TypeExpression, _>(global, met);
     }
@@ -217,12 +215,12 @@ fn walk_types(global: &mut GlobalDeclarationNode, met: &mut Met) -> Result<(), E
         GlobalDeclaration::Struct(structure) => walk_struct(structure, met),
         GlobalDeclaration::Function(function) => walk_function(function, met),
         GlobalDeclaration::ConstAssert(assertion) => walk::<TypeExpression, _>(assertion, met),
-        GlobalDeclaration::Void => Ok(()),
+        GlobalDeclaration::Void => false,
     }
 }
 
 /// Meets the expressions, statements or lists of attributes below a statement.
-fn walk_statement(statement: &mut Statement, met: &mut Met) -> Result<(), Error> {
+fn walk_statement(statement: &mut Statement, met: &mut Met) -> bool {
     match met.row.text("kind") {
         "expressions" => walk::<ExpressionNode, _>(statement, met),
         "statements" => walk::<StatementNode, _>(statement, met),
@@ -231,7 +229,7 @@ fn walk_statement(statement: &mut Statement, met: &mut Met) -> Result<(), Error>
 }
 
 /// Meets the expressions, statements or lists of attributes below a global declaration.
-fn walk_global(global: &mut GlobalDeclarationNode, met: &mut Met) -> Result<(), Error> {
+fn walk_global(global: &mut GlobalDeclarationNode, met: &mut Met) -> bool {
     match met.row.text("kind") {
         "expressions" => walk::<ExpressionNode, _>(global, met),
         "statements" => walk::<StatementNode, _>(global, met),
@@ -240,22 +238,22 @@ fn walk_global(global: &mut GlobalDeclarationNode, met: &mut Met) -> Result<(), 
 }
 
 /// Meets the expressions, statements or lists of attributes below a part of a global declaration.
-fn walk_inner(global: &mut GlobalDeclaration, met: &mut Met) -> Result<(), Error> {
+fn walk_inner(global: &mut GlobalDeclaration, met: &mut Met) -> bool {
     match global {
         GlobalDeclaration::Function(function) => match function.body.statements.first_mut() {
             Some(statement) => walk_statement(&mut statement.node, met),
-            None => Ok(()),
+            None => false,
         },
         GlobalDeclaration::Declaration(declaration) => match &mut declaration.initializer {
             Some(expression) => walk::<ExpressionNode, _>(&mut expression.node, met),
-            None => Ok(()),
+            None => false,
         },
-        _ => Ok(()),
+        _ => false,
     }
 }
 
 /// Meets the nodes of a kind below a unit.
-fn walk_unit(unit: &mut TranslationUnit, met: &mut Met) -> Result<(), Error> {
+fn walk_unit(unit: &mut TranslationUnit, met: &mut Met) -> bool {
     match met.row.text("kind") {
         "types" => walk::<TypeExpression, _>(unit, met),
         "expressions" => walk::<ExpressionNode, _>(unit, met),
@@ -305,29 +303,29 @@ impl Rewrite<TypeExpression> for Wrap<'_> {
 }
 
 /// Wraps the types below a type alias.
-fn wrapped_alias(alias: &mut TypeAlias, wrap: &mut Wrap) -> Result<(), Error> {
+fn wrapped_alias(alias: &mut TypeAlias, wrap: &mut Wrap) -> bool {
     let alloc = wrap.row.alloc;
-    if wrap.row.text("call") == "Visit::rewrite" {
+    is_refused(if wrap.row.text("call") == "Visit::rewrite" {
         alias.rewrite(alloc, wrap)
     } else {
         alias.rewrite_rec(alloc, wrap)
-    }
+    })
 }
 
 /// Wraps the types below a declaration or its first attribute.
-fn wrapped_declaration(declaration: &mut Declaration, wrap: &mut Wrap) -> Result<(), Error> {
+fn wrapped_declaration(declaration: &mut Declaration, wrap: &mut Wrap) -> bool {
     let alloc = wrap.row.alloc;
     if wrap.row.text("holder") == "declaration" {
-        return declaration.rewrite(alloc, wrap);
+        return is_refused(declaration.rewrite(alloc, wrap));
     }
     match declaration.attributes.first_mut() {
-        Some(attribute) => attribute.node.rewrite(alloc, wrap),
-        None => Ok(()),
+        Some(attribute) => is_refused(attribute.node.rewrite(alloc, wrap)),
+        None => false,
     }
 }
 
 /// Wraps the types below a global declaration or its first attribute.
-fn wrapped(row: Row<'_>, global: &mut GlobalDeclaration) -> Result<(), Error> {
+fn wrapped(row: Row<'_>, global: &mut GlobalDeclaration) -> bool {
     let mut wrap = Wrap {
         row,
         name: Ident(0),
@@ -336,12 +334,12 @@ fn wrapped(row: Row<'_>, global: &mut GlobalDeclaration) -> Result<(), Error> {
     match global {
         GlobalDeclaration::TypeAlias(alias) => wrapped_alias(alias, &mut wrap),
         GlobalDeclaration::Declaration(declaration) => wrapped_declaration(declaration, &mut wrap),
-        _ => Ok(()),
+        _ => false,
     }
 }
 
 /// Meets the expressions, statements or lists of attributes below a global declaration or a part of it.
-fn walk_others(global: &mut GlobalDeclarationNode, met: &mut Met) -> Result<(), Error> {
+fn walk_others(global: &mut GlobalDeclarationNode, met: &mut Met) -> bool {
     if met.row.text("holder") == "global declaration" {
         walk_global(global, met)
     } else {
@@ -350,7 +348,7 @@ fn walk_others(global: &mut GlobalDeclarationNode, met: &mut Met) -> Result<(), 
 }
 
 /// Meets or wraps the nodes of a kind below a global declaration or a part of it.
-fn walk_part(global: &mut GlobalDeclarationNode, met: &mut Met) -> Result<(), Error> {
+fn walk_part(global: &mut GlobalDeclarationNode, met: &mut Met) -> bool {
     if met.row.text("kind") != "types" {
         walk_others(global, met)
     } else if met.row.has("wrap_at_most") {
@@ -361,10 +359,10 @@ fn walk_part(global: &mut GlobalDeclarationNode, met: &mut Met) -> Result<(), Er
 }
 
 /// Meets or wraps the nodes of a kind below the first of these declarations or a part of it.
-fn walk_first(declarations: &mut Vec<GlobalDeclarationNode>, met: &mut Met) -> Result<(), Error> {
+fn walk_first(declarations: &mut Vec<GlobalDeclarationNode>, met: &mut Met) -> bool {
     match declarations.first_mut() {
         Some(global) => walk_part(global, met),
-        None => Ok(()),
+        None => false,
     }
 }
 
@@ -384,7 +382,7 @@ fn told(row: Row<'_>, is_refused: bool, met: Vec<Value>, unit: &TranslationUnit)
 fn in_unit(row: Row<'_>, unit: &mut TranslationUnit) -> Value {
     let names = row.or(unit.names().try_clone(row.alloc), Names::new(row.alloc));
     let mut met = Met::new(row, &names);
-    let is_refused = is_refused(walk_unit(unit, &mut met));
+    let is_refused = walk_unit(unit, &mut met);
     told(row, is_refused, met.nodes, unit)
 }
 
@@ -392,7 +390,7 @@ fn in_unit(row: Row<'_>, unit: &mut TranslationUnit) -> Value {
 fn in_part(row: Row<'_>, unit: TranslationUnit) -> Value {
     let (names, imports, directives, mut declarations) = unit.into_parts();
     let mut met = Met::new(row, &names);
-    let is_refused = is_refused(walk_first(&mut declarations, &mut met));
+    let is_refused = walk_first(&mut declarations, &mut met);
     let nodes = met.nodes;
     let unit = row.made(TranslationUnit::from_parts(names, imports, directives, declarations));
     told(row, is_refused, nodes, &unit)
