@@ -40,8 +40,10 @@ pub fn memory_line() -> Line
 pub fn refusal(alloc: Global, error: Error) -> Line
     ensures { Tells (fault_of error) (bytes_of result) }
 {
-    match fault_line(alloc, &error) {
+    let line = match fault_line(alloc, &error) {
         Ok(line) => Line::Made(line),
         Err(_) => memory_line(),
-    }
+    };
+    drop(error);
+    line
 }
