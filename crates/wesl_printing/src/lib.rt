@@ -4,5 +4,5 @@
 mod lists;
 mod unit;
 
-pub use lists::{print_text, print_value};
+pub use lists::print_text;
 pub use unit::print_unit;

@@ -1,14 +1,12 @@
-//! Printing values behind a text, and lists of pieces to a writer.
-ghost use Rattle.std.specs.Prelude.{◌≡◌, ◌++◌, false, IfOk, OnOk, string_bytes};
+//! Printing behind a text, and lists of pieces to a writer.
+ghost use Rattle.std.specs.Prelude.{◌≡◌, ◌++◌, IfOk, OnOk, string_bytes};
 ghost use Rattle.json.specs.Tree.{json_tokens};
 ghost use Rattle.serde_json.specs.Data.{Data, Items};
-ghost use Rattle.serde_json.specs.View.{view};
-ghost use Rattle.serde_json.specs.Written.{compact_text, has_float, outline};
+ghost use Rattle.serde_json.specs.Written.{outline};
 ghost use Rattle.wesl_piece.specs.View.{items_view, piece_view};
 ghost use Rattle.wesl_printing.specs.Printing.{list_tokens};
 
 use json::Writer;
-use serde_json::Value;
 use std::alloc::{AllocError, Global};
 use wesl_piece::{write_items, write_piece};
 use wesl_writing::{Written, WrittenList};
@@ -23,15 +21,6 @@ pub fn print_text(text: String, more: &str) -> Printed
     let mut text = text;
     text.push_str(more)?;
     Ok(text)
-}
-
-/// The text, and behind it a value as compact JSON, its keys in the order of their bytes.
-pub fn print_value(alloc: Global, text: String, value: &Value) -> Printed
-    requires { has_float (view value.now) ≡ false }
-    ensures { IfOk result (λ s. string_bytes s ≡ string_bytes text ++ compact_text (view value.now)) }
-{
-    let printed = value.to_string(alloc)?;
-    print_text(text, &printed)
 }
 
 /// Writes an item of a list.

@@ -1,13 +1,13 @@
 //! The line of an answer.
-ghost use Rattle.std.specs.Prelude.{◌≡◌, IfOk, false, string_bytes};
+ghost use Rattle.std.specs.Prelude.{◌≡◌, ◌++◌, IfOk, false, string_bytes};
 ghost use Rattle.serde_json.specs.View.{view};
-ghost use Rattle.serde_json.specs.Written.{has_float};
+ghost use Rattle.serde_json.specs.Written.{compact_text, has_float};
 ghost use Rattle.wesl_program.specs.Answers.{value_of_answer};
 ghost use Rattle.wesl_program.specs.Line.{answer_beginning, line_of};
 
 use serde_json::Value;
 use std::alloc::{AllocError, Global};
-use wesl_printing::{print_text, print_unit, print_value};
+use wesl_printing::{print_text, print_unit};
 use wesl_tree::TranslationUnit;
 
 /// What is answered of a linked unit.
@@ -19,6 +19,15 @@ pub struct Answer {
     pub map: Value,
     /// The unit.
     pub unit: TranslationUnit,
+}
+
+// The text, and behind it a value as compact JSON, its keys in the order of their bytes.
+fn print_value(alloc: Global, text: String, value: &Value) -> Result<String, AllocError>
+    requires { has_float (view value.now) ≡ false }
+    ensures { IfOk result (λ s. string_bytes s ≡ string_bytes text ++ compact_text (view value.now)) }
+{
+    let printed = value.to_string(alloc)?;
+    print_text(text, &printed)
 }
 
 /// The line of an answer.
