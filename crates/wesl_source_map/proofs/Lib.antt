@@ -1,3 +1,4 @@
 pub mod Seen
 pub mod Items
 pub mod Sources
+pub mod Questions

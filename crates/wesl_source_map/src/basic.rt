@@ -69,24 +69,66 @@ fn put_source(
     Ok(())
 }
 
-/// A table of the same names and items.
-fn copied_decls(
+/// Puts a copy of an item at a copy of its name, in place of the item that is there.
+fn put_decl_copy(
+    decls: &mut BTreeMap<String, (ModulePath, String)>,
     alloc: Global,
-    decls: &BTreeMap<String, (ModulePath, String)>,
-) -> Result<BTreeMap<String, (ModulePath, String)>, Error>
-    ensures equal { IfOk result (λ copy. SameItems (items_in decls.now) (items_in copy)) }
+    name: &str,
+    path: &ModulePath,
+    item: &str,
+) -> Result<(), Error>
+    ensures written { OnOk result (WritesItem name.now (path_view path.now, item.now) (items_in decls.old) (items_in decls.new)) }
+    ensures kept { OnErr result (SameItems (items_in decls.old) (items_in decls.new)) }
     ensures refused { IfErr result (λ e. e ≡ error.Memory) }
 {
-    let mut copy = BTreeMap::new(alloc);
-    for (name, (path, item)) in decls.iter() {
-        put_decl(
-            &mut copy,
-            name.clone()?,
-            path.try_clone(alloc)?,
-            item.clone()?,
-        )?;
+    let Ok(name) = String::from_str(alloc, name) else {
+        return Err(Error::Memory);
+    };
+    let Ok(item) = String::from_str(alloc, item) else {
+        return Err(Error::Memory);
+    };
+    match path.try_clone(alloc) {
+        Ok(path) => put_decl(decls, name, path, item),
+        Err(error) => Err(error),
     }
-    Ok(copy)
+}
+
+/// Puts a copy of what is said of a module at a copy of its path, in place of what is there.
+fn put_source_copy(
+    sources: &mut HashMap<ModulePath, (Option<String>, String)>,
+    alloc: Global,
+    path: &ModulePath,
+    display: Option<String>,
+    text: &str,
+) -> Result<(), Error>
+    ensures written { OnOk result (WritesSource (path_view path.now) (option_map string_bytes display, text.now)
+        (sources_in sources.old.entries) (sources_in sources.new.entries)) }
+    ensures kept { OnErr result (SameSources (sources_in sources.old.entries) (sources_in sources.new.entries)) }
+    ensures refused { IfErr result (λ e. e ≡ error.Memory) }
+{
+    let Ok(text) = String::from_str(alloc, text) else {
+        return Err(Error::Memory);
+    };
+    match path.try_clone(alloc) {
+        Ok(path) => put_source(sources, path, display, text),
+        Err(error) => Err(error),
+    }
+}
+
+/// Fills an empty table with the names and items of another.
+fn copy_decls(
+    copy: &mut BTreeMap<String, (ModulePath, String)>,
+    alloc: Global,
+    decls: &BTreeMap<String, (ModulePath, String)>,
+) -> Result<(), Error>
+    requires empty { (name : Text) → items_in copy.old name ≡ None }
+    ensures equal { OnOk result (SameItems (items_in decls.now) (items_in copy.new)) }
+    ensures refused { IfErr result (λ e. e ≡ error.Memory) }
+{
+    for (name, (path, item)) in decls.iter() {
+        put_decl_copy(copy, alloc, name.as_str(), path, item.as_str())?;
+    }
+    Ok(())
 }
 
 /// A copy of a text, where there is one.
@@ -100,20 +142,38 @@ fn copied_text(text: &Option<String>) -> Result<Option<String>, Error>
     }
 }
 
-/// A table that says the same of the same modules.
-fn copied_sources(
+/// Puts a copy of what a table says of a module in another.
+fn put_said(
+    copy: &mut HashMap<ModulePath, (Option<String>, String)>,
     alloc: Global,
-    sources: &HashMap<ModulePath, (Option<String>, String)>,
-) -> Result<HashMap<ModulePath, (Option<String>, String)>, Error>
-    ensures equal { IfOk result (λ copy. SameSources (sources_in sources.now.entries) (sources_in copy.entries)) }
+    path: &ModulePath,
+    said: &(Option<String>, String),
+) -> Result<(), Error>
+    ensures written { OnOk result (WritesSource (path_view path.now) (source_view said.now)
+        (sources_in copy.old.entries) (sources_in copy.new.entries)) }
     ensures refused { IfErr result (λ e. e ≡ error.Memory) }
 {
-    let mut copy = HashMap::new(alloc);
-    for (path, (display, text)) in sources.iter() {
-        let path = path.try_clone(alloc)?;
-        put_source(&mut copy, path, copied_text(display)?, text.clone()?)?;
+    let (display, text) = said;
+    match copied_text(display) {
+        Ok(display) => put_source_copy(copy, alloc, path, display, text.as_str()),
+        Err(error) => Err(error),
     }
-    Ok(copy)
+}
+
+/// Fills an empty table with what another says of modules.
+fn copy_sources(
+    copy: &mut HashMap<ModulePath, (Option<String>, String)>,
+    alloc: Global,
+    sources: &HashMap<ModulePath, (Option<String>, String)>,
+) -> Result<(), Error>
+    requires empty { (path : Path) → sources_in copy.old.entries path ≡ None }
+    ensures equal { OnOk result (SameSources (sources_in sources.now.entries) (sources_in copy.new.entries)) }
+    ensures refused { IfErr result (λ e. e ≡ error.Memory) }
+{
+    for (path, said) in sources.iter() {
+        put_said(copy, alloc, path, said)?;
+    }
+    Ok(())
 }
 
 impl BasicSourceMap {
@@ -145,6 +205,23 @@ impl BasicSourceMap {
         put_decl(&mut self.decls, name, path, item)
     }
 
+    /// Records the item that a name stands for, as `add_decl` does, by copies of them.
+    pub(crate) fn copy_decl(
+        &mut self,
+        alloc: Global,
+        name: &str,
+        path: &ModulePath,
+        item: &str,
+    ) -> Result<(), Error>
+        ensures written { OnOk result (WritesItem name.now (path_view path.now, item.now) (items self.old) (items self.new)) }
+        ensures kept { OnErr result (SameItems (items self.old) (items self.new)) }
+        ensures modules { SameSources (sources self.old) (sources self.new) }
+        ensures default { default_text self.new ≡ default_text self.old }
+        ensures refused { IfErr result (λ e. e ≡ error.Memory) }
+    {
+        put_decl_copy(&mut self.decls, alloc, name, path, item)
+    }
+
     /// Records the source of the module at `path` and the name by which it is shown, in place of earlier ones.
     ///
     /// Refused for want of memory alone, which leaves the map as it was.
@@ -162,6 +239,24 @@ impl BasicSourceMap {
         ensures refused { IfErr result (λ e. e ≡ error.Memory) }
     {
         put_source(&mut self.sources, path, display, text)
+    }
+
+    /// Records what is said of a module, as `add_source` does, by copies of its path and of its source.
+    pub(crate) fn copy_source(
+        &mut self,
+        alloc: Global,
+        path: &ModulePath,
+        display: Option<String>,
+        text: &str,
+    ) -> Result<(), Error>
+        ensures written { OnOk result (WritesSource (path_view path.now) (option_map string_bytes display, text.now)
+            (sources self.old) (sources self.new)) }
+        ensures kept { OnErr result (SameSources (sources self.old) (sources self.new)) }
+        ensures decls { SameItems (items self.old) (items self.new) }
+        ensures default { default_text self.new ≡ default_text self.old }
+        ensures refused { IfErr result (λ e. e ≡ error.Memory) }
+    {
+        put_source_copy(&mut self.sources, alloc, path, display, text)
     }
 
     /// Sets the source of what is in no module, in place of an earlier one. It takes no memory.
@@ -195,16 +290,28 @@ impl BasicSourceMap {
         Ok(decls)
     }
 
+    /// Adds what another map knows to one that knows nothing.
+    fn copy_from(&mut self, alloc: Global, other: &BasicSourceMap) -> Result<(), Error>
+        requires no_decls { (name : Text) → items self.old name ≡ None }
+        requires no_modules { (path : Path) → sources self.old path ≡ None }
+        ensures equal { OnOk result (KnowsTheSame other.now self.new) }
+        ensures refused { IfErr result (λ e. e ≡ error.Memory) }
+    {
+        self.default_source = copied_text(&other.default_source)?;
+        copy_decls(&mut self.decls, alloc, &other.decls)?;
+        copy_sources(&mut self.sources, alloc, &other.sources)
+    }
+
     /// A map that knows the same. Refused for want of memory alone.
     pub fn try_clone(&self, alloc: Global) -> Result<BasicSourceMap, Error>
         ensures equal { IfOk result (KnowsTheSame self.now) }
         ensures refused { IfErr result (λ e. e ≡ error.Memory) }
     {
-        Ok(BasicSourceMap {
-            decls: copied_decls(alloc, &self.decls)?,
-            sources: copied_sources(alloc, &self.sources)?,
-            default_source: copied_text(&self.default_source)?,
-        })
+        let mut copy = BasicSourceMap::new(alloc);
+        match copy.copy_from(alloc, self) {
+            Ok(()) => Ok(copy),
+            Err(error) => Err(error),
+        }
     }
 
     /// What was last said of the module at `path`.

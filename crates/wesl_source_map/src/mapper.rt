@@ -16,7 +16,7 @@ use crate::basic::BasicSourceMap;
 use crate::map::SourceMap;
 use std::alloc::Global;
 use wesl_mangle::Mangler;
-use wesl_names::{Error, ModulePath, Names, ResolveError};
+use wesl_names::{Diagnostic, Error, ModulePath, Names, ResolveError};
 use wesl_resolve::Resolver;
 use wesl_syntax::TypeExpression;
 use wesl_tree::TranslationUnit;
@@ -92,45 +92,6 @@ impl<R: Drop, M: Drop> SourceMapper<R, M> {
     }
 }
 
-/// Records the source of a module and the name by which it is shown.
-fn record(
-    map: &mut BasicSourceMap,
-    alloc: Global,
-    path: &ModulePath,
-    display: Option<String>,
-    text: &str,
-) -> Result<(), Error>
-    ensures recorded { OnOk result (WritesSource (path_view path.now) (option_map string_bytes display, text.now) (sources map.old) (sources map.new)) }
-    ensures kept { OnErr result (SameSources (sources map.old) (sources map.new)) }
-    ensures decls { SameItems (items map.old) (items map.new) }
-    ensures default { default_text map.new ≡ default_text map.old }
-    ensures refused { IfErr result (λ e. e ≡ error.Memory) }
-{
-    let path = path.try_clone(alloc)?;
-    let text = String::from_str(alloc, text)?;
-    map.add_source(path, display, text)
-}
-
-/// Records the item that a name stands for.
-fn record_name(
-    map: &mut BasicSourceMap,
-    alloc: Global,
-    name: &str,
-    path: &ModulePath,
-    item: &str,
-) -> Result<(), Error>
-    ensures recorded { OnOk result (WritesItem name.now (path_view path.now, item.now) (items map.old) (items map.new)) }
-    ensures kept { OnErr result (SameItems (items map.old) (items map.new)) }
-    ensures modules { SameSources (sources map.old) (sources map.new) }
-    ensures default { default_text map.new ≡ default_text map.old }
-    ensures refused { IfErr result (λ e. e ≡ error.Memory) }
-{
-    let name = String::from_str(alloc, name)?;
-    let path = path.try_clone(alloc)?;
-    let item = String::from_str(alloc, item)?;
-    map.add_decl(name, path, item)
-}
-
 /// What may be refused for want of memory alone, as a resolver tells it.
 fn as_resolved(recorded: Result<(), Error>) -> Result<(), ResolveError>
     ensures same { is_ok result ≡ is_ok recorded }
@@ -138,7 +99,11 @@ fn as_resolved(recorded: Result<(), Error>) -> Result<(), ResolveError>
 {
     match recorded {
         Ok(()) => Ok(()),
-        Err(_) => Err(ResolveError::Memory),
+        Err(fault) => {
+            // An error is let go as a diagnostic, by one call.
+            let _fault = Diagnostic::of(fault);
+            Err(ResolveError::Memory)
+        }
     }
 }
 
@@ -160,10 +125,34 @@ impl<R: Resolver, M> SourceMapper<R, M> {
     {
         match self.resolver.display_name(alloc, path) {
             Ok(display) => {
-                let recorded = record(&mut self.sourcemap, alloc, path, display, text);
+                let recorded = self.sourcemap.copy_source(alloc, path, display, text);
                 as_resolved(recorded)
             }
             Err(error) => Err(error),
+        }
+    }
+
+    /// Records the source of the module at `path`, where the resolver gives one.
+    fn record_given(&mut self, alloc: Global, path: &ModulePath) -> Result<(), ResolveError>
+        requires asked { R.ready self.old.resolver }
+        requires rooted { is_relative (path_view path.now) ≡ false }
+        ensures recorded { OnOk result (RecordsIfGiven (R.source self.old.resolver (path_view path.now))
+            (R.lacks self.old.resolver (path_view path.now)) (R.shown self.old.resolver (path_view path.now)) (path_view path.now)
+            (sources self.old.sourcemap) (sources self.new.sourcemap)) }
+        ensures refused { IfErr result (λ e. e ≡ resolve_error.Memory) }
+        ensures kept { OnErr result (SameSources (sources self.old.sourcemap) (sources self.new.sourcemap)) }
+        ensures same { MeansTheSame R.hands R.refuses R.source R.lacks R.shown self.old.resolver self.new.resolver }
+        ensures stays_ready { R.ready self.new.resolver }
+        ensures beside { IsAskedAlone self.old.mangler self.new.mangler self.old.root self.new.root self.old.sourcemap self.new.sourcemap }
+    {
+        match self.resolver.resolve_source(alloc, path) {
+            Ok(text) => self.record_source(alloc, path, text.as_str()),
+            Err(ResolveError::Memory) => Err(ResolveError::Memory),
+            Err(refusal) => {
+                // A refusal is let go as a diagnostic, by one call.
+                let _refusal = Diagnostic::of(Error::Resolve(refusal));
+                Ok(())
+            }
         }
     }
 }
@@ -196,9 +185,17 @@ impl<R: Resolver, M> Resolver for SourceMapper<R, M> {
         ensures stays_ready { R.ready self.new.resolver }
         ensures beside { IsAskedAlone self.old.mangler self.new.mangler self.old.root self.new.root self.old.sourcemap self.new.sourcemap }
     {
-        let text = self.resolver.resolve_source(alloc, path)?;
-        self.record_source(alloc, path, text.as_str())?;
-        Ok(text)
+        let given = self.resolver.resolve_source(alloc, path);
+        match given {
+            Ok(text) => {
+                let recorded = self.record_source(alloc, path, text.as_str());
+                match recorded {
+                    Ok(()) => Ok(text),
+                    Err(refusal) => Err(refusal),
+                }
+            }
+            Err(refusal) => Err(refusal),
+        }
     }
 
     /// The unit of the module at a path, as the resolver hands it out. The module's source is recorded, with the name
@@ -222,14 +219,13 @@ impl<R: Resolver, M> Resolver for SourceMapper<R, M> {
         ensures stays_ready { R.ready self.new.resolver }
         ensures beside { IsAskedAlone self.old.mangler self.new.mangler self.old.root self.new.root self.old.sourcemap self.new.sourcemap }
     {
-        let unit = self.resolver.resolve_module(alloc, path)?;
-        let text = match self.resolver.resolve_source(alloc, path) {
-            Ok(text) => text,
-            Err(ResolveError::Memory) => return Err(ResolveError::Memory),
-            Err(_) => return Ok(unit),
-        };
-        self.record_source(alloc, path, text.as_str())?;
-        Ok(unit)
+        match self.resolver.resolve_module(alloc, path) {
+            Ok(unit) => match self.record_given(alloc, path) {
+                Ok(()) => Ok(unit),
+                Err(refusal) => Err(refusal),
+            },
+            Err(refusal) => Err(refusal),
+        }
     }
 
     fn display_name(
@@ -275,9 +271,14 @@ impl<R, M: Mangler> Mangler for SourceMapper<R, M> {
         ensures modules { SameSources (sources self.old.sourcemap) (sources self.new.sourcemap) }
         ensures default { default_text self.new.sourcemap ≡ default_text self.old.sourcemap }
     {
-        let mangled = self.mangler.mangle(alloc, path, item)?;
-        match record_name(&mut self.sourcemap, alloc, mangled.as_str(), path, item) {
-            Ok(()) => Ok(mangled),
+        match self.mangler.mangle(alloc, path, item) {
+            Ok(name) => {
+                let recorded = self.sourcemap.copy_decl(alloc, name.as_str(), path, item);
+                match recorded {
+                    Ok(()) => Ok(name),
+                    Err(error) => Err(error),
+                }
+            }
             Err(error) => Err(error),
         }
     }

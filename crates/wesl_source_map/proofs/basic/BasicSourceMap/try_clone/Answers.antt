@@ -1,5 +1,4 @@
-use Rattle.std.proofs.Common.{rules}
 use Rattle.wesl_source_map.proofs.basic.BasicSourceMap.try_clone.Goals as goal
 
-pub returns-clause-equal : goal.returns-clause-equal
-returns-clause-equal c = search rules
+pub returns-in-Ok-clause-equal : goal.returns-in-Ok-clause-equal
+returns-in-Ok-clause-equal c = c.in-Ok.ensures.equal

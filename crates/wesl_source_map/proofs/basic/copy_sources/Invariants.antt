@@ -5,7 +5,7 @@ use Rattle.wesl_names.specs.Path.{Path}
 use Rattle.wesl_names.specs.PathOrder.{same_path}
 use Rattle.wesl_source_map.specs.BasicView.{sources_in}
 use Rattle.wesl_source_map.proofs.Sources.{entry_seen}
-use Rattle.wesl_source_map.proofs.basic.copied_sources.Given as goal
+use Rattle.wesl_source_map.proofs.basic.copy_sources.Given as goal
 
 -- the copy has the entries so far
 abbrev pub invariant-loop-path : goal.invariant-loop-path

@@ -5,7 +5,7 @@ use Rattle.std.specs.Map.Iter.{deref_pair}
 use Rattle.wesl_names.specs.Path.{Text}
 use Rattle.wesl_source_map.specs.BasicView.{items_in}
 use Rattle.wesl_source_map.proofs.Items.{entry_seen}
-use Rattle.wesl_source_map.proofs.basic.copied_decls.Given as goal
+use Rattle.wesl_source_map.proofs.basic.copy_decls.Given as goal
 
 -- the copy has the entries so far
 abbrev pub invariant-loop-name : goal.invariant-loop-name

@@ -1,4 +1,4 @@
-use Rattle.std.proofs.Common.{◌≡◌, ◌∷◌, [], List, map, None, sym, ap, ◌∙◌, rules}
+use Rattle.std.proofs.Common.{◌≡◌, ◌∷◌, [], List, map, None, refl, sym, ap, ◌∙◌, rules}
 use Rattle.std.specs.Map.{update_all}
 use Rattle.std.specs.Map.Iter.{deref_pair}
 use Rattle.std.proofs.lemmas.List.{map-append}
@@ -6,16 +6,19 @@ use Rattle.std.proofs.lemmas.Map.Iter.{iter_end}
 use Rattle.wesl_names.specs.PathOrder.{same_path}
 use Rattle.wesl_names.specs.declared.path.ModulePath.{ModulePath}
 use Rattle.wesl_source_map.proofs.Sources.{Said, entry_seen, sources_in-more, sources_in-all}
-use Rattle.wesl_source_map.proofs.basic.copied_sources.Goals as goal
+use Rattle.wesl_source_map.proofs.basic.copy_sources.Goals as goal
+
+pub loop-path-init : goal.loop-path-init
+loop-path-init c = c.requires.empty
 
 pub loop-path-preserved : goal.loop-path-preserved
 loop-path-preserved c q =
-    sources_in-more c.loop-path.copy.entries c.put_source.new.sources.entries (map deref_pair c.loop-path.yielded) (c.in-Some.path.now, c.in-Some.field-0-1.now) _
+    sources_in-more c.loop-path.copy.entries c.put_said.new.copy.entries (map deref_pair c.loop-path.yielded) (c.in-Some.path.now, c.in-Some.said.now) (entry_seen (c.in-Some.path.now, c.in-Some.said.now))
     c.loop-path.invariant
-    c.in_ok-put_source.ensures.written
-    (λ i. (c.in_ok-path.ensures.equal i, (c.in_ok-copied_text.ensures.equal i, c.in_ok-clone.ensures.cases i)))
+    c.in_ok-put_said.ensures.written
+    refl
     q
-    ∙ ap (λ (es : List (ModulePath × Said)). update_all same_path (λ _. None) (map entry_seen es) q) (sym (map-append deref_pair c.loop-path.yielded ((c.in-Some.path, c.in-Some.field-0-1) ∷ [])))
+    ∙ ap (λ (es : List (ModulePath × Said)). update_all same_path (λ _. None) (map entry_seen es) q) (sym (map-append deref_pair c.loop-path.yielded ((c.in-Some.path, c.in-Some.said) ∷ [])))
 
 pub returns-clause-equal : goal.returns-clause-equal
 returns-clause-equal c q =
