@@ -1,6 +1,7 @@
 pub mod Bodies
 pub mod Walk
 pub mod FormulaStages
+pub mod Spots
 pub mod ReadBack
 pub mod Then
 pub mod Faultless

@@ -9,6 +9,7 @@ use Rattle.wesl_chains.specs.Lists.{Element, element, elements, goes_back, back,
 use Rattle.wesl_formula.specs.Branch.{fate, kept_after, decided_after}
 use Rattle.wesl_chains.proofs.Walk.{enact, scan}
 use Rattle.wesl_chains.proofs.ChainTurns.{scan_is}
+use Rattle.wesl_chains.proofs.Spots.{below_first, by_reading}
 use Rattle.wesl_formula.specs.Answers.{Answers}
 use Rattle.wesl_formula.specs.Formulas.{Form, Spot, always, never, flag, templated, within, negation, conjunction, disjunction, other, nowhere, type_name, has_arguments, named_as, reading, spots, spot, written}
 use Rattle.wesl_formula.specs.Residual.{literal, flag_as, parenthesized, negated_as, both_as, either_as, residual, decided}
@@ -70,10 +71,22 @@ module _ {I J : Type 0} (r : I → J) where
       ∙ ap (λ f. record { span = nowhere; form = f } ∷ ys) (reading_natural l c (spots c))
       ∙ ap (λ zs. respell_spot (record { span = nowhere; form = reading l c (spots c) }) ∷ zs) d
 
-  pub spots_natural : (c : ForestOf I) → spots (respell_forest r c) ≡ map respell_spot (spots c)
-  spots_natural end = refl
-  spots_natural (tree (at expression_node s e) (tree l c end) others) = spot_natural l c others (spots (respell_forest r c)) (spots (respell_forest r others)) (spots_natural c) (spots_natural others)
-  spots_natural (tree l c others) = spot_natural l c others (spots (respell_forest r c)) (spots (respell_forest r others)) (spots_natural c) (spots_natural others)
+  abbrev SpotsNatural : ForestOf I → Type 0
+  SpotsNatural c = spots (respell_forest r c) ≡ map respell_spot (spots c)
+
+  spots_natural_beside : (l : LabelOf I) (c : ForestOf I) → SpotsNatural c → SpotsNatural (below_first c) → (others : ForestOf I) → SpotsNatural others → SpotsNatural (tree l c others)
+  spots_natural_beside = by_reading r (λ l c. SpotsNatural c → SpotsNatural (below_first c) → (others : ForestOf I) → SpotsNatural others → SpotsNatural (tree l c others))
+      (λ s e l c own inner others rest. spot_natural l c others (spots (respell_forest r c)) (spots (respell_forest r others)) inner rest)
+      (λ l c plain respelled own inner others rest.
+      respelled (respell_forest r others) ∙ spot_natural l c others (spots (respell_forest r c)) (spots (respell_forest r others)) own rest ∙ ap (map respell_spot) (sym (plain others)))
+
+  -- and of the trees below the first
+  spots_natural_below : (c : ForestOf I) → SpotsNatural c × SpotsNatural (below_first c)
+  spots_natural_below end = (refl, refl)
+  spots_natural_below (tree l c others) = let own = spots_natural_below c in (spots_natural_beside l c own.0 own.1 others (spots_natural_below others).0, own.0)
+
+  pub spots_natural : (c : ForestOf I) → SpotsNatural c
+  spots_natural c = (spots_natural_below c).0
 
   written_natural : (f : Form I) → respell r (written f) ≡ written (respell_form f)
   written_natural always = refl

@@ -1,11 +1,12 @@
 -- A formula that is written reads as itself.
-use Rattle.std.proofs.Common.{◌≡◌, List, [], ◌∷◌, Bool, true, false, Option, Some, None, refl, ap}
+use Rattle.std.proofs.Common.{◌≡◌, List, [], ◌∷◌, Bool, true, false, Option, Some, None, refl, sym, ap, subst}
 use Rattle.wesl_formula.specs.declared.features.Truth.{Truth}
 use Rattle.wesl_formula.specs.declared.features.Truth.TheVariants.{Yes, No, Undecided}
 use Rattle.wesl_formula.specs.Answers.{Answers}
 use Rattle.wesl_formula.specs.Formulas.{Form, Spot, always, never, flag, templated, within, negation, conjunction, disjunction, other, type_name, has_arguments, named_as, reading, spots, form, written}
 use Rattle.wesl_formula.specs.Residual.{literal, flag_as, parenthesized, negated_as, both_as, either_as, residual}
 use Rattle.wesl_names.specs.declared.span.Span.{Span}
+use Rattle.wesl_chains.proofs.Spots.{below_first, by_reading}
 use Rattle.wesl_syntax.specs.Tree.{LabelOf, ForestOf, end, tree, kind, at, truth, unary, binary, expression_node, literal as literal_kind, parenthesized as parenthesized_kind, type_or_identifier}
 use Rattle.wesl_syntax.specs.declared.expression.UnaryOperator.TheVariants.{LogicalNegation}
 use Rattle.wesl_syntax.specs.declared.expression.BinaryOperator.TheVariants.{ShortCircuitAnd, ShortCircuitOr}
@@ -57,10 +58,18 @@ module _ {I : Type 0} where
   reading_leaves (binary ShortCircuitOr) c (x ∷ y ∷ []) is h = (h.0, h.1.0)
   reading_leaves l c xs is h = ap (reading l c) is
 
+  spots_leaves_beside : (l : LabelOf I) (c : ForestOf I) → AllLeaves (spots c) → AllLeaves (spots (below_first c)) → (others : ForestOf I) → AllLeaves (spots others) → AllLeaves (spots (tree l c others))
+  spots_leaves_beside = by_reading (λ (i : I). i) (λ l c. AllLeaves (spots c) → AllLeaves (spots (below_first c)) → (others : ForestOf I) → AllLeaves (spots others) → AllLeaves (spots (tree l c others)))
+      (λ s e l c own inner others rest. (reading_leaves l c (spots c) refl inner, rest))
+      (λ l c plain respelled own inner others rest. subst AllLeaves (sym (plain others)) (reading_leaves l c (spots c) refl own, rest))
+
+  -- and of the trees below the first
+  spots_leaves_below : (c : ForestOf I) → AllLeaves (spots c) × AllLeaves (spots (below_first c))
+  spots_leaves_below end = (tt, tt)
+  spots_leaves_below (tree l c others) = let own = spots_leaves_below c in (spots_leaves_beside l c own.0 own.1 others (spots_leaves_below others).0, own.0)
+
   pub spots_leaves : (c : ForestOf I) → AllLeaves (spots c)
-  spots_leaves end = tt
-  spots_leaves (tree (at expression_node s e) (tree l c end) others) = (reading_leaves l c (spots c) refl (spots_leaves c), spots_leaves others)
-  spots_leaves (tree l c others) = (reading_leaves l c (spots c) refl (spots_leaves c), spots_leaves others)
+  spots_leaves c = (spots_leaves_below c).0
 
   flag_leaves : (t : Truth) (name : I) (c : ForestOf I) → Leaves (flag name c) → Leaves (flag_as t name c)
   flag_leaves Yes name c h = tt

@@ -1,5 +1,5 @@
 -- What is left of a module depends on the answers to its own flags alone.
-use Rattle.std.proofs.Common.{◌≡◌, Bool, true, false, ◌&&◌, ◌||◌, cond, List, [], ◌∷◌, ◌++◌, Option, Some, None, refl, sym, ap, ◌∙◌}
+use Rattle.std.proofs.Common.{◌≡◌, Bool, true, false, ◌&&◌, ◌||◌, cond, List, [], ◌∷◌, ◌++◌, Option, Some, None, refl, sym, ap, ◌∙◌, subst}
 use Rattle.wesl_formula.specs.declared.chain.Role.{Role}
 use Rattle.wesl_formula.specs.declared.chain.Role.TheVariants.{Plain, If, Elif, Else}
 use Rattle.wesl_chains.specs.Chains.{Condition, none, on, else_on, otherwise, residual_spot, recast_condition, holds, is_branch, branch, residual_list}
@@ -9,6 +9,7 @@ use Rattle.wesl_chains.specs.Lists.{Element, element}
 use Rattle.wesl_formula.specs.Branch.{fate, kept_after, decided_after}
 use Rattle.wesl_chains.proofs.Walk.{enact, scan}
 use Rattle.wesl_chains.proofs.ChainTurns.{scan_is}
+use Rattle.wesl_chains.proofs.Spots.{below_first, by_reading}
 use Rattle.wesl_formula.specs.Answers.{Answers}
 use Rattle.wesl_formula.specs.Formulas.{Form, Spot, type_name, has_arguments, named_as, reading, spots}
 use Rattle.wesl_formula.specs.Residual.{literal, flag_as, parenthesized, negated, both_of, either_of, residual}
@@ -73,12 +74,25 @@ module _ {I : Type 0} (F G : Answers I) where
   reading_same (binary ShortCircuitOr) c (x ∷ y ∷ []) h k = ap (λ f. either_of x.span f y.span (residual F y.form)) k.0 ∙ ap (λ g. either_of x.span (residual G x.form) y.span g) k.1.0
   reading_same l c xs h k = refl
 
-  spots_same : (c : ForestOf I) → SameOn (flags_in true c) → AllSame (spots c)
-  spots_same end h = tt
-  spots_same (tree (at expression_node s e) (tree l c end) others) h =
-      let inner = below true l c end (below true (at expression_node s e) (tree l c end) others h) in
-      (reading_same l c (spots c) inner (spots_same c inner), spots_same others (beside true (at expression_node s e) (tree l c end) others h))
-  spots_same (tree l c others) h = (reading_same l c (spots c) (below true l c others h) (spots_same c (below true l c others h)), spots_same others (beside true l c others h))
+  abbrev SpotsSame : ForestOf I → Type 0
+  SpotsSame c = SameOn (flags_in true c) → AllSame (spots c)
+
+  spots_same_beside : (l : LabelOf I) (c : ForestOf I) → SpotsSame c → SpotsSame (below_first c) → (others : ForestOf I) → SpotsSame others → SpotsSame (tree l c others)
+  spots_same_beside = by_reading (λ (i : I). i) (λ l c. SpotsSame c → SpotsSame (below_first c) → (others : ForestOf I) → SpotsSame others → SpotsSame (tree l c others))
+      (λ s e l c own inner others rest h.
+      let inside = below true l c end (below true (at expression_node s e) (tree l c end) others h) in
+      (reading_same l c (spots c) inside (inner inside), rest (beside true (at expression_node s e) (tree l c end) others h)))
+      (λ l c plain respelled own inner others rest h.
+      let inside = below true l c others h in
+      subst AllSame (sym (plain others)) (reading_same l c (spots c) inside (own inside), rest (beside true l c others h)))
+
+  -- and of the trees below the first
+  spots_same_below : (c : ForestOf I) → SpotsSame c × SpotsSame (below_first c)
+  spots_same_below end = ((λ h. tt), (λ h. tt))
+  spots_same_below (tree l c others) = let own = spots_same_below c in (spots_same_beside l c own.0 own.1 others (spots_same_below others).0, own.0)
+
+  spots_same : (c : ForestOf I) → SpotsSame c
+  spots_same c = (spots_same_below c).0
 
   first_same : (xs : List (Spot I)) → AllSame xs → SameIn (first_of xs).form
   first_same [] h = refl
