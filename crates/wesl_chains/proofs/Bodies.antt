@@ -1,7 +1,12 @@
--- A pair of a body and of what may close it, and any other pair.
-use Rattle.std.proofs.Common.{◌≡◌, false, ◌&&◌, refl}
+-- What may close a body, and a pair of a body and of that, and any other pair.
+use Rattle.std.proofs.Common.{◌≡◌, true, false, ◌&&◌, refl}
 use Rattle.wesl_chains.specs.Lists.{is_compound, is_option}
 use Rattle.wesl_syntax.specs.Tree.{LabelOf, kind, compound, present, absent}
+
+pub option_cases : {I : Type 0} (P : LabelOf I → Type 0) → P (kind present) → P (kind absent) → (o : LabelOf I) → is_option o ≡ true → P o
+option_cases P x y (kind present) e = x
+option_cases P x y (kind absent) e = y
+option_cases P x y o e = cc
 
 pub pair_cases : {I : Type 0} (P : LabelOf I → LabelOf I → Type 0) → P (kind compound) (kind present) → P (kind compound) (kind absent) → ((b o : LabelOf I) → (is_compound b && is_option o) ≡ false → P b o) → (b o : LabelOf I) → P b o
 pair_cases P x y z (kind compound) (kind present) = x

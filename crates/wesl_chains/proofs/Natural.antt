@@ -17,7 +17,7 @@ use Rattle.wesl_formula.specs.declared.features.Truth.{Truth}
 use Rattle.wesl_formula.specs.declared.features.Truth.TheVariants.{Yes, No, Undecided}
 use Rattle.wesl_names.specs.declared.span.Span.{Span}
 use Rattle.wesl_syntax.specs.Nodes.{is_attributes}
-use Rattle.wesl_syntax.specs.Tree.{LabelOf, ForestOf, end, tree, kind, at, ident, truth, unary, binary, respell_label, respell_forest, respell, expression_node, statement_node, declaration_node, literal as literal_kind, parenthesized as parenthesized_kind, type_or_identifier, present, if_attribute, elif_attribute, else_attribute, void}
+use Rattle.wesl_syntax.specs.Tree.{LabelOf, ForestOf, end, tree, kind, at, ident, truth, unary, binary, respell_label, respell_forest, respell, statement_node, declaration_node, literal as literal_kind, parenthesized as parenthesized_kind, type_or_identifier, present, if_attribute, elif_attribute, else_attribute, void}
 use Rattle.wesl_syntax.specs.Unit.{begins_void}
 use Rattle.wesl_syntax.specs.declared.expression.UnaryOperator.TheVariants.{LogicalNegation}
 use Rattle.wesl_syntax.specs.declared.expression.BinaryOperator.TheVariants.{ShortCircuitAnd, ShortCircuitOr}

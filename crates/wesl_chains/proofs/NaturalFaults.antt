@@ -195,8 +195,11 @@ module _ {I J : Type 0} (r : I → J) where
     others_of end = end
     others_of (tree l c o) = o
 
+    no_tree : {l : LabelOf J} {c o : ForestOf J} → tree l c o ≡ end → ⊥
+    no_tree e = cc
+
     none_stands : (held : Bool) (u : ForestOf J) (f : Fault J) → Stands answer held u f → (t : ForestOf I) → u ≡ respell_forest r t → Clear reply held t → ⊥
-    none_stands held u f (here e h) end same clear = cc
+    none_stands held u f (here e h) end same clear = no_tree same
     none_stands held u f (here {l = l'} {children = c'} e h) (tree l c o) same clear =
         let ls : l' ≡ respell_label r l = ap (labelled l') same in
         let cs : c' ≡ respell_forest r c = ap children_of same in
@@ -204,7 +207,7 @@ module _ {I J : Type 0} (r : I → J) where
         let none = list_clear reply held l c entered (clear_first reply held l c o clear) in
         none_among answer f (list_faults answer false (list_at held l' c'))
         (ap (λ x. list_faults answer false (list_at held x c')) ls ∙ ap (λ x. list_faults answer false (list_at held (respell_label r l) x)) cs ∙ faults_at_natural held l c ∙ ap (map respell_fault) none) h
-    none_stands held u f (inside e n s) end same clear = cc
+    none_stands held u f (inside e n s) end same clear = no_tree same
     none_stands held u f (inside {l = l'} {children = c'} e n s) (tree l c o) same clear =
         let ls : l' ≡ respell_label r l = ap (labelled l') same in
         let cs : c' ≡ respell_forest r c = ap children_of same in
@@ -214,7 +217,7 @@ module _ {I J : Type 0} (r : I → J) where
         none_stands (holds_body held l') (judged (staying element (known answer)) held l' c') f s (judged (staying element (known reply)) held l c)
         (ap (λ x. judged (staying element (known answer)) held x c') ls ∙ ap (judged (staying element (known answer)) held (respell_label r l)) cs ∙ within_natural held l c)
         (subst ClearBy (sym (ap (holds_body held) ls ∙ holds_natural_body r held l)) (λ g h. clear g (inside entered none h)))
-    none_stands held u f (beside s) end same clear = cc
+    none_stands held u f (beside s) end same clear = no_tree same
     none_stands held u f (beside {others = o'} s) (tree l c o) same clear = none_stands held o' f s o (ap others_of same) (λ g h. clear g (beside h))
 
 -- No fault stands in a module exactly where none stands in its spelling.

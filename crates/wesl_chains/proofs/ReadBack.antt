@@ -7,7 +7,7 @@ use Rattle.wesl_formula.specs.Formulas.{Form, Spot, always, never, flag, templat
 use Rattle.wesl_formula.specs.Residual.{literal, flag_as, parenthesized, negated_as, both_as, either_as, residual}
 use Rattle.wesl_names.specs.declared.span.Span.{Span}
 use Rattle.wesl_chains.proofs.Spots.{below_first, by_reading}
-use Rattle.wesl_syntax.specs.Tree.{LabelOf, ForestOf, end, tree, kind, at, truth, unary, binary, expression_node, literal as literal_kind, parenthesized as parenthesized_kind, type_or_identifier}
+use Rattle.wesl_syntax.specs.Tree.{LabelOf, ForestOf, end, tree, kind, truth, unary, binary, literal as literal_kind, parenthesized as parenthesized_kind, type_or_identifier}
 use Rattle.wesl_syntax.specs.declared.expression.UnaryOperator.TheVariants.{LogicalNegation}
 use Rattle.wesl_syntax.specs.declared.expression.BinaryOperator.TheVariants.{ShortCircuitAnd, ShortCircuitOr}
 

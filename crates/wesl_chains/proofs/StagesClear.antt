@@ -9,6 +9,7 @@ use Rattle.wesl_chains.specs.Faults.{Stands, here, inside, beside, list_faults, 
 use Rattle.wesl_chains.specs.Laws.{IsFaultless}
 use Rattle.wesl_chains.specs.Lists.{Element, element, elements, back, is_closed, is_compound, is_option, is_entered, holds_body, alone, closed, judged, through}
 use Rattle.wesl_chains.specs.Residual.{residual_unit}
+use Rattle.wesl_chains.proofs.Bodies.{option_cases}
 use Rattle.wesl_chains.proofs.Clear.{Clear, ClearAt, stay, rebuilt, clear_end, clear_join, clear_others, clear_first, clear_leaf, clear_node, list_clear, inside_clear, clear_rebuilt, rebuilt_clear, each_of_back, back_of_each, clear_changed, none_among}
 use Rattle.wesl_chains.proofs.Kept.{Each, each_join, each_stays, each_left, stays_in_both, staying_inside}
 use Rattle.wesl_chains.proofs.ListFaults.{list_in_both, list_left}
@@ -216,9 +217,7 @@ module _ {I : Type 0} (first second : Replies I) (h : HoldsNoError second) where
 
   -- the optional child of a loop or a continuing block
   option_left : (o : LabelOf I) (last : ForestOf I) → is_option o ≡ true → left_in true o last ≡ through left false last
-  option_left (kind present) last e = refl
-  option_left (kind absent) last e = refl
-  option_left o last e = cc
+  option_left o last = option_cases (λ a. left_in true a last ≡ through left false last) refl refl o
 
   abbrev kept_with : ForestOf I → ForestOf I → List (Element I)
   kept_with items last = left (elements false (through left false items) ++ elements true (through left false last))
