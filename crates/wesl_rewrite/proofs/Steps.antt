@@ -196,11 +196,6 @@ module _ {X : Type 0} (k : Rule) (view : X → Tree) where
 pub boxed : {k : Rule} {a b : Bool} {x y : Spanned Expression} (z : Spanned Expression) → x ≡ y → Went k a (before (expression_tree x) end) b (before (expression_tree z) end) → Went k a (before (expression_tree y) end) b (before (expression_tree z) end)
 boxed {k = k} {a = a} {b = b} z p w = subst (λ v. Went k a (before (expression_tree v) end) b (before (expression_tree z) end)) p w
 
-set_twice : {X : Type 0} (xs : List X) (i : ℕ) (y z : X) → set (set xs i y) i z ≡ set xs i z
-set_twice [] i y z = refl
-set_twice (x ∷ xs) zero y z = refl
-set_twice (x ∷ xs) (suc i) y z = ap (λ l. x ∷ l) (set_twice xs i y z)
-
 -- A loop that changes the trees of a list one by one.
 abbrev pub Passed : {X : Type 0} → Rule → (X → Tree) → ℕ → Bool → List X → Bool → List X → Type 0
 Passed {X = X} k view i a old b new = (FirstWent k view i a old b new) × ((length new ≡ length old) × ((j : ℕ) (d : X) → i ≤ j → get_or new j d ≡ get_or old j d))
@@ -214,11 +209,6 @@ module _ {X : Type 0} (k : Rule) (view : X → Tree) where
   pub passed_step : (i : ℕ) (a b c : Bool) (old new : List X) (x y : X) → i < length new → x ≡ get_or new i x
       → Passed k view i a old b new → Went k b (before (view (get_or new i x)) end) c (before (view y) end) → Passed k view (i + 1) a old c (set new i y)
   passed_step i a b c old new x y h is f w = (first_step i a b c old new x y h f.1.0 is f.0 w, (length-set new i y ∙ f.1.0, λ j d le. let ne : j ≢ i = omega arith in rw get_or-set_other (f.1.1 j d (omega arith))))
-
-  -- where the element was changed twice
-  pub passed_twice : (i : ℕ) (a b c : Bool) (old new : List X) (x y z : X) → i < length new → x ≡ get_or new i x
-      → Passed k view i a old b new → Went k b (before (view (get_or new i x)) end) c (before (view z) end) → Passed k view (i + 1) a old c (set (set new i y) i z)
-  passed_twice i a b c old new x y z h is f w = subst (λ l. Passed k view (i + 1) a old c l) (sym (set_twice new i y z)) (passed_step i a b c old new x z h is f w)
 
 -- the list of a vector, under its own label
 pub went_list : {X : Type 0} {k : Rule} {a b : Bool} (view : X → Tree) (l : Kind) (xs : Vec X Global) (lent new : List X) → words (kind l) ≡ false → picks k.sought (kind l) ≡ false → lent ≡ xs.items → length new ≡ xs.len

@@ -74,12 +74,13 @@ pub(crate) fn at_expressions<T: Replace, R: Rewrite<T>>(
 {
     let mut goes = goes;
     for i in 0..nodes.len() {
+        let node = &mut nodes[i];
         if T::takes_whole_expressions(deep) {
-            goes = T::finish_expression(&mut nodes[i], rewriter, goes);
+            goes = T::finish_expression(node, rewriter, goes);
             continue;
         }
-        goes = in_expression(&mut nodes[i].node, deep, rewriter, goes);
-        goes = T::finish_expression(&mut nodes[i], rewriter, goes);
+        goes = in_expression(&mut node.node, deep, rewriter, goes);
+        goes = T::finish_expression(node, rewriter, goes);
     }
     goes
 }

@@ -235,12 +235,13 @@ fn at_statements<T: Replace, R: Rewrite<T>>(
 {
     let mut goes = goes;
     for i in 0..statements.len() {
+        let node = &mut statements[i];
         if T::takes_whole_statements(deep) {
-            goes = T::finish_statement(&mut statements[i], rewriter, goes);
+            goes = T::finish_statement(node, rewriter, goes);
             continue;
         }
-        goes = in_statement(&mut statements[i].node, deep, rewriter, goes);
-        goes = T::finish_statement(&mut statements[i], rewriter, goes);
+        goes = in_statement(&mut node.node, deep, rewriter, goes);
+        goes = T::finish_statement(node, rewriter, goes);
     }
     goes
 }

@@ -1,17 +1,12 @@
-use Rattle.std.proofs.Common.{length, get_or, ◌<◌, subst, refl, ap, ◌∙◌, arith}
-use Rattle.std.proofs.lemmas.List.{get_or-set_same}
+use Rattle.std.proofs.Common.{get_or, refl, ap, ◌∙◌, arith}
 use Rattle.std.specs.Box.{with_value}
 use Rattle.std.specs.Vec.{with_items}
 use Rattle.wesl_syntax.specs.Tree.{binary, call, call_expression, indexing, kind, list, named_component, parenthesized, template_argument, type_or_identifier, unary}
 use Rattle.wesl_syntax.specs.View.{argument_view, expression_tree, expression_view, type_view}
 use Rattle.wesl_syntax.specs.declared.expression.FunctionCall.{out-FunctionCall}
 use Rattle.wesl_syntax.specs.declared.expression.TemplateArg.{roll-TemplateArg}
-use Rattle.wesl_syntax.specs.declared.expression.Expression.{Expression}
-use Rattle.wesl_syntax.specs.declared.span.Spanned.{Spanned}
-use Rattle.wesl_kinds.specs.Picks.{seeks_expressions}
-use Rattle.wesl_kinds.specs.Finished.{Finished}
 use Rattle.wesl_rewrite.proofs.Expressions.{literal_hollow, type_after, type_none, type_some, view_argument, view_argument_of, view_binary, view_call, view_call_expression, view_call_of, view_indexing, view_literal, view_name, view_named, view_parenthesized, view_unary}
-use Rattle.wesl_rewrite.proofs.Steps.{beside, boxed, first_all, first_none, inside, passed_step, passed_twice, taken_else, taken_if, unmoved, viewed, went_list}
+use Rattle.wesl_rewrite.proofs.Steps.{beside, boxed, first_all, first_none, inside, passed_step, taken_else, taken_if, unmoved, viewed, went_list}
 use Rattle.wesl_rewrite.proofs.Views.{type_label}
 use Rattle.wesl_rewrite.proofs.replace.expression.+replacing.Goals as goal
 
@@ -115,13 +110,10 @@ at_expressions-loop-i-preserved-then-takes_whole_expressions g t c =
 pub at_expressions-loop-i-preserved : goal.at_expressions-loop-i-preserved
 at_expressions-loop-i-preserved g t c =
     let xs = c.loop-i.nodes in
-    let x = c.index-nodes-i-in-loop-i.result in
+    let x = c.index-nodes-i.result in
     let d = c.finish_expression-goes-in-loop-i in
-    let y : Spanned Expression = record { node = c.in_expression-goes.new.expression; span = (get_or xs c.loop-i.i x).span } in
-    let h : c.loop-i.i < length xs = omega arith in
-    passed_twice _ expression_tree c.loop-i.i _ _ _ c.args.nodes.now xs x y d.new.node h c.index-nodes-i-in-loop-i.is c.loop-i.invariant
-    (taken_else _ c.takes_whole_expressions.result (expression_tree (get_or xs c.loop-i.i x)).label (expression_tree d.new.node) refl refl c.takes_whole_expressions.ensures c.if-takes_whole_expressions.false c.in_expression-goes.ensures
-    (subst (λ (n : Spanned Expression). Finished (seeks_expressions g.T.Kind.sought) g.R.Rewrite.rewrites c.in_expression-goes.result (expression_tree n) d.result (expression_tree d.new.node)) (get_or-set_same xs c.loop-i.i y c.index-nodes-i-in-loop-i-2.result h) d.ensures))
+    passed_step _ expression_tree c.loop-i.i _ _ _ c.args.nodes.now xs x d.new.node (omega arith) c.index-nodes-i.is c.loop-i.invariant
+    (taken_else _ c.takes_whole_expressions.result (expression_tree (get_or xs c.loop-i.i x)).label (expression_tree d.new.node) refl refl c.takes_whole_expressions.ensures c.if-takes_whole_expressions.false c.in_expression-goes.ensures d.ensures)
 
 pub at_expressions-returns : goal.at_expressions-returns
 at_expressions-returns g t c =

@@ -1,5 +1,4 @@
-use Rattle.std.proofs.Common.{◌<◌, length, get_or, refl, ap, ◌∙◌, subst, arith, Some}
-use Rattle.std.proofs.lemmas.List.{get_or-set_same}
+use Rattle.std.proofs.Common.{get_or, refl, ap, ◌∙◌, subst, arith, Some}
 use Rattle.std.specs.Box.{box_value, with_value}
 use Rattle.std.specs.Vec.{with_items}
 use Rattle.wesl_syntax.specs.Tree.{assignment, break, call_statement, clauses, compound, compound_statement, continue, continuing, decrement, discard, else_clause, else_if_clause, for_loop, if_clause, if_statement, increment, kind, list, loop, present, return, statements, switch, switch_clause, while_loop}
@@ -15,7 +14,7 @@ use Rattle.wesl_syntax.specs.declared.statement.SwitchClause.{out-SwitchClause}
 use Rattle.wesl_kinds.specs.Picks.{seeks_statements}
 use Rattle.wesl_kinds.specs.Finished.{Finished}
 use Rattle.wesl_rewrite.proofs.Statements.{CompoundStatement_is, CompoundStatement_of, ContinuingStatement_is, ContinuingStatement_of, ElseClause_is, ElseClause_of, ElseIfClause_is, ElseIfClause_of, IfClause_is, IfClause_of, SwitchClause_is, SwitchClause_of, view_Assignment, view_Break, view_Compound, view_ConstAssert, view_Continue, view_Declaration, view_Decrement, view_Discard, view_For, view_FunctionCall, view_If, view_Increment, view_Loop, view_Return, view_Switch, view_Void, view_While}
-use Rattle.wesl_rewrite.proofs.Steps.{beside, first_all, first_none, from, inside, passed_step, passed_twice, taken_else, taken_if, unmoved, viewed, went_list}
+use Rattle.wesl_rewrite.proofs.Steps.{beside, first_all, first_none, from, inside, passed_step, taken_else, taken_if, unmoved, viewed, went_list}
 use Rattle.wesl_rewrite.proofs.replace.statement.+replacing_statements.Goals as goal
 
 pub in_statement-returns-in-Void : goal.in_statement-returns-in-Void
@@ -282,13 +281,10 @@ at_statements-loop-i-preserved-then-takes_whole_statements g t c =
 pub at_statements-loop-i-preserved : goal.at_statements-loop-i-preserved
 at_statements-loop-i-preserved g t c =
     let xs = c.loop-i.statements in
-    let x = c.index-statements-i-in-loop-i.result in
+    let x = c.index-statements-i.result in
     let d = c.finish_statement-goes-in-loop-i in
-    let y : Spanned Statement = record { node = c.in_statement-goes.new.statement; span = (get_or xs c.loop-i.i x).span } in
-    let h : c.loop-i.i < length xs = omega arith in
-    passed_twice _ statement_tree c.loop-i.i _ _ _ c.args.statements.now xs x y d.new.node h c.index-statements-i-in-loop-i.is c.loop-i.invariant
-    (taken_else _ c.takes_whole_statements.result (statement_tree (get_or xs c.loop-i.i x)).label (statement_tree d.new.node) refl refl c.takes_whole_statements.ensures c.if-takes_whole_statements.false c.in_statement-goes.ensures
-    (subst (λ (n : Spanned Statement). Finished (seeks_statements g.T.Kind.sought) g.R.Rewrite.rewrites c.in_statement-goes.result (statement_tree n) d.result (statement_tree d.new.node)) (get_or-set_same xs c.loop-i.i y c.index-statements-i-in-loop-i-2.result h) d.ensures))
+    passed_step _ statement_tree c.loop-i.i _ _ _ c.args.statements.now xs x d.new.node (omega arith) c.index-statements-i.is c.loop-i.invariant
+    (taken_else _ c.takes_whole_statements.result (statement_tree (get_or xs c.loop-i.i x)).label (statement_tree d.new.node) refl refl c.takes_whole_statements.ensures c.if-takes_whole_statements.false c.in_statement-goes.ensures d.ensures)
 
 pub at_statements-returns : goal.at_statements-returns
 at_statements-returns g t c =
