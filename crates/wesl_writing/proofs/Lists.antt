@@ -1,7 +1,9 @@
 -- Lists that are written, item by item.
-use Rattle.std.proofs.Common.{◌≡◌, ℕ, ◌+◌, ◌<◌, ◌≤◌, List, [], ◌∷◌, ◌++◌, length, get_or, map, take, String, Vec, Global, string_bytes, refl, sym, ap, ◌∙◌, arith, rules}
+use Rattle.std.proofs.Common.{◌≡◌, ℕ, ◌+◌, ◌<◌, ◌≤◌, List, [], ◌∷◌, ◌++◌, length, get_or, map, take, String, Vec, Global, string_bytes, Result, refl, sym, ap, ◌∙◌, arith, rules}
+use Rattle.std.specs.Prelude.{IfOk}
+use Rattle.std.proofs.lemmas.Result.{IfOk-weaker}
 use Rattle.std.proofs.lemmas.List.{take_more, take_all}
-use Rattle.serde_json.specs.Data.{Data, string, array, Items, no_items, item, Members}
+use Rattle.serde_json.specs.Data.{Data, string, array, Items, item, Members}
 use Rattle.wesl_piece.specs.Order.{sorted}
 use Rattle.wesl_piece.specs.View.{items_view, piece_view}
 use Rattle.wesl_piece.specs.declared.piece.Piece.{Piece, the_lemmas}
@@ -13,7 +15,7 @@ use Rattle.wesl_syntax.specs.View.{placed}
 use Rattle.wesl_syntax.specs.declared.span.Spanned.{Spanned}
 use Rattle.wesl_form.specs.Schema.{Name, node}
 use Rattle.wesl_form.specs.Writing.{written, texts_value}
-use Rattle.wesl_writing.specs.Values.{value_in, placed_in, items_in, with_list, with_member}
+use Rattle.wesl_writing.specs.Values.{value_in, placed_in, items_in, items_then, with_list, with_member}
 
 pub with_none : (k : Text) (vs : List Piece) (ms : Members) → vs ≡ [] → with_list k (items_view vs) ms ≡ ms
 unfolding with_list
@@ -32,13 +34,13 @@ with_some k v ms h = some v.items (piece_view (pieces.List v)) h (view-list v)
 
 -- ---- one item more
 
-abbrev pub items_then : Items → Data → Items
-items_then no_items d = item d no_items
-items_then (item e es) d = item e (items_then es d)
-
-items_view-then : (vs : List Piece) (v : Piece) → items_view (vs ++ v ∷ []) ≡ items_then (items_view vs) (piece_view v)
+pub items_view-then : (vs : List Piece) (v : Piece) → items_view (vs ++ v ∷ []) ≡ items_then (items_view vs) (piece_view v)
 items_view-then [] v = refl
 items_view-then (w ∷ vs) v = ap (item (piece_view w)) (items_view-then vs v)
+
+-- a list with a further piece
+pub items_view-more : (vs grown : List Piece) (v : Piece) (ds : Items) (d : Data) → grown ≡ vs ++ v ∷ [] → items_view vs ≡ ds → piece_view v ≡ d → items_view grown ≡ items_then ds d
+items_view-more vs grown v ds d is so_far this = ap items_view is ∙ items_view-then vs v ∙ ap (λ es. items_then es (piece_view v)) so_far ∙ ap (items_then ds) this
 
 texts_value-then : (ts : List Text) (t : Text) → texts_value (ts ++ t ∷ []) ≡ items_then (texts_value ts) (string t)
 texts_value-then [] t = refl
@@ -51,14 +53,21 @@ map-then f (y ∷ xs) x = ap (λ r. f y ∷ r) (map-then f xs x)
 pub take-then : {A : Type 0} (xs : List A) (i : ℕ) (x : A) → i < length xs → x ≡ get_or xs i x → take (i + 1) xs ≡ take i xs ++ x ∷ []
 take-then xs i x within here = take_more xs i x within ∙ ap (λ w. take i xs ++ w ∷ []) (sym here)
 
--- a turn of the loop over texts
-pub texts-turn : (xs : List (String Global)) (i : ℕ) (x : String Global) (vs grown : List Piece) (v : Piece) → i < length xs → x ≡ get_or xs i x → grown ≡ vs ++ v ∷ [] → items_view vs ≡ texts_value (map string_bytes (take i xs)) → piece_view v ≡ string (string_bytes x) → items_view grown ≡ texts_value (map string_bytes (take (i + 1) xs))
-texts-turn xs i x vs grown v within here is before_it this =
-    ap items_view is ∙ items_view-then vs v ∙ ap (λ ds. items_then ds (piece_view v)) before_it ∙ ap (items_then (texts_value (map string_bytes (take i xs)))) this
-    ∙ sym (texts_value-then (map string_bytes (take i xs)) (string_bytes x)) ∙ ap texts_value (sym (map-then string_bytes (take i xs) x)) ∙ ap (λ ys. texts_value (map string_bytes ys)) (sym (take-then xs i x within here))
+-- the values of texts that are written so far
+module _ {E : Type 0} (xs : List (String Global)) where
+  abbrev pub AreTexts : ℕ → Result (Vec Piece Global) E → Type 0
+  AreTexts i list = IfOk list (λ vs. items_view vs.items ≡ texts_value (map string_bytes (take i xs)))
 
-pub texts-whole : (xs ys : List (String Global)) (i : ℕ) (ds : Items) → xs ≡ ys → length xs ≤ i → ds ≡ texts_value (map string_bytes (take i xs)) → ds ≡ texts_value (map string_bytes ys)
-texts-whole xs ys i ds same all h = h ∙ ap (λ zs. texts_value (map string_bytes zs)) (take_all i xs all ∙ same)
+  pub texts-none : (list : Result (Vec Piece Global) E) → IfOk list (λ vs. vs.items ≡ []) → AreTexts 0 list
+  texts-none list empty = IfOk-weaker list _ _ (λ vs is. ap items_view is) empty
+
+  pub texts-turn : (i : ℕ) (x : String Global) (t : Text) (more : Result (Vec Piece Global) E) → i < length xs → x ≡ get_or xs i x → t ≡ string_bytes x → IfOk more (λ vs. items_view vs.items ≡ items_then (texts_value (map string_bytes (take i xs))) (string t)) → AreTexts (i + 1) more
+  texts-turn i x t more within here this grown =
+      let same = ap (λ s. items_then (texts_value (map string_bytes (take i xs))) (string s)) this ∙ sym (texts_value-then (map string_bytes (take i xs)) (string_bytes x)) ∙ ap texts_value (sym (map-then string_bytes (take i xs) x)) ∙ ap (λ ys. texts_value (map string_bytes ys)) (sym (take-then xs i x within here)) in
+      IfOk-weaker more _ _ (λ vs is. is ∙ same) grown
+
+  pub texts-whole : (ys : List (String Global)) (i : ℕ) (list : Result (Vec Piece Global) E) → xs ≡ ys → length xs ≤ i → AreTexts i list → IfOk list (λ vs. items_view vs.items ≡ texts_value (map string_bytes ys))
+  texts-whole ys i list same all h = IfOk-weaker list _ _ (λ vs is. is ∙ ap (λ zs. texts_value (map string_bytes zs)) (take_all i xs all ∙ same)) h
 
 module _ (names : List Text) (m : Name) where
   pub items_in-then : (ts : List Tree) (t : Tree) → items_in names m (forest_of (ts ++ t ∷ [])) ≡ items_then (items_in names m (forest_of ts)) (value_in names (node m) t)
@@ -66,21 +75,27 @@ module _ (names : List Text) (m : Name) where
   items_in-then [] t = refl
   items_in-then (u ∷ ts) t = ap (item (written (node m) (respell (name_in names) u))) (items_in-then ts t)
 
-  module _ {A : Type 0} (f : A → Tree) where
-    -- before the first turn
-    pub items-none : (xs : List A) (vs : List Piece) → vs ≡ [] → items_view vs ≡ items_in names m (forest_of (map f (take 0 xs)))
-    unfolding items_in
-    items-none xs vs is = ap items_view is
+  no-items : (vs : List Piece) → vs ≡ [] → items_view vs ≡ items_in names m (forest_of [])
+  unfolding items_in
+  no-items vs is = ap items_view is
+
+  -- the values of nodes that are written so far
+  module _ {A E : Type 0} (f : A → Tree) (xs : List A) where
+    abbrev pub AreItems : ℕ → Result (Vec Piece Global) E → Type 0
+    AreItems i list = IfOk list (λ vs. items_view vs.items ≡ items_in names m (forest_of (map f (take i xs))))
+
+    pub items-none : (list : Result (Vec Piece Global) E) → IfOk list (λ vs. vs.items ≡ []) → AreItems 0 list
+    items-none list empty = IfOk-weaker list _ _ (λ vs is. no-items vs.items is) empty
 
     -- a turn of the loop over nodes
-    pub items-turn : (xs : List A) (i : ℕ) (x : A) (vs grown : List Piece) (v : Piece) → i < length xs → x ≡ get_or xs i x → grown ≡ vs ++ v ∷ [] → items_view vs ≡ items_in names m (forest_of (map f (take i xs))) → piece_view v ≡ value_in names (node m) (f x) → items_view grown ≡ items_in names m (forest_of (map f (take (i + 1) xs)))
-    items-turn xs i x vs grown v within here is before_it this =
-        ap items_view is ∙ items_view-then vs v ∙ ap (λ ds. items_then ds (piece_view v)) before_it ∙ ap (items_then (items_in names m (forest_of (map f (take i xs))))) this
-        ∙ sym (items_in-then (map f (take i xs)) (f x)) ∙ ap (λ ts. items_in names m (forest_of ts)) (sym (map-then f (take i xs) x)) ∙ ap (λ ys. items_in names m (forest_of (map f ys))) (sym (take-then xs i x within here))
+    pub items-turn : (i : ℕ) (x : A) (d : Data) (more : Result (Vec Piece Global) E) → i < length xs → x ≡ get_or xs i x → d ≡ value_in names (node m) (f x) → IfOk more (λ vs. items_view vs.items ≡ items_then (items_in names m (forest_of (map f (take i xs)))) d) → AreItems (i + 1) more
+    items-turn i x d more within here this grown =
+        let same = ap (items_then (items_in names m (forest_of (map f (take i xs))))) this ∙ sym (items_in-then (map f (take i xs)) (f x)) ∙ ap (λ ts. items_in names m (forest_of ts)) (sym (map-then f (take i xs) x)) ∙ ap (λ ys. items_in names m (forest_of (map f ys))) (sym (take-then xs i x within here)) in
+        IfOk-weaker more _ _ (λ vs is. is ∙ same) grown
 
     -- after the last turn
-    pub items-whole : (xs ys : List A) (i : ℕ) (ds : Items) → xs ≡ ys → length xs ≤ i → ds ≡ items_in names m (forest_of (map f (take i xs))) → ds ≡ items_in names m (forest_of (map f ys))
-    items-whole xs ys i ds same all h = h ∙ ap (λ zs. items_in names m (forest_of (map f zs))) (take_all i xs all ∙ same)
+    pub items-whole : (ys : List A) (i : ℕ) (list : Result (Vec Piece Global) E) → xs ≡ ys → length xs ≤ i → AreItems i list → IfOk list (λ vs. items_view vs.items ≡ items_in names m (forest_of (map f ys)))
+    items-whole ys i list same all h = IfOk-weaker list _ _ (λ vs is. is ∙ ap (λ zs. items_in names m (forest_of (map f zs))) (take_all i xs all ∙ same)) h
 
   -- a node that has a span, by the node in it
   pub placed-value : {A : Type 0} (f : A → Tree) (k : Kind) (x : Spanned A) → value_in names (node m) (placed f k x) ≡ placed_in names m k (f x.node)

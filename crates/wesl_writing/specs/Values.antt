@@ -1,12 +1,12 @@
 -- What each node is written as, under a table of names.
-use Rattle.std.specs.Prelude.{ℕ, List, Option, codes}
-use Rattle.serde_json.specs.Data.{Data, array, string, object, Items, Members, no_members, put}
+use Rattle.std.specs.Prelude.{List, codes}
+use Rattle.serde_json.specs.Data.{Data, array, string, object, Items, item, no_items, Members, no_members, put}
 use Rattle.wesl_names.specs.Path.{Text}
-use Rattle.wesl_syntax.specs.Tree.{Kind, at, Tree, Forest, before, end, respell, respell_forest, expression_node, statement_node, attribute_node, member_node, import_node, directive_node, declaration_node}
+use Rattle.wesl_syntax.specs.Tree.{Kind, at, Tree, Forest, before, end, respell, respell_forest, expression_node, statement_node, attribute_node, declaration_node}
 use Rattle.wesl_syntax.specs.Unit.{name_in}
 use Rattle.wesl_syntax.specs.declared.declaration.DeclarationKind.{DeclarationKind}
 use Rattle.wesl_syntax.specs.declared.declaration.DeclarationKind.TheVariants as kinds
-use Rattle.wesl_form.specs.Schema.{Name, Form, Row, Words, SpelledLabel, leaf, node, may, nothing, a_path, an_expression, a_statement, an_attribute, a_member, an_import, a_directive, a_declaration}
+use Rattle.wesl_form.specs.Schema.{Name, Form, Row, Words, SpelledLabel, leaf, node, may, nothing, a_path, an_expression, a_statement, an_attribute, a_declaration}
 use Rattle.wesl_form.specs.Words.{assignment_words, binary_words}
 use Rattle.wesl_form.specs.Writing.{written, written_forest, put_list, word_of, text_or_null}
 use Rattle.wesl_form.specs.Nodes.{body_row, call_row, condition_row, space_row}
@@ -22,6 +22,11 @@ placed_in names m k t = written (node m) (respell (name_in names) (record { labe
 -- the trees of a list
 unfoldable pub items_in : List Text → Name → Forest → Items
 items_in names m ts = (written_forest (respell_forest (name_in names) ts)).items m
+
+-- the items, with d at the end
+abbrev pub items_then : Items → Data → Items
+items_then no_items d = item d no_items
+items_then (item e es) d = item e (items_then es d)
 
 -- the members, with d at k
 unfoldable pub with_member : Text → Data → Members → Members

@@ -12,7 +12,7 @@ ghost use Rattle.wesl_writing.specs.Values.{attribute_in, expression_in, items_i
 use crate::expression::{
     applied_object, expression_value, expression_values, with_optional_expression,
 };
-use crate::object::{Object, Written, WrittenList, text_value};
+use crate::object::{Object, Written, WrittenList, text_value, with_item};
 use std::alloc::Global;
 use wesl_names::Names;
 use wesl_syntax::{Attribute, Attributes, ExpressionNode};
@@ -25,11 +25,11 @@ pub(crate) fn attribute_values<'a>(
 ) -> WrittenList<'a>
     ensures { IfOk result (λ vs. items_view vs.items ≡ items_in names.now an_attribute (attributes_tree attributes.now).children) }
 {
-    let mut values = Vec::with_capacity(alloc, attributes.len())?;
+    let mut values = Vec::with_capacity(alloc, attributes.len());
     for attribute in attributes {
-        values.push(attribute_value(alloc, names, &attribute.node)?)?;
+        values = with_item(values, attribute_value(alloc, names, &attribute.node));
     }
-    Ok(values)
+    values
 }
 
 #[tactic(auto, unfolding(crate::specs::Values::placed_in, crate::specs::Values::with_member, crate::specs::Values::with_list, crate::specs::Values::with_option))]
@@ -111,11 +111,11 @@ fn interpolate_value<'a>(alloc: Global, texts: &'a Vec<String>) -> Written<'a>
 pub(crate) fn text_values<'a>(alloc: Global, texts: &'a Vec<String>) -> WrittenList<'a>
     ensures { IfOk result (λ vs. items_view vs.items ≡ texts_value (texts_of texts.now)) }
 {
-    let mut values = Vec::with_capacity(alloc, texts.len())?;
+    let mut values = Vec::with_capacity(alloc, texts.len());
     for text in texts {
-        values.push(text_value(text.as_str())?)?;
+        values = with_item(values, text_value(text.as_str()));
     }
-    Ok(values)
+    values
 }
 
 fn workgroup_value<'a>(

@@ -14,7 +14,7 @@ use crate::attribute::attribute_values;
 use crate::expression::{
     expression_value, type_value, with_optional_expression, with_optional_type,
 };
-use crate::object::{Object, Written, WrittenList, spelling};
+use crate::object::{Object, Written, WrittenList, spelling, with_item};
 use crate::statement::body_value;
 use crate::words::{access_word, space_word};
 use std::alloc::Global;
@@ -33,11 +33,11 @@ pub(crate) fn global_values<'a>(
 ) -> WrittenList<'a>
     ensures { IfOk result (λ vs. items_view vs.items ≡ items_in names.now a_declaration (declarations_tree declarations.now).children) }
 {
-    let mut values = Vec::with_capacity(alloc, declarations.len())?;
+    let mut values = Vec::with_capacity(alloc, declarations.len());
     for declaration in declarations {
-        values.push(global_value(alloc, names, &declaration.node)?)?;
+        values = with_item(values, global_value(alloc, names, &declaration.node));
     }
-    Ok(values)
+    values
 }
 
 /// The value of a declaration of a module.
@@ -164,11 +164,11 @@ fn member_values<'a>(
 ) -> WrittenList<'a>
     ensures { IfOk result (λ vs. items_view vs.items ≡ items_in names.now a_member (listed (placed member_view member_node) members_kind members.now).children) }
 {
-    let mut values = Vec::with_capacity(alloc, members.len())?;
+    let mut values = Vec::with_capacity(alloc, members.len());
     for member in members {
-        values.push(member_value(alloc, names, &member.node)?)?;
+        values = with_item(values, member_value(alloc, names, &member.node));
     }
-    Ok(values)
+    values
 }
 
 fn member_value<'a>(alloc: Global, names: &'a Names, member: &'a StructMember) -> Written<'a>
@@ -200,11 +200,11 @@ fn parameter_values<'a>(
 ) -> WrittenList<'a>
     ensures { IfOk result (λ vs. items_view vs.items ≡ items_in names.now a_parameter (listed parameter_view parameters_kind parameters.now).children) }
 {
-    let mut values = Vec::with_capacity(alloc, parameters.len())?;
+    let mut values = Vec::with_capacity(alloc, parameters.len());
     for parameter in parameters {
-        values.push(parameter_value(alloc, names, parameter)?)?;
+        values = with_item(values, parameter_value(alloc, names, parameter));
     }
-    Ok(values)
+    values
 }
 
 fn parameter_value<'a>(

@@ -12,7 +12,7 @@ ghost use Rattle.wesl_form.specs.Words.{unary_words};
 ghost use Rattle.wesl_writing.specs.Objects.{Holds};
 ghost use Rattle.wesl_writing.specs.Values.{argued, binary_object, call_members, expression_in, items_in, value_in, with_member, with_option, word_value, worded};
 
-use crate::object::{Object, Written, WrittenList, spelling, text_value};
+use crate::object::{Object, Written, WrittenList, spelling, text_value, with_item};
 use crate::words::{binary_word, unary_word};
 use std::alloc::{AllocError, Global};
 use wesl_names::{Ident, ModulePath, Names};
@@ -113,11 +113,11 @@ pub(crate) fn expression_values<'a>(
 ) -> WrittenList<'a>
     ensures { IfOk result (λ vs. items_view vs.items ≡ items_in names.now an_expression (listed expression_tree list nodes.now).children) }
 {
-    let mut values = Vec::with_capacity(alloc, nodes.len())?;
+    let mut values = Vec::with_capacity(alloc, nodes.len());
     for node in nodes {
-        values.push(expression_value(alloc, names, &node.node)?)?;
+        values = with_item(values, expression_value(alloc, names, &node.node));
     }
-    Ok(values)
+    values
 }
 
 /// The value of a type: its name, where it has no path and no arguments.
@@ -213,11 +213,14 @@ fn argument_values<'a>(
 ) -> WrittenList<'a>
     ensures { IfOk result (λ vs. items_view vs.items ≡ items_in names.now a_template_argument (listed argument_view list arguments.now).children) }
 {
-    let mut values = Vec::with_capacity(alloc, arguments.len())?;
+    let mut values = Vec::with_capacity(alloc, arguments.len());
     for argument in arguments {
-        values.push(expression_value(alloc, names, &argument.expression.node)?)?;
+        values = with_item(
+            values,
+            expression_value(alloc, names, &argument.expression.node),
+        );
     }
-    Ok(values)
+    values
 }
 
 /// The type at `ty`, an option.

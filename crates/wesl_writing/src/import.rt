@@ -10,7 +10,7 @@ ghost use Rattle.wesl_writing.specs.Values.{items_in, placed_in, value_in, with_
 
 use crate::attribute::{attribute_values, severity_object, text_values};
 use crate::expression::with_optional_path;
-use crate::object::{Object, Written, WrittenList, spelling};
+use crate::object::{Object, Written, WrittenList, spelling, with_item};
 use std::alloc::Global;
 use wesl_names::Names;
 use wesl_syntax::{
@@ -26,11 +26,11 @@ pub fn import_values<'a>(
 ) -> WrittenList<'a>
     ensures { IfOk result (λ vs. items_view vs.items ≡ items_in names.now an_import (imports_tree imports.now).children) }
 {
-    let mut values = Vec::with_capacity(alloc, imports.len())?;
+    let mut values = Vec::with_capacity(alloc, imports.len());
     for import in imports {
-        values.push(import_value(alloc, names, &import.node)?)?;
+        values = with_item(values, import_value(alloc, names, &import.node));
     }
-    Ok(values)
+    values
 }
 
 fn import_value<'a>(alloc: Global, names: &'a Names, import: &'a ImportStatement) -> Written<'a>
@@ -73,11 +73,11 @@ fn item_value<'a>(alloc: Global, names: &'a Names, item: &'a ImportItem) -> Writ
 fn entry_values<'a>(alloc: Global, names: &'a Names, entries: &'a Vec<Import>) -> WrittenList<'a>
     ensures { IfOk result (λ vs. items_view vs.items ≡ items_in names.now an_entry (listed entry_view list entries.now).children) }
 {
-    let mut values = Vec::with_capacity(alloc, entries.len())?;
+    let mut values = Vec::with_capacity(alloc, entries.len());
     for entry in entries {
-        values.push(entry_value(alloc, names, entry)?)?;
+        values = with_item(values, entry_value(alloc, names, entry));
     }
-    Ok(values)
+    values
 }
 
 #[cycle(writing)]
@@ -99,11 +99,11 @@ pub fn directive_values<'a>(
 ) -> WrittenList<'a>
     ensures { IfOk result (λ vs. items_view vs.items ≡ items_in names.now a_directive (directives_tree directives.now).children) }
 {
-    let mut values = Vec::with_capacity(alloc, directives.len())?;
+    let mut values = Vec::with_capacity(alloc, directives.len());
     for directive in directives {
-        values.push(directive_value(alloc, names, &directive.node)?)?;
+        values = with_item(values, directive_value(alloc, names, &directive.node));
     }
-    Ok(values)
+    values
 }
 
 #[tactic(auto, unfolding(crate::specs::Values::placed_in, crate::specs::Values::with_member, crate::specs::Values::with_list, crate::specs::Values::items_in))]

@@ -4,7 +4,7 @@ ghost use Rattle.serde_json.specs.Data.{Data, Items, Members, array, no_members,
 ghost use Rattle.wesl_piece.specs.View.{items_view, piece_view};
 ghost use Rattle.wesl_names.specs.Path.{Text};
 ghost use Rattle.wesl_syntax.specs.Unit.{name_in};
-ghost use Rattle.wesl_writing.specs.Values.{with_list, with_member, worded};
+ghost use Rattle.wesl_writing.specs.Values.{items_then, with_list, with_member, worded};
 
 use std::alloc::{AllocError, Global};
 use wesl_names::{Ident, Names};
@@ -129,4 +129,20 @@ pub(crate) fn text_value<'a>(text: &'a str) -> Written<'a>
     ensures { IfOk result (λ v. piece_view v ≡ string text.now) }
 {
     Ok(Piece::Text(text))
+}
+
+/// The list with a further piece, unless there is no memory for one of them.
+pub(crate) fn with_item<'a>(list: WrittenList<'a>, item: Written<'a>) -> WrittenList<'a>
+    ensures { (ds : Items) (d : Data) → IfOk list.entry (λ vs. items_view vs.items ≡ ds) → IfOk item.entry (λ v. piece_view v ≡ d) → IfOk result (λ vs. items_view vs.items ≡ items_then ds d) }
+{
+    match list {
+        Ok(mut list) => match item {
+            Ok(item) => match list.push(item) {
+                Ok(()) => Ok(list),
+                Err(_) => Err(AllocError),
+            },
+            Err(error) => Err(error),
+        },
+        Err(error) => Err(error),
+    }
 }

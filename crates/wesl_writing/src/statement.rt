@@ -12,7 +12,7 @@ ghost use Rattle.wesl_writing.specs.Values.{assigned, bare, body_members, call_m
 use crate::attribute::attribute_values;
 use crate::declaration::{assert_value, declaration_value, void_value};
 use crate::expression::{call_object, expression_value, with_optional_expression};
-use crate::object::{Object, Written, WrittenList};
+use crate::object::{Object, Written, WrittenList, with_item};
 use crate::words::assignment_word;
 use std::alloc::Global;
 use wesl_names::Names;
@@ -233,11 +233,11 @@ fn statement_values<'a>(
 ) -> WrittenList<'a>
     ensures { IfOk result (λ vs. items_view vs.items ≡ items_in names.now a_statement (listed statement_tree statements_kind nodes.now).children) }
 {
-    let mut values = Vec::with_capacity(alloc, nodes.len())?;
+    let mut values = Vec::with_capacity(alloc, nodes.len());
     for node in nodes {
-        values.push(statement_value(alloc, names, &node.node)?)?;
+        values = with_item(values, statement_value(alloc, names, &node.node));
     }
-    Ok(values)
+    values
 }
 
 // The object with a condition and the body that it decides on.
@@ -276,11 +276,11 @@ fn elif_values<'a>(
 ) -> WrittenList<'a>
     ensures { IfOk result (λ vs. items_view vs.items ≡ items_in names.now an_elif (listed else_if_view list clauses.now).children) }
 {
-    let mut values = Vec::with_capacity(alloc, clauses.len())?;
+    let mut values = Vec::with_capacity(alloc, clauses.len());
     for clause in clauses {
-        values.push(elif_value(alloc, names, clause)?)?;
+        values = with_item(values, elif_value(alloc, names, clause));
     }
-    Ok(values)
+    values
 }
 
 #[cycle(writing)]
@@ -326,11 +326,11 @@ fn clause_values<'a>(
 ) -> WrittenList<'a>
     ensures { IfOk result (λ vs. items_view vs.items ≡ items_in names.now a_clause (listed clause_view clauses_kind clauses.now).children) }
 {
-    let mut values = Vec::with_capacity(alloc, clauses.len())?;
+    let mut values = Vec::with_capacity(alloc, clauses.len());
     for clause in clauses {
-        values.push(clause_value(alloc, names, clause)?)?;
+        values = with_item(values, clause_value(alloc, names, clause));
     }
-    Ok(values)
+    values
 }
 
 #[cycle(writing)]
@@ -351,11 +351,11 @@ fn case_values<'a>(
 ) -> WrittenList<'a>
     ensures { IfOk result (λ vs. items_view vs.items ≡ items_in names.now a_case (listed selector_view list selectors.now).children) }
 {
-    let mut values = Vec::with_capacity(alloc, selectors.len())?;
+    let mut values = Vec::with_capacity(alloc, selectors.len());
     for selector in selectors {
-        values.push(case_value(alloc, names, selector)?)?;
+        values = with_item(values, case_value(alloc, names, selector));
     }
-    Ok(values)
+    values
 }
 
 fn case_value<'a>(alloc: Global, names: &'a Names, selector: &'a CaseSelector) -> Written<'a>

@@ -1,5 +1,4 @@
-use Rattle.std.proofs.Common.{◌≡◌, sym, ◌∙◌, rules}
-use Rattle.wesl_piece.specs.View.{items_view}
+use Rattle.std.proofs.Common.{sym}
 use Rattle.wesl_syntax.specs.Tree.{member_node}
 use Rattle.wesl_syntax.specs.View.{member_view, placed}
 use Rattle.wesl_form.specs.Schema.{a_member}
@@ -8,11 +7,12 @@ use Rattle.wesl_writing.proofs.declaration.member_values.Goals as goal
 
 pub loop-member-preserved : goal.loop-member-preserved
 loop-member-preserved c =
-    items-turn c.args.names.now a_member (placed member_view member_node) c.deref-member-items.result.now c.loop-member.member-index c.member-item.result c.loop-member.values.items c.push.new.self.items c.in_ok-member_value.field-0 (search rules) (search rules) (search rules) c.loop-member.invariant (c.in_ok-member_value.ensures ∙ sym (placed-value c.args.names.now a_member member_view member_node c.member-item.result))
+    items-turn c.args.names.now a_member (placed member_view member_node) c.deref-member-items.result.now c.loop-member.member-index c.member-item.result _ c.with_item-values.result c.loop-member-test.true c.member-item.is (sym (placed-value c.args.names.now a_member member_view member_node c.member-item.result)) (c.with_item-values.ensures _ _ c.loop-member.invariant c.member_value.ensures)
 
 pub returns : goal.returns
 returns c =
-    items-whole c.args.names.now a_member (placed member_view member_node) c.deref-member-items.result.now c.args.members.now.items c.loop-member.member-index (items_view c.loop-member.values.items) (search rules) (search rules) c.loop-member.invariant
+    items-whole c.args.names.now a_member (placed member_view member_node) c.deref-member-items.result.now c.args.members.now.items c.loop-member.member-index c.loop-member.values c.deref-member-items.ensures.value c.loop-member-test.false c.loop-member.invariant
 
 pub loop-member-init : goal.loop-member-init
-loop-member-init c = items-none c.args.names.now a_member (placed member_view member_node) c.deref-member-items.result.now c.in_ok-values.values.items (search rules)
+loop-member-init c =
+    items-none c.args.names.now a_member (placed member_view member_node) c.deref-member-items.result.now c.with_capacity-values.result c.with_capacity-values.ensures.items

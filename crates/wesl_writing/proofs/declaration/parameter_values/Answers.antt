@@ -1,17 +1,17 @@
-use Rattle.std.proofs.Common.{◌≡◌, sym, ◌∙◌, rules}
-use Rattle.wesl_piece.specs.View.{items_view}
+use Rattle.std.proofs.Common.{refl}
 use Rattle.wesl_syntax.specs.View.{parameter_view}
 use Rattle.wesl_form.specs.Schema.{a_parameter}
-use Rattle.wesl_writing.proofs.Lists.{items-none, items-turn, items-whole, placed-value}
+use Rattle.wesl_writing.proofs.Lists.{items-none, items-turn, items-whole}
 use Rattle.wesl_writing.proofs.declaration.parameter_values.Goals as goal
 
 pub loop-parameter-preserved : goal.loop-parameter-preserved
 loop-parameter-preserved c =
-    items-turn c.args.names.now a_parameter parameter_view c.deref-parameter-items.result.now c.loop-parameter.parameter-index c.parameter-item.result c.loop-parameter.values.items c.push.new.self.items c.in_ok-parameter_value.field-0 (search rules) (search rules) (search rules) c.loop-parameter.invariant (c.in_ok-parameter_value.ensures)
+    items-turn c.args.names.now a_parameter parameter_view c.deref-parameter-items.result.now c.loop-parameter.parameter-index c.parameter-item.result _ c.with_item-values.result c.loop-parameter-test.true c.parameter-item.is refl (c.with_item-values.ensures _ _ c.loop-parameter.invariant c.parameter_value.ensures)
 
 pub returns : goal.returns
 returns c =
-    items-whole c.args.names.now a_parameter parameter_view c.deref-parameter-items.result.now c.args.parameters.now.items c.loop-parameter.parameter-index (items_view c.loop-parameter.values.items) (search rules) (search rules) c.loop-parameter.invariant
+    items-whole c.args.names.now a_parameter parameter_view c.deref-parameter-items.result.now c.args.parameters.now.items c.loop-parameter.parameter-index c.loop-parameter.values c.deref-parameter-items.ensures.value c.loop-parameter-test.false c.loop-parameter.invariant
 
 pub loop-parameter-init : goal.loop-parameter-init
-loop-parameter-init c = items-none c.args.names.now a_parameter parameter_view c.deref-parameter-items.result.now c.in_ok-values.values.items (search rules)
+loop-parameter-init c =
+    items-none c.args.names.now a_parameter parameter_view c.deref-parameter-items.result.now c.with_capacity-values.result c.with_capacity-values.ensures.items

@@ -1,11 +1,11 @@
-use Rattle.std.proofs.Common.{◌≡◌, refl, Some, None, sym, ap, ◌∙◌, rules}
+use Rattle.std.proofs.Common.{refl, sym, ap, ◌∙◌, rules}
 use Rattle.std.proofs.lemmas.Result.{IfOk-weaker}
-use Rattle.wesl_piece.specs.View.{items_view, piece_view}
-use Rattle.wesl_syntax.specs.Tree.{expression_node, branch, template_argument}
+use Rattle.wesl_piece.specs.View.{piece_view}
+use Rattle.wesl_syntax.specs.Tree.{expression_node}
 use Rattle.wesl_syntax.specs.View.{argument_view, expression_tree, expression_view}
 use Rattle.wesl_syntax.specs.declared.expression.TemplateArg.{out-TemplateArg}
 use Rattle.wesl_form.specs.Schema.{a_template_argument, an_expression, node}
-use Rattle.wesl_writing.specs.Values.{value_in, expression_in}
+use Rattle.wesl_writing.specs.Values.{value_in}
 use Rattle.wesl_writing.proofs.Lists.{items-none, items-turn, items-whole, placed-value}
 use Rattle.wesl_writing.proofs.Objects.{holds-as}
 use Rattle.wesl_writing.proofs.Within.{written-argument}
@@ -50,28 +50,24 @@ type_value-returns-in-Some t c =
 
 pub argument_values-loop-argument-preserved : goal.argument_values-loop-argument-preserved
 argument_values-loop-argument-preserved t c =
-    let x = c.argument-item.result in
-    let names = c.args.names.now in
-    let inside : piece_view c.in_ok-expression_value.field-0 ≡ value_in names (node a_template_argument) (argument_view x) = c.in_ok-expression_value.ensures ∙ sym (ap (λ u. value_in names (node a_template_argument) u) (argument-parts x) ∙ written-argument names (out-TemplateArg x).expression) in
-    items-turn names a_template_argument argument_view c.deref-argument-items.result.now c.loop-argument.argument-index x c.loop-argument.values.items c.push.new.self.items c.in_ok-expression_value.field-0 (search rules) (search rules) (search rules) c.loop-argument.invariant inside
+    items-turn c.args.names.now a_template_argument argument_view c.deref-argument-items.result.now c.loop-argument.argument-index c.argument-item.result _ c.with_item-values.result c.loop-argument-test.true c.argument-item.is (sym (ap (λ u. value_in c.args.names.now (node a_template_argument) u) (argument-parts c.argument-item.result) ∙ written-argument c.args.names.now (out-TemplateArg c.argument-item.result).expression)) (c.with_item-values.ensures _ _ c.loop-argument.invariant c.expression_value.ensures)
 
 pub argument_values-returns : goal.argument_values-returns
 argument_values-returns t c =
-    items-whole c.args.names.now a_template_argument argument_view c.deref-argument-items.result.now c.args.arguments.now.items c.loop-argument.argument-index (items_view c.loop-argument.values.items) (search rules) (search rules) c.loop-argument.invariant
+    items-whole c.args.names.now a_template_argument argument_view c.deref-argument-items.result.now c.args.arguments.now.items c.loop-argument.argument-index c.loop-argument.values c.deref-argument-items.ensures.value c.loop-argument-test.false c.loop-argument.invariant
 
 pub expression_values-loop-node-preserved : goal.expression_values-loop-node-preserved
 expression_values-loop-node-preserved t c =
-    let x = c.node-item.result in
-    let names = c.args.names.now in
-    let inside : piece_view c.in_ok-expression_value.field-0 ≡ value_in names (node an_expression) (expression_tree x) = c.in_ok-expression_value.ensures ∙ sym (placed-value names an_expression expression_view expression_node x) in
-    items-turn names an_expression expression_tree c.deref-node-items.result.now c.loop-node.node-index x c.loop-node.values.items c.push.new.self.items c.in_ok-expression_value.field-0 (search rules) (search rules) (search rules) c.loop-node.invariant inside
+    items-turn c.args.names.now an_expression expression_tree c.deref-node-items.result.now c.loop-node.node-index c.node-item.result _ c.with_item-values.result c.loop-node-test.true c.node-item.is (sym (placed-value c.args.names.now an_expression expression_view expression_node c.node-item.result)) (c.with_item-values.ensures _ _ c.loop-node.invariant c.expression_value.ensures)
 
 pub expression_values-returns : goal.expression_values-returns
 expression_values-returns t c =
-    items-whole c.args.names.now an_expression expression_tree c.deref-node-items.result.now c.args.nodes.now.items c.loop-node.node-index (items_view c.loop-node.values.items) (search rules) (search rules) c.loop-node.invariant
+    items-whole c.args.names.now an_expression expression_tree c.deref-node-items.result.now c.args.nodes.now.items c.loop-node.node-index c.loop-node.values c.deref-node-items.ensures.value c.loop-node-test.false c.loop-node.invariant
 
 pub argument_values-loop-argument-init : goal.argument_values-loop-argument-init
-argument_values-loop-argument-init t c = items-none c.args.names.now a_template_argument argument_view c.deref-argument-items.result.now c.in_ok-values.values.items (search rules)
+argument_values-loop-argument-init t c =
+    items-none c.args.names.now a_template_argument argument_view c.deref-argument-items.result.now c.with_capacity-values.result c.with_capacity-values.ensures.items
 
 pub expression_values-loop-node-init : goal.expression_values-loop-node-init
-expression_values-loop-node-init t c = items-none c.args.names.now an_expression expression_tree c.deref-node-items.result.now c.in_ok-values.values.items (search rules)
+expression_values-loop-node-init t c =
+    items-none c.args.names.now an_expression expression_tree c.deref-node-items.result.now c.with_capacity-values.result c.with_capacity-values.ensures.items

@@ -1,6 +1,6 @@
 use Rattle.std.proofs.Common.{refl, rules}
 use Rattle.std.proofs.lemmas.Result.{IfOk-weaker}
-use Rattle.wesl_piece.specs.View.{items_view, piece_view}
+use Rattle.wesl_piece.specs.View.{piece_view}
 use Rattle.wesl_syntax.specs.View.{entry_view}
 use Rattle.wesl_form.specs.Schema.{an_entry}
 use Rattle.wesl_writing.proofs.Imports.{as-collection, as-entry}
@@ -16,11 +16,12 @@ entry_value-returns t c = IfOk-weaker c.finish.result _ _ (λ v h. as-entry c.ar
 
 pub entry_values-loop-entry-preserved : goal.entry_values-loop-entry-preserved
 entry_values-loop-entry-preserved t c =
-    items-turn c.args.names.now an_entry entry_view c.deref-entry-items.result.now c.loop-entry.entry-index c.entry-item.result c.loop-entry.values.items c.push.new.self.items c.in_ok-entry_value.field-0 (search rules) (search rules) (search rules) c.loop-entry.invariant c.in_ok-entry_value.ensures
+    items-turn c.args.names.now an_entry entry_view c.deref-entry-items.result.now c.loop-entry.entry-index c.entry-item.result _ c.with_item-values.result c.loop-entry-test.true c.entry-item.is refl (c.with_item-values.ensures _ _ c.loop-entry.invariant c.entry_value.ensures)
 
 pub entry_values-returns : goal.entry_values-returns
 entry_values-returns t c =
-    items-whole c.args.names.now an_entry entry_view c.deref-entry-items.result.now c.args.entries.now.items c.loop-entry.entry-index (items_view c.loop-entry.values.items) (search rules) (search rules) c.loop-entry.invariant
+    items-whole c.args.names.now an_entry entry_view c.deref-entry-items.result.now c.args.entries.now.items c.loop-entry.entry-index c.loop-entry.values c.deref-entry-items.ensures.value c.loop-entry-test.false c.loop-entry.invariant
 
 pub entry_values-loop-entry-init : goal.entry_values-loop-entry-init
-entry_values-loop-entry-init t c = items-none c.args.names.now an_entry entry_view c.deref-entry-items.result.now c.in_ok-values.values.items (search rules)
+entry_values-loop-entry-init t c =
+    items-none c.args.names.now an_entry entry_view c.deref-entry-items.result.now c.with_capacity-values.result c.with_capacity-values.ensures.items

@@ -1,7 +1,7 @@
-use Rattle.std.proofs.Common.{◌≡◌, codes, refl, sym, ◌∙◌, rules}
+use Rattle.std.proofs.Common.{codes, refl, sym, rules}
 use Rattle.std.proofs.lemmas.Result.{IfOk-weaker}
 use Rattle.std.specs.Box.{box_value}
-use Rattle.wesl_piece.specs.View.{items_view, piece_view}
+use Rattle.wesl_piece.specs.View.{piece_view}
 use Rattle.wesl_syntax.specs.Tree.{statement_node}
 use Rattle.wesl_syntax.specs.View.{clause_view, continuing_view, else_if_view, else_view, statement_tree, statement_view}
 use Rattle.wesl_form.specs.Schema.{a_clause, a_continuing, a_statement, an_elif, an_else, node}
@@ -120,33 +120,36 @@ with_optional_statement-returns-in-Some t c = λ ms held.
 
 pub statement_values-loop-node-preserved : goal.statement_values-loop-node-preserved
 statement_values-loop-node-preserved t c =
-    items-turn c.args.names.now a_statement statement_tree c.deref-node-items.result.now c.loop-node.node-index c.node-item.result c.loop-node.values.items c.push.new.self.items c.in_ok-statement_value.field-0 (search rules) (search rules) (search rules) c.loop-node.invariant (c.in_ok-statement_value.ensures ∙ sym (placed-value c.args.names.now a_statement statement_view statement_node c.node-item.result))
+    items-turn c.args.names.now a_statement statement_tree c.deref-node-items.result.now c.loop-node.node-index c.node-item.result _ c.with_item-values.result c.loop-node-test.true c.node-item.is (sym (placed-value c.args.names.now a_statement statement_view statement_node c.node-item.result)) (c.with_item-values.ensures _ _ c.loop-node.invariant c.statement_value.ensures)
 
 pub statement_values-returns : goal.statement_values-returns
 statement_values-returns t c =
-    items-whole c.args.names.now a_statement statement_tree c.deref-node-items.result.now c.args.nodes.now.items c.loop-node.node-index (items_view c.loop-node.values.items) (search rules) (search rules) c.loop-node.invariant
+    items-whole c.args.names.now a_statement statement_tree c.deref-node-items.result.now c.args.nodes.now.items c.loop-node.node-index c.loop-node.values c.deref-node-items.ensures.value c.loop-node-test.false c.loop-node.invariant
 
 pub elif_values-loop-clause-preserved : goal.elif_values-loop-clause-preserved
 elif_values-loop-clause-preserved t c =
-    items-turn c.args.names.now an_elif else_if_view c.deref-clause-items.result.now c.loop-clause.clause-index c.clause-item.result c.loop-clause.values.items c.push.new.self.items c.in_ok-elif_value.field-0 (search rules) (search rules) (search rules) c.loop-clause.invariant (c.in_ok-elif_value.ensures)
+    items-turn c.args.names.now an_elif else_if_view c.deref-clause-items.result.now c.loop-clause.clause-index c.clause-item.result _ c.with_item-values.result c.loop-clause-test.true c.clause-item.is refl (c.with_item-values.ensures _ _ c.loop-clause.invariant c.elif_value.ensures)
 
 pub elif_values-returns : goal.elif_values-returns
 elif_values-returns t c =
-    items-whole c.args.names.now an_elif else_if_view c.deref-clause-items.result.now c.args.clauses.now.items c.loop-clause.clause-index (items_view c.loop-clause.values.items) (search rules) (search rules) c.loop-clause.invariant
+    items-whole c.args.names.now an_elif else_if_view c.deref-clause-items.result.now c.args.clauses.now.items c.loop-clause.clause-index c.loop-clause.values c.deref-clause-items.ensures.value c.loop-clause-test.false c.loop-clause.invariant
 
 pub clause_values-loop-clause-preserved : goal.clause_values-loop-clause-preserved
 clause_values-loop-clause-preserved t c =
-    items-turn c.args.names.now a_clause clause_view c.deref-clause-items.result.now c.loop-clause.clause-index c.clause-item.result c.loop-clause.values.items c.push.new.self.items c.in_ok-clause_value.field-0 (search rules) (search rules) (search rules) c.loop-clause.invariant (c.in_ok-clause_value.ensures)
+    items-turn c.args.names.now a_clause clause_view c.deref-clause-items.result.now c.loop-clause.clause-index c.clause-item.result _ c.with_item-values.result c.loop-clause-test.true c.clause-item.is refl (c.with_item-values.ensures _ _ c.loop-clause.invariant c.clause_value.ensures)
 
 pub clause_values-returns : goal.clause_values-returns
 clause_values-returns t c =
-    items-whole c.args.names.now a_clause clause_view c.deref-clause-items.result.now c.args.clauses.now.items c.loop-clause.clause-index (items_view c.loop-clause.values.items) (search rules) (search rules) c.loop-clause.invariant
+    items-whole c.args.names.now a_clause clause_view c.deref-clause-items.result.now c.args.clauses.now.items c.loop-clause.clause-index c.loop-clause.values c.deref-clause-items.ensures.value c.loop-clause-test.false c.loop-clause.invariant
 
 pub statement_values-loop-node-init : goal.statement_values-loop-node-init
-statement_values-loop-node-init t c = items-none c.args.names.now a_statement statement_tree c.deref-node-items.result.now c.in_ok-values.values.items (search rules)
+statement_values-loop-node-init t c =
+    items-none c.args.names.now a_statement statement_tree c.deref-node-items.result.now c.with_capacity-values.result c.with_capacity-values.ensures.items
 
 pub elif_values-loop-clause-init : goal.elif_values-loop-clause-init
-elif_values-loop-clause-init t c = items-none c.args.names.now an_elif else_if_view c.deref-clause-items.result.now c.in_ok-values.values.items (search rules)
+elif_values-loop-clause-init t c =
+    items-none c.args.names.now an_elif else_if_view c.deref-clause-items.result.now c.with_capacity-values.result c.with_capacity-values.ensures.items
 
 pub clause_values-loop-clause-init : goal.clause_values-loop-clause-init
-clause_values-loop-clause-init t c = items-none c.args.names.now a_clause clause_view c.deref-clause-items.result.now c.in_ok-values.values.items (search rules)
+clause_values-loop-clause-init t c =
+    items-none c.args.names.now a_clause clause_view c.deref-clause-items.result.now c.with_capacity-values.result c.with_capacity-values.ensures.items

@@ -1,17 +1,17 @@
-use Rattle.std.proofs.Common.{◌≡◌, sym, ◌∙◌, rules}
-use Rattle.wesl_piece.specs.View.{items_view}
+use Rattle.std.proofs.Common.{refl}
 use Rattle.wesl_syntax.specs.View.{selector_view}
 use Rattle.wesl_form.specs.Schema.{a_case}
-use Rattle.wesl_writing.proofs.Lists.{items-none, items-turn, items-whole, placed-value}
+use Rattle.wesl_writing.proofs.Lists.{items-none, items-turn, items-whole}
 use Rattle.wesl_writing.proofs.statement.case_values.Goals as goal
 
 pub loop-selector-preserved : goal.loop-selector-preserved
 loop-selector-preserved c =
-    items-turn c.args.names.now a_case selector_view c.deref-selector-items.result.now c.loop-selector.selector-index c.selector-item.result c.loop-selector.values.items c.push.new.self.items c.in_ok-case_value.field-0 (search rules) (search rules) (search rules) c.loop-selector.invariant (c.in_ok-case_value.ensures)
+    items-turn c.args.names.now a_case selector_view c.deref-selector-items.result.now c.loop-selector.selector-index c.selector-item.result _ c.with_item-values.result c.loop-selector-test.true c.selector-item.is refl (c.with_item-values.ensures _ _ c.loop-selector.invariant c.case_value.ensures)
 
 pub returns : goal.returns
 returns c =
-    items-whole c.args.names.now a_case selector_view c.deref-selector-items.result.now c.args.selectors.now.items c.loop-selector.selector-index (items_view c.loop-selector.values.items) (search rules) (search rules) c.loop-selector.invariant
+    items-whole c.args.names.now a_case selector_view c.deref-selector-items.result.now c.args.selectors.now.items c.loop-selector.selector-index c.loop-selector.values c.deref-selector-items.ensures.value c.loop-selector-test.false c.loop-selector.invariant
 
 pub loop-selector-init : goal.loop-selector-init
-loop-selector-init c = items-none c.args.names.now a_case selector_view c.deref-selector-items.result.now c.in_ok-values.values.items (search rules)
+loop-selector-init c =
+    items-none c.args.names.now a_case selector_view c.deref-selector-items.result.now c.with_capacity-values.result c.with_capacity-values.ensures.items
