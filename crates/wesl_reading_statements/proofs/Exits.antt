@@ -1,19 +1,19 @@
 -- What is left to show where a list begins, and where a function of the cycle calls another.
-use Rattle.std.proofs.Common.{◌≡◌, ℕ, ◌+◌, ◌*◌, ◌<◌, List, [], Result, Vec, Global, map, sym, subst, refl, arith}
-use Rattle.std.specs.Prelude.{IfOk, IfErr, ltb, true, None}
+use Rattle.std.proofs.Common.{◌≡◌, ℕ, ◌+◌, ◌*◌, ◌<◌, List, [], Result, Vec, Global, map, sym, subst, refl, arith, codes, inl, inr}
+use Rattle.std.specs.Prelude.{IfOk, IfErr, ltb, true, false, None, Some}
 use borrow.Author.Tests.{ltb-true}
 use Rattle.serde_json.specs.Data.{Data}
 use Rattle.serde_json.specs.Find.{as_array, get}
 use Rattle.wesl_names.specs.Path.{Text}
 use Rattle.wesl_names.specs.declared.errors.Error as error
 use Rattle.wesl_form.specs.Nodes.{whole_form}
-use Rattle.wesl_form.specs.Place.{IsBroken}
-use Rattle.wesl_form.specs.Schema.{Name, list_of}
-use Rattle.wesl_reading.proofs.Places.{root}
+use Rattle.wesl_form.specs.Place.{IsBroken, field, fields, find_field}
+use Rattle.wesl_form.specs.Schema.{Name, Row, a_body, a_statement, an_expression, list_of, node}
+use Rattle.wesl_reading.proofs.Places.{root, row-inside, row-member}
 use Rattle.wesl_reading.proofs.Steps.{many-absent}
 use Rattle.wesl_reading.specs.Faults.{IsAtRoot, Locates, LocatesRow}
 use Rattle.wesl_reading.specs.Numbers.{ReadsMany}
-use Rattle.wesl_reading_statements.specs.Forms.{ReadsStatement, statement_worded}
+use Rattle.wesl_reading_statements.specs.Forms.{LocatesCondition, LocatesTurn, ReadsStatement, statement_worded}
 use Rattle.wesl_reading_statements.specs.declared.words.StatementWord.{StatementWord}
 use Rattle.wesl_syntax.specs.declared.statement.Statement.{Statement}
 use Rattle.wesl_syntax.specs.Tree.{Kind, Tree, branch}
@@ -33,6 +33,16 @@ module _ {A : Type 0} (f : A → Tree) (kd : Kind) (m : Name) (d : Data) (a : Li
 
 pub no_list : (kd : Kind) (m : Name) (d : Data) (e : error.Error) → as_array d ≡ None → IsAtRoot e → Locates (list_of kd m) d e
 no_list kd m d e none is = root (IsBroken whole_form (list_of kd m) d) e is ([], refl, none)
+
+-- a broken condition or block is a broken member of the row
+pub condition-place : (row : Row) (d : Data) (e : error.Error) → find_field (codes "cond") (fields row d) ≡ Some (field (codes "cond") true (node an_expression)) → find_field (codes "body") (fields row d) ≡ Some (field (codes "body") true (node a_body)) → LocatesCondition d e → LocatesRow row d e
+condition-place row d e cond body (inl h) = row-member row (codes "cond") (node an_expression) d e cond h
+condition-place row d e cond body (inr h) = row-member row (codes "body") (node a_body) d e body h
+
+pub turn-place : (row : Row) (d : Data) (e : error.Error) → find_field (codes "cond") (fields row d) ≡ Some (field (codes "cond") false (node an_expression)) → find_field (codes "update") (fields row d) ≡ Some (field (codes "update") false (node a_statement)) → find_field (codes "body") (fields row d) ≡ Some (field (codes "body") true (node a_body)) → LocatesTurn d e → LocatesRow row d e
+turn-place row d e cond update body (inl h) = row-inside row (codes "cond") false (node an_expression) d e cond h
+turn-place row d e cond update body (inr (inl h)) = row-inside row (codes "update") false (node a_statement) d e update h
+turn-place row d e cond update body (inr (inr h)) = row-member row (codes "body") (node a_body) d e body h
 
 -- what is read by one word is read by the word that is the same
 module _ (w v : StatementWord) (r : Result Statement error.Error) (d : Data) where

@@ -139,6 +139,18 @@ ReadsStatement w = ReadsWorded (statement_text w) (statement_head w) (statement_
 abbrev pub statement_worded : StatementWord → Row
 statement_worded w = worded_row (statement_text w) (statement_head w) (statement_row w)
 
+-- a condition lacks or is broken, or the block that it decides on
+abbrev pub LocatesCondition : Data → error.Error → Type 0
+LocatesCondition d e = LocatesMember (codes "cond") expression d e ⊎ LocatesMember (codes "body") (node a_body) d e
+
+-- the members that each turn of a `for` takes
+abbrev pub turn_members : Row
+turn_members = may (codes "cond") expression (may (codes "update") (node a_statement) (needs (codes "body") (node a_body) nothing))
+
+-- its condition is broken, or its update, or its block lacks or is broken
+abbrev pub LocatesTurn : Data → error.Error → Type 0
+LocatesTurn d e = LocatesInside (codes "cond") expression d e ⊎ LocatesInside (codes "update") (node a_statement) d e ⊎ LocatesMember (codes "body") (node a_body) d e
+
 -- ---- the values of `case`
 
 -- the word at `k` is `default`

@@ -4,12 +4,14 @@ ghost use Rattle.std.specs.Box.{box_value};
 ghost use Rattle.wesl_borrowed.specs.View.{borrowed_view};
 ghost use Rattle.wesl_syntax.specs.Tree.{clauses, list, statements};
 ghost use Rattle.wesl_syntax.specs.View.{clause_view, compound_view, continuing_view, else_if_view, else_view, listed, optional as option_view, statement_tree, statement_view};
+ghost use Rattle.wesl_form.specs.Nodes.{condition_row};
 ghost use Rattle.wesl_form.specs.Schema.{a_body, a_clause, a_continuing, a_statement, an_elif, an_else, list_of, node as node_form};
 ghost use Rattle.wesl_reading.specs.Faults.{Locates, LocatesInside, LocatesMember, LocatesRow};
 ghost use Rattle.wesl_reading.specs.Forms.{HasWord};
-ghost use Rattle.wesl_reading.specs.Numbers.{Reads, ReadsMany, ReadsMay, ReadsNeeded};
+ghost use Rattle.wesl_reading.specs.Numbers.{Reads, ReadsMany, ReadsMay, ReadsNeeded, ReadsRows};
 ghost use Rattle.wesl_reading_statements.specs.declared.words.StatementWord.TheVariants as stated;
-ghost use Rattle.wesl_reading_statements.specs.Forms.{ReadsStatement, statement_text, statement_worded};
+ghost use Rattle.wesl_reading_statements.specs.Forms.{LocatesCondition, LocatesTurn, ReadsStatement, statement_text, statement_worded, turn_members};
+ghost use Rattle.wesl_reading_statements.specs.Views.{condition_forest, turn_forest};
 
 use crate::declared::{read_declared, statement_of};
 use crate::selector::{cases_member, optional_break_if};
@@ -26,8 +28,8 @@ use wesl_reading::{
     unplaced, with_item, wrong,
 };
 use wesl_syntax::{
-    CompoundStatement, ContinuingStatement, ElseClause, ElseIfClause, IfClause, Statement,
-    StatementNode, SwitchClause,
+    CompoundStatement, ContinuingStatement, ElseClause, ElseIfClause, ExpressionNode, IfClause,
+    Statement, StatementNode, SwitchClause,
 };
 
 /// The statement that an object is, by its word at `k`.
@@ -132,18 +134,15 @@ fn read_if(
         return Err(wrong(alloc));
     }
     match attributes_member(alloc, numbering, value, "attrs") {
-        Ok(attributes) => match expression_member(alloc, numbering, value, "cond") {
-            Ok(expression) => match body_member(alloc, numbering, value) {
-                Ok(body) => match elifs_member(alloc, numbering, value) {
-                    Ok(else_if_clauses) => match optional_else(alloc, numbering, value) {
-                        Ok(else_clause) => Ok(Statement::If {
-                            attributes,
-                            if_clause: IfClause { expression, body },
-                            else_if_clauses,
-                            else_clause,
-                        }),
-                        Err(error) => Err(error),
-                    },
+        Ok(attributes) => match condition_parts(alloc, numbering, value) {
+            Ok((expression, body)) => match elifs_member(alloc, numbering, value) {
+                Ok(else_if_clauses) => match optional_else(alloc, numbering, value) {
+                    Ok(else_clause) => Ok(Statement::If {
+                        attributes,
+                        if_clause: IfClause { expression, body },
+                        else_if_clauses,
+                        else_clause,
+                    }),
                     Err(error) => Err(error),
                 },
                 Err(error) => Err(error),
@@ -228,20 +227,43 @@ fn read_for(
     }
     match attributes_member(alloc, numbering, value, "attrs") {
         Ok(attributes) => match optional_statement(alloc, numbering, value, "init") {
-            Ok(initializer) => match optional_expression(alloc, numbering, value, "cond") {
-                Ok(condition) => match optional_statement(alloc, numbering, value, "update") {
-                    Ok(update) => match body_member(alloc, numbering, value) {
-                        Ok(body) => Ok(Statement::For {
-                            attributes,
-                            initializer,
-                            condition,
-                            update,
-                            body,
-                        }),
-                        Err(error) => Err(error),
-                    },
-                    Err(error) => Err(error),
-                },
+            Ok(initializer) => match turn_parts(alloc, numbering, value) {
+                Ok((condition, update, body)) => Ok(Statement::For {
+                    attributes,
+                    initializer,
+                    condition,
+                    update,
+                    body,
+                }),
+                Err(error) => Err(error),
+            },
+            Err(error) => Err(error),
+        },
+        Err(error) => Err(error),
+    }
+}
+
+// The condition, the update and the block of a `for`, which each turn of it takes.
+#[cycle(statements)]
+fn turn_parts(
+    alloc: Global,
+    numbering: &mut Numbering,
+    value: &BorrowedValue<'_>,
+) -> Result<
+    (
+        Option<ExpressionNode>,
+        Option<Box<StatementNode>>,
+        CompoundStatement,
+    ),
+    Error,
+>
+    ensures ok { IfOk result (λ parts. ReadsRows turn_members (borrowed_view value.now) (turn_forest parts.0 parts.1 parts.2) numbering.old numbering.new) }
+    ensures place { IfErr result (LocatesTurn (borrowed_view value.now)) }
+{
+    match optional_expression(alloc, numbering, value, "cond") {
+        Ok(condition) => match optional_statement(alloc, numbering, value, "update") {
+            Ok(update) => match body_member(alloc, numbering, value) {
+                Ok(body) => Ok((condition, update, body)),
                 Err(error) => Err(error),
             },
             Err(error) => Err(error),
@@ -263,15 +285,31 @@ fn read_while(
         return Err(wrong(alloc));
     }
     match attributes_member(alloc, numbering, value, "attrs") {
-        Ok(attributes) => match expression_member(alloc, numbering, value, "cond") {
-            Ok(condition) => match body_member(alloc, numbering, value) {
-                Ok(body) => Ok(Statement::While {
-                    attributes,
-                    condition,
-                    body,
-                }),
-                Err(error) => Err(error),
-            },
+        Ok(attributes) => match condition_parts(alloc, numbering, value) {
+            Ok((condition, body)) => Ok(Statement::While {
+                attributes,
+                condition,
+                body,
+            }),
+            Err(error) => Err(error),
+        },
+        Err(error) => Err(error),
+    }
+}
+
+// The condition at `cond` and the block at `body`, which must both be there.
+#[cycle(statements)]
+fn condition_parts(
+    alloc: Global,
+    numbering: &mut Numbering,
+    value: &BorrowedValue<'_>,
+) -> Result<(ExpressionNode, CompoundStatement), Error>
+    ensures ok { IfOk result (λ parts. ReadsRows condition_row (borrowed_view value.now) (condition_forest parts.0 parts.1) numbering.old numbering.new) }
+    ensures place { IfErr result (LocatesCondition (borrowed_view value.now)) }
+{
+    match expression_member(alloc, numbering, value, "cond") {
+        Ok(condition) => match body_member(alloc, numbering, value) {
+            Ok(body) => Ok((condition, body)),
             Err(error) => Err(error),
         },
         Err(error) => Err(error),
@@ -432,15 +470,12 @@ fn read_elif(
         return Err(wrong(alloc));
     }
     match attributes_member(alloc, numbering, value, "attrs") {
-        Ok(attributes) => match expression_member(alloc, numbering, value, "cond") {
-            Ok(expression) => match body_member(alloc, numbering, value) {
-                Ok(body) => Ok(ElseIfClause {
-                    attributes,
-                    expression,
-                    body,
-                }),
-                Err(error) => Err(error),
-            },
+        Ok(attributes) => match condition_parts(alloc, numbering, value) {
+            Ok((expression, body)) => Ok(ElseIfClause {
+                attributes,
+                expression,
+                body,
+            }),
             Err(error) => Err(error),
         },
         Err(error) => Err(error),

@@ -1,8 +1,8 @@
-use Rattle.wesl_reading_statements.proofs.Exits.{no_list, none_listed, same_word, same_word_place, to_member, to_next}
+use Rattle.wesl_reading_statements.proofs.Exits.{condition-place, no_list, none_listed, same_word, same_word_place, to_member, to_next, turn-place}
 use Rattle.serde_json.specs.Data.{depth, items_depth}
 use Rattle.serde_json.specs.Find.{as_array, get}
 use Rattle.wesl_borrowed.specs.View.{borrowed_view, items_view}
-use Rattle.std.proofs.Common.{Some, ap, ◌∙◌, arith, codes, false, refl, subst, sym, true, ◌<◌, ◌≡◌, ◌≤◌}
+use Rattle.std.proofs.Common.{Some, ap, ◌∙◌, arith, codes, false, inl, inr, refl, subst, sym, true, ◌<◌, ◌≡◌, ◌≤◌}
 use Rattle.wesl_form.specs.Nodes.{attrs, body_row, condition_row}
 use Rattle.wesl_form.specs.Reading.{known_keys}
 use Rattle.wesl_pointer.specs.Keys.{has_only}
@@ -217,10 +217,6 @@ pub read_continuing-body_member-requires : goal.read_continuing-body_member-requ
 read_continuing-body_member-requires t c =
     (to_next (depth (borrowed_view c.args.value.now)) 3 7 t c.decreases refl, tt)
 
-pub read_elif-body_member-requires : goal.read_elif-body_member-requires
-read_elif-body_member-requires t c =
-    (to_next (depth (borrowed_view c.args.value.now)) 3 7 t c.decreases refl, tt)
-
 pub read_elifs-returns-in_default-clause-place : goal.read_elifs-returns-in_default-clause-place
 read_elifs-returns-in_default-clause-place t c =
     no_list list an_elif (borrowed_view c.args.value.now) c.wrong.result (sym c.in_default.ensures) c.wrong.ensures
@@ -231,18 +227,6 @@ read_else-body_member-requires t c =
 
 pub read_for-optional_statement-requires : goal.read_for-optional_statement-requires
 read_for-optional_statement-requires t c =
-    (to_next (depth (borrowed_view c.args.value.now)) 3 7 t c.decreases refl, tt)
-
-pub read_for-optional_statement-requires-in-Ok-optional_expression : goal.read_for-optional_statement-requires-in-Ok-optional_expression
-read_for-optional_statement-requires-in-Ok-optional_expression t c =
-    (to_next (depth (borrowed_view c.args.value.now)) 3 7 t c.decreases refl, tt)
-
-pub read_for-body_member-requires : goal.read_for-body_member-requires
-read_for-body_member-requires t c =
-    (to_next (depth (borrowed_view c.args.value.now)) 3 7 t c.decreases refl, tt)
-
-pub read_if-body_member-requires : goal.read_if-body_member-requires
-read_if-body_member-requires t c =
     (to_next (depth (borrowed_view c.args.value.now)) 3 7 t c.decreases refl, tt)
 
 pub read_if-elifs_member-requires : goal.read_if-elifs_member-requires
@@ -271,10 +255,6 @@ read_statements-returns-in_default-clause-place t c =
 
 pub read_switch-clauses_member-requires : goal.read_switch-clauses_member-requires
 read_switch-clauses_member-requires t c =
-    (to_next (depth (borrowed_view c.args.value.now)) 3 7 t c.decreases refl, tt)
-
-pub read_while-body_member-requires : goal.read_while-body_member-requires
-read_while-body_member-requires t c =
     (to_next (depth (borrowed_view c.args.value.now)) 3 7 t c.decreases refl, tt)
 
 pub read_worded-read_block-requires : goal.read_worded-read_block-requires
@@ -461,16 +441,6 @@ read_if-returns-in-Err-clause-place t c =
     let d = borrowed_view c.args.value.now in
     row-inside (statement_worded stated.If) (codes "attrs") false (list_of attributes an_attribute) d c.in-Err.error refl c.in-Err.ensures.place
 
-pub read_if-returns-in-Err-expression_member-clause-place : goal.read_if-returns-in-Err-expression_member-clause-place
-read_if-returns-in-Err-expression_member-clause-place t c =
-    let d = borrowed_view c.args.value.now in
-    row-member (statement_worded stated.If) (codes "cond") (node an_expression) d c.in-Err-expression_member.error refl c.in-Err-expression_member.ensures.place
-
-pub read_if-returns-in-Err-body_member-clause-place : goal.read_if-returns-in-Err-body_member-clause-place
-read_if-returns-in-Err-body_member-clause-place t c =
-    let d = borrowed_view c.args.value.now in
-    row-member (statement_worded stated.If) (codes "body") (node a_body) d c.in-Err-body_member.error refl c.in-Err-body_member.ensures.place
-
 pub read_if-returns-in-Err-elifs_member-clause-place : goal.read_if-returns-in-Err-elifs_member-clause-place
 read_if-returns-in-Err-elifs_member-clause-place t c =
     let d = borrowed_view c.args.value.now in
@@ -480,17 +450,6 @@ pub read_if-returns-in-Err-optional_else-clause-place : goal.read_if-returns-in-
 read_if-returns-in-Err-optional_else-clause-place t c =
     let d = borrowed_view c.args.value.now in
     row-inside (statement_worded stated.If) (codes "else") false (node an_else) d c.in-Err-optional_else.error refl c.in-Err-optional_else.ensures.place
-
-pub read_if-returns-in-Ok-optional_else-clause-ok : goal.read_if-returns-in-Ok-optional_else-clause-ok
-read_if-returns-in-Ok-optional_else-clause-ok t c =
-    let d = borrowed_view c.args.value.now in
-    let attributes_read = c.in-Ok.ensures.ok in
-    let expression_read = c.in-Ok-expression_member.ensures.ok in
-    let body_read = c.in-Ok-body_member.ensures.ok in
-    let else_if_clauses_read = c.in-Ok-elifs_member.ensures.ok in
-    let else_clause_read = c.in-Ok-optional_else.ensures.ok in
-    let known : has_only (known_keys (statement_worded stated.If) d) d ≡ true = sym c.has_only.ensures ∙ c.if-not-has_only.false in
-    same-worded (worded-reads known (plain-kind if_statement) refl (many-then attributes_read (inner-then (plain-kind if_clause) refl (needs-then expression_read (needs-then body_read (none-then d _))) (many-then else_if_clauses_read (may-then else_clause_read (none-then d _)))))) (sym (view-if c.in-Ok.attributes c.in-Ok-expression_member.expression c.in-Ok-body_member.body c.in-Ok-elifs_member.else_if_clauses c.in-Ok-optional_else.else_clause))
 
 pub read_switch-returns-then-not-has_only-clause-place : goal.read_switch-returns-then-not-has_only-clause-place
 read_switch-returns-then-not-has_only-clause-place t c =
@@ -574,32 +533,6 @@ read_for-returns-in-Err-optional_statement-clause-place t c =
     let d = borrowed_view c.args.value.now in
     row-inside (statement_worded stated.For) (codes "init") false (node a_statement) d c.in-Err-optional_statement.error refl c.in-Err-optional_statement.ensures.place
 
-pub read_for-returns-in-Err-optional_expression-clause-place : goal.read_for-returns-in-Err-optional_expression-clause-place
-read_for-returns-in-Err-optional_expression-clause-place t c =
-    let d = borrowed_view c.args.value.now in
-    row-inside (statement_worded stated.For) (codes "cond") false (node an_expression) d c.in-Err-optional_expression.error refl c.in-Err-optional_expression.ensures.place
-
-pub read_for-returns-in-Err-optional_statement-2-clause-place : goal.read_for-returns-in-Err-optional_statement-2-clause-place
-read_for-returns-in-Err-optional_statement-2-clause-place t c =
-    let d = borrowed_view c.args.value.now in
-    row-inside (statement_worded stated.For) (codes "update") false (node a_statement) d c.in-Err-optional_statement-2.error refl c.in-Err-optional_statement-2.ensures.place
-
-pub read_for-returns-in-Err-body_member-clause-place : goal.read_for-returns-in-Err-body_member-clause-place
-read_for-returns-in-Err-body_member-clause-place t c =
-    let d = borrowed_view c.args.value.now in
-    row-member (statement_worded stated.For) (codes "body") (node a_body) d c.in-Err-body_member.error refl c.in-Err-body_member.ensures.place
-
-pub read_for-returns-in-Ok-body_member-clause-ok : goal.read_for-returns-in-Ok-body_member-clause-ok
-read_for-returns-in-Ok-body_member-clause-ok t c =
-    let d = borrowed_view c.args.value.now in
-    let attributes_read = c.in-Ok.ensures.ok in
-    let initializer_read = c.in-Ok-optional_statement.ensures.ok in
-    let condition_read = c.in-Ok-optional_expression.ensures.ok in
-    let update_read = c.in-Ok-optional_statement-2.ensures.ok in
-    let body_read = c.in-Ok-body_member.ensures.ok in
-    let known : has_only (known_keys (statement_worded stated.For) d) d ≡ true = sym c.has_only.ensures ∙ c.if-not-has_only.false in
-    same-worded (worded-reads known (plain-kind for_loop) refl (many-then attributes_read (may-then initializer_read (may-then condition_read (may-then update_read (needs-then body_read (none-then d _))))))) (sym (view-for c.in-Ok.attributes c.in-Ok-optional_statement.initializer c.in-Ok-optional_expression.condition c.in-Ok-optional_statement-2.update c.in-Ok-body_member.body))
-
 pub read_while-returns-then-not-has_only-clause-place : goal.read_while-returns-then-not-has_only-clause-place
 read_while-returns-then-not-has_only-clause-place t c =
     let d = borrowed_view c.args.value.now in
@@ -610,25 +543,6 @@ pub read_while-returns-in-Err-clause-place : goal.read_while-returns-in-Err-clau
 read_while-returns-in-Err-clause-place t c =
     let d = borrowed_view c.args.value.now in
     row-inside (statement_worded stated.While) (codes "attrs") false (list_of attributes an_attribute) d c.in-Err.error refl c.in-Err.ensures.place
-
-pub read_while-returns-in-Err-expression_member-clause-place : goal.read_while-returns-in-Err-expression_member-clause-place
-read_while-returns-in-Err-expression_member-clause-place t c =
-    let d = borrowed_view c.args.value.now in
-    row-member (statement_worded stated.While) (codes "cond") (node an_expression) d c.in-Err-expression_member.error refl c.in-Err-expression_member.ensures.place
-
-pub read_while-returns-in-Err-body_member-clause-place : goal.read_while-returns-in-Err-body_member-clause-place
-read_while-returns-in-Err-body_member-clause-place t c =
-    let d = borrowed_view c.args.value.now in
-    row-member (statement_worded stated.While) (codes "body") (node a_body) d c.in-Err-body_member.error refl c.in-Err-body_member.ensures.place
-
-pub read_while-returns-in-Ok-body_member-clause-ok : goal.read_while-returns-in-Ok-body_member-clause-ok
-read_while-returns-in-Ok-body_member-clause-ok t c =
-    let d = borrowed_view c.args.value.now in
-    let attributes_read = c.in-Ok.ensures.ok in
-    let condition_read = c.in-Ok-expression_member.ensures.ok in
-    let body_read = c.in-Ok-body_member.ensures.ok in
-    let known : has_only (known_keys (statement_worded stated.While) d) d ≡ true = sym c.has_only.ensures ∙ c.if-not-has_only.false in
-    same-worded (worded-reads known (plain-kind while_loop) refl (many-then attributes_read (needs-then condition_read (needs-then body_read (none-then d _))))) (sym (view-while c.in-Ok.attributes c.in-Ok-expression_member.condition c.in-Ok-body_member.body))
 
 pub read_body-returns-then-not-has_only-clause-place : goal.read_body-returns-then-not-has_only-clause-place
 read_body-returns-then-not-has_only-clause-place t c =
@@ -667,27 +581,6 @@ read_elif-returns-in-Err-clause-place t c =
     let d = borrowed_view c.args.value.now in
     let known : has_only (known_keys (attrs condition_row) d) d ≡ true = sym c.has_only.ensures ∙ c.if-not-has_only.false in
     bare-place an_elif else_if_clause (attrs condition_row) d refl c.in-Err.error known (row-inside (attrs condition_row) (codes "attrs") false (list_of attributes an_attribute) d c.in-Err.error refl c.in-Err.ensures.place)
-
-pub read_elif-returns-in-Err-expression_member-clause-place : goal.read_elif-returns-in-Err-expression_member-clause-place
-read_elif-returns-in-Err-expression_member-clause-place t c =
-    let d = borrowed_view c.args.value.now in
-    let known : has_only (known_keys (attrs condition_row) d) d ≡ true = sym c.has_only.ensures ∙ c.if-not-has_only.false in
-    bare-place an_elif else_if_clause (attrs condition_row) d refl c.in-Err-expression_member.error known (row-member (attrs condition_row) (codes "cond") (node an_expression) d c.in-Err-expression_member.error refl c.in-Err-expression_member.ensures.place)
-
-pub read_elif-returns-in-Err-body_member-clause-place : goal.read_elif-returns-in-Err-body_member-clause-place
-read_elif-returns-in-Err-body_member-clause-place t c =
-    let d = borrowed_view c.args.value.now in
-    let known : has_only (known_keys (attrs condition_row) d) d ≡ true = sym c.has_only.ensures ∙ c.if-not-has_only.false in
-    bare-place an_elif else_if_clause (attrs condition_row) d refl c.in-Err-body_member.error known (row-member (attrs condition_row) (codes "body") (node a_body) d c.in-Err-body_member.error refl c.in-Err-body_member.ensures.place)
-
-pub read_elif-returns-in-Ok-body_member-clause-ok : goal.read_elif-returns-in-Ok-body_member-clause-ok
-read_elif-returns-in-Ok-body_member-clause-ok t c =
-    let d = borrowed_view c.args.value.now in
-    let attributes_read = c.in-Ok.ensures.ok in
-    let expression_read = c.in-Ok-expression_member.ensures.ok in
-    let body_read = c.in-Ok-body_member.ensures.ok in
-    let known : has_only (known_keys (attrs condition_row) d) d ≡ true = sym c.has_only.ensures ∙ c.if-not-has_only.false in
-    same-reads (bare-reads an_elif else_if_clause (attrs condition_row) d refl _ _ _ known (many-then attributes_read (needs-then expression_read (needs-then body_read (none-then d _))))) (sym (made-elif c.in-Ok.attributes c.in-Ok-expression_member.expression c.in-Ok-body_member.body))
 
 pub read_else-returns-then-not-has_only-clause-place : goal.read_else-returns-then-not-has_only-clause-place
 read_else-returns-then-not-has_only-clause-place t c =
@@ -856,3 +749,115 @@ read_statement-returns-in-Err-read_worded-clause-place t c =
 
 pub read_statement-returns-in-Err-clause-place : goal.read_statement-returns-in-Err-clause-place
 read_statement-returns-in-Err-clause-place t c = c.in-Err.ensures.place
+
+pub condition_parts-body_member-requires : goal.condition_parts-body_member-requires
+condition_parts-body_member-requires t c =
+    (to_next (depth (borrowed_view c.args.value.now)) 3 5 t c.decreases refl, tt)
+
+pub condition_parts-returns-in-Err-clause-place : goal.condition_parts-returns-in-Err-clause-place
+condition_parts-returns-in-Err-clause-place t c =
+    inl c.in-Err.ensures.place
+
+pub condition_parts-returns-in-Err-body_member-clause-place : goal.condition_parts-returns-in-Err-body_member-clause-place
+condition_parts-returns-in-Err-body_member-clause-place t c =
+    inr c.in-Err-body_member.ensures.place
+
+pub condition_parts-returns-in-Ok-body_member-clause-ok : goal.condition_parts-returns-in-Ok-body_member-clause-ok
+condition_parts-returns-in-Ok-body_member-clause-ok t c =
+    needs-then c.in-Ok.ensures.ok (needs-then c.in-Ok-body_member.ensures.ok (none-then (borrowed_view c.args.value.now) _))
+
+pub turn_parts-optional_statement-requires : goal.turn_parts-optional_statement-requires
+turn_parts-optional_statement-requires t c =
+    (to_next (depth (borrowed_view c.args.value.now)) 3 5 t c.decreases refl, tt)
+
+pub turn_parts-body_member-requires : goal.turn_parts-body_member-requires
+turn_parts-body_member-requires t c =
+    (to_next (depth (borrowed_view c.args.value.now)) 3 5 t c.decreases refl, tt)
+
+pub turn_parts-returns-in-Err-clause-place : goal.turn_parts-returns-in-Err-clause-place
+turn_parts-returns-in-Err-clause-place t c =
+    inl c.in-Err.ensures.place
+
+pub turn_parts-returns-in-Err-optional_statement-clause-place : goal.turn_parts-returns-in-Err-optional_statement-clause-place
+turn_parts-returns-in-Err-optional_statement-clause-place t c =
+    inr (inl c.in-Err-optional_statement.ensures.place)
+
+pub turn_parts-returns-in-Err-body_member-clause-place : goal.turn_parts-returns-in-Err-body_member-clause-place
+turn_parts-returns-in-Err-body_member-clause-place t c =
+    inr (inr c.in-Err-body_member.ensures.place)
+
+pub turn_parts-returns-in-Ok-body_member-clause-ok : goal.turn_parts-returns-in-Ok-body_member-clause-ok
+turn_parts-returns-in-Ok-body_member-clause-ok t c =
+    may-then c.in-Ok.ensures.ok (may-then c.in-Ok-optional_statement.ensures.ok (needs-then c.in-Ok-body_member.ensures.ok (none-then (borrowed_view c.args.value.now) _)))
+
+pub read_if-condition_parts-requires : goal.read_if-condition_parts-requires
+read_if-condition_parts-requires t c =
+    (to_next (depth (borrowed_view c.args.value.now)) 5 7 t c.decreases refl, tt)
+
+pub read_while-condition_parts-requires : goal.read_while-condition_parts-requires
+read_while-condition_parts-requires t c =
+    (to_next (depth (borrowed_view c.args.value.now)) 5 7 t c.decreases refl, tt)
+
+pub read_elif-condition_parts-requires : goal.read_elif-condition_parts-requires
+read_elif-condition_parts-requires t c =
+    (to_next (depth (borrowed_view c.args.value.now)) 5 7 t c.decreases refl, tt)
+
+pub read_for-turn_parts-requires : goal.read_for-turn_parts-requires
+read_for-turn_parts-requires t c =
+    (to_next (depth (borrowed_view c.args.value.now)) 5 7 t c.decreases refl, tt)
+
+pub read_if-returns-in-Err-condition_parts-clause-place : goal.read_if-returns-in-Err-condition_parts-clause-place
+read_if-returns-in-Err-condition_parts-clause-place t c =
+    let d = borrowed_view c.args.value.now in
+    condition-place (statement_worded stated.If) d c.in-Err-condition_parts.error refl refl c.in-Err-condition_parts.ensures.place
+
+pub read_while-returns-in-Err-condition_parts-clause-place : goal.read_while-returns-in-Err-condition_parts-clause-place
+read_while-returns-in-Err-condition_parts-clause-place t c =
+    let d = borrowed_view c.args.value.now in
+    condition-place (statement_worded stated.While) d c.in-Err-condition_parts.error refl refl c.in-Err-condition_parts.ensures.place
+
+pub read_if-returns-in-Ok-optional_else-clause-ok : goal.read_if-returns-in-Ok-optional_else-clause-ok
+read_if-returns-in-Ok-optional_else-clause-ok t c =
+    let d = borrowed_view c.args.value.now in
+    let attributes_read = c.in-Ok.ensures.ok in
+    let condition_read = c.in-Ok-condition_parts.ensures.ok in
+    let else_if_clauses_read = c.in-Ok-elifs_member.ensures.ok in
+    let else_clause_read = c.in-Ok-optional_else.ensures.ok in
+    let known : has_only (known_keys (statement_worded stated.If) d) d ≡ true = sym c.has_only.ensures ∙ c.if-not-has_only.false in
+    same-worded (worded-reads known (plain-kind if_statement) refl (many-then attributes_read (inner-then (plain-kind if_clause) refl condition_read (many-then else_if_clauses_read (may-then else_clause_read (none-then d _)))))) (sym (view-if c.in-Ok.attributes c.in-Ok-condition_parts.expression c.in-Ok-condition_parts.body c.in-Ok-elifs_member.else_if_clauses c.in-Ok-optional_else.else_clause))
+
+pub read_while-returns-in-Ok-condition_parts-clause-ok : goal.read_while-returns-in-Ok-condition_parts-clause-ok
+read_while-returns-in-Ok-condition_parts-clause-ok t c =
+    let d = borrowed_view c.args.value.now in
+    let attributes_read = c.in-Ok.ensures.ok in
+    let condition_read = c.in-Ok-condition_parts.ensures.ok in
+    let known : has_only (known_keys (statement_worded stated.While) d) d ≡ true = sym c.has_only.ensures ∙ c.if-not-has_only.false in
+    same-worded (worded-reads known (plain-kind while_loop) refl (many-then attributes_read condition_read)) (sym (view-while c.in-Ok.attributes c.in-Ok-condition_parts.condition c.in-Ok-condition_parts.body))
+
+pub read_for-returns-in-Err-turn_parts-clause-place : goal.read_for-returns-in-Err-turn_parts-clause-place
+read_for-returns-in-Err-turn_parts-clause-place t c =
+    let d = borrowed_view c.args.value.now in
+    turn-place (statement_worded stated.For) d c.in-Err-turn_parts.error refl refl refl c.in-Err-turn_parts.ensures.place
+
+pub read_for-returns-in-Ok-turn_parts-clause-ok : goal.read_for-returns-in-Ok-turn_parts-clause-ok
+read_for-returns-in-Ok-turn_parts-clause-ok t c =
+    let d = borrowed_view c.args.value.now in
+    let attributes_read = c.in-Ok.ensures.ok in
+    let initializer_read = c.in-Ok-optional_statement.ensures.ok in
+    let turn_read = c.in-Ok-turn_parts.ensures.ok in
+    let known : has_only (known_keys (statement_worded stated.For) d) d ≡ true = sym c.has_only.ensures ∙ c.if-not-has_only.false in
+    same-worded (worded-reads known (plain-kind for_loop) refl (many-then attributes_read (may-then initializer_read turn_read))) (sym (view-for c.in-Ok.attributes c.in-Ok-optional_statement.initializer c.in-Ok-turn_parts.condition c.in-Ok-turn_parts.update c.in-Ok-turn_parts.body))
+
+pub read_elif-returns-in-Err-condition_parts-clause-place : goal.read_elif-returns-in-Err-condition_parts-clause-place
+read_elif-returns-in-Err-condition_parts-clause-place t c =
+    let d = borrowed_view c.args.value.now in
+    let known : has_only (known_keys (attrs condition_row) d) d ≡ true = sym c.has_only.ensures ∙ c.if-not-has_only.false in
+    bare-place an_elif else_if_clause (attrs condition_row) d refl c.in-Err-condition_parts.error known (condition-place (attrs condition_row) d c.in-Err-condition_parts.error refl refl c.in-Err-condition_parts.ensures.place)
+
+pub read_elif-returns-in-Ok-condition_parts-clause-ok : goal.read_elif-returns-in-Ok-condition_parts-clause-ok
+read_elif-returns-in-Ok-condition_parts-clause-ok t c =
+    let d = borrowed_view c.args.value.now in
+    let attributes_read = c.in-Ok.ensures.ok in
+    let condition_read = c.in-Ok-condition_parts.ensures.ok in
+    let known : has_only (known_keys (attrs condition_row) d) d ≡ true = sym c.has_only.ensures ∙ c.if-not-has_only.false in
+    same-reads (bare-reads an_elif else_if_clause (attrs condition_row) d refl _ _ _ known (many-then attributes_read condition_read)) (sym (made-elif c.in-Ok.attributes c.in-Ok-condition_parts.expression c.in-Ok-condition_parts.body))

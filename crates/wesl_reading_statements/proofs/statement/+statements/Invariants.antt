@@ -46,6 +46,12 @@ decreases-read_clause l = 10 * depth (borrowed_view l.value.now) + 7
 abbrev pub decreases-read_continuing : goal.decreases-read_continuing
 decreases-read_continuing l = 10 * depth (borrowed_view l.value.now) + 7
 
+abbrev pub decreases-condition_parts : goal.decreases-condition_parts
+decreases-condition_parts l = 10 * depth (borrowed_view l.value.now) + 5
+
+abbrev pub decreases-turn_parts : goal.decreases-turn_parts
+decreases-turn_parts l = 10 * depth (borrowed_view l.value.now) + 5
+
 abbrev pub decreases-body_member : goal.decreases-body_member
 decreases-body_member l = 10 * depth (borrowed_view l.value.now) + 3
 
