@@ -1,12 +1,17 @@
 //! JSON values that are read, in a light form: their texts are borrowed, and the members of an object stand as they came.
+//! Places in such values as JSON Pointers (RFC 6901), and the keys of their objects.
 #![tactic(auto)]
 
 mod copy;
+mod keys;
 mod members;
 mod of_value;
+mod pointer;
 mod to_value;
 mod value;
 
+pub use keys::has_only;
 pub use of_value::borrowed_of_value;
+pub use pointer::{under_index, under_key};
 pub use to_value::value_of_borrowed;
 pub use value::{BorrowedValue, Members};

@@ -8,7 +8,7 @@ use Rattle.serde_json.specs.Find.{as_array, get}
 use Rattle.wesl_borrowed.specs.View.{borrowed_view, items_view}
 use Rattle.wesl_borrowed.specs.declared.value.BorrowedValue.{BorrowedValue}
 use Rattle.wesl_names.specs.Path.{Text}
-use Rattle.wesl_pointer.specs.Pointer.{index, key, part_text}
+use Rattle.wesl_borrowed.specs.Pointer.{index, key, part_text}
 use Rattle.wesl_bundle.specs.declared.members.BundleError.{BundleError}
 use Rattle.wesl_bundle.specs.Broken.{IfPlace, IsMemberBroken, IsUnder, Locates, LocatesMember, place_of}
 use Rattle.wesl_bundle.specs.Forms.{Form, IsBroken, a_list_of, optional}

@@ -11,7 +11,7 @@ use Rattle.wesl_bundle.specs.Builtins.{Builtins, builtins_in, builtins_keys}
 use Rattle.wesl_bundle.specs.Features.{Features, Flag, feature_in, features_in, features_keys, flags_in}
 use Rattle.wesl_bundle.specs.Packages.{Packages, no_packages, packages_in}
 use Rattle.wesl_bundle.specs.Reading.{optional_in, items_in, required_in, path_in, or_empty, name_in, or_default}
-use Rattle.wesl_pointer.specs.Keys.{has_only}
+use Rattle.wesl_borrowed.specs.Keys.{has_only}
 use Rattle.wesl_formula.specs.declared.features.Feature.{Feature}
 use Rattle.wesl_formula.specs.declared.features.Feature.TheVariants as feature
 use Rattle.wesl_bundle.specs.declared.options.Naming.{Naming}

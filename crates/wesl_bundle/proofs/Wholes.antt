@@ -12,7 +12,7 @@ use Rattle.wesl_borrowed.specs.View.{borrowed_view, items_view as borrowed_items
 use Rattle.wesl_borrowed.specs.declared.value.BorrowedValue.{BorrowedValue}
 use Rattle.wesl_borrowed.proofs.Lists.{Entry as BorrowedEntry, members_view-more}
 use Rattle.wesl_names.specs.Path.{Text}
-use Rattle.wesl_pointer.specs.Keys.{HasMember}
+use Rattle.wesl_borrowed.specs.Keys.{HasMember}
 use Rattle.wesl_bundle.proofs.Readings.{longer}
 
 -- the first is not, and what follows from the second

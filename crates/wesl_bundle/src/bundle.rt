@@ -3,7 +3,7 @@ ghost use Rattle.std.specs.Prelude.{◌≡◌, None, Ok, Some, IfOk, IfErr, OnOk
 ghost use Rattle.serde_json.specs.Find.{get};
 ghost use Rattle.wesl_borrowed.specs.View.{borrowed_view};
 ghost use Rattle.wesl_names.specs.Path.{path_view, is_relative};
-ghost use Rattle.wesl_pointer.specs.Keys.{has_only};
+ghost use Rattle.wesl_borrowed.specs.Keys.{has_only};
 ghost use Rattle.wesl_bundle.specs.Broken.{IfPlace, Locates, LocatesMember};
 ghost use Rattle.wesl_bundle.specs.Bundle.{bundle_in, bundle_keys, bundle_of, module_in};
 ghost use Rattle.wesl_bundle.specs.Forms.{optional, a_list_of, a_module, a_bundle, IsBrokenBundle};

@@ -4,7 +4,7 @@ ghost use Rattle.serde_json.specs.Find.{get};
 ghost use Rattle.wesl_borrowed.specs.View.{borrowed_view};
 ghost use Rattle.wesl_names.specs.Path.{path_view, is_relative};
 ghost use Rattle.wesl_names.specs.PathText.{parse};
-ghost use Rattle.wesl_pointer.specs.Pointer.{key as key_part, index as index_part};
+ghost use Rattle.wesl_borrowed.specs.Pointer.{key as key_part, index as index_part};
 ghost use Rattle.wesl_bundle.specs.Broken.{place_of, IfPlace, IsUnder, Locates, LocatesMember};
 ghost use Rattle.wesl_bundle.specs.Forms.{a_list_of, a_name, a_path, a_unit, optional, required};
 ghost use Rattle.wesl_bundle.specs.Parts.{text_form, text_in};
@@ -72,7 +72,7 @@ pub(crate) fn under(alloc: Global, error: BundleError, key: &str) -> BundleError
     ensures { IsUnder (key_part key.now) error result }
 {
     match error {
-        BundleError::At(place) => match wesl_pointer::under_key(alloc, key, place.as_str()) {
+        BundleError::At(place) => match wesl_borrowed::under_key(alloc, key, place.as_str()) {
             Ok(place) => BundleError::At(place),
             Err(_) => BundleError::Memory,
         },
@@ -85,7 +85,7 @@ pub(crate) fn under_index(alloc: Global, error: BundleError, index: usize) -> Bu
     ensures { IsUnder (index_part index) error result }
 {
     match error {
-        BundleError::At(place) => match wesl_pointer::under_index(alloc, index, place.as_str()) {
+        BundleError::At(place) => match wesl_borrowed::under_index(alloc, index, place.as_str()) {
             Ok(place) => BundleError::At(place),
             Err(_) => BundleError::Memory,
         },

@@ -10,7 +10,7 @@ use Rattle.wesl_syntax.specs.Tree.{Kind, kind, ident, text, texts, path, absent,
 use Rattle.wesl_form.specs.Schema.{Spelled, SpelledForest, SpelledLabel, leaf_of, nonempty, Leaf, some_names, Name, Form, leaf, list_of, node, Head, fixed, chosen, Row, marked, Node}
 use Rattle.wesl_form.specs.Nodes.{whole_form, nodes_of, shorts_of}
 use Rattle.wesl_form.specs.Reading.{reading, leaf_label, label_in, children_in, present_tree, where_there, known_keys, head_keys, name_in, texts_in, items_in, is_literal, word_in}
-use Rattle.wesl_pointer.specs.Keys.{all_known}
+use Rattle.wesl_borrowed.specs.Keys.{all_known}
 use Rattle.wesl_form.specs.Writing.{written, written_forest, leaf_value, texts_value, put_head, text_or_null, word_of, short_value, first_fit, candidates, Writes, object_value, marks, unmarked}
 use Rattle.wesl_form_laws.specs.Readable.{HasText, is_readable, are_readable, are_names}
 use Rattle.wesl_form_laws.proofs.Guards.{guard, map_guard, two_guards}

@@ -7,7 +7,7 @@ use Rattle.std.proofs.lemmas.Slice.Eq.{bytes_eq-Decides}
 use Rattle.serde_json.specs.Data.{Data, Members, no_members, member, put, depth, members_depth}
 use Rattle.serde_json.specs.Find.{get_member}
 use Rattle.wesl_names.specs.Path.{Text}
-use Rattle.wesl_pointer.specs.Keys.{all_known}
+use Rattle.wesl_borrowed.specs.Keys.{all_known}
 use Rattle.wesl_form_laws.proofs.Rows.{is_in, out_left, out_right, same_text}
 
 -- no key stands twice

@@ -14,7 +14,7 @@ use Rattle.wesl_form.specs.Schema.{leaf, some_names}
 use Rattle.wesl_form.specs.Nodes.{whole_form}
 use Rattle.wesl_form.specs.Reading.{texts_in, list_in, name_in}
 use Rattle.wesl_form.specs.Place.{IsBroken}
-use Rattle.wesl_pointer.specs.Pointer.{index, part_text}
+use Rattle.wesl_borrowed.specs.Pointer.{index, part_text}
 use Rattle.wesl_reading.specs.Faults.{IsUnderIndex, LocatesHere, Locates}
 use Rattle.wesl_reading.specs.Numbers.{Reads}
 use Rattle.wesl_reading.specs.Parts.{IsItemFault, IsWithItem}

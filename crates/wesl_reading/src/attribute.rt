@@ -168,7 +168,7 @@ fn read_operand(
     ensures ok { IfOk result (λ e. Reads (node_form an_attribute) (borrowed_view value.now) (placed attribute_view attribute_node e) numbering.old numbering.new) }
     ensures place { IfErr result (Locates (node_form an_attribute) (borrowed_view value.now)) }
 {
-    if !wesl_pointer::has_only(value, &["k", "expr"]) {
+    if !wesl_borrowed::has_only(value, &["k", "expr"]) {
         return Err(wrong(alloc));
     }
     match expression_member(alloc, numbering, value, "expr") {
@@ -186,7 +186,7 @@ fn read_workgroup_size(
     ensures ok { IfOk result (λ e. Reads (node_form an_attribute) (borrowed_view value.now) (placed attribute_view attribute_node e) numbering.old numbering.new) }
     ensures place { IfErr result (Locates (node_form an_attribute) (borrowed_view value.now)) }
 {
-    if !wesl_pointer::has_only(value, &["k", "x", "y", "z"]) {
+    if !wesl_borrowed::has_only(value, &["k", "x", "y", "z"]) {
         return Err(wrong(alloc));
     }
     match expression_member(alloc, numbering, value, "x") {
@@ -206,7 +206,7 @@ fn read_builtin(alloc: Global, value: &BorrowedValue<'_>) -> Result<AttributeNod
     ensures ok { IfOk result (λ e. (names : List (List ℕ)) → Reads (node_form an_attribute) (borrowed_view value.now) (placed attribute_view attribute_node e) names names) }
     ensures place { IfErr result (Locates (node_form an_attribute) (borrowed_view value.now)) }
 {
-    if !wesl_pointer::has_only(value, &["k", "name"]) {
+    if !wesl_borrowed::has_only(value, &["k", "name"]) {
         return Err(wrong(alloc));
     }
     match own_name(alloc, value, "name") {
@@ -220,7 +220,7 @@ fn read_diagnostic(alloc: Global, value: &BorrowedValue<'_>) -> Result<Attribute
     ensures ok { IfOk result (λ e. (names : List (List ℕ)) → Reads (node_form an_attribute) (borrowed_view value.now) (placed attribute_view attribute_node e) names names) }
     ensures place { IfErr result (Locates (node_form an_attribute) (borrowed_view value.now)) }
 {
-    if !wesl_pointer::has_only(value, &["k", "severity", "rule"]) {
+    if !wesl_borrowed::has_only(value, &["k", "severity", "rule"]) {
         return Err(wrong(alloc));
     }
     match own_text(alloc, value, "severity") {
@@ -241,7 +241,7 @@ fn read_custom(
     ensures ok { IfOk result (λ e. Reads (node_form an_attribute) (borrowed_view value.now) (placed attribute_view attribute_node e) numbering.old numbering.new) }
     ensures place { IfErr result (Locates (node_form an_attribute) (borrowed_view value.now)) }
 {
-    if !wesl_pointer::has_only(value, &["k", "name", "args"]) {
+    if !wesl_borrowed::has_only(value, &["k", "name", "args"]) {
         return Err(wrong(alloc));
     }
     match own_name(alloc, value, "name") {
@@ -258,7 +258,7 @@ fn read_interpolate(alloc: Global, value: &BorrowedValue<'_>) -> Result<Attribut
     ensures ok { IfOk result (λ e. (names : List (List ℕ)) → Reads (node_form an_attribute) (borrowed_view value.now) (placed attribute_view attribute_node e) names names) }
     ensures place { IfErr result (Locates (node_form an_attribute) (borrowed_view value.now)) }
 {
-    if !wesl_pointer::has_only(value, &["k", "names"]) {
+    if !wesl_borrowed::has_only(value, &["k", "names"]) {
         return Err(wrong(alloc));
     }
     match names_member(alloc, value, "names") {

@@ -116,7 +116,7 @@ fn read_literal(alloc: Global, value: &BorrowedValue<'_>) -> Result<ExpressionNo
     ensures ok { IfOk result (λ e. (names : List (List ℕ)) → Reads (node_form an_expression) (borrowed_view value.now) (expression_tree e) names names) }
     ensures place { IfErr result (Locates (node_form an_expression) (borrowed_view value.now)) }
 {
-    if !wesl_pointer::has_only(value, &["k", "text"]) {
+    if !wesl_borrowed::has_only(value, &["k", "text"]) {
         return Err(wrong(alloc));
     }
     match own_literal(alloc, value, "text") {
@@ -135,7 +135,7 @@ fn read_parenthesized(
     ensures ok { IfOk result (λ e. Reads (node_form an_expression) (borrowed_view value.now) (expression_tree e) numbering.old numbering.new) }
     ensures place { IfErr result (Locates (node_form an_expression) (borrowed_view value.now)) }
 {
-    if !wesl_pointer::has_only(value, &["k", "expr"]) {
+    if !wesl_borrowed::has_only(value, &["k", "expr"]) {
         return Err(wrong(alloc));
     }
     match boxed_member(alloc, numbering, value, "expr") {
@@ -154,7 +154,7 @@ fn read_component(
     ensures ok { IfOk result (λ e. Reads (node_form an_expression) (borrowed_view value.now) (expression_tree e) numbering.old numbering.new) }
     ensures place { IfErr result (Locates (node_form an_expression) (borrowed_view value.now)) }
 {
-    if !wesl_pointer::has_only(value, &["k", "base", "name"]) {
+    if !wesl_borrowed::has_only(value, &["k", "base", "name"]) {
         return Err(wrong(alloc));
     }
     match boxed_member(alloc, numbering, value, "base") {
@@ -176,7 +176,7 @@ fn read_indexing(
     ensures ok { IfOk result (λ e. Reads (node_form an_expression) (borrowed_view value.now) (expression_tree e) numbering.old numbering.new) }
     ensures place { IfErr result (Locates (node_form an_expression) (borrowed_view value.now)) }
 {
-    if !wesl_pointer::has_only(value, &["k", "base", "index"]) {
+    if !wesl_borrowed::has_only(value, &["k", "base", "index"]) {
         return Err(wrong(alloc));
     }
     match boxed_member(alloc, numbering, value, "base") {
@@ -198,7 +198,7 @@ fn read_unary(
     ensures ok { IfOk result (λ e. Reads (node_form an_expression) (borrowed_view value.now) (expression_tree e) numbering.old numbering.new) }
     ensures place { IfErr result (Locates (node_form an_expression) (borrowed_view value.now)) }
 {
-    if !wesl_pointer::has_only(value, &["k", "op", "expr"]) {
+    if !wesl_borrowed::has_only(value, &["k", "op", "expr"]) {
         return Err(wrong(alloc));
     }
     match unary_operator_member(alloc, value) {
@@ -220,7 +220,7 @@ fn read_binary(
     ensures ok { IfOk result (λ e. Reads (node_form an_expression) (borrowed_view value.now) (expression_tree e) numbering.old numbering.new) }
     ensures place { IfErr result (Locates (node_form an_expression) (borrowed_view value.now)) }
 {
-    if !wesl_pointer::has_only(value, &["k", "op", "left", "right"]) {
+    if !wesl_borrowed::has_only(value, &["k", "op", "left", "right"]) {
         return Err(wrong(alloc));
     }
     match binary_operator_member(alloc, value) {
@@ -249,7 +249,7 @@ fn read_call_expression(
     ensures ok { IfOk result (λ e. Reads (node_form an_expression) (borrowed_view value.now) (expression_tree e) numbering.old numbering.new) }
     ensures place { IfErr result (Locates (node_form an_expression) (borrowed_view value.now)) }
 {
-    if !wesl_pointer::has_only(value, &["k", "ty", "args"]) {
+    if !wesl_borrowed::has_only(value, &["k", "ty", "args"]) {
         return Err(wrong(alloc));
     }
     match type_member(alloc, numbering, value, "ty") {
@@ -436,7 +436,7 @@ fn read_type_object(
     ensures ok { IfOk result (λ e. ReadsType (borrowed_view value.now) (type_view e) numbering.old numbering.new) }
     ensures place { IfErr result (LocatesRow type_row (borrowed_view value.now)) }
 {
-    if !wesl_pointer::has_only(value, &["path", "name", "args"]) {
+    if !wesl_borrowed::has_only(value, &["path", "name", "args"]) {
         return Err(wrong(alloc));
     }
     match optional_path(alloc, value) {
@@ -542,7 +542,7 @@ pub fn read_call(
     ensures ok { IfOk result (λ e. Reads (node_form a_call) (borrowed_view value.now) (call_view e) numbering.old numbering.new) }
     ensures place { IfErr result (Locates (node_form a_call) (borrowed_view value.now)) }
 {
-    if !wesl_pointer::has_only(value, &["ty", "args"]) {
+    if !wesl_borrowed::has_only(value, &["ty", "args"]) {
         return Err(wrong(alloc));
     }
     match type_member(alloc, numbering, value, "ty") {

@@ -10,8 +10,8 @@ ghost use Rattle.wesl_borrowed.specs.View.{borrowed_view};
 ghost use Rattle.wesl_names.specs.Path.{path_view};
 ghost use Rattle.wesl_names.specs.declared.errors.Error as error;
 ghost use Rattle.wesl_form.specs.Reading.{name_in, literal_in, path_in};
-ghost use Rattle.wesl_pointer.specs.Keys.{all_known, has_only};
-ghost use Rattle.wesl_pointer.specs.Pointer.{escaped};
+ghost use Rattle.wesl_borrowed.specs.Keys.{all_known, has_only};
+ghost use Rattle.wesl_borrowed.specs.Pointer.{escaped};
 ghost use Rattle.wesl_reading.specs.Faults.{IsAtRoot, IsUnder, IsUnderIndex, LocatesHere, LocatesText};
 
 use std::alloc::Global;
@@ -30,7 +30,7 @@ pub fn under(alloc: Global, error: Error, key: &str) -> Error
     ensures { IsUnder key.now error result }
 {
     match error {
-        Error::BadTree(place) => match wesl_pointer::under_key(alloc, key, place.as_str()) {
+        Error::BadTree(place) => match wesl_borrowed::under_key(alloc, key, place.as_str()) {
             Ok(place) => Error::BadTree(place),
             Err(_) => Error::Memory,
         },
@@ -43,7 +43,7 @@ pub fn under_index(alloc: Global, error: Error, index: usize) -> Error
     ensures { IsUnderIndex index error result }
 {
     match error {
-        Error::BadTree(place) => match wesl_pointer::under_index(alloc, index, place.as_str()) {
+        Error::BadTree(place) => match wesl_borrowed::under_index(alloc, index, place.as_str()) {
             Ok(place) => Error::BadTree(place),
             Err(_) => Error::Memory,
         },
@@ -57,7 +57,7 @@ pub fn check_keys(alloc: Global, value: &BorrowedValue<'_>, known: &[&str]) -> R
     ensures err { OnErr result (has_only (map (λ k. k.now) known.now) (borrowed_view value.now) ≡ false) }
     ensures place { IfErr result IsAtRoot }
 {
-    if wesl_pointer::has_only(value, known) {
+    if wesl_borrowed::has_only(value, known) {
         Ok(())
     } else {
         Err(wrong(alloc))

@@ -77,7 +77,7 @@ fn read_void(alloc: Global, value: &BorrowedValue<'_>) -> Result<Declared, Error
     ensures ok { IfOk result (λ e. (names : List (List ℕ)) → ReadsDeclared declareds.Void (borrowed_view value.now) (declared_view e) names names) }
     ensures place { IfErr result (LocatesRow (declared_worded declareds.Void) (borrowed_view value.now)) }
 {
-    if !wesl_pointer::has_only(value, &["k"]) {
+    if !wesl_borrowed::has_only(value, &["k"]) {
         return Err(wrong(alloc));
     }
     Ok(Declared::Void)
@@ -123,7 +123,7 @@ fn read_value(
     ensures ok { IfOk result (λ e. ReadsDeclared (declareds.Value word) (borrowed_view value.now) (declared_view e) numbering.old numbering.new) }
     ensures place { IfErr result (LocatesRow (declared_worded (declareds.Value word)) (borrowed_view value.now)) }
 {
-    if !wesl_pointer::has_only(value, &["k", "attrs", "name", "ty", "init"]) {
+    if !wesl_borrowed::has_only(value, &["k", "attrs", "name", "ty", "init"]) {
         return Err(wrong(alloc));
     }
     match attributes_member(alloc, numbering, value, "attrs") {
@@ -151,7 +151,7 @@ fn read_var(
     ensures ok { IfOk result (λ e. ReadsDeclared declareds.Var (borrowed_view value.now) (declared_view e) numbering.old numbering.new) }
     ensures place { IfErr result (LocatesRow (declared_worded declareds.Var) (borrowed_view value.now)) }
 {
-    if !wesl_pointer::has_only(value, &["k", "attrs", "name", "ty", "init"]) {
+    if !wesl_borrowed::has_only(value, &["k", "attrs", "name", "ty", "init"]) {
         return Err(wrong(alloc));
     }
     match attributes_member(alloc, numbering, value, "attrs") {
@@ -179,7 +179,7 @@ fn read_var_in_space(
     ensures ok { IfOk result (λ e. ReadsDeclared declareds.Var (borrowed_view value.now) (declared_view e) numbering.old numbering.new) }
     ensures place { IfErr result (LocatesRow (declared_worded declareds.Var) (borrowed_view value.now)) }
 {
-    if !wesl_pointer::has_only(
+    if !wesl_borrowed::has_only(
         value,
         &["k", "attrs", "space", "access", "name", "ty", "init"],
     ) {
@@ -228,7 +228,7 @@ fn read_assert(
     ensures ok { IfOk result (λ e. ReadsDeclared declareds.Assert (borrowed_view value.now) (declared_view e) numbering.old numbering.new) }
     ensures place { IfErr result (LocatesRow (declared_worded declareds.Assert) (borrowed_view value.now)) }
 {
-    if !wesl_pointer::has_only(value, &["k", "attrs", "expr"]) {
+    if !wesl_borrowed::has_only(value, &["k", "attrs", "expr"]) {
         return Err(wrong(alloc));
     }
     match attributes_member(alloc, numbering, value, "attrs") {

@@ -120,7 +120,7 @@ fn read_break_if(
     ensures ok { IfOk result (λ e. Reads (node_form a_break_if) (borrowed_view value.now) (break_if_view e) numbering.old numbering.new) }
     ensures place { IfErr result (Locates (node_form a_break_if) (borrowed_view value.now)) }
 {
-    if !wesl_pointer::has_only(value, &["attrs", "expr"]) {
+    if !wesl_borrowed::has_only(value, &["attrs", "expr"]) {
         return Err(wrong(alloc));
     }
     match attributes_member(alloc, numbering, value, "attrs") {

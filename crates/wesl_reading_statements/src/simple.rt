@@ -23,7 +23,7 @@ pub(crate) fn read_assignment(
     ensures ok { IfOk result (λ e. ReadsStatement stated.Assign (borrowed_view value.now) (statement_view e) numbering.old numbering.new) }
     ensures place { IfErr result (LocatesRow (statement_worded stated.Assign) (borrowed_view value.now)) }
 {
-    if !wesl_pointer::has_only(value, &["k", "op", "attrs", "lhs", "rhs"]) {
+    if !wesl_borrowed::has_only(value, &["k", "op", "attrs", "lhs", "rhs"]) {
         return Err(wrong(alloc));
     }
     match assignment_member(alloc, value) {
@@ -55,7 +55,7 @@ pub(crate) fn read_increment(
     ensures ok { IfOk result (λ e. ReadsStatement stated.Increment (borrowed_view value.now) (statement_view e) numbering.old numbering.new) }
     ensures place { IfErr result (LocatesRow (statement_worded stated.Increment) (borrowed_view value.now)) }
 {
-    if !wesl_pointer::has_only(value, &["k", "attrs", "expr"]) {
+    if !wesl_borrowed::has_only(value, &["k", "attrs", "expr"]) {
         return Err(wrong(alloc));
     }
     match attributes_member(alloc, numbering, value, "attrs") {
@@ -79,7 +79,7 @@ pub(crate) fn read_decrement(
     ensures ok { IfOk result (λ e. ReadsStatement stated.Decrement (borrowed_view value.now) (statement_view e) numbering.old numbering.new) }
     ensures place { IfErr result (LocatesRow (statement_worded stated.Decrement) (borrowed_view value.now)) }
 {
-    if !wesl_pointer::has_only(value, &["k", "attrs", "expr"]) {
+    if !wesl_borrowed::has_only(value, &["k", "attrs", "expr"]) {
         return Err(wrong(alloc));
     }
     match attributes_member(alloc, numbering, value, "attrs") {
@@ -103,7 +103,7 @@ pub(crate) fn read_break(
     ensures ok { IfOk result (λ e. ReadsStatement stated.Break (borrowed_view value.now) (statement_view e) numbering.old numbering.new) }
     ensures place { IfErr result (LocatesRow (statement_worded stated.Break) (borrowed_view value.now)) }
 {
-    if !wesl_pointer::has_only(value, &["k", "attrs"]) {
+    if !wesl_borrowed::has_only(value, &["k", "attrs"]) {
         return Err(wrong(alloc));
     }
     match attributes_member(alloc, numbering, value, "attrs") {
@@ -121,7 +121,7 @@ pub(crate) fn read_continue(
     ensures ok { IfOk result (λ e. ReadsStatement stated.Continue (borrowed_view value.now) (statement_view e) numbering.old numbering.new) }
     ensures place { IfErr result (LocatesRow (statement_worded stated.Continue) (borrowed_view value.now)) }
 {
-    if !wesl_pointer::has_only(value, &["k", "attrs"]) {
+    if !wesl_borrowed::has_only(value, &["k", "attrs"]) {
         return Err(wrong(alloc));
     }
     match attributes_member(alloc, numbering, value, "attrs") {
@@ -139,7 +139,7 @@ pub(crate) fn read_discard(
     ensures ok { IfOk result (λ e. ReadsStatement stated.Discard (borrowed_view value.now) (statement_view e) numbering.old numbering.new) }
     ensures place { IfErr result (LocatesRow (statement_worded stated.Discard) (borrowed_view value.now)) }
 {
-    if !wesl_pointer::has_only(value, &["k", "attrs"]) {
+    if !wesl_borrowed::has_only(value, &["k", "attrs"]) {
         return Err(wrong(alloc));
     }
     match attributes_member(alloc, numbering, value, "attrs") {
@@ -157,7 +157,7 @@ pub(crate) fn read_return(
     ensures ok { IfOk result (λ e. ReadsStatement stated.Return (borrowed_view value.now) (statement_view e) numbering.old numbering.new) }
     ensures place { IfErr result (LocatesRow (statement_worded stated.Return) (borrowed_view value.now)) }
 {
-    if !wesl_pointer::has_only(value, &["k", "attrs", "expr"]) {
+    if !wesl_borrowed::has_only(value, &["k", "attrs", "expr"]) {
         return Err(wrong(alloc));
     }
     match attributes_member(alloc, numbering, value, "attrs") {
@@ -181,7 +181,7 @@ pub(crate) fn read_call_statement(
     ensures ok { IfOk result (λ e. ReadsStatement stated.Call (borrowed_view value.now) (statement_view e) numbering.old numbering.new) }
     ensures place { IfErr result (LocatesRow (statement_worded stated.Call) (borrowed_view value.now)) }
 {
-    if !wesl_pointer::has_only(value, &["k", "attrs", "call"]) {
+    if !wesl_borrowed::has_only(value, &["k", "attrs", "call"]) {
         return Err(wrong(alloc));
     }
     match attributes_member(alloc, numbering, value, "attrs") {

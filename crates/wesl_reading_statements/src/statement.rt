@@ -106,7 +106,7 @@ fn read_block(
     ensures ok { IfOk result (λ e. ReadsStatement stated.Block (borrowed_view value.now) (statement_view e) numbering.old numbering.new) }
     ensures place { IfErr result (LocatesRow (statement_worded stated.Block) (borrowed_view value.now)) }
 {
-    if !wesl_pointer::has_only(value, &["k", "attrs", "stmts"]) {
+    if !wesl_borrowed::has_only(value, &["k", "attrs", "stmts"]) {
         return Err(wrong(alloc));
     }
     match attributes_member(alloc, numbering, value, "attrs") {
@@ -130,7 +130,7 @@ fn read_if(
     ensures ok { IfOk result (λ e. ReadsStatement stated.If (borrowed_view value.now) (statement_view e) numbering.old numbering.new) }
     ensures place { IfErr result (LocatesRow (statement_worded stated.If) (borrowed_view value.now)) }
 {
-    if !wesl_pointer::has_only(value, &["k", "attrs", "cond", "body", "elifs", "else"]) {
+    if !wesl_borrowed::has_only(value, &["k", "attrs", "cond", "body", "elifs", "else"]) {
         return Err(wrong(alloc));
     }
     match attributes_member(alloc, numbering, value, "attrs") {
@@ -162,7 +162,7 @@ fn read_switch(
     ensures ok { IfOk result (λ e. ReadsStatement stated.Switch (borrowed_view value.now) (statement_view e) numbering.old numbering.new) }
     ensures place { IfErr result (LocatesRow (statement_worded stated.Switch) (borrowed_view value.now)) }
 {
-    if !wesl_pointer::has_only(value, &["k", "attrs", "expr", "body_attrs", "clauses"]) {
+    if !wesl_borrowed::has_only(value, &["k", "attrs", "expr", "body_attrs", "clauses"]) {
         return Err(wrong(alloc));
     }
     match attributes_member(alloc, numbering, value, "attrs") {
@@ -194,7 +194,7 @@ fn read_loop(
     ensures ok { IfOk result (λ e. ReadsStatement stated.Loop (borrowed_view value.now) (statement_view e) numbering.old numbering.new) }
     ensures place { IfErr result (LocatesRow (statement_worded stated.Loop) (borrowed_view value.now)) }
 {
-    if !wesl_pointer::has_only(value, &["k", "attrs", "body", "continuing"]) {
+    if !wesl_borrowed::has_only(value, &["k", "attrs", "body", "continuing"]) {
         return Err(wrong(alloc));
     }
     match attributes_member(alloc, numbering, value, "attrs") {
@@ -222,7 +222,7 @@ fn read_for(
     ensures ok { IfOk result (λ e. ReadsStatement stated.For (borrowed_view value.now) (statement_view e) numbering.old numbering.new) }
     ensures place { IfErr result (LocatesRow (statement_worded stated.For) (borrowed_view value.now)) }
 {
-    if !wesl_pointer::has_only(value, &["k", "attrs", "init", "cond", "update", "body"]) {
+    if !wesl_borrowed::has_only(value, &["k", "attrs", "init", "cond", "update", "body"]) {
         return Err(wrong(alloc));
     }
     match attributes_member(alloc, numbering, value, "attrs") {
@@ -281,7 +281,7 @@ fn read_while(
     ensures ok { IfOk result (λ e. ReadsStatement stated.While (borrowed_view value.now) (statement_view e) numbering.old numbering.new) }
     ensures place { IfErr result (LocatesRow (statement_worded stated.While) (borrowed_view value.now)) }
 {
-    if !wesl_pointer::has_only(value, &["k", "attrs", "cond", "body"]) {
+    if !wesl_borrowed::has_only(value, &["k", "attrs", "cond", "body"]) {
         return Err(wrong(alloc));
     }
     match attributes_member(alloc, numbering, value, "attrs") {
@@ -344,7 +344,7 @@ fn read_body(
     ensures ok { IfOk result (λ e. Reads (node_form a_body) (borrowed_view value.now) (compound_view e) numbering.old numbering.new) }
     ensures place { IfErr result (Locates (node_form a_body) (borrowed_view value.now)) }
 {
-    if !wesl_pointer::has_only(value, &["attrs", "stmts"]) {
+    if !wesl_borrowed::has_only(value, &["attrs", "stmts"]) {
         return Err(wrong(alloc));
     }
     match attributes_member(alloc, numbering, value, "attrs") {
@@ -466,7 +466,7 @@ fn read_elif(
     ensures ok { IfOk result (λ e. Reads (node_form an_elif) (borrowed_view value.now) (else_if_view e) numbering.old numbering.new) }
     ensures place { IfErr result (Locates (node_form an_elif) (borrowed_view value.now)) }
 {
-    if !wesl_pointer::has_only(value, &["attrs", "cond", "body"]) {
+    if !wesl_borrowed::has_only(value, &["attrs", "cond", "body"]) {
         return Err(wrong(alloc));
     }
     match attributes_member(alloc, numbering, value, "attrs") {
@@ -510,7 +510,7 @@ fn read_else(
     ensures ok { IfOk result (λ e. Reads (node_form an_else) (borrowed_view value.now) (else_view e) numbering.old numbering.new) }
     ensures place { IfErr result (Locates (node_form an_else) (borrowed_view value.now)) }
 {
-    if !wesl_pointer::has_only(value, &["attrs", "body"]) {
+    if !wesl_borrowed::has_only(value, &["attrs", "body"]) {
         return Err(wrong(alloc));
     }
     match attributes_member(alloc, numbering, value, "attrs") {
@@ -570,7 +570,7 @@ fn read_clause(
     ensures ok { IfOk result (λ e. Reads (node_form a_clause) (borrowed_view value.now) (clause_view e) numbering.old numbering.new) }
     ensures place { IfErr result (Locates (node_form a_clause) (borrowed_view value.now)) }
 {
-    if !wesl_pointer::has_only(value, &["attrs", "cases", "body"]) {
+    if !wesl_borrowed::has_only(value, &["attrs", "cases", "body"]) {
         return Err(wrong(alloc));
     }
     match attributes_member(alloc, numbering, value, "attrs") {
@@ -617,7 +617,7 @@ fn read_continuing(
     ensures ok { IfOk result (λ e. Reads (node_form a_continuing) (borrowed_view value.now) (continuing_view e) numbering.old numbering.new) }
     ensures place { IfErr result (Locates (node_form a_continuing) (borrowed_view value.now)) }
 {
-    if !wesl_pointer::has_only(value, &["attrs", "body", "break_if"]) {
+    if !wesl_borrowed::has_only(value, &["attrs", "body", "break_if"]) {
         return Err(wrong(alloc));
     }
     match attributes_member(alloc, numbering, value, "attrs") {

@@ -134,7 +134,7 @@ fn read_alias(
     ensures ok { IfOk result (λ e. ReadsDeclaration globals.Alias (borrowed_view value.now) (global_view e) numbering.old numbering.new) }
     ensures place { IfErr result (LocatesRow (declaration_worded globals.Alias) (borrowed_view value.now)) }
 {
-    if !wesl_pointer::has_only(value, &["k", "attrs", "name", "ty"]) {
+    if !wesl_borrowed::has_only(value, &["k", "attrs", "name", "ty"]) {
         return Err(wrong(alloc));
     }
     match attributes_member(alloc, numbering, value, "attrs") {
@@ -161,7 +161,7 @@ fn read_struct(
     ensures ok { IfOk result (λ e. ReadsDeclaration globals.Struct (borrowed_view value.now) (global_view e) numbering.old numbering.new) }
     ensures place { IfErr result (LocatesRow (declaration_worded globals.Struct) (borrowed_view value.now)) }
 {
-    if !wesl_pointer::has_only(value, &["k", "attrs", "name", "members"]) {
+    if !wesl_borrowed::has_only(value, &["k", "attrs", "name", "members"]) {
         return Err(wrong(alloc));
     }
     match attributes_member(alloc, numbering, value, "attrs") {
@@ -188,7 +188,7 @@ fn read_function(
     ensures ok { IfOk result (λ e. ReadsDeclaration globals.Function (borrowed_view value.now) (global_view e) numbering.old numbering.new) }
     ensures place { IfErr result (LocatesRow (declaration_worded globals.Function) (borrowed_view value.now)) }
 {
-    if !wesl_pointer::has_only(
+    if !wesl_borrowed::has_only(
         value,
         &["k", "attrs", "name", "params", "ret_attrs", "ret", "body"],
     ) {
@@ -267,7 +267,7 @@ fn read_member(
     ensures ok { IfOk result (λ e. Reads (node_form a_member) (borrowed_view value.now) (placed member_view member_node e) numbering.old numbering.new) }
     ensures place { IfErr result (Locates (node_form a_member) (borrowed_view value.now)) }
 {
-    if !wesl_pointer::has_only(value, &["attrs", "name", "ty"]) {
+    if !wesl_borrowed::has_only(value, &["attrs", "name", "ty"]) {
         return Err(wrong(alloc));
     }
     match attributes_member(alloc, numbering, value, "attrs") {
@@ -331,7 +331,7 @@ fn read_parameter(
     ensures ok { IfOk result (λ e. Reads (node_form a_parameter) (borrowed_view value.now) (parameter_view e) numbering.old numbering.new) }
     ensures place { IfErr result (Locates (node_form a_parameter) (borrowed_view value.now)) }
 {
-    if !wesl_pointer::has_only(value, &["attrs", "name", "ty"]) {
+    if !wesl_borrowed::has_only(value, &["attrs", "name", "ty"]) {
         return Err(wrong(alloc));
     }
     match attributes_member(alloc, numbering, value, "attrs") {

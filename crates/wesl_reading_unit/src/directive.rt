@@ -112,7 +112,7 @@ fn read_enable(
     ensures ok { IfOk result (λ e. ReadsDirective directed.Enable (borrowed_view value.now) (directive_view e) numbering.old numbering.new) }
     ensures place { IfErr result (LocatesRow (directive_worded directed.Enable) (borrowed_view value.now)) }
 {
-    if !wesl_pointer::has_only(value, &["k", "attrs", "names"]) {
+    if !wesl_borrowed::has_only(value, &["k", "attrs", "names"]) {
         return Err(wrong(alloc));
     }
     match attributes_member(alloc, numbering, value, "attrs") {
@@ -132,7 +132,7 @@ fn read_requires(
     ensures ok { IfOk result (λ e. ReadsDirective directed.Requires (borrowed_view value.now) (directive_view e) numbering.old numbering.new) }
     ensures place { IfErr result (LocatesRow (directive_worded directed.Requires) (borrowed_view value.now)) }
 {
-    if !wesl_pointer::has_only(value, &["k", "attrs", "names"]) {
+    if !wesl_borrowed::has_only(value, &["k", "attrs", "names"]) {
         return Err(wrong(alloc));
     }
     match attributes_member(alloc, numbering, value, "attrs") {
@@ -152,7 +152,7 @@ fn read_diagnostic(
     ensures ok { IfOk result (λ e. ReadsDirective directed.Diagnostic (borrowed_view value.now) (directive_view e) numbering.old numbering.new) }
     ensures place { IfErr result (LocatesRow (directive_worded directed.Diagnostic) (borrowed_view value.now)) }
 {
-    if !wesl_pointer::has_only(value, &["k", "attrs", "severity", "rule"]) {
+    if !wesl_borrowed::has_only(value, &["k", "attrs", "severity", "rule"]) {
         return Err(wrong(alloc));
     }
     match attributes_member(alloc, numbering, value, "attrs") {

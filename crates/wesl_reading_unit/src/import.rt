@@ -62,7 +62,7 @@ fn read_import(
     ensures ok { IfOk result (λ e. Reads (node_form an_import) (borrowed_view value.now) (placed import_view import_node e) numbering.old numbering.new) }
     ensures place { IfErr result (Locates (node_form an_import) (borrowed_view value.now)) }
 {
-    if !wesl_pointer::has_only(value, &["attrs", "path", "content"]) {
+    if !wesl_borrowed::has_only(value, &["attrs", "path", "content"]) {
         return Err(wrong(alloc));
     }
     match attributes_member(alloc, numbering, value, "attrs") {
@@ -126,7 +126,7 @@ fn read_collection(
     ensures ok { IfOk result (λ e. Reads (node_form a_content) (borrowed_view value.now) (content_view e) numbering.old numbering.new) }
     ensures place { IfErr result (Locates (node_form a_content) (borrowed_view value.now)) }
 {
-    if !wesl_pointer::has_only(value, &["list"]) {
+    if !wesl_borrowed::has_only(value, &["list"]) {
         return Err(wrong(alloc));
     }
     match entries_member(alloc, numbering, value) {
@@ -181,7 +181,7 @@ fn read_entry(
     ensures ok { IfOk result (λ e. Reads (node_form an_entry) (borrowed_view value.now) (entry_view e) numbering.old numbering.new) }
     ensures place { IfErr result (Locates (node_form an_entry) (borrowed_view value.now)) }
 {
-    if !wesl_pointer::has_only(value, &["path", "content"]) {
+    if !wesl_borrowed::has_only(value, &["path", "content"]) {
         return Err(wrong(alloc));
     }
     match names_member(alloc, value, "path") {
@@ -203,7 +203,7 @@ fn read_item(
     ensures ok { IfOk result (λ e. Reads (node_form a_content) (borrowed_view value.now) (item_view e) numbering.old numbering.new) }
     ensures place { IfErr result (Locates (node_form a_content) (borrowed_view value.now)) }
 {
-    if !wesl_pointer::has_only(value, &["item", "as"]) {
+    if !wesl_borrowed::has_only(value, &["item", "as"]) {
         return Err(wrong(alloc));
     }
     match name_member(alloc, value, "item") {

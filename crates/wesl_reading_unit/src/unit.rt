@@ -32,7 +32,7 @@ fn read_unit(alloc: Global, value: &BorrowedValue<'_>) -> Result<TranslationUnit
     ensures unit { IfOk result (λ u. IsUnitOf whole_form (borrowed_view value.now) (unit_view u)) }
     ensures place { IfErr result (λ e. IfPlace e (IsBrokenUnit whole_form (borrowed_view value.now))) }
 {
-    if !wesl_pointer::has_only(value, &["imports", "directives", "declarations"]) {
+    if !wesl_borrowed::has_only(value, &["imports", "directives", "declarations"]) {
         return Err(wrong(alloc));
     }
     let mut numbering = Numbering::new(alloc);

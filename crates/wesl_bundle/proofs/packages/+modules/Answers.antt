@@ -8,7 +8,7 @@ use Rattle.wesl_bundle.specs.Forms.{a_package_module}
 use Rattle.wesl_bundle.specs.PackageViews.{package_module_view}
 use Rattle.wesl_bundle.specs.Packages.{package_module_in, package_module_keys}
 use Rattle.wesl_bundle.specs.Parts.{IsModuleMemberBroken, LocatesModuleMember}
-use Rattle.wesl_pointer.specs.Keys.{has_only}
+use Rattle.wesl_borrowed.specs.Keys.{has_only}
 use Rattle.wesl_bundle.specs.declared.packages.PackageModule.{PackageModule}
 use Rattle.wesl_bundle.specs.declared.packages.PackageModule.TheOpen.{PackageModule-F}
 use Rattle.wesl_bundle.proofs.Together.{IfOk-keyed, either, of-both, of-only, part}

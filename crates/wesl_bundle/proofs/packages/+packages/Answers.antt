@@ -8,7 +8,7 @@ use Rattle.wesl_bundle.specs.Forms.{a_list_of, a_package, optional}
 use Rattle.wesl_bundle.specs.PackageViews.{package_view}
 use Rattle.wesl_bundle.specs.Packages.{package_in, package_keys}
 use Rattle.wesl_bundle.specs.Parts.{LocatesModuleMember}
-use Rattle.wesl_pointer.specs.Keys.{has_only}
+use Rattle.wesl_borrowed.specs.Keys.{has_only}
 use Rattle.wesl_bundle.specs.declared.packages.Package.{Package}
 use Rattle.wesl_bundle.specs.declared.packages.Package.TheOpen.{Package-F}
 use Rattle.wesl_bundle.proofs.Together.{of-both, of-field, of-only, part}

@@ -10,7 +10,7 @@ use Rattle.wesl_form.specs.Schema.{node, leaf, an_expression, an_ident, a_path, 
 use Rattle.wesl_form.specs.Nodes.{type_row}
 use Rattle.wesl_form.specs.Words.{unary_words, binary_words}
 use Rattle.wesl_form.specs.Reading.{known_keys, word_in, name_in}
-use Rattle.wesl_pointer.specs.Keys.{has_only}
+use Rattle.wesl_borrowed.specs.Keys.{has_only}
 use Rattle.wesl_reading.specs.Faults.{IsMemberBroken, Locates}
 use Rattle.wesl_reading.specs.Forms.{expression_of}
 use Rattle.wesl_reading.specs.declared.words.ExpressionWord.TheVariants as words

@@ -4,7 +4,7 @@ use Rattle.wesl_syntax.specs.Tree.{list}
 use Rattle.wesl_form.specs.Schema.{node, list_of, a_type, an_expression}
 use Rattle.wesl_form.specs.Nodes.{call_row}
 use Rattle.wesl_form.specs.Reading.{known_keys}
-use Rattle.wesl_pointer.specs.Keys.{has_only}
+use Rattle.wesl_borrowed.specs.Keys.{has_only}
 use Rattle.wesl_reading.proofs.Expressions.{bare-call-keys, bare-call-place, bare-call-reads, call-rows}
 use Rattle.wesl_reading.proofs.Places.{row-inside, row-member}
 use Rattle.wesl_reading.proofs.Steps.{same-reads}

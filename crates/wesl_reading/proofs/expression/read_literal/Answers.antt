@@ -4,7 +4,7 @@ use Rattle.wesl_borrowed.specs.View.{borrowed_view}
 use Rattle.wesl_syntax.specs.Tree.{text}
 use Rattle.wesl_form.specs.Schema.{a_literal}
 use Rattle.wesl_form.specs.Reading.{known_keys, literal_in}
-use Rattle.wesl_pointer.specs.Keys.{has_only}
+use Rattle.wesl_borrowed.specs.Keys.{has_only}
 use Rattle.wesl_reading.specs.Forms.{expression_of}
 use Rattle.wesl_reading.specs.declared.words.ExpressionWord.TheVariants as words
 use Rattle.wesl_reading.proofs.Expressions.{expression-keys, expression-text, literal-reads}

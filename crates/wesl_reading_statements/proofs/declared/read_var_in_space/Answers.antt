@@ -2,7 +2,7 @@ use Rattle.serde_json.specs.Find.{get}
 use Rattle.wesl_borrowed.specs.View.{borrowed_view}
 use Rattle.std.proofs.Common.{sym, Some, ap, codes, false, refl, true, ◌∙◌, ◌≡◌}
 use Rattle.wesl_form.specs.Reading.{known_keys, word_in}
-use Rattle.wesl_pointer.specs.Keys.{has_only}
+use Rattle.wesl_borrowed.specs.Keys.{has_only}
 use Rattle.wesl_form.specs.Schema.{an_attribute, leaf, list_of, nothing, one_of}
 use Rattle.wesl_form.specs.Words.{access_words, space_words}
 use Rattle.wesl_reading.proofs.Places.{row-inside, row-keys, row-text}

@@ -2,7 +2,7 @@ use Rattle.wesl_borrowed.specs.View.{borrowed_view}
 use Rattle.std.proofs.Common.{◌∙◌, sym, codes, false, refl, true, ◌≡◌}
 use Rattle.wesl_form.specs.Nodes.{attrs, operand}
 use Rattle.wesl_form.specs.Reading.{known_keys}
-use Rattle.wesl_pointer.specs.Keys.{has_only}
+use Rattle.wesl_borrowed.specs.Keys.{has_only}
 use Rattle.wesl_form.specs.Schema.{a_break_if, an_attribute, an_expression, list_of, node}
 use Rattle.wesl_reading.proofs.Expressions.{bare-keys, bare-place, bare-reads}
 use Rattle.wesl_reading.proofs.Places.{row-inside, row-member}

@@ -5,7 +5,7 @@ use Rattle.wesl_borrowed.specs.View.{borrowed_view, items_view}
 use Rattle.std.proofs.Common.{Some, ap, ◌∙◌, arith, codes, false, inl, inr, refl, subst, sym, true, ◌<◌, ◌≡◌, ◌≤◌}
 use Rattle.wesl_form.specs.Nodes.{attrs, body_row, condition_row}
 use Rattle.wesl_form.specs.Reading.{known_keys}
-use Rattle.wesl_pointer.specs.Keys.{has_only}
+use Rattle.wesl_borrowed.specs.Keys.{has_only}
 use Rattle.wesl_form.specs.Schema.{a_body, a_break_if, a_case, a_clause, a_continuing, a_statement, an_attribute, an_elif, an_else, an_expression, list_of, many, may, needs, node, nothing}
 use Rattle.wesl_reading.proofs.Depths.{array-depth, get-depth, item-depth}
 use Rattle.wesl_reading.proofs.Expressions.{bare-keys, bare-place, bare-reads}

@@ -1,6 +1,6 @@
 use Rattle.std.proofs.Common.{◌≡◌, drop, map}
-use Rattle.wesl_pointer.proofs.Known.{keys_known}
-use Rattle.wesl_pointer.proofs.keys.all_known.Given as goal
+use Rattle.wesl_borrowed.proofs.Known.{keys_known}
+use Rattle.wesl_borrowed.proofs.keys.all_known.Given as goal
 
 abbrev pub invariant-loop-member : goal.invariant-loop-member
 invariant-loop-member l =

@@ -2,8 +2,8 @@ use Rattle.std.proofs.Common.{◌≡◌, ◌∷◌, ◌++◌, flat_map, map, ap,
 use Rattle.std.specs.Str.{chars}
 use Rattle.std.proofs.lemmas.Iterator.{YieldsList-from_chars}
 use Rattle.std.proofs.lemmas.Iterator.Consumers.{YieldsList-end}
-use Rattle.wesl_pointer.specs.Pointer.{escaped, escaped_char}
-use Rattle.wesl_pointer.proofs.pointer.under_key.Goals as goal
+use Rattle.wesl_borrowed.specs.Pointer.{escaped, escaped_char}
+use Rattle.wesl_borrowed.proofs.pointer.under_key.Goals as goal
 
 same : (xs : List ℕ) → map (λ c. c) xs ≡ xs
 same [] = refl

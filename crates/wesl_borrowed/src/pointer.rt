@@ -1,6 +1,6 @@
 //! Places, grown by a part at their beginning.
 ghost use Rattle.std.specs.Prelude.{◌≡◌, ◌∷◌, ◌++◌, decimal, IfOk, string_bytes};
-ghost use Rattle.wesl_pointer.specs.Pointer.{escaped};
+ghost use Rattle.wesl_borrowed.specs.Pointer.{escaped};
 
 use std::alloc::{AllocError, Global};
 

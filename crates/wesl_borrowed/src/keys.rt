@@ -3,9 +3,9 @@ ghost use Rattle.std.specs.Prelude.{◌≡◌, map};
 ghost use Rattle.std.specs.List.{list_any};
 ghost use Rattle.std.specs.Str.{bytes_eq};
 ghost use Rattle.wesl_borrowed.specs.View.{borrowed_view, members_view};
-ghost use Rattle.wesl_pointer.specs.Keys.{all_known, has_only};
+ghost use Rattle.wesl_borrowed.specs.Keys.{all_known, has_only};
 
-use wesl_borrowed::{BorrowedValue, Members};
+use crate::value::{BorrowedValue, Members};
 
 /// Whether a value is an object with no keys but these.
 pub fn has_only(value: &BorrowedValue<'_>, known: &[&str]) -> bool

@@ -1,8 +1,8 @@
 use Rattle.std.proofs.Common.{◌≡◌, ◌+◌, true, false, ◌&&◌, drop, map, drop_of_length-le, sym, ap, ◌∙◌, rules}
 use Rattle.wesl_borrowed.specs.View.{members_view}
-use Rattle.wesl_pointer.specs.Keys.{all_known}
-use Rattle.wesl_pointer.proofs.Known.{is_known, keys_known, among, known-members, known-next}
-use Rattle.wesl_pointer.proofs.keys.all_known.Goals as goal
+use Rattle.wesl_borrowed.specs.Keys.{all_known}
+use Rattle.wesl_borrowed.proofs.Known.{is_known, keys_known, among, known-members, known-next}
+use Rattle.wesl_borrowed.proofs.keys.all_known.Goals as goal
 
 pub returns-then-not-is_among : goal.returns-then-not-is_among
 returns-then-not-is_among c =

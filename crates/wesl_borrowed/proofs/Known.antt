@@ -10,7 +10,7 @@ use Rattle.serde_json.specs.Data.{Data, Members, no_members, member, put}
 use Rattle.wesl_names.specs.Path.{Text}
 use Rattle.wesl_borrowed.specs.View.{borrowed_view, members_view, put_all}
 use Rattle.wesl_borrowed.specs.declared.value.BorrowedValue.{BorrowedValue}
-use Rattle.wesl_pointer.specs.Keys.{all_known}
+use Rattle.wesl_borrowed.specs.Keys.{all_known}
 
 abbrev pub Entry : Type 0
 Entry = Bor (List ℕ) × BorrowedValue

@@ -1,2 +1,0 @@
-pub mod Pointer
-pub mod Keys
