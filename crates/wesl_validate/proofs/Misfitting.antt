@@ -1,15 +1,15 @@
 -- A call that misses is a fault.
-use Rattle.std.proofs.Common.{◌≡◌, ℕ, refl, sym, ap, ◌∙◌, subst}
-use Rattle.std.specs.Prelude.{Option, Some, None, IfSome, string_bytes}
+use Rattle.std.proofs.Common.{◌≡◌, ℕ, sym, ◌∙◌, subst}
+use Rattle.std.specs.Prelude.{Option, Some, None, IfSome}
 use Rattle.std.specs.List.{Contains}
 use Rattle.wesl_names.specs.Path.{Text}
 use Rattle.wesl_names.specs.declared.errors.ValidateError.{ValidateError}
 use Rattle.wesl_names.specs.declared.errors.ValidateError.TheVariants as fault
-use Rattle.wesl_syntax.specs.Unit.{UnitView, name_in}
+use Rattle.wesl_syntax.specs.Unit.{UnitView}
 use Rattle.wesl_builtins.specs.Builtins.{BuiltinNames}
 use Rattle.wesl_valid.specs.Calls.{CallOf}
 use Rattle.wesl_valid.specs.Valid.{calls_of, Fits}
-use Rattle.wesl_valid.specs.Faults.{name_of, Counts, IsMisfit, IsMiscounted, IsNotCallable, IsWeslFault, IsWgslFault, IsRefusal, RefusesWesl, RefusesWgsl, Tells as Said}
+use Rattle.wesl_valid.specs.Faults.{name_of, Counts, IsMisfit, IsWeslFault, IsWgslFault, RefusesWesl, RefusesWgsl, Tells as Said}
 use Rattle.wesl_names.specs.declared.errors.Error as error
 use Rattle.wesl_names.specs.declared.errors.Diagnostic.{Diagnostic}
 use Rattle.wesl_fitting.specs.Misfits.{MissesIn}

@@ -5,6 +5,8 @@ ghost use Rattle.std.specs.Option.{option_map};
 ghost use Rattle.wesl_names.specs.declared.errors.Error as error;
 ghost use Rattle.wesl_syntax.specs.Unit.{UnitView};
 ghost use Rattle.wesl_tree.specs.Translation.{unit_view};
+ghost use Rattle.wesl_occurrences.specs.Identified.{identified};
+ghost use Rattle.wesl_kept.specs.Declarations.{all};
 ghost use Rattle.wesl_builtins.specs.Builtins.{builtins_view};
 ghost use Rattle.wesl_valid.specs.Known.{IsNamedBy};
 ghost use Rattle.wesl_valid.specs.Valid.{IsDefined, AreDistinct, IsAcyclic, IsValidWesl};
@@ -39,10 +41,12 @@ fn undefined_fault(
 {
     match undefined(alloc, names, found, builtins)? {
         None => Ok(None),
-        Some((number, declaration)) => Ok(Some(Fault {
-            error: ValidateError::UndefinedSymbol(name_of(alloc, names, number)?),
-            declaration: name_round(alloc, names, found, declaration)?,
-        })),
+        Some((number, declaration)) => {
+            let name = name_of(alloc, names, number)?;
+            let declaration = name_round(alloc, names, found, declaration)?;
+            let error = ValidateError::UndefinedSymbol(name);
+            Ok(Some(Fault { error, declaration }))
+        }
     }
 }
 
@@ -57,10 +61,12 @@ fn duplicate_fault(
 {
     match duplicate(alloc, unit)? {
         None => Ok(None),
-        Some(number) => Ok(Some(Fault {
-            error: ValidateError::Duplicate(name_of(alloc, unit.names(), number)?),
-            declaration: Some(name_of(alloc, unit.names(), number)?),
-        })),
+        Some(number) => {
+            let name = name_of(alloc, unit.names(), number)?;
+            let declaration = Some(name_of(alloc, unit.names(), number)?);
+            let error = ValidateError::Duplicate(name);
+            Ok(Some(Fault { error, declaration }))
+        }
     }
 }
 
@@ -76,14 +82,36 @@ fn cycle_fault(
 {
     match cycle(alloc, found)? {
         None => Ok(None),
-        Some((first, last)) => Ok(Some(Fault {
-            error: ValidateError::Cycle(
-                name_of(alloc, names, first)?,
-                name_of(alloc, names, last)?,
-            ),
-            declaration: Some(name_of(alloc, names, first)?),
-        })),
+        Some((first, last)) => {
+            let name = name_of(alloc, names, first)?;
+            let by = name_of(alloc, names, last)?;
+            let declaration = Some(name_of(alloc, names, first)?);
+            let error = ValidateError::Cycle(name, by);
+            Ok(Some(Fault { error, declaration }))
+        }
     }
+}
+
+/// A fault of a module whose identifiers were found, if it has one.
+fn fault_among(
+    alloc: Global,
+    unit: &TranslationUnit,
+    found: &Identifiers<'_>,
+    builtins: &Builtins,
+) -> Result<Option<Fault>, Error>
+    requires known { identified found.now ≡ all (unit_view unit.now) }
+    requires within { All (λ o. o.ident.0 < length (unit_view unit.now).names) found.now.all.items }
+    ensures fault { IfOk result (λ r. IfSome r (λ f. IsFault (unit_view unit.now) (builtins_view builtins.now) f)) }
+    ensures none { IfOk result (λ r. IfNone r (IsValidWesl (unit_view unit.now) (builtins_view builtins.now))) }
+    ensures refused { IfErr result (λ e. e ≡ error.Memory) }
+{
+    if let Some(fault) = undefined_fault(alloc, unit.names(), found, builtins)? {
+        return Ok(Some(fault));
+    }
+    if let Some(fault) = duplicate_fault(alloc, unit, builtins)? {
+        return Ok(Some(fault));
+    }
+    cycle_fault(alloc, unit.names(), found, builtins)
 }
 
 /// A fault of a module, if it has one. Refused for want of memory alone.
@@ -96,12 +124,8 @@ pub fn wesl_fault(
     ensures none { IfOk result (λ r. IfNone r (IsValidWesl (unit_view unit.now) (builtins_view builtins.now))) }
     ensures refused { IfErr result (λ e. e ≡ error.Memory) }
 {
-    let found = occurrences(alloc, unit)?;
-    if let Some(fault) = undefined_fault(alloc, unit.names(), &found, builtins)? {
-        return Ok(Some(fault));
+    match occurrences(alloc, unit) {
+        Ok(found) => fault_among(alloc, unit, &found, builtins),
+        Err(error) => Err(error),
     }
-    if let Some(fault) = duplicate_fault(alloc, unit, builtins)? {
-        return Ok(Some(fault));
-    }
-    cycle_fault(alloc, unit.names(), &found, builtins)
 }

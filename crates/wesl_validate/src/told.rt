@@ -1,27 +1,25 @@
 //! What a fault tells: names, and the declaration that holds it.
-ghost use Rattle.std.specs.Prelude.{◌≡◌, map, string_bytes, IfOk, IfErr};
+ghost use Rattle.std.specs.Prelude.{◌≡◌, map, string_bytes, IfOk};
 ghost use Rattle.std.specs.List.{find};
 ghost use Rattle.std.specs.Option.{option_map};
-ghost use Rattle.wesl_names.specs.declared.errors.Error as error;
 ghost use Rattle.wesl_syntax.specs.Unit.{UnitView, name_in};
 ghost use Rattle.wesl_occurrences.specs.Views.{occurrence_view};
 ghost use Rattle.wesl_kept.specs.Marks.{names_here};
 ghost use Rattle.wesl_valid.specs.Known.{IsNamedBy};
 ghost use Rattle.wesl_valid.specs.Faults.{name_round};
 
-use std::alloc::Global;
-use wesl_names::{Error, Ident, Names};
+use std::alloc::{AllocError, Global};
+use wesl_names::{Ident, Names};
 use wesl_occurrences::{Identifiers, Occurrence, Standing};
 
 /// The name of a number, and the empty text where the table has none.
-pub fn name_of(alloc: Global, names: &Names, number: usize) -> Result<String, Error>
-    ensures spelled { IfOk result (λ name. string_bytes name ≡ name_in names.now number) }
-    ensures refused { IfErr result (λ e. e ≡ error.Memory) }
+pub fn name_of(alloc: Global, names: &Names, number: usize) -> Result<String, AllocError>
+    ensures { IfOk result (λ name. string_bytes name ≡ name_in names.now number) }
 {
     if number < names.len() {
-        Ok(String::from_str(alloc, names.name(Ident(number)))?)
+        String::from_str(alloc, names.name(Ident(number)))
     } else {
-        Ok(String::from_str(alloc, "")?)
+        String::from_str(alloc, "")
     }
 }
 
@@ -57,9 +55,8 @@ pub fn name_round(
     names: &Names,
     found: &Identifiers<'_>,
     declaration: Option<usize>,
-) -> Result<Option<String>, Error>
-    ensures named { IfOk result (λ name. (u : UnitView) → IsNamedBy u names.now found.now → option_map string_bytes name ≡ name_round u declaration) }
-    ensures refused { IfErr result (λ e. e ≡ error.Memory) }
+) -> Result<Option<String>, AllocError>
+    ensures { IfOk result (λ name. (u : UnitView) → IsNamedBy u names.now found.now → option_map string_bytes name ≡ name_round u declaration) }
 {
     let Some(declaration) = declaration else {
         return Ok(None);

@@ -8,19 +8,19 @@ use Rattle.wesl_valid.specs.Faults.{name_round}
 use Rattle.wesl_validate.proofs.Telling.{round_is}
 use Rattle.wesl_validate.proofs.told.name_round.Goals as goal
 
-pub returns-in-None-clause-named : goal.returns-in-None-clause-named
-returns-in-None-clause-named c = λ u n.
+pub returns-in-None : goal.returns-in-None
+returns-in-None c = λ u n.
     let found = c.args.found.now in
     let names = c.args.names.now in
     sym (ap (name_round u) c.in-Some.is
     ∙ (round_is u names (way found.outer.items) (map occurrence_view found.all.items) n.same_identifiers n.same_names c.in-Some.declaration
     ∙ ap (option_map (λ (o : Found). name_in names o.name)) (sym c.in-None.ensures)))
 
-pub returns-in_ok-name_of-in-Some-declared-clause-named : goal.returns-in_ok-name_of-in-Some-declared-clause-named
-returns-in_ok-name_of-in-Some-declared-clause-named c = λ u n.
+pub returns-in_ok-name_of-in-Some-declared : goal.returns-in_ok-name_of-in-Some-declared
+returns-in_ok-name_of-in-Some-declared c = λ u n.
     let found = c.args.found.now in
     let names = c.args.names.now in
-    ap Some c.in_ok-name_of-in-Some-declared.ensures.spelled
+    ap Some c.in_ok-name_of-in-Some-declared.ensures
     ∙ sym (ap (name_round u) c.in-Some.is
     ∙ (round_is u names (way found.outer.items) (map occurrence_view found.all.items) n.same_identifiers n.same_names c.in-Some.declaration
     ∙ ap (option_map (λ (o : Found). name_in names o.name)) (sym c.in-Some-declared.ensures)))
