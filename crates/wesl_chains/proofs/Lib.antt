@@ -20,6 +20,7 @@ pub mod Fronts
 pub mod InPlace
 pub mod Taken
 pub mod Views
+pub mod Voids
 pub mod Places
 pub mod Begun
 pub mod Closing

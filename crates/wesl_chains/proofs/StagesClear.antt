@@ -19,7 +19,7 @@ use Rattle.wesl_chains.proofs.TreeStages.{residual_tidy}
 use Rattle.wesl_formula.specs.Answers.{Answers}
 use Rattle.wesl_formula.specs.Faults.{Fault}
 use Rattle.wesl_formula.specs.Features.{Replies, known, HoldsNoError, then_replies}
-use Rattle.wesl_syntax.specs.Tree.{LabelOf, ForestOf, end, tree, kind, compound, statements, present, absent}
+use Rattle.wesl_syntax.specs.Tree.{LabelOf, ForestOf, end, tree, kind, compound, statements}
 use Rattle.wesl_syntax.specs.Unit.{UnitOf, forest_of_unit}
 
 not_compound : {I : Type 0} (l : LabelOf I) (held : Bool) → (is_list l && not (is_statements l && held)) ≡ true → is_compound l ≡ false

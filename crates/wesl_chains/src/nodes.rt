@@ -208,22 +208,7 @@ fn is_void_statement(statement: &Statement) -> bool
 {
     match statement {
         Statement::Void => true,
-        Statement::Compound(_) => false,
-        Statement::Assignment { .. } => false,
-        Statement::Increment { .. } => false,
-        Statement::Decrement { .. } => false,
-        Statement::If { .. } => false,
-        Statement::Switch { .. } => false,
-        Statement::Loop { .. } => false,
-        Statement::For { .. } => false,
-        Statement::While { .. } => false,
-        Statement::Break { .. } => false,
-        Statement::Continue { .. } => false,
-        Statement::Return { .. } => false,
-        Statement::Discard { .. } => false,
-        Statement::FunctionCall { .. } => false,
-        Statement::ConstAssert(_) => false,
-        Statement::Declaration(_) => false,
+        _ => false,
     }
 }
 
