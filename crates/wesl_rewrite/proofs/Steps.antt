@@ -1,5 +1,5 @@
 -- How what became of the parts of a tree makes up what became of it.
-use Rattle.std.proofs.Common.{◌≡◌, ◌≢◌, ℕ, zero, suc, get_or-set_other, length-set, Vec, Global, ◌+◌, ◌<◌, ◌≤◌, Bool, true, false, ◌&&◌, not, List, [], ◌∷◌, ◌++◌, length, get_or, set, take, drop, map, arith, refl, sym, ap, ◌∙◌, subst}
+use Rattle.std.proofs.Common.{◌≡◌, ◌≢◌, ℕ, get_or-set_other, length-set, Vec, Global, ◌+◌, ◌<◌, ◌≤◌, Bool, true, false, ◌&&◌, not, List, [], ◌∷◌, ◌++◌, length, get_or, set, take, drop, map, arith, refl, sym, ap, ◌∙◌, subst}
 use Rattle.std.proofs.lemmas.List.{drop-set-lt, drop_more, map-append, with_items_is, take_all, take_more, take_more_set}
 use Rattle.wesl_syntax.specs.Tree.{Kind, Label, Forest, Tree, end, tree, before, forest_of, kind}
 use Rattle.std.specs.Vec.{with_items}
