@@ -1,4 +1,4 @@
-use Rattle.std.proofs.Common.{◌∙◌, sym, ap, subst}
+use Rattle.std.proofs.Common.{◌∙◌, sym, ap}
 use Rattle.wesl_world.specs.Eager.{with_named}
 use Rattle.wesl_world.proofs.Declaring.{declaring_start, declaring_more, declaring_all}
 use Rattle.wesl_world.proofs.eager.declared_symbols.Goals as goal
