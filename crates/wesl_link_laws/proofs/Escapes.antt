@@ -15,7 +15,7 @@ use Rattle.wesl_world.proofs.Lists.{contains_map}
 use Rattle.wesl_occurrences.specs.Laws.{WaysLeadOutwards, OccurrencesAreIdentifiers}
 use Rattle.wesl_faith.specs.Faithful.{IsFaithful}
 use Rattle.wesl_table.specs.Numbering.{Numbering, NameAt, PathAt, AreRelated, IsRelatedOption, SameDeclaration, IsNumbered}
-use Rattle.wesl_table.specs.NumbersView.{numbering}
+use Rattle.wesl_table.specs.TextsView.{numbering_of_texts as numbering}
 use Rattle.wesl_assembly.specs.Denotations.{symbol, printed_as}
 use Rattle.wesl_item_forms.specs.Escape.{escape, unescape, is_reversible}
 use Rattle.wesl_item_forms.specs.Laws.{IsShort, HasShortNames, RoundTrip}
@@ -69,7 +69,7 @@ module _ (l : Link) (sound : IsSoundLink (Some l)) where
       let (x, inside, e) = contains_map module_of (all_loaded l) m held in
       let (t, at, numbered, marked) = sound.tabled x inside in
       subst (λ (k : Module). Declares (table k) n → HasShortNames k.path n) e
-      (λ d. short-names x.path n (declared_short (numbering l.numbers) (keys_short l.numbers.names.names.keys) t (table (module_of x)) numbered n d)) declares
+      (λ d. short-names x.path n (declared_short (numbering l.numbers) (keys_short l.numbers.names.texts.items) t (table (module_of x)) numbered n d)) declares
 
 -- ---- escape names
 -- different symbols have different ones, where they are read back

@@ -7,7 +7,7 @@ use Rattle.wesl_faith.specs.Faithful.{IsFaithful}
 use Rattle.wesl_link_laws.specs.Apart.{NamesAreApart}
 use Rattle.wesl_faith.specs.Retargeted.{IsNumberedByMeaning}
 use Rattle.wesl_linker.specs.Given.{Given}
-use Rattle.wesl_table.specs.NumbersView.{numbering}
+use Rattle.wesl_table.specs.TextsView.{numbering_of_texts as numbering}
 use Rattle.wesl_linker.specs.Worlds.{Module}
 use Rattle.wesl_linker.specs.Resolved.{AssemblesTo}
 use Rattle.wesl_linker.specs.Keeping.{module_of, all_loaded, modules_in, task_in, IsSoundLink, resolved_of, name_under}

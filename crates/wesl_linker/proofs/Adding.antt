@@ -24,7 +24,7 @@ use Rattle.wesl_table.specs.Marks.{IsMark}
 use Rattle.wesl_table.specs.Tables.{declaration_of, name_of, names_declared, uses}
 use Rattle.wesl_table.specs.Uses.{Use, use_of}
 use Rattle.wesl_table.specs.Numbering.{Numbering, NameAt, PathAt, AreRelated, IsRelatedOption, IsNumbered, SameDeclaration}
-use Rattle.wesl_table.specs.NumbersView.{numbering}
+use Rattle.wesl_table.specs.TextsView.{numbering_of_texts as numbering}
 use Rattle.wesl_table.specs.declared.marks.Mark.{Mark}
 use Rattle.wesl_table.proofs.Lists.{related_append}
 use Rattle.wesl_assembly.specs.Linked.{declaration_ref_tree}

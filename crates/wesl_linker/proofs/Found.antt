@@ -29,7 +29,7 @@ use Rattle.wesl_linker.specs.Keeping.{loaded_modules}
 use Rattle.wesl_linker.specs.Worlds.{Module, table, task_of, IsLinked, IsModuleOrder}
 use Rattle.wesl_linker.specs.declared.loaded.Held.{Held}
 use Rattle.wesl_linker.specs.declared.loaded.LoadedModule.{LoadedModule}
-use Rattle.wesl_linker.proofs.Kept.{path_same, path_own}
+use Rattle.wesl_linker.proofs.Kept.{path_same, path_laws}
 use Rattle.wesl_linker.proofs.Built.{ModuleFor, linked_world, paths_one}
 use Rattle.wesl_linker.proofs.Reordered.{reordered}
 
@@ -59,8 +59,8 @@ unit_has : (units : List (PathId × Held)) → HaveOne units → (p : PathId) (u
 unit_has units one p u held = by (unit_at units p) refl
   where
     by : (o : Option Held) → unit_at units p ≡ o → unit_at units p ≡ Some u
-    by None e = absurd (none_at path_eq path_same path_own units p u e held)
-    by (Some w) e = e ∙ ap Some (one p w u (found_at path_eq path_same units p w e) held)
+    by None e = absurd (none_at path_eq path_same path_laws units p u e held)
+    by (Some w) e = e ∙ ap Some (one p w u (found_at path_eq path_same path_laws units p w e) held)
 
 module _ (first nb : Numbering) (g : Grows first nb) (hands : Path → UnitOf Text → Type 0) (refuses : Path → resolve_error.ResolveError → Type 0) (units : List (PathId × Held)) (one : HaveOne units)
     (rt : Table PathId NameId) (rm : Module) (root : IsNumbered first rt (table rm)) (different_paths : AreDifferent nb.paths) (different_names : AreDifferent nb.names) (asked : All (λ p. is_relative p ≡ false) nb.paths)
@@ -79,7 +79,7 @@ module _ (first nb : Numbering) (g : Grows first nb) (hands : Path → UnitOf Te
     other_for us t m differ (inl e) h = absurd (differ (ap (λ (x : Table PathId NameId). x.path) e))
     other_for us t m differ (inr (q, unit, at, there, given, numbered)) (named, has, placed) =
         let kept_unit : Held = record { unit = m.unit; marks = m.marks } in
-        let held : Contains units (t.path, kept_unit) = found_at path_eq path_same units t.path kept_unit has in
+        let held : Contains units (t.path, kept_unit) = found_at path_eq path_same path_laws units t.path kept_unit has in
         let same_unit : unit ≡ kept_unit = one t.path unit kept_unit there held in
         let same_path : q ≡ path_view m.path = (paths_one nb different_paths).one t.path q (path_view m.path) at named in
         record {

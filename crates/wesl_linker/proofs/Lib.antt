@@ -24,3 +24,4 @@ pub mod Naming
 pub mod Recorded
 pub mod Faultless
 pub mod Excluding
+pub mod Entries

@@ -14,7 +14,7 @@ use Rattle.wesl_world.specs.Faults.AreDistinct.{one_more as one_distinct}
 use Rattle.wesl_symbols.proofs.Lists.{contains_nil, contains_first, contains_later, contains_cases}
 use Rattle.wesl_world.proofs.Lists.{contains_one, contains_map, map_contains}
 use Rattle.wesl_table.specs.Numbering.{Numbering, NameAt, PathAt, AreDifferent, IsNumbered, SameDeclaration}
-use Rattle.wesl_table.specs.NumbersView.{numbering}
+use Rattle.wesl_table.specs.TextsView.{numbering_of_texts as numbering}
 use Rattle.wesl_linker.specs.Given.{Given, AreNamed, GivesNames, KeepsOthers, Keeps}
 use Rattle.wesl_linker.specs.Worlds.{Module, table}
 use Rattle.wesl_linker.specs.Resolved.{mangled, paths_of, IsMangled}

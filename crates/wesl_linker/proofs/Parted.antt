@@ -7,7 +7,7 @@ use Rattle.wesl_syntax.specs.Tree.{TreeOf, ForestOf, forest_of, identifiers, res
 use Rattle.wesl_syntax.specs.declared.span.Spanned.{Spanned}
 use Rattle.wesl_syntax.specs.declared.declaration.GlobalDeclaration.{GlobalDeclaration}
 use Rattle.wesl_symbols.proofs.Lists.{contains_nil}
-use Rattle.wesl_table.specs.NumbersView.{numbering}
+use Rattle.wesl_table.specs.TextsView.{numbering_of_texts as numbering}
 use Rattle.wesl_assembly.specs.Linked.{shape, declaration_ref_tree}
 use Rattle.wesl_assembly.specs.Views.{Meaning, denotation_view}
 use Rattle.wesl_assembly.proofs.Replaced.{replaced_twice}

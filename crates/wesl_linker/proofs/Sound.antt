@@ -20,11 +20,11 @@ use Rattle.wesl_symbols.proofs.Entries.{found_at}
 use Rattle.wesl_symbols.proofs.Lists.{contains_cases, contains_first, contains_later}
 use Rattle.wesl_world.proofs.Lists.{contains_map, map_contains}
 use Rattle.wesl_table.specs.Numbering.{Numbering, AreRelated, Grows, NameAt, PathAt, AreDifferent, IsNumbered, SameTable}
-use Rattle.wesl_table.specs.NumbersView.{numbering}
+use Rattle.wesl_table.specs.TextsView.{numbering_of_texts as numbering}
 use Rattle.wesl_table.specs.Marks.{AreMarked}
 use Rattle.wesl_table.specs.Tables.{uses}
 use Rattle.wesl_table.specs.declared.marks.Mark.{Mark}
-use Rattle.wesl_table.specs.declared.numbers.Numbers.{Numbers}
+use Rattle.wesl_table.specs.declared.texts.NumberTexts.{NumberTexts}
 use Rattle.wesl_table.proofs.Lists.{related_more}
 use Rattle.wesl_table.proofs.Related.{name_later, table_later}
 use Rattle.wesl_linker.specs.Handing.{HaveOne, AreHanded, IsHandedTable, IsMarkedAt, IsRefusedPath}
@@ -40,7 +40,7 @@ use Rattle.wesl_linker.specs.declared.link.Link.{Link}
 use Rattle.wesl_linker.proofs.Carried.{Back, one_back, related_in, related_back, table_back, SameSymbol, SameTask, Covers, reached_to}
 use Rattle.wesl_linker.proofs.Built.{paths_one, names_one}
 use Rattle.wesl_linker.proofs.Found as found
-use Rattle.wesl_linker.proofs.Kept.{path_same}
+use Rattle.wesl_linker.proofs.Kept.{path_same, path_laws}
 use Rattle.wesl_linker.proofs.Lists.{at_has}
 use Rattle.wesl_linker.proofs.Marked.{marks_later}
 use Rattle.wesl_linker.proofs.Texts.{name_is}
@@ -64,7 +64,7 @@ symbol_other : (nb : Numbering) → AreDifferent nb.paths → AreDifferent nb.na
 symbol_other nb dp dn s u x h k =
     ap (λ (q : PathId). record { path = q; name = s.name }) ((paths_one nb dp).other s.path u.path x.path h.path k.path) ∙ ap (λ (z : NameId). record { path = u.path; name = z }) ((names_one nb dn).other s.name u.name x.name h.name k.name)
 
-module _ (numbers : Numbers) (first : Numbering) (g : Grows first (numbering numbers)) (hands : Path → UnitOf Text → Type 0) (refuses : Path → resolve_error.ResolveError → Type 0) (units : List (PathId × Held)) (one : HaveOne units) (handed : AreHanded hands (numbering numbers) units)
+module _ (numbers : NumberTexts) (first : Numbering) (g : Grows first (numbering numbers)) (hands : Path → UnitOf Text → Type 0) (refuses : Path → resolve_error.ResolveError → Type 0) (units : List (PathId × Held)) (one : HaveOne units) (handed : AreHanded hands (numbering numbers) units)
     (rt : Table PathId NameId) (path : ModulePath) (unit : TranslationUnit) (marks : Vec (Vec Mark Global) Global) (root : IsNumbered first rt (table (module_at path unit))) (marked : AreMarked first marks.items (uses (path_view path) (spelled (unit_view unit))))
     (kept : Vec NameId Global) (keep : List Text) (kept_same : AreRelated (NameAt first) kept.items keep) (is_eager : Bool) (limit : ℕ)
     (k : linking.Linking PathId NameId) (linked : linking.IsLinked (IsHandedTable hands (numbering numbers) units) (IsRefusedPath refuses (numbering numbers)) rt (linking.task_of rt kept.items is_eager) limit k)
@@ -106,7 +106,7 @@ module _ (numbers : Numbers) (first : Numbering) (g : Grows first (numbering num
   taken_marked : (us : List (Table PathId NameId)) (t : Table PathId NameId) (m : LoadedModule) → IsTaken nb units us t m → IsMarked nb m
   taken_marked us t m (at, has, placed) =
       let kept_unit : Held = record { unit = m.unit; marks = m.marks } in
-      let (q, named, given, its_marks) = handed t.path kept_unit (found_at path_eq path_same units t.path kept_unit has) in
+      let (q, named, given, its_marks) = handed t.path kept_unit (found_at path_eq path_same path_laws units t.path kept_unit has) in
       subst (λ (x : Path). IsMarkedAt nb x kept_unit) ((paths_one nb numbers.paths.different).one t.path q (path_view m.path) named at) its_marks
 
   tabled : (m : LoadedModule) → Contains (first_loaded ∷ others.items) m → IsTabled nb k.tables m

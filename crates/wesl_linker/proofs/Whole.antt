@@ -20,7 +20,7 @@ use Rattle.wesl_table.specs.Imports.{imports}
 use Rattle.wesl_table.specs.Numbering.{PathAt, NameAt}
 use Rattle.wesl_table.specs.Tables.{names_declared, paired}
 use Rattle.wesl_table.specs.Uses.{Use, use_of}
-use Rattle.wesl_table.specs.NumbersView.{numbering}
+use Rattle.wesl_table.specs.TextsView.{numbering_of_texts as numbering}
 use Rattle.wesl_linker.specs.Given.{Given}
 use Rattle.wesl_assembly.specs.Denotations.{symbol, local, free_name, printed_as}
 use Rattle.wesl_assembly.specs.Directives.{AreThinned, Thins, all_directives}

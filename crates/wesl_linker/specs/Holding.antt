@@ -18,7 +18,7 @@ use Rattle.wesl_world.specs.Keeping.{StandsHeld}
 use Rattle.wesl_table.specs.Imports.{first_label}
 use Rattle.wesl_table.specs.Tables.{reference_to}
 use Rattle.wesl_table.specs.Numbering.{Numbering, NameAt, PathAt, AreRelated}
-use Rattle.wesl_table.specs.NumbersView.{numbering}
+use Rattle.wesl_table.specs.TextsView.{numbering_of_texts as numbering}
 use Rattle.wesl_table.specs.declared.marks.Mark.{Mark}
 use Rattle.wesl_table.specs.declared.marks.Mark.TheVariants as marks
 use Rattle.wesl_assembly.specs.Denotations.{symbol, local, free_name}

@@ -9,7 +9,7 @@ use Rattle.wesl_symbols.specs.Tables.{Table}
 use Rattle.wesl_world.specs.World.{Task, Reached}
 use Rattle.wesl_world.specs.Faults.{AreDistinct}
 use Rattle.wesl_table.specs.Numbering.{Numbering, NameAt, PathAt, IsNumbered}
-use Rattle.wesl_table.specs.NumbersView.{numbering}
+use Rattle.wesl_table.specs.TextsView.{numbering_of_texts as numbering}
 use Rattle.wesl_assembly.specs.Denotations.{symbol, local, free_name}
 use Rattle.wesl_assembly.specs.Views.{Meaning}
 use Rattle.wesl_linker.specs.Given.{Given}

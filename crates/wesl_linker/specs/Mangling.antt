@@ -1,7 +1,7 @@
 -- The names that a mangler gives to the modules of a link one after the other, and what it records.
 use Rattle.std.specs.Prelude.{◌≡◌, ◌++◌, Bool, List, [], ◌∷◌}
 use Rattle.wesl_names.specs.Path.{Text, Path, path_view}
-use Rattle.wesl_table.specs.NumbersView.{numbering}
+use Rattle.wesl_table.specs.TextsView.{numbering_of_texts as numbering}
 use Rattle.wesl_linker.specs.GivenView.{given}
 use Rattle.wesl_linker.specs.Recorded.{Record, IsRecordedBy, writes_of}
 use Rattle.wesl_linker.specs.Resolved.{declared_names, writes_from}

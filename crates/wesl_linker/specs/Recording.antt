@@ -5,8 +5,8 @@ use Rattle.wesl_names.specs.declared.path.ModulePath.{ModulePath}
 use Rattle.wesl_symbols.specs.declared.ids.PathId.{PathId}
 use Rattle.wesl_symbols.specs.declared.ids.NameId.{NameId}
 use Rattle.wesl_symbols.specs.Tables.{Table}
-use Rattle.wesl_table.specs.NumbersView.{numbering}
-use Rattle.wesl_table.specs.declared.numbers.Numbers.{Numbers}
+use Rattle.wesl_table.specs.TextsView.{numbering_of_texts as numbering}
+use Rattle.wesl_table.specs.declared.texts.NumberTexts.{NumberTexts}
 use Rattle.wesl_linker.specs.GivenView.{given}
 use Rattle.wesl_linker.specs.Recorded.{Record, IsRecordedBy, HasNone, declared_texts, firsts, writes_of, written_unless}
 use Rattle.wesl_linker.specs.declared.given.GivenNames.{GivenNames}
@@ -16,6 +16,6 @@ abbrev pub RecordsName : Bool → (Path → Text → Text) → ModulePath → Te
 RecordsName writes name_of path item had old new = (x : Text) → new x ≡ written_unless had writes (name_of (path_view path) item) (path_view path, item) old x
 
 -- of a module that has no name yet, each declared name is recorded once, in the order in which they stand first
-abbrev pub RecordsTable : Bool → (Path → Text → Text) → ModulePath → Numbers → Table PathId NameId → GivenNames → Record → Record → Type 0
+abbrev pub RecordsTable : Bool → (Path → Text → Text) → ModulePath → NumberTexts → Table PathId NameId → GivenNames → Record → Record → Type 0
 RecordsTable writes name_of path numbers t before old new =
     HasNone t.path (given before) → IsRecordedBy writes (writes_of name_of (path_view path) (firsts (declared_texts (numbering numbers) t.declarations))) old new

@@ -8,7 +8,7 @@ use Rattle.wesl_symbols.specs.declared.ids.PathId.{PathId}
 use Rattle.wesl_symbols.specs.declared.ids.NameId.{NameId}
 use Rattle.wesl_world.specs.Linking as links
 use Rattle.wesl_table.specs.Numbering.{Numbering, AreRelated, NameAt}
-use Rattle.wesl_table.specs.declared.numbers.Numbers.{Numbers}
+use Rattle.wesl_table.specs.declared.texts.NumberTexts.{NumberTexts}
 use Rattle.wesl_linker.specs.Resolved.{module_at}
 use Rattle.wesl_linker.specs.Worlds.{IsModuleOrder}
 use Rattle.wesl_linker.specs.Keeping.{IsSound, resolved, modules_of}
@@ -38,7 +38,7 @@ module _ (hands : Path → UnitOf Text → Type 0) (refuses : Path → ResolveEr
       (keep : List Text) → AreKeptTexts nb root keep → IfErr result (TellsFault hands refuses root.path root.unit keep root.is_eager limit)
 
 -- the link holds the root, whose table is the first, and what was linked
-abbrev pub IsLinkFrom : Root → Numbers → links.Linking PathId NameId → Link → Type 0
+abbrev pub IsLinkFrom : Root → NumberTexts → links.Linking PathId NameId → Link → Type 0
 IsLinkFrom root numbers linked l =
     l ≡ record {
       root = record { path = root.path; place = 0; unit = root.unit; marks = root.marks };

@@ -7,7 +7,7 @@ ghost use Rattle.wesl_tree.specs.Translation.{unit_view};
 ghost use Rattle.wesl_world.specs.World.{LeadsTo};
 ghost use Rattle.wesl_world.specs.Keeping.{StandsHeld};
 ghost use Rattle.wesl_table.specs.Imports.{first_label};
-ghost use Rattle.wesl_table.specs.NumbersView.{numbering};
+ghost use Rattle.wesl_table.specs.TextsView.{numbering_of_texts as numbering};
 ghost use Rattle.wesl_table.specs.Tables.{reference_to};
 ghost use Rattle.wesl_table.specs.declared.marks.Mark as marked;
 ghost use Rattle.wesl_assembly.specs.Views.{Meaning, denotation_view};
@@ -31,7 +31,7 @@ use wesl_symbols::symbols::{Reference, Symbol};
 use wesl_symbols::table::{Declaration, Table};
 use wesl_syntax::{GlobalDeclaration, GlobalDeclarationNode};
 use wesl_table::marks::Mark;
-use wesl_table::numbers::Numbers;
+use wesl_table::texts::NumberTexts;
 use wesl_tree::TranslationUnit;
 use wesl_world::link::Linked;
 
@@ -45,7 +45,7 @@ pub struct Parts<'a> {
 /// The names that symbols print as: those that a mangler gave, and their own.
 #[derive(Drop)]
 struct SymbolNames<'a> {
-    numbers: &'a Numbers,
+    numbers: &'a NumberTexts,
     given: &'a GivenNames,
 }
 
@@ -61,7 +61,7 @@ impl<'a> Printing for SymbolNames<'a> {
 }
 
 /// The text of a name; the empty text where it has none.
-fn text_of(numbers: &Numbers, name: NameId) -> &str
+fn text_of(numbers: &NumberTexts, name: NameId) -> &str
     ensures { result.now ≡ name_text (numbering numbers.now) name }
 {
     match numbers.names.name(name) {
@@ -92,7 +92,7 @@ fn symbol_asked(
 
 /// What an identifier of a held declaration stands for, by its mark.
 fn denotation<'a>(
-    numbers: &'a Numbers,
+    numbers: &'a NumberTexts,
     linked: &Linked,
     table: &Table,
     mark: Mark,
@@ -112,7 +112,7 @@ fn denotation<'a>(
 
 /// What the identifiers of a held declaration stand for, after those before them: whether there was memory for it.
 fn add_denotations<'a>(
-    numbers: &'a Numbers,
+    numbers: &'a NumberTexts,
     linked: &Linked,
     table: &Table,
     marks: &[Mark],

@@ -5,23 +5,23 @@ ghost use Rattle.wesl_names.specs.declared.errors.Error as error;
 ghost use Rattle.wesl_symbols.specs.declared.ids.PathId.{PathId};
 ghost use Rattle.wesl_symbols.specs.declared.ids.NameId.{NameId};
 ghost use Rattle.wesl_symbols.specs.declared.symbols.Symbol as symbols;
-ghost use Rattle.wesl_table.specs.NumbersView.{numbering};
+ghost use Rattle.wesl_table.specs.TextsView.{numbering_of_texts as numbering};
 ghost use Rattle.wesl_linker.specs.Given.{AreNamed, GivesName, GivesNames, Keeps, KeepsOthers, KeepsUndeclared};
 ghost use Rattle.wesl_linker.specs.Recording.{RecordsName, RecordsTable};
 
-use indexmap::IndexMap;
 use std::alloc::Global;
+use std::collections::HashMap;
 use wesl_mangle::Mangler;
 use wesl_names::{Error, ModulePath};
 use wesl_symbols::ids::{NameId, PathId};
 use wesl_symbols::symbols::Symbol;
 use wesl_symbols::table::Table;
-use wesl_table::numbers::Numbers;
+use wesl_table::texts::NumberTexts;
 
 /// The names that a mangler gave to symbols (WESL, "NameMangling").
 #[derive(Drop)]
 pub(crate) struct GivenNames {
-    names: IndexMap<Symbol<PathId, NameId>, String>,
+    names: HashMap<Symbol<PathId, NameId>, String>,
 }
 
 impl GivenNames {
@@ -32,7 +32,7 @@ impl GivenNames {
         ensures { (s : symbols.Symbol PathId NameId) → given result s ≡ None }
     {
         GivenNames {
-            names: IndexMap::new(alloc),
+            names: HashMap::new(alloc),
         }
     }
 
@@ -80,7 +80,7 @@ impl GivenNames {
         &mut self,
         alloc: Global,
         mangler: &mut M,
-        numbers: &Numbers,
+        numbers: &NumberTexts,
         path: &ModulePath,
         table: &Table,
     ) -> Result<(), Error>

@@ -1,14 +1,14 @@
 //! What a link found: its modules, their numbers, and what is reached.
 ghost use Rattle.std.specs.Prelude.{Contains};
 ghost use Rattle.wesl_table.specs.Numbering.{IsNumbered};
-ghost use Rattle.wesl_table.specs.NumbersView.{numbering};
+ghost use Rattle.wesl_table.specs.TextsView.{numbering_of_texts as numbering};
 ghost use Rattle.wesl_linker.specs.Worlds as worlds;
 ghost use Rattle.wesl_linker.specs.Tabled.{IsMarked, IsTabled, module_of};
 
 use crate::loaded::LoadedModule;
 use wesl_symbols::ids::NameId;
 use wesl_symbols::table::Table;
-use wesl_table::numbers::Numbers;
+use wesl_table::texts::NumberTexts;
 use wesl_world::link::Linked;
 
 /// A link that succeeded: its root, its other modules in path order, the names that were kept or that all was asked for,
@@ -19,7 +19,7 @@ pub struct Link {
     pub others: Vec<LoadedModule>,
     pub kept: Vec<NameId>,
     pub is_eager: bool,
-    pub numbers: Numbers,
+    pub numbers: NumberTexts,
     pub linked: Linked,
 }
 

@@ -15,6 +15,7 @@ ghost use Rattle.wesl_table.specs.Marks.{AreMarked};
 ghost use Rattle.wesl_table.specs.Tables.{table_at, uses};
 ghost use Rattle.wesl_table.specs.Numbering.{AreRelated, Grows, NameAt, IsNumbered};
 ghost use Rattle.wesl_table.specs.NumbersView.{numbering};
+ghost use Rattle.wesl_table.specs.TextsView.{numbering_of_texts};
 ghost use Rattle.wesl_linker.specs.Handing.{Follows, StaysOne};
 ghost use Rattle.wesl_linker.specs.Resolved.{module_at};
 ghost use Rattle.wesl_linker.specs.Keeping.{IsSound, resolved, modules_of};
@@ -139,11 +140,13 @@ fn link_of(
     requires left { AreKept (numbering numbers) units.old.entries (drop 1 linked.tables) }
     requires once { AreDistinct (paths (drop 1 linked.tables)) }
     ensures found { IfOk result (λ l. AreTaken (numbering numbers) units.old.entries (drop 1 linked.tables) l.others.items) }
-    ensures rest { IfOk result (IsLinkFrom root numbers linked) }
+    ensures texts { IfOk result (λ l. numbering_of_texts l.numbers ≡ numbering numbers) }
+    ensures rest { IfOk result (λ l. IsLinkFrom root l.numbers linked l) }
     ensures refused { IfErr result (λ e. e ≡ error.Memory) }
 {
     let mut others = take_modules(alloc, &numbers, &linked.tables()[1..], units)?;
     put_in_order(&mut others);
+    let numbers = numbers.into_texts(alloc)?;
     Ok(Link {
         root: LoadedModule {
             path: root.path,

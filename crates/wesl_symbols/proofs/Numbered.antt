@@ -7,7 +7,8 @@ use Rattle.std.proofs.lemmas.List.{map-append}
 use Rattle.std.proofs.lemmas.List.Quantifiers.{position-Some}
 use Rattle.std.proofs.lemmas.Slice.Eq.{bytes_eq-Decides}
 use Rattle.indexmap.specs.IndexSet.{insert_key}
-use Rattle.wesl_symbols.specs.Different.{AreDifferent, PutsOrKeeps}
+use Rattle.wesl_symbols.specs.Different.{AreDifferent}
+use Rattle.wesl_symbols.specs.Kept.{PutsOrKeeps}
 use Rattle.wesl_symbols.specs.Interned.{with_text}
 
 pub get_map : {K X : Type 0} (f : K → X) (xs : List K) (i : ℕ) (k : K) → slice_get xs i ≡ Some k → slice_get (map f xs) i ≡ Some (f k)

@@ -5,3 +5,4 @@ pub mod Index
 pub mod Indexed
 pub mod Different
 pub mod Interned
+pub mod Kept

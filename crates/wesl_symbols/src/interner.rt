@@ -3,11 +3,12 @@ ghost use Rattle.std.specs.Prelude.{◌≡◌, ◌<◌, ℕ, [], true, length, S
 ghost use Rattle.std.specs.Global.{Global};
 ghost use Rattle.indexmap.specs.IndexSet.{insert_key};
 ghost use Rattle.wesl_names.specs.declared.errors.Error as error;
-ghost use Rattle.wesl_symbols.specs.Different.{AreDifferent, PutsOrKeeps};
+ghost use Rattle.wesl_symbols.specs.Different.{AreDifferent};
+ghost use Rattle.wesl_symbols.specs.Kept.{PutsOrKeeps};
 
 use crate::ids::NameId;
 use indexmap::IndexSet;
-use std::alloc::Global;
+use std::alloc::{AllocError, Global};
 use wesl_names::Error;
 
 /// The index of a name, which goes last unless it is there.
@@ -94,6 +95,14 @@ impl Interner {
             Some(name) => Some(name.as_str()),
             None => None,
         }
+    }
+
+    /// The names by their numbers. Refused for want of memory alone.
+    pub fn into_texts(self, alloc: Global) -> Result<Vec<String>, AllocError>
+        ensures { IfOk result (λ v. map string_bytes v.items ≡ texts_of self) }
+    {
+        let Interner { names } = self;
+        names.into_iter().collect(alloc)
     }
 
     /// How many names there are. It takes no memory.

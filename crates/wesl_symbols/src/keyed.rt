@@ -1,9 +1,12 @@
-//! Maps by key, seen as the list of their entries.
+//! Maps by key, seen as the list of their entries, and keys in the order in which they came.
+//!
+//! They are types of std: a library carries all that is stated of the types that its public interface reaches, private
+//! fields' types too, but for those of std.
 ghost use Rattle.std.specs.Prelude.{◌≡◌, ◌↔◌, true, IsTrue, IfSome, IfNone, OnOk, Contains};
-ghost use Rattle.wesl_symbols.specs.Keyed.{Puts, PutsKey};
+ghost use Rattle.wesl_symbols.specs.Keyed.{Puts, PutsKey, HaveTheSame};
 
-use indexmap::{IndexMap, IndexSet};
 use std::alloc::AllocError;
+use std::collections::{HashMap, HashSet};
 use std::hash::Hash;
 
 /// A key whose equality tells its values apart.
@@ -12,7 +15,7 @@ pub trait Identity: Copy + Eq + Hash + Drop {
 }
 
 /// The value at a key.
-pub fn value_at<K: Identity, V: Copy>(map: &IndexMap<K, V>, key: K) -> Option<V>
+pub fn value_at<K: Identity, V: Copy>(map: &HashMap<K, V>, key: K) -> Option<V>
     ensures found { IfSome result (λ v. Contains map.now.entries (key, v)) }
     ensures none { IfNone result ((v : V) → Contains map.now.entries (key, v) → ⊥) }
 {
@@ -24,7 +27,7 @@ pub fn value_at<K: Identity, V: Copy>(map: &IndexMap<K, V>, key: K) -> Option<V>
 
 /// Puts a value at a key, in place of the one that is there.
 pub fn put<K: Identity, V: Drop>(
-    map: &mut IndexMap<K, V>,
+    map: &mut HashMap<K, V>,
     key: K,
     value: V,
 ) -> Result<(), AllocError>
@@ -36,19 +39,32 @@ pub fn put<K: Identity, V: Drop>(
     }
 }
 
-/// Puts a key at the end of a set, unless it is there.
-pub fn put_key<K: Identity>(set: &mut IndexSet<K>, key: K) -> Result<(), AllocError>
-    ensures { OnOk result (PutsKey set.old.keys key set.new.keys) }
+/// Puts a key at the end of a list, unless it is there; the set has the keys of the list.
+pub fn put_key<K: Identity>(
+    keys: &mut Vec<K>,
+    held: &mut HashSet<K>,
+    key: K,
+) -> Result<(), AllocError>
+    requires same { HaveTheSame keys.old.items held.old.keys }
+    ensures puts { OnOk result (PutsKey keys.old.items key keys.new.items) }
+    ensures stays { HaveTheSame keys.new.items held.new.keys }
 {
-    match set.insert(key) {
+    if held.contains(&key) {
+        return Ok(());
+    }
+    keys.push(key)?;
+    match held.insert(key) {
         Ok(_) => Ok(()),
-        Err(_) => Err(AllocError),
+        Err(_) => {
+            keys.pop();
+            Err(AllocError)
+        }
     }
 }
 
-/// Whether a set has a key.
-pub fn has_key<K: Identity>(set: &IndexSet<K>, key: K) -> bool
-    ensures { IsTrue result ↔ Contains set.now.keys key }
+/// Whether a set has a key, and so the list whose keys it has.
+pub fn has_key<K: Identity>(held: &HashSet<K>, key: K) -> bool
+    ensures { IsTrue result ↔ Contains held.now.keys key }
 {
-    set.contains(&key)
+    held.contains(&key)
 }

@@ -10,8 +10,8 @@ ghost use Rattle.wesl_symbols.specs.Tables.{Import};
 use crate::ids::{NameId, PathId};
 use crate::keyed;
 use crate::symbols::{Import, Reference};
-use indexmap::IndexMap;
 use std::alloc::{AllocError, Global};
+use std::collections::HashMap;
 use std::marker::Model;
 
 /// A declaration, and the names that it uses.
@@ -69,10 +69,10 @@ pub struct Table {
     imports: Vec<Import<PathId, NameId>>,
     declarations: Vec<Declaration>,
     // Of each name an import that binds it, and one that publishes it.
-    bound: IndexMap<NameId, Import<PathId, NameId>>,
-    published: IndexMap<NameId, Import<PathId, NameId>>,
+    bound: HashMap<NameId, Import<PathId, NameId>>,
+    published: HashMap<NameId, Import<PathId, NameId>>,
     // Of each name its last declaration, and of each declaration the one of its name before it.
-    latest: IndexMap<Option<NameId>, usize>,
+    latest: HashMap<Option<NameId>, usize>,
     earlier: Vec<Option<usize>>,
 }
 
@@ -105,7 +105,7 @@ impl Model for Table {
 
 /// Puts at each bound name an import that binds it.
 fn index_bound(
-    index: &mut IndexMap<NameId, Import<PathId, NameId>>,
+    index: &mut HashMap<NameId, Import<PathId, NameId>>,
     imports: &[Import<PathId, NameId>],
 ) -> Result<(), AllocError>
     requires { index.old.entries ≡ [] }
@@ -119,7 +119,7 @@ fn index_bound(
 
 /// Puts at each published name an import that publishes it.
 fn index_published(
-    index: &mut IndexMap<NameId, Import<PathId, NameId>>,
+    index: &mut HashMap<NameId, Import<PathId, NameId>>,
     imports: &[Import<PathId, NameId>],
 ) -> Result<(), AllocError>
     requires { index.old.entries ≡ [] }
@@ -135,7 +135,7 @@ fn index_published(
 
 /// Ties each declaration to the one of its name before it.
 fn tie(
-    latest: &mut IndexMap<Option<NameId>, usize>,
+    latest: &mut HashMap<Option<NameId>, usize>,
     earlier: &mut Vec<Option<usize>>,
     declarations: &[Declaration],
 ) -> Result<(), AllocError>
@@ -154,9 +154,9 @@ fn tie(
 /// The indexes of a module, as its table has them.
 #[derive(Drop)]
 struct Indexed {
-    bound: IndexMap<NameId, Import<PathId, NameId>>,
-    published: IndexMap<NameId, Import<PathId, NameId>>,
-    latest: IndexMap<Option<NameId>, usize>,
+    bound: HashMap<NameId, Import<PathId, NameId>>,
+    published: HashMap<NameId, Import<PathId, NameId>>,
+    latest: HashMap<Option<NameId>, usize>,
     earlier: Vec<Option<usize>>,
 }
 
@@ -166,9 +166,9 @@ impl Indexed {
         ensures { IsBlank result }
     {
         Indexed {
-            bound: IndexMap::new(alloc),
-            published: IndexMap::new(alloc),
-            latest: IndexMap::new(alloc),
+            bound: HashMap::new(alloc),
+            published: HashMap::new(alloc),
+            latest: HashMap::new(alloc),
             earlier: Vec::new(alloc),
         }
     }

@@ -11,3 +11,4 @@ pub mod NumbersView
 pub mod Base
 pub mod Laws
 pub mod Parts
+pub mod TextsView

@@ -9,3 +9,4 @@ pub mod marks;
 pub mod numbers;
 pub mod reading;
 pub mod table;
+pub mod texts;

@@ -6,8 +6,9 @@ ghost use Rattle.wesl_syntax.specs.Unit.{name_in};
 ghost use Rattle.wesl_symbols.specs.Different.{AreDifferent};
 ghost use Rattle.wesl_table.specs.Numbering.{IsLonger, Puts, Grows, NameAt, PathAt};
 
+use crate::texts::{NameTexts, NumberTexts, PathTexts};
 use indexmap::IndexSet;
-use std::alloc::Global;
+use std::alloc::{AllocError, Global};
 use std::hash::Hash;
 use wesl_names::{Error, Ident, ModulePath, Names, law_of_equality};
 use wesl_symbols::Interner;
@@ -70,6 +71,14 @@ impl PathNumbers {
         }
     }
 
+    /// The paths by their numbers. Refused for want of memory alone.
+    pub(crate) fn into_paths(self, alloc: Global) -> Result<Vec<ModulePath>, AllocError>
+        ensures { IfOk result (λ v. map path_view v.items ≡ paths_of self) }
+    {
+        let PathNumbers { paths } = self;
+        paths.into_iter().collect(alloc)
+    }
+
     /// The path of a number.
     pub fn path(&self, id: PathId) -> Option<&ModulePath>
         ensures found { IfSome result (λ p. slice_get (paths_of self.now) id.0 ≡ Some (path_view p.now)) }
@@ -99,6 +108,7 @@ pub struct Numbers {
 
 impl Numbers {
     ghost use Rattle.wesl_table.specs.NumbersView.{numbering};
+    ghost use Rattle.wesl_table.specs.TextsView.{numbering_of_texts};
 
     /// No names and no paths. It takes no memory.
     pub fn new(alloc: Global) -> Numbers
@@ -127,5 +137,18 @@ impl Numbers {
         ensures refused { IfErr result (λ e. e ≡ error.Memory) }
     {
         self.paths.number(alloc, path)
+    }
+
+    /// What these numbers stand for, which are all that there are. Refused for want of memory alone.
+    pub fn into_texts(self, alloc: Global) -> Result<NumberTexts, AllocError>
+        ensures { IfOk result (λ t. numbering_of_texts t ≡ numbering self) }
+    {
+        let Numbers { names, paths } = self;
+        let names = names.into_texts(alloc)?;
+        let paths = paths.into_paths(alloc)?;
+        Ok(NumberTexts {
+            names: NameTexts::new(names),
+            paths: PathTexts::new(paths),
+        })
     }
 }

@@ -10,3 +10,4 @@ pub mod Eager
 pub mod Faults
 pub mod Linking
 pub mod Laws
+pub mod Reached

@@ -17,7 +17,6 @@ use crate::loader::Loader;
 use crate::request::{Loaded, Request, table_at};
 use std::alloc::{AllocError, Global};
 use wesl_symbols::ids::{NameId, PathId};
-use wesl_symbols::keyed;
 use wesl_symbols::symbols::Symbol;
 use wesl_symbols::table::Table;
 
@@ -118,7 +117,7 @@ fn hold_all<E, L: Loader<E>>(
     ensures refused { IfErr result (IsExplained (L.hands loader.now) (L.refuses loader.now) request.now.root (task_at request.now) request.now.max_modules) }
 {
     for symbol in symbols {
-        keyed::put_key(&mut loaded.symbols, *symbol)?;
+        loaded.symbols.put(*symbol)?;
     }
     Ok(())
 }

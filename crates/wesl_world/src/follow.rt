@@ -58,7 +58,7 @@ fn hop<E, L: Loader<E>>(
                 path: look_up.path,
                 name: look_up.name,
             };
-            keyed::put_key(&mut loaded.symbols, symbol)?;
+            loaded.symbols.put(symbol)?;
             Ok(None)
         }
         Answer::Next(next) => Ok(Some(next)),

@@ -9,5 +9,6 @@ pub mod link;
 mod load;
 pub mod loader;
 mod names;
+mod reached;
 mod request;
 mod run;

@@ -15,10 +15,11 @@ ghost use Rattle.wesl_world.specs.Keeping.{StandsHeld};
 use crate::error::LinkError;
 use crate::loader::Loader;
 use crate::names;
+use crate::reached::Symbols;
 use crate::request::{Loaded, Request};
 use crate::run::{self, Reach};
-use indexmap::{IndexMap, IndexSet};
 use std::alloc::{AllocError, Global};
+use std::collections::HashMap;
 use std::marker::Model;
 use wesl_symbols::ids::{NameId, PathId};
 use wesl_symbols::keyed;
@@ -28,8 +29,8 @@ use wesl_symbols::table::Table;
 /// The modules that a link loaded, the symbols that it reached, and what each name used in them stands for.
 pub struct Linked {
     tables: Vec<Table>,
-    symbols: IndexSet<Symbol<PathId, NameId>>,
-    answers: IndexMap<LookUp<PathId, NameId>, Symbol<PathId, NameId>>,
+    symbols: Symbols,
+    answers: HashMap<LookUp<PathId, NameId>, Symbol<PathId, NameId>>,
     turns: usize,
 }
 
@@ -84,7 +85,7 @@ impl Linked {
     pub fn holds(&self, path: PathId, name: NameId) -> bool
         ensures { IsTrue result ↔ Contains self.now.symbols (record { path = path; name = name }) }
     {
-        keyed::has_key(&self.symbols, Symbol { path, name })
+        self.symbols.has(Symbol { path, name })
     }
 
     /// The symbol that a name used in a held declaration of a module stands for (WESL, "Imports"); none where the module

@@ -9,8 +9,8 @@ ghost use Rattle.wesl_world.specs.Faults.{Agrees, Clashes, SameTarget, IsOwn};
 ghost use Rattle.wesl_world.specs.Asked.{Gains, AsksIn};
 ghost use Rattle.wesl_world.specs.Answers.{IsAnswer};
 
-use indexmap::IndexMap;
 use std::alloc::{AllocError, Global};
+use std::collections::HashMap;
 use wesl_symbols::ids::{NameId, PathId};
 use wesl_symbols::keyed;
 use wesl_symbols::symbols::{Import, LookUp, Reference};
@@ -53,7 +53,7 @@ pub fn clash(alloc: Global, table: &Table) -> Result<Option<NameId>, AllocError>
     ensures clash { IfOk result (λ o. IfSome o (λ n. Clashes table.now n)) }
     ensures none { IfOk result (λ o. IfNone o (Agrees table.now)) }
 {
-    let mut targets = IndexMap::new(alloc);
+    let mut targets = HashMap::new(alloc);
     for import in table.imports() {
         if !keeps_own(table, import) {
             return Ok(Some(import.bound));

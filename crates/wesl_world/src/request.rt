@@ -6,8 +6,9 @@ ghost use Rattle.wesl_symbols.specs.Tables as tables;
 ghost use Rattle.wesl_world.specs.World.{IsAt};
 ghost use Rattle.wesl_world.specs.Loading.{ArePlaced, world_of};
 
-use indexmap::{IndexMap, IndexSet};
+use crate::reached::Symbols;
 use std::alloc::Global;
+use std::collections::HashMap;
 use wesl_symbols::ids::{NameId, PathId};
 use wesl_symbols::keyed;
 use wesl_symbols::symbols::{LookUp, Symbol};
@@ -27,10 +28,10 @@ pub struct Request {
 pub struct Loaded {
     pub others: Vec<Table>,
     /// Where the module of a path stands.
-    pub places: IndexMap<PathId, usize>,
-    pub symbols: IndexSet<Symbol<PathId, NameId>>,
+    pub places: HashMap<PathId, usize>,
+    pub symbols: Symbols,
     /// What each look-up that was followed leads to.
-    pub answers: IndexMap<LookUp<PathId, NameId>, Symbol<PathId, NameId>>,
+    pub answers: HashMap<LookUp<PathId, NameId>, Symbol<PathId, NameId>>,
 }
 
 /// Nothing beside the root.
@@ -42,9 +43,9 @@ pub fn begin(alloc: Global) -> Loaded
 {
     Loaded {
         others: Vec::new(alloc),
-        places: IndexMap::new(alloc),
-        symbols: IndexSet::new(alloc),
-        answers: IndexMap::new(alloc),
+        places: HashMap::new(alloc),
+        symbols: Symbols::new(alloc),
+        answers: HashMap::new(alloc),
     }
 }
 

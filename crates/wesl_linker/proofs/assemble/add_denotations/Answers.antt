@@ -1,5 +1,5 @@
 use Rattle.std.proofs.Common.{get_or, rules}
-use Rattle.wesl_table.specs.NumbersView.{numbering}
+use Rattle.wesl_table.specs.TextsView.{numbering_of_texts as numbering}
 use Rattle.wesl_table.specs.declared.marks.Mark.{Mark}
 use Rattle.wesl_table.specs.declared.marks.Mark.TheVariants as marks
 use Rattle.wesl_linker.proofs.Adding.{meant_more}

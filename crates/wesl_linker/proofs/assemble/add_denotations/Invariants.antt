@@ -1,5 +1,5 @@
 use Rattle.std.proofs.Common.{take}
-use Rattle.wesl_table.specs.NumbersView.{numbering}
+use Rattle.wesl_table.specs.TextsView.{numbering_of_texts as numbering}
 use Rattle.wesl_linker.proofs.Adding.{AllMeant}
 use Rattle.wesl_linker.proofs.assemble.add_denotations.Given as goal
 

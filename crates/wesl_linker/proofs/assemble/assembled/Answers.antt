@@ -4,7 +4,7 @@ use Rattle.wesl_syntax.specs.Tree.{identifiers}
 use Rattle.wesl_names.specs.Path.{Text}
 use Rattle.wesl_syntax.specs.Unit.{UnitOf, forest_of_unit}
 use Rattle.wesl_tree.specs.Translation.{unit_view}
-use Rattle.wesl_table.specs.NumbersView.{numbering}
+use Rattle.wesl_table.specs.TextsView.{numbering_of_texts as numbering}
 use Rattle.wesl_assembly.specs.Denotations.{printed_as}
 use Rattle.wesl_assembly.specs.Linked.{nodes_of, IsLinkedAs}
 use Rattle.wesl_assembly.specs.Views.{Meaning, denotation_view}

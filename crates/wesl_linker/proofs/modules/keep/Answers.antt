@@ -2,7 +2,7 @@ use Rattle.std.proofs.Common.{◌≡◌}
 use Rattle.wesl_names.specs.Path.{path_view}
 use Rattle.wesl_syntax.specs.Unit.{spelled}
 use Rattle.wesl_tree.specs.Translation.{unit_view}
-use Rattle.wesl_symbols.proofs.Entries.{puts}
+use Rattle.wesl_linker.proofs.Entries.{puts}
 use Rattle.wesl_table.specs.Marks.{AreMarked}
 use Rattle.wesl_table.specs.Tables.{table_at, uses}
 use Rattle.wesl_table.specs.Numbering.{IsNumbered}

@@ -1,11 +1,11 @@
 use Rattle.std.proofs.Common.{sym}
 use Rattle.wesl_symbols.proofs.Entries.{found_at, none_at}
 use Rattle.wesl_linker.specs.Taking.{path_eq}
-use Rattle.wesl_linker.proofs.Kept.{path_same, path_own}
+use Rattle.wesl_linker.proofs.Kept.{path_same, path_laws}
 use Rattle.wesl_linker.proofs.modules.unit_of.Goals as goal
 
 pub returns-in-Some-clause-found : goal.returns-in-Some-clause-found
-returns-in-Some-clause-found g c = found_at path_eq path_same c.args.units.now.entries c.args.id c.in-Some.unit.now (sym c.in-Some.ensures.value)
+returns-in-Some-clause-found g c = found_at path_eq path_same path_laws c.args.units.now.entries c.args.id c.in-Some.unit.now (sym c.in-Some.ensures.value)
 
 pub returns-in-None-clause-none : goal.returns-in-None-clause-none
-returns-in-None-clause-none g c = λ u h. none_at path_eq path_same path_own c.args.units.now.entries c.args.id u (sym c.in-None.ensures.value) h
+returns-in-None-clause-none g c = λ u h. none_at path_eq path_same path_laws c.args.units.now.entries c.args.id u (sym c.in-None.ensures.value) h

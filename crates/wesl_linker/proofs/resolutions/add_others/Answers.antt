@@ -1,7 +1,7 @@
 use Rattle.std.proofs.Common.{◌≡◌, ◌<◌, List, ◌++◌, ◌∷◌, [], take, length, get_or, append-nil, Contains, ap, sym, subst, refl, ◌∙◌, append_assoc, rules}
 use Rattle.std.proofs.lemmas.List.{take_all}
 use Rattle.wesl_symbols.proofs.Lists.{contains_later}
-use Rattle.wesl_table.specs.NumbersView.{numbering}
+use Rattle.wesl_table.specs.TextsView.{numbering_of_texts as numbering}
 use Rattle.wesl_table.proofs.Lists.{take_next}
 use Rattle.wesl_linker.specs.GivenView.{given}
 use Rattle.wesl_linker.specs.Holding.{GivesTo, IsFreshAfter}

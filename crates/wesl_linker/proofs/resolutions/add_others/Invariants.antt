@@ -1,6 +1,6 @@
 use Rattle.std.proofs.Common.{◌≡◌, List, ◌++◌, take}
 use Rattle.wesl_names.specs.Path.{Text, Path}
-use Rattle.wesl_table.specs.NumbersView.{numbering}
+use Rattle.wesl_table.specs.TextsView.{numbering_of_texts as numbering}
 use Rattle.wesl_linker.specs.GivenView.{given as given_names}
 use Rattle.wesl_linker.specs.Recorded.{IsRecordedBy}
 use Rattle.wesl_linker.specs.Resolved.{writes_from}

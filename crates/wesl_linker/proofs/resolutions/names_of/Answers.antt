@@ -1,7 +1,7 @@
 use Rattle.std.proofs.Common.{◌≡◌, [], ◌∷◌, Bool, true, false, refl, subst, sym, ◌∙◌, rules}
 use Rattle.wesl_symbols.proofs.Lists.{contains_nil}
 use Rattle.wesl_world.proofs.Lists.{contains_one}
-use Rattle.wesl_table.specs.NumbersView.{numbering}
+use Rattle.wesl_table.specs.TextsView.{numbering_of_texts as numbering}
 use Rattle.wesl_linker.specs.GivenView.{given}
 use Rattle.wesl_linker.specs.Holding.{GivesTo, IsGivenAll}
 use Rattle.wesl_linker.proofs.Naming.{gives_none, gives_same, given_all, given_others}

@@ -7,6 +7,7 @@ use Rattle.wesl_symbols.specs.Tables.{Table}
 use Rattle.wesl_table.specs.Tables.{table_at}
 use Rattle.wesl_table.specs.Numbering.{Numbering, Grows, AreRelated}
 use Rattle.wesl_table.specs.NumbersView.{numbering}
+use Rattle.wesl_table.specs.TextsView.{numbering_of_texts}
 use Rattle.wesl_table.specs.declared.numbers.Numbers.{Numbers}
 use Rattle.wesl_symbols.specs.declared.ids.PathId.{PathId}
 use Rattle.wesl_world.specs.Linking.{IsLinked, task_of}
@@ -101,20 +102,21 @@ of_link-requires g c =
     keeps_nothing (g.R.Resolver.hands c.args.modules.now.resolver.now) g.S.Source.hands (g.R.Resolver.refuses c.args.modules.now.resolver.now) g.S.Source.refuses g.S.Source.first first c.args.modules.now.units.now.entries c.requires.follows c.requires.first c.requires.nothing in
     let end = c.linked_by.new.loader in
     let there = (c.linked_by.ensures.adds.ready c.args.table.path ((path_view c.args.root.path, c.requires.root.path), ((c.requires.ready, c.requires.stays), start))).1 in
-    let numbers = c.replace-numbers.result in
-    let moved : end.numbers.now ≡ numbers = sym c.replace-numbers.ensures.value in
-    let nb = numbering numbers in
+    let numbers = c.in_ok-link-in-Ok.link.numbers in
+    let told : numbering c.replace-numbers.result ≡ numbering_of_texts numbers = sym c.in_ok-link-in-Ok.ensures.texts in
+    let moved : numbering end.numbers.now ≡ numbering_of_texts numbers = sym (ap numbering c.replace-numbers.ensures.value) ∙ told in
+    let nb = numbering_of_texts numbers in
     let kept : Keeps (g.R.Resolver.hands end.resolver.now) (g.R.Resolver.refuses end.resolver.now) g.S.Source.hands g.S.Source.refuses g.S.Source.first nb end.units.now.entries =
-    subst (λ (n : Numbers). Keeps (g.R.Resolver.hands end.resolver.now) (g.R.Resolver.refuses end.resolver.now) g.S.Source.hands g.S.Source.refuses g.S.Source.first (numbering n) end.units.now.entries) moved there.1 in
+    subst (λ (n : Numbering). Keeps (g.R.Resolver.hands end.resolver.now) (g.R.Resolver.refuses end.resolver.now) g.S.Source.hands g.S.Source.refuses g.S.Source.first n end.units.now.entries) moved there.1 in
     let grown : Grows first nb = subst (λ (x : Numbering). Grows x nb) c.requires.first kept.grows in
     let rm = module_at c.args.root.path c.args.root.unit in
     let named = c.in-Ok.ensures.linked in
-    let linked = subst (λ (n : Numbers). IsLinked (IsHandedTable g.S.Source.hands (numbering n) end.units.now.entries) (IsRefusedPath g.S.Source.refuses (numbering n)) c.args.table (task_of c.args.table c.args.root.kept.items c.args.root.is_eager) c.args.max_modules c.in-Ok.linked) moved named in
+    let linked = subst (λ (n : Numbering). IsLinked (IsHandedTable g.S.Source.hands n end.units.now.entries) (IsRefusedPath g.S.Source.refuses n) c.args.table (task_of c.args.table c.args.root.kept.items c.args.root.is_eager) c.args.max_modules c.in-Ok.linked) moved named in
     let ts = linked.root_first.0 in
     let is = linked.root_first.1 in
     let l = c.in_ok-link-in-Ok.link in
     let (ms, rel, same, sorted) = c.in_ok-link-in-Ok.ensures.found in
-    let taken : AreRelated (IsTaken nb end.units.now.entries ts) ts ms = subst (λ (xs : List (Table PathId NameId)). AreRelated (IsTaken nb end.units.now.entries (drop 1 xs)) (drop 1 xs) ms) is rel in
+    let taken : AreRelated (IsTaken nb end.units.now.entries ts) ts ms = subst (λ (xs : List (Table PathId NameId)). AreRelated (IsTaken nb end.units.now.entries (drop 1 xs)) (drop 1 xs) ms) is (subst (λ (n : Numbering). AreRelated (IsTaken n end.units.now.entries (drop 1 c.in-Ok.linked.tables)) (drop 1 c.in-Ok.linked.tables) ms) told rel) in
     record { sound = subst (λ (x : Link). IsLinkOf (task_in x) x) (sym c.in_ok-link-in-Ok.ensures.rest) (sound.sound numbers first grown g.S.Source.hands g.S.Source.refuses end.units.now.entries kept.one_unit kept.handed_out c.args.table c.args.root.path c.args.root.unit c.args.root.marks c.requires.root c.requires.marked c.args.root.kept c.requires.kept.0 c.requires.kept.1 c.args.root.is_eager c.args.max_modules c.in-Ok.linked linked ts is ms l.others taken same) }
 
 pub error_of-requires : goal.error_of-requires
@@ -137,20 +139,21 @@ returns-in_ok-link-in-Ok-clause-reached g c =
     keeps_nothing (g.R.Resolver.hands c.args.modules.now.resolver.now) g.S.Source.hands (g.R.Resolver.refuses c.args.modules.now.resolver.now) g.S.Source.refuses g.S.Source.first first c.args.modules.now.units.now.entries c.requires.follows c.requires.first c.requires.nothing in
     let end = c.linked_by.new.loader in
     let there = (c.linked_by.ensures.adds.ready c.args.table.path ((path_view c.args.root.path, c.requires.root.path), ((c.requires.ready, c.requires.stays), start))).1 in
-    let numbers = c.replace-numbers.result in
-    let moved : end.numbers.now ≡ numbers = sym c.replace-numbers.ensures.value in
-    let nb = numbering numbers in
+    let numbers = c.in_ok-link-in-Ok.link.numbers in
+    let told : numbering c.replace-numbers.result ≡ numbering_of_texts numbers = sym c.in_ok-link-in-Ok.ensures.texts in
+    let moved : numbering end.numbers.now ≡ numbering_of_texts numbers = sym (ap numbering c.replace-numbers.ensures.value) ∙ told in
+    let nb = numbering_of_texts numbers in
     let kept : Keeps (g.R.Resolver.hands end.resolver.now) (g.R.Resolver.refuses end.resolver.now) g.S.Source.hands g.S.Source.refuses g.S.Source.first nb end.units.now.entries =
-    subst (λ (n : Numbers). Keeps (g.R.Resolver.hands end.resolver.now) (g.R.Resolver.refuses end.resolver.now) g.S.Source.hands g.S.Source.refuses g.S.Source.first (numbering n) end.units.now.entries) moved there.1 in
+    subst (λ (n : Numbering). Keeps (g.R.Resolver.hands end.resolver.now) (g.R.Resolver.refuses end.resolver.now) g.S.Source.hands g.S.Source.refuses g.S.Source.first n end.units.now.entries) moved there.1 in
     let grown : Grows first nb = subst (λ (x : Numbering). Grows x nb) c.requires.first kept.grows in
     let rm = module_at c.args.root.path c.args.root.unit in
     let named = c.in-Ok.ensures.linked in
-    let linked = subst (λ (n : Numbers). IsLinked (IsHandedTable g.S.Source.hands (numbering n) end.units.now.entries) (IsRefusedPath g.S.Source.refuses (numbering n)) c.args.table (task_of c.args.table c.args.root.kept.items c.args.root.is_eager) c.args.max_modules c.in-Ok.linked) moved named in
+    let linked = subst (λ (n : Numbering). IsLinked (IsHandedTable g.S.Source.hands n end.units.now.entries) (IsRefusedPath g.S.Source.refuses n) c.args.table (task_of c.args.table c.args.root.kept.items c.args.root.is_eager) c.args.max_modules c.in-Ok.linked) moved named in
     let ts = linked.root_first.0 in
     let is = linked.root_first.1 in
     let l = c.in_ok-link-in-Ok.link in
     let (ms, rel, same, sorted) = c.in_ok-link-in-Ok.ensures.found in
-    let taken : AreRelated (IsTaken nb end.units.now.entries ts) ts ms = subst (λ (xs : List (Table PathId NameId)). AreRelated (IsTaken nb end.units.now.entries (drop 1 xs)) (drop 1 xs) ms) is rel in
+    let taken : AreRelated (IsTaken nb end.units.now.entries ts) ts ms = subst (λ (xs : List (Table PathId NameId)). AreRelated (IsTaken nb end.units.now.entries (drop 1 xs)) (drop 1 xs) ms) is (subst (λ (n : Numbering). AreRelated (IsTaken n end.units.now.entries (drop 1 c.in-Ok.linked.tables)) (drop 1 c.in-Ok.linked.tables) ms) told rel) in
     let found = subst (λ (x : Link). IsFoundBy x (resolved c.of_link.result)) c.in_ok-link-in-Ok.ensures.rest c.of_link.ensures.found in
     record {
       linked = λ keep kept_so. sound.linked_told numbers first grown g.S.Source.hands g.S.Source.refuses end.units.now.entries kept.one_unit kept.handed_out c.args.table c.args.root.path c.args.root.unit c.args.root.marks c.requires.root c.requires.marked c.args.root.kept keep kept_so c.args.root.is_eager c.args.max_modules c.in-Ok.linked linked ts is ms l.others taken same (resolved c.of_link.result) found;

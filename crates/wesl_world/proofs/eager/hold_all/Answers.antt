@@ -14,10 +14,10 @@ loop-symbol-preserved g c = record {
   sound = sound_symbol _ _ c.loop-symbol.invariant.sound
       (reached_more (world_on c.args.request.now _ _ c.loop-symbol.invariant.grows) _ (c.requires.reached _ (element_of _ _ _ _ refl c.loop-symbol-test.true)))
       (let (t, at) = c.requires.placed _ (element_of _ _ _ _ refl c.loop-symbol-test.true) in (t, at_more (world_on c.args.request.now _ _ c.loop-symbol.invariant.grows) _ t at))
-      c.in_ok-put_key.ensures;
-  grows = grows_trans _ _ _ c.loop-symbol.invariant.grows record { modules = goes_on_itself _; symbols = puts_on _ _ _ c.in_ok-put_key.ensures; answers = λ l h. h };
-  held = first_more (λ (s : Symbol PathId NameId). Contains c.put_key.new.set.keys s) _ _ _ c.loop-symbol-test.true
-      (λ s h. (within_on _ _ (puts_on _ _ _ c.in_ok-put_key.ensures)).held s (c.loop-symbol.invariant.held s h)) (puts_has _ _ _ c.in_ok-put_key.ensures);
+      c.in_ok-put.ensures;
+  grows = grows_trans _ _ _ c.loop-symbol.invariant.grows record { modules = goes_on_itself _; symbols = puts_on _ _ _ c.in_ok-put.ensures; answers = λ l h. h };
+  held = first_more (λ (s : Symbol PathId NameId). Contains c.put.new.self.keys s) _ _ _ c.loop-symbol-test.true
+      (λ s h. (within_on _ _ (puts_on _ _ _ c.in_ok-put.ensures)).held s (c.loop-symbol.invariant.held s h)) (puts_has _ _ _ c.in_ok-put.ensures);
 }
 
 pub returns-clause-held : goal.returns-clause-held

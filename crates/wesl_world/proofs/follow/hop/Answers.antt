@@ -6,17 +6,17 @@ use Rattle.wesl_world.proofs.follow.hop.Goals as goal
 pub load-requires-clause-entered : goal.load-requires-clause-entered
 load-requires-clause-entered g c = walked_enters c.args.look_up c.requires.walked
 
-pub returns-in_ok-put_key-in-Declared-clause-sound : goal.returns-in_ok-put_key-in-Declared-clause-sound
-returns-in_ok-put_key-in-Declared-clause-sound g c =
+pub returns-in_ok-put-in-Declared-clause-sound : goal.returns-in_ok-put-in-Declared-clause-sound
+returns-in_ok-put-in-Declared-clause-sound g c =
     let (t, at, d) = c.in-Declared.ensures in
     sound_symbol _ _ c.in_ok-load.ensures.sound
     (walked_reaches c.args.look_up t (walked_more (task_at c.args.request.now) c.args.look_up (world_on c.args.request.now _ _ c.in_ok-load.ensures.grows) c.requires.walked) at d)
-    (t, at) c.in_ok-put_key-in-Declared.ensures
+    (t, at) c.in_ok-put-in-Declared.ensures
 
-pub returns-in_ok-put_key-in-Declared-clause-found : goal.returns-in_ok-put_key-in-Declared-clause-found
-returns-in_ok-put_key-in-Declared-clause-found g c =
+pub returns-in_ok-put-in-Declared-clause-found : goal.returns-in_ok-put-in-Declared-clause-found
+returns-in_ok-put-in-Declared-clause-found g c =
     let (t, at, d) = c.in-Declared.ensures in
-    found_by (world_of c.args.request.now c.load.new.loaded) _ c.args.look_up t at d (puts_has _ _ _ c.in_ok-put_key-in-Declared.ensures)
+    found_by (world_of c.args.request.now c.load.new.loaded) _ c.args.look_up t at d (puts_has _ _ _ c.in_ok-put-in-Declared.ensures)
 
 pub returns-in-Next-clause-can : goal.returns-in-Next-clause-can
 returns-in-Next-clause-can g c =

@@ -2,7 +2,7 @@ use Rattle.std.proofs.Common.{◌≡◌, Some, None, refl, sym, ap, ◌∙◌}
 use Rattle.wesl_linker.proofs.Giving.{names_none, more_named, more_unnamed, gives_all, declared, undeclared_stay, undeclared_on}
 use Rattle.std.proofs.lemmas.List.{take_all}
 use Rattle.wesl_names.specs.Path.{path_view}
-use Rattle.wesl_table.specs.NumbersView.{numbering}
+use Rattle.wesl_table.specs.TextsView.{numbering_of_texts as numbering}
 use Rattle.wesl_linker.specs.GivenView.{given}
 use Rattle.wesl_linker.specs.Recorded.{all_written, writes_of, firsts, declared_texts}
 use Rattle.wesl_linker.proofs.Recording as recording

@@ -1,6 +1,6 @@
 use Rattle.std.proofs.Common.{◌≡◌, take}
 use Rattle.wesl_names.specs.Path.{Text, Path, path_view}
-use Rattle.wesl_table.specs.NumbersView.{numbering}
+use Rattle.wesl_table.specs.TextsView.{numbering_of_texts as numbering}
 use Rattle.wesl_linker.specs.GivenView.{given}
 use Rattle.wesl_linker.specs.Recorded.{HasNone, all_written, writes_of, firsts, declared_texts}
 use Rattle.wesl_linker.proofs.Giving.{Names}
