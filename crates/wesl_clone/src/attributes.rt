@@ -4,6 +4,7 @@ ghost use Rattle.wesl_names.specs.declared.errors.Error as error;
 ghost use Rattle.wesl_syntax.specs.Tree.{attribute_node};
 ghost use Rattle.wesl_syntax.specs.View.{attribute_view, placed};
 
+use crate::told::told;
 use crate::TryClone;
 use std::alloc::Global;
 use wesl_copies::Copying;
@@ -17,7 +18,7 @@ impl TryClone for Attribute {
     {
         let mut copying = Copying::of(alloc);
         let copy = copying.attribute(self);
-        copying.end(copy)
+        told(copying.is_refused, copy)
     }
 }
 
@@ -28,6 +29,6 @@ impl TryClone for Spanned<Attribute> {
     {
         let mut copying = Copying::of(alloc);
         let copy = copying.attribute_node(self);
-        copying.end(copy)
+        told(copying.is_refused, copy)
     }
 }

@@ -4,6 +4,7 @@ ghost use Rattle.wesl_names.specs.declared.errors.Error as error;
 ghost use Rattle.wesl_syntax.specs.Tree.{declaration_node, directive_node, member_node};
 ghost use Rattle.wesl_syntax.specs.View.{alias_view, assert_view, declaration_view, directive_view, function_view, global_view, member_view, parameter_view, placed, struct_view};
 
+use crate::told::told;
 use crate::TryClone;
 use std::alloc::Global;
 use wesl_copies::Copying;
@@ -20,7 +21,7 @@ impl TryClone for GlobalDirective {
     {
         let mut copying = Copying::of(alloc);
         let copy = copying.directive(self);
-        copying.end(copy)
+        told(copying.is_refused, copy)
     }
 }
 
@@ -31,7 +32,7 @@ impl TryClone for Spanned<GlobalDirective> {
     {
         let mut copying = Copying::of(alloc);
         let copy = copying.directive_node(self);
-        copying.end(copy)
+        told(copying.is_refused, copy)
     }
 }
 
@@ -42,7 +43,7 @@ impl TryClone for Declaration {
     {
         let mut copying = Copying::of(alloc);
         let copy = copying.declaration(self);
-        copying.end(copy)
+        told(copying.is_refused, copy)
     }
 }
 
@@ -53,7 +54,7 @@ impl TryClone for TypeAlias {
     {
         let mut copying = Copying::of(alloc);
         let copy = copying.alias(self);
-        copying.end(copy)
+        told(copying.is_refused, copy)
     }
 }
 
@@ -64,7 +65,7 @@ impl TryClone for StructMember {
     {
         let mut copying = Copying::of(alloc);
         let copy = copying.member(self);
-        copying.end(copy)
+        told(copying.is_refused, copy)
     }
 }
 
@@ -75,7 +76,7 @@ impl TryClone for Spanned<StructMember> {
     {
         let mut copying = Copying::of(alloc);
         let copy = copying.member_node(self);
-        copying.end(copy)
+        told(copying.is_refused, copy)
     }
 }
 
@@ -86,7 +87,7 @@ impl TryClone for Struct {
     {
         let mut copying = Copying::of(alloc);
         let copy = copying.structure(self);
-        copying.end(copy)
+        told(copying.is_refused, copy)
     }
 }
 
@@ -97,7 +98,7 @@ impl TryClone for FormalParameter {
     {
         let mut copying = Copying::of(alloc);
         let copy = copying.parameter(self);
-        copying.end(copy)
+        told(copying.is_refused, copy)
     }
 }
 
@@ -108,7 +109,7 @@ impl TryClone for Function {
     {
         let mut copying = Copying::of(alloc);
         let copy = copying.function(self);
-        copying.end(copy)
+        told(copying.is_refused, copy)
     }
 }
 
@@ -119,7 +120,7 @@ impl TryClone for ConstAssert {
     {
         let mut copying = Copying::of(alloc);
         let copy = copying.assertion(self);
-        copying.end(copy)
+        told(copying.is_refused, copy)
     }
 }
 
@@ -130,7 +131,7 @@ impl TryClone for GlobalDeclaration {
     {
         let mut copying = Copying::of(alloc);
         let copy = copying.global(self);
-        copying.end(copy)
+        told(copying.is_refused, copy)
     }
 }
 
@@ -141,6 +142,6 @@ impl TryClone for Spanned<GlobalDeclaration> {
     {
         let mut copying = Copying::of(alloc);
         let copy = copying.global_node(self);
-        copying.end(copy)
+        told(copying.is_refused, copy)
     }
 }

@@ -3,6 +3,7 @@ ghost use Rattle.std.specs.Prelude.{◌≡◌, IfOk, IfErr};
 ghost use Rattle.wesl_names.specs.declared.errors.Error as error;
 ghost use Rattle.wesl_syntax.specs.View.{argument_view, call_view, expression_tree, expression_view, literal_tree, type_view};
 
+use crate::told::told;
 use crate::TryClone;
 use std::alloc::Global;
 use wesl_copies::Copying;
@@ -16,7 +17,7 @@ impl TryClone for Literal {
     {
         let mut copying = Copying::of(alloc);
         let copy = copying.literal(self);
-        copying.end(copy)
+        told(copying.is_refused, copy)
     }
 }
 
@@ -27,7 +28,7 @@ impl TryClone for Expression {
     {
         let mut copying = Copying::of(alloc);
         let copy = copying.expression(self);
-        copying.end(copy)
+        told(copying.is_refused, copy)
     }
 }
 
@@ -38,7 +39,7 @@ impl TryClone for Spanned<Expression> {
     {
         let mut copying = Copying::of(alloc);
         let copy = copying.node(self);
-        copying.end(copy)
+        told(copying.is_refused, copy)
     }
 }
 
@@ -49,7 +50,7 @@ impl TryClone for FunctionCall {
     {
         let mut copying = Copying::of(alloc);
         let copy = copying.call(self);
-        copying.end(copy)
+        told(copying.is_refused, copy)
     }
 }
 
@@ -60,7 +61,7 @@ impl TryClone for TypeExpression {
     {
         let mut copying = Copying::of(alloc);
         let copy = copying.type_expression(self);
-        copying.end(copy)
+        told(copying.is_refused, copy)
     }
 }
 
@@ -71,6 +72,6 @@ impl TryClone for TemplateArg {
     {
         let mut copying = Copying::of(alloc);
         let copy = copying.argument(self);
-        copying.end(copy)
+        told(copying.is_refused, copy)
     }
 }

@@ -4,6 +4,7 @@ ghost use Rattle.wesl_names.specs.declared.errors.Error as error;
 ghost use Rattle.wesl_syntax.specs.Tree.{import_node};
 ghost use Rattle.wesl_syntax.specs.View.{content_view, entry_view, import_view, item_view, placed};
 
+use crate::told::told;
 use crate::TryClone;
 use std::alloc::Global;
 use wesl_copies::Copying;
@@ -17,7 +18,7 @@ impl TryClone for ImportStatement {
     {
         let mut copying = Copying::of(alloc);
         let copy = copying.import(self);
-        copying.end(copy)
+        told(copying.is_refused, copy)
     }
 }
 
@@ -28,7 +29,7 @@ impl TryClone for Spanned<ImportStatement> {
     {
         let mut copying = Copying::of(alloc);
         let copy = copying.import_node(self);
-        copying.end(copy)
+        told(copying.is_refused, copy)
     }
 }
 
@@ -39,7 +40,7 @@ impl TryClone for ImportItem {
     {
         let mut copying = Copying::of(alloc);
         let copy = copying.item(self);
-        copying.end(copy)
+        told(copying.is_refused, copy)
     }
 }
 
@@ -50,7 +51,7 @@ impl TryClone for ImportContent {
     {
         let mut copying = Copying::of(alloc);
         let copy = copying.content(self);
-        copying.end(copy)
+        told(copying.is_refused, copy)
     }
 }
 
@@ -61,6 +62,6 @@ impl TryClone for Import {
     {
         let mut copying = Copying::of(alloc);
         let copy = copying.entry(self);
-        copying.end(copy)
+        told(copying.is_refused, copy)
     }
 }

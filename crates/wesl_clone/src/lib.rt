@@ -6,6 +6,7 @@ mod declarations;
 mod expressions;
 mod imports;
 mod statements;
+mod told;
 mod unit;
 
 use std::alloc::Global;

@@ -3,6 +3,7 @@ ghost use Rattle.std.specs.Prelude.{◌≡◌, IfOk, IfErr};
 ghost use Rattle.wesl_names.specs.declared.errors.Error as error;
 ghost use Rattle.wesl_syntax.specs.View.{break_if_view, clause_view, compound_view, continuing_view, else_if_view, else_view, if_view, selector_view, statement_tree, statement_view};
 
+use crate::told::told;
 use crate::TryClone;
 use std::alloc::Global;
 use wesl_copies::Copying;
@@ -19,7 +20,7 @@ impl TryClone for Statement {
     {
         let mut copying = Copying::of(alloc);
         let copy = copying.statement(self);
-        copying.end(copy)
+        told(copying.is_refused, copy)
     }
 }
 
@@ -30,7 +31,7 @@ impl TryClone for Spanned<Statement> {
     {
         let mut copying = Copying::of(alloc);
         let copy = copying.statement_node(self);
-        copying.end(copy)
+        told(copying.is_refused, copy)
     }
 }
 
@@ -41,7 +42,7 @@ impl TryClone for CompoundStatement {
     {
         let mut copying = Copying::of(alloc);
         let copy = copying.compound(self);
-        copying.end(copy)
+        told(copying.is_refused, copy)
     }
 }
 
@@ -52,7 +53,7 @@ impl TryClone for IfClause {
     {
         let mut copying = Copying::of(alloc);
         let copy = copying.if_clause(self);
-        copying.end(copy)
+        told(copying.is_refused, copy)
     }
 }
 
@@ -63,7 +64,7 @@ impl TryClone for ElseIfClause {
     {
         let mut copying = Copying::of(alloc);
         let copy = copying.else_if_clause(self);
-        copying.end(copy)
+        told(copying.is_refused, copy)
     }
 }
 
@@ -74,7 +75,7 @@ impl TryClone for ElseClause {
     {
         let mut copying = Copying::of(alloc);
         let copy = copying.else_clause(self);
-        copying.end(copy)
+        told(copying.is_refused, copy)
     }
 }
 
@@ -85,7 +86,7 @@ impl TryClone for CaseSelector {
     {
         let mut copying = Copying::of(alloc);
         let copy = copying.selector(self);
-        copying.end(copy)
+        told(copying.is_refused, copy)
     }
 }
 
@@ -96,7 +97,7 @@ impl TryClone for SwitchClause {
     {
         let mut copying = Copying::of(alloc);
         let copy = copying.clause(self);
-        copying.end(copy)
+        told(copying.is_refused, copy)
     }
 }
 
@@ -107,7 +108,7 @@ impl TryClone for ContinuingStatement {
     {
         let mut copying = Copying::of(alloc);
         let copy = copying.continuing(self);
-        copying.end(copy)
+        told(copying.is_refused, copy)
     }
 }
 
@@ -118,6 +119,6 @@ impl TryClone for BreakIfStatement {
     {
         let mut copying = Copying::of(alloc);
         let copy = copying.break_if(self);
-        copying.end(copy)
+        told(copying.is_refused, copy)
     }
 }

@@ -3,6 +3,7 @@ ghost use Rattle.std.specs.Prelude.{◌≡◌, IfOk, IfErr};
 ghost use Rattle.wesl_names.specs.declared.errors.Error as error;
 ghost use Rattle.wesl_tree.specs.Translation.{unit_view};
 
+use crate::told::told;
 use crate::TryClone;
 use std::alloc::Global;
 use wesl_copies::Copying;
@@ -19,10 +20,12 @@ impl TryClone for TranslationUnit {
         let imports = copying.imports(self.imports());
         let directives = copying.directives(self.global_directives());
         let declarations = copying.globals(self.global_declarations());
-        let (imports, directives, declarations) = copying.end((imports, directives, declarations))?;
         match TranslationUnit::from_parts(names, imports, directives, declarations) {
-            Some(unit) => Ok(unit),
-            None => unreachable!(),
+            Some(unit) => told(copying.is_refused, unit),
+            None => {
+                prove!(copying.is_refused);
+                Err(Error::Memory)
+            }
         }
     }
 }

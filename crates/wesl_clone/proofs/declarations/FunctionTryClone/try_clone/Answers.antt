@@ -3,4 +3,4 @@ use Rattle.wesl_copies.proofs.Kept.{equal_copies}
 use Rattle.wesl_clone.proofs.declarations.FunctionTryClone.try_clone.Goals as goal
 
 pub returns-clause-equal : goal.returns-clause-equal
-returns-clause-equal c = equal_copies function_view c.end.result c.of-copying.ensures.keeps c.function-copy.ensures c.end.ensures.given c.end.ensures.noted
+returns-clause-equal c = equal_copies function_view c.told.result c.of-copying.ensures.keeps c.function-copy.ensures c.told.ensures.given c.told.ensures.noted

@@ -3,4 +3,4 @@ use Rattle.wesl_copies.proofs.Kept.{equal_copies}
 use Rattle.wesl_clone.proofs.expressions.LiteralTryClone.try_clone.Goals as goal
 
 pub returns-clause-equal : goal.returns-clause-equal
-returns-clause-equal c = equal_copies literal_tree c.end.result c.of-copying.ensures.keeps c.literal-copy.ensures c.end.ensures.given c.end.ensures.noted
+returns-clause-equal c = equal_copies literal_tree c.told.result c.of-copying.ensures.keeps c.literal-copy.ensures c.told.ensures.given c.told.ensures.noted
