@@ -1,5 +1,5 @@
 -- One step of what is left of a formula, and of its faults.
-use Rattle.std.proofs.Common.{◌≡◌, ℕ, rules, List, [], ◌∷◌, ◌++◌, cond, Option, inl, inr, refl, sym, ap, ◌∙◌}
+use Rattle.std.proofs.Common.{◌≡◌, ℕ, rules, List, [], ◌∷◌, ◌++◌, cond, Option, ◌⊎◌, inl, inr, refl, sym, ap, ◌∙◌}
 use Rattle.wesl_formula.specs.declared.features.Truth.{Truth}
 use Rattle.wesl_formula.specs.declared.features.Truth.TheVariants.{Yes, No, Undecided}
 use Rattle.wesl_formula.specs.Answers.{Answers, opposite, both_hold, one_holds}
@@ -207,17 +207,21 @@ module _ (known : Answers ℕ) (f : Expression) (e : Box (Spanned Expression)) (
     abbrev left_of : Spanned Expression → Form ℕ
     left_of a = residual known (form (expression_view a.node))
 
-    pub conjunction_operands : (o : BinaryOperator) → o ≡ ShortCircuitAnd → f ≡ made.Binary o e d → x ≡ e.value → y ≡ d.value → Left x v → Left y w → form (expression_view (made.Binary o (with_value e v) (with_value d w))) ≡ operands_left known (form (expression_view f))
+    conjunction_operands : (o : BinaryOperator) → o ≡ ShortCircuitAnd → f ≡ made.Binary o e d → x ≡ e.value → y ≡ d.value → Left x v → Left y w → form (expression_view (made.Binary o (with_value e v) (with_value d w))) ≡ operands_left known (form (expression_view f))
     conjunction_operands o same is lent also h k =
         ap (λ q. form (expression_view (made.Binary q (with_value e v) (with_value d w)))) same ∙ form_conjunction (with_value e v) (with_value d w)
         ∙ conjunction_equal (h.1 ∙ ap (λ a. a.span) lent) (h.0 ∙ ap left_of lent) (k.1 ∙ ap (λ a. a.span) also) (k.0 ∙ ap left_of also)
         ∙ ap (operands_left known) (sym (form_conjunction e d)) ∙ ap (λ g. operands_left known (form (expression_view g))) (sym (is ∙ ap (λ q. made.Binary q e d) same))
 
-    pub disjunction_operands : (o : BinaryOperator) → o ≡ ShortCircuitOr → f ≡ made.Binary o e d → x ≡ e.value → y ≡ d.value → Left x v → Left y w → form (expression_view (made.Binary o (with_value e v) (with_value d w))) ≡ operands_left known (form (expression_view f))
+    disjunction_operands : (o : BinaryOperator) → o ≡ ShortCircuitOr → f ≡ made.Binary o e d → x ≡ e.value → y ≡ d.value → Left x v → Left y w → form (expression_view (made.Binary o (with_value e v) (with_value d w))) ≡ operands_left known (form (expression_view f))
     disjunction_operands o same is lent also h k =
         ap (λ q. form (expression_view (made.Binary q (with_value e v) (with_value d w)))) same ∙ form_disjunction (with_value e v) (with_value d w)
         ∙ disjunction_equal (h.1 ∙ ap (λ a. a.span) lent) (h.0 ∙ ap left_of lent) (k.1 ∙ ap (λ a. a.span) also) (k.0 ∙ ap left_of also)
         ∙ ap (operands_left known) (sym (form_disjunction e d)) ∙ ap (λ g. operands_left known (form (expression_view g))) (sym (is ∙ ap (λ q. made.Binary q e d) same))
+
+    pub joined_operands : (o : BinaryOperator) → (o ≡ ShortCircuitAnd) ⊎ (o ≡ ShortCircuitOr) → f ≡ made.Binary o e d → x ≡ e.value → y ≡ d.value → Left x v → Left y w → form (expression_view (made.Binary o (with_value e v) (with_value d w))) ≡ operands_left known (form (expression_view f))
+    joined_operands o (inl both) is lent also h k = conjunction_operands o both is lent also h k
+    joined_operands o (inr either) is lent also h k = disjunction_operands o either is lent also h k
 
     pub conjunction_step : (r : Option Expression) (o : BinaryOperator) → o ≡ ShortCircuitAnd → f ≡ made.Binary o e d → x ≡ e.value → y ≡ d.value
         → instead r (conjunction v.span (form (expression_view v.node)) w.span (form (expression_view w.node))) ≡ both_of x.span (form (expression_view x.node)) y.span (form (expression_view y.node))
@@ -234,10 +238,7 @@ module _ (known : Answers ℕ) (f : Expression) (e : Box (Spanned Expression)) (
         ∙ ap (λ a. either_of e.value.span (form (expression_view e.value.node)) a.span (form (expression_view a.node))) also ∙ ap (step known) (sym (form_disjunction e d)) ∙ ap (λ g. step known (form (expression_view g))) (sym (is ∙ ap (λ q. made.Binary q e d) same))
 
 -- the faults of two operands
-pub both_faults : (reply : Replies ℕ) (e d : Box (Spanned Expression)) → formula_faults reply (form (expression_view (made.Binary ShortCircuitAnd e d))) ≡ formula_faults reply (form (expression_view e.value.node)) ++ formula_faults reply (form (expression_view d.value.node))
-both_faults reply e d =
-    ap (formula_faults reply) (form_conjunction e d)
-
-pub either_faults : (reply : Replies ℕ) (e d : Box (Spanned Expression)) → formula_faults reply (form (expression_view (made.Binary ShortCircuitOr e d))) ≡ formula_faults reply (form (expression_view e.value.node)) ++ formula_faults reply (form (expression_view d.value.node))
-either_faults reply e d =
-    ap (formula_faults reply) (form_disjunction e d)
+pub joined_faults : (reply : Replies ℕ) (o : BinaryOperator) (e d : Box (Spanned Expression)) → (o ≡ ShortCircuitAnd) ⊎ (o ≡ ShortCircuitOr)
+    → formula_faults reply (form (expression_view (made.Binary o e d))) ≡ formula_faults reply (form (expression_view e.value.node)) ++ formula_faults reply (form (expression_view d.value.node))
+joined_faults reply o e d (inl is) = ap (λ p. formula_faults reply (form (expression_view (made.Binary p e d)))) is ∙ ap (formula_faults reply) (form_conjunction e d)
+joined_faults reply o e d (inr is) = ap (λ p. formula_faults reply (form (expression_view (made.Binary p e d)))) is ∙ ap (formula_faults reply) (form_disjunction e d)

@@ -1,5 +1,5 @@
 //! Feature flags and what is answered for them (WESL, "ConditionalTranslation").
-ghost use Rattle.std.specs.Prelude.{◌≡◌, ℕ, List, IfOk, IfErr, None};
+ghost use Rattle.std.specs.Prelude.{◌≡◌, ℕ, List, true, IfOk, IfErr, None, Some, bytes_eq, cond};
 ghost use Rattle.std.specs.BTreeMap.{get_by_text};
 ghost use Rattle.wesl_names.specs.declared.errors.Error as error;
 ghost use Rattle.wesl_formula.specs.Answers.{opposite, both_hold, one_holds};
@@ -145,13 +145,17 @@ impl Features {
         ensures answers { IfOk result (λ both. (name : List ℕ) → answer_to both name ≡ and_then (answer_to self.now name) (answer_to next.now name)) }
         ensures refused { IfErr result (λ e. e ≡ error.Memory) }
     {
-        let mut flags = BTreeMap::new(alloc);
-        add_answers(alloc, &mut flags, &self.flags, self, next)?;
-        add_answers(alloc, &mut flags, &next.flags, self, next)?;
-        Ok(Features {
+        let mut both = Features {
             default: self.default.then(next.default),
-            flags,
-        })
+            flags: BTreeMap::new(alloc),
+        };
+        let has_first = add_answers(alloc, &mut both.flags, &self.flags, self, next);
+        let has_next = add_answers(alloc, &mut both.flags, &next.flags, self, next);
+        if has_first && has_next {
+            Ok(both)
+        } else {
+            Err(Error::Memory)
+        }
     }
 
     /// An equal copy. Refused for want of memory alone.
@@ -159,29 +163,50 @@ impl Features {
         ensures equal { IfOk result (λ copy. SameAnswers copy self.now) }
         ensures refused { IfErr result (λ e. e ≡ error.Memory) }
     {
-        let mut flags = BTreeMap::new(alloc);
-        add_answers(alloc, &mut flags, &self.flags, self, self)?;
-        Ok(Features {
+        let mut copy = Features {
             default: self.default,
-            flags,
-        })
+            flags: BTreeMap::new(alloc),
+        };
+        if add_answers(alloc, &mut copy.flags, &self.flags, self, self) {
+            Ok(copy)
+        } else {
+            Err(Error::Memory)
+        }
     }
 }
 
-/// Adds to `flags`, for each name that `names` lists, what `first` and then `next` answer for it.
+/// Adds to `flags`, for each name that `names` lists, what `first` and then `next` answer for it. Tells whether there
+/// was memory for it.
 fn add_answers(
     alloc: Global,
     flags: &mut BTreeMap<String, Feature>,
     names: &BTreeMap<String, Feature>,
     first: &Features,
     next: &Features,
-) -> Result<(), Error>
-    ensures added { IfOk result (λ _. Adds flags.old names.now first.now next.now flags.new) }
-    ensures refused { IfErr result (λ e. e ≡ error.Memory) }
+) -> bool
+    ensures added { result ≡ true → Adds flags.old names.now first.now next.now flags.new }
 {
+    let mut is_whole = true;
     for name in names.keys() {
         let answer = first.answer(name).then(next.answer(name));
-        flags.insert(String::from_str(alloc, name)?, answer)?;
+        if !add_answer(alloc, flags, name, answer) {
+            is_whole = false;
+        }
     }
-    Ok(())
+    is_whole
+}
+
+/// Adds one answer. Tells whether there was memory for it.
+fn add_answer(
+    alloc: Global,
+    flags: &mut BTreeMap<String, Feature>,
+    name: &str,
+    answer: Feature,
+) -> bool
+    ensures added { result ≡ true → (other : List ℕ) → get_by_text flags.new other ≡ cond (bytes_eq name.now other) (Some answer) (get_by_text flags.old other) }
+{
+    match String::from_str(alloc, name) {
+        Ok(name) => flags.insert(name, answer).is_ok(),
+        Err(_) => false,
+    }
 }

@@ -137,7 +137,6 @@ fn answered(ty: &TypeExpression, names: &Names, features: &Features) -> Option<E
 }
 
 /// Leaves what is left of a formula under the features. Operands move within it, so no memory is taken.
-#[tactic(auto, using(crate::proofs::Steps::written_as))]
 pub fn simplify(formula: &mut Expression, names: &Names, features: &Features)
     ensures { expression_view formula.new ≡ written (residual (known (by_number names.now (answer_to features.now))) (form (expression_view formula.old))) }
 {
@@ -166,15 +165,7 @@ fn leave_operands(formula: &mut Expression, names: &Names, features: &Features)
             operand,
         } => leave(&mut operand.node, names, features),
         Expression::Binary {
-            operator: BinaryOperator::ShortCircuitAnd,
-            left,
-            right,
-        } => {
-            leave(&mut left.node, names, features);
-            leave(&mut right.node, names, features);
-        }
-        Expression::Binary {
-            operator: BinaryOperator::ShortCircuitOr,
+            operator: BinaryOperator::ShortCircuitAnd | BinaryOperator::ShortCircuitOr,
             left,
             right,
         } => {

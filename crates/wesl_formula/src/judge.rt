@@ -80,13 +80,7 @@ pub fn check_formula(
             left,
             right,
         } => match operator {
-            BinaryOperator::ShortCircuitAnd => {
-                match check_formula(alloc, &left.node, names, features) {
-                    Ok(()) => check_formula(alloc, &right.node, names, features),
-                    Err(fault) => Err(fault),
-                }
-            }
-            BinaryOperator::ShortCircuitOr => {
+            BinaryOperator::ShortCircuitAnd | BinaryOperator::ShortCircuitOr => {
                 match check_formula(alloc, &left.node, names, features) {
                     Ok(()) => check_formula(alloc, &right.node, names, features),
                     Err(fault) => Err(fault),

@@ -1,11 +1,11 @@
-use Rattle.std.proofs.Common.{◌≡◌, Some, None, refl, ap, sym, ◌∙◌}
+use Rattle.std.proofs.Common.{◌≡◌, ◌⊎◌, Some, None, refl, ap, rules, sym, ◌∙◌}
 use Rattle.wesl_formula.specs.Features.{answer_to, known, by_number}
 use Rattle.wesl_formula.specs.Formulas.{form}
 use Rattle.wesl_formula.specs.Step.{instead, step}
 use Rattle.wesl_syntax.specs.View.{expression_view}
 use Rattle.wesl_syntax.specs.declared.expression.BinaryOperator.TheVariants.{ShortCircuitAnd, ShortCircuitOr}
 use Rattle.wesl_syntax.specs.declared.expression.UnaryOperator.TheVariants.{LogicalNegation}
-use Rattle.wesl_formula.proofs.Steps.{step_by_step, within_operands, negation_operands, conjunction_operands, disjunction_operands}
+use Rattle.wesl_formula.proofs.Steps.{step_by_step, within_operands, negation_operands, joined_operands}
 use Rattle.wesl_formula.proofs.formula.+simplifying.Goals as goal
 
 pub leave-returns-in-Some : goal.leave-returns-in-Some
@@ -42,16 +42,6 @@ leave_operands-returns-in-Binary-ShortCircuitAnd-default-default t c =
     let b = c.in-Binary-ShortCircuitAnd-default-default in
     let l = c.deref_mut-in-Binary-ShortCircuitAnd-default-default in
     let r = c.deref_mut-in-Binary-ShortCircuitAnd-default-default-2 in
-    let o : b.operator ≡ ShortCircuitAnd = cc in
-    conjunction_operands answers c.args.formula.now b.left l.result.now _ b.right r.result.now _ b.operator o b.is l.ensures.value r.ensures.value
+    let o : (b.operator ≡ ShortCircuitAnd) ⊎ (b.operator ≡ ShortCircuitOr) = search rules in
+    joined_operands answers c.args.formula.now b.left l.result.now _ b.right r.result.now _ b.operator o b.is l.ensures.value r.ensures.value
     (c.leave-in-Binary-ShortCircuitAnd-default-default.ensures, refl) (c.leave-in-Binary-ShortCircuitAnd-default-default-2.ensures, refl)
-
-pub leave_operands-returns-in-Binary-ShortCircuitOr-default-default : goal.leave_operands-returns-in-Binary-ShortCircuitOr-default-default
-leave_operands-returns-in-Binary-ShortCircuitOr-default-default t c =
-    let answers = known (by_number c.args.names.now (answer_to c.args.features.now)) in
-    let b = c.in-Binary-ShortCircuitOr-default-default in
-    let l = c.deref_mut-in-Binary-ShortCircuitOr-default-default in
-    let r = c.deref_mut-in-Binary-ShortCircuitOr-default-default-2 in
-    let o : b.operator ≡ ShortCircuitOr = cc in
-    disjunction_operands answers c.args.formula.now b.left l.result.now _ b.right r.result.now _ b.operator o b.is l.ensures.value r.ensures.value
-    (c.leave-in-Binary-ShortCircuitOr-default-default.ensures, refl) (c.leave-in-Binary-ShortCircuitOr-default-default-2.ensures, refl)

@@ -1,14 +1,12 @@
-use Rattle.std.proofs.Common.{◌≡◌, ap, sym, ◌∙◌, subst}
+use Rattle.std.proofs.Common.{ap, sym, ◌∙◌, subst}
 use Rattle.wesl_formula.specs.Evaluation.{Refuses}
 use Rattle.wesl_formula.specs.Faults.{formula_faults}
 use Rattle.wesl_formula.specs.Features.{answer_to, by_number}
 use Rattle.wesl_formula.specs.Formulas.{form}
 use Rattle.wesl_syntax.specs.View.{expression_view}
-use Rattle.wesl_syntax.specs.declared.expression.BinaryOperator.TheVariants.{ShortCircuitAnd, ShortCircuitOr}
 use Rattle.wesl_syntax.specs.declared.expression.Expression.{Expression}
-use Rattle.wesl_syntax.specs.declared.expression.Expression.TheViews as made
 use Rattle.wesl_syntax.specs.declared.span.Spanned.{Spanned}
-use Rattle.wesl_formula.proofs.Steps.{refuses_before, both_faults, either_faults}
+use Rattle.wesl_formula.proofs.Steps.{refuses_before, joined_faults}
 use Rattle.wesl_formula.proofs.judge.+judging.Goals as goal
 
 pub returns-in-Err : goal.returns-in-Err
@@ -17,18 +15,6 @@ returns-in-Err t c =
     let reply = by_number names (answer_to c.args.features.now) in
     let h = c.in-Binary in
     let fault = c.in-Err.fault in
-    let w : c.args.formula.now ≡ made.Binary ShortCircuitAnd h.left h.right = h.is ∙ ap (λ o. made.Binary o h.left h.right) c.in-ShortCircuitAnd.is in
     let P : Spanned Expression → Type 0 = λ n. Refuses names (formula_faults reply (form (expression_view n.node))) fault in
     let told = refuses_before names fault (formula_faults reply (form (expression_view h.left.value.node))) (formula_faults reply (form (expression_view h.right.value.node))) (subst P c.deref-in-ShortCircuitAnd.ensures c.in-Err.ensures) in
-    subst (λ fs. Refuses names fs fault) (sym (ap (λ e. formula_faults reply (form (expression_view e))) w ∙ both_faults reply h.left h.right)) told
-
-pub returns-in-Err-check_formula : goal.returns-in-Err-check_formula
-returns-in-Err-check_formula t c =
-    let names = c.args.names.now in
-    let reply = by_number names (answer_to c.args.features.now) in
-    let h = c.in-Binary in
-    let fault = c.in-Err-check_formula.fault in
-    let w : c.args.formula.now ≡ made.Binary ShortCircuitOr h.left h.right = h.is ∙ ap (λ o. made.Binary o h.left h.right) c.in-ShortCircuitOr.is in
-    let P : Spanned Expression → Type 0 = λ n. Refuses names (formula_faults reply (form (expression_view n.node))) fault in
-    let told = refuses_before names fault (formula_faults reply (form (expression_view h.left.value.node))) (formula_faults reply (form (expression_view h.right.value.node))) (subst P c.deref-in-ShortCircuitOr.ensures c.in-Err-check_formula.ensures) in
-    subst (λ fs. Refuses names fs fault) (sym (ap (λ e. formula_faults reply (form (expression_view e))) w ∙ either_faults reply h.left h.right)) told
+    subst (λ fs. Refuses names fs fault) (sym (ap (λ e. formula_faults reply (form (expression_view e))) h.is ∙ joined_faults reply h.operator h.left h.right c.in-ShortCircuitAnd.is)) told
