@@ -4,8 +4,8 @@ ghost use Rattle.wesl_names.specs.declared.errors.Error as error;
 ghost use Rattle.wesl_syntax.specs.Tree.{declaration_node, directive_node, member_node};
 ghost use Rattle.wesl_syntax.specs.View.{alias_view, assert_view, declaration_view, directive_view, function_view, global_view, member_view, parameter_view, placed, struct_view};
 
-use crate::told::told;
 use crate::TryClone;
+use crate::told::told;
 use std::alloc::Global;
 use wesl_copies::Copying;
 use wesl_names::Error;

@@ -3,8 +3,8 @@ ghost use Rattle.std.specs.Prelude.{◌≡◌, IfOk, IfErr};
 ghost use Rattle.wesl_names.specs.declared.errors.Error as error;
 ghost use Rattle.wesl_syntax.specs.View.{argument_view, call_view, expression_tree, expression_view, literal_tree, type_view};
 
-use crate::told::told;
 use crate::TryClone;
+use crate::told::told;
 use std::alloc::Global;
 use wesl_copies::Copying;
 use wesl_names::Error;

@@ -4,8 +4,8 @@ ghost use Rattle.wesl_names.specs.declared.errors.Error as error;
 ghost use Rattle.wesl_syntax.specs.Tree.{import_node};
 ghost use Rattle.wesl_syntax.specs.View.{content_view, entry_view, import_view, item_view, placed};
 
-use crate::told::told;
 use crate::TryClone;
+use crate::told::told;
 use std::alloc::Global;
 use wesl_copies::Copying;
 use wesl_names::Error;

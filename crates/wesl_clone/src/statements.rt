@@ -3,8 +3,8 @@ ghost use Rattle.std.specs.Prelude.{◌≡◌, IfOk, IfErr};
 ghost use Rattle.wesl_names.specs.declared.errors.Error as error;
 ghost use Rattle.wesl_syntax.specs.View.{break_if_view, clause_view, compound_view, continuing_view, else_if_view, else_view, if_view, selector_view, statement_tree, statement_view};
 
-use crate::told::told;
 use crate::TryClone;
+use crate::told::told;
 use std::alloc::Global;
 use wesl_copies::Copying;
 use wesl_names::Error;

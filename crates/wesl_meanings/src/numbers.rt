@@ -42,6 +42,24 @@ fn names(alloc: Global, keys: &[Key<'_>]) -> Result<Names, Error>
     Ok(names)
 }
 
+/// Puts keys into an empty set, notes the number that each has there, and answers a table of the names of the keys by
+/// their numbers.
+fn number_and_name<'a>(
+    alloc: Global,
+    keys: &[Key<'a>],
+    seen: &mut IndexSet<Key<'a>>,
+    numbers: &mut Vec<usize>,
+) -> Result<Names, Error>
+    requires none_seen { seen.old.keys ≡ [] }
+    requires none_given { numbers.old.items ≡ [] }
+    ensures numbers { IfOk result (λ _. numbers.new.items ≡ canonical (map flat keys.now)) }
+    ensures table { IfOk result (λ names. names ≡ map key_name (distinct (map flat keys.now))) }
+    ensures refused { IfErr result (λ e. e ≡ error.Memory) }
+{
+    number_all(keys, seen, numbers)?;
+    names(alloc, seen.as_slice())
+}
+
 /// Notes the number of each key, and answers a table of the names of the keys by their numbers.
 fn number_table<'a>(
     alloc: Global,
@@ -54,8 +72,7 @@ fn number_table<'a>(
     ensures refused { IfErr result (λ e. e ≡ error.Memory) }
 {
     let mut seen = IndexSet::new(alloc);
-    number_all(keys, &mut seen, numbers)?;
-    names(alloc, seen.as_slice())
+    number_and_name(alloc, keys, &mut seen, numbers)
 }
 
 /// The number of each key, equal ones having one, 0, 1, 2, .. by first occurrence; and a table of the names of the keys
@@ -66,6 +83,8 @@ pub fn numbers_and_names(alloc: Global, keys: &[Key<'_>]) -> Result<(Vec<usize>,
     ensures refused { IfErr result (λ e. e ≡ error.Memory) }
 {
     let mut numbers = Vec::with_capacity(alloc, keys.len())?;
-    let table = number_table(alloc, keys, &mut numbers)?;
-    Ok((numbers, table))
+    match number_table(alloc, keys, &mut numbers) {
+        Ok(table) => Ok((numbers, table)),
+        Err(fault) => Err(fault),
+    }
 }

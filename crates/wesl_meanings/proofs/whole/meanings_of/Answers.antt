@@ -15,3 +15,15 @@ returns-clause-keys c =
 
 pub returns-clause-below : goal.returns-clause-below
 returns-clause-below c = subst (λ o. All (IsKeyBelow (length o)) c.in_ok-keys.keys.items) c.deref.ensures.value c.in_ok-keys.ensures.below
+
+pub returns-clause-found : goal.returns-clause-found
+returns-clause-found c = c.in_ok-found.ensures.all
+
+pub returns-clause-starts : goal.returns-clause-starts
+returns-clause-starts c = c.in_ok-found.ensures.starts
+
+pub returns-clause-nested : goal.returns-clause-nested
+returns-clause-nested c = c.in_ok-found.ensures.nested
+
+pub returns-clause-names : goal.returns-clause-names
+returns-clause-names c = c.in_ok-found.ensures.names

@@ -1,7 +1,7 @@
 use Rattle.std.proofs.Common.{map, ap, ◌∙◌}
 use Rattle.std.specs.Prelude.{Result, Ok, Err, IfOk}
 use Rattle.wesl_meanings.specs.Keys.{flat, key_name}
-use Rattle.wesl_meanings.proofs.numbers.number_table.Goals as goal
+use Rattle.wesl_meanings.proofs.numbers.number_and_name.Goals as goal
 
 of_ok : {A E : Type 0} {P Q : A → Type 0} (r : Result A E) → ((x : A) → P x → Q x) → IfOk r P → IfOk r Q
 of_ok (Ok x) f p = f x p
