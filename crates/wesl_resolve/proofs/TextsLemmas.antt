@@ -1,7 +1,9 @@
 -- Texts by path: what a map's insert and its look-up make of them.
-use Rattle.std.proofs.Common.{◌≡◌, List, [], ◌∷◌, Bool, true, false, if◌then◌else◌, cond, Option, Some, None, option_map, String, string_bytes, refl, sym, ap, ◌∙◌, true≢false}
+use Rattle.std.proofs.Common.{◌≡◌, List, [], ◌∷◌, ◌++◌, map, Bor, Bool, true, false, if◌then◌else◌, cond, Option, Some, None, option_map, String, string_bytes, refl, sym, ap, ◌∙◌, true≢false}
 use Rattle.std.specs.declared.alloc.Global.{Global}
 use Rattle.std.specs.Map.{lookup}
+use Rattle.std.specs.Map.Iter.{deref_pair}
+use Rattle.std.proofs.lemmas.List.{map-append}
 use Rattle.indexmap.specs.IndexMap.{insert_entry}
 use Rattle.wesl_names.specs.Path.{Text, Path, path_view}
 use Rattle.wesl_names.specs.PathLaws.{path_eq}
@@ -72,3 +74,20 @@ single p q text false c_is =
 pub text_at-put : (p : Path) (text : Text) (es : List (Path × Text)) → IsLast p text es (put p text es)
 text_at-put p text [] q = single p q text (same_path q p) refl
 text_at-put p text (e ∷ es) q = text_at-either p q text e es (same_path p e.0) refl (text_at-put p text es q)
+
+-- what is listed of a module
+abbrev pub shown : Bor ModulePath × Bor Text → Path × Text
+shown m = (path_view m.0.now, m.1.now)
+
+-- one more module is listed
+pub listed-more : (ms after : List (Bor ModulePath × Bor Text)) (es : List (Bor ModulePath × Bor (String Global))) (path : Bor ModulePath) (text : Bor (String Global)) (said : Bor Text) → after ≡ ms ++ (path, said) ∷ []
+    → map shown ms ≡ texts_of (map deref_pair es) → said.now ≡ string_bytes text.now → map shown after ≡ texts_of (map deref_pair (es ++ (path, text) ∷ []))
+listed-more ms after es path text said is so_far same =
+    let entry : ModulePath × String Global → Path × Text = λ e. (path_view e.0, string_bytes e.1) in
+    let before : List (Path × Text) = texts_of (map deref_pair es) in
+    ap (map shown) is
+    ∙ map-append shown ms ((path, said) ∷ [])
+    ∙ ap (λ (xs : List (Path × Text)). xs ++ (path_view path.now, said.now) ∷ []) so_far
+    ∙ ap (λ (t : Text). before ++ (path_view path.now, t) ∷ []) same
+    ∙ sym (map-append entry (map deref_pair es) ((path.now, text.now) ∷ []))
+    ∙ sym (ap (λ (xs : List (ModulePath × String Global)). texts_of xs) (map-append deref_pair es ((path, text) ∷ [])))

@@ -30,6 +30,21 @@ fn put(
     Ok(())
 }
 
+/// Lists the paths and the texts of modules, in a list that has none.
+fn list<'m>(
+    listed: &mut Vec<(&'m ModulePath, &'m str)>,
+    modules: &'m IndexMap<ModulePath, String>,
+) -> Result<(), Error>
+    requires empty { listed.old.items ≡ [] }
+    ensures done { OnOk result (map (λ m. (path_view m.0.now, m.1.now)) listed.new.items ≡ texts_of modules.now.entries) }
+    ensures refused { IfErr result (λ e. e ≡ error.Memory) }
+{
+    for (path, text) in modules.iter() {
+        listed.push((path, text.as_str()))?;
+    }
+    Ok(())
+}
+
 /// Hands out the modules that were added, each read from its text when it is asked for.
 ///
 /// At each path the text that was added last counts. A text that cannot be read is refused with the error of its
@@ -94,10 +109,10 @@ impl<P> VirtualResolver<P> {
         ensures refused { IfErr result (λ e. e ≡ error.Memory) }
     {
         let mut modules = Vec::new(alloc);
-        for (path, source) in self.modules.iter() {
-            modules.push((path, source.as_str()))?;
+        match list(&mut modules, &self.modules) {
+            Ok(()) => Ok(modules),
+            Err(error) => Err(error),
         }
-        Ok(modules)
     }
 }
 
@@ -131,8 +146,10 @@ impl<P: UnitText> VirtualResolver<P> {
         ensures read { IfOk result (λ u. IsReadAt (P.reads (reader_of self.now)) (held_sources self.now) (path_view path.now) (spelled (unit_view u))) }
         ensures refused { IfErr result (OrMemory (IsRefusedAt (P.unreadable (reader_of self.now)) (held_sources self.now) (path_view path.now))) }
     {
-        let source = self.get_module(alloc, path)?;
-        read_module(&self.text, alloc, path, source)
+        match self.get_module(alloc, path) {
+            Ok(source) => read_module(&self.text, alloc, path, source),
+            Err(refusal) => Err(refusal),
+        }
     }
 }
 

@@ -1,7 +1,7 @@
-use Rattle.std.proofs.Common.{◌≡◌, ◌-◌, ◌∙◌, ℕ, List, ap, sym, take, drop, length, map, string_bytes, String, subst, Option, IfSome}
+use Rattle.std.proofs.Common.{◌≡◌, ◌≤◌, ◌-◌, arith, rules, ◌∙◌, ℕ, List, ap, sym, take, drop, length, map, string_bytes, String, subst, Option, IfSome}
 use Rattle.std.specs.declared.alloc.Global.{Global}
 use Rattle.std.proofs.Math.Seq.{take-length}
-use Rattle.std.proofs.lemmas.List.{length-drop, drop-map}
+use Rattle.std.proofs.lemmas.List.{length-map, length-drop, drop-map}
 use Rattle.wesl_names.specs.Path.{Text, Path, absolute, extend, path_view}
 use Rattle.wesl_names.specs.declared.path.ModulePath.{ModulePath}
 use Rattle.wesl_resolve.specs.Router.{suffix}
@@ -21,3 +21,12 @@ returns c =
     let Some-is : Option ModulePath → Type 0 = λ o. IfSome o Is in
     subst Some-is (sym c.made.ensures)
     (IfSome-ok Is c.join.result (IfOk-to _ Is (λ p e. e ∙ ap (λ root. extend root (below c.deref.result.now)) c.new_root.ensures ∙ ap after kept) c.join.result c.join.ensures.joined))
+
+within : (n : ℕ) (xs ys : List (String Global)) → xs ≡ ys → n ≤ length (map string_bytes ys) → n ≤ length xs
+within n xs ys same h = omega (arith, h, length-map ys string_bytes, ap length same)
+
+pub slice_bounds-join-count : goal.slice_bounds-join-count
+slice_bounds-join-count c = within c.args.count c.deref.result.now c.args.path.now.components.items c.deref.ensures.value c.requires
+
+pub offset_bounds-deref-count : goal.offset_bounds-deref-count
+offset_bounds-deref-count c = let h : c.args.count ≤ length c.deref.result.now = within c.args.count c.deref.result.now c.args.path.now.components.items c.deref.ensures.value c.requires in search rules

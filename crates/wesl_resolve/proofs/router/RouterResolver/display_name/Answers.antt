@@ -2,6 +2,7 @@ use Rattle.std.proofs.Common.{inl, inr, refl, arith, string_bytes, option_map}
 use Rattle.wesl_names.specs.Path.{path_view}
 use Rattle.wesl_resolve.proofs.ResultLemmas.{IfOk-to}
 use Rattle.wesl_resolve.proofs.RouterLemmas.{Takes-read, Takes-fits, Routed-by, Routed-beside, TakenByNone-read, ready-beside}
+use Rattle.std.proofs.lemmas.Option.{slice_get_within}
 use Rattle.wesl_resolve.proofs.router.RouterResolver.display_name.Goals as goal
 
 pub name_after-requires-clause-asked : goal.name_after-requires-clause-asked
@@ -52,3 +53,6 @@ returns-in-None-fallback-clause-named g c =
 
 pub returns-in-None-fallback-clause-refused : goal.returns-in-None-fallback-clause-refused
 returns-in-None-fallback-clause-refused g c = tt
+
+pub index-mount-requires : goal.index-mount-requires
+index-mount-requires g c = omega (arith, c.deref.ensures.len, slice_get_within c.deref.result.now c.in-Some.place c.in-Some.ensures.0 c.in-Some.ensures.1.there)

@@ -2,6 +2,7 @@ use Rattle.std.proofs.Common.{inl, inr, ⊎_elim, arith, string_bytes}
 use Rattle.wesl_names.specs.Path.{path_view}
 use Rattle.wesl_resolve.proofs.ResultLemmas.{IfOk-to, refused-to}
 use Rattle.wesl_resolve.proofs.RouterLemmas.{Takes-read, Takes-fits, Routed-by, RouterMeans-set, RouterMeans-fallback, AllReady-set, LeavesOthers-set, LeavesOthers-fallback, LeavesOthers-same, TakenByNone-read, Routed-beside, AllReady-beside, ready-beside, RouterMeans-same}
+use Rattle.std.proofs.lemmas.Option.{slice_get_within}
 use Rattle.wesl_resolve.proofs.router.RouterResolver.resolve_source.Goals as goal
 
 pub source_after-requires-clause-asked : goal.source_after-requires-clause-asked
@@ -108,3 +109,6 @@ returns-in-None-fallback-clause-stays_ready g c = c.requires.asked
 pub returns-in-None-fallback-clause-others : goal.returns-in-None-fallback-clause-others
 returns-in-None-fallback-clause-others g c =
     LeavesOthers-same c.args.self.now.mount_points.items c.args.self.now.fallback (path_view c.args.path.now)
+
+pub index_mut-mount-requires : goal.index_mut-mount-requires
+index_mut-mount-requires g c = omega (arith, c.deref.ensures.len, slice_get_within c.deref.result.now c.in-Some.place c.in-Some.ensures.0 c.in-Some.ensures.1.there)
