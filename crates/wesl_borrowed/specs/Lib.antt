@@ -1,3 +1,4 @@
+pub mod Number
 pub mod View
 pub mod Pointer
 pub mod Keys

@@ -1,10 +1,18 @@
 -- The data that a borrowed value stands for.
 use Rattle.std.specs.Prelude.{ℕ, List, [], ◌∷◌, map}
 use Rattle.std.specs.Borrow.{Bor}
-use Rattle.serde_json.specs.Data.{Data, null, boolean, number, string, array, object, Items, Members, no_members, put}
-use Rattle.serde_json.specs.View.{items_of, number_view}
+use Rattle.serde_json.specs.Data.{Num, Data, null, boolean, number, string, array, object, Items, no_items, item, Members, no_members, put}
+use Rattle.wesl_borrowed.specs.Number.{num_of}
+use Rattle.wesl_borrowed.specs.declared.number.Number.{Number}
 use Rattle.wesl_borrowed.specs.declared.value.BorrowedValue.{BorrowedValue, fold-BorrowedValue}
 use Rattle.wesl_borrowed.specs.declared.value.BorrowedValue.TheOpen.{BorrowedValue-F}
+
+abbrev pub number_view : Number → Num
+number_view n = num_of n.kind
+
+abbrev pub items_of : List Data → Items
+items_of [] = no_items
+items_of (d ∷ ds) = item d (items_of ds)
 
 -- the members go in one after another, so the last of a key stays
 abbrev pub put_all : List (Bor (List ℕ) × Data) → Members → Members

@@ -1,8 +1,10 @@
 //! Values in their light form.
-ghost use Rattle.std.specs.Prelude.{◌≡◌, IfOk};
-ghost use Rattle.serde_json.specs.View.{view, items_view as values_view, members_view as map_view};
-ghost use Rattle.wesl_borrowed.specs.View.{borrowed_view, items_view, members_view};
+ghost use Rattle.std.specs.Prelude.{◌≡◌, IfOk, None};
+ghost use Rattle.serde_json.specs.Find.{as_i64, as_u64};
+ghost use Rattle.serde_json.specs.View.{view, items_view as values_view, members_view as map_view, number_view as value_number};
+ghost use Rattle.wesl_borrowed.specs.View.{borrowed_view, items_view, members_view, number_view};
 
+use crate::number::Number;
 use crate::value::{BorrowedValue, Members};
 use serde_json::{Map, Value};
 use std::alloc::{AllocError, Global};
@@ -18,7 +20,7 @@ pub fn borrowed_of_value<'a>(
     match value {
         Value::Null => Ok(BorrowedValue::Null),
         Value::Bool(truth) => Ok(BorrowedValue::Bool(*truth)),
-        Value::Number(number) => Ok(BorrowedValue::Number(*number)),
+        Value::Number(number) => Ok(BorrowedValue::Number(number_of(number))),
         Value::String(text) => Ok(BorrowedValue::String(text.as_str())),
         Value::Array(items) => Ok(BorrowedValue::Array(items_of(alloc, items)?)),
         Value::Object(members) => Ok(BorrowedValue::Object(members_of(alloc, members)?)),
@@ -45,4 +47,30 @@ fn members_of<'a>(alloc: Global, map: &'a Map<String, Value>) -> Result<Members<
         members.push((key.as_str(), borrowed_of_value(alloc, value)?))?;
     }
     Ok(members)
+}
+
+// The same number.
+fn number_of(number: &serde_json::Number) -> Number
+    ensures { number_view result ≡ value_number number.now }
+{
+    if let Some(whole) = number.as_u64() {
+        Number::whole(whole)
+    } else if let Some(whole) = number.as_i64() {
+        Number::negative(whole)
+    } else {
+        float_of(number)
+    }
+}
+
+fn float_of(number: &serde_json::Number) -> Number
+    requires below { as_i64 (value_number number.now) ≡ None }
+    requires from_zero { as_u64 (value_number number.now) ≡ None }
+    ensures { number_view result ≡ value_number number.now }
+{
+    if let Some(float) = number.as_f64() {
+        if let Some(float) = Number::float(float) {
+            return float;
+        }
+    }
+    Number::whole(0)
 }

@@ -1,8 +1,9 @@
 //! Light values as values of their own.
 ghost use Rattle.std.specs.Prelude.{◌≡◌, IfOk};
-ghost use Rattle.serde_json.specs.View.{view, items_view as values_view, members_view as map_view};
-ghost use Rattle.wesl_borrowed.specs.View.{borrowed_view, items_view, members_view};
+ghost use Rattle.serde_json.specs.View.{view, items_view as values_view, members_view as map_view, number_view as value_number};
+ghost use Rattle.wesl_borrowed.specs.View.{borrowed_view, items_view, members_view, number_view};
 
+use crate::number::{Number, NumberKind};
 use crate::value::{BorrowedValue, Members};
 use serde_json::{Map, Value};
 use std::alloc::{AllocError, Global};
@@ -15,7 +16,7 @@ pub fn value_of_borrowed(alloc: Global, value: &BorrowedValue<'_>) -> Result<Val
     match value {
         BorrowedValue::Null => Ok(Value::Null),
         BorrowedValue::Bool(truth) => Ok(Value::Bool(*truth)),
-        BorrowedValue::Number(number) => Ok(Value::Number(*number)),
+        BorrowedValue::Number(number) => Ok(Value::Number(number_of(number))),
         BorrowedValue::String(text) => Ok(Value::String(String::from_str(alloc, *text)?)),
         BorrowedValue::Array(items) => Ok(Value::Array(values_of(alloc, items)?)),
         BorrowedValue::Object(members) => Ok(Value::Object(map_of(alloc, members)?)),
@@ -47,4 +48,18 @@ fn map_of(alloc: Global, members: &Members<'_>) -> Result<Map<String, Value>, Al
         )?;
     }
     Ok(map)
+}
+
+// The same number.
+fn number_of(number: &Number) -> serde_json::Number
+    ensures { value_number result ≡ number_view number.now }
+{
+    match number.kind {
+        NumberKind::Whole(whole) => serde_json::Number::from(whole),
+        NumberKind::Negative(whole) => serde_json::Number::from(whole),
+        NumberKind::Float(float) => match serde_json::Number::from_f64(float) {
+            Some(found) => found,
+            None => serde_json::Number::from(0u64),
+        },
+    }
 }

@@ -5,7 +5,7 @@ ghost use Rattle.wesl_borrowed.specs.View.{borrowed_view, items_view, members_vi
 
 use crate::copy::copy_of;
 use crate::members::last_at;
-use serde_json::Number;
+use crate::number::Number;
 use std::alloc::{AllocError, Global};
 
 /// A JSON value whose texts stand elsewhere.
