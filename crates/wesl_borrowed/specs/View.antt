@@ -1,7 +1,8 @@
 -- The data that a borrowed value stands for.
 use Rattle.std.specs.Prelude.{ℕ, List, [], ◌∷◌, map}
 use Rattle.std.specs.Borrow.{Bor}
-use Rattle.serde_json.specs.Data.{Num, Data, null, boolean, number, string, array, object, Items, no_items, item, Members, no_members, put}
+use Rattle.serde_json.specs.Data.{Num, Data, null, boolean, number, string, array, object, Items, Members, no_members, put}
+use Rattle.serde_json.specs.View.{items_of}
 use Rattle.wesl_borrowed.specs.Number.{num_of}
 use Rattle.wesl_borrowed.specs.declared.number.Number.{Number}
 use Rattle.wesl_borrowed.specs.declared.value.BorrowedValue.{BorrowedValue, fold-BorrowedValue}
@@ -9,10 +10,6 @@ use Rattle.wesl_borrowed.specs.declared.value.BorrowedValue.TheOpen.{BorrowedVal
 
 abbrev pub number_view : Number → Num
 number_view n = num_of n.kind
-
-abbrev pub items_of : List Data → Items
-items_of [] = no_items
-items_of (d ∷ ds) = item d (items_of ds)
 
 -- the members go in one after another, so the last of a key stays
 abbrev pub put_all : List (Bor (List ℕ) × Data) → Members → Members

@@ -6,14 +6,10 @@ mod copy;
 mod keys;
 mod members;
 mod number;
-mod of_value;
 mod pointer;
-mod to_value;
 mod value;
 
 pub use keys::has_only;
-pub use of_value::borrowed_of_value;
 pub use number::{Number, NumberKind};
 pub use pointer::{under_index, under_key};
-pub use to_value::value_of_borrowed;
 pub use value::{BorrowedValue, Members};

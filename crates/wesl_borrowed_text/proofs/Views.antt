@@ -3,9 +3,8 @@ use Rattle.std.proofs.Common.{◌≡◌, ℕ, List, [], ◌∷◌, ◌++◌, Boo
 use Rattle.json.specs.Token.{Token}
 use Rattle.json.specs.Json.{parse_map}
 use Rattle.serde_json.specs.Data.{null, boolean, number, string, array, object, Items, no_items, item}
-use Rattle.serde_json.specs.View.{number_view}
-use Rattle.serde_json.specs.declared.number.Number.{Number}
-use Rattle.wesl_borrowed.specs.View.{borrowed_view, items_view, members_view}
+use Rattle.wesl_borrowed.specs.View.{borrowed_view, items_view, members_view, number_view}
+use Rattle.wesl_borrowed.specs.declared.number.Number.{Number}
 use Rattle.wesl_borrowed.specs.declared.value.BorrowedValue as value
 use Rattle.wesl_borrowed.specs.declared.value.BorrowedValue.{BorrowedValue, the_lemmas}
 

@@ -1,10 +1,10 @@
 //! The numbers that are written in a text.
 ghost use Rattle.std.specs.Prelude.{◌≡◌, ◌<◌, ◌==◌, true, false, length, slice_index, option_map, IsTrue};
 ghost use Rattle.serde_json.specs.Read.{number_of as number_in, number_from, float_of};
-ghost use Rattle.serde_json.specs.View.{number_view};
+ghost use Rattle.wesl_borrowed.specs.View.{number_view};
 
 use fast_float::Numeral;
-use serde_json::Number;
+use wesl_borrowed::Number;
 
 // The number that a token writes, where it is in range.
 #[inline(always)]
@@ -32,7 +32,7 @@ fn from_zero(numeral: &Numeral<'_>) -> Option<Number>
     ensures { option_map number_view result ≡ number_from false numeral.now }
 {
     match numeral.to_u64() {
-        Some(whole) => Some(Number::from(whole)),
+        Some(whole) => Some(Number::whole(whole)),
         None => nearest(false, numeral),
     }
 }
@@ -43,7 +43,7 @@ fn below_zero(numeral: &Numeral<'_>) -> Option<Number>
 {
     if let Some(whole) = numeral.to_i64(true) {
         if whole < 0 {
-            return Some(Number::from(whole));
+            return Some(Number::negative(whole));
         }
     }
     nearest(true, numeral)
@@ -53,5 +53,5 @@ fn below_zero(numeral: &Numeral<'_>) -> Option<Number>
 fn nearest(negative: bool, numeral: &Numeral<'_>) -> Option<Number>
     ensures { option_map number_view result ≡ float_of negative numeral.now }
 {
-    Number::from_f64(numeral.to_float::<f64>(negative))
+    Number::float(numeral.to_float::<f64>(negative))
 }

@@ -19,8 +19,9 @@ use crate::members::{BundleError, wrong};
 use serde_json::Value;
 use std::alloc::Global;
 use std::collections::BTreeMap;
-use wesl_borrowed::{BorrowedValue, value_of_borrowed};
+use wesl_borrowed::BorrowedValue;
 use wesl_formula::{Feature, Features};
+use wesl_piece::value_of_borrowed;
 
 /// What features answer for a flag is what a bundle says for it.
 pub fn law_of_answers(features: &Features)

@@ -10,7 +10,8 @@ ghost use Rattle.wesl_bundle.specs.Broken.{IfPlace};
 use crate::members::{BundleError, under, under_index, wrong};
 use serde_json::{Map, Value};
 use std::alloc::Global;
-use wesl_borrowed::{BorrowedValue, Members, value_of_borrowed};
+use wesl_borrowed::{BorrowedValue, Members};
+use wesl_piece::value_of_borrowed;
 
 /// Refuses a value in which a number is not read as a whole one, at its place.
 pub(crate) fn check_whole(alloc: Global, value: &BorrowedValue<'_>) -> Result<(), BundleError>

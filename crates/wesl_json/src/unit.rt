@@ -14,8 +14,9 @@ ghost use Rattle.wesl_json.specs.ReadAgain.{OfWritten};
 
 use serde_json::Value;
 use std::alloc::Global;
-use wesl_borrowed::{BorrowedValue, borrowed_of_value};
+use wesl_borrowed::BorrowedValue;
 use wesl_form_laws::{law_of_units, law_of_whole_values};
+use wesl_piece::borrowed_of_value;
 use wesl_tree::{Error, TranslationUnit};
 
 /// The unit that a value stands for.

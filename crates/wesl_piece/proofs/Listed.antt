@@ -1,18 +1,15 @@
 -- Lists of values, item by item.
 use Rattle.std.proofs.Common.{◌≡◌, ℕ, ◌+◌, ◌<◌, List, [], ◌∷◌, ◌++◌, length, get_or, take, refl, sym, ap, ◌∙◌}
 use Rattle.std.proofs.lemmas.List.{take_more}
-use Rattle.serde_json.specs.Data.{Data, Items, no_items, item}
+use Rattle.serde_json.specs.Data.{item}
 use Rattle.serde_json.specs.View.{view, items_view as values_view}
 use Rattle.serde_json.specs.declared.value.Value.{Value}
+use Rattle.wesl_borrowed.proofs.Lists.{items_then}
 use Rattle.wesl_piece.specs.Order.{sorted, sorted_items}
 use Rattle.wesl_piece.specs.View.{items_view, piece_view}
 use Rattle.wesl_piece.specs.declared.piece.Piece.{Piece}
 
-abbrev items_then : Items → Data → Items
-items_then no_items d = item d no_items
-items_then (item e es) d = item e (items_then es d)
-
-values-then : (vs : List Value) (v : Value) → values_view (vs ++ v ∷ []) ≡ items_then (values_view vs) (view v)
+pub values-then : (vs : List Value) (v : Value) → values_view (vs ++ v ∷ []) ≡ items_then (values_view vs) (view v)
 values-then [] v = refl
 values-then (w ∷ vs) v = ap (item (view w)) (values-then vs v)
 

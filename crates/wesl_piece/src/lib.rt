@@ -1,12 +1,17 @@
-//! Values that are written, in a light form: their texts are borrowed, and they are printed straight.
+//! Values that are written, in a light form: their texts are borrowed, and they are printed straight. What has values with
+//! texts of their own in its interface stands here too: they are made of both light forms, and of them the one that is read.
 #![tactic(auto)]
 
 mod members;
+mod of_value;
 mod piece;
 mod printing;
+mod to_value;
 mod value;
 
 pub use members::put;
+pub use of_value::borrowed_of_value;
 pub use piece::{Members, Piece};
 pub use printing::{write_items, write_piece};
+pub use to_value::value_of_borrowed;
 pub use value::value_of_piece;

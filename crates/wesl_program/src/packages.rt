@@ -7,9 +7,10 @@ ghost use Rattle.wesl_bundle.specs.PackageViews.{package_module_view, package_mo
 ghost use Rattle.wesl_program.specs.PackageTexts.{AreModulesOf, ArePackagesOf, IsModuleOf, IsPackageOf};
 
 use std::alloc::Global;
-use wesl_borrowed::{BorrowedValue, value_of_borrowed};
+use wesl_borrowed::BorrowedValue;
 use wesl_bundle::{Package, PackageModule};
 use wesl_json::text_of_value;
+use wesl_piece::value_of_borrowed;
 use wesl_resolve::{CodegenModule, CodegenPkg};
 use wesl_tree::Error;
 

@@ -5,12 +5,13 @@ use Rattle.std.specs.String.{string_cmp}
 use Rattle.serde_json.specs.Data.{put}
 use Rattle.serde_json.proofs.Views.{Entry, put_last}
 use Rattle.wesl_borrowed.specs.View.{members_view}
-use Rattle.wesl_borrowed.proofs.Lists as lists
-use Rattle.wesl_borrowed.proofs.of_value.+of_value.Goals as goal
+use Rattle.wesl_borrowed.proofs.Lists.{members_view-then}
+use Rattle.wesl_piece.proofs.Light.{items-turn}
+use Rattle.wesl_piece.proofs.of_value.+of_value.Goals as goal
 
 pub items_of-loop-value-preserved : goal.items_of-loop-value-preserved
 items_of-loop-value-preserved t c =
-    lists.items-turn c.deref-value-items.result.now c.loop-value.value-index c.value-item.result c.loop-value.items.items c.push.new.self.items c.in_ok-borrowed_of_value.field-0 (search rules) (search rules) (search rules) c.loop-value.invariant c.in_ok-borrowed_of_value.ensures
+    items-turn c.deref-value-items.result.now c.loop-value.value-index c.value-item.result c.loop-value.items.items c.push.new.self.items c.in_ok-borrowed_of_value.field-0 (search rules) (search rules) (search rules) c.loop-value.invariant c.in_ok-borrowed_of_value.ensures
 
 pub members_of-loop-key-preserved : goal.members_of-loop-key-preserved
 members_of-loop-key-preserved t c =
@@ -22,5 +23,5 @@ members_of-loop-key-preserved t c =
     let last = put_last done e left (subst (λ es. IsStrictlySortedBy string_cmp (keys_of es)) all c.iter-key-items.ensures.ordered) in (
       done ++ e ∷ [],
       all ∙ sym (append_assoc done (e ∷ []) left),
-      search (rules, last, lists.members_view-then),
+      search (rules, last, members_view-then),
     )

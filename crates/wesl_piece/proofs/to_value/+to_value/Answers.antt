@@ -2,8 +2,9 @@ use Rattle.std.proofs.Common.{◌≡◌, ◌<◌, length, get_or, sym, ap, ◌�
 use Rattle.serde_json.specs.Data.{put}
 use Rattle.serde_json.specs.View.{members_view as map_view}
 use Rattle.wesl_borrowed.specs.View.{borrowed_view}
-use Rattle.wesl_borrowed.proofs.Lists.{Entry, members_view-more, values-turn}
-use Rattle.wesl_borrowed.proofs.to_value.+to_value.Goals as goal
+use Rattle.wesl_borrowed.proofs.Lists.{Entry, members_view-more}
+use Rattle.wesl_piece.proofs.Light.{values-turn}
+use Rattle.wesl_piece.proofs.to_value.+to_value.Goals as goal
 
 pub values_of-loop-item-preserved : goal.values_of-loop-item-preserved
 values_of-loop-item-preserved t c =
