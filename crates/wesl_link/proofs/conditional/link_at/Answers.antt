@@ -29,3 +29,15 @@ returns-in-Ok-clause-refused g c =
     IfErr-weaker c.link_unit.result _ _
     (λ d h. inr (root, (refl, c.in-Ok.ensures.handed), refused-over _ _ _ _ alike root (task_of root (kept_names c.args.is_eager (texts c.args.keep.now)) c.args.is_eager) c.args.max_modules d.error h))
     c.link_unit.ensures.refused
+
+pub returns-in-Ok-clause-kept : goal.returns-in-Ok-clause-kept
+returns-in-Ok-clause-kept g c = c.link_unit.ensures.kept
+
+pub returns-in-Ok-clause-eager : goal.returns-in-Ok-clause-eager
+returns-in-Ok-clause-eager g c = c.link_unit.ensures.eager
+
+pub returns-in-Ok-clause-names : goal.returns-in-Ok-clause-names
+returns-in-Ok-clause-names g c = c.link_unit.ensures.names
+
+pub returns-in-Ok-clause-sound : goal.returns-in-Ok-clause-sound
+returns-in-Ok-clause-sound g c = c.link_unit.ensures.sound
