@@ -9,7 +9,7 @@ use wesl_tree::{
 };
 
 /// Which lists of two units are equal, and whether the units have the same spelling.
-fn compared(row: Row<'_>, first: &TranslationUnit, second: &TranslationUnit) -> Value {
+fn lists_compared(row: Row<'_>, first: &TranslationUnit, second: &TranslationUnit) -> Value {
     let mut answer = Object::new(row.alloc);
     answer.flag(
         "same_declarations",
@@ -29,27 +29,21 @@ fn unit_at(row: Row<'_>, key: &str) -> TranslationUnit {
     row.made(numbered(row.part(key)))
 }
 
-/// Whether the units `first` and `second` have the same spelling.
-pub fn same_spelling(row: Row<'_>) -> Value {
+/// Whether the units `first` and `second` have the same spelling, or which of their lists are equal.
+pub fn compared(row: Row<'_>) -> Value {
     let first = unit_at(row, "first");
-    Value::Bool(first.same_spelling(&unit_at(row, "second")))
+    let second = unit_at(row, "second");
+    if row.text("call") == "TranslationUnit::same_spelling" {
+        Value::Bool(first.same_spelling(&second))
+    } else {
+        lists_compared(row, &first, &second)
+    }
 }
 
-/// Which lists of the units `first` and `second` are equal.
-pub fn lists_compared(row: Row<'_>) -> Value {
-    let first = unit_at(row, "first");
-    compared(row, &first, &unit_at(row, "second"))
-}
-
-/// A copy of a unit.
-fn copy_of(row: Row<'_>, unit: &TranslationUnit) -> TranslationUnit {
-    row.unit_or_none(unit.try_clone(row.alloc))
-}
-
-/// Whether a copy of the unit of the `tree` is equal to it, part by part.
-pub fn unit_copied(row: Row<'_>) -> Value {
-    let unit = row.tree();
-    compared(row, &copy_of(row, &unit), &unit)
+/// Whether a copy of a unit is equal to it, part by part.
+pub fn unit_copied(row: Row<'_>, unit: &TranslationUnit) -> Value {
+    let copy = row.unit_or_none(unit.try_clone(row.alloc));
+    lists_compared(row, &copy, unit)
 }
 
 /// Whether a copy of attributes is equal to them.
@@ -84,9 +78,8 @@ fn has_equal_lists(row: Row<'_>, declaration: &GlobalDeclaration) -> bool {
     }
 }
 
-/// How many functions of the unit of the `tree` have attributes and statements whose copies are equal to them.
-pub fn lists_copied(row: Row<'_>) -> Value {
-    let unit = row.tree();
+/// How many functions of a unit have attributes and statements whose copies are equal to them.
+pub fn lists_copied(row: Row<'_>, unit: &TranslationUnit) -> Value {
     let mut functions: usize = 0;
     for declaration in unit.global_declarations() {
         if has_equal_lists(row, &declaration.node) {
@@ -107,9 +100,8 @@ fn has_equal_arguments(row: Row<'_>, declaration: &GlobalDeclaration) -> bool {
     }
 }
 
-/// How many declarations of the unit of the `tree` assert a call whose arguments have equal copies.
-pub fn arguments_copied(row: Row<'_>) -> Value {
-    let unit = row.tree();
+/// How many declarations of a unit assert a call whose arguments have equal copies.
+pub fn arguments_copied(row: Row<'_>, unit: &TranslationUnit) -> Value {
     let mut calls: usize = 0;
     for declaration in unit.global_declarations() {
         if has_equal_arguments(row, &declaration.node) {

@@ -25,9 +25,9 @@ fn numbers(row: Row<'_>, unit: &TranslationUnit) -> Vec<usize> {
     numbers
 }
 
-/// The numbers of the identifiers of the `tree`, which has one for each spelling.
-pub fn numbers_found(row: Row<'_>) -> Value {
-    numbers_value(row, numbers(row, &row.tree()).as_slice())
+/// The same as a value.
+pub fn numbers_told(row: Row<'_>, unit: &TranslationUnit) -> Value {
+    numbers_value(row, numbers(row, unit).as_slice())
 }
 
 /// The block of each identifier.
@@ -50,11 +50,9 @@ fn ends(row: Row<'_>, all: &[Occurrence]) -> Value {
     ends.end(row)
 }
 
-/// The block of each identifier of the `tree`, the place and the end of each local name, and the block round each
-/// block.
-pub fn found(row: Row<'_>) -> Value {
-    let unit = row.tree();
-    let found = identifiers(row, &unit);
+/// The block of each identifier of a unit, the place and the end of each local name, and the block round each block.
+pub fn found(row: Row<'_>, unit: &TranslationUnit) -> Value {
+    let found = identifiers(row, unit);
     let mut answer = Object::new(row.alloc);
     answer.put("blocks", blocks(row, found.all.as_slice()));
     answer.put("ends", ends(row, found.all.as_slice()));
@@ -62,29 +60,26 @@ pub fn found(row: Row<'_>) -> Value {
     answer.end(row)
 }
 
+/// Numbers the identifiers of a unit by what they mean.
+pub fn number(row: Row<'_>, unit: &mut TranslationUnit) {
+    row.done(unit.retarget_idents(row.alloc));
+}
+
 /// The numbers of a unit's identifiers once they are numbered by what they mean.
 fn renumbered(row: Row<'_>, unit: &mut TranslationUnit) -> Vec<usize> {
-    row.done(unit.retarget_idents(row.alloc));
+    number(row, unit);
     numbers(row, unit)
 }
 
-/// The unit of the `tree`, numbered by what its identifiers mean.
-pub fn numbered_by_meaning(row: Row<'_>) -> TranslationUnit {
-    let mut unit = row.tree();
-    row.done(unit.retarget_idents(row.alloc));
-    unit
-}
-
-/// The numbers that the identifiers of the `tree` get, how many names there are then, whether the spelling stays, and
-/// whether the numbers stay when they are given again.
-pub fn retargeted(row: Row<'_>) -> Value {
-    let mut unit = numbered_by_meaning(row);
-    let first = numbers(row, &unit);
+/// The numbers that the identifiers of a unit get, how many names there are then, whether the spelling stays that of the
+/// `tree`, and whether the numbers stay when they are given again.
+pub fn retargeted(row: Row<'_>, unit: &mut TranslationUnit) -> Value {
+    let first = renumbered(row, unit);
     let mut answer = Object::new(row.alloc);
     answer.number("names", unit.names().len());
     answer.put("numbers", numbers_value(row, first.as_slice()));
     answer.flag("same_spelling", unit.same_spelling(&row.tree()));
-    answer.flag("same_numbers_again", renumbered(row, &mut unit) == first);
+    answer.flag("same_numbers_again", renumbered(row, unit) == first);
     answer.end(row)
 }
 
@@ -92,21 +87,20 @@ pub fn retargeted(row: Row<'_>) -> Value {
 fn numbers_and_names(row: Row<'_>, unit: &TranslationUnit) -> Value {
     let mut answer = Object::new(row.alloc);
     answer.put("names", names_value(row, unit.names()));
-    answer.put("numbers", numbers_value(row, numbers(row, unit).as_slice()));
+    answer.put("numbers", numbers_told(row, unit));
     answer.end(row)
 }
 
-/// The numbers and names of the unit of the `tree` when its identifiers are numbered by what they mean, and, where that
-/// is refused, those that it has then.
-pub fn numbered_or_left(row: Row<'_>) -> Value {
-    let mut unit = row.tree();
+/// The numbers and names of a unit when its identifiers are numbered by what they mean, and, where that is refused, those
+/// that it has then.
+pub fn numbered_or_left(row: Row<'_>, unit: &mut TranslationUnit) -> Value {
     let is_refused = is_refused(unit.retarget_idents(row.alloc));
-    stands(row, is_refused, numbers_and_names(row, &unit))
+    stands(row, is_refused, numbers_and_names(row, unit))
 }
 
 /// The name `v3` of the number 3.
 fn numbered_name(row: Row<'_>, number: usize) -> Value {
-    Value::String(row.or(format!(in row.alloc; "v{number}"), String::new(row.alloc)))
+    row.printed(format!(in row.alloc; "v{number}"))
 }
 
 /// The statement `let v4 = v3;` of the number 3.
@@ -130,7 +124,7 @@ fn body(row: Row<'_>) -> Value {
 }
 
 /// `fn v0() { let v1 = v0; let v2 = v1; .. }`, so many `statements`.
-fn many_statements(row: Row<'_>) -> TranslationUnit {
+pub fn many_statements(row: Row<'_>) -> TranslationUnit {
     let mut function = Object::new(row.alloc);
     function.put("body", body(row));
     function.text("k", "fn");
@@ -138,11 +132,9 @@ fn many_statements(row: Row<'_>) -> TranslationUnit {
     unit_of_one(row, function.end(row))
 }
 
-/// How many names and identifiers `fn v0() { let v1 = v0; let v2 = v1; .. }` of so many `statements` has once it is
-/// numbered, and the number of the last identifier.
-pub fn many_retargeted(row: Row<'_>) -> Value {
-    let mut unit = many_statements(row);
-    let numbers = renumbered(row, &mut unit);
+/// How many names and identifiers a unit has once it is numbered, and the number of the last identifier.
+pub fn many_retargeted(row: Row<'_>, unit: &mut TranslationUnit) -> Value {
+    let numbers = renumbered(row, unit);
     let mut answer = Object::new(row.alloc);
     answer.number("identifiers", numbers.len());
     answer.number("last", *numbers.last().unwrap_or(&0));
@@ -150,11 +142,10 @@ pub fn many_retargeted(row: Row<'_>) -> Value {
     answer.end(row)
 }
 
-/// How many names the unit of the `tree` has once it was numbered so many `times`.
-pub fn retargeted_times(row: Row<'_>) -> Value {
-    let mut unit = row.tree();
+/// How many names a unit has once it was numbered so many `times`.
+pub fn retargeted_times(row: Row<'_>, unit: &mut TranslationUnit) -> Value {
     for _ in 0..row.number("times", 0) {
-        row.done(unit.retarget_idents(row.alloc));
+        number(row, unit);
     }
     Value::from(unit.names().len())
 }
@@ -169,34 +160,27 @@ fn entries(row: Row<'_>, unit: &TranslationUnit) -> Value {
     numbers.end(row)
 }
 
-/// The numbers of the entry points of the `tree`, and the names that its numbers have.
-pub fn entry_points(row: Row<'_>) -> Value {
-    let unit = row.tree();
+/// The numbers of the entry points of a unit, and the names that its numbers have.
+pub fn entry_points(row: Row<'_>, unit: &TranslationUnit) -> Value {
     let mut answer = Object::new(row.alloc);
     answer.put("names", names_value(row, unit.names()));
-    answer.put("numbers", entries(row, &unit));
+    answer.put("numbers", entries(row, unit));
     answer.end(row)
 }
 
-/// Whether a unit could not be stripped except for the names `keep`.
-fn strip_refused(row: Row<'_>, unit: &mut TranslationUnit) -> bool {
-    is_refused(strip_except(row.alloc, unit, row.texts("keep").as_slice()))
+/// What is left of a unit when it is stripped except for the names `keep`, with its numbers as they were read, and, where
+/// that is refused, the unit as it is then.
+pub fn stripped_or_left(row: Row<'_>, unit: &mut TranslationUnit) -> Value {
+    let kept = row.texts("keep");
+    let is_refused = is_refused(strip_except(row.alloc, unit, kept.as_slice()));
+    stands(row, is_refused, row.tree_of(unit))
 }
 
-/// What is left of the unit of the `tree`, numbered by what its identifiers mean, when it is stripped except for the
-/// names `keep`.
-pub fn stripped(row: Row<'_>) -> Value {
-    let mut unit = numbered_by_meaning(row);
-    row.refused_if(strip_refused(row, &mut unit));
-    row.tree_of(&unit)
-}
-
-/// What is left of the unit of the `tree`, with its numbers as they were read, when it is stripped except for the names
-/// `keep`, and, where that is refused, the unit as it is then.
-pub fn stripped_or_left(row: Row<'_>) -> Value {
-    let mut unit = row.tree();
-    let is_refused = strip_refused(row, &mut unit);
-    stands(row, is_refused, row.tree_of(&unit))
+/// What is left of a unit, numbered by what its identifiers mean, when it is stripped except for the names `keep`.
+pub fn stripped(row: Row<'_>, unit: &mut TranslationUnit) -> Value {
+    number(row, unit);
+    row.done(strip_except(row.alloc, unit, row.texts("keep").as_slice()));
+    row.tree_of(unit)
 }
 
 /// The nodes of a unit with the `names` of a row for its numbers.
@@ -208,40 +192,36 @@ fn renamed(row: Row<'_>, unit: TranslationUnit) -> TranslationUnit {
 
 /// The unit of the `tree`, which has one number for each spelling; or, where there are `names`, numbered by what its
 /// identifiers mean, with these names for the numbers.
-fn named(row: Row<'_>) -> TranslationUnit {
+pub fn named(row: Row<'_>) -> TranslationUnit {
+    let mut unit = row.tree();
     if row.has("names") {
-        renamed(row, numbered_by_meaning(row))
+        number(row, &mut unit);
+        renamed(row, unit)
     } else {
-        row.tree()
+        unit
     }
 }
 
 /// Whether the names of a unit clash.
-fn is_clashing(row: Row<'_>, unit: &TranslationUnit) -> bool {
+pub fn is_clashing(row: Row<'_>, unit: &TranslationUnit) -> bool {
     row.is(names_clash(row.alloc, unit))
 }
 
 /// Whether the names of a unit clash, and whether new numbers by meaning are the numbers that it has.
-pub fn clash(row: Row<'_>) -> Value {
-    let mut unit = named(row);
-    let before = numbers(row, &unit);
+pub fn clash(row: Row<'_>, unit: &mut TranslationUnit) -> Value {
+    let before = numbers(row, unit);
     let mut answer = Object::new(row.alloc);
-    answer.flag("clash", is_clashing(row, &unit));
-    answer.flag("same_numbers", renumbered(row, &mut unit) == before);
+    answer.flag("clash", is_clashing(row, unit));
+    answer.flag("same_numbers", renumbered(row, unit) == before);
     answer.end(row)
 }
 
-/// Whether the names of a function of so many `statements` clash.
-pub fn many_clash(row: Row<'_>) -> Value {
-    Value::Bool(is_clashing(row, &many_statements(row)))
-}
-
-/// How often in so many `times` the names of the unit of the `tree`, numbered by what they mean, clash.
-pub fn clash_times(row: Row<'_>) -> Value {
-    let unit = numbered_by_meaning(row);
+/// How often in so many `times` the names of a unit, numbered by what they mean, clash.
+pub fn clash_times(row: Row<'_>, unit: &mut TranslationUnit) -> Value {
+    number(row, unit);
     let mut clashes: usize = 0;
     for _ in 0..row.number("times", 0) {
-        if is_clashing(row, &unit) {
+        if is_clashing(row, unit) {
             clashes = clashes.wrapping_add(1);
         }
     }

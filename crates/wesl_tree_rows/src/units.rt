@@ -3,46 +3,30 @@ use serde_json::Value;
 use wesl_copies::Copying;
 use wesl_json::{JsonText, unit_of_value};
 use wesl_resolve::UnitText;
-use wesl_row::{Object, Row, names_value, of_diagnostic, of_error, printed};
+use wesl_row::{Object, Row, of_diagnostic, of_error, printed};
 use wesl_tree::{Error, GlobalDirective, Names, Span, Spanned, TranslationUnit};
 
-/// What is written of a unit that is read, or the fault where it is not.
-fn written(row: Row<'_>, unit: &Result<TranslationUnit, Error>) -> Value {
-    match unit {
-        Ok(unit) => row.tree_of(unit),
-        Err(error) => of_error(row, error),
-    }
+/// The fault of an error, which is let go here once.
+fn fault_told(row: Row<'_>, error: Error) -> Value {
+    let answer = of_error(row, &error);
+    drop(error);
+    answer
 }
 
 /// What is written of the unit that the `tree` stands for, or the fault where it stands for none.
 pub fn read(row: Row<'_>) -> Value {
-    let unit = unit_of_value(row.alloc, row.part("tree").value);
-    let answer = written(row, &unit);
-    // as a generic function lets go of it, which costs the proof a fraction
-    drop(unit);
-    answer
-}
-
-/// Whether a unit that is read has the spelling of another, or the fault where it is not read.
-fn compared(row: Row<'_>, unit: &TranslationUnit, again: &Result<TranslationUnit, Error>) -> Value {
-    match again {
-        Ok(again) => Value::Bool(again.same_spelling(unit)),
-        Err(error) => of_error(row, error),
+    match unit_of_value(row.alloc, row.part("tree").value) {
+        Ok(unit) => row.tree_of(&unit),
+        Err(error) => fault_told(row, error),
     }
 }
 
 /// Whether what is written of a unit is read with the unit's spelling, or the fault where it is not read.
-fn again(row: Row<'_>, unit: &TranslationUnit) -> Value {
-    let written = row.tree_of(unit);
-    let again = unit_of_value(row.alloc, &written);
-    let answer = compared(row, unit, &again);
-    drop(again);
-    answer
-}
-
-/// How what is written of the unit of the `tree` is read.
-pub fn read_again(row: Row<'_>) -> Value {
-    again(row, &row.tree())
+pub fn again(row: Row<'_>, unit: &TranslationUnit) -> Value {
+    match unit_of_value(row.alloc, &row.tree_of(unit)) {
+        Ok(again) => Value::Bool(again.same_spelling(unit)),
+        Err(error) => fault_told(row, error),
+    }
 }
 
 /// A directive that enables the `name`, which may be empty.
@@ -54,7 +38,7 @@ fn enabling(row: Row<'_>) -> GlobalDirective {
 }
 
 /// A unit of a directive that enables the `name`.
-fn enabled(row: Row<'_>) -> TranslationUnit {
+pub fn enabled(row: Row<'_>) -> TranslationUnit {
     let alloc = row.alloc;
     let directives = row.one(Spanned {
         node: enabling(row),
@@ -68,27 +52,12 @@ fn enabled(row: Row<'_>) -> TranslationUnit {
     ))
 }
 
-/// How what is written of a directive that enables the `name` is read.
-pub fn enabled_again(row: Row<'_>) -> Value {
-    again(row, &enabled(row))
-}
-
 /// What is printed of the unit that the `text` says, or the fault where it says none.
 pub fn text_read(row: Row<'_>) -> Value {
     match &JsonText.read(row.alloc, row.text("text")) {
         Ok(unit) => printed(row, unit),
         Err(told) => of_diagnostic(row, told),
     }
-}
-
-/// What is written of the empty unit.
-pub fn new(row: Row<'_>) -> Value {
-    row.tree_of(&TranslationUnit::new(row.alloc))
-}
-
-/// The names of the unit of the `tree`, by their numbers.
-pub fn named(row: Row<'_>) -> Value {
-    names_value(row, row.tree().names())
 }
 
 /// How many nodes and names a unit has.
@@ -150,9 +119,8 @@ pub fn made(row: Row<'_>) -> Value {
     }
 }
 
-/// What is written of the unit of the `tree` without its voids.
-pub fn without_voids(row: Row<'_>) -> Value {
-    let mut unit = row.tree();
+/// What is written of a unit without its voids.
+pub fn without_voids(row: Row<'_>, unit: &mut TranslationUnit) -> Value {
     unit.remove_voids();
-    row.tree_of(&unit)
+    row.tree_of(unit)
 }

@@ -1,5 +1,5 @@
 //! Validators: modules under built-in names.
-use crate::scopes::numbered_by_meaning;
+use crate::scopes::number;
 use serde_json::Value;
 use wesl_builtins::Builtins;
 use wesl_row::{Row, declared};
@@ -13,33 +13,24 @@ fn builtins(lists: Row<'_>) -> Builtins {
     Builtins::new(names, functions, lists.owned_texts("constructors"))
 }
 
-/// The module of a row: numbered by what its identifiers mean, or, where the row says `as_read`, by their spellings.
-fn module(row: Row<'_>) -> TranslationUnit {
-    if row.has("as_read") {
-        row.tree()
-    } else {
-        numbered_by_meaning(row)
-    }
-}
-
 /// What a validator answers, in words.
-fn told(row: Row<'_>, verdict: &Result<(), Diagnostic>) -> Value {
+fn verdict_told(row: Row<'_>, verdict: &Result<(), Diagnostic>) -> Value {
     match verdict {
         Ok(()) => row.text_value("valid"),
         Err(diagnostic) => declared(row, diagnostic),
     }
 }
 
-/// What `validate_wesl` answers.
-pub fn wesl(row: Row<'_>) -> Value {
-    let unit = module(row);
+/// What `validate_wesl` or `validate_wgsl` answers of a module: numbered by what its identifiers mean, or, where the row
+/// says `as_read`, by their spellings.
+pub fn told(row: Row<'_>, call: &str, unit: &mut TranslationUnit) -> Value {
+    if !row.has("as_read") {
+        number(row, unit);
+    }
     let builtins = builtins(row.part("builtins"));
-    told(row, &validate_wesl(row.alloc, &unit, &builtins))
-}
-
-/// What `validate_wgsl` answers.
-pub fn wgsl(row: Row<'_>) -> Value {
-    let unit = module(row);
-    let builtins = builtins(row.part("builtins"));
-    told(row, &validate_wgsl(row.alloc, &unit, &builtins))
+    if call == "validate_wesl" {
+        verdict_told(row, &validate_wesl(row.alloc, unit, &builtins))
+    } else {
+        verdict_told(row, &validate_wgsl(row.alloc, unit, &builtins))
+    }
 }

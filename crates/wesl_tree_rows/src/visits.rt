@@ -5,13 +5,12 @@
 ghost use Rattle.std.specs.Prelude.{◌≡◌};
 
 use serde_json::Value;
-use std::alloc::AllocError;
 use std::mem;
 use wesl_row::{List, Object, Row, is_refused};
 use wesl_tree::{
-    Attributes, Declaration, Error, Expression, ExpressionNode, Function, GlobalDeclaration,
-    GlobalDeclarationNode, Ident, Names, Span, Spanned, Statement, StatementNode, Struct,
-    TemplateArg, TranslationUnit, TypeAlias, TypeExpression,
+    Attributes, Declaration, Error, Expression, ExpressionNode, GlobalDeclaration,
+    GlobalDeclarationNode, Ident, Names, Span, Spanned, Statement, StatementNode, TemplateArg,
+    TranslationUnit, TypeAlias, TypeExpression,
 };
 use wesl_visit::{Kind, Replace, Rewrite, Visit, Visitor};
 
@@ -90,29 +89,25 @@ impl<'a> Met<'a> {
         }
     }
 
-    /// Lists a node. Refused where no more may be met.
-    fn list<T: Shown>(&mut self, node: &T) -> Result<(), AllocError> {
-        if self.left == 0 {
-            return Err(AllocError);
+    /// Lists a node, and tells whether it did: no more than so many may be met.
+    fn list<T: Shown>(&mut self, node: &T) -> bool {
+        let is_listed = self.left > 0;
+        if is_listed {
+            self.left -= 1;
+            self.row
+                .push(&mut self.nodes, node.shown(self.row, self.names));
         }
-        self.left -= 1;
-        self.row
-            .push(&mut self.nodes, node.shown(self.row, self.names));
-        Ok(())
+        is_listed
     }
 
-    /// Lists these nodes.
-    fn each<T: Shown>(&mut self, nodes: &[&T]) -> Result<(), AllocError> {
-        for node in nodes {
-            self.list(*node)?;
-        }
-        Ok(())
-    }
-
-    /// Lists the nodes that a call collects.
-    fn all<T: Shown>(&mut self, found: Result<Vec<&T>, Error>) -> Result<(), Error> {
+    /// Lists the nodes that a call collects, and tells whether that was refused.
+    fn all<T: Shown>(&mut self, found: Result<Vec<&T>, Error>) -> bool {
         let nodes = self.row.or(found, Vec::new(self.row.alloc));
-        Ok(self.each(nodes.as_slice())?)
+        let mut is_refused = false;
+        for node in nodes.as_slice() {
+            is_refused |= !self.list(*node);
+        }
+        is_refused
     }
 }
 
@@ -122,7 +117,11 @@ impl<T: Kind + Shown> Visitor<T> for Met<'_> {
     ghost unchanged = { λ old new. Unit {0} };
 
     fn meet(&mut self, node: &T) -> Result<(), Error> {
-        Ok(self.list(node)?)
+        if self.list(node) {
+            Ok(())
+        } else {
+            Err(Error::Memory)
+        }
     }
 
     ghost stays = { λ visitor. tt };
@@ -132,7 +131,11 @@ impl<T: Kind + Shown> Rewrite<T> for Met<'_> {
     ghost rewrites = { λ before after. after ≡ before };
 
     fn rewrite(&mut self, node: &mut T) -> Result<(), Error> {
-        Ok(self.list(node)?)
+        if self.list(node) {
+            Ok(())
+        } else {
+            Err(Error::Memory)
+        }
     }
 }
 
@@ -140,22 +143,22 @@ impl<T: Kind + Shown> Rewrite<T> for Met<'_> {
 /// call it do.
 fn walk<T: Replace + Shown + Visit<T>, N: Visit<T>>(holder: &mut N, met: &mut Met) -> bool {
     let alloc = met.row.alloc;
-    is_refused(match met.row.text("call") {
+    match met.row.text("call") {
         "Visit::visit" => met.all(holder.visit(alloc)),
-        "Visit::visit_rec" => holder.visit_rec(alloc, met),
-        "Visit::rewrite" => holder.rewrite(alloc, met),
-        _ => holder.rewrite_rec(alloc, met),
-    })
+        "Visit::visit_rec" => is_refused(holder.visit_rec(alloc, met)),
+        "Visit::rewrite" => is_refused(holder.rewrite(alloc, met)),
+        _ => is_refused(holder.rewrite_rec(alloc, met)),
+    }
 }
 
 /// Meets the lists of attributes below a holder, as the call of the row does.
 fn walk_lists<N: Visit<Attributes>>(holder: &mut N, met: &mut Met) -> bool {
     let alloc = met.row.alloc;
-    is_refused(if met.row.text("call") == "Visit::rewrite" {
-        holder.rewrite(alloc, met)
+    if met.row.text("call") == "Visit::rewrite" {
+        is_refused(holder.rewrite(alloc, met))
     } else {
         met.all(holder.visit(alloc))
-    })
+    }
 }
 
 /// Meets the types below a declaration, its initial value or its first attribute.
@@ -173,49 +176,41 @@ fn walk_declaration(declaration: &mut Declaration, met: &mut Met) -> bool {
     }
 }
 
-/// Meets the types below a structure or its first member.
-fn walk_struct(structure: &mut Struct, met: &mut Met) -> bool {
-    if met.row.text("holder") == "struct" {
-        return walk::<TypeExpression, _>(structure, met);
-    }
-    match structure.members.first_mut() {
-        Some(member) => walk::<TypeExpression, _>(&mut member.node, met),
-        None => false,
-    }
-}
-
-/// Meets the types below a function or the first statement of its body.
-fn walk_function(function: &mut Function, met: &mut Met) -> bool {
-    if met.row.text("holder") == "function" {
-        return walk::<TypeExpression, _>(function, met);
-    }
-    match function.body.statements.first_mut() {
-        Some(statement) => walk::<TypeExpression, _>(&mut statement.node, met),
-        None => false,
+/// Meets the types below a structure, a function, a type alias or an assertion.
+fn walk_whole(global: &mut GlobalDeclaration, met: &mut Met) -> bool {
+    match global {
+        GlobalDeclaration::Struct(structure) => walk::<TypeExpression, _>(structure, met),
+        GlobalDeclaration::Function(function) => walk::<TypeExpression, _>(function, met),
+        GlobalDeclaration::TypeAlias(alias) => walk::<TypeExpression, _>(alias, met),
+        GlobalDeclaration::ConstAssert(assertion) => walk::<TypeExpression, _>(assertion, met),
+        _ => false,
     }
 }
 
-/// Meets the types below a type alias or its type.
-fn walk_alias(alias: &mut TypeAlias, met: &mut Met) -> bool {
-    if met.row.text("holder") == "type" {
-        walk::<TypeExpression, _>(&mut alias.ty, met)
-    } else {
-        walk::<TypeExpression, _>(alias, met)
+/// Meets the types below a declaration or a part of it, the first member of a structure, the first statement of a
+/// function, or the type of a type alias.
+fn walk_inner_types(global: &mut GlobalDeclaration, met: &mut Met) -> bool {
+    match global {
+        GlobalDeclaration::Declaration(declaration) => walk_declaration(declaration, met),
+        GlobalDeclaration::Struct(structure) => match structure.members.first_mut() {
+            Some(member) => walk::<TypeExpression, _>(&mut member.node, met),
+            None => false,
+        },
+        GlobalDeclaration::Function(function) => match function.body.statements.first_mut() {
+            Some(statement) => walk::<TypeExpression, _>(&mut statement.node, met),
+            None => false,
+        },
+        GlobalDeclaration::TypeAlias(alias) => walk::<TypeExpression, _>(&mut alias.ty, met),
+        _ => false,
     }
 }
 
 /// Meets the types below a global declaration or a part of it.
 fn walk_types(global: &mut GlobalDeclarationNode, met: &mut Met) -> bool {
-    if met.row.text("holder") == "global declaration" {
-        return walk::<TypeExpression, _>(global, met);
-    }
-    match &mut global.node {
-        GlobalDeclaration::Declaration(declaration) => walk_declaration(declaration, met),
-        GlobalDeclaration::TypeAlias(alias) => walk_alias(alias, met),
-        GlobalDeclaration::Struct(structure) => walk_struct(structure, met),
-        GlobalDeclaration::Function(function) => walk_function(function, met),
-        GlobalDeclaration::ConstAssert(assertion) => walk::<TypeExpression, _>(assertion, met),
-        GlobalDeclaration::Void => false,
+    match met.row.text("holder") {
+        "global declaration" => walk::<TypeExpression, _>(global, met),
+        "alias" | "struct" | "function" | "assertion" => walk_whole(&mut global.node, met),
+        _ => walk_inner_types(&mut global.node, met),
     }
 }
 
@@ -225,15 +220,6 @@ fn walk_statement(statement: &mut Statement, met: &mut Met) -> bool {
         "expressions" => walk::<ExpressionNode, _>(statement, met),
         "statements" => walk::<StatementNode, _>(statement, met),
         _ => walk_lists(statement, met),
-    }
-}
-
-/// Meets the expressions, statements or lists of attributes below a global declaration.
-fn walk_global(global: &mut GlobalDeclarationNode, met: &mut Met) -> bool {
-    match met.row.text("kind") {
-        "expressions" => walk::<ExpressionNode, _>(global, met),
-        "statements" => walk::<StatementNode, _>(global, met),
-        _ => walk_lists(global, met),
     }
 }
 
@@ -249,6 +235,18 @@ fn walk_inner(global: &mut GlobalDeclaration, met: &mut Met) -> bool {
             None => false,
         },
         _ => false,
+    }
+}
+
+/// Meets the expressions, statements or lists of attributes below a global declaration or a part of it.
+fn walk_others(global: &mut GlobalDeclarationNode, met: &mut Met) -> bool {
+    if met.row.text("holder") != "global declaration" {
+        return walk_inner(&mut global.node, met);
+    }
+    match met.row.text("kind") {
+        "expressions" => walk::<ExpressionNode, _>(global, met),
+        "statements" => walk::<StatementNode, _>(global, met),
+        _ => walk_lists(global, met),
     }
 }
 
@@ -305,11 +303,11 @@ impl Rewrite<TypeExpression> for Wrap<'_> {
 /// Wraps the types below a type alias.
 fn wrapped_alias(alias: &mut TypeAlias, wrap: &mut Wrap) -> bool {
     let alloc = wrap.row.alloc;
-    is_refused(if wrap.row.text("call") == "Visit::rewrite" {
-        alias.rewrite(alloc, wrap)
+    if wrap.row.text("call") == "Visit::rewrite" {
+        is_refused(alias.rewrite(alloc, wrap))
     } else {
-        alias.rewrite_rec(alloc, wrap)
-    })
+        is_refused(alias.rewrite_rec(alloc, wrap))
+    }
 }
 
 /// Wraps the types below a declaration or its first attribute.
@@ -338,30 +336,18 @@ fn wrapped(row: Row<'_>, global: &mut GlobalDeclaration) -> bool {
     }
 }
 
-/// Meets the expressions, statements or lists of attributes below a global declaration or a part of it.
-fn walk_others(global: &mut GlobalDeclarationNode, met: &mut Met) -> bool {
-    if met.row.text("holder") == "global declaration" {
-        walk_global(global, met)
-    } else {
-        walk_inner(&mut global.node, met)
-    }
-}
-
-/// Meets or wraps the nodes of a kind below a global declaration or a part of it.
-fn walk_part(global: &mut GlobalDeclarationNode, met: &mut Met) -> bool {
-    if met.row.text("kind") != "types" {
-        walk_others(global, met)
-    } else if met.row.has("wrap_at_most") {
-        wrapped(met.row, &mut global.node)
-    } else {
-        walk_types(global, met)
-    }
-}
-
 /// Meets or wraps the nodes of a kind below the first of these declarations or a part of it.
 fn walk_first(declarations: &mut Vec<GlobalDeclarationNode>, met: &mut Met) -> bool {
     match declarations.first_mut() {
-        Some(global) => walk_part(global, met),
+        Some(global) => {
+            if met.row.text("kind") != "types" {
+                walk_others(global, met)
+            } else if met.row.has("wrap_at_most") {
+                wrapped(met.row, &mut global.node)
+            } else {
+                walk_types(global, met)
+            }
+        }
         None => false,
     }
 }
