@@ -8,6 +8,7 @@ use Rattle.wesl_borrowed.specs.declared.number.Number.{Number}
 use Rattle.wesl_borrowed.specs.declared.value.BorrowedValue.{BorrowedValue, fold-BorrowedValue}
 use Rattle.wesl_borrowed.specs.declared.value.BorrowedValue.TheOpen.{BorrowedValue-F}
 
+-- the number of a JSON text that it is
 abbrev pub number_view : Number → Num
 number_view n = num_of n.kind
 

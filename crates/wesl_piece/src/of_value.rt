@@ -61,15 +61,17 @@ fn number_of(number: &serde_json::Number) -> Number
     }
 }
 
+// A number that is no whole one of 64 bits.
 fn float_of(number: &serde_json::Number) -> Number
     requires below { as_i64 (value_number number.now) ≡ None }
     requires from_zero { as_u64 (value_number number.now) ≡ None }
     ensures { number_view result ≡ value_number number.now }
 {
-    if let Some(float) = number.as_f64() {
-        if let Some(float) = Number::float(float) {
-            return float;
-        }
+    let Some(float) = number.as_f64() else {
+        unreachable!()
+    };
+    match Number::float(float) {
+        Some(number) => number,
+        None => unreachable!(),
     }
-    Number::whole(0)
 }

@@ -58,7 +58,7 @@ fn number_of(number: &Number) -> serde_json::Number
         NumberKind::Negative(whole) => serde_json::Number::from(whole),
         NumberKind::Float(float) => match serde_json::Number::from_f64(float) {
             Some(found) => found,
-            None => serde_json::Number::from(0u64),
+            None => unreachable!(),
         },
     }
 }
