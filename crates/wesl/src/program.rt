@@ -1,20 +1,13 @@
 //! The program: the bytes of a bundle in, one line out.
-ghost use Rattle.std.specs.Prelude.{◌≡◌, Ok, Err, IfOk, IfErr, OnErr, string_bytes, true, false};
-ghost use Rattle.serde_json.specs.View.{view};
-ghost use Rattle.serde_json.specs.Written.{has_float};
-ghost use Rattle.wesl_program.specs.Answers.{IsAnswerFor};
-ghost use Rattle.wesl_program.specs.Line.{IsAnswerLine, IsRefusal};
+ghost use Rattle.std.specs.Prelude.{◌≡◌, Err, IfOk, IfErr, OnErr, true};
 ghost use Rattle.wesl_program.specs.Made.{bytes_of};
 ghost use Rattle.wesl.specs.Run.{IsLine, IsLineFor, Wrote, WroteBeginning};
 
-use json::Scratch;
 use std::alloc::Global;
 use std::io::{Read, Write};
 use wesl_program::{
-    Answer, Failures, Line, ReadFault, answer_line, bundle_of_bytes, linked, memory_line,
-    read_whole, refusal, write_whole,
+    Failures, Line, ReadFault, answer_of_bytes, memory_line, read_whole, refusal, write_whole,
 };
-use wesl_tree::Error;
 
 /// What a line says: the linked unit, whether its names clash and what they stand for, or why there is none.
 #[derive(Clone, Copy, Debug, PartialEq, Eq)]
@@ -79,7 +72,7 @@ pub fn run_noting<R: Read, W: Write>(
 pub fn line_of_bytes(alloc: Global, bytes: &[u8]) -> (Outcome, Line)
     ensures line { IsLine result.0 bytes.now (bytes_of result.1) }
 {
-    match answer(alloc, bytes) {
+    match answer_of_bytes(alloc, bytes) {
         Ok(line) => (Outcome::Linked, Line::Made(line)),
         Err(error) => (Outcome::Refused, refusal(alloc, error)),
     }
@@ -99,28 +92,5 @@ fn line_for<R: Read>(
         Ok(bytes) => Ok(line_of_bytes(alloc, &bytes)),
         Err(ReadFault::Input) => Err(RunError::Input),
         Err(ReadFault::Memory) => Ok((Outcome::Refused, memory_line())),
-    }
-}
-
-// The answer of the bytes. What was read of them is dropped before the line is made.
-fn answer(alloc: Global, bytes: &[u8]) -> Result<String, Error>
-    ensures line { IfOk result (λ line. IsAnswerLine bytes.now (string_bytes line)) }
-    ensures refused { IfErr result (IsRefusal bytes.now) }
-{
-    let answer = linked_of_bytes(alloc, bytes)?;
-    Ok(answer_line(alloc, &answer)?)
-}
-
-// What is answered of the bundle that the bytes are.
-fn linked_of_bytes(alloc: Global, bytes: &[u8]) -> Result<Answer, Error>
-    ensures linked { IfOk result (IsAnswerFor bytes.now) }
-    ensures map_whole { IfOk result (λ a. has_float (view a.map) ≡ false) }
-    ensures refused { IfErr result (IsRefusal bytes.now) }
-{
-    let mut scratch = Scratch::new(alloc);
-    let bundle = bundle_of_bytes(alloc, bytes, &mut scratch)?;
-    match linked(alloc, bundle) {
-        Ok(answer) => Ok(answer),
-        Err(error) => Err(error),
     }
 }

@@ -1,2 +1,4 @@
 pub mod Lists
 pub mod Known
+pub mod Turns
+pub mod Views

@@ -1,15 +1,20 @@
 //! JSON values that are read, in a light form: their texts are borrowed, and the members of an object stand as they came.
-//! Places in such values as JSON Pointers (RFC 6901), and the keys of their objects.
+//! How such a value is read of a text, in one pass. Places in such values as JSON Pointers (RFC 6901), and the keys of their objects.
 #![tactic(auto)]
 
 mod copy;
+mod fault;
 mod keys;
 mod members;
 mod number;
+mod number_text;
 mod pointer;
+mod read;
 mod value;
 
+pub use fault::ReadFault;
 pub use keys::has_only;
 pub use number::{Number, NumberKind};
 pub use pointer::{under_index, under_key};
+pub use read::read_borrowed;
 pub use value::{BorrowedValue, Members};

@@ -9,7 +9,7 @@ use Rattle.wesl_branches.proofs.Settled.{view_clause, view_loop}
 use Rattle.wesl_branches.proofs.Standing.{stay, split, in_first, nothing, clear_leaf, passed_by, checks_same, list_checked, first_refused, next_checked, skip}
 use Rattle.wesl_branches.proofs.Views.{view_compound, view_if, view_switch, view_for}
 use Rattle.wesl_formula.specs.Evaluation.{Refuses}
-use Rattle.wesl_formula.specs.Features.{Replies}
+use Rattle.wesl_features.specs.Features.{Replies}
 use Rattle.wesl_names.specs.Path.{Text}
 use Rattle.wesl_names.specs.declared.errors.Error as error
 use Rattle.wesl_syntax.specs.Tree.{Tree, Forest, end, kind, at, before, branch, forest_of, list, present, absent, statement_node, compound_statement, if_statement, if_clause, else_if_clause, else_clause, switch, clauses, switch_clause, loop, for_loop, while_loop}

@@ -8,7 +8,7 @@ use Rattle.wesl_branches.proofs.Standing.{stay, below, held_body, in_held_body, 
 use Rattle.wesl_branches.proofs.Walked.{open_front}
 use Rattle.wesl_formula.specs.Evaluation.{Refuses}
 use Rattle.wesl_formula.specs.Faults.{Fault}
-use Rattle.wesl_formula.specs.Features.{Replies, known}
+use Rattle.wesl_features.specs.Features.{Replies, known}
 use Rattle.wesl_names.specs.Path.{Text}
 use Rattle.wesl_names.specs.declared.errors.Error as error
 use Rattle.wesl_syntax.specs.Tree.{Label, Forest, Tree, end, tree, kind, before, forest_of, branch, compound, statements}

@@ -2,7 +2,7 @@
 use Rattle.std.proofs.Common.{◌≡◌, List, [], ◌∷◌, Result, subst}
 use Rattle.wesl_chains.specs.Judging.{Checks}
 use Rattle.wesl_chains.specs.Nodes.{replies}
-use Rattle.wesl_formula.specs.declared.features.Features.{Features}
+use Rattle.wesl_features.specs.declared.features.Features.{Features}
 use Rattle.wesl_names.specs.Path.{Text}
 use Rattle.wesl_names.specs.declared.errors.Error as error
 use Rattle.wesl_syntax.specs.Tree.{Tree, forest_of}

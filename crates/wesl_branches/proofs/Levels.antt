@@ -4,7 +4,7 @@ use Rattle.wesl_chains.specs.Chains.{residual_list}
 use Rattle.wesl_chains.specs.Lists.{Element, element, elements, back, option_of, alone, closed, judged, is_entered, holds_body, through}
 use Rattle.wesl_chains.specs.Nodes.{as_element, optional_elements, optional_forest}
 use Rattle.wesl_chains.specs.Residual.{residual_tree}
-use Rattle.wesl_formula.specs.Answers.{Answers}
+use Rattle.wesl_features.specs.Answers.{Answers}
 use Rattle.wesl_syntax.specs.Tree.{Forest, Tree, end, tree, kind, branch, before, forest_of, compound, statements, list, clauses, loop, continuing, present, type_expression, imports, import_node, directive_list, directive_node, declarations, members, member_node, parameters}
 use Rattle.wesl_syntax.specs.View.{attributes_tree, optional, placed, import_view, directive_view, member_view, parameter_view, type_view, expression_step, call_step, argument_step, type_step}
 use Rattle.wesl_syntax.specs.declared.expression.TypeExpression.{TypeExpression}

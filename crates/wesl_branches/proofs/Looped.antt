@@ -10,7 +10,7 @@ use Rattle.wesl_branches.proofs.Standing.{stay, nothing}
 use Rattle.wesl_branches.proofs.Views.{view_compound}
 use Rattle.wesl_branches.proofs.Walked.{closing_none, closing_leaf}
 use Rattle.wesl_formula.specs.Evaluation.{Judges, Refuses}
-use Rattle.wesl_formula.specs.Features.{Replies, known}
+use Rattle.wesl_features.specs.Features.{Replies, known}
 use Rattle.wesl_names.specs.Path.{Text}
 use Rattle.wesl_names.specs.declared.errors.Error as error
 use Rattle.wesl_syntax.specs.Tree.{Forest, Tree, end, kind, before, branch, forest_of, loop, continuing}

@@ -8,7 +8,7 @@ use Rattle.wesl_chains.specs.Nodes.{as_element, optional_elements, optional_fore
 use Rattle.wesl_chains.specs.Residual.{residual_tree}
 use Rattle.wesl_branches.proofs.Levels.{inner, inner_left, listed_left, nodes_left, clauses_left, body_left, loop_left, continuing_left}
 use Rattle.wesl_branches.proofs.Views.{view_compound, view_if, view_switch}
-use Rattle.wesl_formula.specs.Answers.{Answers}
+use Rattle.wesl_features.specs.Answers.{Answers}
 use Rattle.wesl_syntax.specs.Tree.{Tree, at, before, branch, end, forest_of, compound, statement_node, statements, list, if_statement, switch, switch_clause, loop, continuing}
 use Rattle.wesl_syntax.specs.View.{attributes_tree, break_if_view, clause_step, clause_view, compound_step, compound_view, continuing_step, continuing_view, else_if_step, else_if_view, else_step, else_view, expression_tree, if_step, if_view, listed, optional, selector_view, statement_step, statement_tree, statement_view}
 use Rattle.wesl_syntax.specs.declared.attribute.Attribute.{Attribute}

@@ -6,7 +6,7 @@ use Rattle.wesl_chains.specs.Judging.{IsClear, RefusesIn, Checks}
 use Rattle.wesl_chains.specs.Lists.{Element, element, back, option_of, judged, is_entered, holds_body}
 use Rattle.wesl_formula.specs.Evaluation.{Refuses}
 use Rattle.wesl_formula.specs.Faults.{Fault, IsAmong}
-use Rattle.wesl_formula.specs.Features.{Replies, known}
+use Rattle.wesl_features.specs.Features.{Replies, known}
 use Rattle.wesl_names.specs.Path.{Text}
 use Rattle.wesl_names.specs.declared.errors.Error as error
 use Rattle.wesl_syntax.specs.Tree.{Label, Forest, Tree, end, tree, kind, before, compound, statements, present, absent}

@@ -1,12 +1,12 @@
 -- A list walked branch by branch leaves what judging whole chains leaves.
 use Rattle.std.proofs.Common.{◌≡◌, Bool, true, false, ◌&&◌, cond, List, [], ◌∷◌, ◌++◌, map, filter, Option, Some, None, refl, sym, ap, ◌∙◌}
 use Rattle.std.specs.List.{flat_map}
-use Rattle.wesl_formula.specs.declared.chain.Role.{Role}
+use Rattle.wesl_features.specs.declared.chain.Role.{Role}
 use Rattle.wesl_chains.specs.Chains.{Judged, is_node, is_branch, branch, is_not_false, until, up_to_true, first_role, later_role, attach, chains, live, headed, later, residual_chain, residual_list, rest_of_chain, rest_of_chains, residual_after}
-use Rattle.wesl_formula.specs.Branch.{fate, kept_after, decided_after}
-use Rattle.wesl_formula.specs.Answers.{Answers}
-use Rattle.wesl_formula.specs.declared.features.Truth.{Truth}
-use Rattle.wesl_formula.specs.declared.features.Truth.TheVariants.{Yes, No, Undecided}
+use Rattle.wesl_features.specs.Branch.{fate, kept_after, decided_after}
+use Rattle.wesl_features.specs.Answers.{Answers}
+use Rattle.wesl_features.specs.declared.features.Truth.{Truth}
+use Rattle.wesl_features.specs.declared.features.Truth.TheVariants.{Yes, No, Undecided}
 
 pub and-false : (b : Bool) → b && false ≡ false
 and-false true = refl

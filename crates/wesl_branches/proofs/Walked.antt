@@ -2,7 +2,7 @@
 use Rattle.std.proofs.Common.{◌≡◌, ℕ, Bool, true, false, cond, ◌&&◌, List, [], ◌∷◌, ◌++◌, map, drop, length, ◌≤◌, ◌<◌, ◌+◌, get_or, zero, suc, filter, inl, inr, Option, Some, None, Result, Ok, Err, refl, sym, ap, ◌∙◌, subst, append-nil, arith}
 use Rattle.std.specs.List.{flat_map}
 use Rattle.std.proofs.lemmas.List.{drop_more}
-use Rattle.wesl_formula.specs.declared.chain.Role.{Role}
+use Rattle.wesl_features.specs.declared.chain.Role.{Role}
 use Rattle.wesl_chains.specs.Chains.{staying, residual_chain, residual_after, headed, later, live, chains, is_node, is_branch, branch}
 use Rattle.wesl_chains.specs.Conditions.{is_void}
 use Rattle.wesl_chains.specs.Faults.{Stands, beside}
@@ -10,12 +10,12 @@ use Rattle.wesl_chains.specs.Judging.{IsClear, RefusesIn, Checks, closing}
 use Rattle.wesl_chains.specs.Lists.{Element, element, still, elements, back, alone, is_entered}
 use Rattle.wesl_chains.specs.Nodes.{as_element}
 use Rattle.wesl_chains.specs.Following.{IsTurn}
-use Rattle.wesl_formula.specs.Branch.{fate, kept_after, decided_after}
+use Rattle.wesl_features.specs.Branch.{fate, kept_after, decided_after}
 use Rattle.wesl_branches.proofs.Walk.{enact, scan, scan_is, scan_after}
 use Rattle.wesl_branches.proofs.Standing.{stay, split, nothing, clear_leaf, passed_by, refuses_more, first_refused}
-use Rattle.wesl_formula.specs.Answers.{Answers}
+use Rattle.wesl_features.specs.Answers.{Answers}
 use Rattle.wesl_formula.specs.Faults.{Fault}
-use Rattle.wesl_formula.specs.Features.{Replies, known}
+use Rattle.wesl_features.specs.Features.{Replies, known}
 use Rattle.wesl_names.specs.Path.{Text}
 use Rattle.wesl_names.specs.declared.errors.Error as error
 use Rattle.wesl_syntax.specs.Tree.{Label, Forest, Tree, end, tree, before, forest_of}

@@ -5,8 +5,8 @@ use Rattle.wesl_chains.specs.Laws.{LeftStaysWithin}
 use Rattle.wesl_chains.specs.Nodes.{answers}
 use Rattle.wesl_chains.specs.Residual.{residual_tree}
 use Rattle.wesl_branches.specs.Left.{left_of}
-use Rattle.wesl_formula.specs.Features.{Replies, says, known, by_number, answer_to}
-use Rattle.wesl_formula.specs.declared.features.Features.{Features}
+use Rattle.wesl_features.specs.Features.{Replies, says, known, by_number, answer_to}
+use Rattle.wesl_features.specs.declared.features.Features.{Features}
 use Rattle.wesl_names.specs.Path.{Text}
 use Rattle.wesl_syntax.specs.Tree.{Tree, tree_below}
 use Rattle.wesl_syntax.specs.Unit.{UnitView, UnitOf, unit_below}

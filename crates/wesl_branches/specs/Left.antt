@@ -1,6 +1,6 @@
 -- What features leave of a unit.
 use Rattle.wesl_chains.specs.Residual.{residual_tree}
-use Rattle.wesl_formula.specs.Features.{Replies, known, by_number}
+use Rattle.wesl_features.specs.Features.{Replies, known, by_number}
 use Rattle.wesl_names.specs.Path.{Text}
 use Rattle.wesl_syntax.specs.Unit.{UnitView}
 

@@ -10,7 +10,7 @@ ghost use Rattle.wesl_syntax.specs.View.{clause_view, compound_view, continuing_
 
 use std::alloc::Global;
 use wesl_chains::{check_both, check_list, closes, stays};
-use wesl_formula::{Chain, Features};
+use wesl_features::{Chain, Features};
 use wesl_names::{Error, Names};
 use wesl_syntax::{
     CompoundStatement, ContinuingStatement, ElseClause, ElseIfClause, IfClause, Statement,

@@ -7,7 +7,7 @@ ghost use Rattle.wesl_syntax.specs.View.{declarations_tree, directives_tree, fun
 
 use crate::statements::settle_body;
 use wesl_chains::settle_list;
-use wesl_formula::Features;
+use wesl_features::Features;
 use wesl_names::Names;
 use wesl_syntax::{
     Function, GlobalDeclaration, GlobalDeclarationNode, GlobalDirectiveNode, ImportStatementNode,

@@ -10,7 +10,7 @@ ghost use Rattle.wesl_syntax.specs.View.{declarations_tree, directives_tree, fun
 use crate::checks::check_body;
 use std::alloc::Global;
 use wesl_chains::{check_list, stays};
-use wesl_formula::{Chain, Features};
+use wesl_features::{Chain, Features};
 use wesl_names::{Error, Names};
 use wesl_syntax::{
     Function, GlobalDeclaration, GlobalDeclarationNode, GlobalDirectiveNode, ImportStatementNode,

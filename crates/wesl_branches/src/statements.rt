@@ -6,7 +6,7 @@ ghost use Rattle.wesl_chains.specs.Residual.{residual_tree};
 ghost use Rattle.wesl_syntax.specs.View.{clause_view, compound_view, continuing_view, else_if_view, else_view, if_view, optional, statement_tree, statement_view};
 
 use wesl_chains::{settle_both, settle_list};
-use wesl_formula::Features;
+use wesl_features::Features;
 use wesl_names::Names;
 use wesl_syntax::{
     CompoundStatement, ContinuingStatement, ElseClause, ElseIfClause, IfClause, Statement,

@@ -3,7 +3,7 @@ ghost use Rattle.std.specs.Prelude.{◌≡◌};
 ghost use Rattle.wesl_branches.specs.Left.{left_of};
 ghost use Rattle.wesl_chains.specs.Judging.{Checks};
 ghost use Rattle.wesl_chains.specs.Nodes.{replies};
-ghost use Rattle.wesl_formula.specs.Features.{answer_to};
+ghost use Rattle.wesl_features.specs.Features.{answer_to};
 ghost use Rattle.wesl_syntax.specs.Unit.{forest_of_unit, trees_of};
 ghost use Rattle.wesl_tree.specs.Translation.{unit_view};
 
@@ -12,7 +12,7 @@ use crate::judge::{check_declarations, check_directives, check_imports};
 use std::alloc::Global;
 use std::mem;
 use wesl_chains::law_of_bounds;
-use wesl_formula::Features;
+use wesl_features::Features;
 use wesl_names::Error;
 use wesl_tree::TranslationUnit;
 

@@ -8,7 +8,7 @@ use Rattle.serde_json.specs.Find.{as_array, as_bool, as_object, as_str, at, get,
 use Rattle.serde_json.specs.Written.{has_float, items_have_float, members_have_float}
 use Rattle.wesl_names.specs.Path.{Path, Text}
 use Rattle.wesl_bundle.specs.Bundle as spec
-use Rattle.wesl_formula.specs.declared.features.Feature.{Feature}
+use Rattle.wesl_features.specs.declared.features.Feature.{Feature}
 use Rattle.wesl_bundle.specs.declared.options.Naming.{Naming}
 use Rattle.wesl_bundle.specs.Builtins.{Builtins, builtins_in, builtins_keys, builtins_of_members}
 use Rattle.wesl_bundle.specs.Features.{Features, Flag, feature_in, features_in, features_keys, features_of_members, flags_in, flags_of}
@@ -19,7 +19,7 @@ use Rattle.wesl_borrowed.specs.Keys.{HasMember}
 use Rattle.wesl_borrowed.specs.Pointer.{Part, index, key}
 use Rattle.wesl_bundle.specs.Reading.{items_in, list_in, name_in, optional_in, or_default, or_empty, path_in, required_in}
 use Rattle.wesl_borrowed.specs.Keys.{has_only}
-use Rattle.wesl_formula.specs.declared.features.Feature.TheVariants as feature
+use Rattle.wesl_features.specs.declared.features.Feature.TheVariants as feature
 use Rattle.wesl_bundle.specs.declared.options.Naming.TheVariants as naming
 use Rattle.wesl_bundle.proofs.Flags.{object-get}
 use Rattle.wesl_bundle.proofs.Listed.{below-dependencies, below-modules, made-package, made-package-module, modules-listed, packages-listed}

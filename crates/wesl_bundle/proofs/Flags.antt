@@ -15,7 +15,7 @@ use Rattle.serde_json.specs.Data.{Data, Members, null, boolean, number, string, 
 use Rattle.serde_json.specs.Find.{as_object, get, get_member}
 use Rattle.serde_json.specs.View.{view, members_view}
 use Rattle.serde_json.proofs.Views.{Entry}
-use Rattle.wesl_formula.specs.declared.features.Feature.{Feature}
+use Rattle.wesl_features.specs.declared.features.Feature.{Feature}
 use Rattle.wesl_names.specs.Path.{Text}
 use Rattle.wesl_bundle.specs.declared.members.BundleError.{BundleError}
 use Rattle.wesl_bundle.specs.Broken.{Locates}

@@ -12,8 +12,8 @@ use Rattle.wesl_bundle.specs.Features.{Features, Flag, feature_in, features_in, 
 use Rattle.wesl_bundle.specs.Packages.{Packages, no_packages, packages_in}
 use Rattle.wesl_bundle.specs.Reading.{optional_in, items_in, required_in, path_in, or_empty, name_in, or_default}
 use Rattle.wesl_borrowed.specs.Keys.{has_only}
-use Rattle.wesl_formula.specs.declared.features.Feature.{Feature}
-use Rattle.wesl_formula.specs.declared.features.Feature.TheVariants as feature
+use Rattle.wesl_features.specs.declared.features.Feature.{Feature}
+use Rattle.wesl_features.specs.declared.features.Feature.TheVariants as feature
 use Rattle.wesl_bundle.specs.declared.options.Naming.{Naming}
 use Rattle.wesl_bundle.specs.declared.options.Naming.TheVariants as naming
 

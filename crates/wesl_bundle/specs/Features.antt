@@ -3,8 +3,8 @@ use Rattle.std.specs.Prelude.{List, [], ◌∷◌, if◌then◌else◌, Option, 
 use Rattle.std.specs.Str.{bytes_eq}
 use Rattle.serde_json.specs.Data.{Data, Members, no_members, member}
 use Rattle.serde_json.specs.Find.{get, as_str, as_object}
-use Rattle.wesl_formula.specs.declared.features.Feature.{Feature}
-use Rattle.wesl_formula.specs.declared.features.Feature.TheVariants as feature
+use Rattle.wesl_features.specs.declared.features.Feature.{Feature}
+use Rattle.wesl_features.specs.declared.features.Feature.TheVariants as feature
 use Rattle.wesl_names.specs.Path.{Text}
 use Rattle.wesl_bundle.specs.Reading.{◌>>=◌, or_default}
 use Rattle.wesl_borrowed.specs.Keys.{has_only}

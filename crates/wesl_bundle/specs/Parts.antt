@@ -8,7 +8,7 @@ use Rattle.wesl_names.specs.Path.{Text}
 use Rattle.wesl_borrowed.specs.Pointer.{Part, index, key}
 use Rattle.wesl_bundle.specs.declared.members.BundleError.{BundleError}
 use Rattle.wesl_bundle.specs.declared.members.BundleError.TheVariants.{Memory}
-use Rattle.wesl_formula.specs.declared.features.Feature.{Feature}
+use Rattle.wesl_features.specs.declared.features.Feature.{Feature}
 use Rattle.wesl_bundle.specs.Broken.{IfPlace, IsMemberBroken, IsUnder, place_of}
 use Rattle.wesl_bundle.specs.Forms.{Form, a_list_of, a_name, a_package_module, a_text, a_unit, optional, required}
 use Rattle.wesl_bundle.specs.Reading.{name_in}

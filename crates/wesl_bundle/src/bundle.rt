@@ -20,7 +20,7 @@ use crate::options::{Options, read_options};
 use crate::packages::{Package, packages_member};
 use std::alloc::Global;
 use wesl_borrowed::BorrowedValue;
-use wesl_formula::Features;
+use wesl_features::Features;
 use wesl_names::ModulePath;
 
 /// A bundle whose units are not read yet: of each the value is kept, a copy of that within the bundle's.

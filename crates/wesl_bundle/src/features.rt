@@ -8,10 +8,10 @@ ghost use Rattle.wesl_bundle.specs.Features.{answer_for, feature_in, feature_of 
 ghost use Rattle.wesl_bundle.specs.Forms.{a_feature, an_object_of, optional, some_features};
 ghost use Rattle.wesl_bundle.specs.Reading.{optional_in, or_default};
 ghost use Rattle.wesl_bundle.specs.Views.{features_view, flags_view};
-ghost use Rattle.wesl_formula.specs.Features.{answer_to};
+ghost use Rattle.wesl_features.specs.Features.{answer_to};
 ghost use Rattle.wesl_bundle.specs.Parts.{IsFlagFault, IsGrown, IsWithFlag};
 ghost use Rattle.wesl_bundle.specs.declared.members.BundleError.TheVariants.{Memory};
-ghost use Rattle.wesl_formula.specs.declared.features.Feature.TheVariants.{Disable};
+ghost use Rattle.wesl_features.specs.declared.features.Feature.TheVariants.{Disable};
 ghost use Rattle.wesl_names.specs.Path.{Text};
 
 use crate::joined::{both, inside, only, stated};
@@ -20,7 +20,7 @@ use serde_json::Value;
 use std::alloc::Global;
 use std::collections::BTreeMap;
 use wesl_borrowed::BorrowedValue;
-use wesl_formula::{Feature, Features};
+use wesl_features::{Feature, Features};
 use wesl_piece::value_of_borrowed;
 
 /// What features answer for a flag is what a bundle says for it.

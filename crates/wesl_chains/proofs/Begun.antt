@@ -10,10 +10,10 @@ use Rattle.wesl_chains.specs.Nodes.{as_element, attributes_forest, condition_of_
 use Rattle.wesl_chains.specs.Following.{IsTurn, Ends}
 use Rattle.wesl_chains.proofs.Places.{formulas_next, refuses_before}
 use Rattle.wesl_chains.proofs.Taken.{elements_as}
-use Rattle.wesl_formula.specs.Answers.{Answers}
+use Rattle.wesl_features.specs.Answers.{Answers}
 use Rattle.wesl_formula.specs.Evaluation.{Refuses}
 use Rattle.wesl_formula.specs.Faults.{Fault}
-use Rattle.wesl_formula.specs.Features.{Replies}
+use Rattle.wesl_features.specs.Features.{Replies}
 use Rattle.wesl_names.specs.Path.{Text}
 use Rattle.wesl_names.specs.declared.errors.Error as error
 use Rattle.wesl_syntax.specs.Tree.{Tree, before, end, forest_of}

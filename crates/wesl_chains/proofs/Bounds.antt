@@ -2,7 +2,7 @@
 use Rattle.std.proofs.Common.{◌≡◌, ℕ, Bool, true, false, ◌&&◌, cond, Option, Some, None, nat_lt, refl, sym, ap, ◌∙◌}
 use Rattle.wesl_chains.specs.Residual.{residual_forest, residual_tree}
 use Rattle.wesl_chains.proofs.Natural.{through_natural}
-use Rattle.wesl_formula.specs.Answers.{Answers}
+use Rattle.wesl_features.specs.Answers.{Answers}
 use Rattle.wesl_syntax.specs.Tree.{Label, Forest, Tree, LabelOf, ForestOf, end, tree, ident, truth, label_below, forest_below, tree_below, respell_label, respell_forest}
 
 -- a number of a table of n names, as itself

@@ -1,14 +1,14 @@
 -- Lists in stages: what a second stage leaves of what a first one left is what one stage leaves.
 use Rattle.std.proofs.Common.{◌≡◌, Bool, true, false, List, [], ◌∷◌, Option, Some, None, refl, sym, ap, ◌∙◌}
-use Rattle.wesl_formula.specs.declared.features.Truth.{Truth}
-use Rattle.wesl_formula.specs.declared.features.Truth.TheVariants.{Yes, No, Undecided}
-use Rattle.wesl_formula.specs.declared.chain.Role.{Role}
-use Rattle.wesl_formula.specs.declared.chain.Role.TheVariants.{Plain, If, Elif, Else}
-use Rattle.wesl_formula.specs.Answers.{Answers, in_stages}
+use Rattle.wesl_features.specs.declared.features.Truth.{Truth}
+use Rattle.wesl_features.specs.declared.features.Truth.TheVariants.{Yes, No, Undecided}
+use Rattle.wesl_features.specs.declared.chain.Role.{Role}
+use Rattle.wesl_features.specs.declared.chain.Role.TheVariants.{Plain, If, Elif, Else}
+use Rattle.wesl_features.specs.Answers.{Answers, in_stages}
 use Rattle.wesl_formula.specs.Formulas.{Form, Spot}
 use Rattle.wesl_formula.specs.Residual.{literal, residual, decided}
 use Rattle.wesl_chains.specs.Chains.{Condition, none, on, else_on, otherwise, holds, follows_on, residual_spot, recast_condition, Judged, Goes, Laws, is_branch, branch, residual_list}
-use Rattle.wesl_formula.specs.Branch.{fate, kept_after, decided_after}
+use Rattle.wesl_features.specs.Branch.{fate, kept_after, decided_after}
 use Rattle.wesl_chains.proofs.Walk.{enact, scan}
 use Rattle.wesl_chains.proofs.FormulaStages.{is_always, is_never, residual_in_stages}
 use Rattle.wesl_chains.proofs.ChainTurns.{and-false, scan_is}

@@ -1,18 +1,18 @@
 -- What stays of a list, and of what closes it.
 use Rattle.std.proofs.Common.{◌≡◌, ℕ, Bool, true, false, cond, ◌&&◌, List, [], ◌∷◌, ◌++◌, map, filter, Option, Some, None, refl, sym, ap, ◌∙◌, append-nil}
 use Rattle.std.specs.List.{flat_map}
-use Rattle.wesl_formula.specs.declared.chain.Role.{Role}
+use Rattle.wesl_features.specs.declared.chain.Role.{Role}
 use Rattle.wesl_chains.specs.Chains.{staying, residual_chain, residual_after, headed, later, live, chains, is_node, is_branch, branch}
 use Rattle.wesl_chains.specs.Conditions.{is_void}
 use Rattle.wesl_chains.specs.Judging.{closing}
 use Rattle.wesl_chains.specs.Lists.{Element, element, still, elements, back}
 use Rattle.wesl_chains.specs.Nodes.{as_element}
 use Rattle.wesl_chains.specs.Following.{IsTurn, Ends}
-use Rattle.wesl_formula.specs.Branch.{fate, kept_after, decided_after}
+use Rattle.wesl_features.specs.Branch.{fate, kept_after, decided_after}
 use Rattle.wesl_chains.proofs.Walk.{enact, scan}
 use Rattle.wesl_chains.proofs.ChainTurns.{scan_is, scan_after}
 use Rattle.wesl_chains.proofs.Taken.{elements_as}
-use Rattle.wesl_formula.specs.Answers.{Answers}
+use Rattle.wesl_features.specs.Answers.{Answers}
 use Rattle.wesl_syntax.specs.Tree.{Label, Forest, Tree, end, tree, before, forest_of}
 
 -- One branch.

@@ -1,10 +1,10 @@
 -- A formula without a fault has none in a later stage, nor in both at once.
 use Rattle.std.proofs.Common.{◌≡◌, List, [], ◌∷◌, ◌++◌, refl, ap, ◌∙◌}
-use Rattle.wesl_formula.specs.declared.features.Feature.{Feature}
-use Rattle.wesl_formula.specs.declared.features.Feature.TheVariants.{Enable, Disable, Keep, Error}
-use Rattle.wesl_formula.specs.declared.features.Truth.{Truth}
-use Rattle.wesl_formula.specs.declared.features.Truth.TheVariants.{Yes, No, Undecided}
-use Rattle.wesl_formula.specs.Features.{and_then, Replies, known, HoldsNoError, then_replies}
+use Rattle.wesl_features.specs.declared.features.Feature.{Feature}
+use Rattle.wesl_features.specs.declared.features.Feature.TheVariants.{Enable, Disable, Keep, Error}
+use Rattle.wesl_features.specs.declared.features.Truth.{Truth}
+use Rattle.wesl_features.specs.declared.features.Truth.TheVariants.{Yes, No, Undecided}
+use Rattle.wesl_features.specs.Features.{and_then, Replies, known, HoldsNoError, then_replies}
 use Rattle.wesl_formula.specs.Formulas.{Form, always, never, flag, templated, within, negation, conjunction, disjunction, other}
 use Rattle.wesl_formula.specs.Residual.{literal, flag_as, parenthesized, negated_as, both_as, either_as, residual}
 use Rattle.wesl_formula.specs.Faults.{Fault, faults_if_refused, formula_faults}

@@ -1,8 +1,8 @@
 -- Formulas in stages: what a second stage leaves of what a first one left is what one stage leaves.
 use Rattle.std.proofs.Common.{◌≡◌, refl, sym, ap, ◌∙◌}
-use Rattle.wesl_formula.specs.declared.features.Truth.{Truth}
-use Rattle.wesl_formula.specs.declared.features.Truth.TheVariants.{Yes, No, Undecided}
-use Rattle.wesl_formula.specs.Answers.{Answers, or_else, in_stages}
+use Rattle.wesl_features.specs.declared.features.Truth.{Truth}
+use Rattle.wesl_features.specs.declared.features.Truth.TheVariants.{Yes, No, Undecided}
+use Rattle.wesl_features.specs.Answers.{Answers, or_else, in_stages}
 use Rattle.wesl_formula.specs.Formulas.{Form, always, never, flag, templated, within, negation, conjunction, disjunction, other}
 use Rattle.wesl_formula.specs.Residual.{literal, flag_as, parenthesized, negated, both_as, both_of, either_as, either_of, residual}
 use Rattle.wesl_names.specs.declared.span.Span.{Span}

@@ -8,7 +8,7 @@ use Rattle.std.proofs.lemmas.List.Edits.{swap_is}
 use Rattle.std.proofs.lemmas.Grind.{take-set_at}
 use Rattle.wesl_chains.specs.Chains.{Judged, residual_after}
 use Rattle.wesl_chains.specs.Following.{IsTurn}
-use Rattle.wesl_formula.specs.Answers.{Answers}
+use Rattle.wesl_features.specs.Answers.{Answers}
 
 taken_twice : {X : Type 0} (ys : List X) (k i : ℕ) (y z w : X) → (k ≡ i) ⊎ (k < i) → i < length ys → (k ≡ i → w ≡ y) → take (k + 1) (set (set (set ys i z) k y) i w) ≡ take k ys ++ y ∷ []
 taken_twice ys k i y z w (inl e) h same =

@@ -4,15 +4,15 @@ use Rattle.std.specs.List.{flat_map}
 use Rattle.std.proofs.lemmas.List.{map-append}
 use Rattle.wesl_chains.specs.Conditions.{first_condition}
 use Rattle.wesl_syntax.specs.Tree.{end, tree}
-use Rattle.wesl_formula.specs.declared.chain.Role.{Role}
+use Rattle.wesl_features.specs.declared.chain.Role.{Role}
 use Rattle.wesl_chains.specs.Chains.{Judged, follows_on, holds, is_node, is_branch, branch, is_not_false, until, up_to_true, first_role, later_role, attach, chains, live, headed, later, residual_chain, residual_list, staying}
 use Rattle.wesl_chains.specs.Lists.{Element, element}
 use Rattle.wesl_chains.proofs.ChainStages.{holds-yes, holds-no}
 use Rattle.wesl_chains.proofs.ChainTurns.{live-yes, live-no, live-undecided}
 use Rattle.wesl_chains.proofs.Passing.{inside, void_inside, attributes_through}
-use Rattle.wesl_formula.specs.Answers.{Answers, in_stages}
-use Rattle.wesl_formula.specs.declared.features.Truth.{Truth}
-use Rattle.wesl_formula.specs.declared.features.Truth.TheVariants.{Yes, No, Undecided}
+use Rattle.wesl_features.specs.Answers.{Answers, in_stages}
+use Rattle.wesl_features.specs.declared.features.Truth.{Truth}
+use Rattle.wesl_features.specs.declared.features.Truth.TheVariants.{Yes, No, Undecided}
 
 module _ {N : Type 0} (Q : N → Type 0) where
   -- Q holds of each

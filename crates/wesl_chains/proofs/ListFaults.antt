@@ -1,24 +1,24 @@
 -- The faults of a list in a later stage, and in both stages at once.
 use Rattle.std.proofs.Common.{◌≡◌, Bool, true, false, ◌&&◌, cond, List, [], ◌∷◌, ◌++◌, refl, sym, ap, ◌∙◌, subst}
 use Rattle.std.specs.List.{flat_map}
-use Rattle.wesl_formula.specs.declared.chain.Role.{Role}
-use Rattle.wesl_formula.specs.declared.chain.Role.TheVariants.{Plain, If, Elif, Else}
+use Rattle.wesl_features.specs.declared.chain.Role.{Role}
+use Rattle.wesl_features.specs.declared.chain.Role.TheVariants.{Plain, If, Elif, Else}
 use Rattle.wesl_chains.specs.Chains.{Condition, none, on, else_on, otherwise, holds, follows_on, residual_list}
 use Rattle.wesl_chains.specs.Conditions.{condition_at, or_next, first_condition, attributes_in, is_void}
 use Rattle.wesl_chains.specs.Faults.{and_rest, condition_faults, conditions, conditions_of, opens, place_faults, list_faults}
 use Rattle.wesl_chains.specs.Lists.{Element, element}
-use Rattle.wesl_formula.specs.Branch.{fate, kept_after, decided_after}
+use Rattle.wesl_features.specs.Branch.{fate, kept_after, decided_after}
 use Rattle.wesl_chains.proofs.Walk.{enact, scan}
 use Rattle.wesl_chains.proofs.ChainTurns.{scan_is}
 use Rattle.wesl_chains.proofs.Faultless.{none_before, none_after, none_in_both, both_stages_faultless, residual-faultless}
 use Rattle.wesl_chains.proofs.NodeLaws.{element_laws, recast_all, conditions_in_role}
-use Rattle.wesl_formula.specs.Answers.{Answers}
+use Rattle.wesl_features.specs.Answers.{Answers}
 use Rattle.wesl_formula.specs.Faults.{Fault, no_preceding_if, duplicate_if}
-use Rattle.wesl_formula.specs.Features.{Replies, known, HoldsNoError, then_replies}
+use Rattle.wesl_features.specs.Features.{Replies, known, HoldsNoError, then_replies}
 use Rattle.wesl_formula.specs.Formulas.{Spot}
 use Rattle.wesl_formula.specs.Residual.{decided, residual}
-use Rattle.wesl_formula.specs.declared.features.Truth.{Truth}
-use Rattle.wesl_formula.specs.declared.features.Truth.TheVariants.{Yes, No, Undecided}
+use Rattle.wesl_features.specs.declared.features.Truth.{Truth}
+use Rattle.wesl_features.specs.declared.features.Truth.TheVariants.{Yes, No, Undecided}
 use Rattle.wesl_syntax.specs.Tree.{ForestOf, end, tree}
 
 module _ {I : Type 0} where

@@ -1,13 +1,13 @@
 -- The conditions among attributes, in a role.
 use Rattle.std.proofs.Common.{◌≡◌, ℕ, Bool, true, false, not, cond, List, [], ◌∷◌, map, Some, None, refl, ap, ◌∙◌}
 use Rattle.std.specs.List.{filter}
-use Rattle.wesl_formula.specs.declared.chain.Role.{Role}
-use Rattle.wesl_formula.specs.declared.chain.Role.TheVariants.{Plain, If, Elif, Else}
+use Rattle.wesl_features.specs.declared.chain.Role.{Role}
+use Rattle.wesl_features.specs.declared.chain.Role.TheVariants.{Plain, If, Elif, Else}
 use Rattle.wesl_chains.specs.Chains.{Condition, none, on, else_on, otherwise, recast_condition, follows_on, holds}
 use Rattle.wesl_chains.specs.Conditions.{condition_at, or_next, replaced, recast}
 use Rattle.wesl_chains.specs.Nodes.{attribute_tree, attributes_forest, condition_of_attribute, remade, marked, marked_tree, is_any, unconditional, follows_if_any, holds_if_any}
-use Rattle.wesl_formula.specs.Answers.{Answers}
-use Rattle.wesl_formula.specs.declared.features.Truth.{Truth}
+use Rattle.wesl_features.specs.Answers.{Answers}
+use Rattle.wesl_features.specs.declared.features.Truth.{Truth}
 use Rattle.wesl_syntax.specs.Tree.{Label, Forest, Tree, end, tree, before, forest_of}
 use Rattle.wesl_syntax.specs.declared.attribute.Attribute.{Attribute}
 use Rattle.wesl_syntax.specs.declared.span.Spanned.{Spanned}

@@ -1,20 +1,20 @@
 -- Identifiers replaced: what is left of a module with other identifiers is what is left of it, with those.
 use Rattle.std.proofs.Common.{◌≡◌, Bool, true, false, ◌&&◌, cond, not, List, [], ◌∷◌, ◌++◌, map, Option, Some, None, refl, sym, ap, ◌∙◌}
 use Rattle.std.proofs.lemmas.List.{map-append}
-use Rattle.wesl_formula.specs.declared.chain.Role.{Role}
-use Rattle.wesl_formula.specs.declared.chain.Role.TheVariants.{Plain, If, Elif, Else}
+use Rattle.wesl_features.specs.declared.chain.Role.{Role}
+use Rattle.wesl_features.specs.declared.chain.Role.TheVariants.{Plain, If, Elif, Else}
 use Rattle.wesl_chains.specs.Chains.{Condition, none, on, else_on, otherwise, residual_spot, recast_condition, holds, follows_on, residual_list}
 use Rattle.wesl_chains.specs.Conditions.{first_of, first_spot, condition_at, or_next, first_condition, attribute_of, replaced, recast, is_statements, is_list, attributes_in, with_attributes, is_void}
 use Rattle.wesl_chains.specs.Lists.{Element, element, elements, goes_back, back, is_closed, is_compound, is_option, option_of, is_entered, holds_body, alone, closed_body, closed, judged, through}
-use Rattle.wesl_formula.specs.Branch.{fate, kept_after, decided_after}
+use Rattle.wesl_features.specs.Branch.{fate, kept_after, decided_after}
 use Rattle.wesl_chains.proofs.Walk.{enact, scan}
 use Rattle.wesl_chains.proofs.ChainTurns.{scan_is}
 use Rattle.wesl_chains.proofs.Spots.{below_first, by_reading}
-use Rattle.wesl_formula.specs.Answers.{Answers}
+use Rattle.wesl_features.specs.Answers.{Answers}
 use Rattle.wesl_formula.specs.Formulas.{Form, Spot, always, never, flag, templated, within, negation, conjunction, disjunction, other, nowhere, type_name, has_arguments, named_as, reading, spots, spot, written}
 use Rattle.wesl_formula.specs.Residual.{literal, flag_as, parenthesized, negated_as, both_as, either_as, residual, decided}
-use Rattle.wesl_formula.specs.declared.features.Truth.{Truth}
-use Rattle.wesl_formula.specs.declared.features.Truth.TheVariants.{Yes, No, Undecided}
+use Rattle.wesl_features.specs.declared.features.Truth.{Truth}
+use Rattle.wesl_features.specs.declared.features.Truth.TheVariants.{Yes, No, Undecided}
 use Rattle.wesl_names.specs.declared.span.Span.{Span}
 use Rattle.wesl_syntax.specs.Nodes.{is_attributes}
 use Rattle.wesl_syntax.specs.Tree.{LabelOf, ForestOf, end, tree, kind, at, ident, truth, unary, binary, respell_label, respell_forest, respell, statement_node, declaration_node, literal as literal_kind, parenthesized as parenthesized_kind, type_or_identifier, present, if_attribute, elif_attribute, else_attribute, void}

@@ -1,8 +1,8 @@
 -- Nodes of a tree and their conditions: the laws that chains ask for.
 use Rattle.std.proofs.Common.{◌≡◌, List, [], ◌∷◌, Bool, true, false, cond, refl, sym, ap, ◌∙◌}
-use Rattle.wesl_formula.specs.declared.chain.Role.{Role}
-use Rattle.wesl_formula.specs.declared.chain.Role.TheVariants.{Plain, If, Elif, Else}
-use Rattle.wesl_formula.specs.Answers.{Answers, in_stages}
+use Rattle.wesl_features.specs.declared.chain.Role.{Role}
+use Rattle.wesl_features.specs.declared.chain.Role.TheVariants.{Plain, If, Elif, Else}
+use Rattle.wesl_features.specs.Answers.{Answers, in_stages}
 use Rattle.wesl_chains.specs.Chains.{Condition, none, on, else_on, otherwise, recast_condition, Goes, Laws}
 use Rattle.wesl_chains.specs.Conditions.{first_of, first_spot, condition_at, or_next, first_condition, attribute_of, replaced, recast, is_list, attributes_in, with_attributes, is_void}
 use Rattle.wesl_syntax.specs.Nodes.{is_attributes}

@@ -1,10 +1,10 @@
 -- Passing through the judged lists of a forest twice.
 use Rattle.std.proofs.Common.{◌≡◌, List, [], ◌∷◌, ◌++◌, map, Bool, true, false, not, cond, ◌&&◌, Option, Some, None, refl, sym, ap, ◌∙◌}
 use Rattle.std.proofs.lemmas.List.{map-append}
-use Rattle.wesl_formula.specs.declared.chain.Role.{Role}
-use Rattle.wesl_formula.specs.Answers.{Answers}
+use Rattle.wesl_features.specs.declared.chain.Role.{Role}
+use Rattle.wesl_features.specs.Answers.{Answers}
 use Rattle.wesl_chains.specs.Chains.{Judged, is_branch, branch}
-use Rattle.wesl_formula.specs.Branch.{fate, kept_after, decided_after}
+use Rattle.wesl_features.specs.Branch.{fate, kept_after, decided_after}
 use Rattle.wesl_chains.proofs.Bodies.{pair_cases}
 use Rattle.wesl_chains.proofs.Walk.{enact, scan}
 use Rattle.wesl_chains.specs.Conditions.{first_condition, recast, is_statements, is_list, attributes_in, with_attributes, is_void}

@@ -2,15 +2,15 @@
 use Rattle.std.proofs.Common.{◌≡◌, Bool, true, false, ◌&&◌, ◌||◌, cond, not, List, [], ◌∷◌, ◌++◌, filter, refl, sym, ap, ◌∙◌}
 use Rattle.std.specs.List.{flat_map}
 use mathlib.Core.Path.{fun_ext}
-use Rattle.wesl_formula.specs.declared.features.Truth.{Truth}
-use Rattle.wesl_formula.specs.declared.features.Truth.TheVariants.{Yes, No, Undecided}
-use Rattle.wesl_formula.specs.declared.chain.Role.{Role}
-use Rattle.wesl_formula.specs.declared.chain.Role.TheVariants.{Plain, If, Elif, Else}
-use Rattle.wesl_formula.specs.Answers.{Answers, or_else}
+use Rattle.wesl_features.specs.declared.features.Truth.{Truth}
+use Rattle.wesl_features.specs.declared.features.Truth.TheVariants.{Yes, No, Undecided}
+use Rattle.wesl_features.specs.declared.chain.Role.{Role}
+use Rattle.wesl_features.specs.declared.chain.Role.TheVariants.{Plain, If, Elif, Else}
+use Rattle.wesl_features.specs.Answers.{Answers, or_else}
 use Rattle.wesl_formula.specs.Formulas.{Form, always, never, flag, templated, within, negation, conjunction, disjunction, other, value_under}
 use Rattle.wesl_formula.specs.Residual.{literal, flag_as, parenthesized, negated_as, both_as, either_as, residual}
 use Rattle.wesl_chains.specs.Chains.{Condition, none, on, else_on, otherwise, holds, recast_condition, Judged, Goes, Laws, is_node, is_branch, branch, attach, chains, residual_list}
-use Rattle.wesl_formula.specs.Branch.{fate, kept_after, decided_after}
+use Rattle.wesl_features.specs.Branch.{fate, kept_after, decided_after}
 use Rattle.wesl_chains.proofs.Walk.{enact, scan}
 use Rattle.wesl_chains.specs.Lists.{element}
 use Rattle.wesl_syntax.specs.Unit.{UnitOf}

@@ -8,7 +8,7 @@ use Rattle.wesl_chains.specs.Lists.{Element}
 use Rattle.wesl_chains.specs.Nodes.{as_element, is_any, is_several, several_after}
 use Rattle.wesl_formula.specs.Evaluation.{Refuses}
 use Rattle.wesl_formula.specs.Faults.{Fault, IsAmong, no_preceding_if, duplicate_if}
-use Rattle.wesl_formula.specs.Features.{Replies}
+use Rattle.wesl_features.specs.Features.{Replies}
 use Rattle.wesl_names.specs.Path.{Text}
 use Rattle.wesl_names.specs.declared.errors.Error as error
 use Rattle.wesl_syntax.specs.Tree.{Forest, Tree, end, tree, before}

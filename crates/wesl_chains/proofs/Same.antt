@@ -1,16 +1,16 @@
 -- What is left of a module depends on the answers to its own flags alone.
 use Rattle.std.proofs.Common.{◌≡◌, Bool, true, false, ◌&&◌, ◌||◌, cond, List, [], ◌∷◌, ◌++◌, Option, Some, None, refl, sym, ap, ◌∙◌, subst}
-use Rattle.wesl_formula.specs.declared.chain.Role.{Role}
-use Rattle.wesl_formula.specs.declared.chain.Role.TheVariants.{Plain, If, Elif, Else}
+use Rattle.wesl_features.specs.declared.chain.Role.{Role}
+use Rattle.wesl_features.specs.declared.chain.Role.TheVariants.{Plain, If, Elif, Else}
 use Rattle.wesl_chains.specs.Chains.{Condition, none, on, else_on, otherwise, residual_spot, recast_condition, holds, is_branch, branch, residual_list}
 use Rattle.wesl_chains.specs.Conditions.{first_of, condition_at, or_next, first_condition, replaced, recast, is_list, attributes_in, with_attributes, is_void}
 use Rattle.wesl_chains.specs.Flags.{identifier, flags_in}
 use Rattle.wesl_chains.specs.Lists.{Element, element}
-use Rattle.wesl_formula.specs.Branch.{fate, kept_after, decided_after}
+use Rattle.wesl_features.specs.Branch.{fate, kept_after, decided_after}
 use Rattle.wesl_chains.proofs.Walk.{enact, scan}
 use Rattle.wesl_chains.proofs.ChainTurns.{scan_is}
 use Rattle.wesl_chains.proofs.Spots.{below_first, by_reading}
-use Rattle.wesl_formula.specs.Answers.{Answers}
+use Rattle.wesl_features.specs.Answers.{Answers}
 use Rattle.wesl_formula.specs.Formulas.{Form, Spot, type_name, has_arguments, named_as, reading, spots}
 use Rattle.wesl_formula.specs.Residual.{literal, flag_as, parenthesized, negated, both_of, either_of, residual}
 use Rattle.wesl_syntax.specs.Nodes.{is_attributes, is_formula}

@@ -10,9 +10,9 @@ use Rattle.wesl_chains.proofs.Bodies.{pair_cases}
 use Rattle.wesl_chains.proofs.Passing.{attributes_through}
 use Rattle.wesl_chains.proofs.Picks.{picked_unit_again}
 use Rattle.wesl_chains.proofs.Same.{SameOn, AllSameAt, below, beside, outside, join, own, attributes_same, list_same}
-use Rattle.wesl_formula.specs.Answers.{Answers, or_else}
-use Rattle.wesl_formula.specs.declared.features.Truth.{Truth}
-use Rattle.wesl_formula.specs.declared.features.Truth.TheVariants.{Yes, No, Undecided}
+use Rattle.wesl_features.specs.Answers.{Answers, or_else}
+use Rattle.wesl_features.specs.declared.features.Truth.{Truth}
+use Rattle.wesl_features.specs.declared.features.Truth.TheVariants.{Yes, No, Undecided}
 use Rattle.wesl_syntax.specs.Nodes.{is_formula}
 use Rattle.wesl_syntax.specs.Tree.{LabelOf, ForestOf, TreeOf, end, tree, kind, compound, present, absent, statements}
 use Rattle.wesl_syntax.specs.Unit.{UnitOf}

@@ -2,7 +2,7 @@
 use Rattle.std.proofs.Common.{◌≡◌, Bool, true, false, not, ◌&&◌, cond, List, [], ◌∷◌, ◌++◌, map, refl, sym, ap, ◌∙◌, subst}
 use Rattle.std.proofs.lemmas.List.{map-append}
 use Rattle.std.specs.List.{flat_map}
-use Rattle.wesl_formula.specs.declared.chain.Role.{Role}
+use Rattle.wesl_features.specs.declared.chain.Role.{Role}
 use Rattle.wesl_chains.specs.Chains.{residual_list, staying}
 use Rattle.wesl_chains.specs.Conditions.{is_statements, is_list, is_void, recast}
 use Rattle.wesl_chains.specs.Faults.{Stands, here, inside, beside, list_faults, list_at, closed_list, conditions, conditions_of, place_faults, condition_faults, opens}
@@ -16,9 +16,9 @@ use Rattle.wesl_chains.proofs.ListFaults.{list_in_both, list_left}
 use Rattle.wesl_chains.proofs.Passing.{inside as judged_inside, elements_through, option_again, void_inside, attributes_through}
 use Rattle.wesl_chains.proofs.Then.{then_is_in_stages}
 use Rattle.wesl_chains.proofs.TreeStages.{residual_tidy}
-use Rattle.wesl_formula.specs.Answers.{Answers}
+use Rattle.wesl_features.specs.Answers.{Answers}
 use Rattle.wesl_formula.specs.Faults.{Fault}
-use Rattle.wesl_formula.specs.Features.{Replies, known, HoldsNoError, then_replies}
+use Rattle.wesl_features.specs.Features.{Replies, known, HoldsNoError, then_replies}
 use Rattle.wesl_syntax.specs.Tree.{LabelOf, ForestOf, end, tree, kind, compound, statements}
 use Rattle.wesl_syntax.specs.Unit.{UnitOf, forest_of_unit}
 

@@ -1,16 +1,16 @@
 -- One node of a list, taken.
 use Rattle.std.proofs.Common.{◌≡◌, ℕ, Bool, true, false, ◌&&◌, cond, List, [], ◌∷◌, ◌++◌, map, Option, Some, None, is_some, refl, sym, ap, ◌∙◌, append-nil}
-use Rattle.wesl_formula.specs.declared.chain.Role.{Role}
+use Rattle.wesl_features.specs.declared.chain.Role.{Role}
 use Rattle.wesl_chains.specs.Chains.{follows_on, holds, residual_list, residual_after}
 use Rattle.wesl_chains.specs.Conditions.{first_condition, attributes_in, with_attributes, recast, is_void}
 use Rattle.wesl_chains.specs.Lists.{Element, element, still, elements, back, alone}
 use Rattle.wesl_chains.specs.Nodes.{as_element, optional_elements, optional_forest}
 use Rattle.wesl_chains.specs.Following.{IsTurn, AreTurns}
-use Rattle.wesl_formula.specs.Branch.{fate, kept_after, decided_after}
+use Rattle.wesl_features.specs.Branch.{fate, kept_after, decided_after}
 use Rattle.wesl_chains.proofs.Walk.{enact, scan}
 use Rattle.wesl_chains.proofs.ChainTurns.{turn_of, after_is}
-use Rattle.wesl_formula.specs.Answers.{Answers}
-use Rattle.wesl_formula.specs.declared.features.Truth.{Truth}
+use Rattle.wesl_features.specs.Answers.{Answers}
+use Rattle.wesl_features.specs.declared.features.Truth.{Truth}
 use Rattle.wesl_syntax.specs.Tree.{Tree, Forest, end, tree, before, forest_of}
 
 abbrev first_element : Bool → Element ℕ → Forest → Element ℕ

@@ -1,10 +1,10 @@
 -- Answers of two sets in one.
 use Rattle.std.proofs.Common.{◌≡◌, Option, Some, None, is_some, unwrap_or, cond, refl}
 use mathlib.Core.Path.{fun_ext}
-use Rattle.wesl_formula.specs.declared.features.Feature.{Feature}
-use Rattle.wesl_formula.specs.declared.features.Feature.TheVariants.{Enable, Disable, Keep, Error}
-use Rattle.wesl_formula.specs.Answers.{in_stages, or_else}
-use Rattle.wesl_formula.specs.Features.{says, and_then, Replies, known, HoldsNoError, then_replies}
+use Rattle.wesl_features.specs.declared.features.Feature.{Feature}
+use Rattle.wesl_features.specs.declared.features.Feature.TheVariants.{Enable, Disable, Keep, Error}
+use Rattle.wesl_features.specs.Answers.{in_stages, or_else}
+use Rattle.wesl_features.specs.Features.{says, and_then, Replies, known, HoldsNoError, then_replies}
 
 -- the answer to a flag that both lists, the first, the second or none may have
 pub both_answers : (o p : Option Feature) (d e : Feature)

@@ -1,9 +1,9 @@
 -- A list walked branch by branch.
 use Rattle.std.proofs.Common.{List, [], ◌∷◌, Bool, cond, ◌&&◌, Option, Some, None}
-use Rattle.wesl_formula.specs.declared.chain.Role.{Role}
+use Rattle.wesl_features.specs.declared.chain.Role.{Role}
 use Rattle.wesl_chains.specs.Chains.{Judged, is_branch, branch}
-use Rattle.wesl_formula.specs.Branch.{fate, kept_after, decided_after}
-use Rattle.wesl_formula.specs.Answers.{Answers}
+use Rattle.wesl_features.specs.Branch.{fate, kept_after, decided_after}
+use Rattle.wesl_features.specs.Answers.{Answers}
 
 module _ {I N : Type 0} (J : Judged I N) where
   abbrev pub enact : Answers I → Option Role → N → List N → List N

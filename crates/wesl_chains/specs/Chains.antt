@@ -1,13 +1,13 @@
 -- What answers to flags leave of chains of branches, over any nodes that may have a condition.
 use Rattle.std.specs.Prelude.{◌≡◌, List, [], ◌∷◌, ◌++◌, map, Bool, true, false, not, cond, ◌&&◌}
 use Rattle.std.specs.List.{flat_map, filter}
-use Rattle.wesl_formula.specs.declared.chain.Role.{Role}
-use Rattle.wesl_formula.specs.declared.chain.Role.TheVariants.{Plain, If, Elif, Else}
-use Rattle.wesl_formula.specs.Answers.{Answers, in_stages}
+use Rattle.wesl_features.specs.declared.chain.Role.{Role}
+use Rattle.wesl_features.specs.declared.chain.Role.TheVariants.{Plain, If, Elif, Else}
+use Rattle.wesl_features.specs.Answers.{Answers, in_stages}
 use Rattle.wesl_formula.specs.Formulas.{Spot}
 use Rattle.wesl_formula.specs.Residual.{residual, decided}
-use Rattle.wesl_formula.specs.declared.features.Truth.{Truth}
-use Rattle.wesl_formula.specs.declared.features.Truth.TheVariants.{Yes, No, Undecided}
+use Rattle.wesl_features.specs.declared.features.Truth.{Truth}
+use Rattle.wesl_features.specs.declared.features.Truth.TheVariants.{Yes, No, Undecided}
 
 -- the condition of a node: none, an @if, an @elif or an @else
 pub data Condition (I : Type 0) : Type 0 where

@@ -1,7 +1,7 @@
 -- The flags that a module names in its formulas.
 use Rattle.std.specs.Prelude.{◌≡◌, List, [], ◌∷◌, ◌++◌, Bool, true, false, ◌||◌}
 use Rattle.wesl_chains.specs.Picked.{Choice, chosen}
-use Rattle.wesl_formula.specs.Answers.{Answers, or_else}
+use Rattle.wesl_features.specs.Answers.{Answers, or_else}
 use Rattle.wesl_syntax.specs.Nodes.{is_formula}
 use Rattle.wesl_syntax.specs.Tree.{LabelOf, ForestOf, end, tree, ident}
 use Rattle.wesl_syntax.specs.Unit.{UnitOf}

@@ -1,7 +1,7 @@
 -- How a list goes on after a chain: what has become of the branches before decides with the next one.
 use Rattle.std.specs.Prelude.{◌≡◌, List, ◌∷◌, ◌++◌, Bool, cond}
 use Rattle.wesl_chains.specs.Chains.{Judged, residual_after}
-use Rattle.wesl_formula.specs.Answers.{Answers}
+use Rattle.wesl_features.specs.Answers.{Answers}
 
 module _ {I N : Type 0} (J : Judged I N) where
   -- how a beginning of a list is taken, whatever follows

@@ -1,17 +1,17 @@
 -- The nodes of the code as nodes of a judged list.
 use Rattle.std.specs.Prelude.{ℕ, Bool, true, false, cond, List, [], ◌∷◌, map, Option, Some, None}
-use Rattle.wesl_formula.specs.declared.chain.Role.{Role}
+use Rattle.wesl_features.specs.declared.chain.Role.{Role}
 use Rattle.wesl_chains.specs.declared.conditions.Condition.{Condition as Lent}
 use Rattle.wesl_chains.specs.declared.conditions.Condition.TheVariants as lent
 use Rattle.wesl_chains.specs.Chains.{Condition, none, on, else_on, otherwise, recast_condition}
 use Rattle.wesl_chains.specs.Conditions.{first_spot, condition_at, attribute_of}
 use Rattle.wesl_chains.specs.Lists.{Element}
-use Rattle.wesl_formula.specs.Answers.{Answers}
-use Rattle.wesl_formula.specs.Features.{Replies, answer_to, known, by_number}
-use Rattle.wesl_formula.specs.declared.features.Features.{Features}
+use Rattle.wesl_features.specs.Answers.{Answers}
+use Rattle.wesl_features.specs.Features.{Replies, answer_to, known, by_number}
+use Rattle.wesl_features.specs.declared.features.Features.{Features}
 use Rattle.wesl_formula.specs.Residual.{decided}
-use Rattle.wesl_formula.specs.declared.features.Truth.{Truth}
-use Rattle.wesl_formula.specs.declared.features.Truth.TheVariants.{Yes}
+use Rattle.wesl_features.specs.declared.features.Truth.{Truth}
+use Rattle.wesl_features.specs.declared.features.Truth.TheVariants.{Yes}
 use Rattle.wesl_names.specs.Path.{Text}
 use Rattle.wesl_syntax.specs.Tree.{Tree, Forest, end, tree, before, forest_of, attribute_node}
 use Rattle.wesl_syntax.specs.View.{attribute_view, expression_tree, placed}

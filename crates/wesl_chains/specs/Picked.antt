@@ -1,13 +1,13 @@
 -- What a choice picks: of each chain the first branch whose formula is true.
 use Rattle.std.specs.Prelude.{◌≡◌, List, [], ◌∷◌, Bool, true, false, cond}
 use Rattle.std.specs.List.{flat_map, filter}
-use Rattle.wesl_formula.specs.declared.chain.Role.TheVariants.{Plain}
+use Rattle.wesl_features.specs.declared.chain.Role.TheVariants.{Plain}
 use Rattle.wesl_chains.specs.Chains.{Condition, none, on, else_on, otherwise, Judged, is_node, chains}
 use Rattle.wesl_chains.specs.Lists.{element, through}
 use Rattle.wesl_chains.specs.Residual.{first_tree}
-use Rattle.wesl_formula.specs.Answers.{Answers, or_else}
+use Rattle.wesl_features.specs.Answers.{Answers, or_else}
 use Rattle.wesl_formula.specs.Formulas.{value_under}
-use Rattle.wesl_formula.specs.declared.features.Truth.TheVariants.{Yes, No}
+use Rattle.wesl_features.specs.declared.features.Truth.TheVariants.{Yes, No}
 use Rattle.wesl_syntax.specs.Tree.{ForestOf, TreeOf, end, tree}
 use Rattle.wesl_syntax.specs.Unit.{UnitOf}
 

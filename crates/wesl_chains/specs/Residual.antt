@@ -2,7 +2,7 @@
 use Rattle.std.specs.Prelude.{false}
 use Rattle.wesl_chains.specs.Chains.{residual_list}
 use Rattle.wesl_chains.specs.Lists.{element, through}
-use Rattle.wesl_formula.specs.Answers.{Answers}
+use Rattle.wesl_features.specs.Answers.{Answers}
 use Rattle.wesl_syntax.specs.Tree.{ForestOf, TreeOf, end, tree}
 use Rattle.wesl_syntax.specs.Unit.{UnitOf}
 

@@ -9,7 +9,8 @@ ghost use Rattle.wesl_syntax.specs.Tree.{before, end};
 ghost use Rattle.wesl_syntax.specs.View.{attribute_view, expression_view};
 
 use std::mem;
-use wesl_formula::{Features, Role, Truth, decided, simplify};
+use wesl_features::{Features, Role, Truth};
+use wesl_formula::{decided, simplify};
 use wesl_names::Names;
 use wesl_syntax::{
     Attribute, AttributeNode, Attributes, Expression, ExpressionNode, Literal, Spanned,

@@ -12,7 +12,8 @@ ghost use Rattle.wesl_syntax.specs.Tree.{forest_of};
 use crate::conditions::{Condition, condition_of, follows_on, is_condition};
 use crate::lists::Conditional;
 use std::alloc::Global;
-use wesl_formula::{Features, check_formula};
+use wesl_features::Features;
+use wesl_formula::check_formula;
 use wesl_names::{CondCompError, Error, Names};
 use wesl_syntax::{Attribute, AttributeNode};
 

@@ -9,7 +9,7 @@ ghost use Rattle.wesl_chains.specs.Following.{AreTurns, Ends, IsTurn};
 ghost use Rattle.wesl_syntax.specs.Tree.{Tree, before, end, forest_of};
 
 use crate::conditions::{follows_on, holds};
-use wesl_formula::{Chain, Features, Role};
+use wesl_features::{Chain, Features, Role};
 use wesl_names::Names;
 use wesl_syntax::AttributeNode;
 

@@ -8,7 +8,7 @@ ghost use Rattle.wesl_syntax.specs.View.{break_if_view, clause_view, compound_vi
 
 use crate::conditions::recast;
 use crate::lists::Conditional;
-use wesl_formula::{Features, Role};
+use wesl_features::{Features, Role};
 use wesl_names::Names;
 use wesl_syntax::{
     AttributeNode, BreakIfStatement, CompoundStatement, ContinuingStatement, FormalParameter,

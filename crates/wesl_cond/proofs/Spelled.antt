@@ -5,7 +5,7 @@ use Rattle.wesl_chains.specs.Laws.{IsFaultless, BothStagesAreFaultless, LaterSta
 use Rattle.wesl_chains.specs.Residual.{first_tree, residual_tree, residual_unit}
 use Rattle.wesl_cond.proofs.Stages.{left_in_stages, left_over_faultless, two_stages_faultless}
 use Rattle.wesl_cond.specs.Units.{left_of, AreSpelledTwoStages, GoesOnSpelled, IsFaultlessUnit, IsSpelledLeftOver, SpellsWhatIsLeft}
-use Rattle.wesl_formula.specs.Features.{Replies, known, by_number, HoldsNoError}
+use Rattle.wesl_features.specs.Features.{Replies, known, by_number, HoldsNoError}
 use Rattle.wesl_names.specs.Path.{Text}
 use Rattle.wesl_syntax.specs.Tree.{Tree, end, tree, respell}
 use Rattle.wesl_syntax.specs.Unit.{UnitView, spelled, name_in}

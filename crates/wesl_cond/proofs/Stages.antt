@@ -6,7 +6,7 @@ use Rattle.wesl_chains.specs.Laws.{RunsInStages, TwiceIsOnce, PicksTheSame, Then
 use Rattle.wesl_chains.specs.Picked.{picked_unit}
 use Rattle.wesl_chains.specs.Residual.{residual_unit}
 use Rattle.wesl_cond.specs.Units.{left_of, GoesOn, IsFaultlessUnit, IsLeftOver, AreTwoStages, Picks}
-use Rattle.wesl_formula.specs.Features.{Replies, known, by_number, HoldsNoError, then_replies}
+use Rattle.wesl_features.specs.Features.{Replies, known, by_number, HoldsNoError, then_replies}
 use Rattle.wesl_names.specs.Path.{Text}
 use Rattle.wesl_names.specs.declared.errors.Error as error
 use Rattle.wesl_syntax.specs.Tree.{Forest}

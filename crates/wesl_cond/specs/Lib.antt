@@ -1,1 +1,2 @@
+pub mod Conditioned
 pub mod Units

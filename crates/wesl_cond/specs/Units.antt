@@ -6,7 +6,7 @@ use Rattle.wesl_chains.specs.Judging.{RefusesIn}
 use Rattle.wesl_chains.specs.Laws.{IsFaultless}
 use Rattle.wesl_chains.specs.Picked.{Choice, picked_unit}
 use Rattle.wesl_chains.specs.Residual.{residual_unit}
-use Rattle.wesl_formula.specs.Features.{Replies, known, by_number, HoldsNoError, then_replies}
+use Rattle.wesl_features.specs.Features.{Replies, known, by_number, HoldsNoError, then_replies}
 use Rattle.wesl_names.specs.Path.{Text}
 use Rattle.wesl_names.specs.declared.errors.Error as error
 use Rattle.wesl_syntax.specs.Unit.{UnitView, trees_of, forest_of_unit, spelled}

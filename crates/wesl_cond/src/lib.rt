@@ -1,13 +1,18 @@
-//! Conditional translation of whole modules (WESL, "ConditionalTranslation"). The engine is `wesl_branches`.
+//! Conditional translation of whole modules (WESL, "ConditionalTranslation"), over the engine `wesl_branches`; and what
+//! features leave of one formula, over `wesl_formula`.
 #![tactic(auto)]
 
+mod conditioned;
+mod evaluate;
 mod laws;
 mod unit;
 
+pub use conditioned::condition;
+pub use evaluate::eval_attr;
 pub use laws::law_of_spelling;
 pub use unit::run;
 pub use wesl_chains::{
     law_of_both_stages, law_of_choices, law_of_faults, law_of_later_stages, law_of_stages,
     law_of_then, law_of_twice,
 };
-pub use wesl_formula::{Feature, Features, eval_attr};
+pub use wesl_features::{Feature, Features};

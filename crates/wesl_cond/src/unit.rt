@@ -1,7 +1,7 @@
 //! What is left of a unit.
 ghost use Rattle.std.specs.Prelude.{◌≡◌, IfOk, IfErr, IsOk};
 ghost use Rattle.wesl_cond.specs.Units.{left_of, AreSpelledTwoStages, AreTwoStages, GoesOn, GoesOnSpelled, IsFaultlessUnit, IsLeftOver, IsSpelledLeftOver, Picks, RefusesUnit};
-ghost use Rattle.wesl_formula.specs.Features.{answer_to, HoldsNoError};
+ghost use Rattle.wesl_features.specs.Features.{answer_to, HoldsNoError};
 ghost use Rattle.wesl_names.specs.declared.errors.Diagnostic.{out-Diagnostic};
 ghost use Rattle.wesl_tree.specs.Translation.{unit_view};
 
@@ -11,7 +11,7 @@ use wesl_chains::{
     law_of_both_stages, law_of_choices, law_of_faults, law_of_later_stages, law_of_stages,
     law_of_then, law_of_twice,
 };
-use wesl_formula::Features;
+use wesl_features::Features;
 use wesl_names::Diagnostic;
 use wesl_tree::TranslationUnit;
 

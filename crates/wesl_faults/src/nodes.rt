@@ -1,13 +1,12 @@
 //! Nodes that no JSON form has: with spans, and with identifiers without a name.
 use serde_json::Value;
 use std::alloc::Global;
-use wesl_clone::TryClone;
 use wesl_row::{Object, Row};
 use wesl_syntax::{
     Declaration, DeclarationKind, Expression, GlobalDeclaration, Spanned, Statement, StatementNode,
     TypeExpression, law_of_equality,
 };
-use wesl_tree::{Ident, Span, TranslationUnit};
+use wesl_tree::{Ident, Span, TranslationUnit, TryClone};
 
 /// `break;` at a place
 fn leaving(alloc: Global, start: u32) -> StatementNode {

@@ -5,7 +5,7 @@ use Rattle.std.specs.List.{Contains, list_any}
 use Rattle.std.specs.Option.{option_map}
 use Rattle.wesl_syntax.specs.Unit.{UnitView, name_in}
 use Rattle.wesl_kept.specs.Marks.{mark_at}
-use Rattle.wesl_rings.specs.Graphs.{edges_at}
+use Rattle.wesl_valid.specs.Graphs.{edges_at}
 use Rattle.wesl_builtins.specs.Builtins.{BuiltinNames, is_callable}
 use Rattle.wesl_valid.specs.Calls.{CallOf, ShapeOf, function_with, struct_with, open_alias, alias_of, other, takes, is_plain_alias}
 use Rattle.wesl_valid.specs.Valid.{shape_of, Declares, AliasesTo, itself, aliased, IsEnd, Accepts, Fits}

@@ -2,8 +2,10 @@ pub mod Gathering
 pub mod Judging
 pub mod Marked
 pub mod Members
+pub mod Misfitting
 pub mod Plain
 pub mod Reaching
 pub mod Searching
 pub mod Shaping
 pub mod Tabling
+pub mod Telling

@@ -6,7 +6,7 @@ use Rattle.std.proofs.Math.ListN.{get_or-append}
 use Rattle.std.proofs.lemmas.List.Elements.{Contains-append_left, Contains-push, Contains-push_cases, Contains-get_or}
 use Rattle.wesl_kept.specs.Marks.{mark_at, unmarked}
 use Rattle.wesl_kept.proofs.Marking.{one_fewer}
-use Rattle.wesl_rings.specs.Graphs.{Graph, edges_at, Leads, IsClosed}
+use Rattle.wesl_valid.specs.Graphs.{Graph, edges_at, Leads, IsClosed}
 use Rattle.wesl_fitting.specs.Reached.{ReachedFrom, itself, onward, Visits, visits, entered, all_entered, cleared, IsClear}
 use Rattle.wesl_fitting.proofs.Members.{contains_none, contains_here, contains_later, contains_cases}
 

@@ -15,7 +15,7 @@ use Rattle.wesl_occurrences.specs.Walk.{Found}
 use Rattle.wesl_occurrences.specs.Ways.{told}
 use Rattle.wesl_kept.specs.Declarations.{lies_in, all, declared_in}
 use Rattle.wesl_kept.specs.Marks.{mark_at}
-use Rattle.wesl_rings.specs.Graphs.{Graph, edges_at, Leads, IsClosed}
+use Rattle.wesl_valid.specs.Graphs.{Graph, edges_at, Leads, IsClosed}
 use Rattle.wesl_valid.specs.Calls.{ShapeOf, alias_of, other, open_alias, function_with, struct_with, shape_in}
 use Rattle.wesl_valid.specs.Valid.{shape_of, Declares}
 use Rattle.wesl_fitting.specs.Tables.{Tables, AreTables, shape_at, target_of, target_at, one_or_none, declaration_named, alias_named, edges_here, edges_of, binds_here}

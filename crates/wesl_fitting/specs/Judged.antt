@@ -5,7 +5,7 @@ use Rattle.std.specs.Option.{option_map}
 use Rattle.wesl_names.specs.Path.{Text}
 use Rattle.wesl_syntax.specs.Unit.{name_in}
 use Rattle.wesl_kept.specs.Marks.{mark_at}
-use Rattle.wesl_rings.specs.Graphs.{edges_at}
+use Rattle.wesl_valid.specs.Graphs.{edges_at}
 use Rattle.wesl_builtins.specs.Builtins.{BuiltinNames, is_callable}
 use Rattle.wesl_valid.specs.Calls.{ShapeOf, function_with, struct_with, takes, is_plain_alias}
 use Rattle.wesl_fitting.specs.Tables.{Tables, shape_at}

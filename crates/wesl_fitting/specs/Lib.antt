@@ -1,3 +1,5 @@
+pub mod CallFaults
+pub mod Found
 pub mod Judged
 pub mod Made
 pub mod Misfits

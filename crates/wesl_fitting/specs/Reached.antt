@@ -2,7 +2,7 @@
 use Rattle.std.specs.Prelude.{◌≡◌, ℕ, Bool, true, false, List, [], ◌∷◌, ◌++◌, length, if◌then◌else◌}
 use Rattle.std.proofs.Common.{set}
 use Rattle.wesl_kept.specs.Marks.{mark_at}
-use Rattle.wesl_rings.specs.Graphs.{Graph, Leads}
+use Rattle.wesl_valid.specs.Graphs.{Graph, Leads}
 
 -- no edge or more lead from the first node to the second
 pub data ReachedFrom (g : Graph) : ℕ → ℕ → Type 0 where

@@ -3,7 +3,7 @@ use Rattle.std.specs.Prelude.{◌≡◌, ◌↔◌, ℕ, Bool, ◌&&◌, ◌==�
 use Rattle.wesl_syntax.specs.Unit.{UnitView}
 use Rattle.wesl_occurrences.specs.Occurrences.{OccurrenceIn, is_module_name, is_binder}
 use Rattle.wesl_kept.specs.Marks.{mark_at}
-use Rattle.wesl_rings.specs.Graphs.{Graph, Leads, IsClosed}
+use Rattle.wesl_valid.specs.Graphs.{Graph, Leads, IsClosed}
 use Rattle.wesl_valid.specs.Calls.{ShapeOf, alias_of, other}
 use Rattle.wesl_valid.specs.Valid.{is_bound, shape_of, Declares}
 

@@ -1,6 +1,6 @@
 -- What the engine's values stand for.
 use Rattle.std.specs.Prelude.{map}
-use Rattle.wesl_rings.specs.Graphs.{graph_view}
+use Rattle.wesl_valid.specs.Graphs.{graph_view}
 use Rattle.wesl_valid.specs.Calls as spec
 use Rattle.wesl_fitting.specs.Tables as tables
 use Rattle.wesl_fitting.specs.declared.shape.Shape.{Shape}

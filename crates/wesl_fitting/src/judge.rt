@@ -3,7 +3,7 @@ ghost use Rattle.std.specs.Prelude.{◌≡◌, map, not};
 ghost use Rattle.std.specs.List.{list_any};
 ghost use Rattle.wesl_builtins.specs.Builtins.{builtins_view};
 ghost use Rattle.wesl_kept.specs.Marks.{mark_at};
-ghost use Rattle.wesl_rings.specs.Graphs.{graph_view, edges_at};
+ghost use Rattle.wesl_valid.specs.Graphs.{graph_view, edges_at};
 ghost use Rattle.wesl_syntax.specs.Unit.{name_in};
 ghost use Rattle.wesl_valid.specs.Calls.{takes, is_plain_alias};
 ghost use Rattle.wesl_fitting.specs.Judged.{first_some, takes_at, count_at, ends_at, miscounted_at, not_callable_at, accepts_at, judged, count_of};

@@ -1,14 +1,18 @@
-//! Calls that fit nothing of what their aliases end in (WGSL, "Function Calls"): one of the parts of `validate_wgsl`.
+//! The engine of validators: the first fault of a module, with the names that tell it; and calls that fit nothing of what
+//! their aliases end in (WGSL, "Function Calls").
 #![tactic(auto)]
 
 mod calls;
+mod fault;
 mod fitting;
 mod judge;
 mod misfit;
+mod misfit_fault;
 mod numbers;
 mod reach;
 mod shape;
 mod tables;
+mod told;
 
-pub use fitting::first_misfit;
-pub use misfit::Misfit;
+pub use fault::{Fault, wesl_fault};
+pub use misfit_fault::call_fault;

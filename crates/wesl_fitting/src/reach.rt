@@ -4,7 +4,7 @@ ghost use Rattle.std.specs.List.{Contains};
 ghost use Rattle.std.proofs.Common.{set};
 ghost use Rattle.wesl_names.specs.declared.errors.Error as error;
 ghost use Rattle.wesl_kept.specs.Marks.{mark_at};
-ghost use Rattle.wesl_rings.specs.Graphs.{graph_view, edges_at, IsClosed};
+ghost use Rattle.wesl_valid.specs.Graphs.{graph_view, edges_at, IsClosed};
 ghost use Rattle.wesl_fitting.specs.Reached.{ReachedFrom, Visits, all_entered, cleared, entered, visits, IsClear};
 
 use std::alloc::Global;

@@ -4,7 +4,7 @@ ghost use Rattle.wesl_names.specs.declared.errors.Error as error;
 ghost use Rattle.wesl_occurrences.specs.Identified.{identified};
 ghost use Rattle.wesl_occurrences.specs.Views.{occurrence_view};
 ghost use Rattle.wesl_kept.specs.Declarations.{all};
-ghost use Rattle.wesl_rings.specs.Graphs.{graph_view, edges_at, IsClosed};
+ghost use Rattle.wesl_valid.specs.Graphs.{graph_view, edges_at, IsClosed};
 ghost use Rattle.wesl_tree.specs.Translation.{unit_view};
 ghost use Rattle.wesl_fitting.specs.Tables.{AreTables, one_or_none, declaration_named, target_of, target_at, alias_named, edges_of};
 ghost use Rattle.wesl_fitting.specs.Views.{shape_view, tables_view};
@@ -14,8 +14,8 @@ use crate::shape::{Shape, shape_at, shapes_of};
 use std::alloc::Global;
 use wesl_names::Error;
 use wesl_occurrences::{Identifiers, Occurrence, Standing};
-use wesl_rings::add_edge;
 use wesl_tree::TranslationUnit;
+use wesl_valid::add_edge;
 
 /// What a module's numbers are to calls.
 #[derive(Drop)]

@@ -1,3 +1,2 @@
 pub mod WrittenBack
-pub mod Listed
 pub mod Steps

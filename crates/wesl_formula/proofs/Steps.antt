@@ -1,13 +1,13 @@
 -- One step of what is left of a formula, and of its faults.
 use Rattle.std.proofs.Common.{◌≡◌, ℕ, rules, List, [], ◌∷◌, ◌++◌, cond, Option, ◌⊎◌, inl, inr, refl, sym, ap, ◌∙◌}
-use Rattle.wesl_formula.specs.declared.features.Truth.{Truth}
-use Rattle.wesl_formula.specs.declared.features.Truth.TheVariants.{Yes, No, Undecided}
-use Rattle.wesl_formula.specs.Answers.{Answers, opposite, both_hold, one_holds}
+use Rattle.wesl_features.specs.declared.features.Truth.{Truth}
+use Rattle.wesl_features.specs.declared.features.Truth.TheVariants.{Yes, No, Undecided}
+use Rattle.wesl_features.specs.Answers.{Answers, opposite, both_hold, one_holds}
 use Rattle.wesl_formula.specs.Formulas.{Form, always, never, flag, templated, within, negation, conjunction, disjunction, other, form, written}
 use Rattle.wesl_formula.specs.Residual.{literal, parenthesized, negated, both_as, both_of, either_as, either_of, is_joined, residual, decided}
 use Rattle.std.specs.Box.{with_value}
 use Rattle.wesl_formula.specs.Step.{operands_left, step, instead}
-use Rattle.wesl_formula.specs.Features.{Replies}
+use Rattle.wesl_features.specs.Features.{Replies}
 use Rattle.wesl_formula.specs.Faults.{Fault, IsAmong, formula_faults}
 use Rattle.wesl_formula.specs.Evaluation.{Refuses}
 use Rattle.wesl_formula.proofs.WrittenBack.{written_back}

@@ -1,8 +1,8 @@
 -- The faults of a condition, and how an error tells one.
 use Rattle.std.specs.Prelude.{◌≡◌, ℕ, List, [], ◌∷◌, ◌++◌, ◌⊎◌, string_bytes}
-use Rattle.wesl_formula.specs.declared.features.Feature.{Feature}
-use Rattle.wesl_formula.specs.declared.features.Feature.TheVariants.{Enable, Disable, Keep, Error}
-use Rattle.wesl_formula.specs.Features.{Replies}
+use Rattle.wesl_features.specs.declared.features.Feature.{Feature}
+use Rattle.wesl_features.specs.declared.features.Feature.TheVariants.{Enable, Disable, Keep, Error}
+use Rattle.wesl_features.specs.Features.{Replies}
 use Rattle.wesl_formula.specs.Formulas.{Form, always, never, flag, templated, within, negation, conjunction, disjunction, other}
 use Rattle.wesl_names.specs.Path.{Text}
 use Rattle.wesl_names.specs.declared.errors.Error as error

@@ -1,8 +1,8 @@
 -- What is left of a formula once flags are answered.
 use Rattle.std.specs.Prelude.{Bool, true, false}
-use Rattle.wesl_formula.specs.declared.features.Truth.{Truth}
-use Rattle.wesl_formula.specs.declared.features.Truth.TheVariants.{Yes, No, Undecided}
-use Rattle.wesl_formula.specs.Answers.{Answers}
+use Rattle.wesl_features.specs.declared.features.Truth.{Truth}
+use Rattle.wesl_features.specs.declared.features.Truth.TheVariants.{Yes, No, Undecided}
+use Rattle.wesl_features.specs.Answers.{Answers}
 use Rattle.wesl_formula.specs.Formulas.{Form, always, never, flag, templated, within, negation, conjunction, disjunction, other}
 use Rattle.wesl_names.specs.declared.span.Span.{Span}
 use Rattle.wesl_syntax.specs.Tree.{ForestOf}

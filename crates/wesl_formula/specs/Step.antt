@@ -1,6 +1,6 @@
 -- One step of what is left of a formula.
 use Rattle.std.specs.Prelude.{ℕ, Option, Some, None}
-use Rattle.wesl_formula.specs.Answers.{Answers}
+use Rattle.wesl_features.specs.Answers.{Answers}
 use Rattle.wesl_formula.specs.Formulas.{Form, always, never, flag, templated, within, negation, conjunction, disjunction, other, form}
 use Rattle.wesl_formula.specs.Residual.{flag_as, parenthesized, negated, both_of, either_of, residual}
 use Rattle.wesl_syntax.specs.View.{expression_view}

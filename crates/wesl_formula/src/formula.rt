@@ -1,6 +1,6 @@
 //! What is left of a formula, in its own place.
 ghost use Rattle.std.specs.Prelude.{◌≡◌, [], ◌∷◌};
-ghost use Rattle.wesl_formula.specs.Features.{answer_to, known, by_number};
+ghost use Rattle.wesl_features.specs.Features.{answer_to, known, by_number};
 ghost use Rattle.wesl_formula.specs.Formulas.{conjunction, disjunction, form, negation, within, written};
 ghost use Rattle.wesl_formula.specs.Residual.{decided, either_of, both_of, literal, negated, parenthesized, residual, is_joined};
 ghost use Rattle.wesl_formula.specs.Step.{instead, operands_left, step};
@@ -8,8 +8,8 @@ ghost use Rattle.wesl_syntax.specs.Tree.{branch, type_or_identifier};
 ghost use Rattle.wesl_syntax.specs.Unit.{name_in};
 ghost use Rattle.wesl_syntax.specs.View.{expression_view, type_view};
 
-use crate::features::{Feature, Features, Truth};
 use std::mem;
+use wesl_features::{Feature, Features, Truth};
 use wesl_names::{Ident, Names};
 use wesl_syntax::{
     BinaryOperator, Expression, ExpressionNode, Literal, TypeExpression, UnaryOperator,

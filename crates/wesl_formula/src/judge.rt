@@ -2,16 +2,16 @@
 ghost use Rattle.std.specs.Prelude.{◌≡◌, ℕ, List, [], ◌∷◌};
 ghost use Rattle.wesl_formula.specs.Evaluation.{Judges, Refuses};
 ghost use Rattle.wesl_formula.specs.Faults.{formula_faults, invalid_flag, unexpected_flag};
-ghost use Rattle.wesl_formula.specs.Features.{answer_to, by_number};
+ghost use Rattle.wesl_features.specs.Features.{answer_to, by_number};
 ghost use Rattle.wesl_formula.specs.Formulas.{form};
 ghost use Rattle.wesl_names.specs.Path.{Text};
 ghost use Rattle.wesl_syntax.specs.Tree.{branch, type_or_identifier};
 ghost use Rattle.wesl_syntax.specs.Unit.{name_in};
 ghost use Rattle.wesl_syntax.specs.View.{expression_view, type_view};
 
-use crate::features::{Feature, Features};
 use crate::formula::name_of;
 use std::alloc::Global;
+use wesl_features::{Feature, Features};
 use wesl_names::{CondCompError, Error, Names};
 use wesl_syntax::{BinaryOperator, Expression, Literal, TypeExpression, UnaryOperator};
 

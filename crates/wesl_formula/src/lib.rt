@@ -1,14 +1,9 @@
-//! Feature flags, and formulas over them (WESL, "ConditionalTranslation").
+//! Formulas over feature flags (WESL, "ConditionalTranslation"): judged, decided and simplified. The engine of `eval_attr` and
+//! of conditional translation.
 #![tactic(auto)]
 
-mod chain;
-mod evaluate;
-mod features;
 mod formula;
 mod judge;
 
-pub use chain::{Chain, Role};
-pub use evaluate::eval_attr;
-pub use features::{Feature, Features, Truth};
 pub use formula::{decided, name_of, simplify};
 pub use judge::check_formula;

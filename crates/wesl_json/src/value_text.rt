@@ -10,8 +10,7 @@ ghost use Rattle.wesl_json.specs.Texts.{IsNoJson, IsTextOf};
 use json::Scratch;
 use serde_json::Value;
 use std::alloc::Global;
-use wesl_borrowed::BorrowedValue;
-use wesl_borrowed_text::{ReadFault, read_borrowed};
+use wesl_borrowed::{BorrowedValue, ReadFault, read_borrowed};
 use wesl_names::Error;
 
 /// The value that a text is, as JSON (RFC 8259) with arrays and objects nested at most 127 deep.

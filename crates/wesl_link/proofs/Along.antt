@@ -5,11 +5,11 @@ use Rattle.wesl_names.specs.declared.errors.Error as error
 use Rattle.wesl_names.specs.declared.errors.ImportError as import_error
 use Rattle.wesl_names.specs.declared.errors.ResolveError.{ResolveError}
 use Rattle.wesl_names.specs.declared.errors.ResolveError as resolve_error
-use Rattle.wesl_formula.specs.declared.features.Features.{Features}
+use Rattle.wesl_features.specs.declared.features.Features.{Features}
 use Rattle.wesl_tree.specs.declared.unit.TranslationUnit.{TranslationUnit}
 use Rattle.wesl_resolve.specs.Refusals.{IsRefusedFor}
 use Rattle.wesl_resolve.specs.Preprocessor.{IsMade, IsMadeFault}
-use Rattle.wesl_link.specs.Conditions.{IsConditioned}
+use Rattle.wesl_cond.specs.Conditioned.{IsConditioned}
 use Rattle.wesl_syntax.specs.Unit.{UnitOf}
 use Rattle.wesl_symbols.specs.Tables.{Table}
 use Rattle.wesl_world.specs.World.{Task}

@@ -1,30 +1,11 @@
 -- What features leave of the units that are handed out; without features no condition is judged.
-use Rattle.std.specs.Prelude.{◌≡◌, Option, Some, None, Result, Ok, Err}
+use Rattle.std.specs.Prelude.{Option}
 use Rattle.wesl_names.specs.Path.{Text}
-use Rattle.wesl_names.specs.declared.errors.Error as error
 use Rattle.wesl_names.specs.declared.errors.ResolveError.{ResolveError}
-use Rattle.wesl_syntax.specs.Unit.{UnitView, UnitOf}
-use Rattle.wesl_tree.specs.Translation.{unit_view}
-use Rattle.wesl_tree.specs.declared.unit.TranslationUnit.{TranslationUnit}
-use Rattle.wesl_formula.specs.Features.{answer_to}
-use Rattle.wesl_formula.specs.declared.features.Features.{Features}
-use Rattle.wesl_cond.specs.Units.{left_of, IsFaultlessUnit, RefusesUnit}
+use Rattle.wesl_syntax.specs.Unit.{UnitOf}
+use Rattle.wesl_features.specs.declared.features.Features.{Features}
+use Rattle.wesl_cond.specs.Conditioned.{IsConditioned}
 use Rattle.wesl_resolve.specs.Preprocessor.{IsMade, IsMadeFault}
-
--- no fault of a condition stands, and the second unit is what is left of the first
-abbrev pub IsLeft : Option Features → UnitView → UnitView → Type 0
-IsLeft None before after = after ≡ before
-IsLeft (Some features) before after = IsFaultlessUnit (answer_to features) before × (after ≡ left_of (answer_to features) before)
-
--- the error tells a fault of a condition that stands
-abbrev pub IsRefusedBy : Option Features → UnitView → error.Error → Type 0
-IsRefusedBy None before e = ⊥
-IsRefusedBy (Some features) before e = RefusesUnit (answer_to features) before e
-
--- what is left of the unit, or a fault that stands in it
-abbrev pub IsConditioned : Option Features → TranslationUnit → Result TranslationUnit error.Error → Type 0
-IsConditioned features given (Ok made) = IsLeft features (unit_view given) (unit_view made)
-IsConditioned features given (Err e) = IsRefusedBy features (unit_view given) e
 
 -- what is left of a unit that is handed out
 abbrev pub HandsLeft : Option Features → (UnitOf Text → Type 0) → UnitOf Text → Type 0

@@ -7,7 +7,7 @@ use Rattle.wesl_names.specs.declared.errors.Error as error
 use Rattle.wesl_names.specs.declared.errors.ResolveError.{ResolveError}
 use Rattle.wesl_names.specs.declared.path.ModulePath.{ModulePath}
 use Rattle.wesl_syntax.specs.Unit.{UnitOf}
-use Rattle.wesl_formula.specs.declared.features.Features.{Features}
+use Rattle.wesl_features.specs.declared.features.Features.{Features}
 use Rattle.wesl_linker.specs.Worlds.{Module, task_of, IsLinked, IsRefused, IsModuleOrder}
 use Rattle.wesl_linker.specs.Refusal.{TellsOf}
 use Rattle.wesl_resolutions.specs.Keeping.{modules_of, turns_of}

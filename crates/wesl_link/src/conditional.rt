@@ -5,16 +5,15 @@ ghost use Rattle.wesl_tree.specs.declared.unit.TranslationUnit.{TranslationUnit}
 ghost use Rattle.wesl_names.specs.Borrowed.{texts};
 ghost use Rattle.wesl_names.specs.Path.{Text, Path, path_view, is_relative};
 ghost use Rattle.wesl_resolve.specs.Resolver.{MeansTheSame};
-ghost use Rattle.wesl_link.specs.Conditions.{IsConditioned};
+ghost use Rattle.wesl_cond.specs.Conditioned.{IsConditioned};
 ghost use Rattle.wesl_link.specs.Linking.{FindsLink, FindsLinkLeft, TellsRefusal, TellsRefusalLeft, kept_names};
 ghost use Rattle.wesl_linker.specs.Linking.{LinksRoot, RefusesRoot};
 ghost use Rattle.wesl_linker.specs.Resolved.{module_at};
 ghost use Rattle.wesl_linker.specs.Worlds as worlds;
 ghost use Rattle.wesl_resolutions.specs.Keeping.{IsSound, resolved, modules_of};
 
-use crate::units::condition;
 use std::alloc::Global;
-use wesl_cond::Features;
+use wesl_cond::{Features, condition};
 use wesl_resolutions::{Resolutions, resolve_eager, resolve_lazy};
 use wesl_resolve::{Preprocessor, Resolver};
 use wesl_tree::{Diagnostic, Error, ModulePath, TranslationUnit};

@@ -13,8 +13,8 @@ use Rattle.wesl_names.specs.declared.errors.CondCompError.TheVariants as cond
 use Rattle.wesl_names.specs.declared.errors.ResolveError as resolve_error
 use Rattle.wesl_names.specs.declared.errors.ImportError as import_error
 use Rattle.wesl_formula.specs.Faults.{Fault, Tells}
-use Rattle.wesl_formula.specs.Features.{answer_to}
-use Rattle.wesl_formula.specs.declared.features.Features.{Features}
+use Rattle.wesl_features.specs.Features.{answer_to}
+use Rattle.wesl_features.specs.declared.features.Features.{Features}
 use Rattle.wesl_tree.specs.Translation.{unit_view}
 use Rattle.wesl_tree.specs.declared.unit.TranslationUnit.{TranslationUnit}
 use Rattle.wesl_resolve.specs.ByOrigin.{AtOrigin, ByOrigin}
@@ -22,7 +22,8 @@ use Rattle.wesl_resolve.specs.Packages.{IsRefusedIn}
 use Rattle.wesl_resolve.specs.declared.packages.CodegenPkg.{CodegenPkg}
 use Rattle.wesl_json.specs.UnitTexts.{IsTreeFault}
 use Rattle.wesl_reading.specs.Faults.{place_of}
-use Rattle.wesl_link.specs.Conditions.{IsRefusedBy, RefusesLeft}
+use Rattle.wesl_cond.specs.Conditioned.{IsRefusedBy}
+use Rattle.wesl_link.specs.Conditions.{RefusesLeft}
 use Rattle.wesl_link.specs.Linking.{RefusesLink, hands_left, refuses_left}
 use Rattle.wesl_program.specs.Fault as told
 use Rattle.wesl_program.specs.Fault.{fault_of, fault_of_condition, fault_of_resolver, fault_of_validation}

@@ -4,13 +4,13 @@ use Rattle.wesl_names.specs.Path.{Text, Path}
 use Rattle.wesl_names.specs.declared.errors.Error as error
 use Rattle.wesl_names.specs.declared.errors.ResolveError.{ResolveError}
 use Rattle.wesl_syntax.specs.Unit.{UnitOf, UnitView}
-use Rattle.wesl_formula.specs.declared.features.Features.{Features}
+use Rattle.wesl_features.specs.declared.features.Features.{Features}
 use Rattle.wesl_linker.specs.Recorded.{Record}
 use Rattle.wesl_bundle.specs.Bundle.{Bundle}
 use Rattle.wesl_linker.specs.Worlds.{Module}
 use Rattle.wesl_source_map.specs.Records.{SameItems}
 use Rattle.wesl_link.specs.Linking.{RefusesLink, hands_left, refuses_left}
-use Rattle.wesl_link.specs.Mapping.{MapsLink}
+use Rattle.wesl_mapped_link.specs.Mapping.{MapsLink}
 use Rattle.wesl_program.specs.Linking.{Kept, LinksTo, handed_left, refused_left, recorded_for}
 use Rattle.wesl_program.specs.Naming.{named_by}
 use Rattle.wesl_program.specs.Refused.{IsLinkFault}

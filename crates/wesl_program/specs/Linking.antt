@@ -5,7 +5,7 @@ use Rattle.wesl_names.specs.Path.{Text, Path}
 use Rattle.wesl_names.specs.declared.errors.Error as error
 use Rattle.wesl_names.specs.declared.errors.ResolveError.{ResolveError}
 use Rattle.wesl_syntax.specs.Unit.{UnitOf, UnitView}
-use Rattle.wesl_formula.specs.declared.features.Features.{Features}
+use Rattle.wesl_features.specs.declared.features.Features.{Features}
 use Rattle.wesl_bundle.specs.Bundle.{Bundle}
 use Rattle.wesl_bundle.specs.Views.{features_view}
 use Rattle.wesl_resolve.specs.ByOrigin.{ByOrigin}
@@ -13,7 +13,7 @@ use Rattle.wesl_resolve.specs.Packages.{IsReadIn, IsRefusedIn}
 use Rattle.wesl_resolve.specs.declared.packages.CodegenPkg.{CodegenPkg}
 use Rattle.wesl_json.specs.UnitTexts.{ReadsAs}
 use Rattle.wesl_link.specs.Linking.{Links, RefusesLink, hands_left, refuses_left}
-use Rattle.wesl_link.specs.Mapping.{task_at}
+use Rattle.wesl_mapped_link.specs.Mapping.{task_at}
 use Rattle.wesl_linker.specs.Recorded.{Record, all_written}
 use Rattle.wesl_linker.specs.Worlds as worlds
 use Rattle.wesl_linker.specs.Linked.{IsAssembled}

@@ -1,4 +1,5 @@
-//! The steps from a bundle to its line, which `wesl` puts together: reading, linking, and writing.
+//! From the bytes of a bundle to the line of its answer; and what `wesl` puts round that: reading, lines of refusals, and
+//! writing.
 #![tactic(auto)]
 
 mod answer;
@@ -15,9 +16,8 @@ mod stored_text;
 mod streams;
 mod text_line;
 mod validity;
+mod whole_answer;
 
-pub use answer::{Answer, answer_line};
-pub use bundle_value::bundle_of_bytes;
 pub use lines::{Line, memory_line, refusal};
-pub use linking::linked;
 pub use streams::{Failures, ReadFault, read_whole, write_whole};
+pub use whole_answer::answer_of_bytes;

@@ -1,4 +1,3 @@
 pub mod Lists
 pub mod Entries
 pub mod Indexing
-pub mod Numbered

@@ -3,6 +3,3 @@ pub mod Tables
 pub mod Names
 pub mod Index
 pub mod Indexed
-pub mod Different
-pub mod Interned
-pub mod Kept

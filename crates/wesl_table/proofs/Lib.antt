@@ -12,3 +12,4 @@ pub mod Added
 pub mod Seen
 pub mod Pieced
 pub mod Tabling
+pub mod Interning

@@ -12,3 +12,6 @@ pub mod Base
 pub mod Laws
 pub mod Parts
 pub mod TextsView
+pub mod Different
+pub mod Interned
+pub mod Interning

@@ -2,7 +2,7 @@
 use Rattle.std.specs.Prelude.{◌≡◌, ◌⊎◌, Bool, false, Option, Some, None, List, [], ◌∷◌, ◌++◌, slice_get}
 use Rattle.std.specs.List.{list_any}
 use Rattle.wesl_names.specs.Path.{Text, Path}
-pub use Rattle.wesl_symbols.specs.Different.{AreDifferent}
+pub use Rattle.wesl_table.specs.Different.{AreDifferent}
 use Rattle.wesl_symbols.specs.declared.ids.PathId.{PathId}
 use Rattle.wesl_symbols.specs.declared.ids.NameId.{NameId}
 use Rattle.wesl_symbols.specs.declared.symbols.Import.{Import}

@@ -3,7 +3,7 @@ use Rattle.std.specs.Prelude.{List, map}
 use Rattle.wesl_names.specs.Path.{Path, path_view}
 use Rattle.wesl_table.specs.Numbering.{Numbering}
 use Rattle.wesl_table.specs.declared.numbers.Numbers.{Numbers}
-pub use Rattle.wesl_symbols.specs.Interned.{texts_of as names_of}
+pub use Rattle.wesl_table.specs.Interned.{texts_of as names_of}
 use Rattle.wesl_table.specs.declared.numbers.PathNumbers.{PathNumbers}
 
 abbrev pub paths_of : PathNumbers → List Path

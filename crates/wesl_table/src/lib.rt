@@ -1,9 +1,10 @@
 //! The symbol table of a module: what its imports bind, what it declares, and what the identifiers of its declarations
-//! are to a link.
+//! are to a link. And numbers for names, of which each distinct text has one.
 #![tactic(auto)]
 
 pub mod aims;
 pub mod imports;
+pub mod interner;
 pub mod laws;
 pub mod marks;
 pub mod numbers;

@@ -3,15 +3,15 @@ ghost use Rattle.std.specs.Prelude.{◌≡◌, ℕ, [], true, false, All, IfOk, 
 ghost use Rattle.wesl_names.specs.Path.{path_view, is_relative};
 ghost use Rattle.wesl_names.specs.declared.errors.Error as error;
 ghost use Rattle.wesl_syntax.specs.Unit.{name_in};
-ghost use Rattle.wesl_symbols.specs.Different.{AreDifferent};
+ghost use Rattle.wesl_table.specs.Different.{AreDifferent};
 ghost use Rattle.wesl_table.specs.Numbering.{IsLonger, Puts, Grows, NameAt, PathAt};
 
+use crate::interner::Interner;
 use crate::texts::{NameTexts, NumberTexts, PathTexts};
 use indexmap::IndexSet;
 use std::alloc::{AllocError, Global};
 use std::hash::Hash;
 use wesl_names::{Error, Ident, ModulePath, Names, law_of_equality};
-use wesl_symbols::Interner;
 use wesl_symbols::ids::{NameId, PathId};
 
 /// The index of a key, which goes last unless one equal to it is there.

@@ -1,10 +1,12 @@
 //! Units: whole modules, each of whose identifiers has a name. With all that they are made of, under one name.
 #![tactic(auto)]
 
+mod clone;
 mod unit;
 mod voids;
 
 pub use unit::TranslationUnit;
+pub use wesl_copies::TryClone;
 pub use wesl_names::{
     CondCompError, Diagnostic, Error, Ident, ImportError, ModulePath, Names, PathOrigin,
     ResolveError, Span, ValidateError, law_of_equality as law_of_path_equality, law_of_order,

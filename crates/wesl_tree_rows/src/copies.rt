@@ -1,11 +1,11 @@
 //! Copies and equality of units and of lists of nodes.
 use crate::units::numbered;
 use serde_json::Value;
-use wesl_clone::TryClone;
 use wesl_copies::Copying;
 use wesl_row::{Object, Row};
 use wesl_tree::{
     Attributes, Expression, ExpressionNode, GlobalDeclaration, StatementNode, TranslationUnit,
+    TryClone,
 };
 
 /// Which lists of two units are equal, and whether the units have the same spelling.

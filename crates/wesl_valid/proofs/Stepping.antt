@@ -10,7 +10,7 @@ use Rattle.wesl_occurrences.specs.Occurrences.{Block, Occurrence, occurrences, i
 use Rattle.wesl_occurrences.specs.Walk.{Found}
 use Rattle.wesl_occurrences.specs.Ways.{told}
 use Rattle.wesl_kept.specs.Declarations.{lies_in, declared_in, referred_in}
-use Rattle.wesl_rings.specs.Graphs.{Graph, edges_at, Leads}
+use Rattle.wesl_valid.specs.Graphs.{Graph, edges_at, Leads}
 use Rattle.wesl_valid.specs.Valid.{LeadsTo}
 use Rattle.wesl_valid.specs.Steps.{referred_here, referred, used_by, steps_here, used_in, steps}
 

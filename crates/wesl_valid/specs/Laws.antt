@@ -7,7 +7,7 @@ use Rattle.wesl_syntax.specs.Unit.{UnitView}
 use Rattle.wesl_builtins.specs.Builtins.{BuiltinNames}
 use Rattle.wesl_valid.specs.Calls.{CallOf}
 use Rattle.wesl_valid.specs.Valid.{spelling, calls_of, LeadsTo, AliasesTo, IsEnd, Fits, IsAcyclic, IsValidWesl, IsValidWgsl}
-use Rattle.wesl_rings.specs.Graphs.{Graph, Leads, IsGrounded, IsRing}
+use Rattle.wesl_valid.specs.Graphs.{Graph, Leads, IsGrounded, IsRing}
 use Rattle.wesl_valid.specs.Faults.{IsUndefined, IsDuplicate, IsCycle, IsMiscounted, IsNotCallable, IsWeslFault, IsWgslFault}
 
 -- a module with a fault is not valid

@@ -1,9 +1,11 @@
 pub mod Calls
 pub mod Faults
 pub mod Gathered
+pub mod Graphs
 pub mod Known
 pub mod Laws
 pub mod Names
+pub mod Searches
 pub mod Steps
 pub mod Twice
 pub mod Valid

@@ -2,7 +2,7 @@
 use Rattle.std.specs.Prelude.{ℕ, ◌&&◌, ◌==◌, Option, Some, None, List, [], ◌∷◌, flat_map, if◌then◌else◌}
 use Rattle.wesl_occurrences.specs.Occurrences.{OccurrenceIn, is_module_name, is_reference}
 use Rattle.wesl_kept.specs.Declarations.{lies_in}
-use Rattle.wesl_rings.specs.Graphs.{Graph, edges_at}
+use Rattle.wesl_valid.specs.Graphs.{Graph, edges_at}
 
 -- those to which a declaration refers, by a list of what each refers to
 abbrev pub used_by : Graph → Option ℕ → List ℕ

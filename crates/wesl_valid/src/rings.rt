@@ -7,11 +7,11 @@ ghost use Rattle.wesl_occurrences.specs.Identified.{identified};
 ghost use Rattle.wesl_valid.specs.Valid.{spelling, IsAcyclic};
 ghost use Rattle.wesl_valid.specs.Faults.{IsCycle};
 
+use crate::graph::ring;
 use crate::steps::steps_of;
 use std::alloc::Global;
 use wesl_names::Error;
 use wesl_occurrences::Identifiers;
-use wesl_rings::ring;
 
 /// The number of a declaration that reaches itself, and the number of the last one on the way, if there is one.
 ///

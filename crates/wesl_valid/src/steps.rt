@@ -2,13 +2,13 @@
 ghost use Rattle.std.specs.Prelude.{◌≡◌, ◌++◌, ◌==◌, ℕ, [], map, if◌then◌else◌, IfOk, IfErr};
 ghost use Rattle.wesl_names.specs.declared.errors.Error as error;
 ghost use Rattle.wesl_occurrences.specs.Views.{occurrence_view};
-ghost use Rattle.wesl_rings.specs.Graphs.{graph_view, edges_at, IsClosed};
+ghost use Rattle.wesl_valid.specs.Graphs.{graph_view, edges_at, IsClosed};
 ghost use Rattle.wesl_valid.specs.Steps.{referred_here, referred, used_by, steps_here, steps};
 
+use crate::edges::add_edge;
 use std::alloc::Global;
 use wesl_names::Error;
 use wesl_occurrences::{Identifiers, Occurrence};
-use wesl_rings::add_edge;
 
 /// Adds what an identifier refers to, if it is a reference in a declaration.
 #[tactic(auto, using(crate::proofs::Stepping::no_use, crate::proofs::Stepping::no_place))]

@@ -1,2 +1,1 @@
-pub mod Misfitting
-pub mod Telling
+pub mod Refusing

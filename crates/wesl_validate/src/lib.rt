@@ -1,9 +1,6 @@
 //! Validators: whether a module is one that a shader can be made of (WGSL, "Declaration and Scope").
 #![tactic(auto)]
 
-mod fault;
-mod misfit;
-mod told;
 mod wesl;
 mod wgsl;
 

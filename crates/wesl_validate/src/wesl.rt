@@ -6,9 +6,9 @@ ghost use Rattle.wesl_builtins.specs.Builtins.{builtins_view};
 ghost use Rattle.wesl_valid.specs.Valid.{IsValidWesl};
 ghost use Rattle.wesl_valid.specs.Faults.{RefusesWesl};
 
-use crate::fault::wesl_fault;
 use std::alloc::Global;
 use wesl_builtins::Builtins;
+use wesl_fitting::wesl_fault;
 use wesl_names::{Diagnostic, Error};
 use wesl_tree::TranslationUnit;
 

@@ -6,10 +6,10 @@ ghost use Rattle.wesl_builtins.specs.Builtins.{builtins_view};
 ghost use Rattle.wesl_valid.specs.Valid.{IsValidWgsl};
 ghost use Rattle.wesl_valid.specs.Faults.{RefusesWgsl};
 
-use crate::misfit::call_fault;
 use crate::wesl::validate_wesl;
 use std::alloc::Global;
 use wesl_builtins::Builtins;
+use wesl_fitting::call_fault;
 use wesl_names::{Diagnostic, Error};
 use wesl_tree::TranslationUnit;
 

@@ -1,6 +1,6 @@
 use Rattle.std.proofs.Common.{◌≡◌, ap, sym, subst, ◌∙◌, true}
 use Rattle.wesl_branches.specs.Left.{left_of}
-use Rattle.wesl_formula.specs.Features.{answer_to}
+use Rattle.wesl_features.specs.Features.{answer_to}
 use Rattle.wesl_syntax.specs.Unit.{unit_below}
 use Rattle.wesl_tree.specs.Parts.{parts_view}
 use Rattle.wesl_tree.specs.Translation.{unit_view}

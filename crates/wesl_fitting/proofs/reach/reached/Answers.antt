@@ -1,6 +1,6 @@
 use Rattle.std.proofs.Common.{◌≡◌, ◌<◌, ◌≤◌, ◌++◌, ◌∷◌, [], true, length, get_or, set, sym, ap, ◌∙◌, subst, arith, add-one}
 use Rattle.std.proofs.lemmas.List.{get_or_read}
-use Rattle.wesl_rings.specs.Graphs.{graph_view, edges_at}
+use Rattle.wesl_valid.specs.Graphs.{graph_view, edges_at}
 use Rattle.wesl_fitting.specs.Reached.{visits, all_entered, cleared, IsClear}
 use Rattle.wesl_fitting.proofs.Reaching.{Reaching, begins, step, smaller, ended, clears}
 use Rattle.wesl_fitting.proofs.reach.reached.Goals as goal

@@ -1,6 +1,6 @@
 use Rattle.std.proofs.Common.{◌+◌, ◌-◌, length}
 use Rattle.wesl_kept.specs.Marks.{unmarked}
-use Rattle.wesl_rings.specs.Graphs.{graph_view}
+use Rattle.wesl_valid.specs.Graphs.{graph_view}
 use Rattle.wesl_fitting.specs.Reached.{visits}
 use Rattle.wesl_fitting.proofs.Reaching.{Reaching}
 use Rattle.wesl_fitting.proofs.reach.reached.Given as goal

@@ -1,6 +1,6 @@
 use Rattle.std.proofs.Common.{◌≡◌, ℕ, map, take}
 use Rattle.wesl_occurrences.specs.Views.{occurrence_view}
-use Rattle.wesl_rings.specs.Graphs.{graph_view, edges_at, IsClosed}
+use Rattle.wesl_valid.specs.Graphs.{graph_view, edges_at, IsClosed}
 use Rattle.wesl_fitting.specs.Tables.{alias_named, edges_of}
 use Rattle.wesl_fitting.specs.Views.{shape_view}
 use Rattle.wesl_fitting.proofs.tables.aliases_of.Given as goal

@@ -1,5 +1,5 @@
 use Rattle.std.proofs.Common.{ap, sym, ◌∙◌}
-use Rattle.wesl_formula.specs.Features.{answer_to, known, by_number}
+use Rattle.wesl_features.specs.Features.{answer_to, known, by_number}
 use Rattle.wesl_formula.specs.Formulas.{form}
 use Rattle.wesl_formula.specs.Residual.{decided}
 use Rattle.wesl_syntax.specs.View.{expression_view}

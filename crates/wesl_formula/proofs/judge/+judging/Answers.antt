@@ -1,7 +1,7 @@
 use Rattle.std.proofs.Common.{ap, sym, ◌∙◌, subst}
 use Rattle.wesl_formula.specs.Evaluation.{Refuses}
 use Rattle.wesl_formula.specs.Faults.{formula_faults}
-use Rattle.wesl_formula.specs.Features.{answer_to, by_number}
+use Rattle.wesl_features.specs.Features.{answer_to, by_number}
 use Rattle.wesl_formula.specs.Formulas.{form}
 use Rattle.wesl_syntax.specs.View.{expression_view}
 use Rattle.wesl_syntax.specs.declared.expression.Expression.{Expression}

@@ -4,7 +4,7 @@ use Rattle.wesl_kept.specs.Declarations.{all}
 use Rattle.wesl_occurrences.specs.Identified.{identified}
 use Rattle.wesl_occurrences.specs.Views.{occurrence_view}
 use Rattle.wesl_occurrences.specs.Ways.{way}
-use Rattle.wesl_rings.specs.Graphs.{graph_view, edges_at, IsClosed, IsGrounded, IsRing}
+use Rattle.wesl_valid.specs.Graphs.{graph_view, edges_at, IsClosed, IsGrounded, IsRing}
 use Rattle.wesl_valid.specs.Valid.{spelling, IsAcyclic}
 use Rattle.wesl_valid.specs.Faults.{IsCycle}
 use Rattle.wesl_valid.proofs.Graphs as graphs

@@ -1,5 +1,5 @@
 use Rattle.std.proofs.Common.{◌≡◌, ◌∙◌, ◌==◌, ◌<◌, length, get_or, ap, arith}
-use Rattle.wesl_rings.specs.Graphs.{graph_view, edges_at}
+use Rattle.wesl_valid.specs.Graphs.{graph_view, edges_at}
 use Rattle.wesl_valid.proofs.Stepping.{admitted_next}
 use Rattle.wesl_valid.proofs.steps.add_edges.Goals as goal
 

@@ -1,6 +1,6 @@
 use Rattle.std.proofs.Common.{◌≡◌, ◌++◌, ◌==◌, ℕ, [], take}
 use Rattle.std.specs.Prelude.{if◌then◌else◌}
-use Rattle.wesl_rings.specs.Graphs.{graph_view, edges_at, IsClosed}
+use Rattle.wesl_valid.specs.Graphs.{graph_view, edges_at, IsClosed}
 use Rattle.wesl_valid.proofs.steps.add_edges.Given as goal
 
 abbrev pub invariant-loop-target : goal.invariant-loop-target

@@ -2,7 +2,7 @@ use Rattle.std.proofs.Common.{◌≡◌, ◌∙◌, ◌++◌, ◌<◌, ℕ, leng
 use Rattle.std.specs.Prelude.{flat_map}
 use Rattle.std.proofs.lemmas.Grind.{common_steps}
 use Rattle.wesl_occurrences.specs.Views.{occurrence_view}
-use Rattle.wesl_rings.specs.Graphs.{graph_view, edges_at}
+use Rattle.wesl_valid.specs.Graphs.{graph_view, edges_at}
 use Rattle.wesl_valid.specs.Steps.{used_by, steps_here}
 use Rattle.wesl_valid.proofs.Stepping.{same_listed, joined_next}
 use Rattle.wesl_valid.proofs.steps.steps_of.Goals as goal

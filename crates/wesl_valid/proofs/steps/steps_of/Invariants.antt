@@ -1,7 +1,7 @@
 use Rattle.std.proofs.Common.{◌≡◌, ℕ, map, take}
 use Rattle.std.specs.Prelude.{flat_map}
 use Rattle.wesl_occurrences.specs.Views.{occurrence_view}
-use Rattle.wesl_rings.specs.Graphs.{graph_view, edges_at, IsClosed}
+use Rattle.wesl_valid.specs.Graphs.{graph_view, edges_at, IsClosed}
 use Rattle.wesl_valid.specs.Steps.{used_by, steps_here}
 use Rattle.wesl_valid.proofs.steps.steps_of.Given as goal
 

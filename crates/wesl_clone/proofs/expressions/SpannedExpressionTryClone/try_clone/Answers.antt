@@ -1,6 +1,0 @@
-use Rattle.wesl_syntax.specs.View.{expression_tree}
-use Rattle.wesl_copies.proofs.Kept.{equal_copies}
-use Rattle.wesl_clone.proofs.expressions.SpannedExpressionTryClone.try_clone.Goals as goal
-
-pub returns-clause-equal : goal.returns-clause-equal
-returns-clause-equal c = equal_copies expression_tree c.told.result c.of-copying.ensures.keeps c.node-copy.ensures c.told.ensures.given c.told.ensures.noted

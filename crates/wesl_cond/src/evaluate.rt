@@ -1,0 +1,38 @@
+//! What is left of the formula of a conditional attribute.
+ghost use Rattle.std.specs.Prelude.{◌≡◌, [], IfOk, IfErr};
+ghost use Rattle.wesl_formula.specs.Evaluation.{IsRefused};
+ghost use Rattle.wesl_formula.specs.Faults.{formula_faults};
+ghost use Rattle.wesl_features.specs.Features.{answer_to, by_number, known};
+ghost use Rattle.wesl_formula.specs.Formulas.{form, written};
+ghost use Rattle.wesl_formula.specs.Residual.{residual};
+ghost use Rattle.wesl_names.specs.declared.errors.Diagnostic.{out-Diagnostic};
+ghost use Rattle.wesl_syntax.specs.View.{expression_view};
+
+use std::alloc::Global;
+use wesl_copies::Copying;
+use wesl_features::Features;
+use wesl_formula::{check_formula, simplify};
+use wesl_names::{Diagnostic, Names};
+use wesl_syntax::{Expression, ExpressionNode};
+
+/// What the features leave of a formula over the names of this table (WESL, "ConditionalTranslation").
+///
+/// It is refused where a flag has template arguments or is answered by a refusal, and where an expression is none of
+/// `true`, `false`, a flag, parentheses, `!`, `&&` and `||`, in any part of the formula; and for want of memory.
+pub fn eval_attr(
+    alloc: Global,
+    names: &Names,
+    expression: &ExpressionNode,
+    features: &Features,
+) -> Result<Expression, Diagnostic>
+    ensures left { IfOk result (λ left. expression_view left ≡ written (residual (known (by_number names.now (answer_to features.now))) (form (expression_view expression.now.node)))) }
+    ensures faultless { IfOk result (λ _. formula_faults (by_number names.now (answer_to features.now)) (form (expression_view expression.now.node)) ≡ []) }
+    ensures refused { IfErr result (λ told. IsRefused names.now (formula_faults (by_number names.now (answer_to features.now)) (form (expression_view expression.now.node))) (out-Diagnostic told).error) }
+{
+    check_formula(alloc, &expression.node, names, features)?;
+    let mut copying = Copying::of(alloc);
+    let copy = copying.expression(&expression.node);
+    let mut left = copying.end(copy)?;
+    simplify(&mut left, names, features);
+    Ok(left)
+}

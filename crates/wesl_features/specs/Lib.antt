@@ -1,0 +1,4 @@
+pub mod Answers
+pub mod Switch
+pub mod Features
+pub mod Branch

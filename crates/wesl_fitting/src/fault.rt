@@ -1,0 +1,131 @@
+//! The faults of a module.
+ghost use Rattle.std.specs.Prelude.{◌≡◌, ◌<◌, length, string_bytes, IfOk, IfErr, IfSome, IfNone, Some, None};
+ghost use Rattle.std.specs.List.{All};
+ghost use Rattle.std.specs.Option.{option_map};
+ghost use Rattle.wesl_names.specs.declared.errors.Error as error;
+ghost use Rattle.wesl_syntax.specs.Unit.{UnitView};
+ghost use Rattle.wesl_tree.specs.Translation.{unit_view};
+ghost use Rattle.wesl_occurrences.specs.Identified.{identified};
+ghost use Rattle.wesl_kept.specs.Declarations.{all};
+ghost use Rattle.wesl_builtins.specs.Builtins.{builtins_view};
+ghost use Rattle.wesl_valid.specs.Known.{IsNamedBy};
+ghost use Rattle.wesl_valid.specs.Valid.{IsDefined, AreDistinct, IsAcyclic, IsValidWesl};
+ghost use Rattle.wesl_valid.specs.Faults.{IsWeslFault};
+ghost use Rattle.wesl_fitting.specs.Found.{IsFault};
+
+use crate::told::{name_of, name_round};
+use std::alloc::Global;
+use wesl_builtins::Builtins;
+use wesl_names::{Error, Names, ValidateError};
+use wesl_occurrences::{Identifiers, occurrences};
+use wesl_tree::TranslationUnit;
+use wesl_valid::{cycle, duplicate, undefined};
+
+/// A fault, and the name of the declaration that holds it.
+#[derive(Drop)]
+pub struct Fault {
+    pub error: ValidateError,
+    pub declaration: Option<String>,
+}
+
+fn undefined_fault(
+    alloc: Global,
+    names: &Names,
+    found: &Identifiers<'_>,
+    builtins: &Builtins,
+) -> Result<Option<Fault>, Error>
+    requires within { All (λ o. o.ident.0 < length names.now) found.now.all.items }
+    ensures fault { IfOk result (λ r. IfSome r (λ f. (u : UnitView) → IsNamedBy u names.now found.now → IsFault u (builtins_view builtins.now) f)) }
+    ensures none { IfOk result (λ r. IfNone r ((u : UnitView) → IsNamedBy u names.now found.now → IsDefined u (builtins_view builtins.now))) }
+    ensures refused { IfErr result (λ e. e ≡ error.Memory) }
+{
+    match undefined(alloc, names, found, builtins)? {
+        None => Ok(None),
+        Some((number, declaration)) => {
+            let name = name_of(alloc, names, number)?;
+            let declaration = name_round(alloc, names, found, declaration)?;
+            let error = ValidateError::UndefinedSymbol(name);
+            Ok(Some(Fault { error, declaration }))
+        }
+    }
+}
+
+fn duplicate_fault(
+    alloc: Global,
+    unit: &TranslationUnit,
+    builtins: &Builtins,
+) -> Result<Option<Fault>, Error>
+    ensures fault { IfOk result (λ r. IfSome r (λ f. IsFault (unit_view unit.now) (builtins_view builtins.now) f)) }
+    ensures none { IfOk result (λ r. IfNone r (AreDistinct (unit_view unit.now))) }
+    ensures refused { IfErr result (λ e. e ≡ error.Memory) }
+{
+    match duplicate(alloc, unit)? {
+        None => Ok(None),
+        Some(number) => {
+            let name = name_of(alloc, unit.names(), number)?;
+            let declaration = Some(name_of(alloc, unit.names(), number)?);
+            let error = ValidateError::Duplicate(name);
+            Ok(Some(Fault { error, declaration }))
+        }
+    }
+}
+
+fn cycle_fault(
+    alloc: Global,
+    names: &Names,
+    found: &Identifiers<'_>,
+    builtins: &Builtins,
+) -> Result<Option<Fault>, Error>
+    ensures fault { IfOk result (λ r. IfSome r (λ f. (u : UnitView) → IsNamedBy u names.now found.now → IsFault u (builtins_view builtins.now) f)) }
+    ensures none { IfOk result (λ r. IfNone r ((u : UnitView) → IsNamedBy u names.now found.now → IsAcyclic u)) }
+    ensures refused { IfErr result (λ e. e ≡ error.Memory) }
+{
+    match cycle(alloc, found)? {
+        None => Ok(None),
+        Some((first, last)) => {
+            let name = name_of(alloc, names, first)?;
+            let by = name_of(alloc, names, last)?;
+            let declaration = Some(name_of(alloc, names, first)?);
+            let error = ValidateError::Cycle(name, by);
+            Ok(Some(Fault { error, declaration }))
+        }
+    }
+}
+
+/// A fault of a module whose identifiers were found, if it has one.
+fn fault_among(
+    alloc: Global,
+    unit: &TranslationUnit,
+    found: &Identifiers<'_>,
+    builtins: &Builtins,
+) -> Result<Option<Fault>, Error>
+    requires known { identified found.now ≡ all (unit_view unit.now) }
+    requires within { All (λ o. o.ident.0 < length (unit_view unit.now).names) found.now.all.items }
+    ensures fault { IfOk result (λ r. IfSome r (λ f. IsFault (unit_view unit.now) (builtins_view builtins.now) f)) }
+    ensures none { IfOk result (λ r. IfNone r (IsValidWesl (unit_view unit.now) (builtins_view builtins.now))) }
+    ensures refused { IfErr result (λ e. e ≡ error.Memory) }
+{
+    if let Some(fault) = undefined_fault(alloc, unit.names(), found, builtins)? {
+        return Ok(Some(fault));
+    }
+    if let Some(fault) = duplicate_fault(alloc, unit, builtins)? {
+        return Ok(Some(fault));
+    }
+    cycle_fault(alloc, unit.names(), found, builtins)
+}
+
+/// A fault of a module, if it has one. Refused for want of memory alone.
+pub fn wesl_fault(
+    alloc: Global,
+    unit: &TranslationUnit,
+    builtins: &Builtins,
+) -> Result<Option<Fault>, Error>
+    ensures fault { IfOk result (λ r. IfSome r (λ f. IsFault (unit_view unit.now) (builtins_view builtins.now) f)) }
+    ensures none { IfOk result (λ r. IfNone r (IsValidWesl (unit_view unit.now) (builtins_view builtins.now))) }
+    ensures refused { IfErr result (λ e. e ≡ error.Memory) }
+{
+    match occurrences(alloc, unit) {
+        Ok(found) => fault_among(alloc, unit, &found, builtins),
+        Err(error) => Err(error),
+    }
+}

@@ -1,0 +1,12 @@
+pub mod Linked
+pub mod Apart
+pub mod Escaped
+pub mod Laws
+pub mod Reading
+pub mod ReadAsMeant
+pub mod Canonical
+pub mod Builders
+pub mod Rows
+pub mod Retarget
+pub mod Units
+pub mod Faith

@@ -1,4 +1,0 @@
-pub mod Linked
-pub mod Apart
-pub mod Escaped
-pub mod Laws

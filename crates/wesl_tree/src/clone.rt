@@ -1,0 +1,29 @@
+//! Copies of units.
+ghost use Rattle.std.specs.Prelude.{◌≡◌, IfOk, IfErr};
+ghost use Rattle.wesl_names.specs.declared.errors.Error as error;
+ghost use Rattle.wesl_tree.specs.Translation.{unit_view};
+
+use crate::unit::TranslationUnit;
+use std::alloc::Global;
+use wesl_copies::{Copying, TryClone, unless_refused};
+use wesl_names::Error;
+
+impl TryClone for TranslationUnit {
+    fn try_clone(&self, alloc: Global) -> Result<TranslationUnit, Error>
+        ensures equal { IfOk result (λ unit. unit_view unit ≡ unit_view self.now) }
+        ensures refused { IfErr result (λ e. e ≡ error.Memory) }
+    {
+        let names = self.names().try_clone(alloc)?;
+        let mut copying = Copying::of(alloc);
+        let imports = copying.imports(self.imports());
+        let directives = copying.directives(self.global_directives());
+        let declarations = copying.globals(self.global_declarations());
+        match TranslationUnit::from_parts(names, imports, directives, declarations) {
+            Some(unit) => unless_refused(copying.is_refused, unit),
+            None => {
+                prove!(copying.is_refused);
+                Err(Error::Memory)
+            }
+        }
+    }
+}

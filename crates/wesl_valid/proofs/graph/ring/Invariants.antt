@@ -1,0 +1,12 @@
+use Rattle.std.proofs.Common.{◌≡◌, ◌≢◌, ℕ, ◌<◌, [], length, map, take}
+use Rattle.wesl_valid.specs.Graphs.{graph_view}
+use Rattle.wesl_valid.specs.Searches.{IsSearch, mark_at}
+use Rattle.wesl_valid.specs.declared.graph.Mark.TheVariants.{New}
+use Rattle.wesl_valid.proofs.graph.ring.Given as goal
+
+abbrev pub invariant-loop-start : goal.invariant-loop-start
+invariant-loop-start l = record {
+  search : IsSearch (graph_view l.graph) l.marks.items l.left.items [];
+  empty : l.way.items ≡ [];
+  met : (a : ℕ) → a < l.start → mark_at l.marks.items a ≢ New;
+}
