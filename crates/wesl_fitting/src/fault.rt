@@ -24,7 +24,9 @@ use wesl_valid::{cycle, duplicate, undefined};
 /// A fault, and the name of the declaration that holds it.
 #[derive(Drop)]
 pub struct Fault {
+    /// What the fault is, with the names that tell it.
     pub error: ValidateError,
+    /// The name of the declaration, where there is one and it declares a name.
     pub declaration: Option<String>,
 }
 
