@@ -3,7 +3,7 @@ use Rattle.std.proofs.Common.{◌≡◌, ℕ, Bool, true, false, ◌&&◌, refl,
 use Rattle.std.specs.Prelude.{if◌then◌else◌}
 use Rattle.wesl_syntax.specs.Tree.{Kind, Label, Forest, Tree, tree, label_below, forest_below, tree_below, kind, at, ident, text, texts, truth, unary, binary, assignment, space, access, path, expression_node, statement_node, attribute_node, member_node, import_node, directive_node, declaration_node, literal, parenthesized, named_component, indexing, call_expression, call, type_or_identifier, type_expression, template_argument, list, present, absent, attributes, statements, clauses, members, parameters, align, binding, blend_src, builtin, const_attribute, diagnostic, group, id, interpolate, invariant_attribute, location, must_use, size, workgroup_size, vertex, fragment, compute, publish, if_attribute, elif_attribute, else_attribute, custom, void, compound_statement, compound, increment, decrement, if_statement, if_clause, else_if_clause, else_clause, switch, switch_clause, default_case, expression_case, loop, continuing, break_if, for_loop, while_loop, break, continue, return, discard, call_statement, const_assert, import_statement, import_item, import_collection, import_entry, diagnostic_directive, enable_directive, requires_directive, type_alias, struct, member, function, parameter, declaration, const_kind, override_kind, let_kind, var_kind, imports, directive_list, declarations, unit}
 use Rattle.wesl_syntax.specs.Nodes.{is_type}
-use Rattle.wesl_kinds.specs.Sought.{types}
+use Rattle.wesl_collect.specs.Sought.{types}
 use Rattle.wesl_rewrite.specs.Replaced.{Rule, rule, Replaced, nothing, word, other, as_it_stands, inner_first, ReplacedBelow, of_word, of_other}
 use Rattle.wesl_syntax.specs.Unit.{UnitView, forest_of_unit, trees_of}
 use Rattle.wesl_rewrite.specs.Holders.{unit_tree}

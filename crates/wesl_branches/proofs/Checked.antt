@@ -8,7 +8,7 @@ use Rattle.wesl_branches.proofs.Closed.{body_refused, body_checked}
 use Rattle.wesl_branches.proofs.Settled.{view_clause, view_loop}
 use Rattle.wesl_branches.proofs.Standing.{stay, split, in_first, nothing, clear_leaf, passed_by, checks_same, list_checked, first_refused, next_checked, skip}
 use Rattle.wesl_branches.proofs.Views.{view_compound, view_if, view_switch, view_for}
-use Rattle.wesl_formula.specs.Evaluation.{Refuses}
+use Rattle.wesl_chains.specs.Evaluation.{Refuses}
 use Rattle.wesl_features.specs.Features.{Replies}
 use Rattle.wesl_names.specs.Path.{Text}
 use Rattle.wesl_names.specs.declared.errors.Error as error

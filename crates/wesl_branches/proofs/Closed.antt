@@ -6,8 +6,8 @@ use Rattle.wesl_chains.specs.Lists.{Element, elements, back, option_of, alone, j
 use Rattle.wesl_chains.specs.Nodes.{optional_forest}
 use Rattle.wesl_branches.proofs.Standing.{stay, below, held_body, in_held_body, held_option, in_held_option, passed_by, refuses_more, checks_same, list_refused, list_checked, skip}
 use Rattle.wesl_branches.proofs.Walked.{open_front}
-use Rattle.wesl_formula.specs.Evaluation.{Refuses}
-use Rattle.wesl_formula.specs.Faults.{Fault}
+use Rattle.wesl_chains.specs.Evaluation.{Refuses}
+use Rattle.wesl_chains.specs.FormulaFaults.{Fault}
 use Rattle.wesl_features.specs.Features.{Replies, known}
 use Rattle.wesl_names.specs.Path.{Text}
 use Rattle.wesl_names.specs.declared.errors.Error as error

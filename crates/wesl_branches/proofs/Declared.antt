@@ -7,7 +7,7 @@ use Rattle.wesl_branches.proofs.Checked.{clear_optional}
 use Rattle.wesl_branches.proofs.Levels.{type_label}
 use Rattle.wesl_branches.proofs.Standing.{stay, list_checked, list_refused, first_refused, next_checked, skip}
 use Rattle.wesl_branches.proofs.Walked.{clear_nodes}
-use Rattle.wesl_formula.specs.Evaluation.{Judges, Refuses}
+use Rattle.wesl_chains.specs.Evaluation.{Judges, Refuses}
 use Rattle.wesl_features.specs.Features.{Replies, known}
 use Rattle.wesl_names.specs.Path.{Text}
 use Rattle.wesl_names.specs.declared.errors.Error as error

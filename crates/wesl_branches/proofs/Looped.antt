@@ -9,7 +9,7 @@ use Rattle.wesl_branches.proofs.Settled.{view_continuing}
 use Rattle.wesl_branches.proofs.Standing.{stay, nothing}
 use Rattle.wesl_branches.proofs.Views.{view_compound}
 use Rattle.wesl_branches.proofs.Walked.{closing_none, closing_leaf}
-use Rattle.wesl_formula.specs.Evaluation.{Judges, Refuses}
+use Rattle.wesl_chains.specs.Evaluation.{Judges, Refuses}
 use Rattle.wesl_features.specs.Features.{Replies, known}
 use Rattle.wesl_names.specs.Path.{Text}
 use Rattle.wesl_names.specs.declared.errors.Error as error

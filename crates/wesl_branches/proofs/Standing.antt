@@ -4,8 +4,8 @@ use Rattle.wesl_chains.specs.Chains.{staying}
 use Rattle.wesl_chains.specs.Faults.{Stands, here, inside, beside, list_faults, list_at}
 use Rattle.wesl_chains.specs.Judging.{IsClear, RefusesIn, Checks}
 use Rattle.wesl_chains.specs.Lists.{Element, element, back, option_of, judged, is_entered, holds_body}
-use Rattle.wesl_formula.specs.Evaluation.{Refuses}
-use Rattle.wesl_formula.specs.Faults.{Fault, IsAmong}
+use Rattle.wesl_chains.specs.Evaluation.{Refuses}
+use Rattle.wesl_chains.specs.FormulaFaults.{Fault, IsAmong}
 use Rattle.wesl_features.specs.Features.{Replies, known}
 use Rattle.wesl_names.specs.Path.{Text}
 use Rattle.wesl_names.specs.declared.errors.Error as error

@@ -14,7 +14,7 @@ use Rattle.wesl_features.specs.Branch.{fate, kept_after, decided_after}
 use Rattle.wesl_branches.proofs.Walk.{enact, scan, scan_is, scan_after}
 use Rattle.wesl_branches.proofs.Standing.{stay, split, nothing, clear_leaf, passed_by, refuses_more, first_refused}
 use Rattle.wesl_features.specs.Answers.{Answers}
-use Rattle.wesl_formula.specs.Faults.{Fault}
+use Rattle.wesl_chains.specs.FormulaFaults.{Fault}
 use Rattle.wesl_features.specs.Features.{Replies, known}
 use Rattle.wesl_names.specs.Path.{Text}
 use Rattle.wesl_names.specs.declared.errors.Error as error

@@ -15,10 +15,10 @@ use Rattle.wesl_bundle.specs.Features.{Features, Flag, feature_in, features_in, 
 use Rattle.wesl_bundle.specs.Forms.{BreaksAt, Field, Form, HasFormAt, IsBrokenBundle, IsWrong, IsWrongObject, a_bundle, a_feature, a_limit, a_list_of, a_mangler, a_module, a_name, a_package, a_package_module, a_path, a_text, a_truth, a_unit, an_object_of, fields, find_field, optional, required, some_builtins, some_features}
 use Rattle.wesl_bundle.specs.Packages as said
 use Rattle.wesl_bundle.specs.Place.{IsFloatAt}
-use Rattle.wesl_borrowed.specs.Keys.{HasMember}
-use Rattle.wesl_borrowed.specs.Pointer.{Part, index, key}
+use Rattle.wesl_form.specs.Keys.{HasMember}
+use Rattle.wesl_form.specs.Pointer.{Part, index, key}
 use Rattle.wesl_bundle.specs.Reading.{items_in, list_in, name_in, optional_in, or_default, or_empty, path_in, required_in}
-use Rattle.wesl_borrowed.specs.Keys.{has_only}
+use Rattle.wesl_form.specs.Keys.{has_only}
 use Rattle.wesl_features.specs.declared.features.Feature.TheVariants as feature
 use Rattle.wesl_bundle.specs.declared.options.Naming.TheVariants as naming
 use Rattle.wesl_bundle.proofs.Flags.{object-get}

@@ -5,10 +5,10 @@ use Rattle.std.proofs.lemmas.List.{take_all, map-append}
 use Rattle.std.proofs.lemmas.Result.{IfOk-at_ok, IfErr-at_err, IfOk-weaker, IfErr-weaker}
 use Rattle.serde_json.specs.Data.{Data, depth, items_depth}
 use Rattle.serde_json.specs.Find.{as_array, get}
-use Rattle.wesl_borrowed.specs.View.{borrowed_view, items_view}
-use Rattle.wesl_borrowed.specs.declared.value.BorrowedValue.{BorrowedValue}
+use Rattle.wesl_form.specs.View.{borrowed_view, items_view}
+use Rattle.wesl_form.specs.declared.value.BorrowedValue.{BorrowedValue}
 use Rattle.wesl_names.specs.Path.{Text}
-use Rattle.wesl_borrowed.specs.Pointer.{index, key, part_text}
+use Rattle.wesl_form.specs.Pointer.{index, key, part_text}
 use Rattle.wesl_bundle.specs.declared.members.BundleError.{BundleError}
 use Rattle.wesl_bundle.specs.Broken.{IfPlace, IsMemberBroken, IsUnder, Locates, LocatesMember, place_of}
 use Rattle.wesl_bundle.specs.Forms.{Form, IsBroken, a_list_of, optional}

@@ -5,8 +5,8 @@ use Rattle.serde_json.specs.Find.{get, at, get_item}
 use Rattle.wesl_names.specs.Path.{Text}
 use Rattle.wesl_bundle.specs.declared.members.BundleError.{BundleError}
 use Rattle.wesl_bundle.specs.declared.members.BundleError.TheVariants.{At, Memory}
-use Rattle.wesl_borrowed.specs.Keys.{HasMember}
-use Rattle.wesl_borrowed.specs.Pointer.{Part, key, index, part_text}
+use Rattle.wesl_form.specs.Keys.{HasMember}
+use Rattle.wesl_form.specs.Pointer.{Part, key, index, part_text}
 use Rattle.wesl_bundle.specs.Forms.{Form, a_list_of, a_name, a_package, a_package_module, a_unit, an_object_of, Field, fields, find_field, optional, required, IsWrong, IsWrongObject, IsBroken, HasFloatAt}
 use Rattle.wesl_bundle.specs.Broken.{IfPlace, place_of, Locates, IsMemberBroken, LocatesMember, IsUnder}
 use Rattle.wesl_bundle.specs.Parts.{IsModuleMemberBroken, LocatesModuleMember}

@@ -3,15 +3,15 @@ use Rattle.std.proofs.Common.{◌≡◌, ℕ, zero, suc, ◌+◌, ◌<◌, List,
 use Rattle.std.proofs.lemmas.List.{take_more}
 use Rattle.serde_json.specs.Data.{Data, null, boolean, number, string, array, object}
 use Rattle.serde_json.specs.Find.{get, at, get_item, as_array, as_bool, as_str}
-use Rattle.wesl_borrowed.specs.View.{borrowed_view, items_view}
-use Rattle.wesl_borrowed.specs.declared.value.BorrowedValue.{BorrowedValue}
+use Rattle.wesl_form.specs.View.{borrowed_view, items_view}
+use Rattle.wesl_form.specs.declared.value.BorrowedValue.{BorrowedValue}
 use Rattle.wesl_names.specs.Path.{Text, Path}
 use Rattle.wesl_bundle.specs.Bundle.{bundle_keys, module_keys, module_in, bundle_in, Module, Options, options_in, naming_in, limit_in}
 use Rattle.wesl_bundle.specs.Builtins.{Builtins, builtins_in, builtins_keys}
 use Rattle.wesl_bundle.specs.Features.{Features, Flag, feature_in, features_in, features_keys, flags_in}
 use Rattle.wesl_bundle.specs.Packages.{Packages, no_packages, packages_in}
 use Rattle.wesl_bundle.specs.Reading.{optional_in, items_in, required_in, path_in, or_empty, name_in, or_default}
-use Rattle.wesl_borrowed.specs.Keys.{has_only}
+use Rattle.wesl_form.specs.Keys.{has_only}
 use Rattle.wesl_features.specs.declared.features.Feature.{Feature}
 use Rattle.wesl_features.specs.declared.features.Feature.TheVariants as feature
 use Rattle.wesl_bundle.specs.declared.options.Naming.{Naming}

@@ -4,7 +4,7 @@ use Rattle.std.specs.Prelude.{IfOk, IfErr, OnOk}
 use Rattle.std.proofs.lemmas.Result.{IfOk-at_ok, IfErr-at_err, IfOk-weaker, IfErr-weaker}
 use Rattle.serde_json.specs.Data.{Data}
 use Rattle.serde_json.specs.Find.{get}
-use Rattle.wesl_borrowed.specs.Pointer.{key}
+use Rattle.wesl_form.specs.Pointer.{key}
 use Rattle.wesl_bundle.specs.declared.members.BundleError.{BundleError}
 use Rattle.wesl_bundle.specs.Broken.{Locates, LocatesMember, place_of}
 use Rattle.wesl_bundle.specs.Forms.{Field, Form, IsWrong, IsWrongObject, fields, find_field}

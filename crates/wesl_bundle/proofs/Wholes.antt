@@ -8,11 +8,11 @@ use Rattle.serde_json.specs.Written.{has_float, items_have_float, members_have_f
 use Rattle.serde_json.specs.View.{view, items_view, members_view}
 use Rattle.serde_json.specs.declared.value.Value.{Value}
 use Rattle.serde_json.proofs.Views.{Entry, get_item_within}
-use Rattle.wesl_borrowed.specs.View.{borrowed_view, items_view as borrowed_items_view, members_view as borrowed_members_view}
-use Rattle.wesl_borrowed.specs.declared.value.BorrowedValue.{BorrowedValue}
-use Rattle.wesl_borrowed.proofs.Lists.{Entry as BorrowedEntry, members_view-more}
+use Rattle.wesl_form.specs.View.{borrowed_view, items_view as borrowed_items_view, members_view as borrowed_members_view}
+use Rattle.wesl_form.specs.declared.value.BorrowedValue.{BorrowedValue}
+use Rattle.wesl_form.proofs.Lists.{Entry as BorrowedEntry, members_view-more}
 use Rattle.wesl_names.specs.Path.{Text}
-use Rattle.wesl_borrowed.specs.Keys.{HasMember}
+use Rattle.wesl_form.specs.Keys.{HasMember}
 use Rattle.wesl_bundle.proofs.Readings.{longer}
 
 -- the first is not, and what follows from the second

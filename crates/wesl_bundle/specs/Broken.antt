@@ -6,7 +6,7 @@ use Rattle.wesl_names.specs.Path.{Text}
 use Rattle.wesl_names.specs.declared.errors.Error as error
 use Rattle.wesl_bundle.specs.declared.members.BundleError.{BundleError}
 use Rattle.wesl_bundle.specs.declared.members.BundleError.TheVariants.{At, Memory}
-use Rattle.wesl_borrowed.specs.Pointer.{Part, key, part_text, pointer_text}
+use Rattle.wesl_form.specs.Pointer.{Part, key, part_text, pointer_text}
 use Rattle.wesl_bundle.specs.Forms.{Form, Field, BreaksAt, IsBroken}
 
 -- memory was refused, or P holds of the place

@@ -6,7 +6,7 @@ use Rattle.serde_json.specs.Find.{get, as_bool, as_number, as_u64, as_str}
 use Rattle.serde_json.specs.Written.{has_float}
 use Rattle.wesl_names.specs.Path.{Text, Path}
 use Rattle.wesl_bundle.specs.Reading.{◌>>=◌, name_in, path_in, required_in, or_empty, or_default, optional_in}
-use Rattle.wesl_borrowed.specs.Keys.{has_only}
+use Rattle.wesl_form.specs.Keys.{has_only}
 use Rattle.wesl_bundle.specs.Features.{Features, features_in}
 use Rattle.wesl_bundle.specs.Builtins.{Builtins, builtins_in}
 use Rattle.wesl_bundle.specs.Packages.{Packages, no_packages, packages_in}

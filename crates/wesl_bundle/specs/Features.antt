@@ -7,7 +7,7 @@ use Rattle.wesl_features.specs.declared.features.Feature.{Feature}
 use Rattle.wesl_features.specs.declared.features.Feature.TheVariants as feature
 use Rattle.wesl_names.specs.Path.{Text}
 use Rattle.wesl_bundle.specs.Reading.{◌>>=◌, or_default}
-use Rattle.wesl_borrowed.specs.Keys.{has_only}
+use Rattle.wesl_form.specs.Keys.{has_only}
 
 -- a flag, and what is answered for it
 pub record Flag : Type 0 where

@@ -5,9 +5,9 @@ use Rattle.serde_json.specs.Data.{Data}
 use Rattle.serde_json.specs.Find.{get, at, as_bool, as_str, as_array, as_object}
 use Rattle.wesl_names.specs.Path.{Text}
 use Rattle.wesl_bundle.specs.Place.{IsFloatAt}
-use Rattle.wesl_borrowed.specs.Pointer.{Part, key, index, pointer_text}
+use Rattle.wesl_form.specs.Pointer.{Part, key, index, pointer_text}
 use Rattle.wesl_bundle.specs.Reading.{name_in, path_in}
-use Rattle.wesl_borrowed.specs.Keys.{has_only}
+use Rattle.wesl_form.specs.Keys.{has_only}
 use Rattle.wesl_bundle.specs.Features.{feature_in}
 use Rattle.wesl_bundle.specs.Bundle.{naming_in, limit_in}
 

@@ -1,6 +1,6 @@
 -- The packages that are kept, beside the values that they were read from.
 use Rattle.std.specs.Prelude.{List, [], ◌∷◌, map, string_bytes}
-use Rattle.wesl_borrowed.specs.View.{borrowed_view}
+use Rattle.wesl_form.specs.View.{borrowed_view}
 use Rattle.wesl_bundle.specs.Packages as said
 use Rattle.wesl_bundle.specs.declared.packages.PackageModule.{PackageModule}
 use Rattle.wesl_bundle.specs.declared.packages.PackageModule.TheOpen.{PackageModule-F}

@@ -5,7 +5,7 @@ use Rattle.std.specs.Global.{Global}
 use Rattle.serde_json.specs.Data.{Data}
 use Rattle.serde_json.specs.Find.{as_str}
 use Rattle.wesl_names.specs.Path.{Text}
-use Rattle.wesl_borrowed.specs.Pointer.{Part, index, key}
+use Rattle.wesl_form.specs.Pointer.{Part, index, key}
 use Rattle.wesl_bundle.specs.declared.members.BundleError.{BundleError}
 use Rattle.wesl_bundle.specs.declared.members.BundleError.TheVariants.{Memory}
 use Rattle.wesl_features.specs.declared.features.Feature.{Feature}

@@ -2,8 +2,8 @@
 use Rattle.std.specs.Prelude.{◌≡◌, List, [], ◌∷◌, true, Some, option_map}
 use Rattle.serde_json.specs.Data.{Data, Members}
 use Rattle.serde_json.specs.Find.{at, as_number, as_object, is_float}
-use Rattle.wesl_borrowed.specs.Keys.{HasMember}
-use Rattle.wesl_borrowed.specs.Pointer.{Part, key, index}
+use Rattle.wesl_form.specs.Keys.{HasMember}
+use Rattle.wesl_form.specs.Pointer.{Part, key, index}
 
 -- the parts lead to a number that is not read as a whole one
 abbrev pub IsFloatAt : List Part → Data → Type 0

@@ -2,7 +2,7 @@
 use Rattle.std.specs.Prelude.{List, map, option_map, String, string_bytes}
 use Rattle.std.specs.declared.alloc.Global.{Global}
 use Rattle.std.specs.BTreeMap.{BTreeMap}
-use Rattle.wesl_borrowed.specs.View.{borrowed_view}
+use Rattle.wesl_form.specs.View.{borrowed_view}
 use Rattle.wesl_features.specs.declared.features.Feature.{Feature}
 use Rattle.wesl_features.specs.declared.features.Features.{Features}
 use Rattle.wesl_names.specs.Path.{path_view}

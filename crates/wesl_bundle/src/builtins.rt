@@ -1,7 +1,7 @@
 //! The names that a bundle calls built in.
 ghost use Rattle.std.specs.Prelude.{◌≡◌, Some, IfOk, IfErr, option_map};
 ghost use Rattle.serde_json.specs.Find.{get};
-ghost use Rattle.wesl_borrowed.specs.View.{borrowed_view};
+ghost use Rattle.wesl_form.specs.View.{borrowed_view};
 ghost use Rattle.wesl_bundle.specs.Broken.{Locates, LocatesMember};
 ghost use Rattle.wesl_bundle.specs.Builtins.{builtins_in};
 ghost use Rattle.wesl_bundle.specs.Forms.{optional, some_builtins};
@@ -11,7 +11,7 @@ ghost use Rattle.wesl_bundle.specs.Views.{builtins_view};
 use crate::joined::{both, inside, only};
 use crate::members::{BundleError, texts_member};
 use std::alloc::Global;
-use wesl_borrowed::BorrowedValue;
+use wesl_form::BorrowedValue;
 
 /// The names that are built in, for validation.
 #[derive(Drop)]

@@ -1,9 +1,9 @@
 //! The bundle: the root's path, the names that are kept, and the modules.
 ghost use Rattle.std.specs.Prelude.{◌≡◌, None, Ok, Some, IfOk, IfErr, OnOk, map, false, true};
 ghost use Rattle.serde_json.specs.Find.{get};
-ghost use Rattle.wesl_borrowed.specs.View.{borrowed_view};
+ghost use Rattle.wesl_form.specs.View.{borrowed_view};
 ghost use Rattle.wesl_names.specs.Path.{path_view, is_relative};
-ghost use Rattle.wesl_borrowed.specs.Keys.{has_only};
+ghost use Rattle.wesl_form.specs.Keys.{has_only};
 ghost use Rattle.wesl_bundle.specs.Broken.{IfPlace, Locates, LocatesMember};
 ghost use Rattle.wesl_bundle.specs.Bundle.{bundle_in, bundle_keys, bundle_of, module_in};
 ghost use Rattle.wesl_bundle.specs.Forms.{optional, a_list_of, a_module, a_bundle, IsBrokenBundle};
@@ -19,8 +19,8 @@ use crate::members::{BundleError, path_member, texts_member, under, unit_member,
 use crate::options::{Options, read_options};
 use crate::packages::{Package, packages_member};
 use std::alloc::Global;
-use wesl_borrowed::BorrowedValue;
 use wesl_features::Features;
+use wesl_form::BorrowedValue;
 use wesl_names::ModulePath;
 
 /// A bundle whose units are not read yet: of each the value is kept, a copy of that within the bundle's.

@@ -2,7 +2,7 @@
 ghost use Rattle.std.specs.Prelude.{◌≡◌, [], Some, IfOk, IfErr, option_and_then, option_map};
 ghost use Rattle.serde_json.specs.Find.{get};
 ghost use Rattle.serde_json.specs.View.{view};
-ghost use Rattle.wesl_borrowed.specs.View.{borrowed_view};
+ghost use Rattle.wesl_form.specs.View.{borrowed_view};
 ghost use Rattle.wesl_bundle.specs.Broken.{Locates, LocatesMember};
 ghost use Rattle.wesl_bundle.specs.Features.{answer_for, feature_in, feature_of as named_feature, features_in, flags_in};
 ghost use Rattle.wesl_bundle.specs.Forms.{a_feature, an_object_of, optional, some_features};
@@ -19,8 +19,8 @@ use crate::members::{BundleError, wrong};
 use serde_json::Value;
 use std::alloc::Global;
 use std::collections::BTreeMap;
-use wesl_borrowed::BorrowedValue;
 use wesl_features::{Feature, Features};
+use wesl_form::BorrowedValue;
 use wesl_piece::value_of_borrowed;
 
 /// What features answer for a flag is what a bundle says for it.

@@ -3,14 +3,14 @@ ghost use Rattle.std.specs.Prelude.{◌≡◌, true, false, OnOk, IfErr};
 ghost use Rattle.serde_json.specs.View.{view, items_view, members_view};
 ghost use Rattle.serde_json.specs.Data.{array, object};
 ghost use Rattle.serde_json.specs.Written.{has_float, items_have_float, members_have_float};
-ghost use Rattle.wesl_borrowed.specs.View.{borrowed_view, items_view as borrowed_items_view, members_view as borrowed_members_view};
+ghost use Rattle.wesl_form.specs.View.{borrowed_view, items_view as borrowed_items_view, members_view as borrowed_members_view};
 ghost use Rattle.wesl_bundle.specs.Forms.{HasFloatAt};
 ghost use Rattle.wesl_bundle.specs.Broken.{IfPlace};
 
 use crate::members::{BundleError, under, under_index, wrong};
 use serde_json::{Map, Value};
 use std::alloc::Global;
-use wesl_borrowed::{BorrowedValue, Members};
+use wesl_form::{BorrowedValue, Members};
 use wesl_piece::value_of_borrowed;
 
 /// Refuses a value in which a number is not read as a whole one, at its place.

@@ -2,14 +2,14 @@
 //!
 //! What is read of each part is handed on as it is, a fault too, so that an object has one place where it asks for faults.
 ghost use Rattle.std.specs.Prelude.{◌≡◌, Ok, Some, IfOk, IfErr, OnOk, map, true};
-ghost use Rattle.wesl_borrowed.specs.View.{borrowed_view};
-ghost use Rattle.wesl_borrowed.specs.Keys.{has_only};
-ghost use Rattle.wesl_borrowed.specs.Pointer.{index as index_part, key as key_part};
+ghost use Rattle.wesl_form.specs.View.{borrowed_view};
+ghost use Rattle.wesl_form.specs.Keys.{has_only};
+ghost use Rattle.wesl_form.specs.Pointer.{index as index_part, key as key_part};
 ghost use Rattle.wesl_bundle.specs.Parts.{IsEither, IsFaultUnder, IsItemFault, IsKeyOr, IsUnread, IsWithItem};
 
 use crate::members::{BundleError, under, under_index, wrong};
 use std::alloc::Global;
-use wesl_borrowed::BorrowedValue;
+use wesl_form::BorrowedValue;
 
 // Both parts.
 pub(crate) fn both<A: Drop, B: Drop>(
@@ -39,7 +39,7 @@ pub(crate) fn only<T: Drop>(
     ensures keys { OnOk result (has_only (map (λ k. k.now) known.now) (borrowed_view value.now) ≡ true) }
     ensures place { IfErr result (IsKeyOr (has_only (map (λ k. k.now) known.now) (borrowed_view value.now)) read) }
 {
-    if wesl_borrowed::has_only(value, known) {
+    if wesl_form::has_only(value, known) {
         read
     } else {
         Err(wrong(alloc))

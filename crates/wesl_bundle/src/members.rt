@@ -1,10 +1,10 @@
 //! Reading the members of a bundle's objects, and the places of their faults.
 ghost use Rattle.std.specs.Prelude.{◌≡◌, [], false, None, Some, IfOk, IfErr, map, option_and_then, option_map, string_bytes};
 ghost use Rattle.serde_json.specs.Find.{get};
-ghost use Rattle.wesl_borrowed.specs.View.{borrowed_view};
+ghost use Rattle.wesl_form.specs.View.{borrowed_view};
 ghost use Rattle.wesl_names.specs.Path.{path_view, is_relative};
 ghost use Rattle.wesl_names.specs.PathText.{parse};
-ghost use Rattle.wesl_borrowed.specs.Pointer.{key as key_part, index as index_part};
+ghost use Rattle.wesl_form.specs.Pointer.{key as key_part, index as index_part};
 ghost use Rattle.wesl_bundle.specs.Broken.{place_of, IfPlace, IsUnder, Locates, LocatesMember};
 ghost use Rattle.wesl_bundle.specs.Forms.{a_list_of, a_name, a_path, a_unit, optional, required};
 ghost use Rattle.wesl_bundle.specs.Parts.{text_form, text_in};
@@ -12,7 +12,7 @@ ghost use Rattle.wesl_bundle.specs.Reading.{name_in, or_empty, path_in, required
 
 use crate::joined::{inside, with_item};
 use std::alloc::{AllocError, AllocFailed, Global};
-use wesl_borrowed::BorrowedValue;
+use wesl_form::BorrowedValue;
 use wesl_names::{Error, ModulePath};
 
 /// Why a bundle was not read: the place of a fault, as a JSON Pointer (RFC 6901), or want of memory.
@@ -72,7 +72,7 @@ pub(crate) fn under(alloc: Global, error: BundleError, key: &str) -> BundleError
     ensures { IsUnder (key_part key.now) error result }
 {
     match error {
-        BundleError::At(place) => match wesl_borrowed::under_key(alloc, key, place.as_str()) {
+        BundleError::At(place) => match wesl_form::under_key(alloc, key, place.as_str()) {
             Ok(place) => BundleError::At(place),
             Err(_) => BundleError::Memory,
         },
@@ -85,7 +85,7 @@ pub(crate) fn under_index(alloc: Global, error: BundleError, index: usize) -> Bu
     ensures { IsUnder (index_part index) error result }
 {
     match error {
-        BundleError::At(place) => match wesl_borrowed::under_index(alloc, index, place.as_str()) {
+        BundleError::At(place) => match wesl_form::under_index(alloc, index, place.as_str()) {
             Ok(place) => BundleError::At(place),
             Err(_) => BundleError::Memory,
         },

@@ -1,7 +1,7 @@
 //! How the modules of a bundle are linked.
 ghost use Rattle.std.specs.Prelude.{◌≡◌, Some, IfOk, IfErr, false, option_and_then, option_map};
 ghost use Rattle.serde_json.specs.Find.{get, as_bool};
-ghost use Rattle.wesl_borrowed.specs.View.{borrowed_view};
+ghost use Rattle.wesl_form.specs.View.{borrowed_view};
 ghost use Rattle.wesl_bundle.specs.Bundle.{below_limit, naming_in, naming_of as word_naming, limit_in, options_in};
 ghost use Rattle.wesl_bundle.specs.Forms.{optional, a_mangler, a_truth, a_limit, a_bundle};
 ghost use Rattle.wesl_bundle.specs.Reading.{or_default};
@@ -12,7 +12,7 @@ ghost use Rattle.wesl_bundle.specs.declared.options.Naming.TheVariants.{Escape};
 use crate::joined::{both, stated};
 use crate::members::BundleError;
 use std::alloc::Global;
-use wesl_borrowed::BorrowedValue;
+use wesl_form::BorrowedValue;
 
 /// Which mangler names the items of modules.
 #[derive(Clone, Copy, Drop)]

@@ -1,7 +1,7 @@
 //! The packages of a bundle.
 ghost use Rattle.std.specs.Prelude.{◌≡◌, Some, IfOk, IfErr, codes};
 ghost use Rattle.serde_json.specs.Find.{get};
-ghost use Rattle.wesl_borrowed.specs.View.{borrowed_view};
+ghost use Rattle.wesl_form.specs.View.{borrowed_view};
 ghost use Rattle.wesl_bundle.specs.Broken.{Locates, LocatesMember};
 ghost use Rattle.wesl_bundle.specs.Forms.{a_list_of, a_package, a_package_module, optional};
 ghost use Rattle.wesl_bundle.specs.PackageViews.{package_module_view, package_modules_view, package_view, packages_view};
@@ -12,7 +12,7 @@ ghost use Rattle.wesl_bundle.specs.Reading.{or_default};
 use crate::joined::{both, inside, only, with_item};
 use crate::members::{BundleError, name_member, under, unit_member, wrong};
 use std::alloc::Global;
-use wesl_borrowed::BorrowedValue;
+use wesl_form::BorrowedValue;
 
 /// A module of a package, with the modules below it. No unit is read yet.
 #[derive(Drop)]

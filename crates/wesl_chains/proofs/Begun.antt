@@ -11,8 +11,8 @@ use Rattle.wesl_chains.specs.Following.{IsTurn, Ends}
 use Rattle.wesl_chains.proofs.Places.{formulas_next, refuses_before}
 use Rattle.wesl_chains.proofs.Taken.{elements_as}
 use Rattle.wesl_features.specs.Answers.{Answers}
-use Rattle.wesl_formula.specs.Evaluation.{Refuses}
-use Rattle.wesl_formula.specs.Faults.{Fault}
+use Rattle.wesl_chains.specs.Evaluation.{Refuses}
+use Rattle.wesl_chains.specs.FormulaFaults.{Fault}
 use Rattle.wesl_features.specs.Features.{Replies}
 use Rattle.wesl_names.specs.Path.{Text}
 use Rattle.wesl_names.specs.declared.errors.Error as error

@@ -5,8 +5,8 @@ use Rattle.wesl_features.specs.declared.features.Truth.TheVariants.{Yes, No, Und
 use Rattle.wesl_features.specs.declared.chain.Role.{Role}
 use Rattle.wesl_features.specs.declared.chain.Role.TheVariants.{Plain, If, Elif, Else}
 use Rattle.wesl_features.specs.Answers.{Answers, in_stages}
-use Rattle.wesl_formula.specs.Formulas.{Form, Spot}
-use Rattle.wesl_formula.specs.Residual.{literal, residual, decided}
+use Rattle.wesl_chains.specs.Formulas.{Form, Spot}
+use Rattle.wesl_chains.specs.FormulaResidual.{literal, residual, decided}
 use Rattle.wesl_chains.specs.Chains.{Condition, none, on, else_on, otherwise, holds, follows_on, residual_spot, recast_condition, Judged, Goes, Laws, is_branch, branch, residual_list}
 use Rattle.wesl_features.specs.Branch.{fate, kept_after, decided_after}
 use Rattle.wesl_chains.proofs.Walk.{enact, scan}

@@ -6,7 +6,7 @@ use Rattle.wesl_chains.specs.Faults.{Stands, here, inside, beside, list_faults, 
 use Rattle.wesl_chains.specs.Lists.{Element, element, goes_back, back, is_closed, option_of, closed, judged, is_entered, holds_body}
 use Rattle.wesl_chains.proofs.Kept.{Each}
 use Rattle.wesl_chains.proofs.Passing.{not_entered, closed_with}
-use Rattle.wesl_formula.specs.Faults.{Fault, IsAmong}
+use Rattle.wesl_chains.specs.FormulaFaults.{Fault, IsAmong}
 use Rattle.wesl_features.specs.Features.{Replies, known}
 use Rattle.wesl_syntax.specs.Nodes.{is_attributes}
 use Rattle.wesl_syntax.specs.Tree.{LabelOf, ForestOf, end, tree, kind, compound, statements, present, absent}

@@ -5,10 +5,10 @@ use Rattle.wesl_features.specs.declared.features.Feature.TheVariants.{Enable, Di
 use Rattle.wesl_features.specs.declared.features.Truth.{Truth}
 use Rattle.wesl_features.specs.declared.features.Truth.TheVariants.{Yes, No, Undecided}
 use Rattle.wesl_features.specs.Features.{and_then, Replies, known, HoldsNoError, then_replies}
-use Rattle.wesl_formula.specs.Formulas.{Form, always, never, flag, templated, within, negation, conjunction, disjunction, other}
-use Rattle.wesl_formula.specs.Residual.{literal, flag_as, parenthesized, negated_as, both_as, either_as, residual}
-use Rattle.wesl_formula.specs.Faults.{Fault, faults_if_refused, formula_faults}
-use Rattle.wesl_names.specs.declared.span.Span.{Span}
+use Rattle.wesl_chains.specs.Formulas.{Form, always, never, flag, templated, within, negation, conjunction, disjunction, other}
+use Rattle.wesl_chains.specs.FormulaResidual.{literal, flag_as, parenthesized, negated_as, both_as, either_as, residual}
+use Rattle.wesl_chains.specs.FormulaFaults.{Fault, faults_if_refused, formula_faults}
+use Rattle.wesl_base.specs.declared.span.Span.{Span}
 use Rattle.wesl_syntax.specs.Tree.{ForestOf}
 
 module _ {I : Type 0} where

@@ -3,9 +3,9 @@ use Rattle.std.proofs.Common.{◌≡◌, refl, sym, ap, ◌∙◌}
 use Rattle.wesl_features.specs.declared.features.Truth.{Truth}
 use Rattle.wesl_features.specs.declared.features.Truth.TheVariants.{Yes, No, Undecided}
 use Rattle.wesl_features.specs.Answers.{Answers, or_else, in_stages}
-use Rattle.wesl_formula.specs.Formulas.{Form, always, never, flag, templated, within, negation, conjunction, disjunction, other}
-use Rattle.wesl_formula.specs.Residual.{literal, flag_as, parenthesized, negated, both_as, both_of, either_as, either_of, residual}
-use Rattle.wesl_names.specs.declared.span.Span.{Span}
+use Rattle.wesl_chains.specs.Formulas.{Form, always, never, flag, templated, within, negation, conjunction, disjunction, other}
+use Rattle.wesl_chains.specs.FormulaResidual.{literal, flag_as, parenthesized, negated, both_as, both_of, either_as, either_of, residual}
+use Rattle.wesl_base.specs.declared.span.Span.{Span}
 use Rattle.wesl_syntax.specs.Tree.{ForestOf}
 
 module _ {I : Type 0} where

@@ -29,3 +29,5 @@ pub mod Same
 pub mod SameTrees
 pub mod Bounds
 pub mod NaturalFaults
+pub mod WrittenBack
+pub mod Steps

@@ -13,10 +13,10 @@ use Rattle.wesl_chains.proofs.ChainTurns.{scan_is}
 use Rattle.wesl_chains.proofs.Faultless.{none_before, none_after, none_in_both, both_stages_faultless, residual-faultless}
 use Rattle.wesl_chains.proofs.NodeLaws.{element_laws, recast_all, conditions_in_role}
 use Rattle.wesl_features.specs.Answers.{Answers}
-use Rattle.wesl_formula.specs.Faults.{Fault, no_preceding_if, duplicate_if}
+use Rattle.wesl_chains.specs.FormulaFaults.{Fault, no_preceding_if, duplicate_if}
 use Rattle.wesl_features.specs.Features.{Replies, known, HoldsNoError, then_replies}
-use Rattle.wesl_formula.specs.Formulas.{Spot}
-use Rattle.wesl_formula.specs.Residual.{decided, residual}
+use Rattle.wesl_chains.specs.Formulas.{Spot}
+use Rattle.wesl_chains.specs.FormulaResidual.{decided, residual}
 use Rattle.wesl_features.specs.declared.features.Truth.{Truth}
 use Rattle.wesl_features.specs.declared.features.Truth.TheVariants.{Yes, No, Undecided}
 use Rattle.wesl_syntax.specs.Tree.{ForestOf, end, tree}

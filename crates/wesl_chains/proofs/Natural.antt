@@ -11,11 +11,11 @@ use Rattle.wesl_chains.proofs.Walk.{enact, scan}
 use Rattle.wesl_chains.proofs.ChainTurns.{scan_is}
 use Rattle.wesl_chains.proofs.Spots.{below_first, by_reading}
 use Rattle.wesl_features.specs.Answers.{Answers}
-use Rattle.wesl_formula.specs.Formulas.{Form, Spot, always, never, flag, templated, within, negation, conjunction, disjunction, other, nowhere, type_name, has_arguments, named_as, reading, spots, spot, written}
-use Rattle.wesl_formula.specs.Residual.{literal, flag_as, parenthesized, negated_as, both_as, either_as, residual, decided}
+use Rattle.wesl_chains.specs.Formulas.{Form, Spot, always, never, flag, templated, within, negation, conjunction, disjunction, other, nowhere, type_name, has_arguments, named_as, reading, spots, spot, written}
+use Rattle.wesl_chains.specs.FormulaResidual.{literal, flag_as, parenthesized, negated_as, both_as, either_as, residual, decided}
 use Rattle.wesl_features.specs.declared.features.Truth.{Truth}
 use Rattle.wesl_features.specs.declared.features.Truth.TheVariants.{Yes, No, Undecided}
-use Rattle.wesl_names.specs.declared.span.Span.{Span}
+use Rattle.wesl_base.specs.declared.span.Span.{Span}
 use Rattle.wesl_syntax.specs.Nodes.{is_attributes}
 use Rattle.wesl_syntax.specs.Tree.{LabelOf, ForestOf, end, tree, kind, at, ident, truth, unary, binary, respell_label, respell_forest, respell, statement_node, declaration_node, literal as literal_kind, parenthesized as parenthesized_kind, type_or_identifier, present, if_attribute, elif_attribute, else_attribute, void}
 use Rattle.wesl_syntax.specs.Unit.{begins_void}

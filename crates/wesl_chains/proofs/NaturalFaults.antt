@@ -10,9 +10,9 @@ use Rattle.wesl_chains.specs.Lists.{Element, element, elements, is_closed, is_co
 use Rattle.wesl_chains.proofs.Clear.{Clear, clear_first, list_clear, none_among}
 use Rattle.wesl_chains.proofs.Kept.{staying_map}
 use Rattle.wesl_chains.proofs.Natural.{respell_form, respell_condition, respell_element, list_natural, statements_natural, closed_natural, compound_natural, option_natural, entered_natural, void_natural, cond_natural, attributes_in_natural, elements_natural, condition_natural, holds_natural, follows_natural, condition_in_natural, judged_natural, holds_natural_body}
-use Rattle.wesl_formula.specs.Faults.{Fault, invalid_flag, unexpected_flag, invalid_expression, no_preceding_if, duplicate_if, IsAmong, faults_if_refused, formula_faults}
+use Rattle.wesl_chains.specs.FormulaFaults.{Fault, invalid_flag, unexpected_flag, invalid_expression, no_preceding_if, duplicate_if, IsAmong, faults_if_refused, formula_faults}
 use Rattle.wesl_features.specs.Features.{Replies, known, says, by_number}
-use Rattle.wesl_formula.specs.Formulas.{Form, always, never, flag, templated, within, negation, conjunction, disjunction, other}
+use Rattle.wesl_chains.specs.Formulas.{Form, always, never, flag, templated, within, negation, conjunction, disjunction, other}
 use Rattle.wesl_features.specs.declared.features.Feature.{Feature}
 use Rattle.wesl_features.specs.declared.features.Feature.TheVariants.{Enable, Disable, Keep, Error}
 use Rattle.wesl_syntax.specs.Tree.{LabelOf, ForestOf, end, tree, respell_label, respell_forest}

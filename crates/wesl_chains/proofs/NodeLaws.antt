@@ -12,7 +12,7 @@ use Rattle.wesl_chains.specs.Lists.{element}
 use Rattle.wesl_chains.proofs.ReadBack.{Leaves, AllLeaves, reads_back, residual_leaves, spots_leaves}
 use Rattle.wesl_chains.proofs.ChainStages.{recast_again}
 use Rattle.wesl_syntax.specs.Tree.{LabelOf, ForestOf, end, tree, kind, at, void, if_attribute, elif_attribute, else_attribute}
-use Rattle.wesl_formula.specs.Formulas.{Spot, spots}
+use Rattle.wesl_chains.specs.Formulas.{Spot, spots}
 
 module _ {I : Type 0} where
   first_leaves : (xs : List (Spot I)) → AllLeaves xs → Leaves (first_of xs).form

@@ -7,8 +7,8 @@ use Rattle.wesl_features.specs.declared.features.Truth.TheVariants.{Yes, No, Und
 use Rattle.wesl_features.specs.declared.chain.Role.{Role}
 use Rattle.wesl_features.specs.declared.chain.Role.TheVariants.{Plain, If, Elif, Else}
 use Rattle.wesl_features.specs.Answers.{Answers, or_else}
-use Rattle.wesl_formula.specs.Formulas.{Form, always, never, flag, templated, within, negation, conjunction, disjunction, other, value_under}
-use Rattle.wesl_formula.specs.Residual.{literal, flag_as, parenthesized, negated_as, both_as, either_as, residual}
+use Rattle.wesl_chains.specs.Formulas.{Form, always, never, flag, templated, within, negation, conjunction, disjunction, other, value_under}
+use Rattle.wesl_chains.specs.FormulaResidual.{literal, flag_as, parenthesized, negated_as, both_as, either_as, residual}
 use Rattle.wesl_chains.specs.Chains.{Condition, none, on, else_on, otherwise, holds, recast_condition, Judged, Goes, Laws, is_node, is_branch, branch, attach, chains, residual_list}
 use Rattle.wesl_features.specs.Branch.{fate, kept_after, decided_after}
 use Rattle.wesl_chains.proofs.Walk.{enact, scan}
@@ -23,7 +23,7 @@ use Rattle.wesl_chains.proofs.NodeLaws.{element_laws}
 use Rattle.wesl_chains.proofs.Passing.{first_children, through_again}
 use Rattle.wesl_chains.proofs.TreeStages.{residual_tidy}
 use Rattle.wesl_syntax.specs.Tree.{ForestOf, TreeOf, end, tree}
-use Rattle.wesl_names.specs.declared.span.Span.{Span}
+use Rattle.wesl_base.specs.declared.span.Span.{Span}
 
 and-true : (b : Bool) → b && true ≡ b
 and-true true = refl

@@ -6,8 +6,8 @@ use Rattle.wesl_chains.specs.Conditions.{condition_at, first_condition, or_next,
 use Rattle.wesl_chains.specs.Faults.{condition_faults, and_rest, conditions, opens, place_faults, list_faults}
 use Rattle.wesl_chains.specs.Lists.{Element}
 use Rattle.wesl_chains.specs.Nodes.{as_element, is_any, is_several, several_after}
-use Rattle.wesl_formula.specs.Evaluation.{Refuses}
-use Rattle.wesl_formula.specs.Faults.{Fault, IsAmong, no_preceding_if, duplicate_if}
+use Rattle.wesl_chains.specs.Evaluation.{Refuses}
+use Rattle.wesl_chains.specs.FormulaFaults.{Fault, IsAmong, no_preceding_if, duplicate_if}
 use Rattle.wesl_features.specs.Features.{Replies}
 use Rattle.wesl_names.specs.Path.{Text}
 use Rattle.wesl_names.specs.declared.errors.Error as error

@@ -3,9 +3,9 @@ use Rattle.std.proofs.Common.{◌≡◌, List, [], ◌∷◌, Bool, true, false,
 use Rattle.wesl_features.specs.declared.features.Truth.{Truth}
 use Rattle.wesl_features.specs.declared.features.Truth.TheVariants.{Yes, No, Undecided}
 use Rattle.wesl_features.specs.Answers.{Answers}
-use Rattle.wesl_formula.specs.Formulas.{Form, Spot, always, never, flag, templated, within, negation, conjunction, disjunction, other, type_name, has_arguments, named_as, reading, spots, form, written}
-use Rattle.wesl_formula.specs.Residual.{literal, flag_as, parenthesized, negated_as, both_as, either_as, residual}
-use Rattle.wesl_names.specs.declared.span.Span.{Span}
+use Rattle.wesl_chains.specs.Formulas.{Form, Spot, always, never, flag, templated, within, negation, conjunction, disjunction, other, type_name, has_arguments, named_as, reading, spots, form, written}
+use Rattle.wesl_chains.specs.FormulaResidual.{literal, flag_as, parenthesized, negated_as, both_as, either_as, residual}
+use Rattle.wesl_base.specs.declared.span.Span.{Span}
 use Rattle.wesl_chains.proofs.Spots.{below_first, by_reading}
 use Rattle.wesl_syntax.specs.Tree.{LabelOf, ForestOf, end, tree, kind, truth, unary, binary, literal as literal_kind, parenthesized as parenthesized_kind, type_or_identifier}
 use Rattle.wesl_syntax.specs.declared.expression.UnaryOperator.TheVariants.{LogicalNegation}

@@ -11,8 +11,8 @@ use Rattle.wesl_chains.proofs.Walk.{enact, scan}
 use Rattle.wesl_chains.proofs.ChainTurns.{scan_is}
 use Rattle.wesl_chains.proofs.Spots.{below_first, by_reading}
 use Rattle.wesl_features.specs.Answers.{Answers}
-use Rattle.wesl_formula.specs.Formulas.{Form, Spot, type_name, has_arguments, named_as, reading, spots}
-use Rattle.wesl_formula.specs.Residual.{literal, flag_as, parenthesized, negated, both_of, either_of, residual}
+use Rattle.wesl_chains.specs.Formulas.{Form, Spot, type_name, has_arguments, named_as, reading, spots}
+use Rattle.wesl_chains.specs.FormulaResidual.{literal, flag_as, parenthesized, negated, both_of, either_of, residual}
 use Rattle.wesl_syntax.specs.Nodes.{is_attributes, is_formula}
 use Rattle.wesl_syntax.specs.Tree.{LabelOf, ForestOf, end, tree, kind, at, ident, truth, unary, binary, expression_node, literal as literal_kind, parenthesized as parenthesized_kind, type_or_identifier, if_attribute, elif_attribute, else_attribute}
 use Rattle.wesl_syntax.specs.declared.expression.UnaryOperator.TheVariants.{LogicalNegation}

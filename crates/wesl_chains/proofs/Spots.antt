@@ -1,6 +1,6 @@
 -- How trees read among expressions, by two forms: the node of an expression, and any other tree.
 use Rattle.std.proofs.Common.{◌≡◌, ℕ, ◌∷◌, refl}
-use Rattle.wesl_formula.specs.Formulas.{nowhere, reading, spots}
+use Rattle.wesl_chains.specs.Formulas.{nowhere, reading, spots}
 use Rattle.wesl_syntax.specs.Tree.{LabelOf, ForestOf, end, tree, at, respell_label, respell_forest, expression_node}
 
 abbrev pub below_first : {I : Type 0} → ForestOf I → ForestOf I

@@ -17,7 +17,7 @@ use Rattle.wesl_chains.proofs.Passing.{inside as judged_inside, elements_through
 use Rattle.wesl_chains.proofs.Then.{then_is_in_stages}
 use Rattle.wesl_chains.proofs.TreeStages.{residual_tidy}
 use Rattle.wesl_features.specs.Answers.{Answers}
-use Rattle.wesl_formula.specs.Faults.{Fault}
+use Rattle.wesl_chains.specs.FormulaFaults.{Fault}
 use Rattle.wesl_features.specs.Features.{Replies, known, HoldsNoError, then_replies}
 use Rattle.wesl_syntax.specs.Tree.{LabelOf, ForestOf, end, tree, kind, compound, statements}
 use Rattle.wesl_syntax.specs.Unit.{UnitOf, forest_of_unit}

@@ -4,8 +4,8 @@ use Rattle.std.specs.List.{flat_map, filter}
 use Rattle.wesl_features.specs.declared.chain.Role.{Role}
 use Rattle.wesl_features.specs.declared.chain.Role.TheVariants.{Plain, If, Elif, Else}
 use Rattle.wesl_features.specs.Answers.{Answers, in_stages}
-use Rattle.wesl_formula.specs.Formulas.{Spot}
-use Rattle.wesl_formula.specs.Residual.{residual, decided}
+use Rattle.wesl_chains.specs.Formulas.{Spot}
+use Rattle.wesl_chains.specs.FormulaResidual.{residual, decided}
 use Rattle.wesl_features.specs.declared.features.Truth.{Truth}
 use Rattle.wesl_features.specs.declared.features.Truth.TheVariants.{Yes, No, Undecided}
 

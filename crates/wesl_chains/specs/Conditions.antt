@@ -3,7 +3,7 @@ use Rattle.std.specs.Prelude.{List, [], ◌∷◌, Bool, true, false, cond}
 use Rattle.wesl_features.specs.declared.chain.Role.{Role}
 use Rattle.wesl_chains.specs.Chains.{Condition, none, on, else_on, otherwise, recast_condition}
 use Rattle.wesl_features.specs.Answers.{Answers}
-use Rattle.wesl_formula.specs.Formulas.{Spot, other, nowhere, spots, spot, written}
+use Rattle.wesl_chains.specs.Formulas.{Spot, other, nowhere, spots, spot, written}
 use Rattle.wesl_syntax.specs.Nodes.{is_attributes}
 use Rattle.wesl_syntax.specs.Tree.{LabelOf, ForestOf, end, tree, kind, at, absent, if_attribute, elif_attribute, else_attribute, imports, directive_list, declarations, members, parameters, statements, clauses}
 use Rattle.wesl_syntax.specs.Unit.{begins_void}

@@ -4,7 +4,7 @@ use Rattle.std.specs.List.{flat_map}
 use Rattle.wesl_chains.specs.Chains.{Condition, none, on, else_on, otherwise, staying}
 use Rattle.wesl_chains.specs.Conditions.{condition_at, attributes_in, is_statements, is_list, is_void}
 use Rattle.wesl_chains.specs.Lists.{Element, element, elements, is_closed, is_compound, is_option, is_entered, holds_body, judged}
-use Rattle.wesl_formula.specs.Faults.{Fault, no_preceding_if, duplicate_if, IsAmong, formula_faults}
+use Rattle.wesl_chains.specs.FormulaFaults.{Fault, no_preceding_if, duplicate_if, IsAmong, formula_faults}
 use Rattle.wesl_features.specs.Features.{Replies, known}
 use Rattle.wesl_syntax.specs.Tree.{LabelOf, ForestOf, end, tree}
 

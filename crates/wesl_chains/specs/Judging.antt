@@ -4,8 +4,8 @@ use Rattle.wesl_chains.specs.Faults.{Stands, list_faults}
 use Rattle.wesl_chains.specs.Lists.{Element, element, back, elements}
 use Rattle.wesl_chains.specs.Chains.{staying}
 use Rattle.wesl_features.specs.Answers.{Answers}
-use Rattle.wesl_formula.specs.Evaluation.{Refuses}
-use Rattle.wesl_formula.specs.Faults.{Fault, Tells}
+use Rattle.wesl_chains.specs.Evaluation.{Refuses}
+use Rattle.wesl_chains.specs.FormulaFaults.{Fault, Tells}
 use Rattle.wesl_features.specs.Features.{Replies}
 use Rattle.wesl_names.specs.Path.{Text}
 use Rattle.wesl_names.specs.declared.errors.Error as error

@@ -5,7 +5,7 @@ use Rattle.wesl_chains.specs.Flags.{flags_of, AgreesOn}
 use Rattle.wesl_chains.specs.Picked.{Choice, picked_unit}
 use Rattle.wesl_chains.specs.Residual.{residual_tree, residual_unit}
 use Rattle.wesl_features.specs.Answers.{Answers, in_stages}
-use Rattle.wesl_formula.specs.Faults.{Fault}
+use Rattle.wesl_chains.specs.FormulaFaults.{Fault}
 use Rattle.wesl_features.specs.Features.{Replies, known, by_number, HoldsNoError, then_replies}
 use Rattle.wesl_names.specs.Path.{Text}
 use Rattle.wesl_syntax.specs.Tree.{Tree, tree_below}

@@ -9,3 +9,8 @@ pub mod Faults
 pub mod Judging
 pub mod Nodes
 pub mod Laws
+pub mod Formulas
+pub mod FormulaResidual
+pub mod FormulaFaults
+pub mod Evaluation
+pub mod Step

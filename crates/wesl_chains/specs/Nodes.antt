@@ -9,7 +9,7 @@ use Rattle.wesl_chains.specs.Lists.{Element}
 use Rattle.wesl_features.specs.Answers.{Answers}
 use Rattle.wesl_features.specs.Features.{Replies, answer_to, known, by_number}
 use Rattle.wesl_features.specs.declared.features.Features.{Features}
-use Rattle.wesl_formula.specs.Residual.{decided}
+use Rattle.wesl_chains.specs.FormulaResidual.{decided}
 use Rattle.wesl_features.specs.declared.features.Truth.{Truth}
 use Rattle.wesl_features.specs.declared.features.Truth.TheVariants.{Yes}
 use Rattle.wesl_names.specs.Path.{Text}

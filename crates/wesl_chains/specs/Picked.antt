@@ -6,7 +6,7 @@ use Rattle.wesl_chains.specs.Chains.{Condition, none, on, else_on, otherwise, Ju
 use Rattle.wesl_chains.specs.Lists.{element, through}
 use Rattle.wesl_chains.specs.Residual.{first_tree}
 use Rattle.wesl_features.specs.Answers.{Answers, or_else}
-use Rattle.wesl_formula.specs.Formulas.{value_under}
+use Rattle.wesl_chains.specs.Formulas.{value_under}
 use Rattle.wesl_features.specs.declared.features.Truth.TheVariants.{Yes, No}
 use Rattle.wesl_syntax.specs.Tree.{ForestOf, TreeOf, end, tree}
 use Rattle.wesl_syntax.specs.Unit.{UnitOf}

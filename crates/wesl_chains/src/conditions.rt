@@ -3,14 +3,14 @@ ghost use Rattle.std.specs.Prelude.{◌≡◌, map};
 ghost use Rattle.wesl_chains.specs.Chains.{follows_on, holds};
 ghost use Rattle.wesl_chains.specs.Conditions.{first_condition, recast};
 ghost use Rattle.wesl_chains.specs.Nodes.{answers, attributes_forest, condition_of_attribute, condition_view, attribute_tree, follows_if_any, holds_if_any, instead, is_any, marked, marked_tree, unconditional};
-ghost use Rattle.wesl_formula.specs.Formulas.{form, written};
-ghost use Rattle.wesl_formula.specs.Residual.{residual};
+ghost use Rattle.wesl_chains.specs.Formulas.{form, written};
+ghost use Rattle.wesl_chains.specs.FormulaResidual.{residual};
 ghost use Rattle.wesl_syntax.specs.Tree.{before, end};
 ghost use Rattle.wesl_syntax.specs.View.{attribute_view, expression_view};
 
+use crate::formula::{decided, simplify};
 use std::mem;
 use wesl_features::{Features, Role, Truth};
-use wesl_formula::{decided, simplify};
 use wesl_names::Names;
 use wesl_syntax::{
     Attribute, AttributeNode, Attributes, Expression, ExpressionNode, Literal, Spanned,

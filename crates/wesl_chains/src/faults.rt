@@ -5,15 +5,15 @@ ghost use Rattle.wesl_chains.specs.Faults.{condition_faults, conditions, list_fa
 ghost use Rattle.wesl_chains.specs.Judging.{ListBegins};
 ghost use Rattle.wesl_chains.specs.Lists.{elements};
 ghost use Rattle.wesl_chains.specs.Nodes.{as_element, attributes_forest, condition_of_attribute, is_several, optional_forest, replies};
-ghost use Rattle.wesl_formula.specs.Evaluation.{Judges};
+ghost use Rattle.wesl_chains.specs.Evaluation.{Judges};
 ghost use Rattle.wesl_names.specs.Path.{Text};
 ghost use Rattle.wesl_syntax.specs.Tree.{forest_of};
 
 use crate::conditions::{Condition, condition_of, follows_on, is_condition};
+use crate::judge::check_formula;
 use crate::lists::Conditional;
 use std::alloc::Global;
 use wesl_features::Features;
-use wesl_formula::check_formula;
 use wesl_names::{CondCompError, Error, Names};
 use wesl_syntax::{Attribute, AttributeNode};
 

@@ -2,9 +2,9 @@
 use Rattle.std.proofs.Common.{◌≡◌, ℕ, ◌+◌, ◌<◌, ◌≤◌, Bool, true, false, if◌then◌else◌, List, [], ◌∷◌, ◌++◌, length, get_or, map, drop, refl, sym, ap, ◌∙◌, subst, add-one, drop-cons, append_assoc, append-nil}
 use Rattle.std.proofs.lemmas.List.{drop_all}
 use Rattle.wesl_syntax.specs.Tree.{Label, Forest, Tree, end, tree, before, forest_of}
-use Rattle.wesl_kinds.specs.Held.{all_of, hollow_label}
-use Rattle.wesl_kinds.specs.Picks.{picks}
-use Rattle.wesl_kinds.specs.Sought.{Sought}
+use Rattle.wesl_collect.specs.Held.{all_of, hollow_label}
+use Rattle.wesl_collect.specs.Picks.{picks}
+use Rattle.wesl_collect.specs.Sought.{Sought}
 use Rattle.wesl_collect.specs.Adds.{Adds, Enters}
 use Rattle.wesl_collect.specs.Lent.{views}
 use Rattle.wesl_collect.specs.Walk.{chosen, found_in, goes_on, itself, sight, sight_below}

@@ -3,8 +3,8 @@ use Rattle.std.proofs.Common.{◌≡◌, Bool, false, ◌++◌, Result, Ok, Err,
 use Rattle.wesl_syntax.specs.Tree.{Forest, Tree, before, end}
 use Rattle.wesl_syntax.specs.View.{type_view}
 use Rattle.wesl_syntax.specs.declared.expression.TypeExpression.{TypeExpression}
-use Rattle.wesl_kinds.specs.Picks.{picks}
-use Rattle.wesl_kinds.specs.Sought.{Sought}
+use Rattle.wesl_collect.specs.Picks.{picks}
+use Rattle.wesl_collect.specs.Sought.{Sought}
 use Rattle.wesl_collect.specs.Adds.{Adds, Begins, Ends}
 use Rattle.wesl_collect.specs.Lent.{views}
 use Rattle.wesl_collect.specs.Walk.{chosen, found_in, sight, strictly}

@@ -2,10 +2,10 @@
 use Rattle.std.proofs.Common.{◌≡◌, Bool, true, false, List, [], ◌∷◌, ◌++◌, refl, sym, ap, ◌∙◌, if◌then◌else◌}
 use Rattle.wesl_syntax.specs.Tree.{Label, Forest, Tree, end, tree, before, kind, at, expression_node, statement_node, attributes, type_expression, if_attribute, elif_attribute, import_statement, diagnostic_directive, enable_directive, requires_directive}
 use Rattle.wesl_syntax.specs.Nodes.{all_nodes, outermost, is_formula, is_import_or_directive, without_attributes, without_words}
-use Rattle.wesl_kinds.specs.Sought.{Sought, expressions, types, statements, attribute_lists, test}
+use Rattle.wesl_collect.specs.Sought.{Sought, expressions, types, statements, attribute_lists, test}
 use Rattle.wesl_collect.specs.Seen.{seen, below, inside}
 use Rattle.wesl_collect.specs.Walk.{chosen, sight, sight_below, strictly}
-use Rattle.wesl_kinds.specs.Picks.{picks}
+use Rattle.wesl_collect.specs.Picks.{picks}
 use Rattle.wesl_collect.proofs.Labels.{sight_whole}
 
 agrees : (k : Sought) (l : Label) → test k l ≡ picks k l

@@ -2,10 +2,10 @@
 use Rattle.std.proofs.Common.{◌≡◌, Bool, true, false, ◌&&◌, List, [], ◌∷◌, ◌++◌, refl, ap, ◌∙◌, if◌then◌else◌}
 use Rattle.wesl_syntax.specs.Tree.{Label, Forest, Tree, end, tree, kind, at, expression_node, statement_node, attributes, if_attribute, elif_attribute, import_statement, diagnostic_directive, enable_directive, requires_directive, type_expression}
 use Rattle.wesl_syntax.specs.Nodes.{is_attributes, without_attributes}
-use Rattle.wesl_kinds.specs.Sought.{Sought, expressions, types, statements, attribute_lists}
+use Rattle.wesl_collect.specs.Sought.{Sought, expressions, types, statements, attribute_lists}
 use Rattle.wesl_collect.specs.Walk.{sight, sight_below, chosen, passes_words}
-use Rattle.wesl_kinds.specs.Held.{all_of, plain_label, flat_label, hollow_label}
-use Rattle.wesl_kinds.specs.Picks.{picks, seeks_statements, seeks_attributes}
+use Rattle.wesl_collect.specs.Held.{all_of, plain_label, flat_label, hollow_label}
+use Rattle.wesl_collect.specs.Picks.{picks, seeks_statements, seeks_attributes}
 
 pub both : (a b : Bool) → (a && b) ≡ true → (a ≡ true) × (b ≡ true)
 both true b h = (refl, h)

@@ -7,3 +7,6 @@ pub mod Parts
 pub mod Words
 pub mod Joined
 pub mod Ends
+pub mod Plain
+pub mod Hollow
+pub mod Variants

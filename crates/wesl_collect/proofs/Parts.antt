@@ -9,8 +9,8 @@ use Rattle.wesl_syntax.specs.declared.expression.Literal.{Literal}
 use Rattle.wesl_syntax.specs.declared.expression.Literal.TheVariants as literals
 use Rattle.wesl_syntax.specs.declared.expression.TemplateArg.{TemplateArg}
 use Rattle.wesl_syntax.specs.declared.expression.TypeExpression.{TypeExpression, out-TypeExpression}
-use Rattle.wesl_kinds.specs.Held.{all_of, hollow_label}
-use Rattle.wesl_kinds.specs.Sought.{Sought}
+use Rattle.wesl_collect.specs.Held.{all_of, hollow_label}
+use Rattle.wesl_collect.specs.Sought.{Sought}
 use Rattle.wesl_collect.specs.Adds.{Adds}
 use Rattle.wesl_collect.specs.declared.collected.Collected.{Collected}
 use Rattle.wesl_collect.proofs.Adds.{beside, hollow, inside}

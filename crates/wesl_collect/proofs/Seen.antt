@@ -7,10 +7,10 @@ use Rattle.wesl_syntax.specs.declared.expression.Expression.{Expression}
 use Rattle.wesl_syntax.specs.declared.expression.TypeExpression.{TypeExpression}
 use Rattle.wesl_syntax.specs.declared.span.Spanned.{Spanned}
 use Rattle.wesl_syntax.specs.declared.statement.Statement.{Statement}
-use Rattle.wesl_kinds.specs.Held.{all_of, plain_label}
-use Rattle.wesl_kinds.proofs.Plain.{expression_plain, type_plain}
-use Rattle.wesl_kinds.specs.Picks.{picks}
-use Rattle.wesl_kinds.specs.Sought.{Sought}
+use Rattle.wesl_collect.specs.Held.{all_of, plain_label}
+use Rattle.wesl_collect.proofs.Plain.{expression_plain, type_plain}
+use Rattle.wesl_collect.specs.Picks.{picks}
+use Rattle.wesl_collect.specs.Sought.{Sought}
 use Rattle.wesl_collect.specs.Walk.{sight, sight_below}
 use Rattle.wesl_collect.proofs.Labels.{both, plain_below, sight_plain, statements_whole, attributes_whole}
 

@@ -11,10 +11,10 @@ use Rattle.wesl_syntax.specs.declared.declaration.GlobalDirective.TheVariants as
 use Rattle.wesl_syntax.specs.declared.expression.Expression.{Expression}
 use Rattle.wesl_syntax.specs.declared.import.ImportStatement.{ImportStatement}
 use Rattle.wesl_syntax.specs.declared.span.Spanned.{Spanned}
-use Rattle.wesl_kinds.specs.Sought.{Sought, expressions, types, statements, attribute_lists}
+use Rattle.wesl_collect.specs.Sought.{Sought, expressions, types, statements, attribute_lists}
 use Rattle.wesl_collect.specs.Walk.{chosen, found_in, itself, passes_words, sight}
-use Rattle.wesl_kinds.specs.Held.{all_of, flat_label, hollow_label}
-use Rattle.wesl_kinds.proofs.Words.{attribute_flat, content_hollow}
+use Rattle.wesl_collect.specs.Held.{all_of, flat_label, hollow_label}
+use Rattle.wesl_collect.proofs.Hollow.{attribute_flat, content_hollow}
 use Rattle.wesl_collect.proofs.Labels.{no_attributes, no_statements, nothing_in, plain_of, sight_plain, sight_whole, without_none}
 
 -- what is found in a tree, itself too

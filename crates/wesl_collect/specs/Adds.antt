@@ -3,7 +3,7 @@ use Rattle.std.specs.Prelude.{◌≡◌, Bool, false, [], ◌++◌, Vec}
 use Rattle.std.specs.Borrow.{Bor}
 use Rattle.std.specs.declared.alloc.Global.{Global}
 use Rattle.wesl_syntax.specs.Tree.{Forest, Tree}
-use Rattle.wesl_kinds.specs.Sought.{Sought}
+use Rattle.wesl_collect.specs.Sought.{Sought}
 use Rattle.wesl_collect.specs.Lent.{views}
 use Rattle.wesl_collect.specs.Walk.{found_in, goes_on, itself}
 use Rattle.wesl_collect.specs.declared.collected.Collected.{Collected}

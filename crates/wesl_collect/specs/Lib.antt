@@ -2,3 +2,9 @@ pub mod Seen
 pub mod Walk
 pub mod Lent
 pub mod Adds
+pub mod Sought
+pub mod Picks
+pub mod Nodes
+pub mod Finished
+pub mod Held
+pub mod Variants

@@ -1,7 +1,7 @@
 -- What visits see of a tree.
 use Rattle.wesl_syntax.specs.Tree.{Forest, Tree, end, tree, before}
 use Rattle.wesl_syntax.specs.Nodes.{without_words}
-use Rattle.wesl_kinds.specs.Sought.{Sought, expressions, types, statements, attribute_lists}
+use Rattle.wesl_collect.specs.Sought.{Sought, expressions, types, statements, attribute_lists}
 
 -- visits of expressions and types see no words
 abbrev pub seen : Sought → Forest → Forest

@@ -2,8 +2,8 @@
 use Rattle.std.specs.Prelude.{Bool, true, false, List, [], ◌∷◌, ◌++◌, if◌then◌else◌}
 use Rattle.wesl_syntax.specs.Tree.{Label, Forest, Tree, end, tree, before, kind, if_attribute, elif_attribute, import_statement, diagnostic_directive, enable_directive, requires_directive}
 use Rattle.wesl_syntax.specs.Nodes.{without_attributes}
-use Rattle.wesl_kinds.specs.Picks.{picks}
-use Rattle.wesl_kinds.specs.Sought.{Sought, expressions, types}
+use Rattle.wesl_collect.specs.Picks.{picks}
+use Rattle.wesl_collect.specs.Sought.{Sought, expressions, types}
 use Rattle.wesl_collect.specs.Seen.{inside}
 
 -- whether words are left out

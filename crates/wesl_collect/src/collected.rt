@@ -1,11 +1,11 @@
 //! What a walk has collected. That memory was wanting is told at the end, so that the walk looks at nothing on its way.
 ghost use Rattle.std.specs.Prelude.{IfErr, IfOk, ◌≡◌};
 ghost use Rattle.wesl_names.specs.declared.errors.Error as error;
-ghost use Rattle.wesl_kinds.specs.Lent.{node_tree};
+ghost use Rattle.wesl_collect.specs.Nodes.{node_tree};
 ghost use Rattle.wesl_collect.specs.Adds.{Begins, Ends, Enters};
 
+use crate::kinds::{Kind, Node};
 use std::alloc::Global;
-use wesl_kinds::{Kind, Node};
 use wesl_names::Error;
 
 /// The nodes of a kind that a walk has met so far: the outermost ones, or with `deep` also those inside them.

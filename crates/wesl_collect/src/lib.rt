@@ -1,8 +1,12 @@
-//! The engine of visits: one walk that collects the nodes of a kind in document order.
+//! The kinds of node that visits look for and rewriting replaces; and the engine of visits: one walk that collects the nodes of
+//! a kind in document order.
 #![tactic(auto)]
 
 mod collect;
 mod collected;
+mod kinds;
+mod laws;
+mod rewriters;
 
 pub use collect::attribute::in_attribute;
 pub use collect::declaration::{
@@ -12,3 +16,6 @@ pub use collect::declaration::{
 pub use collect::expression::{in_expression, in_type};
 pub use collect::statement::{in_assert, in_declaration, in_else, in_statement};
 pub use collected::Collected;
+pub use kinds::{Kind, Node};
+pub use laws::{law_of_expressions, law_of_variants, law_of_words};
+pub use rewriters::{Replace, Rewrite};

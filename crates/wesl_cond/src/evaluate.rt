@@ -1,17 +1,17 @@
 //! What is left of the formula of a conditional attribute.
 ghost use Rattle.std.specs.Prelude.{◌≡◌, [], IfOk, IfErr};
-ghost use Rattle.wesl_formula.specs.Evaluation.{IsRefused};
-ghost use Rattle.wesl_formula.specs.Faults.{formula_faults};
+ghost use Rattle.wesl_chains.specs.Evaluation.{IsRefused};
+ghost use Rattle.wesl_chains.specs.FormulaFaults.{formula_faults};
 ghost use Rattle.wesl_features.specs.Features.{answer_to, by_number, known};
-ghost use Rattle.wesl_formula.specs.Formulas.{form, written};
-ghost use Rattle.wesl_formula.specs.Residual.{residual};
+ghost use Rattle.wesl_chains.specs.Formulas.{form, written};
+ghost use Rattle.wesl_chains.specs.FormulaResidual.{residual};
 ghost use Rattle.wesl_names.specs.declared.errors.Diagnostic.{out-Diagnostic};
 ghost use Rattle.wesl_syntax.specs.View.{expression_view};
 
 use std::alloc::Global;
+use wesl_chains::{check_formula, simplify};
 use wesl_copies::Copying;
 use wesl_features::Features;
-use wesl_formula::{check_formula, simplify};
 use wesl_names::{Diagnostic, Names};
 use wesl_syntax::{Expression, ExpressionNode};
 

@@ -1,5 +1,5 @@
 //! Conditional translation of whole modules (WESL, "ConditionalTranslation"), over the engine `wesl_branches`; and what
-//! features leave of one formula, over `wesl_formula`.
+//! features leave of one formula, over `wesl_chains`.
 #![tactic(auto)]
 
 mod conditioned;

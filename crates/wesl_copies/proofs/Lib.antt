@@ -1,4 +1,5 @@
 pub mod Kept
 pub mod Listed
 pub mod Parts
+pub mod Texts
 pub mod Views

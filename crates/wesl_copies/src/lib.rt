@@ -12,5 +12,5 @@ mod expression;
 mod import;
 mod statement;
 
-pub use clones::{TryClone, unless_refused};
+pub use clones::{Node, Placed, TryClone, unless_refused};
 pub use copying::Copying;

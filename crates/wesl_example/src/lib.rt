@@ -6,11 +6,11 @@
 
 use serde_json::Value;
 use std::alloc::Global;
-use wesl_clash::names_clash;
 use wesl_cond::{Feature, Features};
 use wesl_json::{unit_of_value, value_of_unit};
 use wesl_link::{Resolver, link_under};
 use wesl_mangle::EscapeMangler;
+use wesl_scope::names_clash;
 use wesl_tree::{Diagnostic, Error, ModulePath, ResolveError, TranslationUnit};
 
 /// The trees of modules, each under the text of its path.

@@ -7,7 +7,7 @@ use Rattle.indexmap.specs.IndexMap.{insert_entry}
 use Rattle.wesl_names.specs.PathLaws.{Equality}
 use Rattle.wesl_occurrences.specs.Walk.{Found}
 use Rattle.wesl_meanings.specs.Scopes as scopes
-use Rattle.wesl_meanings.specs.Canonical.{same_key}
+use Rattle.wesl_meanings.specs.Scopes.{same_key}
 use Rattle.wesl_meanings.specs.Keys.{flat}
 use Rattle.wesl_meanings.specs.declared.keys.Key.{Key}
 use Rattle.wesl_meanings.proofs.Entries.{key_eq, key_decides, key_test, keys_decide, same_lookup, inserted}

@@ -5,8 +5,7 @@ use Rattle.std.specs.Map.{lookup}
 use Rattle.wesl_names.specs.Path.{Text}
 use Rattle.wesl_occurrences.specs.Walk.{Found}
 use Rattle.wesl_meanings.specs.Scopes as scopes
-use Rattle.wesl_meanings.specs.Scopes.{bound, free, qualified, is_visible}
-use Rattle.wesl_meanings.specs.Canonical.{same_key}
+use Rattle.wesl_meanings.specs.Scopes.{bound, free, qualified, is_visible, same_key}
 use Rattle.wesl_meanings.specs.Keys.{flat, opened}
 use Rattle.wesl_meanings.specs.declared.keys.Key.{Key}
 use Rattle.wesl_occurrences.specs.Occurrences.{is_binder, is_unqualified}

@@ -4,8 +4,7 @@ ghost use Rattle.wesl_names.specs.Path.{Text};
 ghost use Rattle.wesl_names.specs.declared.errors.Error as error;
 ghost use Rattle.wesl_occurrences.specs.Views.{occurrence_view, standing_view};
 ghost use Rattle.wesl_meanings.specs.Scopes as scopes;
-ghost use Rattle.wesl_meanings.specs.Scopes.{bound, is_visible};
-ghost use Rattle.wesl_meanings.specs.Canonical.{same_key};
+ghost use Rattle.wesl_meanings.specs.Scopes.{bound, is_visible, same_key};
 ghost use Rattle.wesl_meanings.specs.Keys.{flat, opened};
 ghost use Rattle.wesl_faith.specs.Agreement.{leaves, agree_in, in_module, is_met, is_global_met, one_leaves, all_leave};
 

@@ -3,7 +3,7 @@ use serde_json::Value;
 use std::alloc::Global;
 use wesl_link::{Resolutions, resolve_lazy};
 use wesl_names::{ModulePath, ResolveError};
-use wesl_resolve::Resolver;
+use wesl_resolver::Resolver;
 use wesl_row::{Object, Row, of_diagnostic};
 use wesl_tree::{Diagnostic, TranslationUnit};
 

@@ -37,7 +37,7 @@ fn of_others(row: Row<'_>, call: &str) -> Value {
 fn of_deep_units(row: Row<'_>, call: &str) -> Value {
     match call {
         "JsonText::print of parentheses" => deep::parentheses_printed(row),
-        "TryClone::try_clone of a deep unit" => deep::copied(row),
+        "TranslationUnit::try_clone of a deep unit" => deep::copied(row),
         "SyntaxUtil::retarget_idents of a deep unit" => deep::retargeted(row),
         "strip_except of a deep unit" => deep::stripped(row),
         "names_clash of a deep unit" => deep::clashing(row),

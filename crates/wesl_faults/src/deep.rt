@@ -1,13 +1,12 @@
 //! Deep units, made through the library: no JSON that is read is as deep.
 use serde_json::Value;
-use wesl_clash::names_clash;
 use wesl_cond::{Feature, Features, run};
 use wesl_row::{Row, is_refused, printed};
-use wesl_scope::{SyntaxUtil, strip_except};
+use wesl_scope::{SyntaxUtil, names_clash, strip_except};
 use wesl_tree::{
     Attribute, CompoundStatement, ConstAssert, Expression, ExpressionNode, Function,
     GlobalDeclaration, Ident, Literal, Names, Span, Spanned, Statement, StatementNode,
-    TranslationUnit, TryClone, TypeExpression, UnaryOperator,
+    TranslationUnit, TypeExpression, UnaryOperator,
 };
 
 fn placed<T>(node: T) -> Spanned<T> {

@@ -4,7 +4,8 @@ use std::alloc::Global;
 use wesl_json::JsonText;
 use wesl_link::{Resolutions, resolve_eager, resolve_lazy};
 use wesl_names::{Diagnostic, Error, ModulePath, ResolveError};
-use wesl_resolve::{Preprocessor, Resolver, Router, UnitText};
+use wesl_resolve::{Preprocessor, Router};
+use wesl_resolver::{Resolver, UnitText};
 use wesl_row::{Row, of_diagnostic};
 use wesl_tree::TranslationUnit;
 

@@ -1,12 +1,13 @@
 //! Nodes that no JSON form has: with spans, and with identifiers without a name.
 use serde_json::Value;
 use std::alloc::Global;
+use wesl_copies::TryClone;
 use wesl_row::{Object, Row};
 use wesl_syntax::{
     Declaration, DeclarationKind, Expression, GlobalDeclaration, Spanned, Statement, StatementNode,
     TypeExpression, law_of_equality,
 };
-use wesl_tree::{Ident, Span, TranslationUnit, TryClone};
+use wesl_tree::{Ident, Span, TranslationUnit};
 
 /// `break;` at a place
 fn leaving(alloc: Global, start: u32) -> StatementNode {

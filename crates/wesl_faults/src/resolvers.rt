@@ -5,7 +5,8 @@ ghost use Rattle.wesl_syntax.specs.Unit.{spelled, empty_unit};
 use serde_json::Value;
 use std::alloc::Global;
 use wesl_names::{Diagnostic, Error, ResolveError};
-use wesl_resolve::{Preprocessor, Resolver, Router, UnitText, VirtualResolver};
+use wesl_resolve::{Preprocessor, Router, VirtualResolver};
+use wesl_resolver::{Resolver, UnitText};
 use wesl_row::{List, Object, Row, of_resolver};
 use wesl_tree::TranslationUnit;
 

@@ -12,7 +12,7 @@ use Rattle.wesl_syntax.specs.View.{global_view, placed, declarations_tree}
 use Rattle.wesl_syntax.specs.declared.span.Spanned.{Spanned}
 use Rattle.wesl_syntax.specs.declared.declaration.GlobalDeclaration.{GlobalDeclaration}
 use Rattle.wesl_syntax.specs.declared.declaration.GlobalDeclaration.TheVariants as globals
-use Rattle.wesl_kinds.specs.Sought.{expressions, statements}
+use Rattle.wesl_collect.specs.Sought.{expressions, statements}
 use Rattle.wesl_collect.specs.Lent.{views}
 use Rattle.wesl_collect.specs.Seen.{inside}
 use Rattle.wesl_collect.specs.Walk.{strictly}

@@ -3,8 +3,8 @@ use Rattle.std.proofs.Common.{◌≡◌, ℕ, sym, ◌∙◌, subst}
 use Rattle.std.specs.Prelude.{Option, Some, None, IfSome}
 use Rattle.std.specs.List.{Contains}
 use Rattle.wesl_names.specs.Path.{Text}
-use Rattle.wesl_names.specs.declared.errors.ValidateError.{ValidateError}
-use Rattle.wesl_names.specs.declared.errors.ValidateError.TheVariants as fault
+use Rattle.wesl_base.specs.declared.faults.ValidateError.{ValidateError}
+use Rattle.wesl_base.specs.declared.faults.ValidateError.TheVariants as fault
 use Rattle.wesl_syntax.specs.Unit.{UnitView}
 use Rattle.wesl_builtins.specs.Builtins.{BuiltinNames}
 use Rattle.wesl_valid.specs.Calls.{CallOf}

@@ -2,8 +2,8 @@
 use Rattle.std.specs.Prelude.{◌≡◌, List, string_bytes}
 use Rattle.std.specs.Option.{option_map}
 use Rattle.wesl_names.specs.Path.{Text}
-use Rattle.wesl_names.specs.declared.errors.ValidateError.{ValidateError}
-use Rattle.wesl_names.specs.declared.errors.ValidateError.TheVariants as fault
+use Rattle.wesl_base.specs.declared.faults.ValidateError.{ValidateError}
+use Rattle.wesl_base.specs.declared.faults.ValidateError.TheVariants as fault
 use Rattle.wesl_syntax.specs.Unit.{UnitView, name_in}
 use Rattle.wesl_builtins.specs.Builtins.{BuiltinNames}
 use Rattle.wesl_valid.specs.Faults.{IsWgslFault}

@@ -17,9 +17,9 @@ use Rattle.wesl_form.specs.Schema.{Spelled, SpelledForest, SpelledLabel, Words, 
 use Rattle.wesl_form.specs.Schema.{a_type, an_expression, a_template_argument, a_case, an_attribute}
 use Rattle.wesl_form.specs.Nodes.{shorts_of, whole_form}
 use Rattle.wesl_form.specs.Reading.{Reader, reading, leaf_label, any_leaf, name_in, texts_in, all_members, children_in, items_in, node_in, object_in, head_keys, known_keys, label_in, needed, optional, or_empty, empty_of, where_there, present_tree, word_in}
-use Rattle.wesl_borrowed.specs.Keys.{all_known, has_only}
+use Rattle.wesl_form.specs.Keys.{all_known, has_only}
 use Rattle.wesl_form.specs.Place.{Field, field, fields, head_fields, find_field, fields_of, member_form, item_form, IsWrongLeaf, IsWrongNode, IsWrongValue, IsWrongObject, IsWrong, HasUnknownWord, BreaksAt}
-use Rattle.wesl_borrowed.specs.Pointer.{Part, key, index}
+use Rattle.wesl_form.specs.Pointer.{Part, key, index}
 use Rattle.wesl_form.specs.Laws.{ListsAreNoNodes, BrokenIsRefused}
 
 abbrev Holds : Field → List Field → Type 0

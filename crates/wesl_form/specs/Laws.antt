@@ -4,7 +4,7 @@ use Rattle.serde_json.specs.Data.{Data, array, Items}
 use Rattle.wesl_form.specs.Schema.{Form, Name, Table}
 use Rattle.wesl_form.specs.Reading.{reading}
 use Rattle.wesl_form.specs.Place.{BreaksAt}
-use Rattle.wesl_borrowed.specs.Pointer.{Part}
+use Rattle.wesl_form.specs.Pointer.{Part}
 
 -- a list is no short form of a node
 abbrev pub ListsAreNoNodes : Table → Type 0

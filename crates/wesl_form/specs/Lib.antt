@@ -7,3 +7,8 @@ pub mod Writing
 pub mod Units
 pub mod Laws
 pub mod Writable
+pub mod Number
+pub mod View
+pub mod Pointer
+pub mod Keys
+pub mod Text

@@ -7,8 +7,8 @@ use Rattle.wesl_names.specs.Path.{Text}
 use Rattle.wesl_syntax.specs.Tree.{Kind, kind, present}
 use Rattle.wesl_form.specs.Schema.{Words, Leaf, an_ident, a_name, a_text, a_literal, some_names, a_path, one_of, a_fixed_path, a_truth, a_limit, some_texts, a_map_to, anything, Name, Form, leaf, list_of, node, Head, fixed, chosen, Row, nothing, marked, needs, may, many, given, inner, inner_where, Node, Table}
 use Rattle.wesl_form.specs.Reading.{leaf_label, known_keys}
-use Rattle.wesl_borrowed.specs.Keys.{has_only}
-use Rattle.wesl_borrowed.specs.Pointer.{Part, key, index, pointer_text}
+use Rattle.wesl_form.specs.Keys.{has_only}
+use Rattle.wesl_form.specs.Pointer.{Part, key, index, pointer_text}
 
 -- ---- the members of an object
 

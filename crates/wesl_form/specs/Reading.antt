@@ -8,7 +8,7 @@ use Rattle.serde_json.specs.Written.{has_float}
 use Rattle.wesl_syntax.specs.Tree.{before, Kind, LabelOf, kind, at, ident, text, texts, truth, path, ForestOf, end, tree, TreeOf, absent, present, list}
 use Rattle.wesl_names.specs.Path.{Text, Path, is_relative}
 use Rattle.wesl_names.specs.PathText.{parse}
-use Rattle.wesl_borrowed.specs.Keys.{has_only}
+use Rattle.wesl_form.specs.Keys.{has_only}
 use Rattle.wesl_form.specs.Schema.{Spelled, SpelledForest, SpelledLabel, leaf_of, look, nonempty, Words, Leaf, an_ident, a_name, a_text, a_literal, some_names, a_path, one_of, a_fixed_path, a_truth, a_limit, some_texts, a_map_to, anything, Name, Form, leaf, list_of, node, Head, fixed, chosen, Row, nothing, marked, needs, may, many, given, inner, inner_where, Node, Table}
 
 infixl 10 ◌>>=◌

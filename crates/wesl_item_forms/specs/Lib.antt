@@ -2,6 +2,7 @@ pub mod Escape
 pub mod Identifier
 pub mod Items
 pub mod Laws
+pub mod Mangler
 pub mod Rows
 pub mod TypeText
 pub mod Unicode

@@ -1,9 +1,11 @@
 //! The names that items of modules are given, written and read back: the escape form and the Unicode form
-//! (WESL, "NameMangling"). The manglers stand over them.
+//! (WESL, "NameMangling"); the trait of all that name items, and the mangler that gives each item its own name. The
+//! others stand over them.
 #![tactic(auto)]
 
 mod escape;
 mod laws;
+mod mangler;
 mod numbered;
 mod reversible;
 mod types;
@@ -14,6 +16,7 @@ mod writer;
 
 pub use escape::escape_form;
 pub use laws::{escape_round_trip, escape_rows, unicode_round_trip, unicode_rows};
+pub use mangler::{Mangler, NoMangler};
 pub use numbered::{is_made, number_item, told};
 pub use reversible::is_reversible;
 pub use unescape::read_escape;

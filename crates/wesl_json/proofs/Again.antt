@@ -11,11 +11,11 @@ use Rattle.wesl_form.specs.Schema.{Spelled, SpelledForest, node, a_unit}
 use Rattle.wesl_form.specs.Nodes.{whole_form}
 use Rattle.wesl_form.specs.Reading.{reading}
 use Rattle.wesl_form.specs.Units.{unit_tree, unit_value, IsNoUnit}
-use Rattle.wesl_form_laws.specs.Readable as laws
-use Rattle.wesl_form_laws.specs.Readable.{are_readable, IsReadable, UnitsReadBack}
+use Rattle.wesl_piece.specs.Readable as laws
+use Rattle.wesl_piece.specs.Readable.{are_readable, IsReadable, UnitsReadBack}
 use Rattle.wesl_reading.specs.Faults.{IfPlace}
-use Rattle.wesl_resolve.specs.UnitText as resolved
-use Rattle.wesl_resolve.specs.UnitText.{HasTextPaths}
+use Rattle.wesl_resolver.specs.UnitText as resolved
+use Rattle.wesl_resolver.specs.UnitText.{HasTextPaths}
 
 -- ---- a unit is one with its tree
 

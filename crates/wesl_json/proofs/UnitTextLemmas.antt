@@ -10,7 +10,7 @@ use Rattle.wesl_tree.specs.Translation.{unit_view}
 use Rattle.wesl_tree.specs.declared.unit.TranslationUnit.{TranslationUnit}
 use Rattle.wesl_form.specs.Nodes.{whole_form}
 use Rattle.wesl_form.specs.Units.{unit_value, IsBrokenUnit, IsNoUnit}
-use Rattle.wesl_form_laws.specs.Readable.{UnitsReadBack}
+use Rattle.wesl_piece.specs.Readable.{UnitsReadBack}
 use Rattle.wesl_json.specs.Texts.{IsNoJson, IsTextOf}
 use Rattle.wesl_reading.specs.Faults.{IfPlace}
 use Rattle.wesl_json.proofs.Again.{read-written}

@@ -6,7 +6,7 @@ use Rattle.wesl_syntax.specs.Unit.{UnitOf, spelled}
 use Rattle.wesl_tree.specs.Translation.{unit_view}
 use Rattle.wesl_tree.specs.declared.unit.TranslationUnit.{TranslationUnit}
 use Rattle.wesl_form.specs.Units.{unit_value}
-use Rattle.wesl_resolve.specs.UnitText.{HasTextPaths}
+use Rattle.wesl_resolver.specs.UnitText.{HasTextPaths}
 
 -- what holds of the spelling of each unit that is written as the value, where each path in it has a text that says the
 -- same path or none

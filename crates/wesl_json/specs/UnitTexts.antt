@@ -12,7 +12,7 @@ use Rattle.wesl_form.specs.Reading.{reading}
 use Rattle.wesl_form.specs.Units.{unit_tree, IsBrokenUnit, IsNoUnit}
 use Rattle.wesl_form.specs.Writing.{written}
 use Rattle.wesl_reading.specs.Faults.{place_of}
-use Rattle.wesl_resolve.specs.UnitText.{HasTextPaths}
+use Rattle.wesl_resolver.specs.UnitText.{HasTextPaths}
 
 -- the value stands for a unit that is spelled so: at each number of levels above its depth that is its reading
 abbrev pub IsSpelled : Data → UnitOf Text → Type 0

@@ -9,8 +9,8 @@ use crate::unit::{unit_of_borrowed, value_of_unit};
 use crate::value_text::{borrowed_of_text, text_of_value};
 use json::Scratch;
 use std::alloc::Global;
-use wesl_form_laws::law_of_units;
-use wesl_resolve::UnitText;
+use wesl_piece::law_of_units;
+use wesl_resolver::UnitText;
 use wesl_tree::{Diagnostic, Error, TranslationUnit};
 
 /// Units as JSON texts with no space. A text that is no JSON, or that nests deeper than 127, is refused with `NotJson`,

@@ -2,21 +2,20 @@
 ghost use Rattle.std.specs.Prelude.{◌≡◌, false, IfErr, IfOk};
 ghost use Rattle.serde_json.specs.View.{view};
 ghost use Rattle.serde_json.specs.Written.{has_float};
-ghost use Rattle.wesl_borrowed.specs.View.{borrowed_view};
+ghost use Rattle.wesl_form.specs.View.{borrowed_view};
 ghost use Rattle.wesl_names.specs.declared.errors.Error as error;
 ghost use Rattle.wesl_syntax.specs.Unit.{spelled};
 ghost use Rattle.wesl_tree.specs.Translation.{unit_view};
 ghost use Rattle.wesl_form.specs.Nodes.{whole_form};
 ghost use Rattle.wesl_form.specs.Units.{IsBrokenUnit, IsNoUnit, IsUnitOf, unit_value};
-ghost use Rattle.wesl_form_laws.specs.Readable.{IsReadable};
+ghost use Rattle.wesl_piece.specs.Readable.{IsReadable};
 ghost use Rattle.wesl_reading.specs.Faults.{IfPlace};
 ghost use Rattle.wesl_json.specs.ReadAgain.{OfWritten};
 
 use serde_json::Value;
 use std::alloc::Global;
-use wesl_borrowed::BorrowedValue;
-use wesl_form_laws::{law_of_units, law_of_whole_values};
-use wesl_piece::borrowed_of_value;
+use wesl_form::BorrowedValue;
+use wesl_piece::{borrowed_of_value, law_of_units, law_of_whole_values};
 use wesl_tree::{Error, TranslationUnit};
 
 /// The unit that a value stands for.

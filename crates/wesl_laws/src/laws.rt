@@ -2,7 +2,7 @@
 ghost use Rattle.wesl_laws.specs.Laws.{LinkedIsCanonical, ApartIsFaithful, EscapedIsFaithful};
 
 use wesl_faith::law_of_canonical_numbers;
-use wesl_mangle::escape_round_trip;
+use wesl_item_forms::escape_round_trip;
 use wesl_occurrences::{law_of_occurrences, law_of_ways};
 
 /// The unit of `Resolutions::assemble` is faithful exactly where its numbers are the canonical numbers of plain scoping on

@@ -7,7 +7,7 @@ use Rattle.wesl_names.specs.declared.errors.ResolveError.{ResolveError}
 use Rattle.wesl_names.specs.declared.errors.ResolveError as resolve_error
 use Rattle.wesl_features.specs.declared.features.Features.{Features}
 use Rattle.wesl_tree.specs.declared.unit.TranslationUnit.{TranslationUnit}
-use Rattle.wesl_resolve.specs.Refusals.{IsRefusedFor}
+use Rattle.wesl_resolver.specs.Refusals.{IsRefusedFor}
 use Rattle.wesl_resolve.specs.Preprocessor.{IsMade, IsMadeFault}
 use Rattle.wesl_cond.specs.Conditioned.{IsConditioned}
 use Rattle.wesl_syntax.specs.Unit.{UnitOf}

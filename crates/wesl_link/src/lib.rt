@@ -9,4 +9,4 @@ pub use conditional::{link_at, link_under};
 pub use wesl_cond::condition;
 pub use wesl_linker::{law_of_eager_links, law_of_links};
 pub use wesl_resolutions::{Resolutions, resolve_eager, resolve_lazy};
-pub use wesl_resolve::Resolver;
+pub use wesl_resolver::Resolver;

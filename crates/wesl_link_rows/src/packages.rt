@@ -2,7 +2,8 @@
 use crate::resolvers;
 use serde_json::Value;
 use wesl_json::JsonText;
-use wesl_resolve::{CodegenModule, CodegenPkg, PkgResolver, StandardResolver, VirtualResolver};
+use wesl_resolve::{PkgResolver, StandardResolver, VirtualResolver};
+use wesl_resolver::{CodegenModule, CodegenPkg};
 use wesl_row::{Row, is_refused, stands, text_of};
 
 /// A module with these modules below it, whose name is its source.

@@ -4,7 +4,8 @@ ghost use Rattle.wesl_names.specs.Path.{path_view, is_relative};
 
 use serde_json::Value;
 use wesl_json::JsonText;
-use wesl_resolve::{NoResolver, Resolver, Router, VirtualResolver};
+use wesl_resolve::{Router, VirtualResolver};
+use wesl_resolver::{NoResolver, Resolver};
 use wesl_row::{List, Row, is_refused, item_value, of_resolver, stands, text_of};
 use wesl_tree::{ModulePath, ResolveError, TranslationUnit};
 

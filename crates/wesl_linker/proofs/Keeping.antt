@@ -2,7 +2,7 @@
 use Rattle.std.proofs.Common.{◌≡◌, ℕ, zero, suc, ◌<◌, ◌+◌, List, [], ◌∷◌, ◌++◌, take, length, get_or, refl, ap, arith}
 use denote.Ref.{Bor}
 use Rattle.wesl_names.specs.Path.{Text}
-use Rattle.wesl_names.specs.Borrowed.{texts}
+use Rattle.wesl_base.specs.Borrowed.{texts}
 use Rattle.wesl_table.specs.Numbering.{AreRelated}
 
 pub texts_next : (xs : List (Bor Text)) (i : ℕ) (d : Bor Text) → i < length xs → texts (take (i + 1) xs) ≡ texts (take i xs) ++ (get_or xs i d).now ∷ []

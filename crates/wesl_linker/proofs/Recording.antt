@@ -7,7 +7,7 @@ use Rattle.std.proofs.lemmas.Option.{get_or_from_slice_get}
 use Rattle.std.proofs.lemmas.List.{map-append, take_more}
 use Rattle.std.proofs.lemmas.List.Elements.{filter-append, filter_map-append}
 use Rattle.wesl_names.specs.Path.{Text, Path}
-use Rattle.wesl_mangle.specs.Mangler.{written_if}
+use Rattle.wesl_item_forms.specs.Mangler.{written_if}
 use Rattle.wesl_symbols.specs.declared.ids.PathId.{PathId}
 use Rattle.wesl_symbols.specs.declared.ids.NameId.{NameId}
 use Rattle.wesl_symbols.specs.Tables.{Declaration, Table}

@@ -1,7 +1,7 @@
 -- What a mangler writes into its record of the names that it gave (WESL, "NameMangling").
 use Rattle.std.specs.Prelude.{◌≡◌, Bool, not, Option, Some, None, List, [], ◌∷◌, map, filter, filter_map, get_or, bytes_eq}
 use Rattle.wesl_names.specs.Path.{Text, Path}
-use Rattle.wesl_mangle.specs.Mangler.{written_if}
+use Rattle.wesl_item_forms.specs.Mangler.{written_if}
 use Rattle.wesl_symbols.specs.declared.ids.PathId.{PathId}
 use Rattle.wesl_symbols.specs.declared.ids.NameId.{NameId}
 use Rattle.wesl_symbols.specs.Tables.{Declaration}

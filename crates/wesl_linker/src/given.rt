@@ -11,7 +11,7 @@ ghost use Rattle.wesl_linker.specs.Recording.{RecordsName, RecordsTable};
 
 use std::alloc::Global;
 use std::collections::HashMap;
-use wesl_mangle::Mangler;
+use wesl_item_forms::Mangler;
 use wesl_names::{Error, ModulePath};
 use wesl_symbols::ids::{NameId, PathId};
 use wesl_symbols::symbols::Symbol;

@@ -1,7 +1,7 @@
 //! Laws of links.
 ghost use Rattle.wesl_linker.specs.Laws.{AreExclusive, ReachesAllDeclared};
 
-use wesl_resolve::Resolver;
+use wesl_resolver::Resolver;
 
 /// Success and refusal exclude each other, where a resolver hands out one unit a path and does not refuse that path too.
 pub fn law_of_links<R: Resolver>(resolver: &R)

@@ -15,7 +15,7 @@ use crate::given::GivenNames;
 use crate::link::{Link, module_table};
 use crate::loaded::LoadedModule;
 use std::alloc::Global;
-use wesl_mangle::Mangler;
+use wesl_item_forms::Mangler;
 use wesl_names::{Error, ModulePath};
 use wesl_tree::TranslationUnit;
 

@@ -1,12 +1,12 @@
 //! Linking a root with the modules that it reaches.
 ghost use Rattle.std.specs.Prelude.{◌≡◌, ◌∷◌, [], true, false, List, IfOk, IfErr, IfSome, drop, length, ◌<◌};
 ghost use Rattle.wesl_names.specs.declared.errors.Error as error;
-ghost use Rattle.wesl_names.specs.Borrowed.{texts};
+ghost use Rattle.wesl_base.specs.Borrowed.{texts};
 ghost use Rattle.wesl_names.specs.Path.{Text, Path, path_view, is_relative};
 ghost use Rattle.wesl_syntax.specs.Unit.{spelled};
 ghost use Rattle.wesl_tree.specs.Translation.{unit_view};
 ghost use Rattle.wesl_world.specs.Faults.{AreDistinct};
-ghost use Rattle.wesl_resolve.specs.Resolver.{MeansTheSame};
+ghost use Rattle.wesl_resolver.specs.Resolver.{MeansTheSame};
 ghost use Rattle.wesl_world.specs.Linking.{paths};
 ghost use Rattle.wesl_world.specs.Linking as links;
 ghost use Rattle.wesl_world.specs.Loader.{IsReady, OnlyAdds};
@@ -34,7 +34,7 @@ use std::alloc::Global;
 use std::marker::{Brand, PhantomData};
 use std::mem::replace;
 use wesl_names::{Diagnostic, Error, ModulePath};
-use wesl_resolve::Resolver;
+use wesl_resolver::Resolver;
 use wesl_symbols::ids::{NameId, PathId};
 use wesl_symbols::table::Table;
 use wesl_table::marks::Mark;

@@ -1,3 +1,3 @@
 pub mod Held
-pub mod Mangler
+pub mod Kept
 pub mod Shown

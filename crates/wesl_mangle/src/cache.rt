@@ -3,13 +3,13 @@ ghost use Rattle.std.specs.Prelude.{◌≡◌, None, Some, true, IfOk, IfErr, On
 ghost use Rattle.wesl_names.specs.Path.{Text, Path, path_view};
 ghost use Rattle.wesl_names.specs.declared.errors.Error as error;
 ghost use Rattle.wesl_item_forms.specs.Items.{item_view, numbered};
-ghost use Rattle.wesl_mangle.specs.Mangler.{IsWrittenOrKept, written_if};
+ghost use Rattle.wesl_item_forms.specs.Mangler.{written_if};
+ghost use Rattle.wesl_mangle.specs.Kept.{IsWrittenOrKept};
 ghost use Rattle.wesl_mangle.specs.Shown.{shown};
 
-use crate::mangler::Mangler;
 use std::alloc::Global;
 use std::collections::BTreeMap;
-use wesl_item_forms::{is_made, number_item};
+use wesl_item_forms::{Mangler, is_made, number_item};
 use wesl_names::{Error, ModulePath, Names};
 use wesl_syntax::TypeExpression;
 
@@ -99,7 +99,7 @@ impl<M> CacheMangler<M> {
 
 impl<M: Mangler> Mangler for CacheMangler<M> {
     ghost use Rattle.wesl_mangle.specs.Held.{inner, record_of};
-    ghost use Rattle.wesl_mangle.specs.Mangler.{option_or};
+    ghost use Rattle.wesl_mangle.specs.Kept.{option_or};
 
     ghost name_of = { λ s. M.name_of (inner s) };
 

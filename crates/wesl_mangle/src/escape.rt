@@ -6,9 +6,8 @@ ghost use Rattle.wesl_item_forms.specs.Items.{numbered};
 ghost use Rattle.wesl_item_forms.specs.Identifier.{is_ascii_identifier, begins_with_two_underscores, has_identifiers};
 ghost use Rattle.wesl_item_forms.specs.Escape.{escape, unescape, is_reversible};
 
-use crate::mangler::Mangler;
 use std::alloc::Global;
-use wesl_item_forms::{escape_form, number_item, read_escape};
+use wesl_item_forms::{Mangler, escape_form, number_item, read_escape};
 use wesl_names::{Error, ModulePath, Names};
 use wesl_syntax::TypeExpression;
 

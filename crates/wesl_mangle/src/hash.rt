@@ -4,9 +4,8 @@ ghost use Rattle.wesl_names.specs.Path.{Text, Path, path_view};
 ghost use Rattle.wesl_names.specs.declared.errors.Error as error;
 ghost use Rattle.wesl_item_forms.specs.Items.{numbered};
 
-use crate::mangler::Mangler;
 use std::alloc::Global;
-use wesl_item_forms::number_item;
+use wesl_item_forms::{Mangler, number_item};
 use wesl_names::{Error, ModulePath, Names};
 use wesl_syntax::TypeExpression;
 

@@ -4,12 +4,12 @@
 mod cache;
 mod escape;
 mod hash;
-mod mangler;
 mod unicode;
 
 pub use cache::CacheMangler;
 pub use escape::EscapeMangler;
 pub use hash::{HashMangler, PathHash};
-pub use mangler::{Mangler, NoMangler};
 pub use unicode::UnicodeMangler;
-pub use wesl_item_forms::{escape_round_trip, escape_rows, unicode_round_trip, unicode_rows};
+pub use wesl_item_forms::{
+    Mangler, NoMangler, escape_round_trip, escape_rows, unicode_round_trip, unicode_rows,
+};

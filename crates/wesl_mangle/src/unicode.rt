@@ -5,9 +5,8 @@ ghost use Rattle.wesl_names.specs.declared.errors.Error as error;
 ghost use Rattle.wesl_item_forms.specs.TypeText.{unicode_variant};
 ghost use Rattle.wesl_item_forms.specs.Unicode.{unicode, from_unicode, has_own_words};
 
-use crate::mangler::Mangler;
 use std::alloc::Global;
-use wesl_item_forms::{read_unicode, unicode_form, unicode_variant};
+use wesl_item_forms::{Mangler, read_unicode, unicode_form, unicode_variant};
 use wesl_names::{Error, ModulePath, Names};
 use wesl_syntax::TypeExpression;
 

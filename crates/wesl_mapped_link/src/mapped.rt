@@ -1,7 +1,7 @@
 //! A link through a mapper, and what it records.
 ghost use Rattle.std.specs.Prelude.{◌≡◌, ◌↔◌, Result, false, true, IfOk, IfErr};
 ghost use Rattle.wesl_names.specs.declared.errors.Error as error;
-ghost use Rattle.wesl_names.specs.Borrowed.{texts};
+ghost use Rattle.wesl_base.specs.Borrowed.{texts};
 ghost use Rattle.wesl_names.specs.Path.{Text, Path, path_view, is_relative};
 ghost use Rattle.wesl_tree.specs.Translation.{unit_view};
 ghost use Rattle.wesl_tree.specs.declared.unit.TranslationUnit.{TranslationUnit};
@@ -10,17 +10,18 @@ ghost use Rattle.wesl_link.specs.Linking.{FindsLink, RefusesLink, kept_names};
 ghost use Rattle.wesl_resolutions.specs.Keeping.{IsSound, resolved, modules_of};
 ghost use Rattle.wesl_linker.specs.Resolved.{Resolved, IsMangled, AssemblesTo, writes};
 ghost use Rattle.wesl_linker.specs.Recorded.{IsRecordedBy};
-ghost use Rattle.wesl_source_map.specs.Records.{SameItems};
+ghost use Rattle.wesl_map_entries.specs.Records.{SameItems};
 ghost use Rattle.wesl_source_map.specs.BasicView.{items};
 ghost use Rattle.wesl_mapped_link.specs.Mapping.{MapsBy, MapsByLeft, RefusesByLeft};
 
 use std::alloc::Global;
 use std::marker::{Brand, PhantomData};
 use wesl_cond::{Features, condition};
+use wesl_item_forms::Mangler;
 use wesl_link::link_at;
-use wesl_mangle::Mangler;
 use wesl_resolutions::Resolutions;
-use wesl_resolve::{NoResolver, Preprocessor, Resolver};
+use wesl_resolve::Preprocessor;
+use wesl_resolver::{NoResolver, Resolver};
 use wesl_source_map::{Asked, BasicSourceMap, SourceMapper, Start};
 use wesl_tree::{Error, ModulePath, TranslationUnit};
 

@@ -12,9 +12,8 @@ use Rattle.wesl_names.specs.Path.{Text, Path, Origin, absolute, relative, from_p
 use Rattle.wesl_names.specs.PathLaws.{Equality, path_eq}
 use Rattle.wesl_occurrences.specs.Occurrences.{OccurrenceIn}
 use Rattle.wesl_meanings.specs.Scopes as scopes
-use Rattle.wesl_meanings.specs.Scopes.{is_visible}
+use Rattle.wesl_meanings.specs.Scopes.{is_visible, same_key}
 use Rattle.wesl_names.specs.PathOrder.{same_components, same_path}
-use Rattle.wesl_meanings.specs.Canonical.{same_key}
 use Rattle.wesl_meanings.specs.Keys.{flat, opened, open_at}
 use Rattle.wesl_meanings.specs.contracts.keys.KeyPartialEq.TheImpl as equality
 use Rattle.wesl_meanings.specs.declared.keys.Key.{Key}

@@ -7,8 +7,7 @@ use Rattle.wesl_occurrences.specs.Occurrences.{Block, Standing, module_name, par
 use Rattle.wesl_occurrences.specs.Laws.{renamed}
 use Rattle.wesl_occurrences.specs.Ways.{told}
 use Rattle.wesl_meanings.specs.Scopes as scopes
-use Rattle.wesl_meanings.specs.Scopes.{is_visible}
-use Rattle.wesl_meanings.specs.Canonical.{same_key}
+use Rattle.wesl_meanings.specs.Scopes.{is_visible, same_key}
 use Rattle.wesl_meanings.specs.declared.keys.Key.{Key}
 use Rattle.wesl_meanings.specs.declared.keys.Key.TheVariants as made
 

@@ -3,6 +3,7 @@ use Rattle.std.specs.Prelude.{ℕ, Bool, true, false, ◌&&◌, nat_le, bytes_eq
 use Rattle.std.specs.List.{find}
 use Rattle.std.specs.Option.{option_or}
 use Rattle.wesl_names.specs.Path.{Text, Path}
+use Rattle.wesl_names.specs.PathOrder.{same_path}
 use Rattle.wesl_occurrences.specs.Occurrences.{Block, Standing, module_name, parameter, local, reference, word, Occurrence}
 
 -- whether a name that stands so is declared and visible at place p: that of a declaration statement once all of it has come before
@@ -29,6 +30,12 @@ pub data Key : Type 0 where
   bound : Block → Text → Key
   free : Text → Key
   qualified : Path → Text → Key
+
+abbrev pub same_key : Key → Key → Bool
+same_key (bound a m) (bound b n) = bytes_eq a b && bytes_eq m n
+same_key (free m) (free n) = bytes_eq m n
+same_key (qualified p m) (qualified q n) = same_path p q && bytes_eq m n
+same_key _ _ = false
 
 abbrev pub meaning : Text → Option (Occurrence Text) → Key
 meaning n (Some o) = bound o.block n

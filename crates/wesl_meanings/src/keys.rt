@@ -5,8 +5,7 @@ ghost use Rattle.wesl_names.specs.Path.{Text};
 ghost use Rattle.wesl_names.specs.declared.errors.Error as error;
 ghost use Rattle.wesl_occurrences.specs.Views.{occurrence_view, standing_view};
 ghost use Rattle.wesl_occurrences.specs.Ways.{AreNested, way};
-ghost use Rattle.wesl_meanings.specs.Scopes.{bound, is_visible};
-ghost use Rattle.wesl_meanings.specs.Canonical.{same_key};
+ghost use Rattle.wesl_meanings.specs.Scopes.{bound, is_visible, same_key};
 ghost use Rattle.wesl_meanings.specs.Keys.{key_view, flat, IsKeyBelow, key_name, opened, open_at, binds_at, meaning_in, entry_key};
 
 use indexmap::IndexMap;

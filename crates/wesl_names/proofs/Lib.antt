@@ -1,6 +1,4 @@
 pub mod Texts
-pub mod Pieces
-pub mod Runs
 pub mod Supers
 pub mod Order
 pub mod ReadBack

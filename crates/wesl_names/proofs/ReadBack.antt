@@ -7,9 +7,10 @@ use Rattle.std.specs.List.{join_with_byte}
 use Rattle.std.specs.Str.{bytes_eq}
 use lib.Chars.{codes}
 use Rattle.wesl_names.specs.Path.{Text, Origin, absolute, relative, from_package, Path}
-use Rattle.wesl_names.specs.PathText.{colon, cut, is_empty, paired, pieces, are_components, path_with, after_super, path_of_pieces, is_package_name, parsed_pieces, parse, supers, origin_pieces, joined, to_text}
+use Rattle.wesl_base.specs.Pieces.{colon, cut, is_empty, paired, pieces, is_package_name, supers, joined}
+use Rattle.wesl_names.specs.PathText.{are_components, path_with, after_super, path_of_pieces, parsed_pieces, parse, origin_pieces, to_text}
 use Rattle.wesl_names.specs.PathLaws.{RoundTrip}
-use Rattle.wesl_names.proofs.Pieces.{cut-split}
+use Rattle.wesl_base.proofs.Pieces.{cut-split}
 
 pub no-path : {A B : Type 0} (x : A) → None ≡ Some x → B
 no-path x h = absurd (cc)

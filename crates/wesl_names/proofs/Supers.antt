@@ -1,13 +1,14 @@
 -- Runs of `super`.
-use Rattle.std.proofs.Common.{◌≡◌, ◌<◌, ◌+◌, ℕ, zero, suc, if◌then◌else◌, Bool, true, false, cond, List, [], ◌∷◌, ◌++◌, drop, take, map, get_or, length, length-append, refl, ap, sym, ◌∙◌, arith, append_assoc, add-zero, add-one, inl, inr}
-use Rattle.wesl_names.proofs.Pieces.{true-or-false}
+use Rattle.std.proofs.Common.{◌≡◌, ◌<◌, ◌+◌, ℕ, zero, suc, if◌then◌else◌, Bool, true, false, cond, List, [], ◌∷◌, ◌++◌, drop, take, map, get_or, length, length-append, refl, ap, sym, ◌∙◌, arith, append_assoc, add-zero, inl, inr}
+use Rattle.wesl_base.proofs.Pieces.{true-or-false}
 use Rattle.std.proofs.lemmas.Slice.Eq.{bytes_eq-Decides}
 use Rattle.std.proofs.lemmas.List.{map_push, take_more}
 use Rattle.std.specs.List.{prefix_len}
 use Rattle.std.specs.Str.{bytes_eq}
 use lib.Chars.{codes}
 use Rattle.wesl_names.specs.Path.{Text, Origin, absolute, relative, from_package}
-use Rattle.wesl_names.specs.PathText.{path_with, after_super, path_of_pieces, joined, origin_pieces, supers}
+use Rattle.wesl_base.specs.Pieces.{joined}
+use Rattle.wesl_names.specs.PathText.{path_with, after_super, path_of_pieces, origin_pieces}
 
 abbrev pub is_super : Text → Bool
 is_super t = bytes_eq t (codes "super")
@@ -40,15 +41,6 @@ path_of_pieces-supers (t ∷ ts) h = elim (true-or-false (is_super t)) [
   | inl e ↦ rw (bytes_eq-eq t (codes "super") e, after_super-run 1 ts, drop-one (prefix_len is_super ts) (codes "super") ts) refl
   | inr e ↦ absurd (no-super t ts e h)
 ]
-
--- one more `super`
-super-last : (n : ℕ) → joined (codes "super" ∷ supers n) ++ codes "::super" ≡ joined (codes "super" ∷ supers (suc n))
-super-last zero = refl
-super-last (suc n) = ap (λ (t : Text). codes "super::" ++ t) (super-last n)
-
-pub relative-more : (n : ℕ) → 0 < n → joined (origin_pieces (relative n)) ++ codes "::super" ≡ joined (origin_pieces (relative (n + 1)))
-relative-more zero h = absurd (omega arith)
-relative-more (suc n) h = rw (add-one (suc n)) (super-last n)
 
 -- one more component
 pub joined-more : (ts : List Text) (t : Text) → 0 < length ts → joined (ts ++ t ∷ []) ≡ joined ts ++ codes "::" ++ t

@@ -1,17 +1,11 @@
--- Lists of texts, seen as the lists of their bytes.
-use Rattle.std.proofs.Common.{◌≡◌, ◌<◌, ◌+◌, ℕ, List, [], ◌∷◌, ◌++◌, length, take, get_or, map, string_bytes, String, refl, sym, ap, ◌∙◌, append_assoc}
-use Rattle.std.proofs.lemmas.List.{map_more, map_push}
-use Rattle.std.specs.List.{AllZip, starts_with}
+-- Lists of texts, seen as the lists of their bytes, and tests of them.
+use Rattle.std.proofs.Common.{◌≡◌, List, [], ◌∷◌, map, string_bytes, String, refl}
+use Rattle.std.specs.List.{starts_with, list_all}
 use Rattle.std.proofs.lemmas.Cmp.{nat_list_eq_equiv}
 use Rattle.std.specs.String.{string_eq}
+use Rattle.wesl_base.specs.Pieces.{Text}
 use Rattle.wesl_names.specs.Path.{components_begin}
-
--- copies that read the same make a list that reads the same
-pub map-AllZip : {A B : Type 0} (f : A → B) (xs ys : List A) → AllZip (λ x y. f y ≡ f x) xs ys → map f ys ≡ map f xs
-map-AllZip f [] [] h = refl
-map-AllZip f [] (y ∷ ys) h = absurd h
-map-AllZip f (x ∷ xs) [] h = absurd h
-map-AllZip f (x ∷ xs) (y ∷ ys) h = rw (h.0, map-AllZip f xs ys h.1) refl
+use Rattle.wesl_names.specs.PathText.{is_component, are_components}
 
 -- the first texts are read as their bytes are
 pub starts_with-texts : {Z : Type 0} (xs ys : List (String Z)) → starts_with string_eq xs ys ≡ components_begin (map string_bytes xs) (map string_bytes ys)
@@ -20,10 +14,7 @@ starts_with-texts [] (y ∷ ys) = refl
 starts_with-texts (x ∷ xs) (y ∷ ys) =
     rw (nat_list_eq_equiv.symm (string_bytes y) (string_bytes x), starts_with-texts xs ys) refl
 
--- a list of copies, which reads as some texts and then the first of the others do, with a copy of the next one
-pub copied_more : {A B C : Type 0} (f : A → C) (g : B → C) (before : List C) (others : List B) (i : ℕ) (d : B) (copies more : List A) (copy : A)
-    → i < length others → f copy ≡ g (get_or others i d) → more ≡ copies ++ copy ∷ []
-    → map f copies ≡ before ++ map g (take i others) → map f more ≡ before ++ map g (take (i + 1) others)
-copied_more f g before others i d copies more copy h reads pushed so_far =
-    ap (map f) pushed ∙ map_push f copies copy ∙ ap (λ l. l ++ f copy ∷ []) so_far ∙ append_assoc before (map g (take i others)) (f copy ∷ [])
-    ∙ ap (λ c. before ++ (map g (take i others) ++ c ∷ [])) reads ∙ sym (ap (λ l. before ++ l) (map_more g others i d h))
+-- a test of each text, at references
+pub all-components : {B : Type 0} (f : B → Text) (xs : List B) → list_all (λ x. is_component (f x)) xs ≡ are_components (map f xs)
+all-components f [] = refl
+all-components f (x ∷ xs) = rw (all-components f xs) refl

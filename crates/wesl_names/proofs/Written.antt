@@ -4,7 +4,8 @@ use Rattle.std.proofs.lemmas.Bool.{false≢true}
 use Rattle.std.specs.Str.{bytes_eq}
 use lib.Chars.{codes}
 use Rattle.wesl_names.specs.Path.{Text, Origin, absolute, relative, from_package, Path}
-use Rattle.wesl_names.specs.PathText.{has, colon, cut, before_first, is_empty, paired, pieces, is_keyword, is_component, are_components, is_package_name, path_with, after_super, path_of_pieces, parsed_pieces, parse, supers, origin_pieces, joined, to_text}
+use Rattle.wesl_base.specs.Pieces.{has, colon, cut, before_first, is_empty, paired, pieces, is_keyword, is_package_name, supers, joined}
+use Rattle.wesl_names.specs.PathText.{is_component, are_components, path_with, after_super, path_of_pieces, parsed_pieces, parse, origin_pieces, to_text}
 use Rattle.wesl_names.specs.PathForm.{is_piece, are_pieces, is_written_origin, is_written, WrittenReadsBack}
 use Rattle.wesl_names.proofs.ReadBack.{no-path, if-some, option-cons}
 

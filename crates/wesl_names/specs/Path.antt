@@ -1,12 +1,9 @@
 -- Paths of modules, and how one is joined to another (WESL, "Imports").
 use Rattle.std.specs.Prelude.{ℕ, ◌-◌, Bool, true, false, ◌&&◌, ◌==◌, List, [], ◌∷◌, ◌++◌, length, take, map, string_bytes, bytes_eq, codes}
+pub use Rattle.wesl_base.specs.Pieces.{Text}
 use Rattle.wesl_names.specs.declared.path.PathOrigin.{PathOrigin}
 use Rattle.wesl_names.specs.declared.path.PathOrigin.TheVariants.{Absolute, Relative, Package}
 use Rattle.wesl_names.specs.declared.path.ModulePath.{ModulePath}
-
--- a text, by its bytes
-abbrev pub Text : Type 0
-Text = List ℕ
 
 -- where a path begins: at the root of the package, so many modules above its reader, or in a named package
 pub data Origin : Type 0 where

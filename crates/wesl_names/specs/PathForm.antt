@@ -1,7 +1,8 @@
 -- The paths that have a text (WESL, "Imports").
 use Rattle.std.specs.Prelude.{◌≡◌, ◌↔◌, Bool, true, not, ◌&&◌, List, [], ◌∷◌, Some}
 use Rattle.wesl_names.specs.Path.{Text, Origin, absolute, relative, from_package, Path}
-use Rattle.wesl_names.specs.PathText.{has, colon, is_empty, is_keyword, are_components, is_package_name, parse, to_text}
+use Rattle.wesl_base.specs.Pieces.{has, colon, is_empty, is_keyword, is_package_name}
+use Rattle.wesl_names.specs.PathText.{are_components, parse, to_text}
 
 -- not empty, and without a colon
 abbrev pub is_piece : Text → Bool

@@ -7,56 +7,13 @@ ghost use Rattle.wesl_names.specs.Errors.{error_of_resolve, IsBare};
 ghost use Rattle.wesl_names.specs.declared.errors.Diagnostic.{out-Diagnostic};
 
 use crate::path::ModulePath;
-use crate::span::Span;
 use std::alloc::{AllocError, AllocFailed};
 use std::fmt;
 use thiserror::Error;
-
-/// Why a conditional attribute is refused (WESL, "ConditionalTranslation").
-#[derive(Debug, Drop, Error)]
-pub enum CondCompError {
-    /// A flag is written with template arguments. It carries the flag's name.
-    #[error("invalid feature flag `{0}`")]
-    InvalidFeatureFlag(String),
-    /// The features answer a flag with a refusal. It carries the flag's name.
-    #[error("unexpected feature flag `{0}`")]
-    UnexpectedFeatureFlag(String),
-    /// A condition is none of `true`, `false`, a flag, parentheses, `!`, `&&` and `||`.
-    #[error("invalid expression in a condition")]
-    InvalidExpression,
-    /// An `@elif` or `@else` does not stand directly after an `@if` or `@elif`.
-    #[error("no `@if` stands before this branch")]
-    NoPrecedingIf,
-    /// A node has two conditional attributes.
-    #[error("two conditions on one node")]
-    DuplicateIf,
-}
-
-/// Why a linked module is refused by a validator (WGSL, "Declaration and Scope").
-#[derive(Debug, Drop, Error)]
-pub enum ValidateError {
-    /// A reference that is no declaration's and no builtin's. It carries the name.
-    #[error("undefined symbol `{0}`")]
-    UndefinedSymbol(String),
-    /// A call with the wrong number of arguments. It carries the name of what is called, how many
-    /// arguments it takes, and how many it got.
-    #[error("`{0}` takes {1} arguments, and got {2}")]
-    ParamCount(String, usize, usize),
-    /// A call of what is no function and no type. It carries its name.
-    #[error("`{0}` cannot be called")]
-    NotCallable(String),
-    /// Two declarations of one scope have one name. It carries the name.
-    #[error("`{0}` is declared twice")]
-    Duplicate(String),
-    /// A declaration refers to itself, by way of others. It carries its name, and the name of a
-    /// declaration on the way that refers to it.
-    #[error("`{0}` reaches itself by `{1}`")]
-    Cycle(String, String),
-}
+use wesl_base::{CondCompError, Span, ValidateError};
 
 /// A fault with the place where it was found.
 #[cycle(errors)]
-#[derive(Debug)]
 pub struct Diagnostic {
     /// What the fault is.
     pub error: Error,
@@ -88,7 +45,7 @@ impl Drop for Diagnostic {
 
 /// Why a resolver hands out no module.
 #[cycle(errors)]
-#[derive(Debug, Drop, Error)]
+#[derive(Drop, Error)]
 pub enum ResolveError {
     /// A file is not there, for resolvers that read files. It carries the file's name and the reason.
     #[error("file not found: `{0}` ({1})")]
@@ -106,7 +63,7 @@ pub enum ResolveError {
 
 /// Why an import or a path is refused (WESL, "Imports" and "Visibility").
 #[cycle(errors)]
-#[derive(Debug, Drop, Error)]
+#[derive(Drop, Error)]
 pub enum ImportError {
     /// Two declarations or imports of one module have one name. It carries the name.
     #[error("two symbols have the name `{0}`")]
@@ -126,7 +83,7 @@ pub enum ImportError {
 
 /// Any fault of the linker.
 #[cycle(errors)]
-#[derive(Debug, Drop, Error)]
+#[derive(Drop, Error)]
 pub enum Error {
     /// A fault of a conditional attribute.
     #[error(transparent)]
@@ -172,6 +129,34 @@ impl fmt::Display for Diagnostic {
             write!(f, "in `{declaration}`: ")?;
         }
         fmt::Display::fmt(&self.error, f)
+    }
+}
+
+/// The text that `Display` writes.
+impl fmt::Debug for Diagnostic {
+    fn fmt<W: fmt::Write>(&self, f: &mut fmt::Formatter<W>) -> fmt::Result {
+        fmt::Display::fmt(self, f)
+    }
+}
+
+/// The text that `Display` writes.
+impl fmt::Debug for ResolveError {
+    fn fmt<W: fmt::Write>(&self, f: &mut fmt::Formatter<W>) -> fmt::Result {
+        fmt::Display::fmt(self, f)
+    }
+}
+
+/// The text that `Display` writes.
+impl fmt::Debug for ImportError {
+    fn fmt<W: fmt::Write>(&self, f: &mut fmt::Formatter<W>) -> fmt::Result {
+        fmt::Display::fmt(self, f)
+    }
+}
+
+/// The text that `Display` writes.
+impl fmt::Debug for Error {
+    fn fmt<W: fmt::Write>(&self, f: &mut fmt::Formatter<W>) -> fmt::Result {
+        fmt::Display::fmt(self, f)
     }
 }
 

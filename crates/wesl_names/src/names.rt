@@ -5,6 +5,7 @@ ghost use Rattle.wesl_names.specs.declared.errors.Error as error;
 use crate::errors::Error;
 use std::alloc::Global;
 use std::marker::Model;
+use wesl_base::copied_texts;
 
 /// An identifier of a module: its place in the module's table of names.
 ///
@@ -74,10 +75,7 @@ impl Names {
         ensures equal { IfOk result (λ n. n ≡ self.now) }
         ensures refused { IfErr result (λ e. e ≡ error.Memory) }
     {
-        let mut names = Vec::with_capacity(alloc, self.names.len())?;
-        for name in &self.names {
-            names.push(name.clone()?)?;
-        }
+        let names = copied_texts(alloc, &self.names, &[])?;
         Ok(Names { names })
     }
 }

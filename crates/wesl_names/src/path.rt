@@ -1,10 +1,11 @@
 //! Paths of modules (WESL, "Imports").
-ghost use Rattle.std.specs.Prelude.{◌≡◌, ◌++◌, ◌<◌, IfOk, IfErr, map, string_bytes, take, length, codes};
+ghost use Rattle.std.specs.Prelude.{◌≡◌, IfOk, IfErr, map, string_bytes, length};
 ghost use Rattle.wesl_names.specs.declared.errors.Error as error;
-ghost use Rattle.wesl_names.specs.Path.{Path, path_view, origin_view, root_path, push, extend, is_relative, join_origin, join, same_origin, starts_with, kept_components};
+ghost use Rattle.wesl_names.specs.Path.{path_view, origin_view, root_path, push, extend, is_relative, join_origin, join, same_origin, starts_with, kept_components};
 
 use crate::errors::Error;
-use std::alloc::{AllocError, Global};
+use std::alloc::Global;
+use wesl_base::{copied_texts, dependency_name};
 
 /// Where a path begins: at the root of the package, so many modules above its reader, or in a named package.
 #[derive(Debug, PartialEq, Eq, PartialOrd, Ord, Hash)]
@@ -90,27 +91,6 @@ impl PathOrigin {
             (_, PathOrigin::Package(_)) => to.try_clone(alloc),
         }
     }
-}
-
-/// The name that a package has for the module at `from`, whose package it is a dependency of.
-fn dependency_name(alloc: Global, from: &str, dependency: &str) -> Result<String, AllocError>
-    ensures { IfOk result (λ name. string_bytes name ≡ from.now ++ codes "/" ++ dependency.now) }
-{
-    let mut name = String::from_str(alloc, from)?;
-    name.push('/')?;
-    name.push_str(dependency)?;
-    Ok(name)
-}
-
-/// Copies of the texts, those of `first` and then those of `more`.
-fn copied_texts(alloc: Global, first: &[String], more: &[String]) -> Result<Vec<String>, AllocError>
-    ensures { IfOk result (λ texts. map string_bytes texts.items ≡ map string_bytes first.now ++ map string_bytes more.now) }
-{
-    let mut texts = first.to_vec(alloc)?;
-    for text in more {
-        texts.push(text.clone()?)?;
-    }
-    Ok(texts)
 }
 
 impl ModulePath {

@@ -1,64 +1,20 @@
 //! The texts of paths (WESL, "Imports").
-ghost use Rattle.std.specs.Prelude.{◌≡◌, ◌≤◌, ◌<◌, ◌++◌, ◌∷◌, ◌==◌, [], IfOk, IfErr, map, string_bytes, take, length, codes, option_map, true, Some};
-ghost use Rattle.std.specs.List.{prefix_len};
-ghost use Rattle.std.specs.Str.{bytes_eq};
-ghost use Rattle.std.specs.Fmt.{DisplaysOnOk};
+ghost use Rattle.std.specs.Prelude.{◌≡◌, IfOk, IfErr, string_bytes, option_map, true, Some};
+ghost use Rattle.wesl_base.specs.Borrowed.{texts};
+ghost use Rattle.wesl_base.specs.Pieces.{joined};
 ghost use Rattle.wesl_names.specs.declared.errors.Error as error;
-ghost use Rattle.wesl_names.specs.Path.{Path, path_view, origin_view, relative};
-ghost use Rattle.wesl_names.specs.PathText.{has, slash, is_keyword, parse, to_text, cut, colon, pieces, are_components, is_component, is_package_name, path_of_pieces, path_with, joined, origin_pieces};
+ghost use Rattle.wesl_names.specs.Path.{path_view, origin_view};
+ghost use Rattle.wesl_names.specs.PathText.{parse, to_text, are_components, is_component, path_of_pieces, path_with, origin_pieces};
 ghost use Rattle.wesl_names.specs.PathForm.{is_written};
-ghost use Rattle.wesl_names.specs.Borrowed.{texts};
 
 use crate::errors::Error;
 use crate::path::{ModulePath, PathOrigin};
 use std::alloc::{AllocError, Global};
 use std::fmt;
-
-/// The texts between the colons.
-fn between_colons(alloc: Global, text: &str) -> Result<Vec<&str>, AllocError>
-    ensures { IfOk result (λ parts. texts parts.items ≡ cut colon text.now) }
-{
-    text.split(':').collect(alloc)
-}
-
-/// The pieces between the double colons, where each is filled and has no colon.
-fn pieces_of(alloc: Global, text: &str) -> Result<Option<Vec<&str>>, AllocError>
-    ensures { IfOk result (λ found. option_map (λ v. texts v.items) found ≡ pieces text.now) }
-{
-    let parts = between_colons(alloc, text)?;
-    let mut pieces = Vec::new(alloc);
-    let mut after_piece = false;
-    for part in &parts {
-        if part.is_empty() != after_piece {
-            return Ok(None);
-        }
-        if !after_piece {
-            pieces.push(*part)?;
-        }
-        after_piece = !after_piece;
-    }
-    Ok(after_piece.then_some(pieces))
-}
-
-/// How many pieces `super` come first.
-fn leading_supers(pieces: &[&str]) -> usize
-    ensures counted { result ≡ prefix_len (λ t. bytes_eq t (codes "super")) (texts pieces.now) }
-    ensures within { result ≤ length pieces.now }
-{
-    pieces.iter().take_while(|piece| **piece == "super").count()
-}
-
-fn has_slash(piece: &str) -> bool
-    ensures { result ≡ has slash piece.now }
-{
-    piece.contains('/')
-}
-
-fn is_keyword(piece: &str) -> bool
-    ensures { result ≡ is_keyword piece.now }
-{
-    piece == "package" || piece == "self" || piece == "super"
-}
+use wesl_base::{
+    copied, has_slash, is_keyword, is_package_name, leading_supers, pieces_of, relative_text,
+    write_relative,
+};
 
 fn is_component(piece: &str) -> bool
     ensures { result ≡ is_component piece.now }
@@ -70,23 +26,6 @@ fn are_components(pieces: &[&str]) -> bool
     ensures { result ≡ are_components (texts pieces.now) }
 {
     pieces.iter().all(|piece| is_component(piece))
-}
-
-/// Whether the piece is nonempty names joined by slashes.
-fn is_package_name(piece: &str) -> bool
-    ensures { result ≡ is_package_name piece.now }
-{
-    piece.split('/').all(|name| !name.is_empty())
-}
-
-fn copied(alloc: Global, pieces: &[&str]) -> Result<Vec<String>, AllocError>
-    ensures { IfOk result (λ names. map string_bytes names.items ≡ texts pieces.now) }
-{
-    let mut names = Vec::new(alloc);
-    for piece in pieces {
-        names.push(String::from_str(alloc, piece)?)?;
-    }
-    Ok(names)
 }
 
 /// The path of the origin, where the pieces are components.
@@ -126,20 +65,6 @@ fn path_of_pieces(alloc: Global, pieces: &[&str]) -> Result<Option<ModulePath>, 
     }
     let name = String::from_str(alloc, first)?;
     path_with(alloc, PathOrigin::Package(name), components)
-}
-
-/// `self`, or `super` so many times.
-fn relative_text(alloc: Global, up: usize) -> Result<String, AllocError>
-    ensures { IfOk result (λ text. string_bytes text ≡ joined (origin_pieces (relative up))) }
-{
-    if up == 0 {
-        return String::from_str(alloc, "self");
-    }
-    let mut text = String::from_str(alloc, "super")?;
-    for _done in 1..up {
-        text.push_str("::super")?;
-    }
-    Ok(text)
 }
 
 fn origin_text(alloc: Global, origin: &PathOrigin) -> Result<String, AllocError>
@@ -187,26 +112,13 @@ impl ModulePath {
     }
 }
 
-/// `super` so many times.
-fn write_supers<W: fmt::Write>(up: usize, f: &mut fmt::Formatter<W>) -> fmt::Result
-    requires { 0 < up }
-    ensures { DisplaysOnOk W.write_str_gives f.old result (Some (joined (origin_pieces (relative up)))) f.new }
-{
-    f.write_str("super")?;
-    for _done in 1..up {
-        f.write_str("::super")?;
-    }
-    Ok(())
-}
-
 impl fmt::Display for PathOrigin {
     ghost output = { λ origin. Some (joined (origin_pieces (origin_view origin))) };
 
     fn fmt<W: fmt::Write>(&self, f: &mut fmt::Formatter<W>) -> fmt::Result {
         match self {
             PathOrigin::Absolute => f.write_str("package"),
-            PathOrigin::Relative(0) => f.write_str("self"),
-            PathOrigin::Relative(up) => write_supers(*up, f),
+            PathOrigin::Relative(up) => write_relative(*up, f),
             PathOrigin::Package(name) => f.write_str(name.as_str()),
         }
     }

@@ -3,9 +3,9 @@ use Rattle.std.proofs.Common.{◌≡◌, ℕ, ◌+◌, ◌<◌, List, [], ◌∷
 use Rattle.std.proofs.lemmas.List.{take_more}
 use Rattle.serde_json.specs.View.{view, items_view as values_view}
 use Rattle.serde_json.specs.declared.value.Value.{Value}
-use Rattle.wesl_borrowed.specs.View.{borrowed_view, items_view}
-use Rattle.wesl_borrowed.specs.declared.value.BorrowedValue.{BorrowedValue}
-use Rattle.wesl_borrowed.proofs.Lists.{items_then, items-then}
+use Rattle.wesl_form.specs.View.{borrowed_view, items_view}
+use Rattle.wesl_form.specs.declared.value.BorrowedValue.{BorrowedValue}
+use Rattle.wesl_form.proofs.Lists.{items_then, items-then}
 use Rattle.wesl_piece.proofs.Listed.{values-then}
 
 -- a turn of the loop that makes values of items

@@ -4,7 +4,7 @@ use Rattle.std.proofs.lemmas.List.{take_more}
 use Rattle.serde_json.specs.Data.{item}
 use Rattle.serde_json.specs.View.{view, items_view as values_view}
 use Rattle.serde_json.specs.declared.value.Value.{Value}
-use Rattle.wesl_borrowed.proofs.Lists.{items_then}
+use Rattle.wesl_form.proofs.Lists.{items_then}
 use Rattle.wesl_piece.specs.Order.{sorted, sorted_items}
 use Rattle.wesl_piece.specs.View.{items_view, piece_view}
 use Rattle.wesl_piece.specs.declared.piece.Piece.{Piece}

@@ -1,3 +1,4 @@
 pub mod View
 pub mod Place
 pub mod Order
+pub mod Readable

@@ -2,11 +2,11 @@
 ghost use Rattle.std.specs.Prelude.{◌≡◌, IfOk, None};
 ghost use Rattle.serde_json.specs.Find.{as_i64, as_u64};
 ghost use Rattle.serde_json.specs.View.{view, items_view as values_view, members_view as map_view, number_view as value_number};
-ghost use Rattle.wesl_borrowed.specs.View.{borrowed_view, items_view, members_view, number_view};
+ghost use Rattle.wesl_form.specs.View.{borrowed_view, items_view, members_view, number_view};
 
 use serde_json::{Map, Value};
 use std::alloc::{AllocError, Global};
-use wesl_borrowed::{BorrowedValue, Members, Number};
+use wesl_form::{BorrowedValue, Members, Number};
 
 /// The same value, its texts borrowed. Refused for want of memory alone.
 #[cycle(of_value)]

@@ -1,11 +1,11 @@
 //! Light values as values of their own.
 ghost use Rattle.std.specs.Prelude.{◌≡◌, IfOk};
 ghost use Rattle.serde_json.specs.View.{view, items_view as values_view, members_view as map_view, number_view as value_number};
-ghost use Rattle.wesl_borrowed.specs.View.{borrowed_view, items_view, members_view, number_view};
+ghost use Rattle.wesl_form.specs.View.{borrowed_view, items_view, members_view, number_view};
 
 use serde_json::{Map, Value};
 use std::alloc::{AllocError, Global};
-use wesl_borrowed::{BorrowedValue, Members, Number, NumberKind};
+use wesl_form::{BorrowedValue, Members, Number, NumberKind};
 
 /// The same value with texts of its own. Refused for want of memory alone.
 #[cycle(to_value)]

@@ -8,18 +8,18 @@ use Rattle.wesl_syntax.specs.Unit.{UnitOf}
 use Rattle.wesl_names.specs.Path.{Text, Origin, absolute, relative, from_package, Path}
 use Rattle.wesl_names.specs.Errors.{IsModuleNotFound, IsRefusedWith, OrMemory, error_of_resolve}
 use Rattle.wesl_names.specs.declared.errors.Error as error
-use Rattle.wesl_names.specs.declared.errors.CondCompError.{CondCompError}
-use Rattle.wesl_names.specs.declared.errors.CondCompError.TheVariants as cond
+use Rattle.wesl_base.specs.declared.faults.CondCompError.{CondCompError}
+use Rattle.wesl_base.specs.declared.faults.CondCompError.TheVariants as cond
 use Rattle.wesl_names.specs.declared.errors.ResolveError as resolve_error
 use Rattle.wesl_names.specs.declared.errors.ImportError as import_error
-use Rattle.wesl_formula.specs.Faults.{Fault, Tells}
+use Rattle.wesl_chains.specs.FormulaFaults.{Fault, Tells}
 use Rattle.wesl_features.specs.Features.{answer_to}
 use Rattle.wesl_features.specs.declared.features.Features.{Features}
 use Rattle.wesl_tree.specs.Translation.{unit_view}
 use Rattle.wesl_tree.specs.declared.unit.TranslationUnit.{TranslationUnit}
 use Rattle.wesl_resolve.specs.ByOrigin.{AtOrigin, ByOrigin}
-use Rattle.wesl_resolve.specs.Packages.{IsRefusedIn}
-use Rattle.wesl_resolve.specs.declared.packages.CodegenPkg.{CodegenPkg}
+use Rattle.wesl_resolver.specs.Packages.{IsRefusedIn}
+use Rattle.wesl_resolver.specs.declared.packages.CodegenPkg.{CodegenPkg}
 use Rattle.wesl_json.specs.UnitTexts.{IsTreeFault}
 use Rattle.wesl_reading.specs.Faults.{place_of}
 use Rattle.wesl_cond.specs.Conditioned.{IsRefusedBy}
@@ -32,8 +32,8 @@ use Rattle.wesl_program.specs.Linking.{Kept, LinksTo, handed, refused, handed_le
 use Rattle.wesl_program.specs.Validity.{RefusesUnit, built_in}
 use Rattle.wesl_valid.specs.Faults as valid
 use Rattle.wesl_syntax.specs.Unit.{UnitView}
-use Rattle.wesl_names.specs.declared.errors.ValidateError.{ValidateError}
-use Rattle.wesl_names.specs.declared.errors.ValidateError.TheVariants as invalid
+use Rattle.wesl_base.specs.declared.faults.ValidateError.{ValidateError}
+use Rattle.wesl_base.specs.declared.faults.ValidateError.TheVariants as invalid
 use Rattle.wesl_bundle.specs.Builtins as said
 use Rattle.wesl_bundle.specs.Bundle.{Bundle}
 use Rattle.wesl_program.specs.Line.{memory, IsOfModules}

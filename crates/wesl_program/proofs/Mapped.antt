@@ -8,7 +8,7 @@ use Rattle.wesl_features.specs.declared.features.Features.{Features}
 use Rattle.wesl_linker.specs.Recorded.{Record}
 use Rattle.wesl_bundle.specs.Bundle.{Bundle}
 use Rattle.wesl_linker.specs.Worlds.{Module}
-use Rattle.wesl_source_map.specs.Records.{SameItems}
+use Rattle.wesl_map_entries.specs.Records.{SameItems}
 use Rattle.wesl_link.specs.Linking.{RefusesLink, hands_left, refuses_left}
 use Rattle.wesl_mapped_link.specs.Mapping.{MapsLink}
 use Rattle.wesl_program.specs.Linking.{Kept, LinksTo, handed_left, refused_left, recorded_for}

@@ -10,8 +10,8 @@ use Rattle.std.specs.Ordering.{ordering_reverse}
 use Rattle.serde_json.specs.Data.{Data, Members, no_members, member, put, object}
 use Rattle.serde_json.specs.Written.{has_float, members_have_float}
 use Rattle.wesl_names.specs.Path.{Text}
-use Rattle.wesl_source_map.specs.Records.{Item, Items, SameItems}
-use Rattle.wesl_source_map.specs.Listed.{IsListing}
+use Rattle.wesl_map_entries.specs.Records.{Item, Items, SameItems}
+use Rattle.wesl_map_entries.specs.Listed.{IsListing}
 use Rattle.wesl_syntax.specs.Unit.{UnitView}
 use Rattle.wesl_form.specs.Units.{unit_value}
 use Rattle.wesl_bundle.specs.Bundle.{Bundle}

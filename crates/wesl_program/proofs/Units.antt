@@ -3,8 +3,8 @@ use Rattle.std.proofs.Common.{◌≡◌, List, [], ◌∷◌, ◌++◌, Bool, tr
 use Rattle.std.specs.Map.{lookup}
 use Rattle.indexmap.specs.IndexMap.{insert_entry}
 use Rattle.serde_json.specs.Data.{Data}
-use Rattle.wesl_borrowed.specs.View.{borrowed_view}
-use Rattle.wesl_borrowed.specs.declared.value.BorrowedValue.{BorrowedValue}
+use Rattle.wesl_form.specs.View.{borrowed_view}
+use Rattle.wesl_form.specs.declared.value.BorrowedValue.{BorrowedValue}
 use Rattle.wesl_names.specs.Path.{Path, path_view}
 use Rattle.wesl_names.specs.PathLaws.{path_eq}
 use Rattle.wesl_names.specs.PathOrder.{same_path}

@@ -4,10 +4,10 @@ use Rattle.std.specs.Prelude.{ℕ, List, [], ◌∷◌, codes, decimal, string_b
 use Rattle.wesl_names.specs.Path.{Text, path_view}
 use Rattle.wesl_names.specs.PathText.{to_text}
 use Rattle.wesl_names.specs.declared.path.ModulePath.{ModulePath}
-use Rattle.wesl_names.specs.declared.errors.CondCompError.{CondCompError}
-use Rattle.wesl_names.specs.declared.errors.CondCompError.TheVariants as cond
-use Rattle.wesl_names.specs.declared.errors.ValidateError.{ValidateError}
-use Rattle.wesl_names.specs.declared.errors.ValidateError.TheVariants as invalid
+use Rattle.wesl_base.specs.declared.faults.CondCompError.{CondCompError}
+use Rattle.wesl_base.specs.declared.faults.CondCompError.TheVariants as cond
+use Rattle.wesl_base.specs.declared.faults.ValidateError.{ValidateError}
+use Rattle.wesl_base.specs.declared.faults.ValidateError.TheVariants as invalid
 use Rattle.wesl_names.specs.declared.errors.ImportError as import_error
 use Rattle.wesl_names.specs.declared.errors.ResolveError as resolve_error
 use Rattle.wesl_names.specs.declared.errors.Error as error

@@ -12,8 +12,8 @@ use Rattle.wesl_bundle.specs.Bundle.{Bundle, bundle_of}
 use Rattle.wesl_bundle.specs.Forms.{IsBrokenBundle}
 use Rattle.wesl_names.specs.declared.errors.Error as error
 use Rattle.wesl_program.specs.Fault.{Fault, fault, fault_of}
-use Rattle.wesl_source_map.specs.Records.{Item}
-use Rattle.wesl_source_map.specs.Listed.{IsListing}
+use Rattle.wesl_map_entries.specs.Records.{Item}
+use Rattle.wesl_map_entries.specs.Listed.{IsListing}
 use Rattle.wesl_linker.specs.Recorded.{Record}
 use Rattle.wesl_linker.specs.Worlds.{Module}
 use Rattle.wesl_program.specs.Linking.{LinksTo, recorded_for}

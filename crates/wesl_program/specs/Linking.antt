@@ -9,8 +9,8 @@ use Rattle.wesl_features.specs.declared.features.Features.{Features}
 use Rattle.wesl_bundle.specs.Bundle.{Bundle}
 use Rattle.wesl_bundle.specs.Views.{features_view}
 use Rattle.wesl_resolve.specs.ByOrigin.{ByOrigin}
-use Rattle.wesl_resolve.specs.Packages.{IsReadIn, IsRefusedIn}
-use Rattle.wesl_resolve.specs.declared.packages.CodegenPkg.{CodegenPkg}
+use Rattle.wesl_resolver.specs.Packages.{IsReadIn, IsRefusedIn}
+use Rattle.wesl_resolver.specs.declared.packages.CodegenPkg.{CodegenPkg}
 use Rattle.wesl_json.specs.UnitTexts.{ReadsAs}
 use Rattle.wesl_link.specs.Linking.{Links, RefusesLink, hands_left, refuses_left}
 use Rattle.wesl_mapped_link.specs.Mapping.{task_at}

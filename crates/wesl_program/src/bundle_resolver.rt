@@ -3,7 +3,7 @@ ghost use Rattle.std.specs.Prelude.{◌≡◌, ◌⊎◌, None, IfOk, IfErr};
 ghost use Rattle.wesl_names.specs.declared.errors.Error as error;
 ghost use Rattle.wesl_names.specs.Path.{path_view};
 ghost use Rattle.wesl_names.specs.Errors.{IsModuleNotFound, IsRefusedWith, OrMemory};
-ghost use Rattle.wesl_borrowed.specs.View.{borrowed_view};
+ghost use Rattle.wesl_form.specs.View.{borrowed_view};
 ghost use Rattle.wesl_syntax.specs.Unit.{spelled};
 ghost use Rattle.wesl_tree.specs.Translation.{unit_view};
 ghost use Rattle.wesl_json.specs.UnitTexts.{IsSpelled, IsTreeFault};
@@ -11,9 +11,9 @@ ghost use Rattle.wesl_program.specs.Hands.{IsHandedAt, IsRefusedAt, unit_in, vir
 
 use crate::modules::BundleUnits;
 use std::alloc::Global;
-use wesl_borrowed::BorrowedValue;
+use wesl_form::BorrowedValue;
 use wesl_json::unit_of_borrowed;
-use wesl_resolve::Resolver;
+use wesl_resolver::Resolver;
 use wesl_tree::{Diagnostic, Error, ModulePath, ResolveError, TranslationUnit};
 
 /// The modules of a bundle, each read when it is asked for. They are virtual: a module of a bundle has no source.

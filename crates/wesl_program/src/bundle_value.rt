@@ -1,15 +1,15 @@
 //! The bytes of a bundle, read.
 ghost use Rattle.std.specs.Prelude.{◌≡◌, false, IfOk, IfErr};
 ghost use Rattle.wesl_names.specs.Path.{path_view, is_relative};
-ghost use Rattle.wesl_borrowed.specs.View.{borrowed_view};
+ghost use Rattle.wesl_form.specs.View.{borrowed_view};
 ghost use Rattle.wesl_bundle.specs.Views.{bundle_view};
 ghost use Rattle.wesl_program.specs.Line.{IsBundleOf, IsJsonOf, IsRefusal};
 
 use json::Scratch;
 use std::alloc::Global;
 use std::str::from_utf8;
-use wesl_borrowed::BorrowedValue;
 use wesl_bundle::{Bundle, read_bundle};
+use wesl_form::BorrowedValue;
 use wesl_json::borrowed_of_text;
 use wesl_tree::Error;
 

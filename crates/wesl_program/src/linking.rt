@@ -1,6 +1,6 @@
 //! From a bundle to what is answered of its linked unit.
 ghost use Rattle.std.specs.Prelude.{◌≡◌, List, map, None, false, string_bytes, IfOk, IfErr};
-ghost use Rattle.wesl_names.specs.Borrowed.{texts};
+ghost use Rattle.wesl_base.specs.Borrowed.{texts};
 ghost use Rattle.serde_json.specs.View.{view};
 ghost use Rattle.serde_json.specs.Written.{has_float};
 ghost use Rattle.wesl_names.specs.Path.{path_view, is_relative};
@@ -10,7 +10,7 @@ ghost use Rattle.wesl_tree.specs.Translation.{unit_view};
 ghost use Rattle.wesl_bundle.specs.PackageViews.{packages_view};
 ghost use Rattle.wesl_bundle.specs.Views.{bundle_view, module_view};
 ghost use Rattle.wesl_linker.specs.Worlds.{Module};
-ghost use Rattle.wesl_source_map.specs.Records.{SameItems};
+ghost use Rattle.wesl_map_entries.specs.Records.{SameItems};
 ghost use Rattle.wesl_source_map.specs.BasicView.{items};
 ghost use Rattle.wesl_link.specs.Linking.{RefusesLinkLeft};
 ghost use Rattle.wesl_mapped_link.specs.Mapping.{MapsLinkLeft};
@@ -31,10 +31,11 @@ use crate::stored_text::StoredText;
 use crate::validity::check_valid;
 use std::alloc::{AllocError, Global};
 use wesl_bundle::{BuiltinNames, Bundle, BundleModule, Options, Package};
-use wesl_clash::names_clash;
 use wesl_features::Features;
 use wesl_mapped_link::{Mapped, link_mapped};
-use wesl_resolve::{Resolver, StandardResolver};
+use wesl_resolve::StandardResolver;
+use wesl_resolver::Resolver;
+use wesl_scope::names_clash;
 use wesl_source_map::SourceMapper;
 use wesl_tree::{Error, ModulePath};
 

@@ -1,6 +1,6 @@
 //! The modules of a bundle.
 ghost use Rattle.std.specs.Prelude.{◌≡◌, ◌++◌, ◌∷◌, [], List, IfOk, IfErr, OnOk, option_map};
-ghost use Rattle.wesl_borrowed.specs.View.{borrowed_view};
+ghost use Rattle.wesl_form.specs.View.{borrowed_view};
 ghost use Rattle.wesl_names.specs.Path.{path_view};
 ghost use Rattle.wesl_program.specs.Bundle.{Module};
 ghost use Rattle.wesl_program.specs.Hands.{unit_in};
@@ -8,8 +8,8 @@ ghost use Rattle.wesl_bundle.specs.declared.members.BundleError.TheVariants.{Mem
 
 use indexmap::IndexMap;
 use std::alloc::Global;
-use wesl_borrowed::BorrowedValue;
 use wesl_bundle::BundleError;
+use wesl_form::BorrowedValue;
 use wesl_tree::ModulePath;
 
 /// The value of the unit at each path, of a path that stands twice the later. No unit is read yet.

@@ -5,7 +5,7 @@ ghost use Rattle.wesl_reading.specs.Faults.{place_of};
 
 use std::alloc::Global;
 use wesl_json::JsonText;
-use wesl_resolve::UnitText;
+use wesl_resolver::UnitText;
 use wesl_tree::{Diagnostic, Error, TranslationUnit};
 
 /// Units as compact JSON. A text that is no JSON is refused as a tree that breaks its form at its root: `NotJson` speaks

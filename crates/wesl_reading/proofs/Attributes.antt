@@ -10,7 +10,7 @@ use Rattle.wesl_form.specs.Schema.{SpelledLabel, look, labelled, leaf_of, Form, 
 use Rattle.wesl_form.specs.Words.{attribute_words}
 use Rattle.wesl_form.specs.Nodes.{whole_form, nodes_of, shorts_of, attribute_nodes}
 use Rattle.wesl_form.specs.Reading.{known_keys}
-use Rattle.wesl_borrowed.specs.Keys.{has_only}
+use Rattle.wesl_form.specs.Keys.{has_only}
 use Rattle.wesl_form.specs.Place.{field, fields, find_field, IsWrongLeaf, IsWrongNode, IsWrongValue}
 use Rattle.wesl_reading.specs.Faults.{IsAtRoot, Locates, LocatesMember, LocatesInside, LocatesText}
 use Rattle.wesl_reading.specs.Forms.{HasWord, attribute_of, attribute_text, attribute_kind, attribute_row}

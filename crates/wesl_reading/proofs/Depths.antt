@@ -4,8 +4,8 @@ use Rattle.std.specs.Ordering.{match_ordering}
 use Rattle.std.specs.Cmp.Lexicographic.{slice_cmp}
 use Rattle.serde_json.specs.Data.{Data, Items, items_depth, null, boolean, number, string, array, object, Members, no_members, member, depth, members_depth}
 use Rattle.serde_json.specs.Find.{get, at, get_item, get_member, as_array}
-use Rattle.wesl_borrowed.specs.View.{borrowed_view, items_view}
-use Rattle.wesl_borrowed.specs.declared.value.BorrowedValue.{BorrowedValue}
+use Rattle.wesl_form.specs.View.{borrowed_view, items_view}
+use Rattle.wesl_form.specs.declared.value.BorrowedValue.{BorrowedValue}
 
 get_member-depth_at : (o : Ordering) (k : List ℕ) (d e : Data) (ms : Members) → (get_member k ms ≡ Some d → depth d ≤ members_depth ms) → match_ordering o (get_member k ms) (Some e) (get_member k ms) ≡ Some d → depth d ≤ max (depth e) (members_depth ms)
 get_member-depth_at Less k d e ms below h = let low = below h in omega arith

@@ -12,7 +12,7 @@ use Rattle.wesl_form.specs.Schema.{SpelledLabel, look, Form, node, leaf, list_of
 use Rattle.wesl_form.specs.Words.{unary_words, binary_words}
 use Rattle.wesl_form.specs.Nodes.{whole_form, nodes_of, shorts_of, expression_words, type_or_identifier_node, type_row, call_row}
 use Rattle.wesl_form.specs.Reading.{label_in, known_keys, word_in, literal_in, name_in}
-use Rattle.wesl_borrowed.specs.Keys.{has_only}
+use Rattle.wesl_form.specs.Keys.{has_only}
 use Rattle.wesl_form.specs.Place.{field, fields, find_field, IsWrongLeaf}
 use Rattle.wesl_reading.specs.Faults.{IsAtRoot, Locates, LocatesMember, LocatesInside, LocatesText, LocatesRow}
 use Rattle.wesl_reading.specs.Forms.{HasWord, expression_of, expression_text, expression_head, expression_row}

@@ -7,6 +7,7 @@ pub mod Members
 pub mod Steps
 pub mod Exits
 pub mod Wholes
+pub mod Within
 pub mod ReadLists
 pub mod Expressions
 pub mod Arguments
@@ -14,3 +15,4 @@ pub mod Trees
 pub mod Wheres
 pub mod NameLists
 pub mod Attributes
+pub mod Keyed

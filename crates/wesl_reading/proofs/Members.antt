@@ -10,7 +10,7 @@ use Rattle.wesl_syntax.specs.Unit.{name_in}
 use Rattle.wesl_form.specs.Schema.{Spelled, SpelledForest, SpelledLabel, leaf_of, labelled, look, Form, leaf, list_of, node, Leaf, an_ident, Name, an_expression, chosen, Node}
 use Rattle.wesl_form.specs.Nodes.{shorts_of, short_type, short_expression}
 use Rattle.wesl_form.specs.Reading.{reading, leaf_label, name_in as name_of, word_in, needed, optional, or_empty, empty_of, children_in, node_in, label_in, known_keys}
-use Rattle.wesl_borrowed.specs.Keys.{has_only}
+use Rattle.wesl_form.specs.Keys.{has_only}
 use Rattle.wesl_form.specs.Units.{NumberedFrom}
 use Rattle.wesl_form.specs.Nodes.{whole_form, nodes_of}
 use Rattle.wesl_reading.specs.Forms.{HasWord}

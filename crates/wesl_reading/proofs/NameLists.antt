@@ -5,8 +5,8 @@ use Rattle.std.proofs.lemmas.List.{take_more, take_all}
 use Rattle.std.proofs.lemmas.Result.{IfOk-at_ok, IfErr-at_err, IfOk-weaker, IfErr-weaker}
 use Rattle.serde_json.specs.Data.{Data}
 use Rattle.serde_json.specs.Find.{at, as_array}
-use Rattle.wesl_borrowed.specs.View.{borrowed_view, items_view}
-use Rattle.wesl_borrowed.specs.declared.value.BorrowedValue.{BorrowedValue}
+use Rattle.wesl_form.specs.View.{borrowed_view, items_view}
+use Rattle.wesl_form.specs.declared.value.BorrowedValue.{BorrowedValue}
 use Rattle.wesl_names.specs.Path.{Text}
 use Rattle.wesl_names.specs.declared.errors.Error as error
 use Rattle.wesl_syntax.specs.Tree.{text, texts, leaf as leaf_tree}
@@ -14,7 +14,7 @@ use Rattle.wesl_form.specs.Schema.{leaf, some_names}
 use Rattle.wesl_form.specs.Nodes.{whole_form}
 use Rattle.wesl_form.specs.Reading.{texts_in, list_in, name_in}
 use Rattle.wesl_form.specs.Place.{IsBroken}
-use Rattle.wesl_borrowed.specs.Pointer.{index, part_text}
+use Rattle.wesl_form.specs.Pointer.{index, part_text}
 use Rattle.wesl_reading.specs.Faults.{IsUnderIndex, LocatesHere, Locates}
 use Rattle.wesl_reading.specs.Numbers.{Reads}
 use Rattle.wesl_reading.specs.Parts.{IsItemFault, IsWithItem}

@@ -8,9 +8,9 @@ use Rattle.wesl_names.specs.declared.errors.Error as error
 use Rattle.wesl_form.specs.Schema.{Form, node, leaf, list_of, Leaf, Name, Row, Node}
 use Rattle.wesl_form.specs.Nodes.{shorts_of}
 use Rattle.wesl_form.specs.Reading.{known_keys}
-use Rattle.wesl_borrowed.specs.Keys.{has_only}
+use Rattle.wesl_form.specs.Keys.{has_only}
 use Rattle.wesl_form.specs.Place.{Field, field, fields, find_field, fields_of, member_form, IsWrongLeaf, IsWrongNode, IsWrongValue, IsWrongObject, BreaksAt, IsBroken}
-use Rattle.wesl_borrowed.specs.Pointer.{Part, key, index, part_text}
+use Rattle.wesl_form.specs.Pointer.{Part, key, index, part_text}
 use Rattle.wesl_form.specs.Nodes.{whole_form, nodes_of}
 use Rattle.wesl_reading.specs.Faults.{place_of, IfPlace, IsAtRoot, IsUnder, IsUnderIndex, LocatesHere, IsTextBroken, LocatesText, IsInside, LocatesInside, IsMemberBroken, LocatesMember, IsRowBroken, LocatesRow, Locates}
 

@@ -1,101 +1,81 @@
--- Places in a list of spellings.
-use Rattle.std.proofs.Common.{◌≡◌, ℕ, suc, zero, ◌+◌, ◌<◌, List, [], ◌∷◌, ◌++◌, length, map, Bool, true, false, not, ◌||◌, cond, if◌then◌else◌, nat_lt, bytes_eq, slice_get, String, Global, string_bytes, Some, None, refl, sym, ap, ◌∙◌, subst, inl, inr, arith}
-use Rattle.std.specs.List.{position, position_or_len, list_any, IsDistinct, AllByRecursion}
+-- Names and their numbers: a table that has them in order, and a map that has the number of each.
+use Rattle.std.proofs.Common.{◌≡◌, ◌↔◌, ◌⊎◌, inl, inr, ℕ, suc, zero, Bool, true, false, cond, List, [], ◌∷◌, ◌++◌, length, Option, Some, None, slice_get, bytes_eq, refl, sym, ap, ◌∙◌, subst, true≢false}
+use Rattle.std.specs.Map.{update}
+use Rattle.std.proofs.lemmas.Option.{slice_get_within}
 use Rattle.std.proofs.lemmas.Slice.Eq.{bytes_eq-Decides}
-use Rattle.std.proofs.lemmas.List.{length-map}
 use Rattle.wesl_names.specs.Path.{Text}
 use Rattle.wesl_form.specs.Units.{AreDistinct}
 use Rattle.wesl_reading.specs.Numbers.{IsNumbered}
+use Rattle.wesl_reading.specs.Numbered.{AreNumbers}
 
-abbrev Texts : Type 0
-Texts = List (String Global)
+pub no_numbers : (at : Text → Option ℕ) → ((s : Text) → at s ≡ None) → AreNumbers [] at
+no_numbers at none s i = (λ h. (let e : None ≡ Some i = sym (none s) ∙ h in cc), λ h. cc)
 
-one : (n : ℕ) → 1 + n ≡ suc n
-one n = omega arith
+pub distinct_names : (names : List Text) (at : Text → Option ℕ) → AreNumbers names at → AreDistinct names
+distinct_names names at are i j s at_i at_j =
+    let e : Some i ≡ Some j = sym ((are s i).1 at_i) ∙ (are s j).1 at_j in cc
 
-find-case : (name : Text) (x : String Global) (xs : Texts) (n : ℕ) (b : Bool) → bytes_eq name (string_bytes x) ≡ b → (n < length xs → slice_get (map string_bytes xs) n ≡ Some name) → cond (not b) (1 + n) 0 < suc (length xs) → slice_get (map string_bytes (x ∷ xs)) (cond (not b) (1 + n) 0) ≡ Some name
-find-case name x xs n true is rest low = ap Some (sym ((bytes_eq-Decides name (string_bytes x)).0 is))
-find-case name x xs n false is rest low = ap (slice_get (map string_bytes (x ∷ xs))) (one n) ∙ rest (omega arith)
+-- a name that the map has
+pub held_number : (names : List Text) (at : Text → Option ℕ) (name : Text) (i : ℕ) → AreNumbers names at → at name ≡ Some i → IsNumbered names name i names
+held_number names at name i are h =
+    let is = (are name i).0 h in
+    record { named = is; grows = inl (refl, slice_get_within names i name is) }
 
--- the first place of a name has it
-pub find-place : (name : Text) (xs : Texts) → position_or_len (λ k. bytes_eq name (string_bytes k)) xs < length xs → slice_get (map string_bytes xs) (position_or_len (λ k. bytes_eq name (string_bytes k)) xs) ≡ Some name
-find-place name [] low = absurd (omega arith)
-find-place name (x ∷ xs) low = find-case name x xs (position_or_len (λ k. bytes_eq name (string_bytes k)) xs) (bytes_eq name (string_bytes x)) refl (find-place name xs) low
+last_name : (names : List Text) (name : Text) → slice_get (names ++ name ∷ []) (length names) ≡ Some name
+last_name [] name = refl
+last_name (x ∷ names) name = last_name names name
 
-any-case : (b c : Bool) (n m : ℕ) → (b || c) ≡ true → (c ≡ true → n < m) → cond (not b) (1 + n) 0 < suc m
-any-case true c n m h rest = omega arith
-any-case false c n m h rest = let low = rest h in omega arith
+-- a name that goes last
+pub next_number : (names : List Text) (name : Text) → IsNumbered names name (length names) (names ++ name ∷ [])
+next_number names name = record { named = last_name names name; grows = inr (refl, refl) }
 
-any-place : {X : Type 0} (p : X → Bool) (xs : List X) → list_any p xs ≡ true → position_or_len p xs < length xs
-any-place p [] h = cc
-any-place p (x ∷ xs) h = any-case (p x) (list_any p xs) (position_or_len p xs) (length xs) h (any-place p xs)
+stays_at : (names : List Text) (name s : Text) (i : ℕ) → slice_get names i ≡ Some s → slice_get (names ++ name ∷ []) i ≡ Some s
+stays_at [] name s i h = cc
+stays_at (x ∷ names) name s zero h = h
+stays_at (x ∷ names) name s (suc i) h = stays_at names name s i h
 
-none-case : (b c : Bool) (n m : ℕ) → (b || c) ≡ false → (c ≡ false → n ≡ m) → cond (not b) (1 + n) 0 ≡ suc m
-none-case true c n m h rest = cc
-none-case false c n m h rest = let same = rest h in omega arith
+was_at : (names : List Text) (name s : Text) (i : ℕ) → slice_get (names ++ name ∷ []) i ≡ Some s → (slice_get names i ≡ Some s) ⊎ ((i ≡ length names) × (s ≡ name))
+was_at [] name s zero h = inr (refl, cc)
+was_at [] name s (suc i) h = cc
+was_at (x ∷ names) name s zero h = inl h
+was_at (x ∷ names) name s (suc i) h = elim (was_at names name s i h) [
+  | inl a ↦ inl a
+  | inr b ↦ inr (ap suc b.0, b.1)
+]
 
-none-place : {X : Type 0} (p : X → Bool) (xs : List X) → list_any p xs ≡ false → position_or_len p xs ≡ length xs
-none-place p [] h = refl
-none-place p (x ∷ xs) h = none-case (p x) (list_any p xs) (position_or_len p xs) (length xs) h (none-place p xs)
+-- the map and the table take one more name
+module _ (names : List Text) (name : Text) (at new : Text → Option ℕ) (are : AreNumbers names at) (free : at name ≡ None) (put : (s : Text) → new s ≡ update bytes_eq at name (Some (length names)) s) where
+  pub more_numbers : AreNumbers (names ++ name ∷ []) new
+  more_numbers s i = by (bytes_eq name s) refl
+    where
+      by : (b : Bool) → bytes_eq name s ≡ b → (new s ≡ Some i) ↔ (slice_get (names ++ name ∷ []) i ≡ Some s)
+      by true is =
+          let same : name ≡ s = (bytes_eq-Decides name s).0 is in
+          let here : new s ≡ Some (length names) = put s ∙ ap (λ c. cond c (Some (length names)) (at s)) is in
+          let there : new s ≡ Some i → slice_get (names ++ name ∷ []) i ≡ Some s = λ h. (let e : length names ≡ i = cc in subst (λ n. slice_get (names ++ name ∷ []) n ≡ Some s) e (last_name names name ∙ ap Some same)) in
+          let back : slice_get (names ++ name ∷ []) i ≡ Some s → new s ≡ Some i = λ h. elim (was_at names name s i h) [
+            | inl a ↦ (let e : None ≡ Some i = sym free ∙ (ap at same ∙ (are s i).1 a) in cc)
+            | inr b ↦ here ∙ ap Some (sym b.0)
+          ] in
+          (there, back)
+      by false is =
+          let kept : new s ≡ at s = put s ∙ ap (λ c. cond c (Some (length names)) (at s)) is in
+          let back : slice_get (names ++ name ∷ []) i ≡ Some s → new s ≡ Some i = λ h. elim (was_at names name s i h) [
+            | inl a ↦ kept ∙ (are s i).1 a
+            | inr b ↦ absurd (true≢false (sym ((bytes_eq-Decides name s).1 (sym b.1)) ∙ is))
+          ] in
+          (λ h. stays_at names name s i ((are s i).0 (sym kept ∙ h)), back)
 
-position-case : (b : Bool) (n i m : ℕ) → nat_lt n m ≡ b → cond b (Some n) None ≡ Some i → (n ≡ i) × (nat_lt n m ≡ true)
-position-case true n i m is h = (cc, is)
-position-case false n i m is h = cc
+-- what the map took is taken out again
+module _ (names : List Text) (name : Text) (i : ℕ) (at mid new : Text → Option ℕ) (are : AreNumbers names at) (free : at name ≡ None) (put : (s : Text) → mid s ≡ update bytes_eq at name (Some i) s) (out : (s : Text) → new s ≡ update bytes_eq mid name None s) where
+  back_again : (s : Text) → new s ≡ at s
+  back_again s = by (bytes_eq name s) refl
+    where
+      by : (b : Bool) → bytes_eq name s ≡ b → new s ≡ at s
+      by true is =
+          let same : name ≡ s = (bytes_eq-Decides name s).0 is in
+          out s ∙ (ap (λ c. cond c None (mid s)) is ∙ (sym free ∙ ap at same))
+      by false is = out s ∙ (ap (λ c. cond c None (mid s)) is ∙ (put s ∙ ap (λ c. cond c (Some i) (at s)) is))
 
-pub position-found : (name : Text) (xs : Texts) (i : ℕ) → position (λ k. bytes_eq name (string_bytes k)) xs ≡ Some i → i < length xs → IsNumbered (map string_bytes xs) name i (map string_bytes xs)
-position-found name xs i h low =
-    let n = position_or_len (λ k. bytes_eq name (string_bytes k)) xs in
-    let found = position-case (nat_lt n (length xs)) n i (length xs) refl h in
-    let same : n ≡ i = found.0 in
-    let within : n < length xs = subst (λ x. x < length xs) (sym same) low in
-    record {
-      named = ap (slice_get (map string_bytes xs)) (sym same) ∙ find-place name xs within;
-      grows = inl (refl, subst (λ x. i < x) (sym (length-map xs string_bytes)) low);
-    }
-
-map-then : (xs : Texts) (x : String Global) → map string_bytes (xs ++ x ∷ []) ≡ map string_bytes xs ++ string_bytes x ∷ []
-map-then [] x = refl
-map-then (y ∷ xs) x = ap (λ r. string_bytes y ∷ r) (map-then xs x)
-
-last-text : (xs : Texts) (x : String Global) → slice_get (map string_bytes xs ++ string_bytes x ∷ []) (length xs) ≡ Some (string_bytes x)
-last-text [] x = refl
-last-text (y ∷ xs) x = last-text xs x
-
--- an insert at the end, or none where the name is there
-pub inserted : (x : String Global) (xs ys : Texts) (i : ℕ) (b : Bool) → list_any (λ k. bytes_eq (string_bytes x) (string_bytes k)) xs ≡ b → ys ≡ (if b then xs else xs ++ x ∷ []) → i ≡ position_or_len (λ k. bytes_eq (string_bytes x) (string_bytes k)) xs → IsNumbered (map string_bytes xs) (string_bytes x) i (map string_bytes ys)
-inserted x xs ys i true any grown is =
-    let within = any-place (λ k. bytes_eq (string_bytes x) (string_bytes k)) xs any in
-    let same : map string_bytes ys ≡ map string_bytes xs = ap (map string_bytes) grown in
-    record {
-      named = ap (λ zs. slice_get zs i) same ∙ ap (slice_get (map string_bytes xs)) is ∙ find-place (string_bytes x) xs within;
-      grows = inl (same, subst (λ n. i < n) (sym (length-map xs string_bytes)) (subst (λ n. n < length xs) (sym is) within));
-    }
-inserted x xs ys i false any grown is =
-    let last = none-place (λ k. bytes_eq (string_bytes x) (string_bytes k)) xs any in
-    let same : map string_bytes ys ≡ map string_bytes xs ++ string_bytes x ∷ [] = ap (map string_bytes) grown ∙ map-then xs x in
-    record {
-      named = ap (λ zs. slice_get zs i) same ∙ ap (slice_get (map string_bytes xs ++ string_bytes x ∷ [])) (is ∙ last) ∙ last-text xs x;
-      grows = inr (same, is ∙ last ∙ sym (length-map xs string_bytes));
-    }
-
--- ---- distinct names
-
-abbrev differ : String Global → String Global → Bool
-differ a b = bytes_eq (string_bytes a) (string_bytes b)
-
-apart : (x : String Global) (xs : Texts) (i : ℕ) (s : Text) → AllByRecursion (λ y. differ x y ≡ false) xs → slice_get (map string_bytes xs) i ≡ Some s → string_bytes x ≡ s → ⊥
-apart x [] i s all at is = cc
-apart x (y ∷ xs) zero s all at is =
-    let same : string_bytes x ≡ string_bytes y = cc in
-    let yes : bytes_eq (string_bytes x) (string_bytes y) ≡ true = (bytes_eq-Decides (string_bytes x) (string_bytes y)).1 same in
-    let no : bytes_eq (string_bytes x) (string_bytes y) ≡ false = all.0 in
-    cc
-apart x (y ∷ xs) (suc i) s all at is = apart x xs i s all.1 at is
-
-pub distinct-texts : (xs : Texts) → IsDistinct differ xs → AreDistinct (map string_bytes xs)
-unfolding IsDistinct
-distinct-texts [] all i j s at_i at_j = cc
-distinct-texts (x ∷ xs) all zero zero s at_i at_j = refl
-distinct-texts (x ∷ xs) all zero (suc j) s at_i at_j = absurd (apart x xs j s all.0 at_j (cc))
-distinct-texts (x ∷ xs) all (suc i) zero s at_i at_j = absurd (apart x xs i s all.0 at_i (cc))
-distinct-texts (x ∷ xs) all (suc i) (suc j) s at_i at_j = ap suc (distinct-texts xs all.1 i j s at_i at_j)
+  pub same_numbers : AreNumbers names new
+  same_numbers s j = subst (λ o. (o ≡ Some j) ↔ (slice_get names j ≡ Some s)) (sym (back_again s)) (are s j)

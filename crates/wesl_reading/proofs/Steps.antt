@@ -9,7 +9,7 @@ use Rattle.wesl_syntax.specs.Tree.{Kind, Role, Label, Tree, Forest, kind, at, id
 use Rattle.wesl_form.specs.Schema.{SpelledLabel, leaf_of, look, Form, a_type, an_expression, node, leaf, list_of, Leaf, an_ident, Name, Head, Row, nothing, needs, may, many, inner, Node}
 use Rattle.wesl_form.specs.Nodes.{whole_form, nodes_of, by_word, NodeWords}
 use Rattle.wesl_form.specs.Reading.{reading, leaf_label, name_in as name_of, label_in, known_keys}
-use Rattle.wesl_borrowed.specs.Keys.{has_only}
+use Rattle.wesl_form.specs.Keys.{has_only}
 use Rattle.wesl_form.specs.Place.{field, fields, find_field, IsWrongLeaf}
 use Rattle.wesl_reading.specs.Forms.{HasWord, worded_node}
 use Rattle.wesl_reading.specs.Numbers.{IsNumbered, Reads, ReadsNeeded, ReadsMay, ReadsMany, ReadsPlain, ReadsRows, ReadsNode, ReadsRow}

@@ -7,7 +7,7 @@ use Rattle.wesl_names.specs.declared.errors.Error as error
 use Rattle.wesl_form.specs.Schema.{Form, Row}
 use Rattle.wesl_form.specs.Nodes.{short_type}
 use Rattle.wesl_form.specs.Place.{Field, fields, find_field, IsWrongObject, BreaksAt, IsBroken}
-use Rattle.wesl_borrowed.specs.Pointer.{Part, key, index, part_text, pointer_text}
+use Rattle.wesl_form.specs.Pointer.{Part, key, index, part_text, pointer_text}
 use Rattle.wesl_form.specs.Nodes.{whole_form}
 
 -- the place that an error tells, if it tells one

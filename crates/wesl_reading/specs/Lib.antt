@@ -1,4 +1,6 @@
 pub mod Faults
 pub mod Numbers
+pub mod Numbered
 pub mod Forms
 pub mod Parts
+pub mod Keyed

@@ -8,7 +8,7 @@ use Rattle.wesl_syntax.specs.Unit.{name_in}
 use Rattle.wesl_form.specs.Schema.{Spelled, SpelledForest, Form, Row, Node}
 use Rattle.wesl_form.specs.Nodes.{short_type, type_row}
 use Rattle.wesl_form.specs.Reading.{known_keys, reading, needed, optional, or_empty, empty_of, children_in, node_in}
-use Rattle.wesl_borrowed.specs.Keys.{has_only}
+use Rattle.wesl_form.specs.Keys.{has_only}
 use Rattle.wesl_form.specs.Units.{NumberedFrom, HasNoSpan, same_number}
 use Rattle.wesl_form.specs.Nodes.{whole_form}
 

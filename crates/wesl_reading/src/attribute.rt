@@ -1,23 +1,25 @@
 //! Reading attributes.
-ghost use Rattle.std.specs.Prelude.{◌≡◌, [], ◌∷◌, List, ℕ, MatchOption, None, Some, IfOk, IfErr, codes};
+ghost use Rattle.std.specs.Prelude.{◌≡◌, [], ◌∷◌, List, ℕ, MatchOption, None, Some, IfOk, IfErr, codes, map, true};
 ghost use Rattle.serde_json.specs.Find.{as_str};
-ghost use Rattle.wesl_borrowed.specs.View.{borrowed_view};
+ghost use Rattle.wesl_form.specs.Keys.{has_only};
+ghost use Rattle.wesl_form.specs.View.{borrowed_view};
 ghost use Rattle.wesl_syntax.specs.Tree.{Kind, attribute_node, attributes as attributes_kind, branch, kind};
 ghost use Rattle.wesl_syntax.specs.View.{attribute_view, attributes_tree, expression_tree, placed};
 ghost use Rattle.wesl_form.specs.Schema.{an_attribute, list_of, look, node as node_form};
 ghost use Rattle.wesl_form.specs.Words.{attribute_words};
 ghost use Rattle.wesl_reading.specs.Faults.{Locates, LocatesInside};
 ghost use Rattle.wesl_reading.specs.Forms.{HasWord, attribute_text, operand_kind, operand_text};
+ghost use Rattle.wesl_reading.specs.Keyed.{LocatesKeyed};
 ghost use Rattle.wesl_reading.specs.Numbers.{Reads, ReadsMany};
 
 use crate::expression::{expression_member, optional_expression, optional_expressions};
 use crate::fields::{own_name, own_text, under, wrong};
-use crate::joined::{room, with_item};
+use crate::joined::{inside, room, with_item};
 use crate::names::names_member;
 use crate::numbering::Numbering;
 use crate::words::{AttributeWord, OperandWord, attribute_word};
 use std::alloc::Global;
-use wesl_borrowed::BorrowedValue;
+use wesl_form::BorrowedValue;
 use wesl_names::{Error, Span};
 use wesl_syntax::{Attribute, AttributeNode, Attributes, ExpressionNode, Spanned};
 
@@ -34,10 +36,24 @@ pub fn attributes_member(
     let Some(member) = value.get(key) else {
         return Ok(Vec::new(alloc));
     };
-    match read_attributes(alloc, numbering, member) {
-        Ok(attributes) => Ok(attributes),
-        Err(error) => Err(under(alloc, error, key)),
+    inside(alloc, key, read_attributes(alloc, numbering, member))
+}
+
+/// The attributes at `attrs`, of an object that has no keys but these.
+pub fn keyed_attributes(
+    alloc: Global,
+    numbering: &mut Numbering,
+    value: &BorrowedValue<'_>,
+    known: &[&str],
+) -> Result<Attributes, Error>
+    ensures keys { IfOk result (λ _. has_only (map (λ k. k.now) known.now) (borrowed_view value.now) ≡ true) }
+    ensures ok { IfOk result (λ e. ReadsMany (codes "attrs") (list_of attributes_kind an_attribute) (borrowed_view value.now) (attributes_tree e) numbering.old numbering.new) }
+    ensures place { IfErr result (LocatesKeyed (map (λ k. k.now) known.now) (codes "attrs") (list_of attributes_kind an_attribute) (borrowed_view value.now)) }
+{
+    if !wesl_form::has_only(value, known) {
+        return Err(wrong(alloc));
     }
+    attributes_member(alloc, numbering, value, "attrs")
 }
 
 fn read_attributes(
@@ -168,7 +184,7 @@ fn read_operand(
     ensures ok { IfOk result (λ e. Reads (node_form an_attribute) (borrowed_view value.now) (placed attribute_view attribute_node e) numbering.old numbering.new) }
     ensures place { IfErr result (Locates (node_form an_attribute) (borrowed_view value.now)) }
 {
-    if !wesl_borrowed::has_only(value, &["k", "expr"]) {
+    if !wesl_form::has_only(value, &["k", "expr"]) {
         return Err(wrong(alloc));
     }
     match expression_member(alloc, numbering, value, "expr") {
@@ -186,7 +202,7 @@ fn read_workgroup_size(
     ensures ok { IfOk result (λ e. Reads (node_form an_attribute) (borrowed_view value.now) (placed attribute_view attribute_node e) numbering.old numbering.new) }
     ensures place { IfErr result (Locates (node_form an_attribute) (borrowed_view value.now)) }
 {
-    if !wesl_borrowed::has_only(value, &["k", "x", "y", "z"]) {
+    if !wesl_form::has_only(value, &["k", "x", "y", "z"]) {
         return Err(wrong(alloc));
     }
     match expression_member(alloc, numbering, value, "x") {
@@ -206,7 +222,7 @@ fn read_builtin(alloc: Global, value: &BorrowedValue<'_>) -> Result<AttributeNod
     ensures ok { IfOk result (λ e. (names : List (List ℕ)) → Reads (node_form an_attribute) (borrowed_view value.now) (placed attribute_view attribute_node e) names names) }
     ensures place { IfErr result (Locates (node_form an_attribute) (borrowed_view value.now)) }
 {
-    if !wesl_borrowed::has_only(value, &["k", "name"]) {
+    if !wesl_form::has_only(value, &["k", "name"]) {
         return Err(wrong(alloc));
     }
     match own_name(alloc, value, "name") {
@@ -220,7 +236,7 @@ fn read_diagnostic(alloc: Global, value: &BorrowedValue<'_>) -> Result<Attribute
     ensures ok { IfOk result (λ e. (names : List (List ℕ)) → Reads (node_form an_attribute) (borrowed_view value.now) (placed attribute_view attribute_node e) names names) }
     ensures place { IfErr result (Locates (node_form an_attribute) (borrowed_view value.now)) }
 {
-    if !wesl_borrowed::has_only(value, &["k", "severity", "rule"]) {
+    if !wesl_form::has_only(value, &["k", "severity", "rule"]) {
         return Err(wrong(alloc));
     }
     match own_text(alloc, value, "severity") {
@@ -241,7 +257,7 @@ fn read_custom(
     ensures ok { IfOk result (λ e. Reads (node_form an_attribute) (borrowed_view value.now) (placed attribute_view attribute_node e) numbering.old numbering.new) }
     ensures place { IfErr result (Locates (node_form an_attribute) (borrowed_view value.now)) }
 {
-    if !wesl_borrowed::has_only(value, &["k", "name", "args"]) {
+    if !wesl_form::has_only(value, &["k", "name", "args"]) {
         return Err(wrong(alloc));
     }
     match own_name(alloc, value, "name") {
@@ -258,7 +274,7 @@ fn read_interpolate(alloc: Global, value: &BorrowedValue<'_>) -> Result<Attribut
     ensures ok { IfOk result (λ e. (names : List (List ℕ)) → Reads (node_form an_attribute) (borrowed_view value.now) (placed attribute_view attribute_node e) names names) }
     ensures place { IfErr result (Locates (node_form an_attribute) (borrowed_view value.now)) }
 {
-    if !wesl_borrowed::has_only(value, &["k", "names"]) {
+    if !wesl_form::has_only(value, &["k", "names"]) {
         return Err(wrong(alloc));
     }
     match names_member(alloc, value, "names") {

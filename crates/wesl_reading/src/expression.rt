@@ -2,7 +2,7 @@
 ghost use Rattle.std.specs.Box.{box_value};
 ghost use Rattle.std.specs.Prelude.{◌≡◌, ◌∷◌, List, [], ℕ, Some, None, Ok, Err, IfOk, IfErr, codes, is_some, true};
 ghost use Rattle.serde_json.specs.Find.{as_object, get};
-ghost use Rattle.wesl_borrowed.specs.View.{borrowed_view};
+ghost use Rattle.wesl_form.specs.View.{borrowed_view};
 ghost use Rattle.wesl_syntax.specs.Tree.{branch, ident, leaf as leaf_tree, list, reference, template_argument};
 ghost use Rattle.wesl_form.specs.Nodes.{type_row};
 ghost use Rattle.wesl_form.specs.Reading.{name_in};
@@ -15,13 +15,13 @@ ghost use Rattle.wesl_reading.specs.Forms.{HasExpressionWord, HasWord};
 ghost use Rattle.wesl_reading.specs.Numbers.{IsNumbered, Reads, ReadsMany, ReadsMay, ReadsNeeded, ReadsPlain, ReadsType};
 
 use crate::fields::{name_member, name_of, own_literal, own_name, path_of, under, wrong};
-use crate::joined::{boxed, room, with_item};
+use crate::joined::{boxed, inside, inside_option, room, with_item};
 use crate::numbering::Numbering;
 use crate::words::{
     ExpressionWord, binary_operator_member, expression_word, unary_operator_member,
 };
 use std::alloc::Global;
-use wesl_borrowed::BorrowedValue;
+use wesl_form::BorrowedValue;
 use wesl_names::{Error, Ident, ModulePath, Span};
 use wesl_syntax::{
     Expression, ExpressionNode, FunctionCall, Literal, Spanned, TemplateArg, TypeExpression,
@@ -116,7 +116,7 @@ fn read_literal(alloc: Global, value: &BorrowedValue<'_>) -> Result<ExpressionNo
     ensures ok { IfOk result (λ e. (names : List (List ℕ)) → Reads (node_form an_expression) (borrowed_view value.now) (expression_tree e) names names) }
     ensures place { IfErr result (Locates (node_form an_expression) (borrowed_view value.now)) }
 {
-    if !wesl_borrowed::has_only(value, &["k", "text"]) {
+    if !wesl_form::has_only(value, &["k", "text"]) {
         return Err(wrong(alloc));
     }
     match own_literal(alloc, value, "text") {
@@ -135,7 +135,7 @@ fn read_parenthesized(
     ensures ok { IfOk result (λ e. Reads (node_form an_expression) (borrowed_view value.now) (expression_tree e) numbering.old numbering.new) }
     ensures place { IfErr result (Locates (node_form an_expression) (borrowed_view value.now)) }
 {
-    if !wesl_borrowed::has_only(value, &["k", "expr"]) {
+    if !wesl_form::has_only(value, &["k", "expr"]) {
         return Err(wrong(alloc));
     }
     match boxed_member(alloc, numbering, value, "expr") {
@@ -154,7 +154,7 @@ fn read_component(
     ensures ok { IfOk result (λ e. Reads (node_form an_expression) (borrowed_view value.now) (expression_tree e) numbering.old numbering.new) }
     ensures place { IfErr result (Locates (node_form an_expression) (borrowed_view value.now)) }
 {
-    if !wesl_borrowed::has_only(value, &["k", "base", "name"]) {
+    if !wesl_form::has_only(value, &["k", "base", "name"]) {
         return Err(wrong(alloc));
     }
     match boxed_member(alloc, numbering, value, "base") {
@@ -176,7 +176,7 @@ fn read_indexing(
     ensures ok { IfOk result (λ e. Reads (node_form an_expression) (borrowed_view value.now) (expression_tree e) numbering.old numbering.new) }
     ensures place { IfErr result (Locates (node_form an_expression) (borrowed_view value.now)) }
 {
-    if !wesl_borrowed::has_only(value, &["k", "base", "index"]) {
+    if !wesl_form::has_only(value, &["k", "base", "index"]) {
         return Err(wrong(alloc));
     }
     match boxed_member(alloc, numbering, value, "base") {
@@ -198,7 +198,7 @@ fn read_unary(
     ensures ok { IfOk result (λ e. Reads (node_form an_expression) (borrowed_view value.now) (expression_tree e) numbering.old numbering.new) }
     ensures place { IfErr result (Locates (node_form an_expression) (borrowed_view value.now)) }
 {
-    if !wesl_borrowed::has_only(value, &["k", "op", "expr"]) {
+    if !wesl_form::has_only(value, &["k", "op", "expr"]) {
         return Err(wrong(alloc));
     }
     match unary_operator_member(alloc, value) {
@@ -220,7 +220,7 @@ fn read_binary(
     ensures ok { IfOk result (λ e. Reads (node_form an_expression) (borrowed_view value.now) (expression_tree e) numbering.old numbering.new) }
     ensures place { IfErr result (Locates (node_form an_expression) (borrowed_view value.now)) }
 {
-    if !wesl_borrowed::has_only(value, &["k", "op", "left", "right"]) {
+    if !wesl_form::has_only(value, &["k", "op", "left", "right"]) {
         return Err(wrong(alloc));
     }
     match binary_operator_member(alloc, value) {
@@ -249,7 +249,7 @@ fn read_call_expression(
     ensures ok { IfOk result (λ e. Reads (node_form an_expression) (borrowed_view value.now) (expression_tree e) numbering.old numbering.new) }
     ensures place { IfErr result (Locates (node_form an_expression) (borrowed_view value.now)) }
 {
-    if !wesl_borrowed::has_only(value, &["k", "ty", "args"]) {
+    if !wesl_form::has_only(value, &["k", "ty", "args"]) {
         return Err(wrong(alloc));
     }
     match type_member(alloc, numbering, value, "ty") {
@@ -295,10 +295,7 @@ pub fn expression_member(
     let Some(member) = value.get(key) else {
         return Err(wrong(alloc));
     };
-    match read_expression(alloc, numbering, member) {
-        Ok(expression) => Ok(expression),
-        Err(error) => Err(under(alloc, error, key)),
-    }
+    inside(alloc, key, read_expression(alloc, numbering, member))
 }
 
 // The expression at `key`, which must be there, in a box.
@@ -329,10 +326,7 @@ pub fn expressions_member(
     let Some(member) = value.get(key) else {
         return Ok(Vec::new(alloc));
     };
-    match read_expressions(alloc, numbering, member) {
-        Ok(expressions) => Ok(expressions),
-        Err(error) => Err(under(alloc, error, key)),
-    }
+    inside(alloc, key, read_expressions(alloc, numbering, member))
 }
 
 /// The expressions that a list is.
@@ -370,10 +364,7 @@ pub fn type_member(
     let Some(member) = value.get(key) else {
         return Err(wrong(alloc));
     };
-    match read_type(alloc, numbering, member) {
-        Ok(ty) => Ok(ty),
-        Err(error) => Err(under(alloc, error, key)),
-    }
+    inside(alloc, key, read_type(alloc, numbering, member))
 }
 
 /// The type that a value is: its name alone, or an object.
@@ -436,7 +427,7 @@ fn read_type_object(
     ensures ok { IfOk result (λ e. ReadsType (borrowed_view value.now) (type_view e) numbering.old numbering.new) }
     ensures place { IfErr result (LocatesRow type_row (borrowed_view value.now)) }
 {
-    if !wesl_borrowed::has_only(value, &["path", "name", "args"]) {
+    if !wesl_form::has_only(value, &["path", "name", "args"]) {
         return Err(wrong(alloc));
     }
     match optional_path(alloc, value) {
@@ -478,10 +469,7 @@ pub fn optional_path(alloc: Global, value: &BorrowedValue<'_>) -> Result<Option<
     let Some(member) = value.get("path") else {
         return Ok(None);
     };
-    match path_of(alloc, member) {
-        Ok(path) => Ok(Some(path)),
-        Err(error) => Err(under(alloc, error, "path")),
-    }
+    inside_option(alloc, "path", path_of(alloc, member))
 }
 
 // The template arguments at `args`, an option.
@@ -497,10 +485,7 @@ fn arguments_member(
     let Some(member) = value.get("args") else {
         return Ok(None);
     };
-    match read_arguments(alloc, numbering, member) {
-        Ok(arguments) => Ok(Some(arguments)),
-        Err(error) => Err(under(alloc, error, "args")),
-    }
+    inside_option(alloc, "args", read_arguments(alloc, numbering, member))
 }
 
 #[cycle(expressions)]
@@ -542,7 +527,7 @@ pub fn read_call(
     ensures ok { IfOk result (λ e. Reads (node_form a_call) (borrowed_view value.now) (call_view e) numbering.old numbering.new) }
     ensures place { IfErr result (Locates (node_form a_call) (borrowed_view value.now)) }
 {
-    if !wesl_borrowed::has_only(value, &["ty", "args"]) {
+    if !wesl_form::has_only(value, &["ty", "args"]) {
         return Err(wrong(alloc));
     }
     match type_member(alloc, numbering, value, "ty") {
@@ -567,10 +552,7 @@ pub fn optional_expression(
     let Some(member) = value.get(key) else {
         return Ok(None);
     };
-    match read_expression(alloc, numbering, member) {
-        Ok(expression) => Ok(Some(expression)),
-        Err(error) => Err(under(alloc, error, key)),
-    }
+    inside_option(alloc, key, read_expression(alloc, numbering, member))
 }
 
 /// The expressions at `key`, a list that may be absent.
@@ -586,10 +568,7 @@ pub fn optional_expressions(
     let Some(member) = value.get(key) else {
         return Ok(None);
     };
-    match read_expressions(alloc, numbering, member) {
-        Ok(expressions) => Ok(Some(expressions)),
-        Err(error) => Err(under(alloc, error, key)),
-    }
+    inside_option(alloc, key, read_expressions(alloc, numbering, member))
 }
 
 /// The type at `key`, an option.
@@ -605,8 +584,5 @@ pub fn optional_type(
     let Some(member) = value.get(key) else {
         return Ok(None);
     };
-    match read_type(alloc, numbering, member) {
-        Ok(ty) => Ok(Some(ty)),
-        Err(error) => Err(under(alloc, error, key)),
-    }
+    inside_option(alloc, key, read_type(alloc, numbering, member))
 }

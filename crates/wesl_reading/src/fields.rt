@@ -6,16 +6,17 @@ ghost use Rattle.std.specs.Prelude.{◌≡◌, ◌∷◌, ◌++◌, map, true, f
 ghost use Rattle.std.specs.List.{list_any};
 ghost use Rattle.std.specs.Str.{bytes_eq};
 ghost use Rattle.serde_json.specs.Find.{as_str, get};
-ghost use Rattle.wesl_borrowed.specs.View.{borrowed_view};
+ghost use Rattle.wesl_form.specs.View.{borrowed_view};
 ghost use Rattle.wesl_names.specs.Path.{path_view};
-ghost use Rattle.wesl_names.specs.declared.errors.Error as error;
 ghost use Rattle.wesl_form.specs.Reading.{name_in, literal_in, path_in};
-ghost use Rattle.wesl_borrowed.specs.Keys.{all_known, has_only};
-ghost use Rattle.wesl_borrowed.specs.Pointer.{escaped};
+ghost use Rattle.wesl_form.specs.Keys.{all_known, has_only};
+ghost use Rattle.wesl_form.specs.Pointer.{escaped};
 ghost use Rattle.wesl_reading.specs.Faults.{IsAtRoot, IsUnder, IsUnderIndex, LocatesHere, LocatesText};
+ghost use Rattle.wesl_reading.specs.Parts.{IsMemoryOr, IsTextRead};
 
+use crate::joined::inside;
 use std::alloc::Global;
-use wesl_borrowed::BorrowedValue;
+use wesl_form::BorrowedValue;
 use wesl_names::{Error, ModulePath};
 
 /// The value itself is wrong.
@@ -30,7 +31,7 @@ pub fn under(alloc: Global, error: Error, key: &str) -> Error
     ensures { IsUnder key.now error result }
 {
     match error {
-        Error::BadTree(place) => match wesl_borrowed::under_key(alloc, key, place.as_str()) {
+        Error::BadTree(place) => match wesl_form::under_key(alloc, key, place.as_str()) {
             Ok(place) => Error::BadTree(place),
             Err(_) => Error::Memory,
         },
@@ -43,7 +44,7 @@ pub fn under_index(alloc: Global, error: Error, index: usize) -> Error
     ensures { IsUnderIndex index error result }
 {
     match error {
-        Error::BadTree(place) => match wesl_borrowed::under_index(alloc, index, place.as_str()) {
+        Error::BadTree(place) => match wesl_form::under_index(alloc, index, place.as_str()) {
             Ok(place) => Error::BadTree(place),
             Err(_) => Error::Memory,
         },
@@ -57,7 +58,7 @@ pub fn check_keys(alloc: Global, value: &BorrowedValue<'_>, known: &[&str]) -> R
     ensures err { OnErr result (has_only (map (λ k. k.now) known.now) (borrowed_view value.now) ≡ false) }
     ensures place { IfErr result IsAtRoot }
 {
-    if wesl_borrowed::has_only(value, known) {
+    if wesl_form::has_only(value, known) {
         Ok(())
     } else {
         Err(wrong(alloc))
@@ -100,10 +101,7 @@ pub fn name_member<'a>(
     let Some(member) = value.get(key) else {
         return Err(wrong(alloc));
     };
-    match name_of(alloc, member) {
-        Ok(name) => Ok(name),
-        Err(error) => Err(under(alloc, error, key)),
-    }
+    inside(alloc, key, name_of(alloc, member))
 }
 
 // The text of a literal, which is not empty and no truth value.
@@ -129,10 +127,7 @@ pub fn literal_member<'a>(
     let Some(member) = value.get(key) else {
         return Err(wrong(alloc));
     };
-    match literal_of(alloc, member) {
-        Ok(text) => Ok(text),
-        Err(error) => Err(under(alloc, error, key)),
-    }
+    inside(alloc, key, literal_of(alloc, member))
 }
 
 /// The path that a text says.
@@ -157,10 +152,7 @@ pub fn path_member(alloc: Global, value: &BorrowedValue<'_>, key: &str) -> Resul
     let Some(member) = value.get(key) else {
         return Err(wrong(alloc));
     };
-    match path_of(alloc, member) {
-        Ok(path) => Ok(path),
-        Err(error) => Err(under(alloc, error, key)),
-    }
+    inside(alloc, key, path_of(alloc, member))
 }
 
 // Any text.
@@ -186,20 +178,20 @@ pub fn text_member<'a>(
     let Some(member) = value.get(key) else {
         return Err(wrong(alloc));
     };
-    match text_of(alloc, member) {
-        Ok(text) => Ok(text),
-        Err(error) => Err(under(alloc, error, key)),
-    }
+    inside(alloc, key, text_of(alloc, member))
 }
 
-// A text of its own.
-fn owned(alloc: Global, text: &str) -> Result<String, Error>
-    ensures text { IfOk result (λ s. string_bytes s ≡ text.now) }
-    ensures refused { IfErr result (λ e. e ≡ error.Memory) }
+/// What is read, as a text of its own.
+pub fn owned(alloc: Global, read: Result<&str, Error>) -> Result<String, Error>
+    ensures text { IfOk result (λ s. IsTextRead (λ t. t.now) read.entry (string_bytes s)) }
+    ensures place { IfErr result (IsMemoryOr read.entry) }
 {
-    match String::from_str(alloc, text) {
-        Ok(text) => Ok(text),
-        Err(_) => Err(Error::Memory),
+    match read {
+        Ok(text) => match String::from_str(alloc, text) {
+            Ok(own) => Ok(own),
+            Err(_) => Err(Error::Memory),
+        },
+        Err(error) => Err(error),
     }
 }
 
@@ -208,10 +200,7 @@ pub(crate) fn own_name_of(alloc: Global, value: &BorrowedValue<'_>) -> Result<St
     ensures ok { IfOk result (λ s. name_in (borrowed_view value.now) ≡ Some (string_bytes s)) }
     ensures place { IfErr result (LocatesHere (name_in (borrowed_view value.now))) }
 {
-    match name_of(alloc, value) {
-        Ok(name) => owned(alloc, name),
-        Err(error) => Err(error),
-    }
+    owned(alloc, name_of(alloc, value))
 }
 
 /// The name at `key`, as a text of its own.
@@ -219,10 +208,7 @@ pub(crate) fn own_name(alloc: Global, value: &BorrowedValue<'_>, key: &str) -> R
     ensures ok { IfOk result (λ s. option_and_then name_in (get key.now (borrowed_view value.now)) ≡ Some (string_bytes s)) }
     ensures place { IfErr result (LocatesText name_in key.now (borrowed_view value.now)) }
 {
-    match name_member(alloc, value, key) {
-        Ok(text) => owned(alloc, text),
-        Err(error) => Err(error),
-    }
+    owned(alloc, name_member(alloc, value, key))
 }
 
 /// The text of the literal at `key`, as a text of its own.
@@ -234,10 +220,7 @@ pub(crate) fn own_literal(
     ensures ok { IfOk result (λ s. option_and_then literal_in (get key.now (borrowed_view value.now)) ≡ Some (string_bytes s)) }
     ensures place { IfErr result (LocatesText literal_in key.now (borrowed_view value.now)) }
 {
-    match literal_member(alloc, value, key) {
-        Ok(text) => owned(alloc, text),
-        Err(error) => Err(error),
-    }
+    owned(alloc, literal_member(alloc, value, key))
 }
 
 /// The text at `key`, which may be empty, as a text of its own.
@@ -245,8 +228,5 @@ pub(crate) fn own_text(alloc: Global, value: &BorrowedValue<'_>, key: &str) -> R
     ensures ok { IfOk result (λ s. option_and_then as_str (get key.now (borrowed_view value.now)) ≡ Some (string_bytes s)) }
     ensures place { IfErr result (LocatesText as_str key.now (borrowed_view value.now)) }
 {
-    match text_member(alloc, value, key) {
-        Ok(text) => owned(alloc, text),
-        Err(error) => Err(error),
-    }
+    owned(alloc, text_member(alloc, value, key))
 }

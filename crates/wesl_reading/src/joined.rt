@@ -1,16 +1,43 @@
-//! What is read of items and put into lists, and what is read and put into a box.
+//! What is read of members, of items and put into lists, and what is read and put into a box.
 //!
-//! What is read is handed on as it is, a fault too, so that a list has one place where it asks for faults.
+//! What is read is handed on as it is, a fault too, so that one place asks for the faults of members, and a list has
+//! one for those of its items.
 ghost use Rattle.std.specs.Prelude.{◌≡◌, [], Ok, IfOk, IfErr};
 ghost use Rattle.std.specs.Box.{box_value};
 ghost use Rattle.wesl_names.specs.declared.errors.Error as error;
-ghost use Rattle.wesl_reading.specs.Parts.{IsFaultAt, IsItemFault, IsMemoryOr, IsWithItem};
+ghost use Rattle.wesl_reading.specs.Parts.{IsFaultAt, IsFaultUnder, IsItemFault, IsMemoryOr, IsThere, IsWithItem};
 
-use crate::fields::under_index;
+use crate::fields::{under, under_index};
 use std::alloc::Global;
 use wesl_names::Error;
 
-/// What is read of the item at `index`, with its fault told of the list.
+/// What is read of the member `key`, with its fault told of the object.
+pub fn inside<T: Drop>(alloc: Global, key: &str, read: Result<T, Error>) -> Result<T, Error>
+    ensures ok { IfOk result (λ x. read ≡ Ok x) }
+    ensures place { IfErr result (IsFaultUnder key.now read) }
+{
+    match read {
+        Ok(part) => Ok(part),
+        Err(error) => Err(under(alloc, error, key)),
+    }
+}
+
+/// What is read of the member `key`, which might have been absent, with its fault told of the object.
+pub fn inside_option<T: Drop>(
+    alloc: Global,
+    key: &str,
+    read: Result<T, Error>,
+) -> Result<Option<T>, Error>
+    ensures ok { IfOk result (IsThere read) }
+    ensures place { IfErr result (IsFaultUnder key.now read) }
+{
+    match read {
+        Ok(part) => Ok(Some(part)),
+        Err(error) => Err(under(alloc, error, key)),
+    }
+}
+
+// What is read of the item at `index`, with its fault told of the list.
 fn inside_index<T: Drop>(alloc: Global, index: usize, read: Result<T, Error>) -> Result<T, Error>
     ensures ok { IfOk result (λ x. read ≡ Ok x) }
     ensures place { IfErr result (IsFaultAt index read) }

@@ -1,15 +1,15 @@
 //! Reading lists of names.
 ghost use Rattle.std.specs.Prelude.{◌≡◌, List, ℕ, Some, IfOk, IfErr};
-ghost use Rattle.wesl_borrowed.specs.View.{borrowed_view};
+ghost use Rattle.wesl_form.specs.View.{borrowed_view};
 ghost use Rattle.wesl_syntax.specs.View.{names_tree};
 ghost use Rattle.wesl_form.specs.Schema.{leaf, some_names};
 ghost use Rattle.wesl_reading.specs.Faults.{Locates, LocatesInside};
 ghost use Rattle.wesl_reading.specs.Numbers.{Reads, ReadsMany};
 
-use crate::fields::{own_name_of, under, wrong};
-use crate::joined::{room, with_item};
+use crate::fields::{own_name_of, wrong};
+use crate::joined::{inside, room, with_item};
 use std::alloc::Global;
-use wesl_borrowed::BorrowedValue;
+use wesl_form::BorrowedValue;
 use wesl_names::Error;
 
 /// The names at `key`, a list.
@@ -24,10 +24,7 @@ pub fn names_member(
     let Some(member) = value.get(key) else {
         return Ok(Vec::new(alloc));
     };
-    match read_names(alloc, member) {
-        Ok(texts) => Ok(texts),
-        Err(error) => Err(under(alloc, error, key)),
-    }
+    inside(alloc, key, read_names(alloc, member))
 }
 
 fn read_names(alloc: Global, value: &BorrowedValue<'_>) -> Result<Vec<String>, Error>

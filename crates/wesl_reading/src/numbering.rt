@@ -1,24 +1,41 @@
 //! Numbers for names: each distinct spelling gets one, by first occurrence.
-ghost use Rattle.std.specs.Prelude.{◌≡◌, ℕ, List, [], map, string_bytes, IfOk, IfErr};
+ghost use Rattle.std.specs.Prelude.{◌≡◌, ℕ, List, [], IfOk, IfErr};
 ghost use Rattle.wesl_names.specs.declared.errors.Error as error;
 ghost use Rattle.wesl_form.specs.Units.{AreDistinct};
 ghost use Rattle.wesl_reading.specs.Numbers.{IsNumbered};
 
-use indexmap::IndexSet;
 use std::alloc::Global;
+use std::collections::HashMap;
 use std::marker::Model;
 use wesl_names::{Error, Ident, Names};
 
 /// The spellings met so far, in the order of their numbers.
-#[derive(Drop)]
 pub struct Numbering {
-    spellings: IndexSet<String>,
+    names: Names,
+    // The number of each name. A map of std: a library carries all that is stated of a private field's type, but for std's.
+    numbers: HashMap<String, usize>,
+}
+
+// By hand, so that it is proved once: a derived one is proved in each crate that lets go of a value.
+impl Drop for Numbering {
+    fn drop(self) {
+        let Numbering {
+            names: _,
+            numbers: _,
+        } = self;
+    }
 }
 
 impl Model for Numbering {
+    ghost use Rattle.std.specs.Prelude.{ℕ, List};
+    ghost use Rattle.std.specs.HashMap.{get_by_text};
+    ghost use Rattle.wesl_reading.specs.Numbered.{AreNumbers};
+
     ghost Value = { List (List ℕ) };
 
-    ghost view = { λ n. map string_bytes n.spellings.keys };
+    ghost view = { λ n. n.names };
+
+    ghost invariant = { λ n. AreNumbers n.names (get_by_text n.numbers) };
 }
 
 impl Numbering {
@@ -27,7 +44,8 @@ impl Numbering {
         ensures { result ≡ [] }
     {
         Numbering {
-            spellings: IndexSet::new(alloc),
+            names: Names::new(alloc),
+            numbers: HashMap::new(alloc),
         }
     }
 
@@ -36,23 +54,27 @@ impl Numbering {
         ensures number { IfOk result (λ i. IsNumbered self.old name.now i.0 self.new) }
         ensures refused { IfErr result (λ e. e ≡ error.Memory) }
     {
-        if let Some(number) = self.spellings.get_index_of(name) {
-            return Ok(Ident(number));
+        if let Some(number) = self.numbers.get(name) {
+            return Ok(Ident(*number));
         }
-        let (number, _) = self.spellings.insert_full(String::from_str(alloc, name)?)?;
-        Ok(Ident(number))
+        let number = self.names.len();
+        self.numbers.insert(String::from_str(alloc, name)?, number)?;
+        match self.names.add(name) {
+            Ok(ident) => Ok(ident),
+            Err(refused) => {
+                self.numbers.remove(name);
+                Err(refused)
+            }
+        }
     }
 
     /// The table of the names, each at its number.
-    pub fn into_names(self, alloc: Global) -> Result<Names, Error>
+    pub fn into_names(self, _alloc: Global) -> Result<Names, Error>
         ensures names { IfOk result (λ names. names ≡ self) }
         ensures distinct { IfOk result AreDistinct }
         ensures refused { IfErr result (λ e. e ≡ error.Memory) }
     {
-        let mut names = Names::new(alloc);
-        for spelling in self.spellings.as_slice() {
-            names.add(spelling.as_str())?;
-        }
+        let Numbering { names, numbers: _ } = self;
         Ok(names)
     }
 }

@@ -1,7 +1,7 @@
 //! The words of the form.
 ghost use Rattle.std.specs.Prelude.{◌≡◌, Some, None, IfOk, IfErr, IfSome, codes, option_map, option_and_then};
 ghost use Rattle.serde_json.specs.Find.{get};
-ghost use Rattle.wesl_borrowed.specs.View.{borrowed_view};
+ghost use Rattle.wesl_form.specs.View.{borrowed_view};
 ghost use Rattle.wesl_syntax.specs.Tree.{unary, binary};
 ghost use Rattle.wesl_form.specs.Schema.{look};
 ghost use Rattle.wesl_form.specs.Words.{unary_words, binary_words};
@@ -10,9 +10,10 @@ ghost use Rattle.wesl_reading.specs.Faults.{LocatesHere, LocatesText};
 ghost use Rattle.wesl_form.specs.Nodes.{attribute_nodes, expression_words};
 ghost use Rattle.wesl_reading.specs.Forms.{attribute_of, attribute_text, expression_of, expression_text};
 
-use crate::fields::{under, wrong};
+use crate::fields::wrong;
+use crate::joined::inside;
 use std::alloc::Global;
-use wesl_borrowed::BorrowedValue;
+use wesl_form::BorrowedValue;
 use wesl_names::Error;
 use wesl_syntax::{BinaryOperator, UnaryOperator};
 
@@ -164,10 +165,7 @@ pub(crate) fn unary_operator_member(
     let Some(member) = value.get("op") else {
         return Err(wrong(alloc));
     };
-    match unary_operator_of(alloc, member) {
-        Ok(operator) => Ok(operator),
-        Err(error) => Err(under(alloc, error, "op")),
-    }
+    inside(alloc, "op", unary_operator_of(alloc, member))
 }
 
 /// The binary operator at `op`.
@@ -181,8 +179,5 @@ pub(crate) fn binary_operator_member(
     let Some(member) = value.get("op") else {
         return Err(wrong(alloc));
     };
-    match binary_operator_of(alloc, member) {
-        Ok(operator) => Ok(operator),
-        Err(error) => Err(under(alloc, error, "op")),
-    }
+    inside(alloc, "op", binary_operator_of(alloc, member))
 }

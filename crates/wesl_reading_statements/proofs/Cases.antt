@@ -10,9 +10,9 @@ use Rattle.wesl_syntax.specs.Tree.{kind, at, Tree, end, tree, before, branch, pr
 use Rattle.wesl_form.specs.Schema.{Spelled, SpelledForest, SpelledLabel, look, node, an_expression, a_case, Head, fixed, chosen, Row, nothing, inner, Node, within}
 use Rattle.wesl_form.specs.Nodes.{NodeWords, a_default_case, nodes_of, short_expression, by_word, type_or_identifier_node, expression_words, whole_form}
 use Rattle.wesl_form.specs.Reading.{Reader, reading, children_in, node_in, label_in, known_keys}
-use Rattle.wesl_borrowed.specs.Keys.{has_only}
+use Rattle.wesl_form.specs.Keys.{has_only}
 use Rattle.wesl_form.specs.Place.{Field, head_fields, fields, find_field, fields_of, member_form, IsWrongObject, IsWrongNode, IsWrongValue, BreaksAt, IsBroken}
-use Rattle.wesl_borrowed.specs.Pointer.{Part, key, index}
+use Rattle.wesl_form.specs.Pointer.{Part, key, index}
 use Rattle.wesl_reading.specs.Faults.{IsAtRoot, Locates}
 use Rattle.wesl_reading.proofs.Places.{IfPlace-more, node-row, row-keys}
 use Rattle.wesl_names.specs.declared.errors.Error as error

@@ -11,9 +11,9 @@ use Rattle.wesl_syntax.specs.declared.declaration.AccessMode.{AccessMode}
 use Rattle.wesl_form.specs.Schema.{leaf, node, Leaf, Name, Row, inner, nothing, fixed, spanned}
 use Rattle.wesl_form.specs.Nodes.{whole_form, nodes_of, shorts_of}
 use Rattle.wesl_form.specs.Reading.{known_keys}
-use Rattle.wesl_borrowed.specs.Keys.{has_only}
+use Rattle.wesl_form.specs.Keys.{has_only}
 use Rattle.wesl_form.specs.Place.{IsWrongLeaf}
-use Rattle.wesl_borrowed.specs.Pointer.{key, part_text}
+use Rattle.wesl_form.specs.Pointer.{key, part_text}
 use Rattle.wesl_reading.specs.Faults.{IsAtRoot, IsUnder, LocatesHere, LocatesText, IsTextBroken, IsInside, LocatesInside, IsMemberBroken, LocatesMember, LocatesRow, Locates}
 use Rattle.wesl_reading.specs.Numbers.{Reads, ReadsRows}
 use Rattle.wesl_reading.proofs.Places.{IfPlace-more, further, keys-place, node-row}

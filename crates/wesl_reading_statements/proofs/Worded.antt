@@ -8,7 +8,7 @@ use Rattle.wesl_syntax.specs.Tree.{Kind, Label, Tree, Forest, kind, at, end, bef
 use Rattle.wesl_form.specs.Schema.{SpelledLabel, look, node, Name, Head, Row, nothing, inner, Node}
 use Rattle.wesl_form.specs.Nodes.{whole_form, nodes_of, shorts_of, by_word, NodeWords}
 use Rattle.wesl_form.specs.Reading.{label_in, known_keys}
-use Rattle.wesl_borrowed.specs.Keys.{has_only}
+use Rattle.wesl_form.specs.Keys.{has_only}
 use Rattle.wesl_form.specs.Place.{IsWrongNode, IsWrongValue}
 use Rattle.wesl_reading.specs.Faults.{IsAtRoot, IsUnder, Locates, LocatesRow}
 use Rattle.wesl_reading.specs.Forms.{HasWord, worded_node}

@@ -10,7 +10,7 @@ use Rattle.wesl_form.specs.Schema.{Head, fixed, chosen, Row, nothing, marked, ne
 use Rattle.wesl_form.specs.Words.{assignment_words}
 use Rattle.wesl_form.specs.Nodes.{expression, one_expression, operand, attrs, body_row, condition_row, declared, space_row}
 use Rattle.wesl_form.specs.Reading.{known_keys}
-use Rattle.wesl_borrowed.specs.Keys.{has_only}
+use Rattle.wesl_form.specs.Keys.{has_only}
 use Rattle.wesl_reading.specs.Faults.{LocatesInside, LocatesMember}
 use Rattle.wesl_reading.specs.Forms.{worded_node}
 use Rattle.wesl_reading.specs.Numbers.{ReadsRows}

@@ -2,7 +2,7 @@
 //! Declarations" and "Const Assertion Statement").
 ghost use Rattle.std.specs.Prelude.{◌≡◌, ℕ, List, [], IfOk, IfErr, codes, is_some, true, false};
 ghost use Rattle.serde_json.specs.Find.{get};
-ghost use Rattle.wesl_borrowed.specs.View.{borrowed_view};
+ghost use Rattle.wesl_form.specs.View.{borrowed_view};
 ghost use Rattle.wesl_syntax.specs.Tree.{branch};
 ghost use Rattle.wesl_syntax.specs.View.{access_tree, kind_tree, optional as option_view, statement_view};
 ghost use Rattle.wesl_form.specs.Schema.{leaf, one_of};
@@ -16,11 +16,11 @@ ghost use Rattle.wesl_reading_statements.specs.Views.{declared_view, typed_fores
 use crate::parts::binder_member;
 use crate::words::{DeclaredWord, ValueWord, access_mode_of, space_member};
 use std::alloc::Global;
-use wesl_borrowed::BorrowedValue;
+use wesl_form::BorrowedValue;
 use wesl_names::{Error, Ident};
 use wesl_reading::{
-    Numbering, attributes_member, expression_member, optional_expression, optional_type, under,
-    wrong,
+    Numbering, expression_member, inside_option, keyed_attributes, optional_expression,
+    optional_type, wrong,
 };
 use wesl_syntax::{
     AccessMode, ConstAssert, Declaration, DeclarationKind, ExpressionNode, Statement,
@@ -77,7 +77,7 @@ fn read_void(alloc: Global, value: &BorrowedValue<'_>) -> Result<Declared, Error
     ensures ok { IfOk result (λ e. (names : List (List ℕ)) → ReadsDeclared declareds.Void (borrowed_view value.now) (declared_view e) names names) }
     ensures place { IfErr result (LocatesRow (declared_worded declareds.Void) (borrowed_view value.now)) }
 {
-    if !wesl_borrowed::has_only(value, &["k"]) {
+    if !wesl_form::has_only(value, &["k"]) {
         return Err(wrong(alloc));
     }
     Ok(Declared::Void)
@@ -123,10 +123,12 @@ fn read_value(
     ensures ok { IfOk result (λ e. ReadsDeclared (declareds.Value word) (borrowed_view value.now) (declared_view e) numbering.old numbering.new) }
     ensures place { IfErr result (LocatesRow (declared_worded (declareds.Value word)) (borrowed_view value.now)) }
 {
-    if !wesl_borrowed::has_only(value, &["k", "attrs", "name", "ty", "init"]) {
-        return Err(wrong(alloc));
-    }
-    match attributes_member(alloc, numbering, value, "attrs") {
+    match keyed_attributes(
+        alloc,
+        numbering,
+        value,
+        &["k", "attrs", "name", "ty", "init"],
+    ) {
         Ok(attributes) => match typed_parts(alloc, numbering, value) {
             Ok((ident, ty, initializer)) => Ok(Declared::Declaration(Declaration {
                 attributes,
@@ -151,10 +153,12 @@ fn read_var(
     ensures ok { IfOk result (λ e. ReadsDeclared declareds.Var (borrowed_view value.now) (declared_view e) numbering.old numbering.new) }
     ensures place { IfErr result (LocatesRow (declared_worded declareds.Var) (borrowed_view value.now)) }
 {
-    if !wesl_borrowed::has_only(value, &["k", "attrs", "name", "ty", "init"]) {
-        return Err(wrong(alloc));
-    }
-    match attributes_member(alloc, numbering, value, "attrs") {
+    match keyed_attributes(
+        alloc,
+        numbering,
+        value,
+        &["k", "attrs", "name", "ty", "init"],
+    ) {
         Ok(attributes) => match typed_parts(alloc, numbering, value) {
             Ok((ident, ty, initializer)) => Ok(Declared::Declaration(Declaration {
                 attributes,
@@ -179,13 +183,12 @@ fn read_var_in_space(
     ensures ok { IfOk result (λ e. ReadsDeclared declareds.Var (borrowed_view value.now) (declared_view e) numbering.old numbering.new) }
     ensures place { IfErr result (LocatesRow (declared_worded declareds.Var) (borrowed_view value.now)) }
 {
-    if !wesl_borrowed::has_only(
+    match keyed_attributes(
+        alloc,
+        numbering,
         value,
         &["k", "attrs", "space", "access", "name", "ty", "init"],
     ) {
-        return Err(wrong(alloc));
-    }
-    match attributes_member(alloc, numbering, value, "attrs") {
         Ok(attributes) => match space_member(alloc, value) {
             Ok(space) => match optional_access(alloc, value) {
                 Ok(access) => match typed_parts(alloc, numbering, value) {
@@ -214,10 +217,7 @@ fn optional_access(alloc: Global, value: &BorrowedValue<'_>) -> Result<Option<Ac
     let Some(member) = value.get("access") else {
         return Ok(None);
     };
-    match access_mode_of(alloc, member) {
-        Ok(mode) => Ok(Some(mode)),
-        Err(error) => Err(under(alloc, error, "access")),
-    }
+    inside_option(alloc, "access", access_mode_of(alloc, member))
 }
 
 fn read_assert(
@@ -228,10 +228,7 @@ fn read_assert(
     ensures ok { IfOk result (λ e. ReadsDeclared declareds.Assert (borrowed_view value.now) (declared_view e) numbering.old numbering.new) }
     ensures place { IfErr result (LocatesRow (declared_worded declareds.Assert) (borrowed_view value.now)) }
 {
-    if !wesl_borrowed::has_only(value, &["k", "attrs", "expr"]) {
-        return Err(wrong(alloc));
-    }
-    match attributes_member(alloc, numbering, value, "attrs") {
+    match keyed_attributes(alloc, numbering, value, &["k", "attrs", "expr"]) {
         Ok(attributes) => match expression_member(alloc, numbering, value, "expr") {
             Ok(expression) => Ok(Declared::Assert(ConstAssert {
                 attributes,

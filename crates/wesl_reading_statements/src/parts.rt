@@ -1,6 +1,6 @@
 //! Members that stand in many nodes.
 ghost use Rattle.std.specs.Prelude.{List, ℕ, IfOk, IfErr, codes};
-ghost use Rattle.wesl_borrowed.specs.View.{borrowed_view};
+ghost use Rattle.wesl_form.specs.View.{borrowed_view};
 ghost use Rattle.wesl_syntax.specs.Tree.{binder};
 ghost use Rattle.wesl_syntax.specs.View.{call_view, ident_tree, text_tree};
 ghost use Rattle.wesl_form.specs.Schema.{a_call, a_name, a_text, an_ident, leaf, node as node_form};
@@ -8,9 +8,9 @@ ghost use Rattle.wesl_reading.specs.Faults.{LocatesMember};
 ghost use Rattle.wesl_reading.specs.Numbers.{ReadsNeeded};
 
 use std::alloc::Global;
-use wesl_borrowed::BorrowedValue;
+use wesl_form::BorrowedValue;
 use wesl_names::{Error, Ident};
-use wesl_reading::{Numbering, name_member, read_call, text_member, under, wrong};
+use wesl_reading::{Numbering, inside, name_member, owned, read_call, text_member, wrong};
 use wesl_syntax::FunctionCall;
 
 /// The declared name at `name`, by its number.
@@ -37,13 +37,7 @@ pub fn plain_name_member(
     ensures ok { IfOk result (λ e. (names : List (List ℕ)) → ReadsNeeded key.now (leaf a_name) (borrowed_view value.now) (text_tree e) names names) }
     ensures place { IfErr result (LocatesMember key.now (leaf a_name) (borrowed_view value.now)) }
 {
-    match name_member(alloc, value, key) {
-        Ok(name) => match String::from_str(alloc, name) {
-            Ok(own) => Ok(own),
-            Err(_) => Err(Error::Memory),
-        },
-        Err(error) => Err(error),
-    }
+    owned(alloc, name_member(alloc, value, key))
 }
 
 /// The text at `key`, which may be empty.
@@ -55,13 +49,7 @@ pub fn plain_text_member(
     ensures ok { IfOk result (λ e. (names : List (List ℕ)) → ReadsNeeded key.now (leaf a_text) (borrowed_view value.now) (text_tree e) names names) }
     ensures place { IfErr result (LocatesMember key.now (leaf a_text) (borrowed_view value.now)) }
 {
-    match text_member(alloc, value, key) {
-        Ok(text) => match String::from_str(alloc, text) {
-            Ok(own) => Ok(own),
-            Err(_) => Err(Error::Memory),
-        },
-        Err(error) => Err(error),
-    }
+    owned(alloc, text_member(alloc, value, key))
 }
 
 /// The call at `call`.
@@ -76,8 +64,5 @@ pub(crate) fn call_member(
     let Some(member) = value.get("call") else {
         return Err(wrong(alloc));
     };
-    match read_call(alloc, numbering, member) {
-        Ok(call) => Ok(call),
-        Err(error) => Err(under(alloc, error, "call")),
-    }
+    inside(alloc, "call", read_call(alloc, numbering, member))
 }

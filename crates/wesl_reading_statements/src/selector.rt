@@ -1,6 +1,6 @@
 //! Reading the values of `case` and the condition of `break if` (WGSL, "Switch Statement" and "Break-If Statement").
 ghost use Rattle.std.specs.Prelude.{◌≡◌, ℕ, List, IfOk, IfErr, codes, true};
-ghost use Rattle.wesl_borrowed.specs.View.{borrowed_view};
+ghost use Rattle.wesl_form.specs.View.{borrowed_view};
 ghost use Rattle.wesl_syntax.specs.Tree.{list};
 ghost use Rattle.wesl_syntax.specs.View.{break_if_view, listed, optional as option_view, selector_view};
 ghost use Rattle.wesl_form.specs.Schema.{a_break_if, a_case, list_of, node as node_form};
@@ -9,11 +9,11 @@ ghost use Rattle.wesl_reading.specs.Numbers.{Reads, ReadsMany, ReadsMay};
 ghost use Rattle.wesl_reading_statements.specs.Forms.{has_default};
 
 use std::alloc::Global;
-use wesl_borrowed::BorrowedValue;
+use wesl_form::BorrowedValue;
 use wesl_names::Error;
 use wesl_reading::{
-    Numbering, attributes_member, check_keys, expression_member, read_expression, room, under,
-    with_item, wrong,
+    Numbering, check_keys, expression_member, inside, inside_option, keyed_attributes,
+    read_expression, room, with_item, wrong,
 };
 use wesl_syntax::{BreakIfStatement, CaseSelector};
 
@@ -29,10 +29,7 @@ pub(crate) fn cases_member(
     let Some(member) = value.get("cases") else {
         return Ok(Vec::new(alloc));
     };
-    match read_cases(alloc, numbering, member) {
-        Ok(cases) => Ok(cases),
-        Err(error) => Err(under(alloc, error, "cases")),
-    }
+    inside(alloc, "cases", read_cases(alloc, numbering, member))
 }
 
 fn read_cases(
@@ -106,10 +103,7 @@ pub(crate) fn optional_break_if(
     let Some(member) = value.get("break_if") else {
         return Ok(None);
     };
-    match read_break_if(alloc, numbering, member) {
-        Ok(break_if) => Ok(Some(break_if)),
-        Err(error) => Err(under(alloc, error, "break_if")),
-    }
+    inside_option(alloc, "break_if", read_break_if(alloc, numbering, member))
 }
 
 fn read_break_if(
@@ -120,10 +114,7 @@ fn read_break_if(
     ensures ok { IfOk result (λ e. Reads (node_form a_break_if) (borrowed_view value.now) (break_if_view e) numbering.old numbering.new) }
     ensures place { IfErr result (Locates (node_form a_break_if) (borrowed_view value.now)) }
 {
-    if !wesl_borrowed::has_only(value, &["attrs", "expr"]) {
-        return Err(wrong(alloc));
-    }
-    match attributes_member(alloc, numbering, value, "attrs") {
+    match keyed_attributes(alloc, numbering, value, &["attrs", "expr"]) {
         Ok(attributes) => match expression_member(alloc, numbering, value, "expr") {
             Ok(expression) => Ok(BreakIfStatement {
                 attributes,

@@ -1,6 +1,6 @@
 //! Reading statements that hold no other statement (WGSL, "Statements").
 ghost use Rattle.std.specs.Prelude.{IfOk, IfErr};
-ghost use Rattle.wesl_borrowed.specs.View.{borrowed_view};
+ghost use Rattle.wesl_form.specs.View.{borrowed_view};
 ghost use Rattle.wesl_syntax.specs.View.{statement_view};
 ghost use Rattle.wesl_reading.specs.Faults.{LocatesRow};
 ghost use Rattle.wesl_reading_statements.specs.declared.words.StatementWord.TheVariants as stated;
@@ -9,9 +9,11 @@ ghost use Rattle.wesl_reading_statements.specs.Forms.{ReadsStatement, statement_
 use crate::parts::call_member;
 use crate::words::assignment_member;
 use std::alloc::Global;
-use wesl_borrowed::BorrowedValue;
+use wesl_form::BorrowedValue;
 use wesl_names::Error;
-use wesl_reading::{Numbering, attributes_member, expression_member, optional_expression, wrong};
+use wesl_reading::{
+    Numbering, attributes_member, expression_member, keyed_attributes, optional_expression, wrong,
+};
 use wesl_syntax::Statement;
 
 /// An assignment, by its operator at `op`.
@@ -23,7 +25,7 @@ pub(crate) fn read_assignment(
     ensures ok { IfOk result (λ e. ReadsStatement stated.Assign (borrowed_view value.now) (statement_view e) numbering.old numbering.new) }
     ensures place { IfErr result (LocatesRow (statement_worded stated.Assign) (borrowed_view value.now)) }
 {
-    if !wesl_borrowed::has_only(value, &["k", "op", "attrs", "lhs", "rhs"]) {
+    if !wesl_form::has_only(value, &["k", "op", "attrs", "lhs", "rhs"]) {
         return Err(wrong(alloc));
     }
     match assignment_member(alloc, value) {
@@ -55,10 +57,7 @@ pub(crate) fn read_increment(
     ensures ok { IfOk result (λ e. ReadsStatement stated.Increment (borrowed_view value.now) (statement_view e) numbering.old numbering.new) }
     ensures place { IfErr result (LocatesRow (statement_worded stated.Increment) (borrowed_view value.now)) }
 {
-    if !wesl_borrowed::has_only(value, &["k", "attrs", "expr"]) {
-        return Err(wrong(alloc));
-    }
-    match attributes_member(alloc, numbering, value, "attrs") {
+    match keyed_attributes(alloc, numbering, value, &["k", "attrs", "expr"]) {
         Ok(attributes) => match expression_member(alloc, numbering, value, "expr") {
             Ok(expression) => Ok(Statement::Increment {
                 attributes,
@@ -79,10 +78,7 @@ pub(crate) fn read_decrement(
     ensures ok { IfOk result (λ e. ReadsStatement stated.Decrement (borrowed_view value.now) (statement_view e) numbering.old numbering.new) }
     ensures place { IfErr result (LocatesRow (statement_worded stated.Decrement) (borrowed_view value.now)) }
 {
-    if !wesl_borrowed::has_only(value, &["k", "attrs", "expr"]) {
-        return Err(wrong(alloc));
-    }
-    match attributes_member(alloc, numbering, value, "attrs") {
+    match keyed_attributes(alloc, numbering, value, &["k", "attrs", "expr"]) {
         Ok(attributes) => match expression_member(alloc, numbering, value, "expr") {
             Ok(expression) => Ok(Statement::Decrement {
                 attributes,
@@ -103,10 +99,7 @@ pub(crate) fn read_break(
     ensures ok { IfOk result (λ e. ReadsStatement stated.Break (borrowed_view value.now) (statement_view e) numbering.old numbering.new) }
     ensures place { IfErr result (LocatesRow (statement_worded stated.Break) (borrowed_view value.now)) }
 {
-    if !wesl_borrowed::has_only(value, &["k", "attrs"]) {
-        return Err(wrong(alloc));
-    }
-    match attributes_member(alloc, numbering, value, "attrs") {
+    match keyed_attributes(alloc, numbering, value, &["k", "attrs"]) {
         Ok(attributes) => Ok(Statement::Break { attributes }),
         Err(error) => Err(error),
     }
@@ -121,10 +114,7 @@ pub(crate) fn read_continue(
     ensures ok { IfOk result (λ e. ReadsStatement stated.Continue (borrowed_view value.now) (statement_view e) numbering.old numbering.new) }
     ensures place { IfErr result (LocatesRow (statement_worded stated.Continue) (borrowed_view value.now)) }
 {
-    if !wesl_borrowed::has_only(value, &["k", "attrs"]) {
-        return Err(wrong(alloc));
-    }
-    match attributes_member(alloc, numbering, value, "attrs") {
+    match keyed_attributes(alloc, numbering, value, &["k", "attrs"]) {
         Ok(attributes) => Ok(Statement::Continue { attributes }),
         Err(error) => Err(error),
     }
@@ -139,10 +129,7 @@ pub(crate) fn read_discard(
     ensures ok { IfOk result (λ e. ReadsStatement stated.Discard (borrowed_view value.now) (statement_view e) numbering.old numbering.new) }
     ensures place { IfErr result (LocatesRow (statement_worded stated.Discard) (borrowed_view value.now)) }
 {
-    if !wesl_borrowed::has_only(value, &["k", "attrs"]) {
-        return Err(wrong(alloc));
-    }
-    match attributes_member(alloc, numbering, value, "attrs") {
+    match keyed_attributes(alloc, numbering, value, &["k", "attrs"]) {
         Ok(attributes) => Ok(Statement::Discard { attributes }),
         Err(error) => Err(error),
     }
@@ -157,10 +144,7 @@ pub(crate) fn read_return(
     ensures ok { IfOk result (λ e. ReadsStatement stated.Return (borrowed_view value.now) (statement_view e) numbering.old numbering.new) }
     ensures place { IfErr result (LocatesRow (statement_worded stated.Return) (borrowed_view value.now)) }
 {
-    if !wesl_borrowed::has_only(value, &["k", "attrs", "expr"]) {
-        return Err(wrong(alloc));
-    }
-    match attributes_member(alloc, numbering, value, "attrs") {
+    match keyed_attributes(alloc, numbering, value, &["k", "attrs", "expr"]) {
         Ok(attributes) => match optional_expression(alloc, numbering, value, "expr") {
             Ok(expression) => Ok(Statement::Return {
                 attributes,
@@ -181,10 +165,7 @@ pub(crate) fn read_call_statement(
     ensures ok { IfOk result (λ e. ReadsStatement stated.Call (borrowed_view value.now) (statement_view e) numbering.old numbering.new) }
     ensures place { IfErr result (LocatesRow (statement_worded stated.Call) (borrowed_view value.now)) }
 {
-    if !wesl_borrowed::has_only(value, &["k", "attrs", "call"]) {
-        return Err(wrong(alloc));
-    }
-    match attributes_member(alloc, numbering, value, "attrs") {
+    match keyed_attributes(alloc, numbering, value, &["k", "attrs", "call"]) {
         Ok(attributes) => match call_member(alloc, numbering, value) {
             Ok(call) => Ok(Statement::FunctionCall { attributes, call }),
             Err(error) => Err(error),

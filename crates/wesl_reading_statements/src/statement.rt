@@ -1,7 +1,7 @@
 //! Reading statements and blocks (WGSL, "Statements").
 ghost use Rattle.std.specs.Prelude.{IfOk, IfErr, codes};
 ghost use Rattle.std.specs.Box.{box_value};
-ghost use Rattle.wesl_borrowed.specs.View.{borrowed_view};
+ghost use Rattle.wesl_form.specs.View.{borrowed_view};
 ghost use Rattle.wesl_syntax.specs.Tree.{clauses, list, statements};
 ghost use Rattle.wesl_syntax.specs.View.{clause_view, compound_view, continuing_view, else_if_view, else_view, listed, optional as option_view, statement_tree, statement_view};
 ghost use Rattle.wesl_form.specs.Nodes.{condition_row};
@@ -21,11 +21,11 @@ use crate::simple::{
 };
 use crate::words::{StatementWord, statement_word};
 use std::alloc::Global;
-use wesl_borrowed::BorrowedValue;
+use wesl_form::BorrowedValue;
 use wesl_names::Error;
 use wesl_reading::{
-    Numbering, attributes_member, boxed, expression_member, optional_expression, room, under,
-    unplaced, with_item, wrong,
+    Numbering, attributes_member, boxed, expression_member, inside, inside_option,
+    keyed_attributes, optional_expression, room, under, unplaced, with_item, wrong,
 };
 use wesl_syntax::{
     CompoundStatement, ContinuingStatement, ElseClause, ElseIfClause, ExpressionNode, IfClause,
@@ -106,10 +106,7 @@ fn read_block(
     ensures ok { IfOk result (λ e. ReadsStatement stated.Block (borrowed_view value.now) (statement_view e) numbering.old numbering.new) }
     ensures place { IfErr result (LocatesRow (statement_worded stated.Block) (borrowed_view value.now)) }
 {
-    if !wesl_borrowed::has_only(value, &["k", "attrs", "stmts"]) {
-        return Err(wrong(alloc));
-    }
-    match attributes_member(alloc, numbering, value, "attrs") {
+    match keyed_attributes(alloc, numbering, value, &["k", "attrs", "stmts"]) {
         Ok(attributes) => match statements_member(alloc, numbering, value) {
             Ok(statements) => Ok(Statement::Compound(CompoundStatement {
                 attributes,
@@ -130,10 +127,12 @@ fn read_if(
     ensures ok { IfOk result (λ e. ReadsStatement stated.If (borrowed_view value.now) (statement_view e) numbering.old numbering.new) }
     ensures place { IfErr result (LocatesRow (statement_worded stated.If) (borrowed_view value.now)) }
 {
-    if !wesl_borrowed::has_only(value, &["k", "attrs", "cond", "body", "elifs", "else"]) {
-        return Err(wrong(alloc));
-    }
-    match attributes_member(alloc, numbering, value, "attrs") {
+    match keyed_attributes(
+        alloc,
+        numbering,
+        value,
+        &["k", "attrs", "cond", "body", "elifs", "else"],
+    ) {
         Ok(attributes) => match condition_parts(alloc, numbering, value) {
             Ok((expression, body)) => match elifs_member(alloc, numbering, value) {
                 Ok(else_if_clauses) => match optional_else(alloc, numbering, value) {
@@ -162,10 +161,12 @@ fn read_switch(
     ensures ok { IfOk result (λ e. ReadsStatement stated.Switch (borrowed_view value.now) (statement_view e) numbering.old numbering.new) }
     ensures place { IfErr result (LocatesRow (statement_worded stated.Switch) (borrowed_view value.now)) }
 {
-    if !wesl_borrowed::has_only(value, &["k", "attrs", "expr", "body_attrs", "clauses"]) {
-        return Err(wrong(alloc));
-    }
-    match attributes_member(alloc, numbering, value, "attrs") {
+    match keyed_attributes(
+        alloc,
+        numbering,
+        value,
+        &["k", "attrs", "expr", "body_attrs", "clauses"],
+    ) {
         Ok(attributes) => match expression_member(alloc, numbering, value, "expr") {
             Ok(expression) => match attributes_member(alloc, numbering, value, "body_attrs") {
                 Ok(body_attributes) => match clauses_member(alloc, numbering, value) {
@@ -194,10 +195,12 @@ fn read_loop(
     ensures ok { IfOk result (λ e. ReadsStatement stated.Loop (borrowed_view value.now) (statement_view e) numbering.old numbering.new) }
     ensures place { IfErr result (LocatesRow (statement_worded stated.Loop) (borrowed_view value.now)) }
 {
-    if !wesl_borrowed::has_only(value, &["k", "attrs", "body", "continuing"]) {
-        return Err(wrong(alloc));
-    }
-    match attributes_member(alloc, numbering, value, "attrs") {
+    match keyed_attributes(
+        alloc,
+        numbering,
+        value,
+        &["k", "attrs", "body", "continuing"],
+    ) {
         Ok(attributes) => match body_member(alloc, numbering, value) {
             Ok(body) => match optional_continuing(alloc, numbering, value) {
                 Ok(continuing) => Ok(Statement::Loop {
@@ -222,10 +225,12 @@ fn read_for(
     ensures ok { IfOk result (λ e. ReadsStatement stated.For (borrowed_view value.now) (statement_view e) numbering.old numbering.new) }
     ensures place { IfErr result (LocatesRow (statement_worded stated.For) (borrowed_view value.now)) }
 {
-    if !wesl_borrowed::has_only(value, &["k", "attrs", "init", "cond", "update", "body"]) {
-        return Err(wrong(alloc));
-    }
-    match attributes_member(alloc, numbering, value, "attrs") {
+    match keyed_attributes(
+        alloc,
+        numbering,
+        value,
+        &["k", "attrs", "init", "cond", "update", "body"],
+    ) {
         Ok(attributes) => match optional_statement(alloc, numbering, value, "init") {
             Ok(initializer) => match turn_parts(alloc, numbering, value) {
                 Ok((condition, update, body)) => Ok(Statement::For {
@@ -281,10 +286,7 @@ fn read_while(
     ensures ok { IfOk result (λ e. ReadsStatement stated.While (borrowed_view value.now) (statement_view e) numbering.old numbering.new) }
     ensures place { IfErr result (LocatesRow (statement_worded stated.While) (borrowed_view value.now)) }
 {
-    if !wesl_borrowed::has_only(value, &["k", "attrs", "cond", "body"]) {
-        return Err(wrong(alloc));
-    }
-    match attributes_member(alloc, numbering, value, "attrs") {
+    match keyed_attributes(alloc, numbering, value, &["k", "attrs", "cond", "body"]) {
         Ok(attributes) => match condition_parts(alloc, numbering, value) {
             Ok((condition, body)) => Ok(Statement::While {
                 attributes,
@@ -329,10 +331,7 @@ pub fn body_member(
     let Some(member) = value.get("body") else {
         return Err(wrong(alloc));
     };
-    match read_body(alloc, numbering, member) {
-        Ok(body) => Ok(body),
-        Err(error) => Err(under(alloc, error, "body")),
-    }
+    inside(alloc, "body", read_body(alloc, numbering, member))
 }
 
 #[cycle(statements)]
@@ -344,10 +343,7 @@ fn read_body(
     ensures ok { IfOk result (λ e. Reads (node_form a_body) (borrowed_view value.now) (compound_view e) numbering.old numbering.new) }
     ensures place { IfErr result (Locates (node_form a_body) (borrowed_view value.now)) }
 {
-    if !wesl_borrowed::has_only(value, &["attrs", "stmts"]) {
-        return Err(wrong(alloc));
-    }
-    match attributes_member(alloc, numbering, value, "attrs") {
+    match keyed_attributes(alloc, numbering, value, &["attrs", "stmts"]) {
         Ok(attributes) => match statements_member(alloc, numbering, value) {
             Ok(statements) => Ok(CompoundStatement {
                 attributes,
@@ -372,10 +368,7 @@ fn statements_member(
     let Some(member) = value.get("stmts") else {
         return Ok(Vec::new(alloc));
     };
-    match read_statements(alloc, numbering, member) {
-        Ok(statements) => Ok(statements),
-        Err(error) => Err(under(alloc, error, "stmts")),
-    }
+    inside(alloc, "stmts", read_statements(alloc, numbering, member))
 }
 
 #[cycle(statements)]
@@ -412,10 +405,11 @@ fn optional_statement(
     let Some(member) = value.get(key) else {
         return Ok(None);
     };
-    match boxed(alloc, read_statement(alloc, numbering, member)) {
-        Ok(statement) => Ok(Some(statement)),
-        Err(error) => Err(under(alloc, error, key)),
-    }
+    inside_option(
+        alloc,
+        key,
+        boxed(alloc, read_statement(alloc, numbering, member)),
+    )
 }
 
 // The clauses at `elifs`, a list.
@@ -431,10 +425,7 @@ fn elifs_member(
     let Some(member) = value.get("elifs") else {
         return Ok(Vec::new(alloc));
     };
-    match read_elifs(alloc, numbering, member) {
-        Ok(clauses) => Ok(clauses),
-        Err(error) => Err(under(alloc, error, "elifs")),
-    }
+    inside(alloc, "elifs", read_elifs(alloc, numbering, member))
 }
 
 #[cycle(statements)]
@@ -466,10 +457,7 @@ fn read_elif(
     ensures ok { IfOk result (λ e. Reads (node_form an_elif) (borrowed_view value.now) (else_if_view e) numbering.old numbering.new) }
     ensures place { IfErr result (Locates (node_form an_elif) (borrowed_view value.now)) }
 {
-    if !wesl_borrowed::has_only(value, &["attrs", "cond", "body"]) {
-        return Err(wrong(alloc));
-    }
-    match attributes_member(alloc, numbering, value, "attrs") {
+    match keyed_attributes(alloc, numbering, value, &["attrs", "cond", "body"]) {
         Ok(attributes) => match condition_parts(alloc, numbering, value) {
             Ok((expression, body)) => Ok(ElseIfClause {
                 attributes,
@@ -495,10 +483,7 @@ fn optional_else(
     let Some(member) = value.get("else") else {
         return Ok(None);
     };
-    match read_else(alloc, numbering, member) {
-        Ok(clause) => Ok(Some(clause)),
-        Err(error) => Err(under(alloc, error, "else")),
-    }
+    inside_option(alloc, "else", read_else(alloc, numbering, member))
 }
 
 #[cycle(statements)]
@@ -510,10 +495,7 @@ fn read_else(
     ensures ok { IfOk result (λ e. Reads (node_form an_else) (borrowed_view value.now) (else_view e) numbering.old numbering.new) }
     ensures place { IfErr result (Locates (node_form an_else) (borrowed_view value.now)) }
 {
-    if !wesl_borrowed::has_only(value, &["attrs", "body"]) {
-        return Err(wrong(alloc));
-    }
-    match attributes_member(alloc, numbering, value, "attrs") {
+    match keyed_attributes(alloc, numbering, value, &["attrs", "body"]) {
         Ok(attributes) => match body_member(alloc, numbering, value) {
             Ok(body) => Ok(ElseClause { attributes, body }),
             Err(error) => Err(error),
@@ -535,10 +517,7 @@ fn clauses_member(
     let Some(member) = value.get("clauses") else {
         return Ok(Vec::new(alloc));
     };
-    match read_clauses(alloc, numbering, member) {
-        Ok(clauses) => Ok(clauses),
-        Err(error) => Err(under(alloc, error, "clauses")),
-    }
+    inside(alloc, "clauses", read_clauses(alloc, numbering, member))
 }
 
 #[cycle(statements)]
@@ -570,10 +549,7 @@ fn read_clause(
     ensures ok { IfOk result (λ e. Reads (node_form a_clause) (borrowed_view value.now) (clause_view e) numbering.old numbering.new) }
     ensures place { IfErr result (Locates (node_form a_clause) (borrowed_view value.now)) }
 {
-    if !wesl_borrowed::has_only(value, &["attrs", "cases", "body"]) {
-        return Err(wrong(alloc));
-    }
-    match attributes_member(alloc, numbering, value, "attrs") {
+    match keyed_attributes(alloc, numbering, value, &["attrs", "cases", "body"]) {
         Ok(attributes) => match cases_member(alloc, numbering, value) {
             Ok(case_selectors) => match body_member(alloc, numbering, value) {
                 Ok(body) => Ok(SwitchClause {
@@ -602,10 +578,11 @@ fn optional_continuing(
     let Some(member) = value.get("continuing") else {
         return Ok(None);
     };
-    match read_continuing(alloc, numbering, member) {
-        Ok(continuing) => Ok(Some(continuing)),
-        Err(error) => Err(under(alloc, error, "continuing")),
-    }
+    inside_option(
+        alloc,
+        "continuing",
+        read_continuing(alloc, numbering, member),
+    )
 }
 
 #[cycle(statements)]
@@ -617,10 +594,7 @@ fn read_continuing(
     ensures ok { IfOk result (λ e. Reads (node_form a_continuing) (borrowed_view value.now) (continuing_view e) numbering.old numbering.new) }
     ensures place { IfErr result (Locates (node_form a_continuing) (borrowed_view value.now)) }
 {
-    if !wesl_borrowed::has_only(value, &["attrs", "body", "break_if"]) {
-        return Err(wrong(alloc));
-    }
-    match attributes_member(alloc, numbering, value, "attrs") {
+    match keyed_attributes(alloc, numbering, value, &["attrs", "body", "break_if"]) {
         Ok(attributes) => match body_member(alloc, numbering, value) {
             Ok(body) => match optional_break_if(alloc, numbering, value) {
                 Ok(break_if) => Ok(ContinuingStatement {

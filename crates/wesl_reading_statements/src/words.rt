@@ -1,7 +1,7 @@
 //! The words of statements, and of what stands in modules and in functions.
 ghost use Rattle.std.specs.Prelude.{◌≡◌, Some, None, IfOk, IfErr, IfSome, codes, option_map, option_and_then};
 ghost use Rattle.serde_json.specs.Find.{get};
-ghost use Rattle.wesl_borrowed.specs.View.{borrowed_view};
+ghost use Rattle.wesl_form.specs.View.{borrowed_view};
 ghost use Rattle.wesl_syntax.specs.Tree.{Kind, access, assignment, space};
 ghost use Rattle.wesl_form.specs.Nodes.{declared_words, statement_words};
 ghost use Rattle.wesl_form.specs.Schema.{look};
@@ -11,9 +11,9 @@ ghost use Rattle.wesl_reading.specs.Faults.{LocatesHere, LocatesText};
 ghost use Rattle.wesl_reading_statements.specs.Forms.{declared_of, declared_text, statement_of, statement_text};
 
 use std::alloc::Global;
-use wesl_borrowed::BorrowedValue;
+use wesl_form::BorrowedValue;
 use wesl_names::Error;
-use wesl_reading::{under, wrong};
+use wesl_reading::{inside, wrong};
 use wesl_syntax::{AccessMode, AddressSpace, AssignmentOperator};
 
 /// The words at `k` of a declaration that has no address space.
@@ -185,10 +185,7 @@ pub(crate) fn assignment_member(
     let Some(member) = value.get("op") else {
         return Err(wrong(alloc));
     };
-    match assignment_operator_of(alloc, member) {
-        Ok(operator) => Ok(operator),
-        Err(error) => Err(under(alloc, error, "op")),
-    }
+    inside(alloc, "op", assignment_operator_of(alloc, member))
 }
 
 /// The address space at `space`.
@@ -199,8 +196,5 @@ pub(crate) fn space_member(alloc: Global, value: &BorrowedValue<'_>) -> Result<A
     let Some(member) = value.get("space") else {
         return Err(wrong(alloc));
     };
-    match address_space_of(alloc, member) {
-        Ok(space) => Ok(space),
-        Err(error) => Err(under(alloc, error, "space")),
-    }
+    inside(alloc, "space", address_space_of(alloc, member))
 }

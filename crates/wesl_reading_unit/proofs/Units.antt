@@ -7,7 +7,7 @@ use Rattle.wesl_syntax.specs.Unit.{unit_below}
 use Rattle.wesl_form.specs.Schema.{node, a_unit, list_of, an_import, a_declaration, a_directive, many, nothing, Row}
 use Rattle.wesl_form.specs.Nodes.{whole_form}
 use Rattle.wesl_form.specs.Reading.{known_keys}
-use Rattle.wesl_borrowed.specs.Keys.{has_only}
+use Rattle.wesl_form.specs.Keys.{has_only}
 use Rattle.wesl_form.specs.Units.{IsUnitOf, NumberedFrom, AreDistinct, same_number}
 use Rattle.wesl_reading.specs.Numbers.{Reads, ReadsForm, ReadsMany}
 use Rattle.wesl_reading.proofs.Rows.{Begins-same}

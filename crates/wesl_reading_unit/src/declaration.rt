@@ -1,6 +1,6 @@
 //! Reading the declarations of a module (WGSL, "Declaration and Scope").
 ghost use Rattle.std.specs.Prelude.{◌≡◌, IfOk, IfErr, codes};
-ghost use Rattle.wesl_borrowed.specs.View.{borrowed_view};
+ghost use Rattle.wesl_form.specs.View.{borrowed_view};
 ghost use Rattle.wesl_syntax.specs.Tree.{declaration_node, declarations, member_node, members, parameters};
 ghost use Rattle.wesl_syntax.specs.View.{declarations_tree, global_view, listed, member_view, parameter_view, placed};
 ghost use Rattle.wesl_form.specs.Schema.{a_declaration, a_member, a_parameter, list_of, node as node_form};
@@ -13,7 +13,7 @@ ghost use Rattle.wesl_reading_unit.specs.Forms.{ReadsDeclaration, declaration_te
 
 use crate::words::{DeclarationWord, declaration_word};
 use std::alloc::Global;
-use wesl_borrowed::BorrowedValue;
+use wesl_form::BorrowedValue;
 use wesl_names::Error;
 use wesl_reading::{
     Numbering, attributes_member, optional_type, room, type_member, under, unplaced, with_item,
@@ -134,7 +134,7 @@ fn read_alias(
     ensures ok { IfOk result (λ e. ReadsDeclaration globals.Alias (borrowed_view value.now) (global_view e) numbering.old numbering.new) }
     ensures place { IfErr result (LocatesRow (declaration_worded globals.Alias) (borrowed_view value.now)) }
 {
-    if !wesl_borrowed::has_only(value, &["k", "attrs", "name", "ty"]) {
+    if !wesl_form::has_only(value, &["k", "attrs", "name", "ty"]) {
         return Err(wrong(alloc));
     }
     match attributes_member(alloc, numbering, value, "attrs") {
@@ -161,7 +161,7 @@ fn read_struct(
     ensures ok { IfOk result (λ e. ReadsDeclaration globals.Struct (borrowed_view value.now) (global_view e) numbering.old numbering.new) }
     ensures place { IfErr result (LocatesRow (declaration_worded globals.Struct) (borrowed_view value.now)) }
 {
-    if !wesl_borrowed::has_only(value, &["k", "attrs", "name", "members"]) {
+    if !wesl_form::has_only(value, &["k", "attrs", "name", "members"]) {
         return Err(wrong(alloc));
     }
     match attributes_member(alloc, numbering, value, "attrs") {
@@ -188,7 +188,7 @@ fn read_function(
     ensures ok { IfOk result (λ e. ReadsDeclaration globals.Function (borrowed_view value.now) (global_view e) numbering.old numbering.new) }
     ensures place { IfErr result (LocatesRow (declaration_worded globals.Function) (borrowed_view value.now)) }
 {
-    if !wesl_borrowed::has_only(
+    if !wesl_form::has_only(
         value,
         &["k", "attrs", "name", "params", "ret_attrs", "ret", "body"],
     ) {
@@ -267,7 +267,7 @@ fn read_member(
     ensures ok { IfOk result (λ e. Reads (node_form a_member) (borrowed_view value.now) (placed member_view member_node e) numbering.old numbering.new) }
     ensures place { IfErr result (Locates (node_form a_member) (borrowed_view value.now)) }
 {
-    if !wesl_borrowed::has_only(value, &["attrs", "name", "ty"]) {
+    if !wesl_form::has_only(value, &["attrs", "name", "ty"]) {
         return Err(wrong(alloc));
     }
     match attributes_member(alloc, numbering, value, "attrs") {
@@ -331,7 +331,7 @@ fn read_parameter(
     ensures ok { IfOk result (λ e. Reads (node_form a_parameter) (borrowed_view value.now) (parameter_view e) numbering.old numbering.new) }
     ensures place { IfErr result (Locates (node_form a_parameter) (borrowed_view value.now)) }
 {
-    if !wesl_borrowed::has_only(value, &["attrs", "name", "ty"]) {
+    if !wesl_form::has_only(value, &["attrs", "name", "ty"]) {
         return Err(wrong(alloc));
     }
     match attributes_member(alloc, numbering, value, "attrs") {

@@ -1,6 +1,6 @@
 //! Reading directives (WGSL, "Directives").
 ghost use Rattle.std.specs.Prelude.{IfOk, IfErr, codes};
-ghost use Rattle.wesl_borrowed.specs.View.{borrowed_view};
+ghost use Rattle.wesl_form.specs.View.{borrowed_view};
 ghost use Rattle.wesl_syntax.specs.Tree.{directive_list, directive_node};
 ghost use Rattle.wesl_syntax.specs.View.{directive_view, directives_tree, placed};
 ghost use Rattle.wesl_form.specs.Schema.{a_directive, list_of, node as node_form};
@@ -12,7 +12,7 @@ ghost use Rattle.wesl_reading_unit.specs.Forms.{ReadsDirective, directive_text, 
 
 use crate::words::{DirectiveWord, directive_word};
 use std::alloc::Global;
-use wesl_borrowed::BorrowedValue;
+use wesl_form::BorrowedValue;
 use wesl_names::Error;
 use wesl_reading::{
     Numbering, attributes_member, names_member, room, under, unplaced, with_item, wrong,
@@ -112,7 +112,7 @@ fn read_enable(
     ensures ok { IfOk result (λ e. ReadsDirective directed.Enable (borrowed_view value.now) (directive_view e) numbering.old numbering.new) }
     ensures place { IfErr result (LocatesRow (directive_worded directed.Enable) (borrowed_view value.now)) }
 {
-    if !wesl_borrowed::has_only(value, &["k", "attrs", "names"]) {
+    if !wesl_form::has_only(value, &["k", "attrs", "names"]) {
         return Err(wrong(alloc));
     }
     match attributes_member(alloc, numbering, value, "attrs") {
@@ -132,7 +132,7 @@ fn read_requires(
     ensures ok { IfOk result (λ e. ReadsDirective directed.Requires (borrowed_view value.now) (directive_view e) numbering.old numbering.new) }
     ensures place { IfErr result (LocatesRow (directive_worded directed.Requires) (borrowed_view value.now)) }
 {
-    if !wesl_borrowed::has_only(value, &["k", "attrs", "names"]) {
+    if !wesl_form::has_only(value, &["k", "attrs", "names"]) {
         return Err(wrong(alloc));
     }
     match attributes_member(alloc, numbering, value, "attrs") {
@@ -152,7 +152,7 @@ fn read_diagnostic(
     ensures ok { IfOk result (λ e. ReadsDirective directed.Diagnostic (borrowed_view value.now) (directive_view e) numbering.old numbering.new) }
     ensures place { IfErr result (LocatesRow (directive_worded directed.Diagnostic) (borrowed_view value.now)) }
 {
-    if !wesl_borrowed::has_only(value, &["k", "attrs", "severity", "rule"]) {
+    if !wesl_form::has_only(value, &["k", "attrs", "severity", "rule"]) {
         return Err(wrong(alloc));
     }
     match attributes_member(alloc, numbering, value, "attrs") {

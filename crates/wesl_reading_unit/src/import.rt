@@ -1,7 +1,7 @@
 //! Reading imports (WESL, "Imports").
 ghost use Rattle.std.specs.Prelude.{◌≡◌, IfOk, IfErr, codes, is_some, false, true};
 ghost use Rattle.serde_json.specs.Find.{get};
-ghost use Rattle.wesl_borrowed.specs.View.{borrowed_view};
+ghost use Rattle.wesl_form.specs.View.{borrowed_view};
 ghost use Rattle.wesl_syntax.specs.Tree.{binder, import_node, imports, list};
 ghost use Rattle.wesl_syntax.specs.View.{content_view, entry_view, ident_tree, import_view, imports_tree, item_view, listed, optional as option_view, placed};
 ghost use Rattle.wesl_form.specs.Schema.{a_content, an_entry, an_ident, an_import, leaf, list_of, node as node_form};
@@ -9,7 +9,7 @@ ghost use Rattle.wesl_reading.specs.Faults.{Locates, LocatesInside, LocatesMembe
 ghost use Rattle.wesl_reading.specs.Numbers.{Reads, ReadsMany, ReadsMay, ReadsNeeded};
 
 use std::alloc::Global;
-use wesl_borrowed::BorrowedValue;
+use wesl_form::BorrowedValue;
 use wesl_names::{Error, Ident};
 use wesl_reading::{
     Numbering, attributes_member, name_member, name_of, names_member, optional_path, required,
@@ -62,7 +62,7 @@ fn read_import(
     ensures ok { IfOk result (λ e. Reads (node_form an_import) (borrowed_view value.now) (placed import_view import_node e) numbering.old numbering.new) }
     ensures place { IfErr result (Locates (node_form an_import) (borrowed_view value.now)) }
 {
-    if !wesl_borrowed::has_only(value, &["attrs", "path", "content"]) {
+    if !wesl_form::has_only(value, &["attrs", "path", "content"]) {
         return Err(wrong(alloc));
     }
     match attributes_member(alloc, numbering, value, "attrs") {
@@ -126,7 +126,7 @@ fn read_collection(
     ensures ok { IfOk result (λ e. Reads (node_form a_content) (borrowed_view value.now) (content_view e) numbering.old numbering.new) }
     ensures place { IfErr result (Locates (node_form a_content) (borrowed_view value.now)) }
 {
-    if !wesl_borrowed::has_only(value, &["list"]) {
+    if !wesl_form::has_only(value, &["list"]) {
         return Err(wrong(alloc));
     }
     match entries_member(alloc, numbering, value) {
@@ -181,7 +181,7 @@ fn read_entry(
     ensures ok { IfOk result (λ e. Reads (node_form an_entry) (borrowed_view value.now) (entry_view e) numbering.old numbering.new) }
     ensures place { IfErr result (Locates (node_form an_entry) (borrowed_view value.now)) }
 {
-    if !wesl_borrowed::has_only(value, &["path", "content"]) {
+    if !wesl_form::has_only(value, &["path", "content"]) {
         return Err(wrong(alloc));
     }
     match names_member(alloc, value, "path") {
@@ -203,7 +203,7 @@ fn read_item(
     ensures ok { IfOk result (λ e. Reads (node_form a_content) (borrowed_view value.now) (item_view e) numbering.old numbering.new) }
     ensures place { IfErr result (Locates (node_form a_content) (borrowed_view value.now)) }
 {
-    if !wesl_borrowed::has_only(value, &["item", "as"]) {
+    if !wesl_form::has_only(value, &["item", "as"]) {
         return Err(wrong(alloc));
     }
     match name_member(alloc, value, "item") {

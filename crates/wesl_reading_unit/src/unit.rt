@@ -1,6 +1,6 @@
 //! Reading units.
 ghost use Rattle.std.specs.Prelude.{IfOk, IfErr};
-ghost use Rattle.wesl_borrowed.specs.View.{borrowed_view};
+ghost use Rattle.wesl_form.specs.View.{borrowed_view};
 ghost use Rattle.wesl_form.specs.Nodes.{whole_form};
 ghost use Rattle.wesl_form.specs.Units.{IsBrokenUnit, IsNoUnit, IsUnitOf};
 ghost use Rattle.wesl_tree.specs.Translation.{unit_view};
@@ -10,7 +10,7 @@ use crate::declaration::declarations_member;
 use crate::directive::directives_member;
 use crate::import::imports_member;
 use std::alloc::Global;
-use wesl_borrowed::BorrowedValue;
+use wesl_form::BorrowedValue;
 use wesl_reading::{Numbering, wrong};
 use wesl_tree::{Error, TranslationUnit};
 
@@ -32,7 +32,7 @@ fn read_unit(alloc: Global, value: &BorrowedValue<'_>) -> Result<TranslationUnit
     ensures unit { IfOk result (λ u. IsUnitOf whole_form (borrowed_view value.now) (unit_view u)) }
     ensures place { IfErr result (λ e. IfPlace e (IsBrokenUnit whole_form (borrowed_view value.now))) }
 {
-    if !wesl_borrowed::has_only(value, &["imports", "directives", "declarations"]) {
+    if !wesl_form::has_only(value, &["imports", "directives", "declarations"]) {
         return Err(wrong(alloc));
     }
     let mut numbering = Numbering::new(alloc);

@@ -1,4 +1,5 @@
 //! Laws of the definitions.
+ghost use Rattle.wesl_renumber.specs.Laws.{HasNumbers, HasOneList};
 ghost use Rattle.wesl_renumber.specs.Leaves.{HaveLeaves, TakesNumbers, KeepsSpelling};
 
 /// An identifier has nothing below it in the trees of nodes.
@@ -10,4 +11,10 @@ pub fn law_of_leaves()
 pub fn law_of_renumbering()
     ensures numbers { TakesNumbers }
     ensures spelling { KeepsSpelling }
+{}
+
+/// Canonical numbers are there for all keys, and are one list.
+pub fn law_of_numbers()
+    ensures there { HasNumbers }
+    ensures one { HasOneList }
 {}

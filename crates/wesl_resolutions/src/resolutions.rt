@@ -8,7 +8,7 @@ ghost use Rattle.wesl_linker.specs.Resolved.{paths_of, paths_told, first_path, I
 ghost use Rattle.wesl_resolutions.specs.Keeping.{IsSound, resolved, modules_of, turns_of};
 
 use std::alloc::Global;
-use wesl_mangle::Mangler;
+use wesl_item_forms::Mangler;
 use wesl_names::{Error, ModulePath};
 use wesl_tree::TranslationUnit;
 

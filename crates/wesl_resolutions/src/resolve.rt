@@ -1,8 +1,8 @@
 //! Linking a root with the modules that it reaches.
 ghost use Rattle.std.specs.Prelude.{◌≡◌, [], true, false, IfOk, IfErr};
-ghost use Rattle.wesl_names.specs.Borrowed.{texts};
+ghost use Rattle.wesl_base.specs.Borrowed.{texts};
 ghost use Rattle.wesl_names.specs.Path.{Text, Path, path_view, is_relative};
-ghost use Rattle.wesl_resolve.specs.Resolver.{MeansTheSame};
+ghost use Rattle.wesl_resolver.specs.Resolver.{MeansTheSame};
 ghost use Rattle.wesl_linker.specs.Linking.{LinksRoot, RefusesRoot, IsFaultlessRoot, TellsMemory};
 ghost use Rattle.wesl_linker.specs.Resolved.{module_at};
 ghost use Rattle.wesl_linker.specs.Worlds as worlds;
@@ -11,7 +11,7 @@ ghost use Rattle.wesl_resolutions.specs.Keeping.{IsSound, resolved, modules_of};
 use crate::resolutions::Resolutions;
 use std::alloc::Global;
 use wesl_names::{Diagnostic, ModulePath};
-use wesl_resolve::Resolver;
+use wesl_resolver::Resolver;
 use wesl_tree::TranslationUnit;
 
 /// Links the root `unit`, which stands at `path`, with the modules that the names in `keep` and the const_asserts

@@ -3,17 +3,18 @@ use Rattle.std.proofs.Common.{◌≡◌, ◌≤◌, ◌⊎◌, ◌↔◌, ℕ, z
 use Rattle.std.proofs.Math.Seq.{map-set_same}
 use Rattle.std.proofs.lemmas.Option.{get_or_from_slice_get, none-some, same_Some}
 use Rattle.std.specs.Str.{bytes_eq}
-use Rattle.wesl_names.specs.Path.{Text, Path, path_view, is_relative, starts_with, same_origin, components_begin}
+use Rattle.wesl_names.specs.Path.{Text, Path, path_view, starts_with, same_origin, components_begin}
 use Rattle.wesl_names.specs.declared.path.ModulePath.{ModulePath}
-use Rattle.wesl_resolve.specs.Router.{prefix_length, suffix, Takes, TakenByNone, Routed, NoRoute, AllReady, LeavesOthers}
+use Rattle.wesl_resolve.specs.Router.{prefix_length, Takes, TakenByNone, Routed, NoRoute, AllReady, LeavesOthers}
 use Rattle.wesl_resolve.proofs.RouteLemmas.{Holds-set, Holds-before, Routed-held, TakenByNone-held, set-cases, set-others}
 use Rattle.std.specs.Vec.{with_item}
 use Rattle.wesl_syntax.specs.Unit.{UnitOf}
 use Rattle.wesl_names.specs.declared.errors.ResolveError.{ResolveError}
-use Rattle.wesl_resolve.specs.Resolver.{MeansTheSame}
+use Rattle.wesl_resolver.specs.Resolver.{MeansTheSame}
+use Rattle.wesl_resolver.specs.Suffixes.{suffix}
 use Rattle.wesl_resolve.specs.RouterMeaning.{RouterMeans}
 use Rattle.wesl_resolve.specs.declared.router.Router.{Router}
-use Rattle.wesl_resolve.proofs.ResultLemmas.{both-iff, either-iff}
+use Rattle.wesl_resolver.proofs.ResultLemmas.{both-iff, either-iff}
 
 and-right : (a b : Bool) → (a && b) ≡ true → b ≡ true
 and-right true b h = h
@@ -24,10 +25,6 @@ components_begin-fits [] [] h = omega arith
 components_begin-fits (x ∷ xs) [] h = omega arith
 components_begin-fits [] (y ∷ ys) h = absurd (true≢false (sym h))
 components_begin-fits (x ∷ xs) (y ∷ ys) h = omega (arith, components_begin-fits xs ys (and-right (bytes_eq x y) _ h))
-
--- what is left of a path begins at the root
-pub rooted-at : (n : ℕ) (p : Path) (after : ModulePath) → path_view after ≡ suffix n p → is_relative (path_view after) ≡ false
-rooted-at n p after is = ap is_relative is
 
 -- a prefix has no more components than the path
 pub starts_with-fits : (p prefix : Path) → starts_with p prefix ≡ true → length prefix.components ≤ length p.components

@@ -1,11 +1,8 @@
 -- Which mount of a router a path goes to, and what is asked of it there.
-use Rattle.std.specs.Prelude.{◌≡◌, ◌≤◌, ℕ, List, map, Option, Some, None, true, false, IsSomeAnd, IfSome, ◌⊎◌, length, drop, slice_get}
-use Rattle.wesl_names.specs.Path.{Path, absolute, path_view, starts_with}
+use Rattle.std.specs.Prelude.{◌≡◌, ◌≤◌, ℕ, List, map, Option, Some, None, true, false, IsSomeAnd, IfSome, ◌⊎◌, length, slice_get}
+use Rattle.wesl_names.specs.Path.{Path, path_view, starts_with}
 use Rattle.wesl_names.specs.declared.path.ModulePath.{ModulePath}
-
--- the path of the components after the first n, from the root
-abbrev pub suffix : ℕ → Path → Path
-suffix n p = record { origin = absolute; components = drop n p.components }
+use Rattle.wesl_resolver.specs.Suffixes.{suffix}
 
 -- the number of components in the prefix of a mount
 abbrev pub prefix_length : {B : Type 0} → ModulePath × B → ℕ

@@ -5,7 +5,7 @@ use Rattle.wesl_names.specs.Errors.{IsModuleNotFound}
 use Rattle.wesl_names.specs.declared.errors.ResolveError.{ResolveError}
 use Rattle.wesl_syntax.specs.Unit.{UnitOf}
 use Rattle.wesl_resolve.specs.Held.{mounts_of, fallback_of}
-use Rattle.wesl_resolve.specs.Resolver.{MeansTheSame}
+use Rattle.wesl_resolver.specs.Resolver.{MeansTheSame}
 use Rattle.wesl_resolve.specs.Router.{LeavesOthers, Routed, NoRoute}
 use Rattle.wesl_resolve.specs.declared.router.Router.{Router}
 

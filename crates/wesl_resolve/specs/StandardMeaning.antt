@@ -7,9 +7,9 @@ use Rattle.wesl_names.specs.declared.errors.ResolveError.{ResolveError}
 use Rattle.wesl_syntax.specs.Unit.{UnitOf}
 use Rattle.wesl_resolve.specs.ByOrigin.{ByOrigin}
 use Rattle.wesl_resolve.specs.Held.{packages_of, package_reader_of, package_resolver_of, local_of}
-use Rattle.wesl_resolve.specs.Packages.{IsMissingIn, IsReadIn, IsRefusedIn, IsSourceIn}
-use Rattle.wesl_resolve.specs.Resolver.{MeansTheSame}
-use Rattle.wesl_resolve.specs.declared.packages.CodegenPkg.{CodegenPkg}
+use Rattle.wesl_resolver.specs.Packages.{IsMissingIn, IsReadIn, IsRefusedIn, IsSourceIn}
+use Rattle.wesl_resolver.specs.Resolver.{MeansTheSame}
+use Rattle.wesl_resolver.specs.declared.packages.CodegenPkg.{CodegenPkg}
 use Rattle.wesl_resolve.specs.declared.standard.StandardResolver.{StandardResolver}
 
 module _ {R P : Type 0} where

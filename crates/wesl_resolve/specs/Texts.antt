@@ -8,7 +8,7 @@ use Rattle.wesl_names.specs.declared.path.ModulePath.{ModulePath}
 use Rattle.wesl_names.specs.declared.errors.Error.{Error}
 use Rattle.wesl_names.specs.declared.errors.ResolveError.{ResolveError}
 use Rattle.wesl_syntax.specs.Unit.{UnitOf}
-use Rattle.wesl_resolve.specs.Refusals.{IsRefusedFor}
+use Rattle.wesl_resolver.specs.Refusals.{IsRefusedFor}
 
 -- what the entries of a map say
 abbrev pub texts_of : List (ModulePath × String Global) → List (Path × Text)

@@ -5,14 +5,11 @@ ghost use Rattle.wesl_names.specs.Errors.{OrMemory};
 ghost use Rattle.wesl_names.specs.declared.errors.Error as error;
 ghost use Rattle.wesl_syntax.specs.Unit.{spelled};
 ghost use Rattle.wesl_tree.specs.Translation.{unit_view};
-ghost use Rattle.wesl_resolve.specs.Packages.{IsMissingIn, IsReadIn, IsRefusedIn, IsSourceIn};
+ghost use Rattle.wesl_resolver.specs.Packages.{IsMissingIn, IsReadIn, IsRefusedIn, IsSourceIn};
 
-use crate::packages::{CodegenPkg, module_at};
-use crate::refusals::copied;
-use crate::resolver::Resolver;
-use crate::unit_text::{UnitText, read_module};
 use std::alloc::Global;
 use wesl_names::{Error, ModulePath, ResolveError};
+use wesl_resolver::{CodegenPkg, Resolver, UnitText, copied, module_at, read_module};
 use wesl_tree::TranslationUnit;
 
 /// Hands out the modules of packages, each read from its source when it is asked for.
@@ -63,7 +60,7 @@ impl<P> PkgResolver<P> {
 }
 
 impl<P: UnitText> Resolver for PkgResolver<P> {
-    ghost use Rattle.wesl_resolve.specs.Packages.{IsMissingIn, IsReadIn, IsRefusedIn, IsSourceIn};
+    ghost use Rattle.wesl_resolver.specs.Packages.{IsMissingIn, IsReadIn, IsRefusedIn, IsSourceIn};
     ghost use Rattle.wesl_resolve.specs.Held.{packages_of, package_reader_of};
 
     ghost ready = { λ _. Unit {0} };

@@ -1,15 +1,11 @@
 //! A resolver that changes each unit before it hands it out.
-ghost use Rattle.std.specs.Prelude.{◌≡◌, ◌⊎◌, false, Ok, Err};
-ghost use Rattle.wesl_names.specs.Path.{path_view, is_relative};
-ghost use Rattle.wesl_names.specs.Errors.{OrMemory};
+ghost use Rattle.std.specs.Prelude.{◌≡◌, ◌⊎◌};
 ghost use Rattle.wesl_tree.specs.declared.unit.TranslationUnit.{TranslationUnit};
-ghost use Rattle.wesl_resolve.specs.Refusals.{IsRefusedFor};
 ghost use Rattle.wesl_resolve.specs.Preprocessor.{IsMade, IsMadeFault};
 
-use crate::refusals::refused;
-use crate::resolver::Resolver;
 use std::alloc::Global;
-use wesl_names::{Diagnostic, Error, ModulePath, ResolveError};
+use wesl_names::{Error, ModulePath, ResolveError};
+use wesl_resolver::{Resolver, refused_by};
 use wesl_tree::TranslationUnit;
 
 /// Hands out what a function makes of the units of another resolver.
@@ -36,27 +32,6 @@ impl<R, F> Preprocessor<R, F> {
         Preprocessor {
             resolver,
             preprocess,
-        }
-    }
-}
-
-/// The refusal of the unit at a path, with the name by which the resolver shows it.
-fn refused_by<R: Resolver>(
-    resolver: &R,
-    alloc: Global,
-    fault: Error,
-    path: &ModulePath,
-) -> ResolveError
-    requires asked { R.ready resolver.now }
-    requires rooted { is_relative (path_view path.now) ≡ false }
-    ensures { OrMemory (IsRefusedFor (λ e. e ≡ fault)) result }
-{
-    match resolver.display_name(alloc, path) {
-        Ok(display) => refused(alloc, fault, path, display, None),
-        Err(refusal) => {
-            // An error is let go as a diagnostic, by one call.
-            let _fault = Diagnostic::of(fault);
-            refusal
         }
     }
 }

@@ -6,14 +6,12 @@ ghost use Rattle.wesl_names.specs.declared.errors.Error as error;
 ghost use Rattle.wesl_syntax.specs.Unit.{spelled};
 ghost use Rattle.wesl_tree.specs.Translation.{unit_view};
 ghost use Rattle.wesl_resolve.specs.ByOrigin.{IfInPackage};
-ghost use Rattle.wesl_resolve.specs.Resolver.{MeansTheSame};
+ghost use Rattle.wesl_resolver.specs.Resolver.{MeansTheSame};
 
-use crate::packages::CodegenPkg;
 use crate::pkg_resolver::PkgResolver;
-use crate::resolver::Resolver;
-use crate::unit_text::UnitText;
 use std::alloc::Global;
 use wesl_names::{Error, ModulePath, PathOrigin, ResolveError};
+use wesl_resolver::{CodegenPkg, Resolver, UnitText};
 use wesl_tree::TranslationUnit;
 
 /// Looks up a path that begins in a named package among packages, and every other in a resolver of the caller's.

@@ -7,12 +7,10 @@ ghost use Rattle.wesl_syntax.specs.Unit.{spelled};
 ghost use Rattle.wesl_tree.specs.Translation.{unit_view};
 ghost use Rattle.wesl_resolve.specs.Texts.{texts_of, text_at, put, IsLast, IsMissing, IsReadAt, IsRefusedAt};
 
-use crate::refusals::{copied, not_found};
-use crate::resolver::Resolver;
-use crate::unit_text::{UnitText, read_module};
 use indexmap::IndexMap;
 use std::alloc::Global;
-use wesl_names::{Diagnostic, Error, ModulePath, ResolveError};
+use wesl_names::{Error, ModulePath, ResolveError};
+use wesl_resolver::{Resolver, UnitText, copied, not_found, read_module};
 use wesl_tree::TranslationUnit;
 
 /// Puts a text at a path, in the place of the one that is there.

@@ -13,11 +13,11 @@ use Rattle.wesl_syntax.specs.declared.expression.UnaryOperator.{UnaryOperator}
 use Rattle.wesl_syntax.specs.declared.expression.Literal.{Literal}
 use Rattle.wesl_syntax.specs.declared.expression.Literal.TheVariants as literals
 use Rattle.std.specs.Vec.{with_items}
-use Rattle.wesl_kinds.specs.Picks.{picks, seeks_types}
+use Rattle.wesl_collect.specs.Picks.{picks, seeks_types}
 use Rattle.wesl_rewrite.specs.Replaced.{Rule}
-use Rattle.wesl_kinds.specs.Finished.{Finished}
+use Rattle.wesl_collect.specs.Finished.{Finished}
 use Rattle.wesl_rewrite.specs.Went.{Went}
-use Rattle.wesl_kinds.specs.Held.{all_of, hollow_label}
+use Rattle.wesl_collect.specs.Held.{all_of, hollow_label}
 use Rattle.wesl_rewrite.proofs.Labels.{words}
 use Rattle.wesl_rewrite.proofs.Steps.{beside, forest_by, inside, moved, taken_else, unmoved, went_list}
 use Rattle.wesl_rewrite.proofs.Views.{type_label}

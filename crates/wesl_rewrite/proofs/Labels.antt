@@ -2,10 +2,10 @@
 use Rattle.std.proofs.Common.{◌≡◌, Bool, true, false, ◌||◌, ◌&&◌, refl}
 use Rattle.wesl_syntax.specs.Tree.{Label, kind, at, expression_node, statement_node, attributes, if_attribute, elif_attribute, import_statement, diagnostic_directive, enable_directive, requires_directive, type_expression}
 use Rattle.wesl_syntax.specs.Nodes.{is_formula, is_import_or_directive}
-use Rattle.wesl_kinds.specs.Held.{flat_label, hollow_label}
-use Rattle.wesl_kinds.specs.Picks.{picks}
+use Rattle.wesl_collect.specs.Held.{flat_label, hollow_label}
+use Rattle.wesl_collect.specs.Picks.{picks}
 use Rattle.wesl_rewrite.specs.Replaced.{is_word}
-use Rattle.wesl_kinds.specs.Sought.{Sought, expressions, types, statements, attribute_lists, test}
+use Rattle.wesl_collect.specs.Sought.{Sought, expressions, types, statements, attribute_lists, test}
 
 pub both : (a b : Bool) → (a && b) ≡ true → (a ≡ true) × (b ≡ true)
 both true b h = (refl, h)

@@ -9,11 +9,11 @@ use Rattle.wesl_syntax.specs.declared.declaration.DeclarationKind.{DeclarationKi
 use Rattle.wesl_syntax.specs.declared.declaration.DeclarationKind.TheVariants as kinds
 use Rattle.wesl_syntax.specs.declared.expression.Expression.{Expression}
 use Rattle.wesl_syntax.specs.declared.span.Spanned.{Spanned}
-use Rattle.wesl_kinds.specs.Picks.{picks, seeks_attributes}
+use Rattle.wesl_collect.specs.Picks.{picks, seeks_attributes}
 use Rattle.wesl_rewrite.specs.Replaced.{Rule}
-use Rattle.wesl_kinds.specs.Finished.{Finished}
+use Rattle.wesl_collect.specs.Finished.{Finished}
 use Rattle.wesl_rewrite.specs.Went.{Went}
-use Rattle.wesl_kinds.specs.Held.{all_of, hollow_label}
+use Rattle.wesl_collect.specs.Held.{all_of, hollow_label}
 use Rattle.wesl_rewrite.proofs.Labels.{words}
 use Rattle.wesl_rewrite.proofs.Steps.{forest_by, inside, moved, taken_else, viewed}
 

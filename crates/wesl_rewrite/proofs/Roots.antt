@@ -1,9 +1,9 @@
 -- What becomes of what lies strictly below a node.
 use Rattle.std.proofs.Common.{◌≡◌, Bool, true, false, refl, sym, ap, ◌∙◌, subst}
 use Rattle.wesl_syntax.specs.Tree.{Label, Forest, Tree, end, tree, before, kind, type_expression}
-use Rattle.wesl_kinds.specs.Picks.{picks}
+use Rattle.wesl_collect.specs.Picks.{picks}
 use Rattle.wesl_rewrite.specs.Replaced.{Rule, is_word, Replaced, nothing, word, other, as_it_stands, inner_first, Stopped, at_node, after_inner, inside_node, inside_other, later, ReplacedBelow, of_word, of_other, StoppedBelow, within}
-use Rattle.wesl_kinds.specs.Sought.{test}
+use Rattle.wesl_collect.specs.Sought.{test}
 use Rattle.wesl_rewrite.specs.Went.{Went, WentBy, WentBelow, WentBelowBy}
 use Rattle.wesl_rewrite.proofs.Labels.{agrees, no_word}
 

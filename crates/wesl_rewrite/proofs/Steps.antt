@@ -6,13 +6,13 @@ use Rattle.std.specs.Vec.{with_items}
 use Rattle.wesl_syntax.specs.View.{expression_tree, listed}
 use Rattle.wesl_syntax.specs.declared.expression.Expression.{Expression}
 use Rattle.wesl_syntax.specs.declared.span.Spanned.{Spanned}
-use Rattle.wesl_kinds.specs.Sought.{test}
+use Rattle.wesl_collect.specs.Sought.{test}
 use Rattle.wesl_rewrite.specs.Replaced.{Rule, is_word, Replaced, nothing, word, other, as_it_stands, inner_first, Stopped, at_node, after_inner, inside_node, inside_other, later}
-use Rattle.wesl_kinds.specs.Picks.{picks}
-use Rattle.wesl_kinds.specs.Finished.{Finished, FinishedBy, TurnedBy}
+use Rattle.wesl_collect.specs.Picks.{picks}
+use Rattle.wesl_collect.specs.Finished.{Finished, FinishedBy, TurnedBy}
 use Rattle.wesl_rewrite.specs.Went.{Went, WentBy}
 use Rattle.wesl_rewrite.proofs.Labels.{agrees, both, hollow_picks, hollow_words, no_word, words}
-use Rattle.wesl_kinds.specs.Held.{all_of, hollow_label}
+use Rattle.wesl_collect.specs.Held.{all_of, hollow_label}
 
 not_false : (b : Bool) → (true && not b) ≡ false → b ≡ true
 not_false true h = refl

@@ -22,8 +22,8 @@ use Rattle.wesl_syntax.specs.declared.statement.Statement.{Statement, FunctionCa
 use Rattle.wesl_syntax.specs.declared.statement.Statement.TheFolds.{fold_out-CompoundStatement, fold-roll-Statement}
 use Rattle.wesl_syntax.specs.declared.statement.Statement.TheOpen.{Statement-F}
 use Rattle.wesl_syntax.specs.declared.statement.Statement.TheViews as statement_views
-use Rattle.wesl_kinds.specs.Sought.{Sought}
-use Rattle.wesl_kinds.specs.Picks.{picks}
+use Rattle.wesl_collect.specs.Sought.{Sought}
+use Rattle.wesl_collect.specs.Picks.{picks}
 
 pub view_call : (c : FunctionCall) → call_view c ≡ branch call (type_view (out-FunctionCall c).ty ∷ listed expression_tree list (out-FunctionCall c).arguments ∷ [])
 view_call c = fold_out-FunctionCall Tree Tree Tree Tree expression_step call_step argument_step type_step c ∙ simp map-map

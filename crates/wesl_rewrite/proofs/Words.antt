@@ -11,13 +11,13 @@ use Rattle.wesl_syntax.specs.declared.declaration.GlobalDirective.TheVariants as
 use Rattle.wesl_syntax.specs.declared.expression.Expression.{Expression}
 use Rattle.wesl_syntax.specs.declared.import.ImportStatement.{ImportStatement}
 use Rattle.wesl_syntax.specs.declared.span.Spanned.{Spanned}
-use Rattle.wesl_kinds.specs.Picks.{picks, seeks_attributes}
+use Rattle.wesl_collect.specs.Picks.{picks, seeks_attributes}
 use Rattle.wesl_rewrite.specs.Replaced.{Rule, rule, Replaced, nothing, word, other}
-use Rattle.wesl_kinds.specs.Sought.{Sought, expressions, types, statements, attribute_lists}
-use Rattle.wesl_kinds.specs.Finished.{Finished, FinishedBy, TurnedBy}
+use Rattle.wesl_collect.specs.Sought.{Sought, expressions, types, statements, attribute_lists}
+use Rattle.wesl_collect.specs.Finished.{Finished, FinishedBy, TurnedBy}
 use Rattle.wesl_rewrite.specs.Went.{Went, WentBy}
 use Rattle.wesl_rewrite.proofs.Labels.{agrees, flat_attributes, flat_statements, words}
-use Rattle.wesl_kinds.specs.Held.{all_of, flat_label, hollow_label, AttributesAreFlat, ContentsAreHollow}
+use Rattle.wesl_collect.specs.Held.{all_of, flat_label, hollow_label, AttributesAreFlat, ContentsAreHollow}
 use Rattle.wesl_rewrite.proofs.Steps.{hollow_same, inner_by, joined_by, replaced_none, same, same_by, whole_by, within_by}
 
 abbrev flat : Forest → Bool

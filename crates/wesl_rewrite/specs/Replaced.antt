@@ -2,7 +2,7 @@
 use Rattle.std.specs.Prelude.{◌≡◌, Bool, true, false, ◌||◌}
 use Rattle.wesl_syntax.specs.Tree.{Label, Forest, Tree, end, tree}
 use Rattle.wesl_syntax.specs.Nodes.{is_formula, is_import_or_directive}
-use Rattle.wesl_kinds.specs.Sought.{Sought, expressions, types, statements, attribute_lists, test}
+use Rattle.wesl_collect.specs.Sought.{Sought, expressions, types, statements, attribute_lists, test}
 
 -- Which nodes are replaced, what one may become, and whether those inside it are replaced before it.
 pub record Rule : Type 1 where

@@ -11,7 +11,7 @@ ghost use Rattle.wesl_tree.specs.Translation.{unit_view};
 use crate::replace::{attribute, declaration, expression, statement};
 use std::alloc::Global;
 use std::mem;
-use wesl_kinds::{Replace, Rewrite, law_of_variants};
+use wesl_collect::{Replace, Rewrite, law_of_variants};
 use wesl_syntax::{
     Attribute, ConstAssert, Declaration, Expression, Function, GlobalDeclaration, Spanned,
     Statement, Struct, StructMember, TypeAlias, TypeExpression,

@@ -5,4 +5,4 @@ mod holders;
 mod replace;
 
 pub use holders::Holder;
-pub use wesl_kinds::{Kind, Node, Replace, Rewrite};
+pub use wesl_collect::{Kind, Node, Replace, Rewrite};

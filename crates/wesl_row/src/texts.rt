@@ -4,7 +4,7 @@ use crate::faults::of_diagnostic;
 use crate::inputs::Row;
 use serde_json::Value;
 use wesl_json::JsonText;
-use wesl_resolve::UnitText;
+use wesl_resolver::UnitText;
 use wesl_tree::{Diagnostic, TranslationUnit};
 
 /// The text that is printed of a unit, and whether it is read with the unit's spelling; or the fault where it is not

@@ -5,7 +5,7 @@ use std::alloc::Global;
 use wesl::condcomp::run;
 use wesl::{
     Diagnostic, Feature, Features, GlobalDeclaration, GlobalDeclarationNode, Names,
-    TranslationUnit, TryClone, eval_attr,
+    TranslationUnit, eval_attr,
 };
 use wesl_row::{Row, fault, is_refused, of_diagnostic};
 

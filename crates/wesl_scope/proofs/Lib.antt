@@ -1,3 +1,4 @@
 pub mod EntryPoints
 mod LeastSet
 pub mod Stripping
+pub mod Faithless

@@ -1,11 +1,14 @@
-//! What is asked of a module's tree and done to it by scopes: entry points, new numbers by meaning, and stripping.
+//! What is asked of a module's tree and done to it by scopes: entry points, new numbers by meaning, and stripping; and whether
+//! its names, printed and read again, would mean something else than its numbers say (`wesl_faith` does the work).
 #![tactic(auto)]
 
+mod clash;
 mod entry_points;
 mod laws;
 mod strip;
 mod syntax_util;
 
+pub use clash::names_clash;
 pub use laws::law_of_stripping;
 pub use strip::strip_except;
 pub use syntax_util::SyntaxUtil;

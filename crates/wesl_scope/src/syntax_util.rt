@@ -11,8 +11,7 @@ ghost use Rattle.wesl_meanings.specs.Scopes.{keys};
 
 use crate::entry_points::entry_point;
 use std::alloc::Global;
-use wesl_meanings::numbers_by_meaning;
-use wesl_renumber::renumbered;
+use wesl_renumber::{numbers_by_meaning, renumbered};
 use wesl_tree::{Error, Ident, TranslationUnit};
 
 /// What is asked of a module's tree, and done to it.

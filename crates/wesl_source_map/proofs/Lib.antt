@@ -1,4 +1,1 @@
-pub mod Seen
-pub mod Items
-pub mod Sources
 pub mod Questions

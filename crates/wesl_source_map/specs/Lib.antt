@@ -1,4 +1,2 @@
 pub mod BasicView
-pub mod Listed
 pub mod Recording
-pub mod Records

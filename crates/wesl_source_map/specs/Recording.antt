@@ -1,10 +1,10 @@
 -- What a resolver and a mangler that record leave in the record.
-use Rattle.std.specs.Prelude.{◌≡◌, ◌⊎◌, Option, Some, None, Bool}
+use Rattle.std.specs.Prelude.{◌≡◌, ◌⊎◌, Option, Bool}
 use Rattle.wesl_names.specs.Path.{Text, Path}
 use Rattle.wesl_names.specs.declared.errors.ResolveError as resolve_error
 use Rattle.wesl_names.specs.declared.path.ModulePath.{ModulePath}
-use Rattle.wesl_mangle.specs.Mangler.{written_if}
-use Rattle.wesl_source_map.specs.Records.{Item, Items, Source, Sources, WritesSource, SameItems, SameSources}
+use Rattle.wesl_item_forms.specs.Mangler.{written_if}
+use Rattle.wesl_map_entries.specs.Records.{Item, Items, Sources, WritesSource, SameItems, SameSources}
 use Rattle.wesl_source_map.specs.BasicView.{items, default_text}
 use Rattle.wesl_source_map.specs.declared.basic.BasicSourceMap.{BasicSourceMap}
 
@@ -28,8 +28,3 @@ pub record IsAskedAlone {M : Type 0} (mangler mangler' : M) (root root' : Module
 -- a mangler that keeps a record has written the item for the name
 abbrev pub HasNamed : Bool → Text → Item → Items → Items → Type 0
 HasNamed writes name item old new = (other : Text) → new other ≡ written_if writes name item old other
-
--- the source that is recorded of a module, else the text that was there
-abbrev pub source_or : Option Source → Option Text → Option Text
-source_or (Some source) text = Some source.1
-source_or None text = text

@@ -1,14 +1,14 @@
 //! A record of names and of modules.
-ghost use Rattle.std.specs.Prelude.{◌≡◌, None, Some, OnOk, OnErr, IfOk, IfErr, map, option_map, string_bytes};
+ghost use Rattle.std.specs.Prelude.{◌≡◌, [], None, Some, OnOk, OnErr, IfOk, IfErr, map, option_map, string_bytes};
 ghost use Rattle.wesl_names.specs.Path.{Text, Path, path_view};
 ghost use Rattle.wesl_names.specs.declared.errors.Error as error;
-ghost use Rattle.wesl_source_map.specs.Records.{WritesItem, WritesSource, SameItems, SameSources, source_view};
-ghost use Rattle.wesl_source_map.specs.Listed.{IsListing};
-ghost use Rattle.wesl_source_map.specs.BasicView.{items_in, sources_in};
+ghost use Rattle.wesl_map_entries.specs.Records.{WritesItem, WritesSource, SameItems, SameSources};
+ghost use Rattle.wesl_map_entries.specs.Listed.{IsListing};
+ghost use Rattle.wesl_map_entries.specs.Tables.{items_in};
 
-use crate::map::SourceMap;
-use std::alloc::Global;
-use std::collections::{BTreeMap, HashMap};
+use std::alloc::{AllocError, Global};
+use std::collections::BTreeMap;
+use wesl_map_entries::{Entries, SourceMap, text_of};
 use wesl_names::{Error, ModulePath};
 
 /// Remembers the item that each name was last given for, and what was last said of each module.
@@ -22,156 +22,26 @@ use wesl_names::{Error, ModulePath};
 /// ```
 #[derive(Debug)]
 pub struct BasicSourceMap {
-    decls: BTreeMap<String, (ModulePath, String)>,
-    sources: HashMap<ModulePath, (Option<String>, String)>,
-    default_source: Option<String>,
+    pub(crate) entries: Entries,
 }
 
 // By hand, so that it is proved once: a derived one is proved in each crate that lets go of a value.
 impl Drop for BasicSourceMap {
     fn drop(self) {
-        let BasicSourceMap {
-            decls: _,
-            sources: _,
-            default_source: _,
-        } = self;
+        let BasicSourceMap { entries: _ } = self;
     }
 }
 
-/// Puts an item at a name, in place of the one that is there.
-fn put_decl(
-    decls: &mut BTreeMap<String, (ModulePath, String)>,
-    name: String,
-    path: ModulePath,
-    item: String,
-) -> Result<(), Error>
-    ensures written { OnOk result (WritesItem (string_bytes name) (path_view path, string_bytes item) (items_in decls.old) (items_in decls.new)) }
-    ensures kept { OnErr result (SameItems (items_in decls.old) (items_in decls.new)) }
-    ensures refused { IfErr result (λ e. e ≡ error.Memory) }
+/// Adds each name of a table to a list, with the path of its module and its item.
+fn list_decls<'a>(
+    decls: &mut Vec<(&'a str, &'a ModulePath, &'a str)>,
+    table: &'a BTreeMap<String, (ModulePath, String)>,
+) -> Result<(), AllocError>
+    requires empty { decls.old.items ≡ [] }
+    ensures listed { OnOk result (IsListing (items_in table.now) (map (λ d. (d.0.now, (path_view d.1.now, d.2.now))) decls.new.items)) }
 {
-    decls.insert(name, (path, item))?;
-    Ok(())
-}
-
-/// Puts what is said of a module at its path, in place of what is there.
-fn put_source(
-    sources: &mut HashMap<ModulePath, (Option<String>, String)>,
-    path: ModulePath,
-    display: Option<String>,
-    text: String,
-) -> Result<(), Error>
-    ensures written { OnOk result (WritesSource (path_view path) (option_map string_bytes display, string_bytes text)
-        (sources_in sources.old.entries) (sources_in sources.new.entries)) }
-    ensures kept { OnErr result (SameSources (sources_in sources.old.entries) (sources_in sources.new.entries)) }
-    ensures refused { IfErr result (λ e. e ≡ error.Memory) }
-{
-    sources.insert(path, (display, text))?;
-    Ok(())
-}
-
-/// Puts a copy of an item at a copy of its name, in place of the item that is there.
-fn put_decl_copy(
-    decls: &mut BTreeMap<String, (ModulePath, String)>,
-    alloc: Global,
-    name: &str,
-    path: &ModulePath,
-    item: &str,
-) -> Result<(), Error>
-    ensures written { OnOk result (WritesItem name.now (path_view path.now, item.now) (items_in decls.old) (items_in decls.new)) }
-    ensures kept { OnErr result (SameItems (items_in decls.old) (items_in decls.new)) }
-    ensures refused { IfErr result (λ e. e ≡ error.Memory) }
-{
-    let Ok(name) = String::from_str(alloc, name) else {
-        return Err(Error::Memory);
-    };
-    let Ok(item) = String::from_str(alloc, item) else {
-        return Err(Error::Memory);
-    };
-    match path.try_clone(alloc) {
-        Ok(path) => put_decl(decls, name, path, item),
-        Err(error) => Err(error),
-    }
-}
-
-/// Puts a copy of what is said of a module at a copy of its path, in place of what is there.
-fn put_source_copy(
-    sources: &mut HashMap<ModulePath, (Option<String>, String)>,
-    alloc: Global,
-    path: &ModulePath,
-    display: Option<String>,
-    text: &str,
-) -> Result<(), Error>
-    ensures written { OnOk result (WritesSource (path_view path.now) (option_map string_bytes display, text.now)
-        (sources_in sources.old.entries) (sources_in sources.new.entries)) }
-    ensures kept { OnErr result (SameSources (sources_in sources.old.entries) (sources_in sources.new.entries)) }
-    ensures refused { IfErr result (λ e. e ≡ error.Memory) }
-{
-    let Ok(text) = String::from_str(alloc, text) else {
-        return Err(Error::Memory);
-    };
-    match path.try_clone(alloc) {
-        Ok(path) => put_source(sources, path, display, text),
-        Err(error) => Err(error),
-    }
-}
-
-/// Fills an empty table with the names and items of another.
-fn copy_decls(
-    copy: &mut BTreeMap<String, (ModulePath, String)>,
-    alloc: Global,
-    decls: &BTreeMap<String, (ModulePath, String)>,
-) -> Result<(), Error>
-    requires empty { (name : Text) → items_in copy.old name ≡ None }
-    ensures equal { OnOk result (SameItems (items_in decls.now) (items_in copy.new)) }
-    ensures refused { IfErr result (λ e. e ≡ error.Memory) }
-{
-    for (name, (path, item)) in decls.iter() {
-        put_decl_copy(copy, alloc, name.as_str(), path, item.as_str())?;
-    }
-    Ok(())
-}
-
-/// A copy of a text, where there is one.
-fn copied_text(text: &Option<String>) -> Result<Option<String>, Error>
-    ensures equal { IfOk result (λ copy. option_map string_bytes copy ≡ option_map string_bytes text.now) }
-    ensures refused { IfErr result (λ e. e ≡ error.Memory) }
-{
-    match text {
-        Some(text) => Ok(Some(text.clone()?)),
-        None => Ok(None),
-    }
-}
-
-/// Puts a copy of what a table says of a module in another.
-fn put_said(
-    copy: &mut HashMap<ModulePath, (Option<String>, String)>,
-    alloc: Global,
-    path: &ModulePath,
-    said: &(Option<String>, String),
-) -> Result<(), Error>
-    ensures written { OnOk result (WritesSource (path_view path.now) (source_view said.now)
-        (sources_in copy.old.entries) (sources_in copy.new.entries)) }
-    ensures refused { IfErr result (λ e. e ≡ error.Memory) }
-{
-    let (display, text) = said;
-    match copied_text(display) {
-        Ok(display) => put_source_copy(copy, alloc, path, display, text.as_str()),
-        Err(error) => Err(error),
-    }
-}
-
-/// Fills an empty table with what another says of modules.
-fn copy_sources(
-    copy: &mut HashMap<ModulePath, (Option<String>, String)>,
-    alloc: Global,
-    sources: &HashMap<ModulePath, (Option<String>, String)>,
-) -> Result<(), Error>
-    requires empty { (path : Path) → sources_in copy.old.entries path ≡ None }
-    ensures equal { OnOk result (SameSources (sources_in sources.now.entries) (sources_in copy.new.entries)) }
-    ensures refused { IfErr result (λ e. e ≡ error.Memory) }
-{
-    for (path, said) in sources.iter() {
-        put_said(copy, alloc, path, said)?;
+    for (name, (path, item)) in table.iter() {
+        decls.push((name.as_str(), path, item.as_str()))?;
     }
     Ok(())
 }
@@ -186,9 +56,7 @@ impl BasicSourceMap {
         ensures default { default_text result ≡ None }
     {
         BasicSourceMap {
-            decls: BTreeMap::new(alloc),
-            sources: HashMap::new(alloc),
-            default_source: None,
+            entries: Entries::new(alloc),
         }
     }
 
@@ -202,24 +70,7 @@ impl BasicSourceMap {
         ensures default { default_text self.new ≡ default_text self.old }
         ensures refused { IfErr result (λ e. e ≡ error.Memory) }
     {
-        put_decl(&mut self.decls, name, path, item)
-    }
-
-    /// Records the item that a name stands for, as `add_decl` does, by copies of them.
-    pub(crate) fn copy_decl(
-        &mut self,
-        alloc: Global,
-        name: &str,
-        path: &ModulePath,
-        item: &str,
-    ) -> Result<(), Error>
-        ensures written { OnOk result (WritesItem name.now (path_view path.now, item.now) (items self.old) (items self.new)) }
-        ensures kept { OnErr result (SameItems (items self.old) (items self.new)) }
-        ensures modules { SameSources (sources self.old) (sources self.new) }
-        ensures default { default_text self.new ≡ default_text self.old }
-        ensures refused { IfErr result (λ e. e ≡ error.Memory) }
-    {
-        put_decl_copy(&mut self.decls, alloc, name, path, item)
+        self.entries.put_decl(name, path, item)
     }
 
     /// Records the source of the module at `path` and the name by which it is shown, in place of earlier ones.
@@ -238,25 +89,7 @@ impl BasicSourceMap {
         ensures default { default_text self.new ≡ default_text self.old }
         ensures refused { IfErr result (λ e. e ≡ error.Memory) }
     {
-        put_source(&mut self.sources, path, display, text)
-    }
-
-    /// Records what is said of a module, as `add_source` does, by copies of its path and of its source.
-    pub(crate) fn copy_source(
-        &mut self,
-        alloc: Global,
-        path: &ModulePath,
-        display: Option<String>,
-        text: &str,
-    ) -> Result<(), Error>
-        ensures written { OnOk result (WritesSource (path_view path.now) (option_map string_bytes display, text.now)
-            (sources self.old) (sources self.new)) }
-        ensures kept { OnErr result (SameSources (sources self.old) (sources self.new)) }
-        ensures decls { SameItems (items self.old) (items self.new) }
-        ensures default { default_text self.new ≡ default_text self.old }
-        ensures refused { IfErr result (λ e. e ≡ error.Memory) }
-    {
-        put_source_copy(&mut self.sources, alloc, path, display, text)
+        self.entries.put_source(path, display, text)
     }
 
     /// Sets the source of what is in no module, in place of an earlier one. It takes no memory.
@@ -265,7 +98,7 @@ impl BasicSourceMap {
         ensures decls { SameItems (items self.old) (items self.new) }
         ensures modules { SameSources (sources self.old) (sources self.new) }
     {
-        self.default_source = Some(text);
+        self.entries.default_source = Some(text);
     }
 
     /// Every recorded name, with the path of its module and its item; each once, in the order of their bytes.
@@ -284,22 +117,10 @@ impl BasicSourceMap {
         ensures refused { IfErr result (λ e. e ≡ error.Memory) }
     {
         let mut decls = Vec::new(alloc);
-        for (name, (path, item)) in self.decls.iter() {
-            decls.push((name.as_str(), path, item.as_str()))?;
+        match list_decls(&mut decls, &self.entries.decls) {
+            Ok(()) => Ok(decls),
+            Err(_) => Err(Error::Memory),
         }
-        Ok(decls)
-    }
-
-    /// Adds what another map knows to one that knows nothing.
-    fn copy_from(&mut self, alloc: Global, other: &BasicSourceMap) -> Result<(), Error>
-        requires no_decls { (name : Text) → items self.old name ≡ None }
-        requires no_modules { (path : Path) → sources self.old path ≡ None }
-        ensures equal { OnOk result (KnowsTheSame other.now self.new) }
-        ensures refused { IfErr result (λ e. e ≡ error.Memory) }
-    {
-        self.default_source = copied_text(&other.default_source)?;
-        copy_decls(&mut self.decls, alloc, &other.decls)?;
-        copy_sources(&mut self.sources, alloc, &other.sources)
     }
 
     /// A map that knows the same. Refused for want of memory alone.
@@ -307,18 +128,10 @@ impl BasicSourceMap {
         ensures equal { IfOk result (KnowsTheSame self.now) }
         ensures refused { IfErr result (λ e. e ≡ error.Memory) }
     {
-        let mut copy = BasicSourceMap::new(alloc);
-        match copy.copy_from(alloc, self) {
-            Ok(()) => Ok(copy),
+        match self.entries.try_clone(alloc) {
+            Ok(entries) => Ok(BasicSourceMap { entries }),
             Err(error) => Err(error),
         }
-    }
-
-    /// What was last said of the module at `path`.
-    fn source_at(&self, path: &ModulePath) -> Option<&(Option<String>, String)>
-        ensures { option_map (λ said. source_view said.now) result ≡ sources self.now (path_view path.now) }
-    {
-        self.sources.get(path)
     }
 }
 
@@ -335,31 +148,19 @@ impl SourceMap for BasicSourceMap {
     ghost default_of = { default_text };
 
     fn get_decl(&self, name: &str) -> Option<(&ModulePath, &str)> {
-        let (path, item) = self.decls.get(name)?;
-        Some((path, item.as_str()))
+        self.entries.decl_at(name)
     }
 
     fn get_source(&self, path: &ModulePath) -> Option<&str> {
-        let (_, text) = self.source_at(path)?;
-        Some(text.as_str())
+        self.entries.text_at(path)
     }
 
     fn get_display_name(&self, path: &ModulePath) -> Option<&str> {
-        let (display, _) = self.source_at(path)?;
+        let (display, _) = self.entries.source_at(path)?;
         text_of(display)
     }
 
     fn get_default_source(&self) -> Option<&str> {
-        text_of(&self.default_source)
-    }
-}
-
-/// The text, where there is one.
-fn text_of(text: &Option<String>) -> Option<&str>
-    ensures { option_map (λ shown. shown.now) result ≡ option_map string_bytes text.now }
-{
-    match text {
-        Some(text) => Some(text.as_str()),
-        None => None,
+        text_of(&self.entries.default_source)
     }
 }

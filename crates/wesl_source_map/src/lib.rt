@@ -3,10 +3,9 @@
 
 mod asked;
 mod basic;
-mod map;
 mod mapper;
 
 pub use asked::{Asked, Start};
 pub use basic::BasicSourceMap;
-pub use map::{NoSourceMap, SourceMap};
 pub use mapper::SourceMapper;
+pub use wesl_map_entries::{NoSourceMap, SourceMap};

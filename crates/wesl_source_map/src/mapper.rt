@@ -1,5 +1,5 @@
 //! A resolver and a mangler that record what they are asked.
-ghost use Rattle.std.specs.Prelude.{◌≡◌, ◌⊎◌, ℕ, List, false, true, None, OnOk, OnErr, IfOk, IfErr, is_ok, option_map, string_bytes};
+ghost use Rattle.std.specs.Prelude.{◌≡◌, ◌⊎◌, ℕ, List, false, true, None, OnOk, OnErr, IfOk, IfErr, string_bytes};
 ghost use Rattle.wesl_syntax.specs.Tree.{Tree};
 ghost use Rattle.wesl_syntax.specs.Unit.{spelled};
 ghost use Rattle.wesl_tree.specs.Translation.{unit_view};
@@ -7,17 +7,18 @@ ghost use Rattle.wesl_names.specs.Path.{Text, Path, path_view, is_relative};
 ghost use Rattle.wesl_names.specs.Errors.{OrMemory};
 ghost use Rattle.wesl_names.specs.declared.errors.Error as error;
 ghost use Rattle.wesl_names.specs.declared.errors.ResolveError as resolve_error;
-ghost use Rattle.wesl_resolve.specs.Resolver.{MeansTheSame};
-ghost use Rattle.wesl_source_map.specs.Records.{WritesItem, WritesSource, SameItems, SameSources};
+ghost use Rattle.wesl_resolver.specs.Resolver.{MeansTheSame};
+ghost use Rattle.wesl_map_entries.specs.Records.{WritesItem, SameItems, SameSources};
+ghost use Rattle.wesl_map_entries.specs.Held.{source_or};
 ghost use Rattle.wesl_source_map.specs.BasicView.{items, sources, default_text, KnowsTheSame};
-ghost use Rattle.wesl_source_map.specs.Recording.{Records, RecordsIfGiven, IsAskedAlone, HasNamed, source_or};
+ghost use Rattle.wesl_source_map.specs.Recording.{Records, RecordsIfGiven, IsAskedAlone, HasNamed};
 
 use crate::basic::BasicSourceMap;
-use crate::map::SourceMap;
 use std::alloc::Global;
-use wesl_mangle::Mangler;
-use wesl_names::{Diagnostic, Error, ModulePath, Names, ResolveError};
-use wesl_resolve::Resolver;
+use wesl_item_forms::Mangler;
+use wesl_map_entries::{as_resolved, unless_memory};
+use wesl_names::{Error, ModulePath, Names, ResolveError};
+use wesl_resolver::Resolver;
 use wesl_syntax::TypeExpression;
 use wesl_tree::TranslationUnit;
 
@@ -78,31 +79,10 @@ impl<R: Drop, M: Drop> SourceMapper<R, M> {
         ensures kept { IfErr result (KnowsTheSame self.sourcemap) }
     {
         let mut sourcemap = self.sourcemap;
-        let text = match sourcemap.get_source(&self.root) {
-            Some(text) => String::from_str(alloc, text),
-            None => return Ok(sourcemap),
-        };
-        match text {
-            Ok(text) => {
-                sourcemap.set_default_source(text);
-                Ok(sourcemap)
-            }
+        let set = sourcemap.entries.set_default_from(alloc, &self.root);
+        match set {
+            Ok(()) => Ok(sourcemap),
             Err(_) => Err(sourcemap),
-        }
-    }
-}
-
-/// What may be refused for want of memory alone, as a resolver tells it.
-fn as_resolved(recorded: Result<(), Error>) -> Result<(), ResolveError>
-    ensures same { is_ok result ≡ is_ok recorded }
-    ensures refused { IfErr result (λ e. e ≡ resolve_error.Memory) }
-{
-    match recorded {
-        Ok(()) => Ok(()),
-        Err(fault) => {
-            // An error is let go as a diagnostic, by one call.
-            let _fault = Diagnostic::of(fault);
-            Err(ResolveError::Memory)
         }
     }
 }
@@ -125,7 +105,8 @@ impl<R: Resolver, M> SourceMapper<R, M> {
     {
         match self.resolver.display_name(alloc, path) {
             Ok(display) => {
-                let recorded = self.sourcemap.copy_source(alloc, path, display, text);
+                let entries = &mut self.sourcemap.entries;
+                let recorded = entries.copy_source(alloc, path, display, text);
                 as_resolved(recorded)
             }
             Err(error) => Err(error),
@@ -147,12 +128,7 @@ impl<R: Resolver, M> SourceMapper<R, M> {
     {
         match self.resolver.resolve_source(alloc, path) {
             Ok(text) => self.record_source(alloc, path, text.as_str()),
-            Err(ResolveError::Memory) => Err(ResolveError::Memory),
-            Err(refusal) => {
-                // A refusal is let go as a diagnostic, by one call.
-                let _refusal = Diagnostic::of(Error::Resolve(refusal));
-                Ok(())
-            }
+            Err(refusal) => unless_memory(refusal),
         }
     }
 }
@@ -273,7 +249,8 @@ impl<R, M: Mangler> Mangler for SourceMapper<R, M> {
     {
         match self.mangler.mangle(alloc, path, item) {
             Ok(name) => {
-                let recorded = self.sourcemap.copy_decl(alloc, name.as_str(), path, item);
+                let entries = &mut self.sourcemap.entries;
+                let recorded = entries.copy_decl(alloc, name.as_str(), path, item);
                 match recorded {
                     Ok(()) => Ok(name),
                     Err(error) => Err(error),

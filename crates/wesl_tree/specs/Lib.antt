@@ -4,7 +4,8 @@ pub use Rattle.wesl_names.specs.PathOrder
 pub use Rattle.wesl_names.specs.PathForm
 pub use Rattle.wesl_names.specs.PathLaws
 pub use Rattle.wesl_names.specs.PathRows
-pub use Rattle.wesl_names.specs.Borrowed
+pub use Rattle.wesl_base.specs.Pieces
+pub use Rattle.wesl_base.specs.Borrowed
 pub use Rattle.wesl_names.specs.Errors
 pub use Rattle.wesl_syntax.specs.Tree
 pub use Rattle.wesl_syntax.specs.View

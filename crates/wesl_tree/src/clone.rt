@@ -5,11 +5,12 @@ ghost use Rattle.wesl_tree.specs.Translation.{unit_view};
 
 use crate::unit::TranslationUnit;
 use std::alloc::Global;
-use wesl_copies::{Copying, TryClone, unless_refused};
+use wesl_copies::{Copying, unless_refused};
 use wesl_names::Error;
 
-impl TryClone for TranslationUnit {
-    fn try_clone(&self, alloc: Global) -> Result<TranslationUnit, Error>
+impl TranslationUnit {
+    /// A copy of the unit, which equals it, spans too. Refused for want of memory alone.
+    pub fn try_clone(&self, alloc: Global) -> Result<TranslationUnit, Error>
         ensures equal { IfOk result (λ unit. unit_view unit ≡ unit_view self.now) }
         ensures refused { IfErr result (λ e. e ≡ error.Memory) }
     {

@@ -6,7 +6,6 @@ mod unit;
 mod voids;
 
 pub use unit::TranslationUnit;
-pub use wesl_copies::TryClone;
 pub use wesl_names::{
     CondCompError, Diagnostic, Error, Ident, ImportError, ModulePath, Names, PathOrigin,
     ResolveError, Span, ValidateError, law_of_equality as law_of_path_equality, law_of_order,

@@ -5,7 +5,6 @@ use wesl_copies::Copying;
 use wesl_row::{Object, Row};
 use wesl_tree::{
     Attributes, Expression, ExpressionNode, GlobalDeclaration, StatementNode, TranslationUnit,
-    TryClone,
 };
 
 /// Which lists of two units are equal, and whether the units have the same spelling.

@@ -1,9 +1,8 @@
 //! Scopes: identifiers and their numbers, entry points, stripping, and names that clash.
 use serde_json::Value;
-use wesl_clash::names_clash;
 use wesl_occurrences::{Identifiers, Occurrence, Standing, occurrences};
 use wesl_row::{List, Object, Row, is_refused, names_value, numbers_value, stands, unit_of_one};
-use wesl_scope::{SyntaxUtil, strip_except};
+use wesl_scope::{SyntaxUtil, names_clash, strip_except};
 use wesl_tree::TranslationUnit;
 
 /// The identifiers of a unit, or none.

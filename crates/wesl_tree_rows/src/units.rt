@@ -2,7 +2,7 @@
 use serde_json::Value;
 use wesl_copies::Copying;
 use wesl_json::{JsonText, unit_of_value};
-use wesl_resolve::UnitText;
+use wesl_resolver::UnitText;
 use wesl_row::{Object, Row, of_diagnostic, of_error, printed};
 use wesl_tree::{Error, GlobalDirective, Names, Span, Spanned, TranslationUnit};
 

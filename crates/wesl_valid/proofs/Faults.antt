@@ -1,8 +1,8 @@
 -- A module with a fault is not valid, and one without a fault of the WESL part is valid.
 use Rattle.std.proofs.Common.{◌≡◌, ◌⊎◌, ℕ, Bool, true, false, Option, [], refl, sym, ap, ◌∙◌, subst, inl, inr, true≢false, get_or, string_bytes}
 use Rattle.wesl_names.specs.Path.{Text}
-use Rattle.wesl_names.specs.declared.errors.ValidateError.{ValidateError}
-use Rattle.wesl_names.specs.declared.errors.ValidateError.TheVariants as fault
+use Rattle.wesl_base.specs.declared.faults.ValidateError.{ValidateError}
+use Rattle.wesl_base.specs.declared.faults.ValidateError.TheVariants as fault
 use Rattle.wesl_syntax.specs.Unit.{UnitView}
 use Rattle.wesl_builtins.specs.Builtins.{BuiltinNames}
 use Rattle.std.specs.List.{Contains}

@@ -2,7 +2,7 @@
 use Rattle.std.specs.Prelude.{◌↔◌, ℕ, Option}
 use Rattle.std.specs.List.{Contains}
 use Rattle.wesl_names.specs.Path.{Text}
-use Rattle.wesl_names.specs.declared.errors.ValidateError.{ValidateError}
+use Rattle.wesl_base.specs.declared.faults.ValidateError.{ValidateError}
 use Rattle.wesl_syntax.specs.Unit.{UnitView}
 use Rattle.wesl_builtins.specs.Builtins.{BuiltinNames}
 use Rattle.wesl_valid.specs.Calls.{CallOf}

@@ -1,8 +1,8 @@
 -- What `validate_wesl` refuses, `validate_wgsl` refuses too.
 use Rattle.std.specs.Prelude.{Option}
 use Rattle.wesl_names.specs.Path.{Text}
-use Rattle.wesl_names.specs.declared.errors.ValidateError.{ValidateError}
-use Rattle.wesl_names.specs.declared.errors.ValidateError.TheVariants as fault
+use Rattle.wesl_base.specs.declared.faults.ValidateError.{ValidateError}
+use Rattle.wesl_base.specs.declared.faults.ValidateError.TheVariants as fault
 use Rattle.wesl_names.specs.declared.errors.Error as error
 use Rattle.wesl_names.specs.declared.errors.Diagnostic.{Diagnostic}
 use Rattle.wesl_syntax.specs.Unit.{UnitView}

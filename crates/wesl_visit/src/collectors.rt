@@ -6,10 +6,10 @@ ghost use Rattle.wesl_collect.specs.Walk.{strictly};
 
 use std::alloc::Global;
 use wesl_collect::{
-    Collected, in_alias, in_assert, in_attribute, in_declaration, in_declarations, in_directives,
-    in_expression, in_function, in_global, in_imports, in_member, in_statement, in_struct, in_type,
+    Collected, Kind, in_alias, in_assert, in_attribute, in_declaration, in_declarations,
+    in_directives, in_expression, in_function, in_global, in_imports, in_member, in_statement,
+    in_struct, in_type,
 };
-use wesl_kinds::Kind;
 use wesl_names::Error;
 use wesl_rewrite::Holder;
 use wesl_syntax::{

@@ -1,6 +1,6 @@
 //! Visits: lists of nodes, and runs of a visitor over them; and rewriting.
 ghost use Rattle.std.specs.Prelude.{◌≡◌, IfErr, IfOk, false, true};
-ghost use Rattle.wesl_kinds.specs.Sought.{test};
+ghost use Rattle.wesl_collect.specs.Sought.{test};
 ghost use Rattle.wesl_names.specs.declared.errors.Error as error;
 ghost use Rattle.wesl_rewrite.specs.Holders.{KeepsNumbers};
 ghost use Rattle.wesl_rewrite.specs.Replaced.{ReplacedBelow, StoppedBelow, rule};
@@ -12,7 +12,7 @@ ghost use Rattle.wesl_collect.specs.Seen.{below};
 
 use crate::collectors::Collect;
 use std::alloc::Global;
-use wesl_kinds::{Kind, Replace, Rewrite};
+use wesl_collect::{Kind, Replace, Rewrite};
 use wesl_names::Error;
 use wesl_syntax::{
     Attribute, Attributes, ConstAssert, Declaration, Expression, ExpressionNode, Function,

@@ -11,8 +11,7 @@ use crate::import::{directive_values, import_values};
 use crate::object::{Object, Written};
 use serde_json::Value;
 use std::alloc::{AllocError, Global};
-use wesl_form_laws::law_of_order;
-use wesl_piece::value_of_piece;
+use wesl_piece::{law_of_order, value_of_piece};
 use wesl_tree::{Error, TranslationUnit};
 
 /// The value that a unit is written as: its form with the names for the identifiers.

@@ -5,7 +5,7 @@ ghost use Rattle.wesl_collect.specs.Adds.{Adds};
 
 use crate::collect::expression::{at_expression, at_expressions, at_type};
 use crate::collected::Collected;
-use wesl_kinds::{Kind, Node};
+use crate::kinds::{Kind, Node};
 use wesl_syntax::{Attribute, Attributes, ExpressionNode, TypeExpression};
 
 pub(crate) fn at_optional_expression<'a, T: Kind>(

@@ -8,7 +8,7 @@ use crate::collect::attribute::{at_attributes, at_optional_type};
 use crate::collect::expression::at_type;
 use crate::collect::statement::{in_assert, in_compound, in_declaration};
 use crate::collected::Collected;
-use wesl_kinds::{Kind, Node};
+use crate::kinds::{Kind, Node};
 use wesl_syntax::{
     Attributes, FormalParameter, Function, GlobalDeclaration, GlobalDeclarationNode,
     GlobalDirective, GlobalDirectiveNode, ImportStatement, ImportStatementNode, Struct,

@@ -5,7 +5,7 @@ ghost use Rattle.wesl_syntax.specs.View.{argument_view, call_view, expression_tr
 ghost use Rattle.wesl_collect.specs.Adds.{Adds};
 
 use crate::collected::Collected;
-use wesl_kinds::{Kind, Node};
+use crate::kinds::{Kind, Node};
 use wesl_syntax::{Expression, ExpressionNode, FunctionCall, TemplateArg, TypeExpression};
 
 /// Adds the nodes of a kind in an expression, in document order. Refused for want of memory alone.

@@ -8,7 +8,7 @@ ghost use Rattle.wesl_collect.specs.Adds.{Adds};
 use crate::collect::attribute::{at_attributes, at_optional_expression, at_optional_type};
 use crate::collect::expression::{at_expression, in_call};
 use crate::collected::Collected;
-use wesl_kinds::{Kind, Node};
+use crate::kinds::{Kind, Node};
 use wesl_syntax::{
     BreakIfStatement, CaseSelector, CompoundStatement, ConstAssert, ContinuingStatement,
     Declaration, ElseClause, ElseIfClause, IfClause, Statement, StatementNode, SwitchClause,

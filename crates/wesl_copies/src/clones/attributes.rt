@@ -1,34 +1,19 @@
 //! Copies of attributes.
-ghost use Rattle.std.specs.Prelude.{◌≡◌, IfOk, IfErr};
-ghost use Rattle.wesl_names.specs.declared.errors.Error as error;
 ghost use Rattle.wesl_syntax.specs.Tree.{attribute_node};
-ghost use Rattle.wesl_syntax.specs.View.{attribute_view, placed};
+ghost use Rattle.wesl_syntax.specs.View.{attribute_view};
 
-use crate::clones::TryClone;
-use crate::clones::end::unless_refused;
+use crate::clones::{Node, Placed};
 use crate::copying::Copying;
-use std::alloc::Global;
-use wesl_names::Error;
-use wesl_syntax::{Attribute, Spanned};
+use wesl_syntax::Attribute;
 
-impl TryClone for Attribute {
-    fn try_clone(&self, alloc: Global) -> Result<Attribute, Error>
-        ensures equal { IfOk result (λ copy. attribute_view copy ≡ attribute_view self.now) }
-        ensures refused { IfErr result (λ e. e ≡ error.Memory) }
-    {
-        let mut copying = Copying::of(alloc);
-        let copy = copying.attribute(self);
-        unless_refused(copying.is_refused, copy)
+impl Node for Attribute {
+    ghost tree = { attribute_view };
+
+    fn copied(&self, copying: &mut Copying<'_>) -> Attribute {
+        copying.attribute(self)
     }
 }
 
-impl TryClone for Spanned<Attribute> {
-    fn try_clone(&self, alloc: Global) -> Result<Spanned<Attribute>, Error>
-        ensures equal { IfOk result (λ copy. placed attribute_view attribute_node copy ≡ placed attribute_view attribute_node self.now) }
-        ensures refused { IfErr result (λ e. e ≡ error.Memory) }
-    {
-        let mut copying = Copying::of(alloc);
-        let copy = copying.attribute_node(self);
-        unless_refused(copying.is_refused, copy)
-    }
+impl Placed for Attribute {
+    ghost place = { attribute_node };
 }

@@ -6,7 +6,7 @@ ghost use Rattle.wesl_syntax.specs.Tree.{attribute_node, before, end, forest_of}
 ghost use Rattle.wesl_syntax.specs.View.{attribute_view, attributes_tree, expression_tree, optional, placed, type_view};
 
 use crate::replace::expression::{at_expression, at_expressions, at_type};
-use wesl_kinds::{Replace, Rewrite, law_of_words};
+use wesl_collect::{Replace, Rewrite, law_of_words};
 use wesl_syntax::{Attribute, AttributeNode, Attributes, ExpressionNode, TypeExpression};
 
 pub(crate) fn at_optional_expression<T: Replace, R: Rewrite<T>>(

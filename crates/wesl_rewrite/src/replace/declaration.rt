@@ -8,7 +8,7 @@ ghost use Rattle.wesl_syntax.specs.View.{alias_view, directive_view, function_vi
 use crate::replace::attribute::{at_attributes, at_optional_type};
 use crate::replace::expression::at_type;
 use crate::replace::statement::{in_assert, in_compound, in_declaration};
-use wesl_kinds::{Replace, Rewrite, law_of_words};
+use wesl_collect::{Replace, Rewrite, law_of_words};
 use wesl_syntax::{
     FormalParameter, Function, GlobalDeclaration, GlobalDeclarationNode, GlobalDirective,
     GlobalDirectiveNode, ImportStatement, ImportStatementNode, Struct, StructMember,

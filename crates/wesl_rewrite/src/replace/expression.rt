@@ -5,7 +5,7 @@ ghost use Rattle.wesl_syntax.specs.View.{argument_view, call_view, expression_tr
 ghost use Rattle.wesl_rewrite.specs.Replaced.{rule};
 ghost use Rattle.wesl_rewrite.specs.Went.{Went};
 
-use wesl_kinds::{Replace, Rewrite};
+use wesl_collect::{Replace, Rewrite};
 use wesl_syntax::{Expression, ExpressionNode, FunctionCall, TemplateArg, TypeExpression};
 
 #[cycle(replacing)]

@@ -8,7 +8,7 @@ ghost use Rattle.wesl_syntax.specs.View.{assert_view, break_if_view, clause_view
 
 use crate::replace::attribute::{at_attributes, at_optional_expression, at_optional_type};
 use crate::replace::expression::{at_expression, in_call};
-use wesl_kinds::{Replace, Rewrite};
+use wesl_collect::{Replace, Rewrite};
 use wesl_syntax::{
     BreakIfStatement, CaseSelector, CompoundStatement, ConstAssert, ContinuingStatement,
     Declaration, ElseClause, ElseIfClause, IfClause, Statement, StatementNode, SwitchClause,

@@ -1,6 +1,6 @@
 use Rattle.std.proofs.Common.{option_map, sym}
 use Rattle.serde_json.specs.Find.{get}
-use Rattle.wesl_borrowed.specs.View.{borrowed_view}
+use Rattle.wesl_form.specs.View.{borrowed_view}
 use Rattle.wesl_bundle.specs.Builtins.{builtins_in}
 use Rattle.wesl_bundle.specs.Reading.{optional_in}
 use Rattle.wesl_bundle.specs.Views.{builtins_view}

@@ -1,9 +1,9 @@
 use Rattle.std.proofs.Common.{inl, refl, codes}
-use Rattle.wesl_borrowed.specs.View.{borrowed_view}
+use Rattle.wesl_form.specs.View.{borrowed_view}
 use Rattle.wesl_bundle.specs.Broken.{Locates}
 use Rattle.wesl_bundle.specs.Bundle.{module_keys}
 use Rattle.wesl_bundle.specs.Forms.{a_module, a_path, a_unit, required}
-use Rattle.wesl_borrowed.specs.Keys.{has_only}
+use Rattle.wesl_form.specs.Keys.{has_only}
 use Rattle.wesl_bundle.proofs.Together.{of-both, of-field, of-only, part}
 use Rattle.wesl_bundle.proofs.Places.{Locates-here}
 use Rattle.wesl_bundle.proofs.Readings.{module-read}

@@ -1,6 +1,6 @@
 use Rattle.std.proofs.Common.{sym, rules}
 use Rattle.serde_json.specs.Find.{get}
-use Rattle.wesl_borrowed.specs.View.{borrowed_view}
+use Rattle.wesl_form.specs.View.{borrowed_view}
 use Rattle.wesl_bundle.specs.Bundle.{module_in}
 use Rattle.wesl_bundle.specs.Forms.{a_module}
 use Rattle.wesl_bundle.specs.Views.{module_view}

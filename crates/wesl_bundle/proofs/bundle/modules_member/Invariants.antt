@@ -1,4 +1,4 @@
-use Rattle.wesl_borrowed.specs.View.{borrowed_view}
+use Rattle.wesl_form.specs.View.{borrowed_view}
 use Rattle.wesl_bundle.specs.Bundle.{module_in}
 use Rattle.wesl_bundle.specs.Forms.{a_module}
 use Rattle.wesl_bundle.specs.Views.{module_view}

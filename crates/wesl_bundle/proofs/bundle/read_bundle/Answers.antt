@@ -1,6 +1,6 @@
 use Rattle.std.proofs.Common.{◌≡◌, None, Some, inl, inr}
 use Rattle.std.proofs.lemmas.Result.{IfErr-weaker, IfOk-weaker}
-use Rattle.wesl_borrowed.specs.View.{borrowed_view}
+use Rattle.wesl_form.specs.View.{borrowed_view}
 use Rattle.wesl_bundle.specs.Bundle.{bundle_of}
 use Rattle.wesl_bundle.specs.Forms.{HasFloatAt, IsBroken, IsBrokenBundle, a_bundle}
 use Rattle.wesl_bundle.specs.Views.{bundle_view}

@@ -1,10 +1,10 @@
 use Rattle.std.proofs.Common.{◌≡◌, false, inl, refl, codes}
-use Rattle.wesl_borrowed.specs.View.{borrowed_view}
+use Rattle.wesl_form.specs.View.{borrowed_view}
 use Rattle.wesl_names.specs.Path.{is_relative, path_view}
 use Rattle.wesl_bundle.specs.Broken.{Locates}
 use Rattle.wesl_bundle.specs.Bundle.{bundle_keys}
 use Rattle.wesl_bundle.specs.Forms.{a_bundle, a_list_of, a_module, a_name, a_package, a_path, optional, required, some_builtins, some_features}
-use Rattle.wesl_borrowed.specs.Keys.{has_only}
+use Rattle.wesl_form.specs.Keys.{has_only}
 use Rattle.wesl_bundle.proofs.Together.{of-both, of-field, of-only, part}
 use Rattle.wesl_bundle.proofs.Places.{Locates-here}
 use Rattle.wesl_bundle.proofs.Readings.{bundle-read}

@@ -1,6 +1,6 @@
 use Rattle.std.proofs.Common.{option_and_then, sym, ap, ◌∙◌}
 use Rattle.serde_json.specs.Find.{get}
-use Rattle.wesl_borrowed.specs.View.{borrowed_view}
+use Rattle.wesl_form.specs.View.{borrowed_view}
 use Rattle.wesl_bundle.specs.Features.{feature_in, feature_of}
 use Rattle.wesl_features.specs.declared.features.Feature.TheVariants.{Disable}
 use Rattle.wesl_bundle.specs.Forms.{a_feature, optional}

@@ -1,6 +1,6 @@
 use Rattle.std.proofs.Common.{[], sym}
 use Rattle.serde_json.specs.Find.{get}
-use Rattle.wesl_borrowed.specs.View.{borrowed_view}
+use Rattle.wesl_form.specs.View.{borrowed_view}
 use Rattle.wesl_bundle.specs.Features.{flags_in}
 use Rattle.wesl_bundle.specs.Reading.{or_default}
 use Rattle.wesl_bundle.specs.Views.{flags_view}

@@ -3,8 +3,8 @@ use Rattle.std.proofs.lemmas.Grind.{common_steps}
 use Rattle.serde_json.specs.View.{view, items_view, members_view}
 use Rattle.serde_json.specs.Written.{has_float}
 use Rattle.serde_json.proofs.Views.{Entry}
-use Rattle.wesl_borrowed.specs.Keys.{HasMember}
-use Rattle.wesl_borrowed.specs.Pointer.{key}
+use Rattle.wesl_form.specs.Keys.{HasMember}
+use Rattle.wesl_form.specs.Pointer.{key}
 use Rattle.wesl_bundle.specs.Broken.{IsUnder}
 use Rattle.wesl_bundle.proofs.Places.{HasFloatAt-item, HasFloatAt-member}
 use Rattle.wesl_bundle.proofs.Wholes.{item-found, floats-turn, floats-member, HasMember-middle}

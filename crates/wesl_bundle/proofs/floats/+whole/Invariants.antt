@@ -1,6 +1,6 @@
 use Rattle.std.proofs.Common.{◌≡◌, take, false}
 use Rattle.serde_json.specs.Written.{items_have_float, members_have_float}
-use Rattle.wesl_borrowed.specs.View.{items_view, members_view}
+use Rattle.wesl_form.specs.View.{items_view, members_view}
 use Rattle.wesl_bundle.proofs.floats.+whole.Given as goal
 
 abbrev pub invariant-are_whole-loop-item : goal.invariant-are_whole-loop-item

@@ -1,6 +1,6 @@
 use Rattle.std.proofs.Common.{option_and_then, string_bytes, refl, sym}
 use Rattle.serde_json.specs.Find.{get}
-use Rattle.wesl_borrowed.specs.View.{borrowed_view}
+use Rattle.wesl_form.specs.View.{borrowed_view}
 use Rattle.wesl_bundle.specs.Forms.{a_name, required}
 use Rattle.wesl_bundle.specs.Reading.{name_in}
 use Rattle.wesl_bundle.proofs.Together.{of-inside, there-read}

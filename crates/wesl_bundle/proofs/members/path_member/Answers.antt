@@ -1,7 +1,7 @@
 use Rattle.std.proofs.Common.{◌≡◌, option_and_then, false, refl, sym}
 use Rattle.std.proofs.lemmas.Result.{IfOk-at_ok, IfOk-weaker}
 use Rattle.serde_json.specs.Find.{get}
-use Rattle.wesl_borrowed.specs.View.{borrowed_view}
+use Rattle.wesl_form.specs.View.{borrowed_view}
 use Rattle.wesl_names.specs.Path.{is_relative, path_view}
 use Rattle.wesl_bundle.specs.Forms.{a_path, required}
 use Rattle.wesl_bundle.specs.Reading.{path_in}

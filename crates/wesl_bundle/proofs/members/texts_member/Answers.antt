@@ -1,6 +1,6 @@
 use Rattle.std.proofs.Common.{sym, string_bytes, rules}
 use Rattle.serde_json.specs.Find.{get}
-use Rattle.wesl_borrowed.specs.View.{borrowed_view}
+use Rattle.wesl_form.specs.View.{borrowed_view}
 use Rattle.wesl_bundle.specs.Parts.{text_form, text_in}
 use Rattle.wesl_bundle.proofs.Lists.{AreItems, all-read, items-there, list-fault, no-list, none-read, one-read}
 use Rattle.wesl_bundle.proofs.members.texts_member.Goals as goal

@@ -1,5 +1,5 @@
 use Rattle.std.proofs.Common.{string_bytes}
-use Rattle.wesl_borrowed.specs.View.{borrowed_view}
+use Rattle.wesl_form.specs.View.{borrowed_view}
 use Rattle.wesl_bundle.specs.Parts.{text_form, text_in}
 use Rattle.wesl_bundle.proofs.Lists.{AreRead}
 use Rattle.wesl_bundle.proofs.members.texts_member.Given as goal

@@ -1,5 +1,5 @@
 use Rattle.std.proofs.Common.{refl, sym}
-use Rattle.wesl_borrowed.specs.View.{borrowed_view}
+use Rattle.wesl_form.specs.View.{borrowed_view}
 use Rattle.wesl_bundle.specs.Forms.{a_unit, required}
 use Rattle.wesl_bundle.proofs.Places.{LocatesMember-lacks}
 use Rattle.wesl_bundle.proofs.members.unit_member.Goals as goal

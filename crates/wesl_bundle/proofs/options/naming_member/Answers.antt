@@ -1,6 +1,6 @@
 use Rattle.std.proofs.Common.{option_and_then, sym, ap, ◌∙◌}
 use Rattle.serde_json.specs.Find.{get}
-use Rattle.wesl_borrowed.specs.View.{borrowed_view}
+use Rattle.wesl_form.specs.View.{borrowed_view}
 use Rattle.wesl_bundle.specs.Bundle.{naming_in, naming_of}
 use Rattle.wesl_bundle.specs.declared.options.Naming.TheVariants.{Escape}
 use Rattle.wesl_bundle.specs.Forms.{a_mangler, optional}

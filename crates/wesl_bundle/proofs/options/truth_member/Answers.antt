@@ -1,6 +1,6 @@
 use Rattle.std.proofs.Common.{sym, ◌∙◌}
 use Rattle.serde_json.specs.Find.{get}
-use Rattle.wesl_borrowed.specs.View.{borrowed_view}
+use Rattle.wesl_form.specs.View.{borrowed_view}
 use Rattle.std.proofs.Common.{false}
 use Rattle.serde_json.specs.Find.{as_bool}
 use Rattle.wesl_bundle.specs.Forms.{a_truth, optional}

@@ -1,6 +1,6 @@
 use Rattle.std.proofs.Common.{◌+◌, ◌*◌}
 use Rattle.serde_json.specs.Data.{depth}
-use Rattle.wesl_borrowed.specs.View.{borrowed_view}
+use Rattle.wesl_form.specs.View.{borrowed_view}
 use Rattle.wesl_bundle.specs.Forms.{a_package_module}
 use Rattle.wesl_bundle.specs.PackageViews.{package_module_view}
 use Rattle.wesl_bundle.specs.Packages.{package_module_in}

@@ -2,13 +2,13 @@ use Rattle.std.proofs.Common.{◌<◌, Some, map, true, codes, refl, sym, ap, �
 use Rattle.std.proofs.lemmas.Result.{IfErr-weaker, IfOk-weaker}
 use Rattle.serde_json.specs.Data.{depth}
 use Rattle.serde_json.specs.Find.{get}
-use Rattle.wesl_borrowed.specs.View.{borrowed_view}
+use Rattle.wesl_form.specs.View.{borrowed_view}
 use Rattle.wesl_bundle.specs.Broken.{Locates}
 use Rattle.wesl_bundle.specs.Forms.{a_list_of, a_package, optional}
 use Rattle.wesl_bundle.specs.PackageViews.{package_view}
 use Rattle.wesl_bundle.specs.Packages.{package_in, package_keys}
 use Rattle.wesl_bundle.specs.Parts.{LocatesModuleMember}
-use Rattle.wesl_borrowed.specs.Keys.{has_only}
+use Rattle.wesl_form.specs.Keys.{has_only}
 use Rattle.wesl_bundle.specs.declared.packages.Package.{Package}
 use Rattle.wesl_bundle.specs.declared.packages.Package.TheOpen.{Package-F}
 use Rattle.wesl_bundle.proofs.Together.{of-both, of-field, of-only, part}

@@ -2,7 +2,7 @@ use Rattle.std.proofs.Common.{◌≡◌, ◌++◌, [], map, sym, subst, false, t
 use Rattle.wesl_chains.specs.Faults.{list_faults}
 use Rattle.wesl_chains.specs.Lists.{elements}
 use Rattle.wesl_chains.specs.Nodes.{optional_forest, replies}
-use Rattle.wesl_formula.specs.Evaluation.{Refuses}
+use Rattle.wesl_chains.specs.Evaluation.{Refuses}
 use Rattle.wesl_syntax.specs.Tree.{forest_of}
 use Rattle.wesl_chains.proofs.Begun.{both_told, without_last, with_last, last_told}
 use Rattle.wesl_chains.proofs.faults.check_both.Goals as goal

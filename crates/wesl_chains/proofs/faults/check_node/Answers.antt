@@ -2,7 +2,7 @@ use Rattle.std.proofs.Common.{ap, sym, subst, ◌∙◌}
 use Rattle.std.specs.List.{flat_map}
 use Rattle.wesl_chains.specs.Faults.{condition_faults, conditions, list_faults, opens, place_faults}
 use Rattle.wesl_chains.specs.Nodes.{replies}
-use Rattle.wesl_formula.specs.Evaluation.{Refuses}
+use Rattle.wesl_chains.specs.Evaluation.{Refuses}
 use Rattle.wesl_chains.proofs.Places.{node_begins, place_refused, formula_refused}
 use Rattle.wesl_chains.proofs.faults.check_node.Goals as goal
 

@@ -1,5 +1,5 @@
 use Rattle.std.proofs.Common.{◌≡◌, Bool, true, false, IfOk, IfErr, sym, subst, rules}
-use Rattle.wesl_names.specs.Borrowed.{texts}
+use Rattle.wesl_base.specs.Borrowed.{texts}
 use Rattle.wesl_linker.specs.Refusal.{TellsOf}
 use Rattle.wesl_linker.specs.Resolved.{module_at}
 use Rattle.wesl_linker.specs.Worlds.{task_of, IsLinked, IsRefused}

@@ -1,5 +1,5 @@
 use Rattle.std.proofs.Common.{take}
-use Rattle.wesl_names.specs.Borrowed.{texts}
+use Rattle.wesl_base.specs.Borrowed.{texts}
 use Rattle.wesl_table.specs.Numbering.{AreRelated, Grows, NameAt}
 use Rattle.wesl_table.specs.NumbersView.{numbering}
 use Rattle.wesl_linker.proofs.resolve.numbers_of.Given as goal

@@ -1,4 +1,4 @@
-use Rattle.wesl_resolve.specs.Resolver.{MeansTheSame}
+use Rattle.wesl_resolver.specs.Resolver.{MeansTheSame}
 use Rattle.wesl_table.specs.NumbersView.{numbering}
 use Rattle.wesl_linker.proofs.resolve.reach.Given as goal
 

@@ -1,5 +1,5 @@
 use Rattle.std.proofs.Common.{◌≡◌, Bool, false, sym, subst, ap, ◌∙◌}
-use Rattle.wesl_names.specs.Borrowed.{texts}
+use Rattle.wesl_base.specs.Borrowed.{texts}
 use Rattle.wesl_names.specs.Path.{is_relative}
 use Rattle.wesl_names.specs.declared.errors.Error as error
 use Rattle.wesl_table.specs.Numbering.{NameAt}

@@ -1,7 +1,7 @@
 use Rattle.std.proofs.Common.{◌≡◌, sym, subst, ap}
 use Rattle.std.specs.Prelude.{Vec}
 use Rattle.std.specs.declared.alloc.Global.{Global}
-use Rattle.wesl_names.specs.Borrowed.{texts}
+use Rattle.wesl_base.specs.Borrowed.{texts}
 use Rattle.wesl_names.specs.Path.{Path, path_view}
 use Rattle.wesl_names.specs.declared.path.ModulePath.{ModulePath}
 use Rattle.wesl_syntax.specs.Unit.{spelled}

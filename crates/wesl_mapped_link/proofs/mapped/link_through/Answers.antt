@@ -1,5 +1,5 @@
 use Rattle.std.proofs.Common.{◌≡◌, IfOk, subst, rules}
-use Rattle.wesl_names.specs.Borrowed.{texts}
+use Rattle.wesl_base.specs.Borrowed.{texts}
 use Rattle.wesl_names.specs.Path.{Path, path_view}
 use Rattle.wesl_tree.specs.Translation.{unit_view}
 use Rattle.wesl_resolutions.specs.Keeping.{resolved}

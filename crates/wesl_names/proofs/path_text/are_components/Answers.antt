@@ -2,7 +2,7 @@ use Rattle.std.proofs.Common.{◌∙◌, rules, tests}
 use Rattle.std.proofs.lemmas.Iterator.{YieldsList-from_slice}
 use Rattle.std.proofs.lemmas.Iterator.Search.{all_from_yields_List}
 use Rattle.wesl_names.specs.PathText.{is_component}
-use Rattle.wesl_names.proofs.Pieces.{all-components}
+use Rattle.wesl_names.proofs.Texts.{all-components}
 use Rattle.wesl_names.proofs.path_text.are_components.Goals as goal
 
 pub returns : goal.returns

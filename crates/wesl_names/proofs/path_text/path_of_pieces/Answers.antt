@@ -4,7 +4,7 @@ use Rattle.std.proofs.Math.Seq.{take-length}
 use Rattle.std.specs.Result.{IfOk}
 use Rattle.wesl_names.specs.Path.{Path, path_view, relative}
 use Rattle.wesl_names.specs.PathText.{path_with}
-use Rattle.wesl_names.specs.Borrowed.{texts}
+use Rattle.wesl_base.specs.Borrowed.{texts}
 use Rattle.wesl_names.proofs.Supers.{path_of_pieces-supers}
 use Rattle.wesl_names.proofs.path_text.path_of_pieces.Goals as goal
 

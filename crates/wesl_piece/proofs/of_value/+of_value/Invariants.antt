@@ -1,7 +1,7 @@
 use Rattle.std.proofs.Common.{◌≡◌, List, ◌++◌, take}
 use Rattle.serde_json.specs.View.{items_view as values_view, members_view as map_view}
 use Rattle.serde_json.proofs.Views.{Entry}
-use Rattle.wesl_borrowed.specs.View.{items_view, members_view}
+use Rattle.wesl_form.specs.View.{items_view, members_view}
 use Rattle.wesl_piece.proofs.of_value.+of_value.Given as goal
 
 abbrev pub invariant-items_of-loop-value : goal.invariant-items_of-loop-value

@@ -1,8 +1,8 @@
 use Rattle.std.proofs.Common.{◌≡◌, ◌<◌, length, get_or, sym, ap, ◌∙◌, rules}
 use Rattle.serde_json.specs.Data.{put}
 use Rattle.serde_json.specs.View.{members_view as map_view}
-use Rattle.wesl_borrowed.specs.View.{borrowed_view}
-use Rattle.wesl_borrowed.proofs.Lists.{Entry, members_view-more}
+use Rattle.wesl_form.specs.View.{borrowed_view}
+use Rattle.wesl_form.proofs.Lists.{Entry, members_view-more}
 use Rattle.wesl_piece.proofs.Light.{values-turn}
 use Rattle.wesl_piece.proofs.to_value.+to_value.Goals as goal
 

@@ -1,6 +1,6 @@
 use Rattle.std.proofs.Common.{◌≡◌, take}
 use Rattle.serde_json.specs.View.{items_view as values_view, members_view as map_view}
-use Rattle.wesl_borrowed.specs.View.{items_view, members_view}
+use Rattle.wesl_form.specs.View.{items_view, members_view}
 use Rattle.wesl_piece.proofs.to_value.+to_value.Given as goal
 
 abbrev pub invariant-values_of-loop-item : goal.invariant-values_of-loop-item

@@ -1,5 +1,5 @@
 use Rattle.std.proofs.Common.{◌≡◌, sym, ap, ◌∙◌, subst, inr, rules}
-use Rattle.wesl_borrowed.specs.View.{borrowed_view}
+use Rattle.wesl_form.specs.View.{borrowed_view}
 use Rattle.wesl_names.specs.declared.errors.Error as error
 use Rattle.wesl_json.specs.UnitTexts.{IsTreeFault}
 use Rattle.wesl_program.proofs.TreeFaults.{no-memory}

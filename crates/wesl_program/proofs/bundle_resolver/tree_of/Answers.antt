@@ -1,5 +1,5 @@
 use Rattle.std.proofs.lemmas.Result.{IfOk-weaker}
-use Rattle.wesl_borrowed.specs.View.{borrowed_view}
+use Rattle.wesl_form.specs.View.{borrowed_view}
 use Rattle.wesl_json.proofs.UnitTextLemmas.{both-err}
 use Rattle.wesl_program.proofs.TreeFaults.{tree-fault}
 use Rattle.wesl_program.proofs.bundle_resolver.tree_of.Goals as goal

@@ -4,7 +4,7 @@ use Rattle.serde_json.specs.View.{view}
 use Rattle.wesl_form.specs.Units.{unit_value}
 use Rattle.wesl_tree.specs.Translation.{unit_view}
 use Rattle.wesl_bundle.specs.Views.{builtins_view, bundle_view}
-use Rattle.wesl_source_map.specs.Records.{SameItems}
+use Rattle.wesl_map_entries.specs.Records.{SameItems}
 use Rattle.wesl_source_map.specs.BasicView.{items}
 use Rattle.wesl_program.specs.Linking.{recorded_for}
 use Rattle.wesl_program.specs.Validity.{IsValidUnder, RefusesUnit}

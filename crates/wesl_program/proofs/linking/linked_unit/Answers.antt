@@ -1,5 +1,5 @@
 use Rattle.std.proofs.Common.{◌≡◌, map, refl, ap, ◌∙◌, string_bytes}
-use Rattle.wesl_names.specs.Borrowed.{texts}
+use Rattle.wesl_base.specs.Borrowed.{texts}
 use Rattle.wesl_tree.specs.Translation.{unit_view}
 use Rattle.wesl_bundle.specs.Views.{bundle_view}
 use Rattle.wesl_source_map.specs.BasicView.{items}

@@ -3,7 +3,7 @@ use Rattle.serde_json.specs.Data.{no_members}
 use Rattle.serde_json.specs.View.{members_view}
 use Rattle.wesl_names.specs.Path.{Text, path_view}
 use Rattle.wesl_names.specs.declared.path.ModulePath.{ModulePath}
-use Rattle.wesl_source_map.specs.Records.{Item}
+use Rattle.wesl_map_entries.specs.Records.{Item}
 use Rattle.wesl_program.proofs.Maps.{puts}
 use Rattle.wesl_program.proofs.map_value.map_value.Given as goal
 

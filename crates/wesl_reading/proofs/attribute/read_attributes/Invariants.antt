@@ -1,4 +1,4 @@
-use Rattle.wesl_borrowed.specs.View.{borrowed_view}
+use Rattle.wesl_form.specs.View.{borrowed_view}
 use Rattle.wesl_syntax.specs.Tree.{attributes, attribute_node}
 use Rattle.wesl_syntax.specs.View.{attribute_view, placed}
 use Rattle.wesl_form.specs.Schema.{an_attribute}

@@ -1,9 +1,9 @@
 use Rattle.std.proofs.Common.{◌∙◌, sym, ◌≡◌, true, false, codes, string_bytes, option_map, refl, ap, rules}
-use Rattle.wesl_borrowed.specs.View.{borrowed_view}
+use Rattle.wesl_form.specs.View.{borrowed_view}
 use Rattle.wesl_syntax.specs.Tree.{list, text}
 use Rattle.wesl_form.specs.Schema.{list_of, an_expression, a_name}
 use Rattle.wesl_form.specs.Reading.{known_keys, name_in}
-use Rattle.wesl_borrowed.specs.Keys.{has_only}
+use Rattle.wesl_form.specs.Keys.{has_only}
 use Rattle.wesl_reading.specs.Forms.{attribute_of}
 use Rattle.wesl_reading.specs.declared.words.AttributeWord.TheVariants as attribs
 use Rattle.wesl_reading.proofs.Attributes.{attribute-inside, attribute-keys, attribute-reads, attribute-text}

@@ -3,14 +3,14 @@ use Rattle.std.proofs.lemmas.Result.{IfOk-weaker, IfErr-weaker, IfErr-at_err}
 use Rattle.std.specs.Option.{is_some}
 use Rattle.serde_json.specs.Data.{depth, items_depth}
 use Rattle.serde_json.specs.Find.{get, as_array, as_object}
-use Rattle.wesl_borrowed.specs.View.{borrowed_view, items_view}
+use Rattle.wesl_form.specs.View.{borrowed_view, items_view}
 use Rattle.wesl_syntax.specs.Tree.{branch, ident, list, reference, text, type_or_identifier}
-use Rattle.wesl_syntax.specs.View.{expression_tree, argument_view, type_view}
+use Rattle.wesl_syntax.specs.View.{expression_tree, argument_view, type_view, listed}
 use Rattle.wesl_form.specs.Schema.{node, leaf, an_expression, an_ident, a_path, a_type, a_name, a_template_argument, list_of, one_of}
 use Rattle.wesl_form.specs.Nodes.{type_row}
 use Rattle.wesl_form.specs.Words.{unary_words, binary_words}
 use Rattle.wesl_form.specs.Reading.{known_keys, word_in, name_in}
-use Rattle.wesl_borrowed.specs.Keys.{has_only}
+use Rattle.wesl_form.specs.Keys.{has_only}
 use Rattle.wesl_reading.specs.Faults.{IsMemberBroken, Locates}
 use Rattle.wesl_reading.specs.Forms.{expression_of}
 use Rattle.wesl_reading.specs.declared.words.ExpressionWord.TheVariants as words
@@ -18,12 +18,13 @@ use Rattle.wesl_reading.specs.Numbers.{Reads}
 use Rattle.wesl_reading.proofs.Arguments.{argument-form, argument-place}
 use Rattle.wesl_reading.proofs.Depths.{get-depth, item-depth, array-depth}
 use Rattle.wesl_reading.proofs.Places.{member-lacks, row-inside, row-keys, row-text}
-use Rattle.wesl_reading.proofs.Steps.{may-absent, needed-there, may-there, many-there, plain-type-reads, same-reads}
+use Rattle.wesl_reading.proofs.Steps.{may-absent, plain-type-reads, same-reads}
 use Rattle.wesl_reading.proofs.Expressions.{call-reads, call-rows, expression-inside, expression-keys, expression-member, expression-text, type-expression-place, type-expression-reads, type-place, type-reads, type-rows, parenthesized-reads, component-reads, indexing-reads, unary-reads, binary-reads}
 use Rattle.wesl_reading.proofs.ReadLists.{list-none, list-turn, list-whole}
 use Rattle.wesl_reading.proofs.Wholes.{of-boxed, part}
 use Rattle.wesl_reading.proofs.Trees.{as_expression, tree-type, made_type, tree-made-call, tree-parenthesized, tree-component, tree-indexing, tree-unary, tree-binary}
 use Rattle.wesl_reading.proofs.Exits.{no_list, none_listed, to_member, to_next}
+use Rattle.wesl_reading.proofs.Within.{fault-inside, fault-needed, many-inside, may-inside, needed-inside}
 use Rattle.wesl_reading.proofs.expression.+expressions.Goals as goal
 
 pub expression_member-read_expression-requires : goal.expression_member-read_expression-requires
@@ -62,23 +63,37 @@ read_expressions-read_expression-expression-requires t c =
     let deep : items_depth (items_view vs) < depth (borrowed_view c.args.value.now) = array-depth _ _ is in
     (omega arith, tt)
 
-pub expression_member-returns-in-Ok-clause-ok : goal.expression_member-returns-in-Ok-clause-ok
-expression_member-returns-in-Ok-clause-ok t c =
-    needed-there c.args.key.now (node an_expression) (borrowed_view c.args.value.now) (borrowed_view c.in-Some.member.now) _ _ _ (sym c.in-Some.ensures) c.in-Ok.ensures.ok
+pub expression_member-returns-clause-ok : goal.expression_member-returns-clause-ok
+expression_member-returns-clause-ok t c =
+    needed-inside c.args.key.now (borrowed_view c.args.value.now) (borrowed_view c.in-Some.member.now) (sym c.in-Some.ensures) c.read_expression.result (node an_expression) expression_tree _ _ c.read_expression.ensures.ok c.inside.result c.inside.ensures.ok
 
-pub type_member-returns-in-Ok-clause-ok : goal.type_member-returns-in-Ok-clause-ok
-type_member-returns-in-Ok-clause-ok t c =
-    needed-there c.args.key.now (node a_type) (borrowed_view c.args.value.now) (borrowed_view c.in-Some.member.now) _ _ _ (sym c.in-Some.ensures) c.in-Ok.ensures.ok
+pub expression_member-returns-clause-place : goal.expression_member-returns-clause-place
+expression_member-returns-clause-place t c =
+    fault-needed c.args.key.now (borrowed_view c.args.value.now) (borrowed_view c.in-Some.member.now) (sym c.in-Some.ensures) c.read_expression.result (node an_expression) c.inside.result c.read_expression.ensures.place c.inside.ensures.place
 
-pub arguments_member-returns-in-Ok-clause-ok : goal.arguments_member-returns-in-Ok-clause-ok
-arguments_member-returns-in-Ok-clause-ok t c =
-    let found : get (codes "args") (borrowed_view c.args.value.now) ≡ Some (borrowed_view c.in-Some.member.now) = sym c.in-Some.ensures in
-    may-there (codes "args") (list_of list a_template_argument) (borrowed_view c.args.value.now) (borrowed_view c.in-Some.member.now) _ _ _ found c.in-Ok.ensures.ok
+pub type_member-returns-clause-ok : goal.type_member-returns-clause-ok
+type_member-returns-clause-ok t c =
+    needed-inside c.args.key.now (borrowed_view c.args.value.now) (borrowed_view c.in-Some.member.now) (sym c.in-Some.ensures) c.read_type.result (node a_type) type_view _ _ c.read_type.ensures.ok c.inside.result c.inside.ensures.ok
 
-pub expressions_member-returns-in-Ok-clause-ok : goal.expressions_member-returns-in-Ok-clause-ok
-expressions_member-returns-in-Ok-clause-ok t c =
-    let found : get c.args.key.now (borrowed_view c.args.value.now) ≡ Some (borrowed_view c.in-Some.member.now) = sym c.in-Some.ensures in
-    many-there c.args.key.now (list_of list an_expression) (borrowed_view c.args.value.now) (borrowed_view c.in-Some.member.now) _ _ _ found c.in-Ok.ensures.ok
+pub type_member-returns-clause-place : goal.type_member-returns-clause-place
+type_member-returns-clause-place t c =
+    fault-needed c.args.key.now (borrowed_view c.args.value.now) (borrowed_view c.in-Some.member.now) (sym c.in-Some.ensures) c.read_type.result (node a_type) c.inside.result c.read_type.ensures.place c.inside.ensures.place
+
+pub arguments_member-returns-clause-ok : goal.arguments_member-returns-clause-ok
+arguments_member-returns-clause-ok t c =
+    may-inside (codes "args") (borrowed_view c.args.value.now) (borrowed_view c.in-Some.member.now) (sym c.in-Some.ensures) c.read_arguments.result (list_of list a_template_argument) (listed argument_view list) _ _ c.read_arguments.ensures.ok c.inside_option.result c.inside_option.ensures.ok
+
+pub arguments_member-returns-clause-place : goal.arguments_member-returns-clause-place
+arguments_member-returns-clause-place t c =
+    fault-inside (codes "args") (borrowed_view c.args.value.now) (borrowed_view c.in-Some.member.now) (sym c.in-Some.ensures) c.read_arguments.result (list_of list a_template_argument) c.inside_option.result c.read_arguments.ensures.place c.inside_option.ensures.place
+
+pub expressions_member-returns-clause-ok : goal.expressions_member-returns-clause-ok
+expressions_member-returns-clause-ok t c =
+    many-inside c.args.key.now (borrowed_view c.args.value.now) (borrowed_view c.in-Some.member.now) (sym c.in-Some.ensures) c.read_expressions.result (list_of list an_expression) (listed expression_tree list) _ _ c.read_expressions.ensures.ok c.inside.result c.inside.ensures.ok
+
+pub expressions_member-returns-clause-place : goal.expressions_member-returns-clause-place
+expressions_member-returns-clause-place t c =
+    fault-inside c.args.key.now (borrowed_view c.args.value.now) (borrowed_view c.in-Some.member.now) (sym c.in-Some.ensures) c.read_expressions.result (list_of list an_expression) c.inside.result c.read_expressions.ensures.place c.inside.ensures.place
 
 pub read_arguments-returns-in_default-clause-place : goal.read_arguments-returns-in_default-clause-place
 read_arguments-returns-in_default-clause-place t c =

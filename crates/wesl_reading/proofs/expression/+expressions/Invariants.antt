@@ -1,6 +1,6 @@
 use Rattle.std.proofs.Common.{◌+◌, ◌*◌}
 use Rattle.serde_json.specs.Data.{depth}
-use Rattle.wesl_borrowed.specs.View.{borrowed_view}
+use Rattle.wesl_form.specs.View.{borrowed_view}
 use Rattle.wesl_syntax.specs.Tree.{list}
 use Rattle.wesl_syntax.specs.View.{argument_view, expression_tree}
 use Rattle.wesl_form.specs.Schema.{a_template_argument, an_expression}

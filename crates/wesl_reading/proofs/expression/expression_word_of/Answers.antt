@@ -1,6 +1,6 @@
 use Rattle.std.proofs.Common.{sym, ◌≡◌, Some, None, codes, rules}
 use Rattle.serde_json.specs.Find.{get}
-use Rattle.wesl_borrowed.specs.View.{borrowed_view}
+use Rattle.wesl_form.specs.View.{borrowed_view}
 use Rattle.wesl_form.specs.Schema.{an_expression}
 use Rattle.wesl_form.specs.Nodes.{nodes_of}
 use Rattle.wesl_reading.proofs.Expressions.{no-expression}

@@ -1,18 +1,15 @@
-use Rattle.std.proofs.Common.{sym, ◌≡◌, Some}
-use Rattle.serde_json.specs.Find.{get}
-use Rattle.wesl_borrowed.specs.View.{borrowed_view}
+use Rattle.std.proofs.Common.{sym}
+use Rattle.wesl_form.specs.View.{borrowed_view}
+use Rattle.wesl_form.specs.Schema.{an_expression, list_of}
+use Rattle.wesl_reading.proofs.Within.{fault-inside, may-inside}
 use Rattle.wesl_syntax.specs.Tree.{list}
-use Rattle.wesl_form.specs.Schema.{list_of, an_expression}
-use Rattle.wesl_reading.proofs.Places.{inside-under}
-use Rattle.wesl_reading.proofs.Steps.{may-there}
+use Rattle.wesl_syntax.specs.View.{expression_tree, listed}
 use Rattle.wesl_reading.proofs.expression.optional_expressions.Goals as goal
 
-pub returns-in-Ok-clause-ok : goal.returns-in-Ok-clause-ok
-returns-in-Ok-clause-ok c =
-    let found : get c.args.key.now (borrowed_view c.args.value.now) ≡ Some (borrowed_view c.in-Some.member.now) = sym c.in-Some.ensures in
-    may-there c.args.key.now (list_of list an_expression) (borrowed_view c.args.value.now) (borrowed_view c.in-Some.member.now) _ _ _ found c.in-Ok.ensures.ok
+pub returns-clause-ok : goal.returns-clause-ok
+returns-clause-ok c =
+    may-inside c.args.key.now (borrowed_view c.args.value.now) (borrowed_view c.in-Some.member.now) (sym c.in-Some.ensures) c.read_expressions.result (list_of list an_expression) (listed expression_tree list) _ _ c.read_expressions.ensures.ok c.inside_option.result c.inside_option.ensures.ok
 
-pub returns-in-Err-clause-place : goal.returns-in-Err-clause-place
-returns-in-Err-clause-place c =
-    let found : get c.args.key.now (borrowed_view c.args.value.now) ≡ Some (borrowed_view c.in-Some.member.now) = sym c.in-Some.ensures in
-    inside-under c.args.key.now (list_of list an_expression) (borrowed_view c.args.value.now) (borrowed_view c.in-Some.member.now) c.in-Err.error c.under.result found c.in-Err.ensures.place c.under.ensures
+pub returns-clause-place : goal.returns-clause-place
+returns-clause-place c =
+    fault-inside c.args.key.now (borrowed_view c.args.value.now) (borrowed_view c.in-Some.member.now) (sym c.in-Some.ensures) c.read_expressions.result (list_of list an_expression) c.inside_option.result c.read_expressions.ensures.place c.inside_option.ensures.place

@@ -1,10 +1,10 @@
 use Rattle.std.proofs.Common.{◌∙◌, ◌≡◌, Some, true, false, codes, string_bytes, option_map, option_and_then, refl, ap, sym}
 use Rattle.serde_json.specs.Find.{get}
-use Rattle.wesl_borrowed.specs.View.{borrowed_view}
+use Rattle.wesl_form.specs.View.{borrowed_view}
 use Rattle.wesl_syntax.specs.Tree.{text}
 use Rattle.wesl_form.specs.Schema.{a_literal}
 use Rattle.wesl_form.specs.Reading.{known_keys, literal_in}
-use Rattle.wesl_borrowed.specs.Keys.{has_only}
+use Rattle.wesl_form.specs.Keys.{has_only}
 use Rattle.wesl_reading.specs.Forms.{expression_of}
 use Rattle.wesl_reading.specs.declared.words.ExpressionWord.TheVariants as words
 use Rattle.wesl_reading.proofs.Expressions.{expression-keys, expression-text, literal-reads}

@@ -1,5 +1,5 @@
 use Rattle.std.proofs.Common.{None, subst, sym}
-use Rattle.wesl_borrowed.specs.View.{borrowed_view}
+use Rattle.wesl_form.specs.View.{borrowed_view}
 use Rattle.wesl_reading.specs.Numbers.{ReadsPlain}
 use Rattle.wesl_reading.proofs.Members.{plain-type}
 use Rattle.wesl_reading.proofs.Trees.{made_type}

@@ -1,6 +1,6 @@
 use Rattle.std.proofs.Common.{codes}
 use Rattle.std.proofs.lemmas.Result.{IfOk-weaker, IfErr-weaker}
-use Rattle.wesl_borrowed.specs.View.{borrowed_view}
+use Rattle.wesl_form.specs.View.{borrowed_view}
 use Rattle.wesl_syntax.specs.Tree.{ident, reference, leaf as leaf_tree}
 use Rattle.wesl_form.specs.Schema.{an_ident, leaf}
 use Rattle.wesl_form.specs.Reading.{name_in}

@@ -1,16 +1,18 @@
-use Rattle.std.proofs.Common.{◌∙◌, option_and_then, ap, sym}
-use Rattle.wesl_borrowed.specs.View.{borrowed_view}
+use Rattle.std.proofs.Common.{sym}
+use Rattle.wesl_form.specs.View.{borrowed_view}
 use Rattle.wesl_form.specs.Reading.{literal_in}
-use Rattle.wesl_reading.proofs.Places.{text-lacks, text-under}
+use Rattle.wesl_reading.proofs.Within.{text-fault, text-inside}
+use Rattle.wesl_reading.proofs.Places.{text-lacks}
 use Rattle.wesl_reading.proofs.fields.literal_member.Goals as goal
 
 pub returns-in_default-clause-place : goal.returns-in_default-clause-place
 returns-in_default-clause-place c =
     text-lacks literal_in c.args.key.now (borrowed_view c.args.value.now) c.wrong.result (sym c.in_default.ensures) c.wrong.ensures
 
-pub returns-in-Ok-clause-ok : goal.returns-in-Ok-clause-ok
-returns-in-Ok-clause-ok c = ap (option_and_then literal_in) (sym c.in-Some.ensures) ∙ c.in-Ok.ensures.ok
+pub returns-clause-ok : goal.returns-clause-ok
+returns-clause-ok c =
+    text-inside c.args.key.now (borrowed_view c.args.value.now) (borrowed_view c.in-Some.member.now) (sym c.in-Some.ensures) c.literal_of.result literal_in (λ s. s.now) c.inside.result c.literal_of.ensures.ok c.inside.ensures.ok
 
-pub returns-in-Err-clause-place : goal.returns-in-Err-clause-place
-returns-in-Err-clause-place c =
-    text-under literal_in c.args.key.now (borrowed_view c.args.value.now) (borrowed_view c.in-Some.member.now) c.in-Err.error c.under.result (sym c.in-Some.ensures) c.in-Err.ensures.place c.under.ensures
+pub returns-clause-place : goal.returns-clause-place
+returns-clause-place c =
+    text-fault c.args.key.now (borrowed_view c.args.value.now) (borrowed_view c.in-Some.member.now) (sym c.in-Some.ensures) c.literal_of.result literal_in c.inside.result c.literal_of.ensures.place c.inside.ensures.place

@@ -1,16 +1,16 @@
 use Rattle.std.proofs.Common.{◌≡◌, ◌∙◌, Some, string_bytes, option_and_then, ap, sym}
-use Rattle.std.proofs.lemmas.Result.{IfOk-weaker, IfErr-weaker}
+use Rattle.std.proofs.lemmas.Result.{IfOk-weaker}
 use Rattle.serde_json.specs.Find.{get}
-use Rattle.wesl_borrowed.specs.View.{borrowed_view}
+use Rattle.wesl_form.specs.View.{borrowed_view}
 use Rattle.wesl_form.specs.Reading.{name_in}
-use Rattle.wesl_reading.specs.Faults.{IsTextBroken, LocatesText}
-use Rattle.wesl_reading.proofs.Places.{memory}
+use Rattle.wesl_reading.specs.Faults.{IsTextBroken}
+use Rattle.wesl_reading.proofs.Wholes.{of-boxed, part}
 use Rattle.wesl_reading.proofs.fields.own_name.Goals as goal
 
-pub returns-in-Ok-clause-ok : goal.returns-in-Ok-clause-ok
-returns-in-Ok-clause-ok c =
-    IfOk-weaker c.owned.result _ (λ s. option_and_then name_in (get c.args.key.now (borrowed_view c.args.value.now)) ≡ Some (string_bytes s)) (λ s h. c.in-Ok.ensures.ok ∙ ap Some (sym h)) c.owned.ensures.text
+pub returns-clause-ok : goal.returns-clause-ok
+returns-clause-ok c =
+    IfOk-weaker c.owned.result _ (λ s. option_and_then name_in (get c.args.key.now (borrowed_view c.args.value.now)) ≡ Some (string_bytes s)) (λ s h. part _ c.name_member.result h.1 c.name_member.ensures.ok ∙ ap Some (sym h.2)) c.owned.ensures.text
 
-pub returns-in-Ok-clause-place : goal.returns-in-Ok-clause-place
-returns-in-Ok-clause-place c =
-    IfErr-weaker c.owned.result _ (LocatesText name_in c.args.key.now (borrowed_view c.args.value.now)) (λ e is. memory (IsTextBroken name_in c.args.key.now (borrowed_view c.args.value.now)) e is) c.owned.ensures.refused
+pub returns-clause-place : goal.returns-clause-place
+returns-clause-place c =
+    of-boxed (IsTextBroken name_in c.args.key.now (borrowed_view c.args.value.now)) c.owned.result c.name_member.result c.owned.ensures.place c.name_member.ensures.place

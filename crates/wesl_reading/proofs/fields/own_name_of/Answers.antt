@@ -1,15 +1,14 @@
 use Rattle.std.proofs.Common.{◌≡◌, ◌∙◌, [], Some, None, string_bytes, ap, sym}
-use Rattle.std.proofs.lemmas.Result.{IfOk-weaker, IfErr-weaker}
-use Rattle.wesl_borrowed.specs.View.{borrowed_view}
+use Rattle.std.proofs.lemmas.Result.{IfOk-weaker}
+use Rattle.wesl_form.specs.View.{borrowed_view}
 use Rattle.wesl_form.specs.Reading.{name_in}
-use Rattle.wesl_reading.specs.Faults.{LocatesHere}
-use Rattle.wesl_reading.proofs.Places.{memory}
+use Rattle.wesl_reading.proofs.Wholes.{of-boxed, part}
 use Rattle.wesl_reading.proofs.fields.own_name_of.Goals as goal
 
-pub returns-in-Ok-clause-ok : goal.returns-in-Ok-clause-ok
-returns-in-Ok-clause-ok c =
-    IfOk-weaker c.owned.result _ (λ s. name_in (borrowed_view c.args.value.now) ≡ Some (string_bytes s)) (λ s h. c.in-Ok.ensures.ok ∙ ap Some (sym h)) c.owned.ensures.text
+pub returns-clause-ok : goal.returns-clause-ok
+returns-clause-ok c =
+    IfOk-weaker c.owned.result _ (λ s. name_in (borrowed_view c.args.value.now) ≡ Some (string_bytes s)) (λ s h. part _ c.name_of.result h.1 c.name_of.ensures.ok ∙ ap Some (sym h.2)) c.owned.ensures.text
 
-pub returns-in-Ok-clause-place : goal.returns-in-Ok-clause-place
-returns-in-Ok-clause-place c =
-    IfErr-weaker c.owned.result _ (LocatesHere (name_in (borrowed_view c.args.value.now))) (λ e is. memory (λ place. (place ≡ []) × (name_in (borrowed_view c.args.value.now) ≡ None)) e is) c.owned.ensures.refused
+pub returns-clause-place : goal.returns-clause-place
+returns-clause-place c =
+    of-boxed (λ place. (place ≡ []) × (name_in (borrowed_view c.args.value.now) ≡ None)) c.owned.result c.name_of.result c.owned.ensures.place c.name_of.ensures.place

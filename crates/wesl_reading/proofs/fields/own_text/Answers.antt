@@ -1,16 +1,15 @@
 use Rattle.std.proofs.Common.{◌≡◌, ◌∙◌, Some, string_bytes, option_and_then, ap, sym}
-use Rattle.std.proofs.lemmas.Result.{IfOk-weaker, IfErr-weaker}
-use Rattle.serde_json.specs.Find.{get}
-use Rattle.wesl_borrowed.specs.View.{borrowed_view}
-use Rattle.serde_json.specs.Find.{as_str}
-use Rattle.wesl_reading.specs.Faults.{IsTextBroken, LocatesText}
-use Rattle.wesl_reading.proofs.Places.{memory}
+use Rattle.std.proofs.lemmas.Result.{IfOk-weaker}
+use Rattle.serde_json.specs.Find.{as_str, get}
+use Rattle.wesl_form.specs.View.{borrowed_view}
+use Rattle.wesl_reading.specs.Faults.{IsTextBroken}
+use Rattle.wesl_reading.proofs.Wholes.{of-boxed, part}
 use Rattle.wesl_reading.proofs.fields.own_text.Goals as goal
 
-pub returns-in-Ok-clause-ok : goal.returns-in-Ok-clause-ok
-returns-in-Ok-clause-ok c =
-    IfOk-weaker c.owned.result _ (λ s. option_and_then as_str (get c.args.key.now (borrowed_view c.args.value.now)) ≡ Some (string_bytes s)) (λ s h. c.in-Ok.ensures.ok ∙ ap Some (sym h)) c.owned.ensures.text
+pub returns-clause-ok : goal.returns-clause-ok
+returns-clause-ok c =
+    IfOk-weaker c.owned.result _ (λ s. option_and_then as_str (get c.args.key.now (borrowed_view c.args.value.now)) ≡ Some (string_bytes s)) (λ s h. part _ c.text_member.result h.1 c.text_member.ensures.ok ∙ ap Some (sym h.2)) c.owned.ensures.text
 
-pub returns-in-Ok-clause-place : goal.returns-in-Ok-clause-place
-returns-in-Ok-clause-place c =
-    IfErr-weaker c.owned.result _ (LocatesText as_str c.args.key.now (borrowed_view c.args.value.now)) (λ e is. memory (IsTextBroken as_str c.args.key.now (borrowed_view c.args.value.now)) e is) c.owned.ensures.refused
+pub returns-clause-place : goal.returns-clause-place
+returns-clause-place c =
+    of-boxed (IsTextBroken as_str c.args.key.now (borrowed_view c.args.value.now)) c.owned.result c.text_member.result c.owned.ensures.place c.text_member.ensures.place

@@ -1,17 +1,14 @@
-use Rattle.std.proofs.Common.{sym, ◌≡◌, Some}
-use Rattle.serde_json.specs.Find.{get}
-use Rattle.wesl_borrowed.specs.View.{borrowed_view}
+use Rattle.std.proofs.Common.{sym}
+use Rattle.wesl_form.specs.View.{borrowed_view}
 use Rattle.wesl_form.specs.Schema.{leaf, some_names}
-use Rattle.wesl_reading.proofs.Places.{inside-under}
-use Rattle.wesl_reading.proofs.Steps.{many-there}
+use Rattle.wesl_reading.proofs.Within.{fault-inside, many-each}
+use Rattle.wesl_syntax.specs.View.{names_tree}
 use Rattle.wesl_reading.proofs.names.names_member.Goals as goal
 
-pub returns-in-Ok-clause-ok : goal.returns-in-Ok-clause-ok
-returns-in-Ok-clause-ok c = λ names.
-    let found : get c.args.key.now (borrowed_view c.args.value.now) ≡ Some (borrowed_view c.in-Some.member.now) = sym c.in-Some.ensures in
-    many-there c.args.key.now (leaf some_names) (borrowed_view c.args.value.now) (borrowed_view c.in-Some.member.now) _ names names found (c.in-Ok.ensures.ok names)
+pub returns-clause-ok : goal.returns-clause-ok
+returns-clause-ok c =
+    many-each c.args.key.now (borrowed_view c.args.value.now) (borrowed_view c.in-Some.member.now) (sym c.in-Some.ensures) c.read_names.result (leaf some_names) names_tree c.read_names.ensures.ok c.inside.result c.inside.ensures.ok
 
-pub returns-in-Err-clause-place : goal.returns-in-Err-clause-place
-returns-in-Err-clause-place c =
-    let found : get c.args.key.now (borrowed_view c.args.value.now) ≡ Some (borrowed_view c.in-Some.member.now) = sym c.in-Some.ensures in
-    inside-under c.args.key.now (leaf some_names) (borrowed_view c.args.value.now) (borrowed_view c.in-Some.member.now) c.in-Err.error c.under.result found c.in-Err.ensures.place c.under.ensures
+pub returns-clause-place : goal.returns-clause-place
+returns-clause-place c =
+    fault-inside c.args.key.now (borrowed_view c.args.value.now) (borrowed_view c.in-Some.member.now) (sym c.in-Some.ensures) c.read_names.result (leaf some_names) c.inside.result c.read_names.ensures.place c.inside.ensures.place

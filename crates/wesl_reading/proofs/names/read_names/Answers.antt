@@ -1,7 +1,7 @@
 use Rattle.std.proofs.Common.{sym, ap, ◌∙◌, ◌≡◌, Some}
 use Rattle.std.proofs.lemmas.Result.{IfOk-weaker}
 use Rattle.serde_json.specs.Find.{as_array}
-use Rattle.wesl_borrowed.specs.View.{borrowed_view, items_view}
+use Rattle.wesl_form.specs.View.{borrowed_view, items_view}
 use Rattle.wesl_reading.proofs.NameLists.{name-list-none, name-list-turn, names-whole}
 use Rattle.wesl_reading.proofs.names.read_names.Goals as goal
 

@@ -1,4 +1,4 @@
-use Rattle.wesl_borrowed.specs.View.{borrowed_view}
+use Rattle.wesl_form.specs.View.{borrowed_view}
 use Rattle.wesl_reading.proofs.NameLists.{AreNamesRead}
 use Rattle.wesl_reading.proofs.names.read_names.Given as goal
 

@@ -1,23 +1,23 @@
-use Rattle.serde_json.specs.Find.{get}
-use Rattle.wesl_borrowed.specs.View.{borrowed_view}
-use Rattle.std.proofs.Common.{sym, Some, codes, ◌≡◌}
+use Rattle.std.proofs.Common.{List, codes, sym, ℕ}
+use Rattle.std.proofs.lemmas.Result.{IfOk-weaker}
+use Rattle.wesl_form.specs.View.{borrowed_view}
 use Rattle.wesl_form.specs.Reading.{word_in}
 use Rattle.wesl_form.specs.Schema.{leaf, one_of}
 use Rattle.wesl_form.specs.Words.{access_words}
-use Rattle.wesl_reading.proofs.Steps.{leaf-reads, may-there}
-use Rattle.wesl_reading_statements.proofs.Members.{leaf-under, plain-access}
-use Rattle.wesl_syntax.specs.Tree.{access}
+use Rattle.wesl_reading.proofs.Within.{leaf-fault, may-each}
+use Rattle.wesl_reading.proofs.Steps.{leaf-reads}
+use Rattle.wesl_reading.specs.Numbers.{Reads}
+use Rattle.wesl_reading_statements.proofs.Members.{plain-access}
 use Rattle.wesl_reading_statements.proofs.Spaces.{same-label}
+use Rattle.wesl_syntax.specs.Tree.{access}
+use Rattle.wesl_syntax.specs.View.{access_tree}
 use Rattle.wesl_reading_statements.proofs.declared.optional_access.Goals as goal
 
-pub returns-in-Ok-clause-ok : goal.returns-in-Ok-clause-ok
-returns-in-Ok-clause-ok c = λ names.
-    let d = borrowed_view c.args.value.now in
-    let found : get (codes "access") d ≡ Some (borrowed_view c.in-Some.member.now) = sym c.in-Some.ensures in
-    may-there (codes "access") (leaf (one_of access_words)) d (borrowed_view c.in-Some.member.now) _ names names found (leaf-reads (word_in access_words) (one_of access_words) (λ l. l) (borrowed_view c.in-Some.member.now) (access c.in-Ok.mode) (access c.in-Ok.mode) names (λ v. same-label (word_in access_words v)) (plain-access c.in-Ok.mode) c.in-Ok.ensures.ok)
+pub returns-clause-ok : goal.returns-clause-ok
+returns-clause-ok c =
+    let read = IfOk-weaker c.access_mode_of.result _ (λ x. (names : List (List ℕ)) → Reads (leaf (one_of access_words)) (borrowed_view c.in-Some.member.now) (access_tree x) names names) (λ x is names. leaf-reads (word_in access_words) (one_of access_words) (λ l. l) (borrowed_view c.in-Some.member.now) (access x) (access x) names (λ v. same-label (word_in access_words v)) (plain-access x) is) c.access_mode_of.ensures.ok in
+    may-each (codes "access") (borrowed_view c.args.value.now) (borrowed_view c.in-Some.member.now) (sym c.in-Some.ensures) c.access_mode_of.result (leaf (one_of access_words)) access_tree read c.inside_option.result c.inside_option.ensures.ok
 
-pub returns-in-Err-clause-place : goal.returns-in-Err-clause-place
-returns-in-Err-clause-place c =
-    let d = borrowed_view c.args.value.now in
-    let found : get (codes "access") d ≡ Some (borrowed_view c.in-Some.member.now) = sym c.in-Some.ensures in
-    leaf-under (word_in access_words) (codes "access") (one_of access_words) d (borrowed_view c.in-Some.member.now) c.in-Err.error c.under.result found (λ v h. h) c.in-Err.ensures.place c.under.ensures
+pub returns-clause-place : goal.returns-clause-place
+returns-clause-place c =
+    leaf-fault (codes "access") (borrowed_view c.args.value.now) (borrowed_view c.in-Some.member.now) (sym c.in-Some.ensures) c.access_mode_of.result (word_in access_words) (one_of access_words) (λ v h. h) c.inside_option.result c.access_mode_of.ensures.place c.inside_option.ensures.place

@@ -1,4 +1,4 @@
-use Rattle.wesl_borrowed.specs.View.{borrowed_view}
+use Rattle.wesl_form.specs.View.{borrowed_view}
 use Rattle.std.proofs.Common.{subst, sym}
 use Rattle.wesl_reading_statements.specs.Forms.{ReadsDeclared}
 use Rattle.wesl_reading_statements.specs.Views.{declared_view}

@@ -1,10 +1,11 @@
 use Rattle.serde_json.specs.Find.{get}
-use Rattle.wesl_borrowed.specs.View.{borrowed_view}
-use Rattle.std.proofs.Common.{sym, None, Some, ap, codes, false, refl, true, ◌∙◌, ◌≡◌}
+use Rattle.wesl_form.specs.View.{borrowed_view}
+use Rattle.std.proofs.Common.{None, Some, ap, codes, false, refl, true, ◌∙◌, ◌≡◌}
 use Rattle.wesl_form.specs.Reading.{known_keys}
-use Rattle.wesl_borrowed.specs.Keys.{has_only}
+use Rattle.wesl_form.specs.Keys.{has_only}
 use Rattle.wesl_form.specs.Schema.{an_attribute, list_of, nothing}
 use Rattle.wesl_form.specs.Words.{space_words}
+use Rattle.wesl_reading.proofs.Keyed.{by-keys}
 use Rattle.wesl_reading.proofs.Places.{row-inside, row-keys}
 use Rattle.wesl_reading.proofs.Rows.{plain-kind}
 use Rattle.wesl_reading.proofs.Steps.{inner-then, many-then, none-then}
@@ -18,27 +19,19 @@ use Rattle.wesl_form.specs.Schema.{chosen}
 use Rattle.wesl_reading_statements.proofs.Spaces.{access_row, no-member, var-fields, var-keys, typed-place}
 use Rattle.wesl_reading_statements.proofs.declared.read_var.Goals as goal
 
-pub returns-then-not-has_only-clause-place : goal.returns-then-not-has_only-clause-place
-returns-then-not-has_only-clause-place c =
-    let d = borrowed_view c.args.value.now in
-    let absent : get (codes "space") d ≡ None = no-member (get (codes "space") d) c.requires in
-    let same = var-keys d absent in
-    let lacking : has_only (known_keys (declared_worded declareds.Var) d) d ≡ false = ap (λ ks. has_only ks d) same ∙ (sym c.has_only.ensures ∙ c.if-not-has_only.true) in
-    row-keys (declared_worded declareds.Var) d c.wrong.result lacking c.wrong.ensures
-
 pub returns-in-Err-clause-place : goal.returns-in-Err-clause-place
 returns-in-Err-clause-place c =
     let d = borrowed_view c.args.value.now in
-    let absent : get (codes "space") d ≡ None = no-member (get (codes "space") d) c.requires in
-    let there : find_field (codes "attrs") (fields (declared_worded declareds.Var) d) ≡ Some (field (codes "attrs") false (list_of attributes an_attribute)) = ap (find_field (codes "attrs")) (var-fields d absent) in
-    row-inside (declared_worded declareds.Var) (codes "attrs") false (list_of attributes an_attribute) d c.in-Err.error there c.in-Err.ensures.place
+    by-keys c.in-Err.ensures.place
+    (λ h. let absent : get (codes "space") d ≡ None = no-member (get (codes "space") d) c.requires in let same = var-keys d absent in let lacking : has_only (known_keys (declared_worded declareds.Var) d) d ≡ false = ap (λ ks. has_only ks d) same ∙ h.0 in row-keys (declared_worded declareds.Var) d c.in-Err.error lacking h.1)
+    (λ h. let absent : get (codes "space") d ≡ None = no-member (get (codes "space") d) c.requires in let there : find_field (codes "attrs") (fields (declared_worded declareds.Var) d) ≡ Some (field (codes "attrs") false (list_of attributes an_attribute)) = ap (find_field (codes "attrs")) (var-fields d absent) in row-inside (declared_worded declareds.Var) (codes "attrs") false (list_of attributes an_attribute) d c.in-Err.error there h.1)
 
 pub returns-in-Ok-typed_parts-clause-ok : goal.returns-in-Ok-typed_parts-clause-ok
 returns-in-Ok-typed_parts-clause-ok c =
     let d = borrowed_view c.args.value.now in
     let attributes_read = c.in-Ok.ensures.ok in
     let absent : get (codes "space") d ≡ None = no-member (get (codes "space") d) c.requires in
-    let known : has_only (known_keys (declared_worded declareds.Var) d) d ≡ true = ap (λ ks. has_only ks d) (var-keys d absent) ∙ sym c.has_only.ensures ∙ c.if-not-has_only.false in
+    let known : has_only (known_keys (declared_worded declareds.Var) d) d ≡ true = ap (λ ks. has_only ks d) (var-keys d absent) ∙ c.in-Ok.ensures.keys in
     let rest = c.in-Ok-typed_parts.ensures.ok in
     worded-reads known (plain-kind declaration) refl (many-then attributes_read (inner-then (plain-kind var_kind) refl (where-absent-then (codes "space") (chosen (codes "space") space_words) access_row nothing d end _ _ absent (none-then d _)) rest))
 

@@ -1,10 +1,11 @@
 use Rattle.serde_json.specs.Find.{get}
-use Rattle.wesl_borrowed.specs.View.{borrowed_view}
-use Rattle.std.proofs.Common.{sym, Some, ap, codes, false, refl, true, ◌∙◌, ◌≡◌}
+use Rattle.wesl_form.specs.View.{borrowed_view}
+use Rattle.std.proofs.Common.{Some, ap, codes, false, refl, true, ◌∙◌, ◌≡◌}
 use Rattle.wesl_form.specs.Reading.{known_keys, word_in}
-use Rattle.wesl_borrowed.specs.Keys.{has_only}
+use Rattle.wesl_form.specs.Keys.{has_only}
 use Rattle.wesl_form.specs.Schema.{an_attribute, leaf, list_of, nothing, one_of}
 use Rattle.wesl_form.specs.Words.{access_words, space_words}
+use Rattle.wesl_reading.proofs.Keyed.{by-keys}
 use Rattle.wesl_reading.proofs.Places.{row-inside, row-keys, row-text}
 use Rattle.wesl_reading.proofs.Rows.{plain-kind}
 use Rattle.wesl_reading.proofs.Steps.{inner-then, many-then, may-then, none-then}
@@ -20,17 +21,12 @@ use Rattle.wesl_form.specs.Schema.{chosen}
 use Rattle.wesl_reading_statements.proofs.Spaces.{a-member, access_row, space-fields, space-keys, typed-place}
 use Rattle.wesl_reading_statements.proofs.declared.read_var_in_space.Goals as goal
 
-pub returns-then-not-has_only-clause-place : goal.returns-then-not-has_only-clause-place
-returns-then-not-has_only-clause-place c =
-    let d = borrowed_view c.args.value.now in
-    let lacking : has_only (known_keys (declared_worded declareds.Var) d) d ≡ false = ap (λ ks. has_only ks d) (space-keys d c.requires) ∙ (sym c.has_only.ensures ∙ c.if-not-has_only.true) in
-    row-keys (declared_worded declareds.Var) d c.wrong.result lacking c.wrong.ensures
-
 pub returns-in-Err-clause-place : goal.returns-in-Err-clause-place
 returns-in-Err-clause-place c =
     let d = borrowed_view c.args.value.now in
-    let there : find_field (codes "attrs") (fields (declared_worded declareds.Var) d) ≡ Some (field (codes "attrs") false (list_of attributes an_attribute)) = ap (find_field (codes "attrs")) (space-fields d c.requires) in
-    row-inside (declared_worded declareds.Var) (codes "attrs") false (list_of attributes an_attribute) d c.in-Err.error there c.in-Err.ensures.place
+    by-keys c.in-Err.ensures.place
+    (λ h. let lacking : has_only (known_keys (declared_worded declareds.Var) d) d ≡ false = ap (λ ks. has_only ks d) (space-keys d c.requires) ∙ h.0 in row-keys (declared_worded declareds.Var) d c.in-Err.error lacking h.1)
+    (λ h. let there : find_field (codes "attrs") (fields (declared_worded declareds.Var) d) ≡ Some (field (codes "attrs") false (list_of attributes an_attribute)) = ap (find_field (codes "attrs")) (space-fields d c.requires) in row-inside (declared_worded declareds.Var) (codes "attrs") false (list_of attributes an_attribute) d c.in-Err.error there h.1)
 
 pub returns-in-Err-space_member-clause-place : goal.returns-in-Err-space_member-clause-place
 returns-in-Err-space_member-clause-place c =
@@ -51,9 +47,9 @@ returns-in-Ok-typed_parts-clause-ok c =
     let space_read = c.in-Ok-space_member.ensures.ok in
     let access_read = c.in-Ok-optional_access.ensures.ok in
     let found = a-member (get (codes "space") d) c.requires in
-    let known : has_only (known_keys (declared_worded declareds.Var) d) d ≡ true = ap (λ ks. has_only ks d) (space-keys d c.requires) ∙ sym c.has_only.ensures ∙ c.if-not-has_only.false in
+    let known : has_only (known_keys (declared_worded declareds.Var) d) d ≡ true = ap (λ ks. has_only ks d) (space-keys d c.requires) ∙ c.in-Ok.ensures.keys in
     let rest = c.in-Ok-typed_parts.ensures.ok in
-    let inside : ReadsRows access_row d _ c.attributes_member.new.numbering c.attributes_member.new.numbering = may-then (access_read _) (none-then d _) in
+    let inside : ReadsRows access_row d _ c.keyed_attributes.new.numbering c.keyed_attributes.new.numbering = may-then (access_read _) (none-then d _) in
     let spaced = where-there-then (codes "space") (chosen (codes "space") space_words) access_row nothing d found.0 (space c.in-Ok-space_member.space) (space c.in-Ok-space_member.space) _ end _ _ _ found.1 (plain-space c.in-Ok-space_member.space) space_read inside (none-then d _) in
     worded-reads known (plain-kind declaration) refl (many-then attributes_read (inner-then (plain-kind var_kind) refl spaced rest))
 

@@ -1,5 +1,5 @@
 use Rattle.std.proofs.Common.{inl, inr}
-use Rattle.wesl_borrowed.specs.View.{borrowed_view}
+use Rattle.wesl_form.specs.View.{borrowed_view}
 use Rattle.wesl_reading.proofs.Steps.{may-then, needs-then, none-then}
 use Rattle.wesl_reading_statements.proofs.declared.typed_parts.Goals as goal
 

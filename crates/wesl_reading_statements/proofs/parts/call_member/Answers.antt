@@ -1,18 +1,18 @@
-use Rattle.wesl_borrowed.specs.View.{borrowed_view}
 use Rattle.std.proofs.Common.{codes, sym}
+use Rattle.wesl_form.specs.View.{borrowed_view}
 use Rattle.wesl_form.specs.Schema.{a_call, node}
-use Rattle.wesl_reading.proofs.Places.{inside-under, member-inside, member-lacks}
-use Rattle.wesl_reading.proofs.Steps.{needed-there}
+use Rattle.wesl_reading.proofs.Within.{fault-needed, needed-inside}
+use Rattle.wesl_reading.proofs.Places.{member-lacks}
+use Rattle.wesl_syntax.specs.View.{call_view}
 use Rattle.wesl_reading_statements.proofs.parts.call_member.Goals as goal
 
-pub returns-in-Ok-clause-ok : goal.returns-in-Ok-clause-ok
-returns-in-Ok-clause-ok c =
-    needed-there (codes "call") (node a_call) (borrowed_view c.args.value.now) (borrowed_view c.in-Some.member.now) _ _ _ (sym c.in-Some.ensures) c.in-Ok.ensures.ok
+pub returns-clause-ok : goal.returns-clause-ok
+returns-clause-ok c =
+    needed-inside (codes "call") (borrowed_view c.args.value.now) (borrowed_view c.in-Some.member.now) (sym c.in-Some.ensures) c.read_call.result (node a_call) call_view _ _ c.read_call.ensures.ok c.inside.result c.inside.ensures.ok
 
-pub returns-in-Err-clause-place : goal.returns-in-Err-clause-place
-returns-in-Err-clause-place c =
-    let d = borrowed_view c.args.value.now in
-    member-inside (codes "call") (node a_call) d c.under.result (inside-under (codes "call") (node a_call) d (borrowed_view c.in-Some.member.now) c.in-Err.error c.under.result (sym c.in-Some.ensures) c.in-Err.ensures.place c.under.ensures)
+pub returns-clause-place : goal.returns-clause-place
+returns-clause-place c =
+    fault-needed (codes "call") (borrowed_view c.args.value.now) (borrowed_view c.in-Some.member.now) (sym c.in-Some.ensures) c.read_call.result (node a_call) c.inside.result c.read_call.ensures.place c.inside.ensures.place
 
 pub returns-in_default-clause-place : goal.returns-in_default-clause-place
 returns-in_default-clause-place c =

@@ -1,18 +1,25 @@
+use Rattle.std.proofs.Common.{List, Some, ap, option_map, refl, string_bytes, sym, ℕ, ◌∙◌}
+use Rattle.std.proofs.lemmas.Result.{IfErr-weaker, IfOk-weaker}
+use Rattle.wesl_form.specs.View.{borrowed_view}
 use Rattle.serde_json.specs.Find.{as_str}
-use Rattle.wesl_borrowed.specs.View.{borrowed_view}
-use Rattle.std.proofs.Common.{ap, option_map, refl, rules, string_bytes}
-use Rattle.wesl_form.specs.Schema.{a_text}
+use Rattle.wesl_form.specs.Schema.{a_text, leaf}
+use Rattle.wesl_reading.specs.Faults.{IsTextBroken, LocatesMember}
+use Rattle.wesl_reading.specs.Numbers.{ReadsNeeded}
 use Rattle.wesl_reading.proofs.Rows.{plain-text}
 use Rattle.wesl_reading.proofs.Steps.{text-member}
+use Rattle.wesl_reading.proofs.Wholes.{of-boxed, part}
 use Rattle.wesl_reading_statements.proofs.Members.{text-is-member}
 use Rattle.wesl_syntax.specs.Tree.{text}
+use Rattle.wesl_syntax.specs.View.{text_tree}
 use Rattle.wesl_reading_statements.proofs.parts.plain_text_member.Goals as goal
 
-pub returns-in-Err-clause-place : goal.returns-in-Err-clause-place
-returns-in-Err-clause-place c =
-    text-is-member as_str c.args.key.now a_text (borrowed_view c.args.value.now) c.in-Err.error (λ v h. ap (option_map text) h) c.in-Err.ensures.place
+pub returns-clause-ok : goal.returns-clause-ok
+returns-clause-ok c =
+    let d = borrowed_view c.args.value.now in
+    IfOk-weaker c.owned.result _ (λ s. (names : List (List ℕ)) → ReadsNeeded c.args.key.now (leaf a_text) d (text_tree s) names names) (λ s h names. text-member as_str a_text text c.args.key.now d (string_bytes s) (text (string_bytes s)) names (λ v. refl) (plain-text (string_bytes s)) (part _ c.text_member.result h.1 c.text_member.ensures.ok ∙ ap Some (sym h.2))) c.owned.ensures.text
 
-pub returns-in-Ok-from_str-clause-ok : goal.returns-in-Ok-from_str-clause-ok
-returns-in-Ok-from_str-clause-ok c = λ names.
-    let own = c.in-Ok-from_str.own in
-    text-member as_str a_text text c.args.key.now (borrowed_view c.args.value.now) (string_bytes own) (text (string_bytes own)) names (λ v. refl) (plain-text (string_bytes own)) (search rules)
+pub returns-clause-place : goal.returns-clause-place
+returns-clause-place c =
+    let d = borrowed_view c.args.value.now in
+    let place = of-boxed (IsTextBroken as_str c.args.key.now d) c.owned.result c.text_member.result c.owned.ensures.place c.text_member.ensures.place in
+    IfErr-weaker c.owned.result _ (LocatesMember c.args.key.now (leaf a_text) d) (λ e h. text-is-member as_str c.args.key.now a_text d e (λ v n. ap (option_map text) n) h) place

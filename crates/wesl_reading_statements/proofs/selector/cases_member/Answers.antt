@@ -1,20 +1,15 @@
-use Rattle.serde_json.specs.Find.{get}
-use Rattle.wesl_borrowed.specs.View.{borrowed_view}
-use Rattle.std.proofs.Common.{sym, Some, codes, ◌≡◌}
+use Rattle.std.proofs.Common.{codes, sym}
+use Rattle.wesl_form.specs.View.{borrowed_view}
 use Rattle.wesl_form.specs.Schema.{a_case, list_of}
-use Rattle.wesl_reading.proofs.Places.{inside-under}
-use Rattle.wesl_reading.proofs.Steps.{many-there}
+use Rattle.wesl_reading.proofs.Within.{fault-inside, many-inside}
 use Rattle.wesl_syntax.specs.Tree.{list}
+use Rattle.wesl_syntax.specs.View.{listed, selector_view}
 use Rattle.wesl_reading_statements.proofs.selector.cases_member.Goals as goal
 
-pub returns-in-Ok-clause-ok : goal.returns-in-Ok-clause-ok
-returns-in-Ok-clause-ok c =
-    let d = borrowed_view c.args.value.now in
-    let found : get (codes "cases") d ≡ Some (borrowed_view c.in-Some.member.now) = sym c.in-Some.ensures in
-    many-there (codes "cases") (list_of list a_case) d (borrowed_view c.in-Some.member.now) _ _ _ found c.in-Ok.ensures.ok
+pub returns-clause-ok : goal.returns-clause-ok
+returns-clause-ok c =
+    many-inside (codes "cases") (borrowed_view c.args.value.now) (borrowed_view c.in-Some.member.now) (sym c.in-Some.ensures) c.read_cases.result (list_of list a_case) (listed selector_view list) _ _ c.read_cases.ensures.ok c.inside.result c.inside.ensures.ok
 
-pub returns-in-Err-clause-place : goal.returns-in-Err-clause-place
-returns-in-Err-clause-place c =
-    let d = borrowed_view c.args.value.now in
-    let found : get (codes "cases") d ≡ Some (borrowed_view c.in-Some.member.now) = sym c.in-Some.ensures in
-    inside-under (codes "cases") (list_of list a_case) d (borrowed_view c.in-Some.member.now) c.in-Err.error c.under.result found c.in-Err.ensures.place c.under.ensures
+pub returns-clause-place : goal.returns-clause-place
+returns-clause-place c =
+    fault-inside (codes "cases") (borrowed_view c.args.value.now) (borrowed_view c.in-Some.member.now) (sym c.in-Some.ensures) c.read_cases.result (list_of list a_case) c.inside.result c.read_cases.ensures.place c.inside.ensures.place

@@ -1,19 +1,14 @@
-use Rattle.serde_json.specs.Find.{get}
-use Rattle.wesl_borrowed.specs.View.{borrowed_view}
-use Rattle.std.proofs.Common.{sym, Some, codes, ◌≡◌}
+use Rattle.std.proofs.Common.{codes, sym}
+use Rattle.wesl_form.specs.View.{borrowed_view}
 use Rattle.wesl_form.specs.Schema.{a_break_if, node}
-use Rattle.wesl_reading.proofs.Places.{inside-under}
-use Rattle.wesl_reading.proofs.Steps.{may-there}
+use Rattle.wesl_reading.proofs.Within.{fault-inside, may-inside}
+use Rattle.wesl_syntax.specs.View.{break_if_view}
 use Rattle.wesl_reading_statements.proofs.selector.optional_break_if.Goals as goal
 
-pub returns-in-Ok-clause-ok : goal.returns-in-Ok-clause-ok
-returns-in-Ok-clause-ok c =
-    let d = borrowed_view c.args.value.now in
-    let found : get (codes "break_if") d ≡ Some (borrowed_view c.in-Some.member.now) = sym c.in-Some.ensures in
-    may-there (codes "break_if") (node a_break_if) d (borrowed_view c.in-Some.member.now) _ _ _ found c.in-Ok.ensures.ok
+pub returns-clause-ok : goal.returns-clause-ok
+returns-clause-ok c =
+    may-inside (codes "break_if") (borrowed_view c.args.value.now) (borrowed_view c.in-Some.member.now) (sym c.in-Some.ensures) c.read_break_if.result (node a_break_if) break_if_view _ _ c.read_break_if.ensures.ok c.inside_option.result c.inside_option.ensures.ok
 
-pub returns-in-Err-clause-place : goal.returns-in-Err-clause-place
-returns-in-Err-clause-place c =
-    let d = borrowed_view c.args.value.now in
-    let found : get (codes "break_if") d ≡ Some (borrowed_view c.in-Some.member.now) = sym c.in-Some.ensures in
-    inside-under (codes "break_if") (node a_break_if) d (borrowed_view c.in-Some.member.now) c.in-Err.error c.under.result found c.in-Err.ensures.place c.under.ensures
+pub returns-clause-place : goal.returns-clause-place
+returns-clause-place c =
+    fault-inside (codes "break_if") (borrowed_view c.args.value.now) (borrowed_view c.in-Some.member.now) (sym c.in-Some.ensures) c.read_break_if.result (node a_break_if) c.inside_option.result c.read_break_if.ensures.place c.inside_option.ensures.place

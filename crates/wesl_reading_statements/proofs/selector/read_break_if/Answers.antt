@@ -1,31 +1,27 @@
-use Rattle.wesl_borrowed.specs.View.{borrowed_view}
-use Rattle.std.proofs.Common.{◌∙◌, sym, codes, false, refl, true, ◌≡◌}
+use Rattle.wesl_form.specs.View.{borrowed_view}
+use Rattle.std.proofs.Common.{codes, false, refl, true, ◌≡◌}
 use Rattle.wesl_form.specs.Nodes.{attrs, operand}
 use Rattle.wesl_form.specs.Reading.{known_keys}
-use Rattle.wesl_borrowed.specs.Keys.{has_only}
+use Rattle.wesl_form.specs.Keys.{has_only}
 use Rattle.wesl_form.specs.Schema.{a_break_if, an_attribute, an_expression, list_of, node}
 use Rattle.wesl_reading.proofs.Expressions.{bare-keys, bare-place, bare-reads}
+use Rattle.wesl_reading.proofs.Keyed.{by-keys}
 use Rattle.wesl_reading.proofs.Places.{row-inside, row-member}
 use Rattle.wesl_reading.proofs.Steps.{many-then, needs-then, none-then}
 use Rattle.wesl_syntax.specs.Tree.{attributes, break_if}
 use Rattle.wesl_reading_statements.proofs.selector.read_break_if.Goals as goal
 
-pub returns-then-not-has_only-clause-place : goal.returns-then-not-has_only-clause-place
-returns-then-not-has_only-clause-place c =
-    let d = borrowed_view c.args.value.now in
-    let lacking : has_only (known_keys (attrs operand) d) d ≡ false = sym c.has_only.ensures ∙ c.if-not-has_only.true in
-    bare-keys a_break_if break_if (attrs operand) d refl c.wrong.result refl lacking c.wrong.ensures
-
 pub returns-in-Err-clause-place : goal.returns-in-Err-clause-place
 returns-in-Err-clause-place c =
     let d = borrowed_view c.args.value.now in
-    let known : has_only (known_keys (attrs operand) d) d ≡ true = sym c.has_only.ensures ∙ c.if-not-has_only.false in
-    bare-place a_break_if break_if (attrs operand) d refl c.in-Err.error known (row-inside (attrs operand) (codes "attrs") false (list_of attributes an_attribute) d c.in-Err.error refl c.in-Err.ensures.place)
+    by-keys c.in-Err.ensures.place
+    (λ h. let lacking : has_only (known_keys (attrs operand) d) d ≡ false = h.0 in bare-keys a_break_if break_if (attrs operand) d refl c.in-Err.error refl lacking h.1)
+    (λ h. let known : has_only (known_keys (attrs operand) d) d ≡ true = h.0 in bare-place a_break_if break_if (attrs operand) d refl c.in-Err.error known (row-inside (attrs operand) (codes "attrs") false (list_of attributes an_attribute) d c.in-Err.error refl h.1))
 
 pub returns-in-Err-expression_member-clause-place : goal.returns-in-Err-expression_member-clause-place
 returns-in-Err-expression_member-clause-place c =
     let d = borrowed_view c.args.value.now in
-    let known : has_only (known_keys (attrs operand) d) d ≡ true = sym c.has_only.ensures ∙ c.if-not-has_only.false in
+    let known : has_only (known_keys (attrs operand) d) d ≡ true = c.in-Ok.ensures.keys in
     bare-place a_break_if break_if (attrs operand) d refl c.in-Err-expression_member.error known (row-member (attrs operand) (codes "expr") (node an_expression) d c.in-Err-expression_member.error refl c.in-Err-expression_member.ensures.place)
 
 pub returns-in-Ok-expression_member-clause-ok : goal.returns-in-Ok-expression_member-clause-ok
@@ -33,5 +29,5 @@ returns-in-Ok-expression_member-clause-ok c =
     let d = borrowed_view c.args.value.now in
     let attributes_read = c.in-Ok.ensures.ok in
     let expression_read = c.in-Ok-expression_member.ensures.ok in
-    let known : has_only (known_keys (attrs operand) d) d ≡ true = sym c.has_only.ensures ∙ c.if-not-has_only.false in
+    let known : has_only (known_keys (attrs operand) d) d ≡ true = c.in-Ok.ensures.keys in
     bare-reads a_break_if break_if (attrs operand) d refl _ _ _ known (many-then attributes_read (needs-then expression_read (none-then d _)))

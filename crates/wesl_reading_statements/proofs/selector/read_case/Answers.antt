@@ -1,4 +1,4 @@
-use Rattle.wesl_borrowed.specs.View.{borrowed_view}
+use Rattle.wesl_form.specs.View.{borrowed_view}
 use Rattle.std.proofs.Common.{false, rules, ◌≡◌}
 use Rattle.wesl_reading_statements.proofs.Cases.{case-form, case-place}
 use Rattle.wesl_reading_statements.specs.Forms.{has_default}

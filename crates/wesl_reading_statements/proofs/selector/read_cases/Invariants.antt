@@ -1,4 +1,4 @@
-use Rattle.wesl_borrowed.specs.View.{borrowed_view}
+use Rattle.wesl_form.specs.View.{borrowed_view}
 use Rattle.wesl_form.specs.Schema.{a_case}
 use Rattle.wesl_syntax.specs.Tree.{list}
 use Rattle.wesl_syntax.specs.View.{selector_view}

@@ -1,7 +1,7 @@
-use Rattle.wesl_borrowed.specs.View.{borrowed_view}
+use Rattle.wesl_form.specs.View.{borrowed_view}
 use Rattle.std.proofs.Common.{◌∙◌, codes, false, refl, sym, true, ◌≡◌}
 use Rattle.wesl_form.specs.Reading.{known_keys, word_in}
-use Rattle.wesl_borrowed.specs.Keys.{has_only}
+use Rattle.wesl_form.specs.Keys.{has_only}
 use Rattle.wesl_form.specs.Schema.{an_attribute, an_expression, list_of, node, one_of}
 use Rattle.wesl_form.specs.Words.{assignment_words}
 use Rattle.wesl_reading.proofs.Places.{row-inside, row-keys, row-member, row-text}

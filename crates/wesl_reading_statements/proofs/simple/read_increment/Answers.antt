@@ -1,8 +1,9 @@
-use Rattle.wesl_borrowed.specs.View.{borrowed_view}
-use Rattle.std.proofs.Common.{◌∙◌, codes, false, refl, sym, true, ◌≡◌}
+use Rattle.wesl_form.specs.View.{borrowed_view}
+use Rattle.std.proofs.Common.{codes, false, refl, sym, true, ◌≡◌}
 use Rattle.wesl_form.specs.Reading.{known_keys}
-use Rattle.wesl_borrowed.specs.Keys.{has_only}
+use Rattle.wesl_form.specs.Keys.{has_only}
 use Rattle.wesl_form.specs.Schema.{an_attribute, an_expression, list_of, node}
+use Rattle.wesl_reading.proofs.Keyed.{by-keys}
 use Rattle.wesl_reading.proofs.Places.{row-inside, row-keys, row-member}
 use Rattle.wesl_reading.proofs.Rows.{plain-kind}
 use Rattle.wesl_reading.proofs.Steps.{many-then, needs-then, none-then}
@@ -13,16 +14,12 @@ use Rattle.wesl_syntax.specs.Tree.{attributes, increment}
 use Rattle.wesl_reading_statements.specs.declared.words.StatementWord.TheVariants as stated
 use Rattle.wesl_reading_statements.proofs.simple.read_increment.Goals as goal
 
-pub returns-then-not-has_only-clause-place : goal.returns-then-not-has_only-clause-place
-returns-then-not-has_only-clause-place c =
-    let d = borrowed_view c.args.value.now in
-    let lacking : has_only (known_keys (statement_worded stated.Increment) d) d ≡ false = sym c.has_only.ensures ∙ c.if-not-has_only.true in
-    row-keys (statement_worded stated.Increment) d c.wrong.result lacking c.wrong.ensures
-
 pub returns-in-Err-clause-place : goal.returns-in-Err-clause-place
 returns-in-Err-clause-place c =
     let d = borrowed_view c.args.value.now in
-    row-inside (statement_worded stated.Increment) (codes "attrs") false (list_of attributes an_attribute) d c.in-Err.error refl c.in-Err.ensures.place
+    by-keys c.in-Err.ensures.place
+    (λ h. let lacking : has_only (known_keys (statement_worded stated.Increment) d) d ≡ false = h.0 in row-keys (statement_worded stated.Increment) d c.in-Err.error lacking h.1)
+    (λ h. row-inside (statement_worded stated.Increment) (codes "attrs") false (list_of attributes an_attribute) d c.in-Err.error refl h.1)
 
 pub returns-in-Err-expression_member-clause-place : goal.returns-in-Err-expression_member-clause-place
 returns-in-Err-expression_member-clause-place c =
@@ -34,5 +31,5 @@ returns-in-Ok-expression_member-clause-ok c =
     let d = borrowed_view c.args.value.now in
     let attributes_read = c.in-Ok.ensures.ok in
     let expression_read = c.in-Ok-expression_member.ensures.ok in
-    let known : has_only (known_keys (statement_worded stated.Increment) d) d ≡ true = sym c.has_only.ensures ∙ c.if-not-has_only.false in
+    let known : has_only (known_keys (statement_worded stated.Increment) d) d ≡ true = c.in-Ok.ensures.keys in
     same-worded (worded-reads known (plain-kind increment) refl (many-then attributes_read (needs-then expression_read (none-then d _)))) (sym (view-increment c.in-Ok.attributes c.in-Ok-expression_member.expression))

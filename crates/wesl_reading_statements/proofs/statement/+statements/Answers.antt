@@ -1,33 +1,37 @@
 use Rattle.wesl_reading_statements.proofs.Exits.{condition-place, no_list, none_listed, same_word, same_word_place, to_member, to_next, turn-place}
 use Rattle.serde_json.specs.Data.{depth, items_depth}
-use Rattle.serde_json.specs.Find.{as_array, get}
-use Rattle.wesl_borrowed.specs.View.{borrowed_view, items_view}
+use Rattle.serde_json.specs.Find.{as_array}
+use Rattle.wesl_form.specs.View.{borrowed_view, items_view}
 use Rattle.std.proofs.Common.{Some, ap, ◌∙◌, arith, codes, false, inl, inr, refl, subst, sym, true, ◌<◌, ◌≡◌, ◌≤◌}
 use Rattle.wesl_form.specs.Nodes.{attrs, body_row, condition_row}
 use Rattle.wesl_form.specs.Reading.{known_keys}
-use Rattle.wesl_borrowed.specs.Keys.{has_only}
+use Rattle.wesl_form.specs.Keys.{has_only}
 use Rattle.wesl_form.specs.Schema.{a_body, a_break_if, a_case, a_clause, a_continuing, a_statement, an_attribute, an_elif, an_else, an_expression, list_of, many, may, needs, node, nothing}
 use Rattle.wesl_reading.proofs.Depths.{array-depth, get-depth, item-depth}
 use Rattle.wesl_reading.proofs.Expressions.{bare-keys, bare-place, bare-reads}
-use Rattle.wesl_reading.proofs.Places.{member-lacks, inside-under, member-inside, row-inside, row-keys, row-member}
+use Rattle.wesl_reading.proofs.Keyed.{by-keys}
+use Rattle.wesl_reading.proofs.Places.{member-lacks, row-inside, row-keys, row-member}
 use Rattle.wesl_reading.proofs.Rows.{plain-kind}
-use Rattle.wesl_reading.proofs.Steps.{may-absent, inner-then, many-then, many-there, may-then, may-there, needed-there, needs-then, none-then, same-reads}
-use Rattle.wesl_reading.specs.Faults.{Locates, LocatesRow}
+use Rattle.wesl_reading.proofs.Steps.{may-absent, inner-then, many-then, may-then, needs-then, none-then, same-reads}
+use Rattle.wesl_reading.specs.Faults.{LocatesRow}
 use Rattle.wesl_reading_statements.proofs.Named.{statement-looked, statement-marked}
 use Rattle.wesl_reading_statements.proofs.Views.{made-block, made-clause, made-continuing, made-elif, made-else, view-block, view-for, view-if, view-loop, view-switch, view-while}
 use Rattle.wesl_reading_statements.proofs.Worded.{node-place, node-reads, same-worded, worded-reads}
 use Rattle.wesl_reading_statements.specs.Forms.{ReadsStatement, statement_text, statement_worded}
 use Rattle.wesl_syntax.specs.Tree.{attributes, clauses, compound, compound_statement, continuing, else_clause, else_if_clause, for_loop, if_clause, if_statement, list, loop, statement_node, statements, switch, switch_clause, while_loop}
-use Rattle.wesl_syntax.specs.View.{clause_view, else_if_view, statement_tree, statement_view}
+use Rattle.wesl_syntax.specs.View.{clause_view, else_if_view, statement_tree, statement_view, compound_view, continuing_view, else_view, listed}
 use Rattle.wesl_reading_statements.specs.declared.words.StatementWord.TheVariants as stated
 use Rattle.wesl_form.specs.Nodes.{statement_words}
 use Rattle.wesl_reading_statements.specs.Forms.{statement_head, statement_row}
-use Rattle.std.proofs.lemmas.Result.{IfErr-at_err}
 use Rattle.wesl_reading.proofs.Wholes.{of-boxed, part}
 use Rattle.wesl_reading.proofs.ReadLists.{list-none, list-turn, list-whole}
 use Rattle.wesl_form.specs.Nodes.{whole_form}
 use Rattle.wesl_form.specs.Place.{IsBroken}
 use Rattle.wesl_reading.proofs.Places.{member-lacks}
+use Rattle.std.proofs.lemmas.Result.{IfOk-weaker}
+use Rattle.std.specs.Box.{box_value}
+use Rattle.wesl_reading.proofs.Within.{fault-inside, fault-needed, many-inside, may-inside, needed-inside}
+use Rattle.wesl_reading.specs.Numbers.{Reads}
 use Rattle.wesl_reading_statements.proofs.statement.+statements.Goals as goal
 
 pub body_member-read_body-requires : goal.body_member-read_body-requires
@@ -35,14 +39,13 @@ body_member-read_body-requires t c =
     let low : depth (borrowed_view c.in-Some.member.now) < depth (borrowed_view c.args.value.now) = get-depth (codes "body") _ _ (sym c.in-Some.ensures) in
     (to_member _ _ 7 3 t c.decreases low refl, tt)
 
-pub body_member-returns-in-Ok-clause-ok : goal.body_member-returns-in-Ok-clause-ok
-body_member-returns-in-Ok-clause-ok t c =
-    needed-there (codes "body") (node a_body) (borrowed_view c.args.value.now) (borrowed_view c.in-Some.member.now) _ _ _ (sym c.in-Some.ensures) c.in-Ok.ensures.ok
+pub body_member-returns-clause-ok : goal.body_member-returns-clause-ok
+body_member-returns-clause-ok t c =
+    needed-inside (codes "body") (borrowed_view c.args.value.now) (borrowed_view c.in-Some.member.now) (sym c.in-Some.ensures) c.read_body.result (node a_body) compound_view _ _ c.read_body.ensures.ok c.inside.result c.inside.ensures.ok
 
-pub body_member-returns-in-Err-clause-place : goal.body_member-returns-in-Err-clause-place
-body_member-returns-in-Err-clause-place t c =
-    let d = borrowed_view c.args.value.now in
-    member-inside (codes "body") (node a_body) d c.under.result (inside-under (codes "body") (node a_body) d (borrowed_view c.in-Some.member.now) c.in-Err.error c.under.result (sym c.in-Some.ensures) c.in-Err.ensures.place c.under.ensures)
+pub body_member-returns-clause-place : goal.body_member-returns-clause-place
+body_member-returns-clause-place t c =
+    fault-needed (codes "body") (borrowed_view c.args.value.now) (borrowed_view c.in-Some.member.now) (sym c.in-Some.ensures) c.read_body.result (node a_body) c.inside.result c.read_body.ensures.place c.inside.ensures.place
 
 pub statements_member-read_statements-requires : goal.statements_member-read_statements-requires
 statements_member-read_statements-requires t c =
@@ -50,17 +53,13 @@ statements_member-read_statements-requires t c =
     let low : depth (borrowed_view c.in-Some.member.now) < depth (borrowed_view c.args.value.now) = get-depth (codes "stmts") _ _ (sym c.in-Some.ensures) in
     (to_member _ _ 2 3 t c.decreases low refl, tt)
 
-pub statements_member-returns-in-Ok-clause-ok : goal.statements_member-returns-in-Ok-clause-ok
-statements_member-returns-in-Ok-clause-ok t c =
-    let d = borrowed_view c.args.value.now in
-    let found : get (codes "stmts") d ≡ Some (borrowed_view c.in-Some.member.now) = sym c.in-Some.ensures in
-    many-there (codes "stmts") (list_of statements a_statement) d (borrowed_view c.in-Some.member.now) _ _ _ found c.in-Ok.ensures.ok
+pub statements_member-returns-clause-ok : goal.statements_member-returns-clause-ok
+statements_member-returns-clause-ok t c =
+    many-inside (codes "stmts") (borrowed_view c.args.value.now) (borrowed_view c.in-Some.member.now) (sym c.in-Some.ensures) c.read_statements.result (list_of statements a_statement) (listed statement_tree statements) _ _ c.read_statements.ensures.ok c.inside.result c.inside.ensures.ok
 
-pub statements_member-returns-in-Err-clause-place : goal.statements_member-returns-in-Err-clause-place
-statements_member-returns-in-Err-clause-place t c =
-    let d = borrowed_view c.args.value.now in
-    let found : get (codes "stmts") d ≡ Some (borrowed_view c.in-Some.member.now) = sym c.in-Some.ensures in
-    inside-under (codes "stmts") (list_of statements a_statement) d (borrowed_view c.in-Some.member.now) c.in-Err.error c.under.result found c.in-Err.ensures.place c.under.ensures
+pub statements_member-returns-clause-place : goal.statements_member-returns-clause-place
+statements_member-returns-clause-place t c =
+    fault-inside (codes "stmts") (borrowed_view c.args.value.now) (borrowed_view c.in-Some.member.now) (sym c.in-Some.ensures) c.read_statements.result (list_of statements a_statement) c.inside.result c.read_statements.ensures.place c.inside.ensures.place
 
 pub read_statements-read_statement-statement-requires : goal.read_statements-read_statement-statement-requires
 read_statements-read_statement-statement-requires t c =
@@ -76,18 +75,15 @@ optional_statement-read_statement-requires t c =
     let low : depth (borrowed_view c.in-Some.member.now) < depth (borrowed_view c.args.value.now) = get-depth c.args.key.now _ _ (sym c.in-Some.ensures) in
     (omega arith, tt)
 
-pub optional_statement-returns-in-Ok-clause-ok : goal.optional_statement-returns-in-Ok-clause-ok
-optional_statement-returns-in-Ok-clause-ok t c =
-    let d = borrowed_view c.args.value.now in
-    let found : get c.args.key.now d ≡ Some (borrowed_view c.in-Some.member.now) = sym c.in-Some.ensures in
-    may-there c.args.key.now (node a_statement) d (borrowed_view c.in-Some.member.now) _ _ _ found (part _ c.read_statement.result c.in-Ok.ensures.ok c.read_statement.ensures.ok)
+pub optional_statement-returns-clause-ok : goal.optional_statement-returns-clause-ok
+optional_statement-returns-clause-ok t c =
+    let statement = IfOk-weaker c.boxed.result _ (λ s. Reads (node a_statement) (borrowed_view c.in-Some.member.now) (statement_tree (box_value s)) c.args.numbering.now c.read_statement.new.numbering) (λ s is. part _ c.read_statement.result is c.read_statement.ensures.ok) c.boxed.ensures.ok in
+    may-inside c.args.key.now (borrowed_view c.args.value.now) (borrowed_view c.in-Some.member.now) (sym c.in-Some.ensures) c.boxed.result (node a_statement) (λ s. statement_tree (box_value s)) _ _ statement c.inside_option.result c.inside_option.ensures.ok
 
-pub optional_statement-returns-in-Err-clause-place : goal.optional_statement-returns-in-Err-clause-place
-optional_statement-returns-in-Err-clause-place t c =
-    let d = borrowed_view c.args.value.now in
-    let found : get c.args.key.now d ≡ Some (borrowed_view c.in-Some.member.now) = sym c.in-Some.ensures in
-    let place = IfErr-at_err (Locates (node a_statement) (borrowed_view c.in-Some.member.now)) c.in-Err.is (of-boxed (IsBroken whole_form (node a_statement) (borrowed_view c.in-Some.member.now)) c.boxed.result c.read_statement.result c.boxed.ensures.place c.read_statement.ensures.place) in
-    inside-under c.args.key.now (node a_statement) d (borrowed_view c.in-Some.member.now) c.in-Err.error c.under.result found place c.under.ensures
+pub optional_statement-returns-clause-place : goal.optional_statement-returns-clause-place
+optional_statement-returns-clause-place t c =
+    let fault = of-boxed (IsBroken whole_form (node a_statement) (borrowed_view c.in-Some.member.now)) c.boxed.result c.read_statement.result c.boxed.ensures.place c.read_statement.ensures.place in
+    fault-inside c.args.key.now (borrowed_view c.args.value.now) (borrowed_view c.in-Some.member.now) (sym c.in-Some.ensures) c.boxed.result (node a_statement) c.inside_option.result fault c.inside_option.ensures.place
 
 pub elifs_member-read_elifs-requires : goal.elifs_member-read_elifs-requires
 elifs_member-read_elifs-requires t c =
@@ -95,17 +91,13 @@ elifs_member-read_elifs-requires t c =
     let low : depth (borrowed_view c.in-Some.member.now) < depth (borrowed_view c.args.value.now) = get-depth (codes "elifs") _ _ (sym c.in-Some.ensures) in
     (to_member _ _ 2 3 t c.decreases low refl, tt)
 
-pub elifs_member-returns-in-Ok-clause-ok : goal.elifs_member-returns-in-Ok-clause-ok
-elifs_member-returns-in-Ok-clause-ok t c =
-    let d = borrowed_view c.args.value.now in
-    let found : get (codes "elifs") d ≡ Some (borrowed_view c.in-Some.member.now) = sym c.in-Some.ensures in
-    many-there (codes "elifs") (list_of list an_elif) d (borrowed_view c.in-Some.member.now) _ _ _ found c.in-Ok.ensures.ok
+pub elifs_member-returns-clause-ok : goal.elifs_member-returns-clause-ok
+elifs_member-returns-clause-ok t c =
+    many-inside (codes "elifs") (borrowed_view c.args.value.now) (borrowed_view c.in-Some.member.now) (sym c.in-Some.ensures) c.read_elifs.result (list_of list an_elif) (listed else_if_view list) _ _ c.read_elifs.ensures.ok c.inside.result c.inside.ensures.ok
 
-pub elifs_member-returns-in-Err-clause-place : goal.elifs_member-returns-in-Err-clause-place
-elifs_member-returns-in-Err-clause-place t c =
-    let d = borrowed_view c.args.value.now in
-    let found : get (codes "elifs") d ≡ Some (borrowed_view c.in-Some.member.now) = sym c.in-Some.ensures in
-    inside-under (codes "elifs") (list_of list an_elif) d (borrowed_view c.in-Some.member.now) c.in-Err.error c.under.result found c.in-Err.ensures.place c.under.ensures
+pub elifs_member-returns-clause-place : goal.elifs_member-returns-clause-place
+elifs_member-returns-clause-place t c =
+    fault-inside (codes "elifs") (borrowed_view c.args.value.now) (borrowed_view c.in-Some.member.now) (sym c.in-Some.ensures) c.read_elifs.result (list_of list an_elif) c.inside.result c.read_elifs.ensures.place c.inside.ensures.place
 
 pub read_elifs-read_elif-clause-requires : goal.read_elifs-read_elif-clause-requires
 read_elifs-read_elif-clause-requires t c =
@@ -121,17 +113,13 @@ optional_else-read_else-requires t c =
     let low : depth (borrowed_view c.in-Some.member.now) < depth (borrowed_view c.args.value.now) = get-depth (codes "else") _ _ (sym c.in-Some.ensures) in
     (to_member _ _ 7 3 t c.decreases low refl, tt)
 
-pub optional_else-returns-in-Ok-clause-ok : goal.optional_else-returns-in-Ok-clause-ok
-optional_else-returns-in-Ok-clause-ok t c =
-    let d = borrowed_view c.args.value.now in
-    let found : get (codes "else") d ≡ Some (borrowed_view c.in-Some.member.now) = sym c.in-Some.ensures in
-    may-there (codes "else") (node an_else) d (borrowed_view c.in-Some.member.now) _ _ _ found c.in-Ok.ensures.ok
+pub optional_else-returns-clause-ok : goal.optional_else-returns-clause-ok
+optional_else-returns-clause-ok t c =
+    may-inside (codes "else") (borrowed_view c.args.value.now) (borrowed_view c.in-Some.member.now) (sym c.in-Some.ensures) c.read_else.result (node an_else) else_view _ _ c.read_else.ensures.ok c.inside_option.result c.inside_option.ensures.ok
 
-pub optional_else-returns-in-Err-clause-place : goal.optional_else-returns-in-Err-clause-place
-optional_else-returns-in-Err-clause-place t c =
-    let d = borrowed_view c.args.value.now in
-    let found : get (codes "else") d ≡ Some (borrowed_view c.in-Some.member.now) = sym c.in-Some.ensures in
-    inside-under (codes "else") (node an_else) d (borrowed_view c.in-Some.member.now) c.in-Err.error c.under.result found c.in-Err.ensures.place c.under.ensures
+pub optional_else-returns-clause-place : goal.optional_else-returns-clause-place
+optional_else-returns-clause-place t c =
+    fault-inside (codes "else") (borrowed_view c.args.value.now) (borrowed_view c.in-Some.member.now) (sym c.in-Some.ensures) c.read_else.result (node an_else) c.inside_option.result c.read_else.ensures.place c.inside_option.ensures.place
 
 pub clauses_member-read_clauses-requires : goal.clauses_member-read_clauses-requires
 clauses_member-read_clauses-requires t c =
@@ -139,17 +127,13 @@ clauses_member-read_clauses-requires t c =
     let low : depth (borrowed_view c.in-Some.member.now) < depth (borrowed_view c.args.value.now) = get-depth (codes "clauses") _ _ (sym c.in-Some.ensures) in
     (to_member _ _ 2 3 t c.decreases low refl, tt)
 
-pub clauses_member-returns-in-Ok-clause-ok : goal.clauses_member-returns-in-Ok-clause-ok
-clauses_member-returns-in-Ok-clause-ok t c =
-    let d = borrowed_view c.args.value.now in
-    let found : get (codes "clauses") d ≡ Some (borrowed_view c.in-Some.member.now) = sym c.in-Some.ensures in
-    many-there (codes "clauses") (list_of clauses a_clause) d (borrowed_view c.in-Some.member.now) _ _ _ found c.in-Ok.ensures.ok
+pub clauses_member-returns-clause-ok : goal.clauses_member-returns-clause-ok
+clauses_member-returns-clause-ok t c =
+    many-inside (codes "clauses") (borrowed_view c.args.value.now) (borrowed_view c.in-Some.member.now) (sym c.in-Some.ensures) c.read_clauses.result (list_of clauses a_clause) (listed clause_view clauses) _ _ c.read_clauses.ensures.ok c.inside.result c.inside.ensures.ok
 
-pub clauses_member-returns-in-Err-clause-place : goal.clauses_member-returns-in-Err-clause-place
-clauses_member-returns-in-Err-clause-place t c =
-    let d = borrowed_view c.args.value.now in
-    let found : get (codes "clauses") d ≡ Some (borrowed_view c.in-Some.member.now) = sym c.in-Some.ensures in
-    inside-under (codes "clauses") (list_of clauses a_clause) d (borrowed_view c.in-Some.member.now) c.in-Err.error c.under.result found c.in-Err.ensures.place c.under.ensures
+pub clauses_member-returns-clause-place : goal.clauses_member-returns-clause-place
+clauses_member-returns-clause-place t c =
+    fault-inside (codes "clauses") (borrowed_view c.args.value.now) (borrowed_view c.in-Some.member.now) (sym c.in-Some.ensures) c.read_clauses.result (list_of clauses a_clause) c.inside.result c.read_clauses.ensures.place c.inside.ensures.place
 
 pub read_clauses-read_clause-clause-requires : goal.read_clauses-read_clause-clause-requires
 read_clauses-read_clause-clause-requires t c =
@@ -165,17 +149,13 @@ optional_continuing-read_continuing-requires t c =
     let low : depth (borrowed_view c.in-Some.member.now) < depth (borrowed_view c.args.value.now) = get-depth (codes "continuing") _ _ (sym c.in-Some.ensures) in
     (to_member _ _ 7 3 t c.decreases low refl, tt)
 
-pub optional_continuing-returns-in-Ok-clause-ok : goal.optional_continuing-returns-in-Ok-clause-ok
-optional_continuing-returns-in-Ok-clause-ok t c =
-    let d = borrowed_view c.args.value.now in
-    let found : get (codes "continuing") d ≡ Some (borrowed_view c.in-Some.member.now) = sym c.in-Some.ensures in
-    may-there (codes "continuing") (node a_continuing) d (borrowed_view c.in-Some.member.now) _ _ _ found c.in-Ok.ensures.ok
+pub optional_continuing-returns-clause-ok : goal.optional_continuing-returns-clause-ok
+optional_continuing-returns-clause-ok t c =
+    may-inside (codes "continuing") (borrowed_view c.args.value.now) (borrowed_view c.in-Some.member.now) (sym c.in-Some.ensures) c.read_continuing.result (node a_continuing) continuing_view _ _ c.read_continuing.ensures.ok c.inside_option.result c.inside_option.ensures.ok
 
-pub optional_continuing-returns-in-Err-clause-place : goal.optional_continuing-returns-in-Err-clause-place
-optional_continuing-returns-in-Err-clause-place t c =
-    let d = borrowed_view c.args.value.now in
-    let found : get (codes "continuing") d ≡ Some (borrowed_view c.in-Some.member.now) = sym c.in-Some.ensures in
-    inside-under (codes "continuing") (node a_continuing) d (borrowed_view c.in-Some.member.now) c.in-Err.error c.under.result found c.in-Err.ensures.place c.under.ensures
+pub optional_continuing-returns-clause-place : goal.optional_continuing-returns-clause-place
+optional_continuing-returns-clause-place t c =
+    fault-inside (codes "continuing") (borrowed_view c.args.value.now) (borrowed_view c.in-Some.member.now) (sym c.in-Some.ensures) c.read_continuing.result (node a_continuing) c.inside_option.result c.read_continuing.ensures.place c.inside_option.ensures.place
 
 pub clauses_member-returns-in_default-clause-ok : goal.clauses_member-returns-in_default-clause-ok
 clauses_member-returns-in_default-clause-ok t c =
@@ -406,16 +386,12 @@ pub read_worded-returns-in-Err-clause-place : goal.read_worded-returns-in-Err-cl
 read_worded-returns-in-Err-clause-place t c =
     subst (λ w. LocatesRow (statement_worded w) (borrowed_view c.args.value.now) c.in-Err.error) (sym c.in-Declared.is) c.in-Err.ensures.place
 
-pub read_block-returns-then-not-has_only-clause-place : goal.read_block-returns-then-not-has_only-clause-place
-read_block-returns-then-not-has_only-clause-place t c =
-    let d = borrowed_view c.args.value.now in
-    let lacking : has_only (known_keys (statement_worded stated.Block) d) d ≡ false = sym c.has_only.ensures ∙ c.if-not-has_only.true in
-    row-keys (statement_worded stated.Block) d c.wrong.result lacking c.wrong.ensures
-
 pub read_block-returns-in-Err-clause-place : goal.read_block-returns-in-Err-clause-place
 read_block-returns-in-Err-clause-place t c =
     let d = borrowed_view c.args.value.now in
-    row-inside (statement_worded stated.Block) (codes "attrs") false (list_of attributes an_attribute) d c.in-Err.error refl c.in-Err.ensures.place
+    by-keys c.in-Err.ensures.place
+    (λ h. let lacking : has_only (known_keys (statement_worded stated.Block) d) d ≡ false = h.0 in row-keys (statement_worded stated.Block) d c.in-Err.error lacking h.1)
+    (λ h. row-inside (statement_worded stated.Block) (codes "attrs") false (list_of attributes an_attribute) d c.in-Err.error refl h.1)
 
 pub read_block-returns-in-Err-statements_member-clause-place : goal.read_block-returns-in-Err-statements_member-clause-place
 read_block-returns-in-Err-statements_member-clause-place t c =
@@ -427,19 +403,15 @@ read_block-returns-in-Ok-statements_member-clause-ok t c =
     let d = borrowed_view c.args.value.now in
     let attributes_read = c.in-Ok.ensures.ok in
     let statements_read = c.in-Ok-statements_member.ensures.ok in
-    let known : has_only (known_keys (statement_worded stated.Block) d) d ≡ true = sym c.has_only.ensures ∙ c.if-not-has_only.false in
+    let known : has_only (known_keys (statement_worded stated.Block) d) d ≡ true = c.in-Ok.ensures.keys in
     same-worded (worded-reads known (plain-kind compound_statement) refl (inner-then (plain-kind compound) refl (many-then attributes_read (many-then statements_read (none-then d _))) (none-then d _))) (sym (view-block c.in-Ok.attributes c.in-Ok-statements_member.statements))
-
-pub read_if-returns-then-not-has_only-clause-place : goal.read_if-returns-then-not-has_only-clause-place
-read_if-returns-then-not-has_only-clause-place t c =
-    let d = borrowed_view c.args.value.now in
-    let lacking : has_only (known_keys (statement_worded stated.If) d) d ≡ false = sym c.has_only.ensures ∙ c.if-not-has_only.true in
-    row-keys (statement_worded stated.If) d c.wrong.result lacking c.wrong.ensures
 
 pub read_if-returns-in-Err-clause-place : goal.read_if-returns-in-Err-clause-place
 read_if-returns-in-Err-clause-place t c =
     let d = borrowed_view c.args.value.now in
-    row-inside (statement_worded stated.If) (codes "attrs") false (list_of attributes an_attribute) d c.in-Err.error refl c.in-Err.ensures.place
+    by-keys c.in-Err.ensures.place
+    (λ h. let lacking : has_only (known_keys (statement_worded stated.If) d) d ≡ false = h.0 in row-keys (statement_worded stated.If) d c.in-Err.error lacking h.1)
+    (λ h. row-inside (statement_worded stated.If) (codes "attrs") false (list_of attributes an_attribute) d c.in-Err.error refl h.1)
 
 pub read_if-returns-in-Err-elifs_member-clause-place : goal.read_if-returns-in-Err-elifs_member-clause-place
 read_if-returns-in-Err-elifs_member-clause-place t c =
@@ -451,16 +423,12 @@ read_if-returns-in-Err-optional_else-clause-place t c =
     let d = borrowed_view c.args.value.now in
     row-inside (statement_worded stated.If) (codes "else") false (node an_else) d c.in-Err-optional_else.error refl c.in-Err-optional_else.ensures.place
 
-pub read_switch-returns-then-not-has_only-clause-place : goal.read_switch-returns-then-not-has_only-clause-place
-read_switch-returns-then-not-has_only-clause-place t c =
-    let d = borrowed_view c.args.value.now in
-    let lacking : has_only (known_keys (statement_worded stated.Switch) d) d ≡ false = sym c.has_only.ensures ∙ c.if-not-has_only.true in
-    row-keys (statement_worded stated.Switch) d c.wrong.result lacking c.wrong.ensures
-
 pub read_switch-returns-in-Err-clause-place : goal.read_switch-returns-in-Err-clause-place
 read_switch-returns-in-Err-clause-place t c =
     let d = borrowed_view c.args.value.now in
-    row-inside (statement_worded stated.Switch) (codes "attrs") false (list_of attributes an_attribute) d c.in-Err.error refl c.in-Err.ensures.place
+    by-keys c.in-Err.ensures.place
+    (λ h. let lacking : has_only (known_keys (statement_worded stated.Switch) d) d ≡ false = h.0 in row-keys (statement_worded stated.Switch) d c.in-Err.error lacking h.1)
+    (λ h. row-inside (statement_worded stated.Switch) (codes "attrs") false (list_of attributes an_attribute) d c.in-Err.error refl h.1)
 
 pub read_switch-returns-in-Err-expression_member-clause-place : goal.read_switch-returns-in-Err-expression_member-clause-place
 read_switch-returns-in-Err-expression_member-clause-place t c =
@@ -484,19 +452,15 @@ read_switch-returns-in-Ok-clauses_member-clause-ok t c =
     let expression_read = c.in-Ok-expression_member.ensures.ok in
     let body_attributes_read = c.in-Ok-attributes_member.ensures.ok in
     let clauses_read = c.in-Ok-clauses_member.ensures.ok in
-    let known : has_only (known_keys (statement_worded stated.Switch) d) d ≡ true = sym c.has_only.ensures ∙ c.if-not-has_only.false in
+    let known : has_only (known_keys (statement_worded stated.Switch) d) d ≡ true = c.in-Ok.ensures.keys in
     same-worded (worded-reads known (plain-kind switch) refl (many-then attributes_read (needs-then expression_read (many-then body_attributes_read (many-then clauses_read (none-then d _)))))) (sym (view-switch c.in-Ok.attributes c.in-Ok-expression_member.expression c.in-Ok-attributes_member.body_attributes c.in-Ok-clauses_member.clauses))
-
-pub read_loop-returns-then-not-has_only-clause-place : goal.read_loop-returns-then-not-has_only-clause-place
-read_loop-returns-then-not-has_only-clause-place t c =
-    let d = borrowed_view c.args.value.now in
-    let lacking : has_only (known_keys (statement_worded stated.Loop) d) d ≡ false = sym c.has_only.ensures ∙ c.if-not-has_only.true in
-    row-keys (statement_worded stated.Loop) d c.wrong.result lacking c.wrong.ensures
 
 pub read_loop-returns-in-Err-clause-place : goal.read_loop-returns-in-Err-clause-place
 read_loop-returns-in-Err-clause-place t c =
     let d = borrowed_view c.args.value.now in
-    row-inside (statement_worded stated.Loop) (codes "attrs") false (list_of attributes an_attribute) d c.in-Err.error refl c.in-Err.ensures.place
+    by-keys c.in-Err.ensures.place
+    (λ h. let lacking : has_only (known_keys (statement_worded stated.Loop) d) d ≡ false = h.0 in row-keys (statement_worded stated.Loop) d c.in-Err.error lacking h.1)
+    (λ h. row-inside (statement_worded stated.Loop) (codes "attrs") false (list_of attributes an_attribute) d c.in-Err.error refl h.1)
 
 pub read_loop-returns-in-Err-body_member-clause-place : goal.read_loop-returns-in-Err-body_member-clause-place
 read_loop-returns-in-Err-body_member-clause-place t c =
@@ -514,52 +478,39 @@ read_loop-returns-in-Ok-optional_continuing-clause-ok t c =
     let attributes_read = c.in-Ok.ensures.ok in
     let body_read = c.in-Ok-body_member.ensures.ok in
     let continuing_read = c.in-Ok-optional_continuing.ensures.ok in
-    let known : has_only (known_keys (statement_worded stated.Loop) d) d ≡ true = sym c.has_only.ensures ∙ c.if-not-has_only.false in
+    let known : has_only (known_keys (statement_worded stated.Loop) d) d ≡ true = c.in-Ok.ensures.keys in
     same-worded (worded-reads known (plain-kind loop) refl (many-then attributes_read (needs-then body_read (may-then continuing_read (none-then d _))))) (sym (view-loop c.in-Ok.attributes c.in-Ok-body_member.body c.in-Ok-optional_continuing.continuing))
-
-pub read_for-returns-then-not-has_only-clause-place : goal.read_for-returns-then-not-has_only-clause-place
-read_for-returns-then-not-has_only-clause-place t c =
-    let d = borrowed_view c.args.value.now in
-    let lacking : has_only (known_keys (statement_worded stated.For) d) d ≡ false = sym c.has_only.ensures ∙ c.if-not-has_only.true in
-    row-keys (statement_worded stated.For) d c.wrong.result lacking c.wrong.ensures
 
 pub read_for-returns-in-Err-clause-place : goal.read_for-returns-in-Err-clause-place
 read_for-returns-in-Err-clause-place t c =
     let d = borrowed_view c.args.value.now in
-    row-inside (statement_worded stated.For) (codes "attrs") false (list_of attributes an_attribute) d c.in-Err.error refl c.in-Err.ensures.place
+    by-keys c.in-Err.ensures.place
+    (λ h. let lacking : has_only (known_keys (statement_worded stated.For) d) d ≡ false = h.0 in row-keys (statement_worded stated.For) d c.in-Err.error lacking h.1)
+    (λ h. row-inside (statement_worded stated.For) (codes "attrs") false (list_of attributes an_attribute) d c.in-Err.error refl h.1)
 
 pub read_for-returns-in-Err-optional_statement-clause-place : goal.read_for-returns-in-Err-optional_statement-clause-place
 read_for-returns-in-Err-optional_statement-clause-place t c =
     let d = borrowed_view c.args.value.now in
     row-inside (statement_worded stated.For) (codes "init") false (node a_statement) d c.in-Err-optional_statement.error refl c.in-Err-optional_statement.ensures.place
 
-pub read_while-returns-then-not-has_only-clause-place : goal.read_while-returns-then-not-has_only-clause-place
-read_while-returns-then-not-has_only-clause-place t c =
-    let d = borrowed_view c.args.value.now in
-    let lacking : has_only (known_keys (statement_worded stated.While) d) d ≡ false = sym c.has_only.ensures ∙ c.if-not-has_only.true in
-    row-keys (statement_worded stated.While) d c.wrong.result lacking c.wrong.ensures
-
 pub read_while-returns-in-Err-clause-place : goal.read_while-returns-in-Err-clause-place
 read_while-returns-in-Err-clause-place t c =
     let d = borrowed_view c.args.value.now in
-    row-inside (statement_worded stated.While) (codes "attrs") false (list_of attributes an_attribute) d c.in-Err.error refl c.in-Err.ensures.place
-
-pub read_body-returns-then-not-has_only-clause-place : goal.read_body-returns-then-not-has_only-clause-place
-read_body-returns-then-not-has_only-clause-place t c =
-    let d = borrowed_view c.args.value.now in
-    let lacking : has_only (known_keys (body_row) d) d ≡ false = sym c.has_only.ensures ∙ c.if-not-has_only.true in
-    bare-keys a_body compound (body_row) d refl c.wrong.result refl lacking c.wrong.ensures
+    by-keys c.in-Err.ensures.place
+    (λ h. let lacking : has_only (known_keys (statement_worded stated.While) d) d ≡ false = h.0 in row-keys (statement_worded stated.While) d c.in-Err.error lacking h.1)
+    (λ h. row-inside (statement_worded stated.While) (codes "attrs") false (list_of attributes an_attribute) d c.in-Err.error refl h.1)
 
 pub read_body-returns-in-Err-clause-place : goal.read_body-returns-in-Err-clause-place
 read_body-returns-in-Err-clause-place t c =
     let d = borrowed_view c.args.value.now in
-    let known : has_only (known_keys (body_row) d) d ≡ true = sym c.has_only.ensures ∙ c.if-not-has_only.false in
-    bare-place a_body compound (body_row) d refl c.in-Err.error known (row-inside (body_row) (codes "attrs") false (list_of attributes an_attribute) d c.in-Err.error refl c.in-Err.ensures.place)
+    by-keys c.in-Err.ensures.place
+    (λ h. let lacking : has_only (known_keys (body_row) d) d ≡ false = h.0 in bare-keys a_body compound (body_row) d refl c.in-Err.error refl lacking h.1)
+    (λ h. let known : has_only (known_keys (body_row) d) d ≡ true = h.0 in bare-place a_body compound (body_row) d refl c.in-Err.error known (row-inside (body_row) (codes "attrs") false (list_of attributes an_attribute) d c.in-Err.error refl h.1))
 
 pub read_body-returns-in-Err-statements_member-clause-place : goal.read_body-returns-in-Err-statements_member-clause-place
 read_body-returns-in-Err-statements_member-clause-place t c =
     let d = borrowed_view c.args.value.now in
-    let known : has_only (known_keys (body_row) d) d ≡ true = sym c.has_only.ensures ∙ c.if-not-has_only.false in
+    let known : has_only (known_keys (body_row) d) d ≡ true = c.in-Ok.ensures.keys in
     bare-place a_body compound (body_row) d refl c.in-Err-statements_member.error known (row-inside (body_row) (codes "stmts") false (list_of statements a_statement) d c.in-Err-statements_member.error refl c.in-Err-statements_member.ensures.place)
 
 pub read_body-returns-in-Ok-statements_member-clause-ok : goal.read_body-returns-in-Ok-statements_member-clause-ok
@@ -567,37 +518,27 @@ read_body-returns-in-Ok-statements_member-clause-ok t c =
     let d = borrowed_view c.args.value.now in
     let attributes_read = c.in-Ok.ensures.ok in
     let statements_read = c.in-Ok-statements_member.ensures.ok in
-    let known : has_only (known_keys (body_row) d) d ≡ true = sym c.has_only.ensures ∙ c.if-not-has_only.false in
+    let known : has_only (known_keys (body_row) d) d ≡ true = c.in-Ok.ensures.keys in
     same-reads (bare-reads a_body compound (body_row) d refl _ _ _ known (many-then attributes_read (many-then statements_read (none-then d _)))) (sym (made-block c.in-Ok.attributes c.in-Ok-statements_member.statements))
-
-pub read_elif-returns-then-not-has_only-clause-place : goal.read_elif-returns-then-not-has_only-clause-place
-read_elif-returns-then-not-has_only-clause-place t c =
-    let d = borrowed_view c.args.value.now in
-    let lacking : has_only (known_keys (attrs condition_row) d) d ≡ false = sym c.has_only.ensures ∙ c.if-not-has_only.true in
-    bare-keys an_elif else_if_clause (attrs condition_row) d refl c.wrong.result refl lacking c.wrong.ensures
 
 pub read_elif-returns-in-Err-clause-place : goal.read_elif-returns-in-Err-clause-place
 read_elif-returns-in-Err-clause-place t c =
     let d = borrowed_view c.args.value.now in
-    let known : has_only (known_keys (attrs condition_row) d) d ≡ true = sym c.has_only.ensures ∙ c.if-not-has_only.false in
-    bare-place an_elif else_if_clause (attrs condition_row) d refl c.in-Err.error known (row-inside (attrs condition_row) (codes "attrs") false (list_of attributes an_attribute) d c.in-Err.error refl c.in-Err.ensures.place)
-
-pub read_else-returns-then-not-has_only-clause-place : goal.read_else-returns-then-not-has_only-clause-place
-read_else-returns-then-not-has_only-clause-place t c =
-    let d = borrowed_view c.args.value.now in
-    let lacking : has_only (known_keys (attrs (needs (codes "body") (node a_body) nothing)) d) d ≡ false = sym c.has_only.ensures ∙ c.if-not-has_only.true in
-    bare-keys an_else else_clause (attrs (needs (codes "body") (node a_body) nothing)) d refl c.wrong.result refl lacking c.wrong.ensures
+    by-keys c.in-Err.ensures.place
+    (λ h. let lacking : has_only (known_keys (attrs condition_row) d) d ≡ false = h.0 in bare-keys an_elif else_if_clause (attrs condition_row) d refl c.in-Err.error refl lacking h.1)
+    (λ h. let known : has_only (known_keys (attrs condition_row) d) d ≡ true = h.0 in bare-place an_elif else_if_clause (attrs condition_row) d refl c.in-Err.error known (row-inside (attrs condition_row) (codes "attrs") false (list_of attributes an_attribute) d c.in-Err.error refl h.1))
 
 pub read_else-returns-in-Err-clause-place : goal.read_else-returns-in-Err-clause-place
 read_else-returns-in-Err-clause-place t c =
     let d = borrowed_view c.args.value.now in
-    let known : has_only (known_keys (attrs (needs (codes "body") (node a_body) nothing)) d) d ≡ true = sym c.has_only.ensures ∙ c.if-not-has_only.false in
-    bare-place an_else else_clause (attrs (needs (codes "body") (node a_body) nothing)) d refl c.in-Err.error known (row-inside (attrs (needs (codes "body") (node a_body) nothing)) (codes "attrs") false (list_of attributes an_attribute) d c.in-Err.error refl c.in-Err.ensures.place)
+    by-keys c.in-Err.ensures.place
+    (λ h. let lacking : has_only (known_keys (attrs (needs (codes "body") (node a_body) nothing)) d) d ≡ false = h.0 in bare-keys an_else else_clause (attrs (needs (codes "body") (node a_body) nothing)) d refl c.in-Err.error refl lacking h.1)
+    (λ h. let known : has_only (known_keys (attrs (needs (codes "body") (node a_body) nothing)) d) d ≡ true = h.0 in bare-place an_else else_clause (attrs (needs (codes "body") (node a_body) nothing)) d refl c.in-Err.error known (row-inside (attrs (needs (codes "body") (node a_body) nothing)) (codes "attrs") false (list_of attributes an_attribute) d c.in-Err.error refl h.1))
 
 pub read_else-returns-in-Err-body_member-clause-place : goal.read_else-returns-in-Err-body_member-clause-place
 read_else-returns-in-Err-body_member-clause-place t c =
     let d = borrowed_view c.args.value.now in
-    let known : has_only (known_keys (attrs (needs (codes "body") (node a_body) nothing)) d) d ≡ true = sym c.has_only.ensures ∙ c.if-not-has_only.false in
+    let known : has_only (known_keys (attrs (needs (codes "body") (node a_body) nothing)) d) d ≡ true = c.in-Ok.ensures.keys in
     bare-place an_else else_clause (attrs (needs (codes "body") (node a_body) nothing)) d refl c.in-Err-body_member.error known (row-member (attrs (needs (codes "body") (node a_body) nothing)) (codes "body") (node a_body) d c.in-Err-body_member.error refl c.in-Err-body_member.ensures.place)
 
 pub read_else-returns-in-Ok-body_member-clause-ok : goal.read_else-returns-in-Ok-body_member-clause-ok
@@ -605,31 +546,26 @@ read_else-returns-in-Ok-body_member-clause-ok t c =
     let d = borrowed_view c.args.value.now in
     let attributes_read = c.in-Ok.ensures.ok in
     let body_read = c.in-Ok-body_member.ensures.ok in
-    let known : has_only (known_keys (attrs (needs (codes "body") (node a_body) nothing)) d) d ≡ true = sym c.has_only.ensures ∙ c.if-not-has_only.false in
+    let known : has_only (known_keys (attrs (needs (codes "body") (node a_body) nothing)) d) d ≡ true = c.in-Ok.ensures.keys in
     same-reads (bare-reads an_else else_clause (attrs (needs (codes "body") (node a_body) nothing)) d refl _ _ _ known (many-then attributes_read (needs-then body_read (none-then d _)))) (sym (made-else c.in-Ok.attributes c.in-Ok-body_member.body))
-
-pub read_clause-returns-then-not-has_only-clause-place : goal.read_clause-returns-then-not-has_only-clause-place
-read_clause-returns-then-not-has_only-clause-place t c =
-    let d = borrowed_view c.args.value.now in
-    let lacking : has_only (known_keys (attrs (many (codes "cases") (list_of list a_case) (needs (codes "body") (node a_body) nothing))) d) d ≡ false = sym c.has_only.ensures ∙ c.if-not-has_only.true in
-    bare-keys a_clause switch_clause (attrs (many (codes "cases") (list_of list a_case) (needs (codes "body") (node a_body) nothing))) d refl c.wrong.result refl lacking c.wrong.ensures
 
 pub read_clause-returns-in-Err-clause-place : goal.read_clause-returns-in-Err-clause-place
 read_clause-returns-in-Err-clause-place t c =
     let d = borrowed_view c.args.value.now in
-    let known : has_only (known_keys (attrs (many (codes "cases") (list_of list a_case) (needs (codes "body") (node a_body) nothing))) d) d ≡ true = sym c.has_only.ensures ∙ c.if-not-has_only.false in
-    bare-place a_clause switch_clause (attrs (many (codes "cases") (list_of list a_case) (needs (codes "body") (node a_body) nothing))) d refl c.in-Err.error known (row-inside (attrs (many (codes "cases") (list_of list a_case) (needs (codes "body") (node a_body) nothing))) (codes "attrs") false (list_of attributes an_attribute) d c.in-Err.error refl c.in-Err.ensures.place)
+    by-keys c.in-Err.ensures.place
+    (λ h. let lacking : has_only (known_keys (attrs (many (codes "cases") (list_of list a_case) (needs (codes "body") (node a_body) nothing))) d) d ≡ false = h.0 in bare-keys a_clause switch_clause (attrs (many (codes "cases") (list_of list a_case) (needs (codes "body") (node a_body) nothing))) d refl c.in-Err.error refl lacking h.1)
+    (λ h. let known : has_only (known_keys (attrs (many (codes "cases") (list_of list a_case) (needs (codes "body") (node a_body) nothing))) d) d ≡ true = h.0 in bare-place a_clause switch_clause (attrs (many (codes "cases") (list_of list a_case) (needs (codes "body") (node a_body) nothing))) d refl c.in-Err.error known (row-inside (attrs (many (codes "cases") (list_of list a_case) (needs (codes "body") (node a_body) nothing))) (codes "attrs") false (list_of attributes an_attribute) d c.in-Err.error refl h.1))
 
 pub read_clause-returns-in-Err-cases_member-clause-place : goal.read_clause-returns-in-Err-cases_member-clause-place
 read_clause-returns-in-Err-cases_member-clause-place t c =
     let d = borrowed_view c.args.value.now in
-    let known : has_only (known_keys (attrs (many (codes "cases") (list_of list a_case) (needs (codes "body") (node a_body) nothing))) d) d ≡ true = sym c.has_only.ensures ∙ c.if-not-has_only.false in
+    let known : has_only (known_keys (attrs (many (codes "cases") (list_of list a_case) (needs (codes "body") (node a_body) nothing))) d) d ≡ true = c.in-Ok.ensures.keys in
     bare-place a_clause switch_clause (attrs (many (codes "cases") (list_of list a_case) (needs (codes "body") (node a_body) nothing))) d refl c.in-Err-cases_member.error known (row-inside (attrs (many (codes "cases") (list_of list a_case) (needs (codes "body") (node a_body) nothing))) (codes "cases") false (list_of list a_case) d c.in-Err-cases_member.error refl c.in-Err-cases_member.ensures.place)
 
 pub read_clause-returns-in-Err-body_member-clause-place : goal.read_clause-returns-in-Err-body_member-clause-place
 read_clause-returns-in-Err-body_member-clause-place t c =
     let d = borrowed_view c.args.value.now in
-    let known : has_only (known_keys (attrs (many (codes "cases") (list_of list a_case) (needs (codes "body") (node a_body) nothing))) d) d ≡ true = sym c.has_only.ensures ∙ c.if-not-has_only.false in
+    let known : has_only (known_keys (attrs (many (codes "cases") (list_of list a_case) (needs (codes "body") (node a_body) nothing))) d) d ≡ true = c.in-Ok.ensures.keys in
     bare-place a_clause switch_clause (attrs (many (codes "cases") (list_of list a_case) (needs (codes "body") (node a_body) nothing))) d refl c.in-Err-body_member.error known (row-member (attrs (many (codes "cases") (list_of list a_case) (needs (codes "body") (node a_body) nothing))) (codes "body") (node a_body) d c.in-Err-body_member.error refl c.in-Err-body_member.ensures.place)
 
 pub read_clause-returns-in-Ok-body_member-clause-ok : goal.read_clause-returns-in-Ok-body_member-clause-ok
@@ -638,31 +574,26 @@ read_clause-returns-in-Ok-body_member-clause-ok t c =
     let attributes_read = c.in-Ok.ensures.ok in
     let case_selectors_read = c.in-Ok-cases_member.ensures.ok in
     let body_read = c.in-Ok-body_member.ensures.ok in
-    let known : has_only (known_keys (attrs (many (codes "cases") (list_of list a_case) (needs (codes "body") (node a_body) nothing))) d) d ≡ true = sym c.has_only.ensures ∙ c.if-not-has_only.false in
+    let known : has_only (known_keys (attrs (many (codes "cases") (list_of list a_case) (needs (codes "body") (node a_body) nothing))) d) d ≡ true = c.in-Ok.ensures.keys in
     same-reads (bare-reads a_clause switch_clause (attrs (many (codes "cases") (list_of list a_case) (needs (codes "body") (node a_body) nothing))) d refl _ _ _ known (many-then attributes_read (many-then case_selectors_read (needs-then body_read (none-then d _))))) (sym (made-clause c.in-Ok.attributes c.in-Ok-cases_member.case_selectors c.in-Ok-body_member.body))
-
-pub read_continuing-returns-then-not-has_only-clause-place : goal.read_continuing-returns-then-not-has_only-clause-place
-read_continuing-returns-then-not-has_only-clause-place t c =
-    let d = borrowed_view c.args.value.now in
-    let lacking : has_only (known_keys (attrs (needs (codes "body") (node a_body) (may (codes "break_if") (node a_break_if) nothing))) d) d ≡ false = sym c.has_only.ensures ∙ c.if-not-has_only.true in
-    bare-keys a_continuing continuing (attrs (needs (codes "body") (node a_body) (may (codes "break_if") (node a_break_if) nothing))) d refl c.wrong.result refl lacking c.wrong.ensures
 
 pub read_continuing-returns-in-Err-clause-place : goal.read_continuing-returns-in-Err-clause-place
 read_continuing-returns-in-Err-clause-place t c =
     let d = borrowed_view c.args.value.now in
-    let known : has_only (known_keys (attrs (needs (codes "body") (node a_body) (may (codes "break_if") (node a_break_if) nothing))) d) d ≡ true = sym c.has_only.ensures ∙ c.if-not-has_only.false in
-    bare-place a_continuing continuing (attrs (needs (codes "body") (node a_body) (may (codes "break_if") (node a_break_if) nothing))) d refl c.in-Err.error known (row-inside (attrs (needs (codes "body") (node a_body) (may (codes "break_if") (node a_break_if) nothing))) (codes "attrs") false (list_of attributes an_attribute) d c.in-Err.error refl c.in-Err.ensures.place)
+    by-keys c.in-Err.ensures.place
+    (λ h. let lacking : has_only (known_keys (attrs (needs (codes "body") (node a_body) (may (codes "break_if") (node a_break_if) nothing))) d) d ≡ false = h.0 in bare-keys a_continuing continuing (attrs (needs (codes "body") (node a_body) (may (codes "break_if") (node a_break_if) nothing))) d refl c.in-Err.error refl lacking h.1)
+    (λ h. let known : has_only (known_keys (attrs (needs (codes "body") (node a_body) (may (codes "break_if") (node a_break_if) nothing))) d) d ≡ true = h.0 in bare-place a_continuing continuing (attrs (needs (codes "body") (node a_body) (may (codes "break_if") (node a_break_if) nothing))) d refl c.in-Err.error known (row-inside (attrs (needs (codes "body") (node a_body) (may (codes "break_if") (node a_break_if) nothing))) (codes "attrs") false (list_of attributes an_attribute) d c.in-Err.error refl h.1))
 
 pub read_continuing-returns-in-Err-body_member-clause-place : goal.read_continuing-returns-in-Err-body_member-clause-place
 read_continuing-returns-in-Err-body_member-clause-place t c =
     let d = borrowed_view c.args.value.now in
-    let known : has_only (known_keys (attrs (needs (codes "body") (node a_body) (may (codes "break_if") (node a_break_if) nothing))) d) d ≡ true = sym c.has_only.ensures ∙ c.if-not-has_only.false in
+    let known : has_only (known_keys (attrs (needs (codes "body") (node a_body) (may (codes "break_if") (node a_break_if) nothing))) d) d ≡ true = c.in-Ok.ensures.keys in
     bare-place a_continuing continuing (attrs (needs (codes "body") (node a_body) (may (codes "break_if") (node a_break_if) nothing))) d refl c.in-Err-body_member.error known (row-member (attrs (needs (codes "body") (node a_body) (may (codes "break_if") (node a_break_if) nothing))) (codes "body") (node a_body) d c.in-Err-body_member.error refl c.in-Err-body_member.ensures.place)
 
 pub read_continuing-returns-in-Err-optional_break_if-clause-place : goal.read_continuing-returns-in-Err-optional_break_if-clause-place
 read_continuing-returns-in-Err-optional_break_if-clause-place t c =
     let d = borrowed_view c.args.value.now in
-    let known : has_only (known_keys (attrs (needs (codes "body") (node a_body) (may (codes "break_if") (node a_break_if) nothing))) d) d ≡ true = sym c.has_only.ensures ∙ c.if-not-has_only.false in
+    let known : has_only (known_keys (attrs (needs (codes "body") (node a_body) (may (codes "break_if") (node a_break_if) nothing))) d) d ≡ true = c.in-Ok.ensures.keys in
     bare-place a_continuing continuing (attrs (needs (codes "body") (node a_body) (may (codes "break_if") (node a_break_if) nothing))) d refl c.in-Err-optional_break_if.error known (row-inside (attrs (needs (codes "body") (node a_body) (may (codes "break_if") (node a_break_if) nothing))) (codes "break_if") false (node a_break_if) d c.in-Err-optional_break_if.error refl c.in-Err-optional_break_if.ensures.place)
 
 pub read_continuing-returns-in-Ok-optional_break_if-clause-ok : goal.read_continuing-returns-in-Ok-optional_break_if-clause-ok
@@ -671,7 +602,7 @@ read_continuing-returns-in-Ok-optional_break_if-clause-ok t c =
     let attributes_read = c.in-Ok.ensures.ok in
     let body_read = c.in-Ok-body_member.ensures.ok in
     let break_if_read = c.in-Ok-optional_break_if.ensures.ok in
-    let known : has_only (known_keys (attrs (needs (codes "body") (node a_body) (may (codes "break_if") (node a_break_if) nothing))) d) d ≡ true = sym c.has_only.ensures ∙ c.if-not-has_only.false in
+    let known : has_only (known_keys (attrs (needs (codes "body") (node a_body) (may (codes "break_if") (node a_break_if) nothing))) d) d ≡ true = c.in-Ok.ensures.keys in
     same-reads (bare-reads a_continuing continuing (attrs (needs (codes "body") (node a_body) (may (codes "break_if") (node a_break_if) nothing))) d refl _ _ _ known (many-then attributes_read (needs-then body_read (may-then break_if_read (none-then d _))))) (sym (made-continuing c.in-Ok.attributes c.in-Ok-body_member.body c.in-Ok-optional_break_if.break_if))
 
 pub read_statements-loop-index-init : goal.read_statements-loop-index-init
@@ -823,7 +754,7 @@ read_if-returns-in-Ok-optional_else-clause-ok t c =
     let condition_read = c.in-Ok-condition_parts.ensures.ok in
     let else_if_clauses_read = c.in-Ok-elifs_member.ensures.ok in
     let else_clause_read = c.in-Ok-optional_else.ensures.ok in
-    let known : has_only (known_keys (statement_worded stated.If) d) d ≡ true = sym c.has_only.ensures ∙ c.if-not-has_only.false in
+    let known : has_only (known_keys (statement_worded stated.If) d) d ≡ true = c.in-Ok.ensures.keys in
     same-worded (worded-reads known (plain-kind if_statement) refl (many-then attributes_read (inner-then (plain-kind if_clause) refl condition_read (many-then else_if_clauses_read (may-then else_clause_read (none-then d _)))))) (sym (view-if c.in-Ok.attributes c.in-Ok-condition_parts.expression c.in-Ok-condition_parts.body c.in-Ok-elifs_member.else_if_clauses c.in-Ok-optional_else.else_clause))
 
 pub read_while-returns-in-Ok-condition_parts-clause-ok : goal.read_while-returns-in-Ok-condition_parts-clause-ok
@@ -831,7 +762,7 @@ read_while-returns-in-Ok-condition_parts-clause-ok t c =
     let d = borrowed_view c.args.value.now in
     let attributes_read = c.in-Ok.ensures.ok in
     let condition_read = c.in-Ok-condition_parts.ensures.ok in
-    let known : has_only (known_keys (statement_worded stated.While) d) d ≡ true = sym c.has_only.ensures ∙ c.if-not-has_only.false in
+    let known : has_only (known_keys (statement_worded stated.While) d) d ≡ true = c.in-Ok.ensures.keys in
     same-worded (worded-reads known (plain-kind while_loop) refl (many-then attributes_read condition_read)) (sym (view-while c.in-Ok.attributes c.in-Ok-condition_parts.condition c.in-Ok-condition_parts.body))
 
 pub read_for-returns-in-Err-turn_parts-clause-place : goal.read_for-returns-in-Err-turn_parts-clause-place
@@ -845,13 +776,13 @@ read_for-returns-in-Ok-turn_parts-clause-ok t c =
     let attributes_read = c.in-Ok.ensures.ok in
     let initializer_read = c.in-Ok-optional_statement.ensures.ok in
     let turn_read = c.in-Ok-turn_parts.ensures.ok in
-    let known : has_only (known_keys (statement_worded stated.For) d) d ≡ true = sym c.has_only.ensures ∙ c.if-not-has_only.false in
+    let known : has_only (known_keys (statement_worded stated.For) d) d ≡ true = c.in-Ok.ensures.keys in
     same-worded (worded-reads known (plain-kind for_loop) refl (many-then attributes_read (may-then initializer_read turn_read))) (sym (view-for c.in-Ok.attributes c.in-Ok-optional_statement.initializer c.in-Ok-turn_parts.condition c.in-Ok-turn_parts.update c.in-Ok-turn_parts.body))
 
 pub read_elif-returns-in-Err-condition_parts-clause-place : goal.read_elif-returns-in-Err-condition_parts-clause-place
 read_elif-returns-in-Err-condition_parts-clause-place t c =
     let d = borrowed_view c.args.value.now in
-    let known : has_only (known_keys (attrs condition_row) d) d ≡ true = sym c.has_only.ensures ∙ c.if-not-has_only.false in
+    let known : has_only (known_keys (attrs condition_row) d) d ≡ true = c.in-Ok.ensures.keys in
     bare-place an_elif else_if_clause (attrs condition_row) d refl c.in-Err-condition_parts.error known (condition-place (attrs condition_row) d c.in-Err-condition_parts.error refl refl c.in-Err-condition_parts.ensures.place)
 
 pub read_elif-returns-in-Ok-condition_parts-clause-ok : goal.read_elif-returns-in-Ok-condition_parts-clause-ok
@@ -859,5 +790,5 @@ read_elif-returns-in-Ok-condition_parts-clause-ok t c =
     let d = borrowed_view c.args.value.now in
     let attributes_read = c.in-Ok.ensures.ok in
     let condition_read = c.in-Ok-condition_parts.ensures.ok in
-    let known : has_only (known_keys (attrs condition_row) d) d ≡ true = sym c.has_only.ensures ∙ c.if-not-has_only.false in
+    let known : has_only (known_keys (attrs condition_row) d) d ≡ true = c.in-Ok.ensures.keys in
     same-reads (bare-reads an_elif else_if_clause (attrs condition_row) d refl _ _ _ known (many-then attributes_read condition_read)) (sym (made-elif c.in-Ok.attributes c.in-Ok-condition_parts.expression c.in-Ok-condition_parts.body))

@@ -1,5 +1,5 @@
 use Rattle.serde_json.specs.Data.{depth}
-use Rattle.wesl_borrowed.specs.View.{borrowed_view}
+use Rattle.wesl_form.specs.View.{borrowed_view}
 use Rattle.std.proofs.Common.{◌+◌, ◌*◌}
 use Rattle.wesl_form.specs.Schema.{a_clause, a_statement, an_elif}
 use Rattle.wesl_syntax.specs.Tree.{clauses, list, statements}

@@ -1,6 +1,6 @@
 use Rattle.std.proofs.Common.{None, Some, codes, option_and_then, refl, rules, sym, ◌≡◌}
 use Rattle.serde_json.specs.Find.{as_str, get}
-use Rattle.wesl_borrowed.specs.View.{borrowed_view}
+use Rattle.wesl_form.specs.View.{borrowed_view}
 use Rattle.wesl_form.specs.Schema.{a_statement, look}
 use Rattle.wesl_form.specs.Nodes.{statement_words}
 use Rattle.wesl_reading_statements.proofs.Worded.{no-word, wrong-word}

@@ -1,5 +1,5 @@
 use Rattle.serde_json.specs.Find.{as_str, get}
-use Rattle.wesl_borrowed.specs.View.{borrowed_view}
+use Rattle.wesl_form.specs.View.{borrowed_view}
 use Rattle.std.proofs.Common.{sym, None, Some, codes, option_and_then, refl, rules, ◌≡◌}
 use Rattle.wesl_form.specs.Schema.{a_declaration}
 use Rattle.wesl_reading_statements.proofs.Worded.{no-word, wrong-word}

@@ -1,6 +1,6 @@
 use Rattle.std.proofs.Common.{sym, ap, ◌∙◌, ◌≡◌, Some}
 use Rattle.serde_json.specs.Find.{as_array}
-use Rattle.wesl_borrowed.specs.View.{borrowed_view, items_view}
+use Rattle.wesl_form.specs.View.{borrowed_view, items_view}
 use Rattle.wesl_form.specs.Schema.{a_declaration}
 use Rattle.wesl_syntax.specs.Tree.{declarations, declaration_node}
 use Rattle.wesl_syntax.specs.View.{global_view, placed}

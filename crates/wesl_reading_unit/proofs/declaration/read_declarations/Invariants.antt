@@ -1,4 +1,4 @@
-use Rattle.wesl_borrowed.specs.View.{borrowed_view}
+use Rattle.wesl_form.specs.View.{borrowed_view}
 use Rattle.wesl_form.specs.Schema.{a_declaration}
 use Rattle.wesl_syntax.specs.Tree.{declarations, declaration_node}
 use Rattle.wesl_syntax.specs.View.{global_view, placed}

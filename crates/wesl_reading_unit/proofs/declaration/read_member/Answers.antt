@@ -1,8 +1,8 @@
-use Rattle.wesl_borrowed.specs.View.{borrowed_view}
+use Rattle.wesl_form.specs.View.{borrowed_view}
 use Rattle.std.proofs.Common.{◌∙◌, ap, codes, false, refl, sym, true, ◌≡◌}
 use Rattle.wesl_form.specs.Nodes.{typed_row}
 use Rattle.wesl_form.specs.Reading.{known_keys}
-use Rattle.wesl_borrowed.specs.Keys.{has_only}
+use Rattle.wesl_form.specs.Keys.{has_only}
 use Rattle.wesl_form.specs.Schema.{a_member, a_name, a_type, an_attribute, fixed, inner, leaf, list_of, node, nothing}
 use Rattle.wesl_reading.proofs.Places.{row-inside, row-member}
 use Rattle.wesl_reading.proofs.Rows.{plain-kind}

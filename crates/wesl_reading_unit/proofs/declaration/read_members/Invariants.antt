@@ -1,4 +1,4 @@
-use Rattle.wesl_borrowed.specs.View.{borrowed_view}
+use Rattle.wesl_form.specs.View.{borrowed_view}
 use Rattle.wesl_form.specs.Schema.{a_member}
 use Rattle.wesl_syntax.specs.Tree.{members, member_node}
 use Rattle.wesl_syntax.specs.View.{member_view, placed}

@@ -1,8 +1,8 @@
-use Rattle.wesl_borrowed.specs.View.{borrowed_view}
+use Rattle.wesl_form.specs.View.{borrowed_view}
 use Rattle.std.proofs.Common.{◌∙◌, sym, codes, false, refl, true, ◌≡◌}
 use Rattle.wesl_form.specs.Nodes.{typed_row}
 use Rattle.wesl_form.specs.Reading.{known_keys}
-use Rattle.wesl_borrowed.specs.Keys.{has_only}
+use Rattle.wesl_form.specs.Keys.{has_only}
 use Rattle.wesl_form.specs.Schema.{a_parameter, a_type, an_attribute, an_ident, leaf, list_of, node}
 use Rattle.wesl_reading.proofs.Expressions.{bare-keys, bare-place, bare-reads}
 use Rattle.wesl_reading.proofs.Places.{row-inside, row-member}

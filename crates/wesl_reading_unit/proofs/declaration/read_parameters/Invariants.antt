@@ -1,4 +1,4 @@
-use Rattle.wesl_borrowed.specs.View.{borrowed_view}
+use Rattle.wesl_form.specs.View.{borrowed_view}
 use Rattle.wesl_form.specs.Schema.{a_parameter}
 use Rattle.wesl_syntax.specs.Tree.{parameters}
 use Rattle.wesl_syntax.specs.View.{parameter_view}

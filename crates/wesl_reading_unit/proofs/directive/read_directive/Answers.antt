@@ -1,4 +1,4 @@
-use Rattle.wesl_borrowed.specs.View.{borrowed_view}
+use Rattle.wesl_form.specs.View.{borrowed_view}
 use Rattle.std.proofs.Common.{ap, refl, sym}
 use Rattle.wesl_form.specs.Schema.{a_directive, fixed}
 use Rattle.wesl_reading.proofs.Steps.{same-reads}

@@ -1,6 +1,6 @@
 use Rattle.std.proofs.Common.{sym, ap, ◌∙◌, ◌≡◌, Some}
 use Rattle.serde_json.specs.Find.{as_array}
-use Rattle.wesl_borrowed.specs.View.{borrowed_view, items_view}
+use Rattle.wesl_form.specs.View.{borrowed_view, items_view}
 use Rattle.wesl_form.specs.Schema.{a_directive}
 use Rattle.wesl_syntax.specs.Tree.{directive_list, directive_node}
 use Rattle.wesl_syntax.specs.View.{directive_view, placed}

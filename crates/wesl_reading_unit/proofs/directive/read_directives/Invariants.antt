@@ -1,4 +1,4 @@
-use Rattle.wesl_borrowed.specs.View.{borrowed_view}
+use Rattle.wesl_form.specs.View.{borrowed_view}
 use Rattle.wesl_form.specs.Schema.{a_directive}
 use Rattle.wesl_syntax.specs.Tree.{directive_list, directive_node}
 use Rattle.wesl_syntax.specs.View.{directive_view, placed}

@@ -1,9 +1,9 @@
 use Rattle.serde_json.specs.Data.{depth, items_depth}
 use Rattle.serde_json.specs.Find.{as_array}
-use Rattle.wesl_borrowed.specs.View.{borrowed_view, items_view}
+use Rattle.wesl_form.specs.View.{borrowed_view, items_view}
 use Rattle.std.proofs.Common.{Some, arith, codes, false, refl, rules, sym, true, ◌<◌, ◌≡◌, ◌≤◌, ◌∙◌, ap}
 use Rattle.wesl_form.specs.Reading.{known_keys}
-use Rattle.wesl_borrowed.specs.Keys.{has_only}
+use Rattle.wesl_form.specs.Keys.{has_only}
 use Rattle.wesl_form.specs.Schema.{a_content, an_entry, leaf, list_of, many, needs, node, nothing, some_names}
 use Rattle.wesl_reading.proofs.Depths.{array-depth, get-depth, item-depth}
 use Rattle.wesl_reading.proofs.Expressions.{bare-keys, bare-place, bare-reads}

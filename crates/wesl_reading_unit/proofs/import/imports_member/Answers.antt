@@ -1,5 +1,5 @@
 use Rattle.serde_json.specs.Find.{get}
-use Rattle.wesl_borrowed.specs.View.{borrowed_view}
+use Rattle.wesl_form.specs.View.{borrowed_view}
 use Rattle.std.proofs.Common.{Some, codes, rules, ◌≡◌}
 use Rattle.wesl_form.specs.Schema.{an_import, list_of}
 use Rattle.wesl_reading.proofs.Places.{inside-under}

@@ -1,5 +1,5 @@
 use Rattle.serde_json.specs.Find.{get}
-use Rattle.wesl_borrowed.specs.View.{borrowed_view}
+use Rattle.wesl_form.specs.View.{borrowed_view}
 use Rattle.std.proofs.Common.{Some, ap, codes, option_map, rules, ◌≡◌}
 use Rattle.wesl_form.specs.Reading.{name_in}
 use Rattle.wesl_form.specs.Schema.{an_ident, leaf}

@@ -1,4 +1,4 @@
-use Rattle.wesl_borrowed.specs.View.{borrowed_view}
+use Rattle.wesl_form.specs.View.{borrowed_view}
 use Rattle.wesl_form.specs.Schema.{an_import}
 use Rattle.wesl_syntax.specs.Tree.{imports, import_node}
 use Rattle.wesl_syntax.specs.View.{import_view, placed}

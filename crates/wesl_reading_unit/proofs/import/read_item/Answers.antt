@@ -1,9 +1,9 @@
 use Rattle.serde_json.specs.Find.{get}
-use Rattle.wesl_borrowed.specs.View.{borrowed_view}
+use Rattle.wesl_form.specs.View.{borrowed_view}
 use Rattle.std.proofs.Common.{◌∙◌, ap, codes, false, option_map, refl, sym, true, ◌≡◌}
 use Rattle.std.specs.Option.{is_some}
 use Rattle.wesl_form.specs.Reading.{known_keys, name_in}
-use Rattle.wesl_borrowed.specs.Keys.{has_only}
+use Rattle.wesl_form.specs.Keys.{has_only}
 use Rattle.wesl_form.specs.Schema.{a_content, an_ident, leaf, node}
 use Rattle.wesl_reading.proofs.Expressions.{bare-keys, bare-place, bare-reads}
 use Rattle.wesl_reading.proofs.Places.{memory, row-inside, row-text}

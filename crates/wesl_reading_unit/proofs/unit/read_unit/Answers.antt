@@ -1,8 +1,8 @@
-use Rattle.wesl_borrowed.specs.View.{borrowed_view}
+use Rattle.wesl_form.specs.View.{borrowed_view}
 use Rattle.std.proofs.Common.{[], codes, false, refl, rules, subst, sym, true, ◌∙◌, ◌≡◌}
 use Rattle.wesl_form.specs.Nodes.{whole_form}
 use Rattle.wesl_form.specs.Reading.{known_keys}
-use Rattle.wesl_borrowed.specs.Keys.{has_only}
+use Rattle.wesl_form.specs.Keys.{has_only}
 use Rattle.wesl_form.specs.Schema.{a_declaration, a_directive, an_import, list_of, node}
 use Rattle.wesl_reading.proofs.Expressions.{bare-keys, bare-place}
 use Rattle.wesl_reading.proofs.Places.{row-inside}

@@ -1,4 +1,4 @@
-use Rattle.wesl_borrowed.specs.View.{borrowed_view}
+use Rattle.wesl_form.specs.View.{borrowed_view}
 use Rattle.wesl_form.specs.Nodes.{whole_form}
 use Rattle.wesl_form.specs.Schema.{node}
 use Rattle.std.proofs.lemmas.Result.{IfErr-weaker}

@@ -3,7 +3,8 @@ use lib.Chars.{codes}
 use Rattle.std.proofs.lemmas.List.{take_all}
 use Rattle.wesl_names.specs.Path.{origin_view, path_view}
 use Rattle.wesl_names.proofs.Written.{written-read_back}
-use Rattle.wesl_names.specs.PathText.{joined, origin_pieces, parse}
+use Rattle.wesl_base.specs.Pieces.{joined}
+use Rattle.wesl_names.specs.PathText.{origin_pieces, parse}
 use Rattle.wesl_names.proofs.Supers.{text-more, origin-some}
 use Rattle.wesl_names.proofs.path.ModulePath.to_text.Goals as goal
 

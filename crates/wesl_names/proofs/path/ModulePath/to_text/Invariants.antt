@@ -1,6 +1,7 @@
 use Rattle.std.proofs.Common.{◌≡◌, ◌++◌, map, take, string_bytes}
 use Rattle.wesl_names.specs.Path.{origin_view}
-use Rattle.wesl_names.specs.PathText.{joined, origin_pieces}
+use Rattle.wesl_base.specs.Pieces.{joined}
+use Rattle.wesl_names.specs.PathText.{origin_pieces}
 use Rattle.wesl_names.proofs.path.ModulePath.to_text.Given as goal
 
 abbrev pub invariant-loop-component : goal.invariant-loop-component

@@ -2,7 +2,8 @@ use Rattle.std.proofs.Common.{◌++◌, ap, ◌∙◌, List, ℕ, map, take, str
 use Rattle.std.proofs.Output.{has_written_append, has_written_of_eq}
 use lib.Chars.{codes}
 use Rattle.wesl_names.specs.Path.{origin_view}
-use Rattle.wesl_names.specs.PathText.{joined, origin_pieces}
+use Rattle.wesl_base.specs.Pieces.{joined}
+use Rattle.wesl_names.specs.PathText.{origin_pieces}
 use Rattle.wesl_names.proofs.Supers.{text-more, origin-some}
 use Rattle.wesl_names.proofs.path_text.ModulePathDisplay.fmt.Goals as goal
 

@@ -1,7 +1,8 @@
 use Rattle.std.proofs.Common.{◌++◌, map, take, string_bytes}
 use Rattle.std.specs.Fmt.{HasWritten, IsPlainFormatter}
 use Rattle.wesl_names.specs.Path.{origin_view}
-use Rattle.wesl_names.specs.PathText.{joined, origin_pieces}
+use Rattle.wesl_base.specs.Pieces.{joined}
+use Rattle.wesl_names.specs.PathText.{origin_pieces}
 use Rattle.wesl_names.proofs.path_text.ModulePathDisplay.fmt.Given as goal
 
 abbrev pub invariant-loop-component : goal.invariant-loop-component

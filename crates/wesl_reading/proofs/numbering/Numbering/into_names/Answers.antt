@@ -1,13 +1,7 @@
-use Rattle.std.proofs.Common.{◌≡◌, List, String, Global, map, string_bytes, subst, sym, rules}
-use Rattle.std.specs.List.{IsDistinct}
-use Rattle.std.proofs.lemmas.Grind.{common_steps}
+use Rattle.std.specs.HashMap.{get_by_text}
 use Rattle.wesl_form.specs.Units.{AreDistinct}
-use Rattle.wesl_reading.proofs.Spellings.{distinct-texts}
+use Rattle.wesl_reading.proofs.Spellings.{distinct_names}
 use Rattle.wesl_reading.proofs.numbering.Numbering.into_names.Goals as goal
 
 pub returns-clause-distinct : goal.returns-clause-distinct
-returns-clause-distinct c =
-    let keys : List (String Global) = c.as_slice-spelling-items.result.now in
-    let same : map string_bytes keys ≡ c.loop-spelling.names = search (rules, common_steps) in
-    let kept : keys ≡ c.self.inside.spellings.keys = search rules in
-    subst AreDistinct same (distinct-texts keys (subst (IsDistinct _) (sym kept) c.as_slice-spelling-items.ensures.unique))
+returns-clause-distinct c = distinct_names c.self.inside.names (get_by_text c.self.inside.numbers) c.self.invariant

@@ -11,8 +11,8 @@ use Rattle.wesl_syntax.specs.declared.statement.ElseIfClause.{out-ElseIfClause}
 use Rattle.wesl_syntax.specs.declared.statement.IfClause.{out-IfClause}
 use Rattle.wesl_syntax.specs.declared.statement.Statement.{Statement, out-Statement}
 use Rattle.wesl_syntax.specs.declared.statement.SwitchClause.{out-SwitchClause}
-use Rattle.wesl_kinds.specs.Picks.{seeks_statements}
-use Rattle.wesl_kinds.specs.Finished.{Finished}
+use Rattle.wesl_collect.specs.Picks.{seeks_statements}
+use Rattle.wesl_collect.specs.Finished.{Finished}
 use Rattle.wesl_rewrite.proofs.Statements.{CompoundStatement_is, CompoundStatement_of, ContinuingStatement_is, ContinuingStatement_of, ElseClause_is, ElseClause_of, ElseIfClause_is, ElseIfClause_of, IfClause_is, IfClause_of, SwitchClause_is, SwitchClause_of, view_Assignment, view_Break, view_Compound, view_ConstAssert, view_Continue, view_Declaration, view_Decrement, view_Discard, view_For, view_FunctionCall, view_If, view_Increment, view_Loop, view_Return, view_Switch, view_Void, view_While}
 use Rattle.wesl_rewrite.proofs.Steps.{beside, first_all, first_none, from, inside, passed_step, taken_else, taken_if, unmoved, viewed, went_list}
 use Rattle.wesl_rewrite.proofs.replace.statement.+replacing_statements.Goals as goal

@@ -1,4 +1,4 @@
-use Rattle.std.proofs.Common.{rules}
+use Rattle.std.proofs.Common.{rules, refl}
 use Rattle.wesl_names.specs.Path.{path_view}
 use Rattle.wesl_source_map.specs.BasicView.{sources}
 use Rattle.wesl_source_map.proofs.Questions.{means-after, given-before}
@@ -21,3 +21,14 @@ pub returns-in-Err-record_given-clause-same : goal.returns-in-Err-record_given-c
 returns-in-Err-record_given-clause-same g c =
     means-after g.R.Resolver.hands g.R.Resolver.refuses g.R.Resolver.source g.R.Resolver.lacks g.R.Resolver.shown c.args.self.now.resolver c.resolve_module.new.self c.resolve_module.ensures.same
     c.record_given.new.self.resolver c.record_given.ensures.same
+
+pub returns-in-Err : goal.returns-in-Err
+returns-in-Err g c = record {
+  handed = tt;
+  recorded = tt;
+  refused = c.in-Err.ensures.refused;
+  kept = λ _. refl;
+  same = c.in-Err.ensures.same;
+  stays_ready = c.in-Err.ensures.stays_ready;
+  beside = record { names = refl; path = refl; decls = λ _. refl; default = refl };
+}

@@ -1,5 +1,5 @@
 use Rattle.wesl_syntax.specs.View.{attribute_view}
-use Rattle.wesl_kinds.proofs.Variants.{attribute_unpicked}
+use Rattle.wesl_collect.proofs.Variants.{attribute_unpicked}
 use Rattle.wesl_collect.proofs.Ends.{listed_below}
 use Rattle.wesl_visit.proofs.collectors.AttributeCollect.collect.Goals as goal
 

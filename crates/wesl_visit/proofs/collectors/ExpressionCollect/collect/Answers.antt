@@ -1,5 +1,5 @@
 use Rattle.wesl_syntax.specs.View.{expression_view}
-use Rattle.wesl_kinds.proofs.Variants.{expression_unpicked}
+use Rattle.wesl_collect.proofs.Variants.{expression_unpicked}
 use Rattle.wesl_collect.proofs.Ends.{listed_below}
 use Rattle.wesl_visit.proofs.collectors.ExpressionCollect.collect.Goals as goal
 

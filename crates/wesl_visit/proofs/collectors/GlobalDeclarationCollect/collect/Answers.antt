@@ -1,5 +1,5 @@
 use Rattle.wesl_syntax.specs.View.{global_view}
-use Rattle.wesl_kinds.proofs.Variants.{global_unpicked}
+use Rattle.wesl_collect.proofs.Variants.{global_unpicked}
 use Rattle.wesl_collect.proofs.Ends.{listed_below}
 use Rattle.wesl_visit.proofs.collectors.GlobalDeclarationCollect.collect.Goals as goal
 

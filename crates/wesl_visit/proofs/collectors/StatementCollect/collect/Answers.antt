@@ -1,5 +1,5 @@
 use Rattle.wesl_syntax.specs.View.{statement_view}
-use Rattle.wesl_kinds.proofs.Variants.{statement_unpicked}
+use Rattle.wesl_collect.proofs.Variants.{statement_unpicked}
 use Rattle.wesl_collect.proofs.Ends.{listed_below}
 use Rattle.wesl_visit.proofs.collectors.StatementCollect.collect.Goals as goal
 

@@ -4,7 +4,7 @@ use Rattle.wesl_syntax.specs.Nodes.{all_nodes}
 use Rattle.wesl_visit.specs.Run.{Run, still}
 use Rattle.wesl_collect.specs.Seen.{below}
 use Rattle.wesl_collect.specs.Walk.{strictly}
-use Rattle.wesl_kinds.specs.Sought.{test}
+use Rattle.wesl_collect.specs.Sought.{test}
 use Rattle.wesl_collect.proofs.Joined.{all_found_below}
 use Rattle.wesl_visit.proofs.Runs.{all_met, begun_by, begun_none, on_err, run_more}
 use Rattle.wesl_visit.proofs.visits.Visit.visit_rec.Goals as goal

@@ -1,4 +1,0 @@
-pub mod Lists
-pub mod Known
-pub mod Turns
-pub mod Views

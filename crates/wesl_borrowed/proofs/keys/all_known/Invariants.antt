@@ -1,7 +1,0 @@
-use Rattle.std.proofs.Common.{◌≡◌, drop, map}
-use Rattle.wesl_borrowed.proofs.Known.{keys_known}
-use Rattle.wesl_borrowed.proofs.keys.all_known.Given as goal
-
-abbrev pub invariant-loop-member : goal.invariant-loop-member
-invariant-loop-member l =
-    keys_known (map (λ k. k.now) l.known) l.member-items ≡ keys_known (map (λ k. k.now) l.known) (drop l.member-index l.member-items)

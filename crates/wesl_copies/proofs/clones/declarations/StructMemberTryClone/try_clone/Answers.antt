@@ -1,6 +1,0 @@
-use Rattle.wesl_syntax.specs.View.{member_view}
-use Rattle.wesl_copies.proofs.Kept.{equal_copies}
-use Rattle.wesl_copies.proofs.clones.declarations.StructMemberTryClone.try_clone.Goals as goal
-
-pub returns-clause-equal : goal.returns-clause-equal
-returns-clause-equal c = equal_copies member_view c.unless_refused.result c.of-copying.ensures.keeps c.member-copy.ensures c.unless_refused.ensures.given c.unless_refused.ensures.noted

@@ -1,6 +1,0 @@
-use Rattle.wesl_syntax.specs.View.{entry_view}
-use Rattle.wesl_copies.proofs.Kept.{equal_copies}
-use Rattle.wesl_copies.proofs.clones.imports.ImportTryClone.try_clone.Goals as goal
-
-pub returns-clause-equal : goal.returns-clause-equal
-returns-clause-equal c = equal_copies entry_view c.unless_refused.result c.of-copying.ensures.keeps c.entry-copy.ensures c.unless_refused.ensures.given c.unless_refused.ensures.noted

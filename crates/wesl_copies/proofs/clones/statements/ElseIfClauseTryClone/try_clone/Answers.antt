@@ -1,6 +1,0 @@
-use Rattle.wesl_syntax.specs.View.{else_if_view}
-use Rattle.wesl_copies.proofs.Kept.{equal_copies}
-use Rattle.wesl_copies.proofs.clones.statements.ElseIfClauseTryClone.try_clone.Goals as goal
-
-pub returns-clause-equal : goal.returns-clause-equal
-returns-clause-equal c = equal_copies else_if_view c.unless_refused.result c.of-copying.ensures.keeps c.else_if_clause-copy.ensures c.unless_refused.ensures.given c.unless_refused.ensures.noted

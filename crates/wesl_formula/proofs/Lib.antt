@@ -1,2 +1,0 @@
-pub mod WrittenBack
-pub mod Steps

@@ -1,0 +1,4 @@
+pub mod Held
+pub mod Listed
+pub mod Records
+pub mod Tables

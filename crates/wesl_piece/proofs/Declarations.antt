@@ -1,0 +1,128 @@
+-- Declarations fit their form.
+use Rattle.std.proofs.Common.{ℕ, List, [], ◌∷◌, map, Option, Some, None, codes, refl, Vec, Global}
+use Rattle.wesl_names.specs.Path.{Text}
+use Rattle.wesl_names.specs.declared.names.Ident.{Ident}
+use Rattle.wesl_syntax.specs.Tree.{Kind, kind, at, ident, binder, present, space, end, tree, before, forest_of, respell_forest, declaration_node, statement_node, member_node, declaration, const_kind, override_kind, let_kind, var_kind, const_assert, void, type_alias, struct, member, members, parameter}
+use Rattle.wesl_syntax.specs.View.{attributes_tree, expression_tree, type_view, placed, optional, declaration_view, kind_tree, space_tree, access_tree, assert_view, alias_view, struct_view, member_view, parameter_view}
+use Rattle.wesl_syntax.specs.declared.span.Spanned.{Spanned}
+use Rattle.wesl_syntax.specs.declared.attribute.Attribute.{Attribute}
+use Rattle.wesl_syntax.specs.declared.expression.Expression.{Expression}
+use Rattle.wesl_syntax.specs.declared.expression.TypeExpression.{TypeExpression}
+use Rattle.wesl_syntax.specs.declared.declaration.AddressSpace.{AddressSpace}
+use Rattle.wesl_syntax.specs.declared.declaration.AccessMode.{AccessMode}
+use Rattle.wesl_syntax.specs.declared.declaration.DeclarationKind.{DeclarationKind}
+use Rattle.wesl_syntax.specs.declared.declaration.DeclarationKind.TheVariants as kinds
+use Rattle.wesl_syntax.specs.declared.declaration.Declaration.{Declaration}
+use Rattle.wesl_syntax.specs.declared.declaration.TypeAlias.{TypeAlias}
+use Rattle.wesl_syntax.specs.declared.declaration.StructMember.{StructMember}
+use Rattle.wesl_syntax.specs.declared.declaration.Struct.{Struct}
+use Rattle.wesl_syntax.specs.declared.declaration.FormalParameter.{FormalParameter}
+use Rattle.wesl_syntax.specs.declared.declaration.ConstAssert.{ConstAssert}
+use Rattle.wesl_form.specs.Schema.{Spelled, SpelledForest, SpelledLabel, a_declaration, a_statement, a_member, a_parameter, a_type, leaf, list_of, node, fixed, Row, nothing, needs, may, many, inner, one_of, a_name, an_ident}
+use Rattle.wesl_form.specs.Words.{access_words}
+use Rattle.wesl_form.specs.Nodes.{declaration_words, statement_words, declared, space_row, typed_row, attrs, operand, expression}
+use Rattle.wesl_piece.proofs.Fitting.{Fits, a_leaf, plain_node, an_identifier, name_text, a_word, AreFits, no_more, one_more, FitsRow, all_there, needed, listed, within, nowhere, somewhere, tree_of}
+use Rattle.wesl_piece.proofs.Worded.{space_word, access_word}
+use Rattle.wesl_piece.proofs.Expressions.{worded_fits, plain_row, chosen_by, spelled_as, node_fits, type_node_fits}
+use Rattle.wesl_piece.proofs.Attributes.{option_fits, with_attributes}
+
+abbrev pub declaration_label : SpelledLabel
+declaration_label = at declaration_node 0 0
+
+abbrev pub statement_label : SpelledLabel
+statement_label = at statement_node 0 0
+
+module _ (f : ℕ → Text) where
+  abbrev pub attributes_of : Vec (Spanned Attribute) Global → Spelled
+  attributes_of a = spelled_as f (attributes_tree a)
+
+  -- the space of a variable
+  space_fits : (s : Option (AddressSpace × Option AccessMode)) → FitsRow (kind var_kind) space_row (before (spelled_as f (optional space_tree s)) end)
+  space_fits None = nowhere all_there
+  space_fits (Some (s, a)) = somewhere (space_word s) refl (option_fits f access_tree (space s) (codes "access") (leaf (one_of access_words)) nothing end (λ x. a_leaf (a_word (access_word x) refl)) all_there a) all_there
+
+  abbrev tail_row : Row
+  tail_row = needs (codes "name") (leaf (an_ident binder)) (may (codes "ty") (node a_type) (may (codes "init") expression nothing))
+
+  abbrev tail_trees : Ident → Option TypeExpression → Option (Spanned Expression) → SpelledForest
+  tail_trees i t e = tree (ident binder (f i.0)) end (before (spelled_as f (optional type_view t)) (before (spelled_as f (optional expression_tree e)) end))
+
+  tail_fits : (i : Ident) (t : Option TypeExpression) (e : Option (Spanned Expression)) → FitsRow (kind declaration) tail_row (tail_trees i t e)
+  tail_fits i t e = needed (a_leaf an_identifier) (option_fits f type_view (kind declaration) (codes "ty") (node a_type) (may (codes "init") expression nothing) _ (λ x. type_node_fits f (kind present) x)
+      (option_fits f expression_tree (kind declaration) (codes "init") expression nothing end (λ x. node_fits f (kind present) x) all_there e) t)
+
+  abbrev declared_trees : Vec (Spanned Attribute) Global → DeclarationKind → Ident → Option TypeExpression → Option (Spanned Expression) → SpelledForest
+  declared_trees a k i t e = before (attributes_of a) (before (spelled_as f (kind_tree k)) (tail_trees i t e))
+
+  abbrev plain_kind_row : Kind → Row
+  plain_kind_row k = declared k nothing
+
+  abbrev var_row : Row
+  var_row = declared var_kind space_row
+
+  declared_declaration : (a : Vec (Spanned Attribute) Global) (k : DeclarationKind) (i : Ident) (t : Option TypeExpression) (e : Option (Spanned Expression)) (p : SpelledLabel) → Fits p (node a_declaration) (tree_of declaration_label (tree (kind declaration) (declared_trees a k i t e) end))
+  declared_declaration a kinds.Const i t e p = worded_fits a_declaration declaration_label (codes "const") (fixed (kind declaration)) (plain_kind_row const_kind) (kind declaration) (declared_trees a kinds.Const i t e) (record { long = refl; fits = refl; apart = refl }) (λ ms. chosen_by declaration_words None (codes "const") _ ms refl) refl refl
+      (with_attributes f (kind declaration) (codes "attrs") _ _ a (within refl refl all_there (tail_fits i t e))) p refl
+  declared_declaration a kinds.Override i t e p = worded_fits a_declaration declaration_label (codes "override") (fixed (kind declaration)) (plain_kind_row override_kind) (kind declaration) (declared_trees a kinds.Override i t e) (record { long = refl; fits = refl; apart = refl }) (λ ms. chosen_by declaration_words None (codes "override") _ ms refl) refl refl
+      (with_attributes f (kind declaration) (codes "attrs") _ _ a (within refl refl all_there (tail_fits i t e))) p refl
+  declared_declaration a kinds.Let i t e p = worded_fits a_declaration declaration_label (codes "let") (fixed (kind declaration)) (plain_kind_row let_kind) (kind declaration) (declared_trees a kinds.Let i t e) (record { long = refl; fits = refl; apart = refl }) (λ ms. chosen_by declaration_words None (codes "let") _ ms refl) refl refl
+      (with_attributes f (kind declaration) (codes "attrs") _ _ a (within refl refl all_there (tail_fits i t e))) p refl
+  declared_declaration a (kinds.Var s) i t e p = worded_fits a_declaration declaration_label (codes "var") (fixed (kind declaration)) var_row (kind declaration) (declared_trees a (kinds.Var s) i t e) (record { long = refl; fits = refl; apart = refl }) (λ ms. chosen_by declaration_words None (codes "var") _ ms refl) refl refl
+      (with_attributes f (kind declaration) (codes "attrs") _ _ a (within refl refl (space_fits s) (tail_fits i t e))) p refl
+
+  pub declaration_as_declaration : (d : Declaration) (p : SpelledLabel) → Fits p (node a_declaration) (tree_of declaration_label (before (spelled_as f (declaration_view d)) end))
+  declaration_as_declaration d p = declared_declaration d.attributes d.kind d.ident d.ty d.initializer p
+
+  pub assert_as_declaration : (c : ConstAssert) (p : SpelledLabel) → Fits p (node a_declaration) (tree_of declaration_label (before (spelled_as f (assert_view c)) end))
+  assert_as_declaration c p = worded_fits a_declaration declaration_label (codes "assert") (fixed (kind const_assert)) (attrs operand) (kind const_assert) (before (attributes_of c.attributes) (before (spelled_as f (expression_tree c.expression)) end)) (record { long = refl; fits = refl; apart = refl }) (λ ms. chosen_by declaration_words None (codes "assert") _ ms refl) refl refl
+      (with_attributes f (kind const_assert) (codes "attrs") _ _ c.attributes (needed (node_fits f (kind const_assert) c.expression) all_there)) p refl
+
+  pub void_as_declaration : (p : SpelledLabel) → Fits p (node a_declaration) (tree_of declaration_label (tree (kind void) end end))
+  void_as_declaration p = worded_fits a_declaration declaration_label (codes "void") (fixed (kind void)) nothing (kind void) end (record { long = refl; fits = refl; apart = refl }) (λ ms. chosen_by declaration_words None (codes "void") _ ms refl) refl refl all_there p refl
+
+  declared_statement : (a : Vec (Spanned Attribute) Global) (k : DeclarationKind) (i : Ident) (t : Option TypeExpression) (e : Option (Spanned Expression)) (p : SpelledLabel) → Fits p (node a_statement) (tree_of statement_label (tree (kind declaration) (declared_trees a k i t e) end))
+  declared_statement a kinds.Const i t e p = worded_fits a_statement statement_label (codes "const") (fixed (kind declaration)) (plain_kind_row const_kind) (kind declaration) (declared_trees a kinds.Const i t e) (record { long = refl; fits = refl; apart = refl }) (λ ms. chosen_by statement_words None (codes "const") _ ms refl) refl refl
+      (with_attributes f (kind declaration) (codes "attrs") _ _ a (within refl refl all_there (tail_fits i t e))) p refl
+  declared_statement a kinds.Override i t e p = worded_fits a_statement statement_label (codes "override") (fixed (kind declaration)) (plain_kind_row override_kind) (kind declaration) (declared_trees a kinds.Override i t e) (record { long = refl; fits = refl; apart = refl }) (λ ms. chosen_by statement_words None (codes "override") _ ms refl) refl refl
+      (with_attributes f (kind declaration) (codes "attrs") _ _ a (within refl refl all_there (tail_fits i t e))) p refl
+  declared_statement a kinds.Let i t e p = worded_fits a_statement statement_label (codes "let") (fixed (kind declaration)) (plain_kind_row let_kind) (kind declaration) (declared_trees a kinds.Let i t e) (record { long = refl; fits = refl; apart = refl }) (λ ms. chosen_by statement_words None (codes "let") _ ms refl) refl refl
+      (with_attributes f (kind declaration) (codes "attrs") _ _ a (within refl refl all_there (tail_fits i t e))) p refl
+  declared_statement a (kinds.Var s) i t e p = worded_fits a_statement statement_label (codes "var") (fixed (kind declaration)) var_row (kind declaration) (declared_trees a (kinds.Var s) i t e) (record { long = refl; fits = refl; apart = refl }) (λ ms. chosen_by statement_words None (codes "var") _ ms refl) refl refl
+      (with_attributes f (kind declaration) (codes "attrs") _ _ a (within refl refl (space_fits s) (tail_fits i t e))) p refl
+
+  pub declaration_as_statement : (d : Declaration) (p : SpelledLabel) → Fits p (node a_statement) (tree_of statement_label (before (spelled_as f (declaration_view d)) end))
+  declaration_as_statement d p = declared_statement d.attributes d.kind d.ident d.ty d.initializer p
+
+  pub assert_as_statement : (c : ConstAssert) (p : SpelledLabel) → Fits p (node a_statement) (tree_of statement_label (before (spelled_as f (assert_view c)) end))
+  assert_as_statement c p = worded_fits a_statement statement_label (codes "assert") (fixed (kind const_assert)) (attrs operand) (kind const_assert) (before (attributes_of c.attributes) (before (spelled_as f (expression_tree c.expression)) end)) (record { long = refl; fits = refl; apart = refl }) (λ ms. chosen_by statement_words None (codes "assert") _ ms refl) refl refl
+      (with_attributes f (kind const_assert) (codes "attrs") _ _ c.attributes (needed (node_fits f (kind const_assert) c.expression) all_there)) p refl
+
+  pub void_as_statement : (p : SpelledLabel) → Fits p (node a_statement) (tree_of statement_label (tree (kind void) end end))
+  void_as_statement p = worded_fits a_statement statement_label (codes "void") (fixed (kind void)) nothing (kind void) end (record { long = refl; fits = refl; apart = refl }) (λ ms. chosen_by statement_words None (codes "void") _ ms refl) refl refl all_there p refl
+
+  pub alias_fits : (x : TypeAlias) (p : SpelledLabel) → Fits p (node a_declaration) (tree_of declaration_label (before (spelled_as f (alias_view x)) end))
+  alias_fits x p = worded_fits a_declaration declaration_label (codes "alias") (fixed (kind type_alias)) (typed_row (an_ident binder)) (kind type_alias) (before (attributes_of x.attributes) (tree (ident binder (f x.ident.0)) end (before (spelled_as f (type_view x.ty)) end))) (record { long = refl; fits = refl; apart = refl }) (λ ms. chosen_by declaration_words None (codes "alias") _ ms refl) refl refl
+      (with_attributes f (kind type_alias) (codes "attrs") _ _ x.attributes (needed (a_leaf an_identifier) (needed (type_node_fits f (kind type_alias) x.ty) all_there))) p refl
+
+  member_fits : (p : SpelledLabel) (x : Spanned StructMember) → Fits p (node a_member) (spelled_as f (placed member_view member_node x))
+  member_fits p x = plain_node (inner (fixed (kind member)) (typed_row a_name) nothing) (record { long = refl; fits = refl; apart = refl }) (plain_row (fixed (kind member)) (typed_row a_name) nothing) refl refl
+      (within refl refl (with_attributes f (kind member) (codes "attrs") _ _ x.node.attributes (needed (a_leaf (name_text refl)) (needed (type_node_fits f (kind member) x.node.ty) all_there))) all_there)
+
+  members_fit : (p : SpelledLabel) (xs : List (Spanned StructMember)) → AreFits p a_member (respell_forest f (forest_of (map (placed member_view member_node) xs)))
+  members_fit p [] = no_more
+  members_fit p (x ∷ xs) = one_more (member_fits p x) (members_fit p xs)
+
+  abbrev struct_row : Row
+  struct_row = attrs (needs (codes "name") (leaf (an_ident binder)) (many (codes "members") (list_of members a_member) nothing))
+
+  pub struct_fits : (x : Struct) (p : SpelledLabel) → Fits p (node a_declaration) (tree_of declaration_label (before (spelled_as f (struct_view x)) end))
+  struct_fits x p = worded_fits a_declaration declaration_label (codes "struct") (fixed (kind struct)) struct_row (kind struct) _ (record { long = refl; fits = refl; apart = refl }) (λ ms. chosen_by declaration_words None (codes "struct") _ ms refl) refl refl
+      (with_attributes f (kind struct) (codes "attrs") _ _ x.attributes (needed (a_leaf an_identifier) (listed (members_fit (kind members) x.members.items) all_there))) p refl
+
+  parameter_fits : (p : SpelledLabel) (x : FormalParameter) → Fits p (node a_parameter) (spelled_as f (parameter_view x))
+  parameter_fits p x = plain_node (typed_row (an_ident binder)) (record { long = refl; fits = refl; apart = refl }) (record { same_row = refl; no_mark = λ ms. refl }) refl refl
+      (with_attributes f (kind parameter) (codes "attrs") _ _ x.attributes (needed (a_leaf an_identifier) (needed (type_node_fits f (kind parameter) x.ty) all_there)))
+
+  pub parameters_fit : (p : SpelledLabel) (xs : List FormalParameter) → AreFits p a_parameter (respell_forest f (forest_of (map parameter_view xs)))
+  parameters_fit p [] = no_more
+  parameters_fit p (x ∷ xs) = one_more (parameter_fits p x) (parameters_fit p xs)

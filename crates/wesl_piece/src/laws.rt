@@ -1,0 +1,18 @@
+//! Laws of whole units.
+ghost use Rattle.wesl_piece.specs.Readable.{AreSorted, HaveNoFloat, UnitsReadBack};
+
+/// A unit whose path texts each say the same path or none is read, once it is written, as it was, and exactly where its
+/// names are nonempty, its literals are as the format says and its path texts say paths.
+pub fn law_of_units()
+    ensures { UnitsReadBack }
+{}
+
+/// What a unit is written as has no number that is not whole.
+pub fn law_of_whole_values()
+    ensures { HaveNoFloat }
+{}
+
+/// What a unit is written as has the members of each object in the order of their keys.
+pub fn law_of_order()
+    ensures { AreSorted }
+{}

@@ -1,8 +1,0 @@
-use Rattle.wesl_names.specs.Path.{path_view}
-use Rattle.wesl_resolve.specs.Packages.{no_package}
-use Rattle.wesl_resolve.proofs.ResultLemmas.{said-as}
-use Rattle.wesl_resolve.proofs.packages.missing_package.Goals as goal
-
-pub returns : goal.returns
-returns c =
-    said-as (path_view c.args.path.now) (no_package c.args.whole.now) c.not_found_for.result c.format.result c.format.ensures.ok c.not_found_for.ensures

@@ -1,0 +1,4 @@
+pub mod ResultLemmas
+pub mod RefusalLemmas
+pub mod PackagesLemmas
+pub mod SuffixLemmas

@@ -1,0 +1,5 @@
+pub mod Refusals
+pub mod Resolver
+pub mod UnitText
+pub mod Packages
+pub mod Suffixes
