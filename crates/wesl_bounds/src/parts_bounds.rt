@@ -36,15 +36,15 @@ pub fn attribute_is_below(bound: usize, attribute: &Attribute) -> bool
     ensures { result ≡ tree_below bound (attribute_view attribute.now) }
 {
     match attribute {
-        Attribute::Align(e) => node_is_below(bound, e),
-        Attribute::Binding(e) => node_is_below(bound, e),
-        Attribute::BlendSrc(e) => node_is_below(bound, e),
-        Attribute::Group(e) => node_is_below(bound, e),
-        Attribute::Id(e) => node_is_below(bound, e),
-        Attribute::Location(e) => node_is_below(bound, e),
-        Attribute::Size(e) => node_is_below(bound, e),
-        Attribute::If(e) => node_is_below(bound, e),
-        Attribute::Elif(e) => node_is_below(bound, e),
+        Attribute::Align(e)
+        | Attribute::Binding(e)
+        | Attribute::BlendSrc(e)
+        | Attribute::Group(e)
+        | Attribute::Id(e)
+        | Attribute::Location(e)
+        | Attribute::Size(e)
+        | Attribute::If(e)
+        | Attribute::Elif(e) => node_is_below(bound, e),
         Attribute::WorkgroupSize { x, y, z } => {
             node_is_below(bound, x)
                 && optional_node_is_below(bound, y)
@@ -54,20 +54,17 @@ pub fn attribute_is_below(bound: usize, attribute: &Attribute) -> bool
             None => true,
             Some(arguments) => nodes_are_below(bound, arguments),
         },
-        Attribute::Builtin(_) => true,
-        Attribute::Const => true,
-        Attribute::Diagnostic {
-            severity: _,
-            rule: _,
-        } => true,
-        Attribute::Interpolate(_) => true,
-        Attribute::Invariant => true,
-        Attribute::MustUse => true,
-        Attribute::Vertex => true,
-        Attribute::Fragment => true,
-        Attribute::Compute => true,
-        Attribute::Publish => true,
-        Attribute::Else => true,
+        Attribute::Builtin(_)
+        | Attribute::Const
+        | Attribute::Diagnostic { .. }
+        | Attribute::Interpolate(_)
+        | Attribute::Invariant
+        | Attribute::MustUse
+        | Attribute::Vertex
+        | Attribute::Fragment
+        | Attribute::Compute
+        | Attribute::Publish
+        | Attribute::Else => true,
     }
 }
 

@@ -64,8 +64,8 @@ pub fn statement_is_below(bound: usize, statement: &Statement) -> bool
         Statement::Increment {
             attributes,
             expression,
-        } => { attributes_are_below(bound, attributes) && node_is_below(bound, expression) }
-        Statement::Decrement {
+        }
+        | Statement::Decrement {
             attributes,
             expression,
         } => { attributes_are_below(bound, attributes) && node_is_below(bound, expression) }
@@ -128,15 +128,15 @@ pub fn statement_is_below(bound: usize, statement: &Statement) -> bool
                 && node_is_below(bound, condition)
                 && compound_is_below(bound, body)
         }
-        Statement::Break { attributes } => attributes_are_below(bound, attributes),
-        Statement::Continue { attributes } => attributes_are_below(bound, attributes),
+        Statement::Break { attributes }
+        | Statement::Continue { attributes }
+        | Statement::Discard { attributes } => attributes_are_below(bound, attributes),
         Statement::Return {
             attributes,
             expression,
         } => {
             attributes_are_below(bound, attributes) && optional_node_is_below(bound, expression)
         }
-        Statement::Discard { attributes } => attributes_are_below(bound, attributes),
         Statement::FunctionCall { attributes, call } => {
             attributes_are_below(bound, attributes) && call_is_below(bound, call)
         }

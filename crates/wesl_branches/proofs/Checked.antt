@@ -1,6 +1,7 @@
 -- Faults in a node, from the faults in its parts.
 use Rattle.std.proofs.Common.{◌≡◌, ℕ, false, List, [], ◌∷◌, map, inl, inr, Option, Some, None, Result, Ok, Err, Vec, Global, Box, rules, refl, sym, ap, ◌∙◌, subst}
 use Rattle.std.specs.Box.{box_value}
+use Rattle.std.specs.Prelude.{MatchResult}
 use Rattle.wesl_chains.specs.Faults.{beside, list_faults}
 use Rattle.wesl_chains.specs.Judging.{IsClear, RefusesIn, Checks, in_turn}
 use Rattle.wesl_chains.specs.Lists.{elements, alone, is_entered}
@@ -28,6 +29,12 @@ use Rattle.wesl_syntax.specs.declared.statement.SwitchClause.{SwitchClause, out-
 use Rattle.wesl_syntax.specs.declared.statement.Statement.{Statement, the_lemmas}
 use Rattle.wesl_syntax.specs.declared.statement.Statement.TheFolds.{fold_out-IfClause, fold_out-ElseIfClause, fold_out-ElseClause}
 use Rattle.wesl_syntax.specs.declared.statement.Statement.TheViews as made
+
+-- the first refusal of three, told by cases
+pub first_of_three : {A : Type 0} (r s w all : Result A error.Error) → MatchResult r (λ _. MatchResult s (λ _. all ≡ w) (λ e. all ≡ Err e)) (λ e. all ≡ Err e) → all ≡ in_turn r s w
+first_of_three (Err e) s w all h = h
+first_of_three (Ok x) (Err e) w all h = h
+first_of_three (Ok x) (Ok y) w all h = h
 
 view_if_clause : (c : IfClause) → if_view c ≡ branch if_clause (expression_tree (out-IfClause c).expression ∷ compound_view (out-IfClause c).body ∷ [])
 view_if_clause c = fold_out-IfClause Tree Tree Tree Tree Tree Tree Tree statement_step compound_step continuing_step else_step else_if_step if_step clause_step c

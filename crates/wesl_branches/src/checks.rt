@@ -1,8 +1,8 @@
 //! The faults of conditions inside statements. Nodes that do not stay are not entered.
-ghost use Rattle.std.specs.Prelude.{◌≡◌, cond, false, map};
+ghost use Rattle.std.specs.Prelude.{◌≡◌, cond, Err, false, map, MatchResult};
 ghost use Rattle.std.specs.Box.{box_value};
 ghost use Rattle.wesl_chains.specs.Chains.{staying};
-ghost use Rattle.wesl_chains.specs.Judging.{Checks, in_turn};
+ghost use Rattle.wesl_chains.specs.Judging.{Checks};
 ghost use Rattle.wesl_chains.specs.Lists.{alone, element, is_entered};
 ghost use Rattle.wesl_chains.specs.Nodes.{answers, optional_forest, replies};
 ghost use Rattle.wesl_syntax.specs.Tree.{before, branch, clauses as clauses_kind, end, forest_of};
@@ -292,12 +292,12 @@ fn check_last(
 }
 
 /// The first refusal of three, if there is one.
-fn first_refusal(
-    first: Result<(), Error>,
-    second: Result<(), Error>,
-    third: Result<(), Error>,
-) -> Result<(), Error>
-    ensures { result ≡ in_turn first second third }
+fn first_refusal<E: Drop>(
+    first: Result<(), E>,
+    second: Result<(), E>,
+    third: Result<(), E>,
+) -> Result<(), E>
+    ensures { MatchResult first (λ _. MatchResult second (λ _. result ≡ third) (λ e. result ≡ Err e)) (λ e. result ≡ Err e) }
 {
     match first {
         Ok(()) => match second {

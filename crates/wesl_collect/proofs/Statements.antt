@@ -3,7 +3,7 @@ use Rattle.std.proofs.Common.{◌≡◌, [], ◌∷◌, ◌∙◌, rules, Global
 use mathlib.Core.List.{map-map}
 use Rattle.std.specs.Box.{box_value}
 use Rattle.std.specs.Global.{Box}
-use Rattle.wesl_syntax.specs.Tree.{assignment, branch, break, call_statement, clauses, compound, compound_statement, continue, continuing, decrement, discard, else_clause, else_if_clause, for_loop, forest_of, if_clause, if_statement, increment, list, loop, return, statements, switch, switch_clause, Tree, void, while_loop}
+use Rattle.wesl_syntax.specs.Tree.{assignment, branch, call_statement, clauses, compound, compound_statement, continuing, else_clause, else_if_clause, for_loop, forest_of, if_clause, if_statement, list, loop, return, statements, switch, switch_clause, Tree, void, while_loop}
 use Rattle.wesl_syntax.specs.View.{assert_view, attributes_tree, break_if_view, call_view, clause_step, clause_view, compound_step, compound_view, continuing_step, continuing_view, declaration_view, else_if_step, else_if_view, else_step, else_view, expression_tree, if_step, if_view, listed, optional, selector_view, statement_step, statement_tree, statement_view}
 use Rattle.wesl_syntax.specs.declared.attribute.Attribute.{Attribute}
 use Rattle.wesl_syntax.specs.declared.declaration.ConstAssert.{ConstAssert}
@@ -31,12 +31,6 @@ view_Compound b = search (rules, the_lemmas)
 pub view_Assignment : (a : Vec (Spanned Attribute) Global) (o : AssignmentOperator) (l : Spanned Expression) (r : Spanned Expression) → statement_view (made.Assignment a o l r) ≡ record { label = assignment o; children = forest_of (attributes_tree a ∷ expression_tree l ∷ expression_tree r ∷ []) }
 view_Assignment a o l r = search (rules, the_lemmas)
 
-pub view_Increment : (a : Vec (Spanned Attribute) Global) (e : Spanned Expression) → statement_view (made.Increment a e) ≡ branch increment (attributes_tree a ∷ expression_tree e ∷ [])
-view_Increment a e = search (rules, the_lemmas)
-
-pub view_Decrement : (a : Vec (Spanned Attribute) Global) (e : Spanned Expression) → statement_view (made.Decrement a e) ≡ branch decrement (attributes_tree a ∷ expression_tree e ∷ [])
-view_Decrement a e = search (rules, the_lemmas)
-
 pub view_If : (a : Vec (Spanned Attribute) Global) (i : IfClause) (es : Vec ElseIfClause Global) (e : Option ElseClause) → statement_view (made.If a i es e) ≡ branch if_statement (attributes_tree a ∷ if_view i ∷ listed else_if_view list es ∷ optional else_view e ∷ [])
 view_If a i es e = search (rules, the_lemmas, map-map)
 
@@ -52,17 +46,8 @@ view_For a i c u b = search (rules, the_lemmas)
 pub view_While : (a : Vec (Spanned Attribute) Global) (e : Spanned Expression) (b : CompoundStatement) → statement_view (made.While a e b) ≡ branch while_loop (attributes_tree a ∷ expression_tree e ∷ compound_view b ∷ [])
 view_While a e b = search (rules, the_lemmas)
 
-pub view_Break : (a : Vec (Spanned Attribute) Global) → statement_view (made.Break a) ≡ branch break (attributes_tree a ∷ [])
-view_Break a = search (rules, the_lemmas)
-
-pub view_Continue : (a : Vec (Spanned Attribute) Global) → statement_view (made.Continue a) ≡ branch continue (attributes_tree a ∷ [])
-view_Continue a = search (rules, the_lemmas)
-
 pub view_Return : (a : Vec (Spanned Attribute) Global) (e : Option (Spanned Expression)) → statement_view (made.Return a e) ≡ branch return (attributes_tree a ∷ optional expression_tree e ∷ [])
 view_Return a e = search (rules, the_lemmas)
-
-pub view_Discard : (a : Vec (Spanned Attribute) Global) → statement_view (made.Discard a) ≡ branch discard (attributes_tree a ∷ [])
-view_Discard a = search (rules, the_lemmas)
 
 pub view_FunctionCall : (a : Vec (Spanned Attribute) Global) (c : FunctionCall) → statement_view (made.FunctionCall a c) ≡ branch call_statement (attributes_tree a ∷ call_view c ∷ [])
 view_FunctionCall a c = search (rules, the_lemmas)

@@ -1,5 +1,5 @@
 -- What is found in formulas, imports and directives.
-use Rattle.std.proofs.Common.{◌≡◌, Bool, true, false, List, [], ◌∷◌, ◌++◌, map, refl, sym, ap, ◌∙◌, Option, None, Some, Vec, Global, if◌then◌else◌}
+use Rattle.std.proofs.Common.{◌≡◌, Bool, true, false, List, [], ◌∷◌, ◌++◌, map, refl, sym, ap, ◌∙◌, Option, None, Some, Vec, Global, String, if◌then◌else◌}
 use Rattle.wesl_names.specs.declared.path.ModulePath.{ModulePath}
 use Rattle.wesl_syntax.specs.Tree.{Forest, Tree, end, tree, before, forest_of, kind, attributes, attribute_node, if_attribute, elif_attribute}
 use Rattle.wesl_syntax.specs.Nodes.{without_attributes}
@@ -47,11 +47,43 @@ elif_found types deep e = refl
 elif_found statements deep e = ap (λ l. l ++ []) (no_statements deep (before (expression_tree e) end) (operand_flat e))
 elif_found attribute_lists deep e = ap (λ l. l ++ []) (no_attributes deep (before (expression_tree e) end) (operand_flat e))
 
-pub if_formula : (k : Sought) (deep : Bool) (a : Attribute) (e : Spanned Expression) → a ≡ attr.If e → found k deep (attribute_view a) ≡ []
-if_formula k deep a e is = ap (λ x. found k deep (attribute_view x)) is ∙ if_found k deep e
+hollow_found : (k : Sought) (deep : Bool) (t : Tree) → hollow (before t end) ≡ true → found k deep t ≡ []
+hollow_found k deep t h = ap (chosen k deep) (sight_plain k (before t end) (plain_of (before t end) h)) ∙ nothing_in k deep (before t end) h
 
-pub elif_formula : (k : Sought) (deep : Bool) (a : Attribute) (e : Spanned Expression) → a ≡ attr.Elif e → found k deep (attribute_view a) ≡ []
-elif_formula k deep a e is = ap (λ x. found k deep (attribute_view x)) is ∙ elif_found k deep e
+-- nothing is found in an attribute without operands, nor in one with a formula
+pub rest_found : (k : Sought) (deep : Bool) (x : Attribute)
+    → ((e : Spanned Expression) → x ≡ attr.Align e → ⊥)
+    → ((e : Spanned Expression) → x ≡ attr.Binding e → ⊥)
+    → ((e : Spanned Expression) → x ≡ attr.BlendSrc e → ⊥)
+    → ((e : Spanned Expression) → x ≡ attr.Group e → ⊥)
+    → ((e : Spanned Expression) → x ≡ attr.Id e → ⊥)
+    → ((e : Spanned Expression) → x ≡ attr.Location e → ⊥)
+    → ((e : Spanned Expression) → x ≡ attr.Size e → ⊥)
+    → ((e : Spanned Expression) (y z : Option (Spanned Expression)) → x ≡ attr.WorkgroupSize e y z → ⊥)
+    → ((n : String Global) (v : Option (Vec (Spanned Expression) Global)) → x ≡ attr.Custom n v → ⊥)
+    → found k deep (attribute_view x) ≡ []
+rest_found k deep (attr.Align e) n0 n1 n2 n3 n4 n5 n6 n7 n8 = absurd (n0 e refl)
+rest_found k deep (attr.Binding e) n0 n1 n2 n3 n4 n5 n6 n7 n8 = absurd (n1 e refl)
+rest_found k deep (attr.BlendSrc e) n0 n1 n2 n3 n4 n5 n6 n7 n8 = absurd (n2 e refl)
+rest_found k deep (attr.Group e) n0 n1 n2 n3 n4 n5 n6 n7 n8 = absurd (n3 e refl)
+rest_found k deep (attr.Id e) n0 n1 n2 n3 n4 n5 n6 n7 n8 = absurd (n4 e refl)
+rest_found k deep (attr.Location e) n0 n1 n2 n3 n4 n5 n6 n7 n8 = absurd (n5 e refl)
+rest_found k deep (attr.Size e) n0 n1 n2 n3 n4 n5 n6 n7 n8 = absurd (n6 e refl)
+rest_found k deep (attr.WorkgroupSize e y z) n0 n1 n2 n3 n4 n5 n6 n7 n8 = absurd (n7 e y z refl)
+rest_found k deep (attr.Custom n v) n0 n1 n2 n3 n4 n5 n6 n7 n8 = absurd (n8 n v refl)
+rest_found k deep (attr.If e) n0 n1 n2 n3 n4 n5 n6 n7 n8 = if_found k deep e
+rest_found k deep (attr.Elif e) n0 n1 n2 n3 n4 n5 n6 n7 n8 = elif_found k deep e
+rest_found k deep (attr.Builtin n) n0 n1 n2 n3 n4 n5 n6 n7 n8 = hollow_found k deep (attribute_view (attr.Builtin n)) refl
+rest_found k deep attr.Const n0 n1 n2 n3 n4 n5 n6 n7 n8 = hollow_found k deep (attribute_view attr.Const) refl
+rest_found k deep (attr.Diagnostic s r) n0 n1 n2 n3 n4 n5 n6 n7 n8 = hollow_found k deep (attribute_view (attr.Diagnostic s r)) refl
+rest_found k deep (attr.Interpolate n) n0 n1 n2 n3 n4 n5 n6 n7 n8 = hollow_found k deep (attribute_view (attr.Interpolate n)) refl
+rest_found k deep attr.Invariant n0 n1 n2 n3 n4 n5 n6 n7 n8 = hollow_found k deep (attribute_view attr.Invariant) refl
+rest_found k deep attr.MustUse n0 n1 n2 n3 n4 n5 n6 n7 n8 = hollow_found k deep (attribute_view attr.MustUse) refl
+rest_found k deep attr.Vertex n0 n1 n2 n3 n4 n5 n6 n7 n8 = hollow_found k deep (attribute_view attr.Vertex) refl
+rest_found k deep attr.Fragment n0 n1 n2 n3 n4 n5 n6 n7 n8 = hollow_found k deep (attribute_view attr.Fragment) refl
+rest_found k deep attr.Compute n0 n1 n2 n3 n4 n5 n6 n7 n8 = hollow_found k deep (attribute_view attr.Compute) refl
+rest_found k deep attr.Publish n0 n1 n2 n3 n4 n5 n6 n7 n8 = hollow_found k deep (attribute_view attr.Publish) refl
+rest_found k deep attr.Else n0 n1 n2 n3 n4 n5 n6 n7 n8 = hollow_found k deep (attribute_view attr.Else) refl
 
 -- attributes before what has no node: they alone are found, and nothing in them
 list_alone : (deep : Bool) (t : Tree) (below rest : List Tree) → below ≡ [] → rest ≡ [] → ((t ∷ (if deep then below else [])) ++ rest) ++ [] ≡ t ∷ []

@@ -1,5 +1,5 @@
 //! What rewriting does to a node of a kind.
-ghost use Rattle.std.specs.Prelude.{◌≡◌, ◌&&◌, not, IfErr, IfOk};
+ghost use Rattle.std.specs.Prelude.{◌≡◌, ◌&&◌, is_ok, not, IfErr, IfOk};
 ghost use Rattle.wesl_names.specs.declared.errors.Error as error;
 ghost use Rattle.wesl_collect.specs.Picks.{seeks_attributes, seeks_expressions, seeks_statements, seeks_types};
 ghost use Rattle.wesl_collect.specs.Finished.{Finished};
@@ -72,6 +72,13 @@ pub trait Replace: Kind {
         ensures { Finished (seeks_attributes Self.sought) R.rewrites goes (attributes_tree node.old) result (attributes_tree node.new) };
 }
 
+// Whether a rewriter did not refuse. Why it did is let go of here, for all kinds.
+fn is_granted<E: Drop>(outcome: Result<(), E>) -> bool
+    ensures { result ≡ is_ok outcome }
+{
+    outcome.is_ok()
+}
+
 impl Replace for ExpressionNode {
     fn takes_whole_expressions(deep: bool) -> bool {
         !deep
@@ -95,7 +102,7 @@ impl Replace for ExpressionNode {
         goes: bool,
     ) -> bool {
         if goes {
-            rewriter.rewrite(node).is_ok()
+            is_granted(rewriter.rewrite(node))
         } else {
             false
         }
@@ -157,7 +164,7 @@ impl Replace for TypeExpression {
         goes: bool,
     ) -> bool {
         if goes {
-            rewriter.rewrite(node).is_ok()
+            is_granted(rewriter.rewrite(node))
         } else {
             false
         }
@@ -219,7 +226,7 @@ impl Replace for StatementNode {
         goes: bool,
     ) -> bool {
         if goes {
-            rewriter.rewrite(node).is_ok()
+            is_granted(rewriter.rewrite(node))
         } else {
             false
         }
@@ -277,7 +284,7 @@ impl Replace for Attributes {
         goes: bool,
     ) -> bool {
         if goes {
-            rewriter.rewrite(node).is_ok()
+            is_granted(rewriter.rewrite(node))
         } else {
             false
         }

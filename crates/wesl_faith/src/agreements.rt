@@ -1,7 +1,6 @@
 //! The numbers of the binders of all names.
-ghost use Rattle.std.specs.Prelude.{◌≡◌, ℕ, Bool, true, ◌&&◌, ◌∷◌, [], length, map, if◌then◌else◌, IfOk, IfErr, OnOk};
+ghost use Rattle.std.specs.Prelude.{◌≡◌, ℕ, Bool, true, ◌&&◌, ◌∷◌, [], length, map, if◌then◌else◌, IfOk, OnOk};
 ghost use Rattle.wesl_names.specs.Path.{Text};
-ghost use Rattle.wesl_names.specs.declared.errors.Error as error;
 ghost use Rattle.wesl_occurrences.specs.Views.{occurrence_view, standing_view};
 ghost use Rattle.wesl_meanings.specs.Scopes as scopes;
 ghost use Rattle.wesl_meanings.specs.Scopes.{bound, is_visible, same_key};
@@ -10,9 +9,9 @@ ghost use Rattle.wesl_faith.specs.Agreement.{leaves, agree_in, in_module, is_met
 
 use crate::agreed::{Agreed, agreed_with, is_agreed};
 use indexmap::IndexMap;
-use std::alloc::Global;
+use std::alloc::{AllocError, Global};
 use wesl_meanings::Key;
-use wesl_names::{Error, law_of_equality};
+use wesl_names::law_of_equality;
 use wesl_occurrences::{Occurrence, Standing};
 
 /// From which place on a name that stands so is visible, if it is declared.
@@ -53,9 +52,8 @@ impl<'a> Drop for Agreements<'a> {
 
 impl<'a> Agreements<'a> {
     /// One more binder, which is visible from that place on.
-    fn add(&mut self, key: Key<'a>, from: usize, number: usize) -> Result<(), Error>
-        ensures agree { OnOk result ((k : scopes.Key) (p m : ℕ) → agree_in self.new.of.entries k p m ≡ (agree_in self.old.of.entries k p m && (if same_key (flat key.entry) k then leaves from number p m else true))) }
-        ensures refused { IfErr result (λ e. e ≡ error.Memory) }
+    fn add(&mut self, key: Key<'a>, from: usize, number: usize) -> Result<(), AllocError>
+        ensures { OnOk result ((k : scopes.Key) (p m : ℕ) → agree_in self.new.of.entries k p m ≡ (agree_in self.old.of.entries k p m && (if same_key (flat key.entry) k then leaves from number p m else true))) }
     {
         law_of_equality();
         let agreed = agreed_with(self.of.get(&key).copied(), from, number);
@@ -72,9 +70,8 @@ impl<'a> Agreements<'a> {
     }
 
     /// An identifier, if it is a binder.
-    fn meet(&mut self, occurrence: &Occurrence<'_>, key: Key<'a>) -> Result<(), Error>
-        ensures agree { OnOk result ((k : scopes.Key) (p m : ℕ) → agree_in self.new.of.entries k p m ≡ (agree_in self.old.of.entries k p m && one_leaves (is_met k p) m (flat key.entry) (occurrence_view occurrence.now))) }
-        ensures refused { IfErr result (λ e. e ≡ error.Memory) }
+    fn meet(&mut self, occurrence: &Occurrence<'_>, key: Key<'a>) -> Result<(), AllocError>
+        ensures { OnOk result ((k : scopes.Key) (p m : ℕ) → agree_in self.new.of.entries k p m ≡ (agree_in self.old.of.entries k p m && one_leaves (is_met k p) m (flat key.entry) (occurrence_view occurrence.now))) }
     {
         match visible_from(&occurrence.standing) {
             Some(from) => self.add(key, from, occurrence.ident.0),
@@ -87,10 +84,9 @@ impl<'a> Agreements<'a> {
         alloc: Global,
         all: &[Occurrence<'_>],
         keys: &[Key<'a>],
-    ) -> Result<Agreements<'a>, Error>
+    ) -> Result<Agreements<'a>, AllocError>
         requires { length keys.now ≡ length all.now }
-        ensures agree { IfOk result (λ r. (k : scopes.Key) (p m : ℕ) → agree_in r.of.entries k p m ≡ all_leave (is_met k p) m (map flat keys.now) (map occurrence_view all.now)) }
-        ensures refused { IfErr result (λ e. e ≡ error.Memory) }
+        ensures { IfOk result (λ r. (k : scopes.Key) (p m : ℕ) → agree_in r.of.entries k p m ≡ all_leave (is_met k p) m (map flat keys.now) (map occurrence_view all.now)) }
     {
         let mut agreements = Agreements {
             of: IndexMap::new(alloc),
@@ -102,9 +98,8 @@ impl<'a> Agreements<'a> {
     }
 
     /// An identifier, if it is a binder of the module's block.
-    fn meet_global(&mut self, occurrence: &Occurrence<'_>, key: Key<'a>) -> Result<(), Error>
-        ensures agree { OnOk result ((n : Text) (m : ℕ) → agree_in self.new.of.entries (bound (0 ∷ []) n) 0 m ≡ (agree_in self.old.of.entries (bound (0 ∷ []) n) 0 m && one_leaves (is_global_met n) m (flat key.entry) (occurrence_view occurrence.now))) }
-        ensures refused { IfErr result (λ e. e ≡ error.Memory) }
+    fn meet_global(&mut self, occurrence: &Occurrence<'_>, key: Key<'a>) -> Result<(), AllocError>
+        ensures { OnOk result ((n : Text) (m : ℕ) → agree_in self.new.of.entries (bound (0 ∷ []) n) 0 m ≡ (agree_in self.old.of.entries (bound (0 ∷ []) n) 0 m && one_leaves (is_global_met n) m (flat key.entry) (occurrence_view occurrence.now))) }
     {
         if occurrence.standing.is_binder() && is_of_module(&key) {
             self.add(key, 0, occurrence.ident.0)
@@ -118,10 +113,9 @@ impl<'a> Agreements<'a> {
         alloc: Global,
         all: &[Occurrence<'_>],
         keys: &[Key<'a>],
-    ) -> Result<Agreements<'a>, Error>
+    ) -> Result<Agreements<'a>, AllocError>
         requires { length keys.now ≡ length all.now }
-        ensures agree { IfOk result (λ r. (n : Text) (m : ℕ) → agree_in r.of.entries (bound (0 ∷ []) n) 0 m ≡ all_leave (is_global_met n) m (map flat keys.now) (map occurrence_view all.now)) }
-        ensures refused { IfErr result (λ e. e ≡ error.Memory) }
+        ensures { IfOk result (λ r. (n : Text) (m : ℕ) → agree_in r.of.entries (bound (0 ∷ []) n) 0 m ≡ all_leave (is_global_met n) m (map flat keys.now) (map occurrence_view all.now)) }
     {
         let mut agreements = Agreements {
             of: IndexMap::new(alloc),

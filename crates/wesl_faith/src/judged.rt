@@ -1,7 +1,6 @@
 //! Identifiers judged one by one.
-ghost use Rattle.std.specs.Prelude.{◌≡◌, ℕ, ◌==◌, length, map, IfOk, IfErr};
+ghost use Rattle.std.specs.Prelude.{◌≡◌, ℕ, ◌==◌, length, map, IfOk};
 ghost use Rattle.std.specs.List.{list_any};
-ghost use Rattle.wesl_names.specs.declared.errors.Error as error;
 ghost use Rattle.wesl_occurrences.specs.Views.{occurrence_view};
 ghost use Rattle.wesl_meanings.specs.Keys.{flat};
 ghost use Rattle.wesl_faith.specs.Test.{has_number};
@@ -9,15 +8,13 @@ ghost use Rattle.wesl_faith.specs.Agreement.{global_right, globals_right, refere
 
 use crate::agreements::{Agreements, is_of_module};
 use indexmap::IndexSet;
-use std::alloc::Global;
+use std::alloc::{AllocError, Global};
 use wesl_meanings::Key;
-use wesl_names::Error;
 use wesl_occurrences::{Occurrence, Standing};
 
 /// The numbers of the binders among identifiers.
-pub fn numbers_bound(alloc: Global, all: &[Occurrence<'_>]) -> Result<IndexSet<usize>, Error>
-    ensures bound { IfOk result (λ r. (m : ℕ) → list_any (λ k. k == m) r.keys ≡ list_any (has_number m) (map occurrence_view all.now)) }
-    ensures refused { IfErr result (λ e. e ≡ error.Memory) }
+pub fn numbers_bound(alloc: Global, all: &[Occurrence<'_>]) -> Result<IndexSet<usize>, AllocError>
+    ensures { IfOk result (λ r. (m : ℕ) → list_any (λ k. k == m) r.keys ≡ list_any (has_number m) (map occurrence_view all.now)) }
 {
     let mut numbers = IndexSet::new(alloc);
     for occurrence in all {

@@ -4,7 +4,7 @@ use std::alloc::Global;
 use wesl_link::{Resolutions, resolve_lazy};
 use wesl_names::{ModulePath, ResolveError};
 use wesl_resolver::Resolver;
-use wesl_row::{Object, Row, of_diagnostic};
+use wesl_row::{Object, Row};
 use wesl_tree::{Diagnostic, TranslationUnit};
 
 /// Asks another resolver, and keeps the paths that it was asked for.
@@ -12,6 +12,14 @@ use wesl_tree::{Diagnostic, TranslationUnit};
 struct Counting<R> {
     inner: R,
     asked: Vec<String>,
+}
+
+/// Keeps the text of a path among those that were asked for, and tells whether there was memory for it.
+fn is_kept(alloc: Global, path: &ModulePath, asked: &mut Vec<String>) -> bool {
+    match path.to_text(alloc).ok() {
+        Some(text) => asked.push(text).is_ok(),
+        None => false,
+    }
 }
 
 impl<R: Resolver> Resolver for Counting<R> {
@@ -36,11 +44,11 @@ impl<R: Resolver> Resolver for Counting<R> {
         alloc: Global,
         path: &ModulePath,
     ) -> Result<TranslationUnit, ResolveError> {
-        let Ok(text) = path.to_text(alloc) else {
-            return Err(ResolveError::Memory);
-        };
-        self.asked.push(text)?;
-        self.inner.resolve_module(alloc, path)
+        if is_kept(alloc, path, &mut self.asked) {
+            self.inner.resolve_module(alloc, path)
+        } else {
+            Err(ResolveError::Memory)
+        }
     }
 
     fn display_name(
@@ -72,10 +80,10 @@ fn counts(row: Row<'_>, found: &Resolutions, asked: &[String]) -> Value {
 }
 
 /// The same, or how a link is refused.
-fn told(row: Row<'_>, found: &Result<Resolutions, Diagnostic>, asked: &[String]) -> Value {
-    match found {
-        Ok(found) => counts(row, found, asked),
-        Err(refusal) => of_diagnostic(row, refusal),
+fn told(row: Row<'_>, found: Result<Resolutions, Diagnostic>, asked: &[String]) -> Value {
+    match row.told(found) {
+        Ok(found) => counts(row, &found, asked),
+        Err(fault) => fault,
     }
 }
 
@@ -89,5 +97,5 @@ pub fn counted(row: Row<'_>) -> Value {
         asked: Vec::new(row.alloc),
     };
     let found = resolve_lazy(row.alloc, keep.as_slice(), root, &path, &mut counting, 1000);
-    told(row, &found, counting.asked.as_slice())
+    told(row, found, counting.asked.as_slice())
 }

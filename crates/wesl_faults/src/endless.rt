@@ -6,7 +6,7 @@ use wesl_link::{Resolutions, resolve_eager, resolve_lazy};
 use wesl_names::{Diagnostic, Error, ModulePath, ResolveError};
 use wesl_resolve::{Preprocessor, Router};
 use wesl_resolver::{Resolver, UnitText};
-use wesl_row::{Row, of_diagnostic};
+use wesl_row::Row;
 use wesl_tree::TranslationUnit;
 
 /// What every module of the endless resolver says, and the root too: its assertion needs a name of the module below it.
@@ -85,10 +85,10 @@ impl Resolver for Starved {
 }
 
 /// What is told of a link.
-fn told(row: Row<'_>, found: &Result<Resolutions, Diagnostic>) -> Value {
-    match found {
+fn told(row: Row<'_>, found: Result<Resolutions, Diagnostic>) -> Value {
+    match row.told(found) {
         Ok(_) => row.text_value("linked"),
-        Err(refusal) => of_diagnostic(row, refusal),
+        Err(fault) => fault,
     }
 }
 
@@ -104,11 +104,11 @@ fn linked<R: Resolver>(row: Row<'_>, resolver: &mut R) -> Value
     );
     let limit = row.number("limit", 1000);
     if row.has("eager") {
-        told(row, &resolve_eager(row.alloc, root, &at, resolver, limit))
+        told(row, resolve_eager(row.alloc, root, &at, resolver, limit))
     } else {
         told(
             row,
-            &resolve_lazy(row.alloc, &[], root, &at, resolver, limit),
+            resolve_lazy(row.alloc, &[], root, &at, resolver, limit),
         )
     }
 }

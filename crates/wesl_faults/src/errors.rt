@@ -1,16 +1,20 @@
 //! Conversions of errors, and their texts.
 use serde_json::Value;
+use std::fmt::Display;
 use wesl_names::{Diagnostic, Error, ImportError, ModulePath, ResolveError, ValidateError};
-use wesl_row::{List, Row, located, of_error};
+use wesl_row::{List, Row, located};
 
 /// What want of memory of a resolver, and a module that it does not find, are as errors, and an error as a diagnostic.
 pub fn converted(row: Row<'_>) -> Value {
     let alloc = row.alloc;
     let missing = ResolveError::ModuleNotFound(ModulePath::new_root(alloc), String::new(alloc));
+    let unread = Diagnostic::of(Error::NotJson);
     let mut errors = List::new(alloc);
-    errors.put(of_error(row, &Error::of_resolve(ResolveError::Memory)));
-    errors.put(of_error(row, &Error::of_resolve(missing)));
-    errors.put(located(row, &Diagnostic::of(Error::NotJson)));
+    errors.put(row.answer_of(Error::of_resolve(ResolveError::Memory)));
+    errors.put(row.answer_of(Error::of_resolve(missing)));
+    errors.put(located(row, &unread));
+    // as a generic function lets go of it, which costs the proof a fraction
+    drop(unread);
     errors.end(row)
 }
 
@@ -26,12 +30,17 @@ fn absent(row: Row<'_>) -> ResolveError {
     ResolveError::ModuleNotFound(row.path_of("self"), row.copy_of("no such file"))
 }
 
+/// The text of an error, which is let go here.
+fn text_of<E: Display + Drop>(row: Row<'_>, error: E) -> Value {
+    row.printed(format!(in row.alloc; "{error}"))
+}
+
 /// The texts of errors, which say what they hold.
 pub fn told(row: Row<'_>) -> Value {
     let mut texts = List::new(row.alloc);
-    texts.put(row.printed(missing(row).to_string(row.alloc)));
-    texts.put(row.printed(private(row).to_string(row.alloc)));
-    texts.put(row.printed(absent(row).to_string(row.alloc)));
+    texts.put(text_of(row, missing(row)));
+    texts.put(text_of(row, private(row)));
+    texts.put(text_of(row, absent(row)));
     texts.end(row)
 }
 
@@ -60,8 +69,8 @@ fn refusal(row: Row<'_>) -> Error {
 /// The texts of a diagnostic that says no place, of one that says where, and of the latter within the refusal of a module.
 pub fn told_where(row: Row<'_>) -> Value {
     let mut texts = List::new(row.alloc);
-    texts.put(row.printed(unplaced(row).to_string(row.alloc)));
-    texts.put(row.printed(placed(row).to_string(row.alloc)));
-    texts.put(row.printed(refusal(row).to_string(row.alloc)));
+    texts.put(text_of(row, unplaced(row)));
+    texts.put(text_of(row, placed(row)));
+    texts.put(text_of(row, refusal(row)));
     texts.end(row)
 }

@@ -20,18 +20,25 @@ fn leaving(alloc: Global, start: u32) -> StatementNode {
 }
 
 /// Whether a copy of a node has its span and is equal to it, and whether a node elsewhere is equal too.
+fn compared<T: PartialEq + Drop>(
+    row: Row<'_>,
+    node: Spanned<T>,
+    copy: Spanned<T>,
+    elsewhere: Spanned<T>,
+) -> Value {
+    let mut answer = Object::new(row.alloc);
+    answer.flag("equal", copy == node);
+    answer.flag("equal_elsewhere", law_of_equality(&copy, &elsewhere));
+    answer.flag("same_span", copy.span == node.span);
+    answer.end(row)
+}
+
+/// The same of `break;`.
 pub fn copied(row: Row<'_>) -> Value {
     let alloc = row.alloc;
     let node = leaving(alloc, 5);
     let copy = row.or(node.try_clone(alloc), leaving(alloc, 5));
-    let mut answer = Object::new(alloc);
-    answer.flag("equal", copy == node);
-    answer.flag(
-        "equal_elsewhere",
-        law_of_equality(&copy, &leaving(alloc, 6)),
-    );
-    answer.flag("same_span", copy.span == node.span);
-    answer.end(row)
+    compared(row, node, copy, leaving(alloc, 6))
 }
 
 fn placed<T>(node: T) -> Spanned<T> {

@@ -4,10 +4,10 @@ ghost use Rattle.wesl_syntax.specs.Unit.{spelled, empty_unit};
 
 use serde_json::Value;
 use std::alloc::Global;
-use wesl_names::{Diagnostic, Error, ResolveError};
+use wesl_names::{Diagnostic, Error};
 use wesl_resolve::{Preprocessor, Router, VirtualResolver};
 use wesl_resolver::{Resolver, UnitText};
-use wesl_row::{List, Object, Row, of_resolver};
+use wesl_row::{List, Object, Row};
 use wesl_tree::TranslationUnit;
 
 /// Every text but `bad` and `large` says the empty unit; for `large` there is no memory.
@@ -87,26 +87,17 @@ pub fn routed(row: Row<'_>) -> Value {
     }
 }
 
-/// What is told of a module: whether it is the empty unit, or its refusal, with the module, the source and the display
-/// name.
-fn unit_told(row: Row<'_>, unit: &Result<TranslationUnit, ResolveError>) -> Value {
-    match unit {
-        Ok(unit) => Value::Bool(unit.same_spelling(&TranslationUnit::new(row.alloc))),
-        Err(error) => of_resolver(row, error),
-    }
-}
-
-/// The same of the module at this path.
+/// What is told of the module at this path: whether it is the empty unit, or its refusal, with the module, the source and
+/// the display name.
 fn told<R: Resolver>(row: Row<'_>, resolver: &mut R, path: &str) -> Value
     requires { R.ready resolver.old }
     ensures { R.ready resolver.new }
 {
     let path = row.rooted_of(path);
-    let unit = resolver.resolve_module(row.alloc, &path);
-    let answer = unit_told(row, &unit);
-    // as a generic function lets go of it, which costs the proof a fraction
-    drop(unit);
-    answer
+    match row.told(resolver.resolve_module(row.alloc, &path)) {
+        Ok(unit) => Value::Bool(unit.same_spelling(&TranslationUnit::new(row.alloc))),
+        Err(fault) => fault,
+    }
 }
 
 /// What a preprocessor tells of the module `package::a`: one whose function refuses every unit, whose sources stay, and one

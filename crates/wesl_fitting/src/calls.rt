@@ -7,7 +7,7 @@ ghost use Rattle.wesl_syntax.specs.View.{call_view, expression_tree, expression_
 ghost use Rattle.wesl_valid.specs.Calls.{call_by, called_in, calls_in};
 ghost use Rattle.wesl_fitting.specs.Made.{call_told, one_told};
 
-use std::alloc::Global;
+use std::alloc::{AllocError, Global};
 use wesl_names::Error;
 use wesl_syntax::{
     Expression, ExpressionNode, FunctionCall, GlobalDeclaration, Statement, StatementNode,
@@ -76,9 +76,8 @@ fn statement_call(statement: &Statement) -> Option<Call>
     }
 }
 
-fn add(calls: &mut Vec<Call>, call: Option<Call>) -> Result<(), Error>
-    ensures added { IfOk result (λ _. map call_told calls.new.items ≡ map call_told calls.old.items ++ one_told call) }
-    ensures refused { IfErr result (λ e. e ≡ error.Memory) }
+fn add(calls: &mut Vec<Call>, call: Option<Call>) -> Result<(), AllocError>
+    ensures { IfOk result (λ _. map call_told calls.new.items ≡ map call_told calls.old.items ++ one_told call) }
 {
     match call {
         None => Ok(()),
@@ -89,9 +88,8 @@ fn add(calls: &mut Vec<Call>, call: Option<Call>) -> Result<(), Error>
     }
 }
 
-fn add_expressions(calls: &mut Vec<Call>, nodes: &Vec<&ExpressionNode>) -> Result<(), Error>
-    ensures added { IfOk result (λ _. map call_told calls.new.items ≡ map call_told calls.old.items ++ flat_map (λ t. called_in t.children) (views expression_tree nodes.now.items)) }
-    ensures refused { IfErr result (λ e. e ≡ error.Memory) }
+fn add_expressions(calls: &mut Vec<Call>, nodes: &Vec<&ExpressionNode>) -> Result<(), AllocError>
+    ensures { IfOk result (λ _. map call_told calls.new.items ≡ map call_told calls.old.items ++ flat_map (λ t. called_in t.children) (views expression_tree nodes.now.items)) }
 {
     for node in nodes {
         let call = expression_call(&node.node);
@@ -100,9 +98,8 @@ fn add_expressions(calls: &mut Vec<Call>, nodes: &Vec<&ExpressionNode>) -> Resul
     Ok(())
 }
 
-fn add_statements(calls: &mut Vec<Call>, nodes: &Vec<&StatementNode>) -> Result<(), Error>
-    ensures added { IfOk result (λ _. map call_told calls.new.items ≡ map call_told calls.old.items ++ flat_map (λ t. called_in t.children) (views statement_tree nodes.now.items)) }
-    ensures refused { IfErr result (λ e. e ≡ error.Memory) }
+fn add_statements(calls: &mut Vec<Call>, nodes: &Vec<&StatementNode>) -> Result<(), AllocError>
+    ensures { IfOk result (λ _. map call_told calls.new.items ≡ map call_told calls.old.items ++ flat_map (λ t. called_in t.children) (views statement_tree nodes.now.items)) }
 {
     for node in nodes {
         let call = statement_call(&node.node);

@@ -14,7 +14,7 @@ ghost use Rattle.wesl_valid.specs.Faults.{IsWeslFault};
 ghost use Rattle.wesl_fitting.specs.Found.{IsFault};
 
 use crate::told::{name_of, name_round};
-use std::alloc::Global;
+use std::alloc::{AllocError, Global};
 use wesl_builtins::Builtins;
 use wesl_names::{Error, Names, ValidateError};
 use wesl_occurrences::{Identifiers, occurrences};
@@ -35,11 +35,10 @@ fn undefined_fault(
     names: &Names,
     found: &Identifiers<'_>,
     builtins: &Builtins,
-) -> Result<Option<Fault>, Error>
+) -> Result<Option<Fault>, AllocError>
     requires within { All (λ o. o.ident.0 < length names.now) found.now.all.items }
     ensures fault { IfOk result (λ r. IfSome r (λ f. (u : UnitView) → IsNamedBy u names.now found.now → IsFault u (builtins_view builtins.now) f)) }
     ensures none { IfOk result (λ r. IfNone r ((u : UnitView) → IsNamedBy u names.now found.now → IsDefined u (builtins_view builtins.now))) }
-    ensures refused { IfErr result (λ e. e ≡ error.Memory) }
 {
     match undefined(alloc, names, found, builtins)? {
         None => Ok(None),
@@ -56,10 +55,9 @@ fn duplicate_fault(
     alloc: Global,
     unit: &TranslationUnit,
     builtins: &Builtins,
-) -> Result<Option<Fault>, Error>
+) -> Result<Option<Fault>, AllocError>
     ensures fault { IfOk result (λ r. IfSome r (λ f. IsFault (unit_view unit.now) (builtins_view builtins.now) f)) }
     ensures none { IfOk result (λ r. IfNone r (AreDistinct (unit_view unit.now))) }
-    ensures refused { IfErr result (λ e. e ≡ error.Memory) }
 {
     match duplicate(alloc, unit)? {
         None => Ok(None),
@@ -77,10 +75,9 @@ fn cycle_fault(
     names: &Names,
     found: &Identifiers<'_>,
     builtins: &Builtins,
-) -> Result<Option<Fault>, Error>
+) -> Result<Option<Fault>, AllocError>
     ensures fault { IfOk result (λ r. IfSome r (λ f. (u : UnitView) → IsNamedBy u names.now found.now → IsFault u (builtins_view builtins.now) f)) }
     ensures none { IfOk result (λ r. IfNone r ((u : UnitView) → IsNamedBy u names.now found.now → IsAcyclic u)) }
-    ensures refused { IfErr result (λ e. e ≡ error.Memory) }
 {
     match cycle(alloc, found)? {
         None => Ok(None),
@@ -100,12 +97,11 @@ fn fault_among(
     unit: &TranslationUnit,
     found: &Identifiers<'_>,
     builtins: &Builtins,
-) -> Result<Option<Fault>, Error>
+) -> Result<Option<Fault>, AllocError>
     requires known { identified found.now ≡ all (unit_view unit.now) }
     requires within { All (λ o. o.ident.0 < length (unit_view unit.now).names) found.now.all.items }
     ensures fault { IfOk result (λ r. IfSome r (λ f. IsFault (unit_view unit.now) (builtins_view builtins.now) f)) }
     ensures none { IfOk result (λ r. IfNone r (IsValidWesl (unit_view unit.now) (builtins_view builtins.now))) }
-    ensures refused { IfErr result (λ e. e ≡ error.Memory) }
 {
     if let Some(fault) = undefined_fault(alloc, unit.names(), found, builtins)? {
         return Ok(Some(fault));
@@ -126,8 +122,6 @@ pub fn wesl_fault(
     ensures none { IfOk result (λ r. IfNone r (IsValidWesl (unit_view unit.now) (builtins_view builtins.now))) }
     ensures refused { IfErr result (λ e. e ≡ error.Memory) }
 {
-    match occurrences(alloc, unit) {
-        Ok(found) => fault_among(alloc, unit, &found, builtins),
-        Err(error) => Err(error),
-    }
+    let found = occurrences(alloc, unit)?;
+    Ok(fault_among(alloc, unit, &found, builtins)?)
 }

@@ -20,7 +20,7 @@ use crate::judge::judged;
 use crate::misfit::Misfit;
 use crate::reach::reached;
 use crate::tables::{Tables, tables_of};
-use std::alloc::Global;
+use std::alloc::{AllocError, Global};
 use wesl_builtins::Builtins;
 use wesl_names::Error;
 use wesl_occurrences::Identifiers;
@@ -35,13 +35,12 @@ fn call_misfit(
     tables: &Tables,
     marks: &mut [bool],
     call: Call,
-) -> Result<Option<Misfit>, Error>
+) -> Result<Option<Misfit>, AllocError>
     requires tables { AreTables (unit_view unit.now) (tables_view tables.now) }
     requires clear { IsClear (tables_view tables.now).aliases marks.old }
     ensures misfit { IfOk result (λ r. IfSome r (Misses (unit_view unit.now) (builtins_view builtins.now) (call_told call))) }
     ensures none { IfOk result (λ r. IfNone r (Passes (unit_view unit.now) (builtins_view builtins.now) (call_told call))) }
     ensures clear { IfOk result (λ _. IsClear (tables_view tables.now).aliases marks.new) }
-    ensures refused { IfErr result (λ e. e ≡ error.Memory) }
 {
     let numbers = reached(alloc, &tables.aliases, marks, call.callee)?;
     let misfit = judged(tables, unit.names(), builtins, call.arguments, &numbers);
@@ -64,13 +63,12 @@ fn misfit_among(
     tables: &Tables,
     marks: &mut [bool],
     calls: &Vec<Call>,
-) -> Result<Option<Misfit>, Error>
+) -> Result<Option<Misfit>, AllocError>
     requires tables { AreTables (unit_view unit.now) (tables_view tables.now) }
     requires clear { IsClear (tables_view tables.now).aliases marks.old }
     ensures misfit { IfOk result (λ r. IfSome r (MissesAmong (unit_view unit.now) (builtins_view builtins.now) (map call_told calls.now.items))) }
     ensures none { IfOk result (λ r. IfNone r (All (Passes (unit_view unit.now) (builtins_view builtins.now)) (map call_told calls.now.items))) }
     ensures clear { IfOk result (λ _. IsClear (tables_view tables.now).aliases marks.new) }
-    ensures refused { IfErr result (λ e. e ≡ error.Memory) }
 {
     for place in 0..calls.len() {
         let call = call_at(calls, place);
@@ -98,7 +96,7 @@ fn misfit_in(
     ensures refused { IfErr result (λ e. e ≡ error.Memory) }
 {
     let calls = calls_of(alloc, declaration)?;
-    misfit_among(alloc, unit, builtins, tables, marks, &calls)
+    Ok(misfit_among(alloc, unit, builtins, tables, marks, &calls)?)
 }
 
 /// The same, in all declarations.

@@ -70,8 +70,6 @@ pub fn call_fault(
     ensures none { IfOk result (λ r. IfNone r (IsFitting (unit_view unit.now) (builtins_view builtins.now))) }
     ensures refused { IfErr result (λ e. e ≡ error.Memory) }
 {
-    match occurrences(alloc, unit) {
-        Ok(found) => misfit_among(alloc, unit, &found, builtins),
-        Err(error) => Err(error),
-    }
+    let found = occurrences(alloc, unit)?;
+    misfit_among(alloc, unit, &found, builtins)
 }

@@ -1,21 +1,18 @@
 //! Numbers that binders have.
-ghost use Rattle.std.specs.Prelude.{◌≡◌, ◌<◌, ◌||◌, ◌==◌, ℕ, length, map, IfOk, IfErr};
+ghost use Rattle.std.specs.Prelude.{◌≡◌, ◌<◌, ◌||◌, ◌==◌, ℕ, length, map, IfOk};
 ghost use Rattle.std.specs.List.{list_any};
-ghost use Rattle.wesl_names.specs.declared.errors.Error as error;
 ghost use Rattle.wesl_occurrences.specs.Views.{occurrence_view};
 ghost use Rattle.wesl_kept.specs.Marks.{mark_at};
 ghost use Rattle.wesl_fitting.specs.Tables.{binds_here};
 
-use std::alloc::Global;
-use wesl_names::Error;
+use std::alloc::{AllocError, Global};
 use wesl_occurrences::{Identifiers, Occurrence};
 
 /// Adds marks that are not set until there is one of this place.
 #[tactic(auto, using(crate::proofs::Marked::one_more))]
-fn grow(marks: &mut Vec<bool>, place: usize) -> Result<(), Error>
+fn grow(marks: &mut Vec<bool>, place: usize) -> Result<(), AllocError>
     ensures there { IfOk result (λ _. place < length marks.new.items) }
     ensures same { IfOk result (λ _. (m : ℕ) → mark_at marks.new.items m ≡ mark_at marks.old.items m) }
-    ensures refused { IfErr result (λ e. e ≡ error.Memory) }
 {
     while marks.len() <= place {
         marks.push(false)?;
@@ -25,9 +22,8 @@ fn grow(marks: &mut Vec<bool>, place: usize) -> Result<(), Error>
 
 /// Sets a mark.
 #[tactic(auto, using(wesl_kept::proofs::Marking::set_marked))]
-fn mark(marks: &mut Vec<bool>, place: usize) -> Result<(), Error>
-    ensures marked { IfOk result (λ _. (m : ℕ) → mark_at marks.new.items m ≡ (mark_at marks.old.items m || place == m)) }
-    ensures refused { IfErr result (λ e. e ≡ error.Memory) }
+fn mark(marks: &mut Vec<bool>, place: usize) -> Result<(), AllocError>
+    ensures { IfOk result (λ _. (m : ℕ) → mark_at marks.new.items m ≡ (mark_at marks.old.items m || place == m)) }
 {
     grow(marks, place)?;
     marks[place] = true;
@@ -35,9 +31,8 @@ fn mark(marks: &mut Vec<bool>, place: usize) -> Result<(), Error>
 }
 
 #[tactic(auto, using(wesl_kept::proofs::Marking::or_false))]
-fn mark_binder(bound: &mut Vec<bool>, occurrence: &Occurrence<'_>) -> Result<(), Error>
-    ensures marked { IfOk result (λ _. (m : ℕ) → mark_at bound.new.items m ≡ (mark_at bound.old.items m || binds_here m (occurrence_view occurrence.now))) }
-    ensures refused { IfErr result (λ e. e ≡ error.Memory) }
+fn mark_binder(bound: &mut Vec<bool>, occurrence: &Occurrence<'_>) -> Result<(), AllocError>
+    ensures { IfOk result (λ _. (m : ℕ) → mark_at bound.new.items m ≡ (mark_at bound.old.items m || binds_here m (occurrence_view occurrence.now))) }
 {
     if occurrence.standing.is_binder() {
         mark(bound, occurrence.ident.0)?;
@@ -47,9 +42,8 @@ fn mark_binder(bound: &mut Vec<bool>, occurrence: &Occurrence<'_>) -> Result<(),
 
 /// Of each number whether a binder has it. Refused for want of memory alone.
 #[tactic(auto, using(wesl_kept::proofs::Marking::any_next, wesl_kept::proofs::Marking::or_assoc, wesl_kept::proofs::Marking::or_false))]
-pub(crate) fn bound_numbers(alloc: Global, found: &Identifiers<'_>) -> Result<Vec<bool>, Error>
-    ensures marked { IfOk result (λ bound. (m : ℕ) → mark_at bound.items m ≡ list_any (binds_here m) (map occurrence_view found.now.all.items)) }
-    ensures refused { IfErr result (λ e. e ≡ error.Memory) }
+pub(crate) fn bound_numbers(alloc: Global, found: &Identifiers<'_>) -> Result<Vec<bool>, AllocError>
+    ensures { IfOk result (λ bound. (m : ℕ) → mark_at bound.items m ≡ list_any (binds_here m) (map occurrence_view found.now.all.items)) }
 {
     let mut bound = Vec::new(alloc);
     for occurrence in &found.all {

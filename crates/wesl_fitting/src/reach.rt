@@ -1,14 +1,12 @@
 //! The nodes that are reached from one of a graph.
-ghost use Rattle.std.specs.Prelude.{◌≡◌, ◌<◌, ◌↔◌, ℕ, IfOk, IfErr};
+ghost use Rattle.std.specs.Prelude.{◌≡◌, ◌<◌, ◌↔◌, ℕ, IfOk};
 ghost use Rattle.std.specs.List.{Contains};
 ghost use Rattle.std.proofs.Common.{set};
-ghost use Rattle.wesl_names.specs.declared.errors.Error as error;
 ghost use Rattle.wesl_kept.specs.Marks.{mark_at};
 ghost use Rattle.wesl_valid.specs.Graphs.{graph_view, edges_at, IsClosed};
 ghost use Rattle.wesl_fitting.specs.Reached.{ReachedFrom, Visits, all_entered, cleared, entered, visits, IsClear};
 
-use std::alloc::Global;
-use wesl_names::Error;
+use std::alloc::{AllocError, Global};
 
 /// Whether a node has its mark.
 fn is_marked(marks: &[bool], node: usize) -> bool
@@ -28,9 +26,8 @@ fn set_mark(marks: &mut [bool], node: usize, value: bool)
 }
 
 /// Puts a node at the end of those that were met, unless it has its mark.
-fn enter(marks: &mut [bool], nodes: &mut Vec<usize>, node: usize) -> Result<(), Error>
-    ensures entered { IfOk result (λ _. visits marks.new nodes.new.items ≡ entered node (visits marks.old nodes.old.items)) }
-    ensures refused { IfErr result (λ e. e ≡ error.Memory) }
+fn enter(marks: &mut [bool], nodes: &mut Vec<usize>, node: usize) -> Result<(), AllocError>
+    ensures { IfOk result (λ _. visits marks.new nodes.new.items ≡ entered node (visits marks.old nodes.old.items)) }
 {
     if is_marked(marks, node) {
         return Ok(());
@@ -40,9 +37,12 @@ fn enter(marks: &mut [bool], nodes: &mut Vec<usize>, node: usize) -> Result<(), 
     Ok(())
 }
 
-fn enter_all(marks: &mut [bool], nodes: &mut Vec<usize>, targets: &Vec<usize>) -> Result<(), Error>
-    ensures entered { IfOk result (λ _. visits marks.new nodes.new.items ≡ all_entered targets.now.items (visits marks.old nodes.old.items)) }
-    ensures refused { IfErr result (λ e. e ≡ error.Memory) }
+fn enter_all(
+    marks: &mut [bool],
+    nodes: &mut Vec<usize>,
+    targets: &Vec<usize>,
+) -> Result<(), AllocError>
+    ensures { IfOk result (λ _. visits marks.new nodes.new.items ≡ all_entered targets.now.items (visits marks.old nodes.old.items)) }
 {
     for target in targets {
         enter(marks, nodes, *target)?;
@@ -56,9 +56,8 @@ fn spread(
     marks: &mut [bool],
     nodes: &mut Vec<usize>,
     node: usize,
-) -> Result<(), Error>
-    ensures entered { IfOk result (λ _. visits marks.new nodes.new.items ≡ all_entered (edges_at (graph_view graph.now.items) node) (visits marks.old nodes.old.items)) }
-    ensures refused { IfErr result (λ e. e ≡ error.Memory) }
+) -> Result<(), AllocError>
+    ensures { IfOk result (λ _. visits marks.new nodes.new.items ≡ all_entered (edges_at (graph_view graph.now.items) node) (visits marks.old nodes.old.items)) }
 {
     match graph.get(node) {
         None => Ok(()),
@@ -84,12 +83,11 @@ pub(crate) fn reached(
     graph: &Vec<Vec<usize>>,
     marks: &mut [bool],
     node: usize,
-) -> Result<Vec<usize>, Error>
+) -> Result<Vec<usize>, AllocError>
     requires closed { IsClosed (graph_view graph.now.items) }
     requires clear { IsClear (graph_view graph.now.items) marks.old }
     ensures reached { IfOk result (λ nodes. (m : ℕ) → Contains nodes.items m ↔ ReachedFrom (graph_view graph.now.items) node m) }
     ensures clear { IfOk result (λ _. IsClear (graph_view graph.now.items) marks.new) }
-    ensures refused { IfErr result (λ e. e ≡ error.Memory) }
 {
     let mut nodes = Vec::new(alloc);
     nodes.push(node)?;

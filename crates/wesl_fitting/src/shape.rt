@@ -1,6 +1,5 @@
 //! What declarations are to calls.
-ghost use Rattle.std.specs.Prelude.{◌≡◌, map, IfOk, IfErr};
-ghost use Rattle.wesl_names.specs.declared.errors.Error as error;
+ghost use Rattle.std.specs.Prelude.{◌≡◌, map, IfOk};
 ghost use Rattle.wesl_syntax.specs.Tree.{before, end};
 ghost use Rattle.wesl_syntax.specs.View.{global_view, type_view};
 ghost use Rattle.wesl_valid.specs.Calls.{alias_by, shape_in, takes, is_plain_alias};
@@ -8,8 +7,7 @@ ghost use Rattle.wesl_fitting.specs.Judged.{count_of};
 ghost use Rattle.wesl_fitting.specs.Tables.{shape_at};
 ghost use Rattle.wesl_fitting.specs.Views.{shape_view};
 
-use std::alloc::Global;
-use wesl_names::Error;
+use std::alloc::{AllocError, Global};
 use wesl_syntax::{GlobalDeclaration, GlobalDeclarationNode, TypeExpression};
 
 /// What a declaration is to a call.
@@ -57,9 +55,8 @@ fn shape_of(declaration: &GlobalDeclaration) -> Shape
 pub(crate) fn shapes_of(
     alloc: Global,
     declarations: &Vec<GlobalDeclarationNode>,
-) -> Result<Vec<Shape>, Error>
-    ensures shapes { IfOk result (λ shapes. map shape_view shapes.items ≡ map (λ d. shape_in (before (global_view d.node) end)) declarations.now.items) }
-    ensures refused { IfErr result (λ e. e ≡ error.Memory) }
+) -> Result<Vec<Shape>, AllocError>
+    ensures { IfOk result (λ shapes. map shape_view shapes.items ≡ map (λ d. shape_in (before (global_view d.node) end)) declarations.now.items) }
 {
     let mut shapes = Vec::with_capacity(alloc, declarations.len())?;
     for declaration in declarations {

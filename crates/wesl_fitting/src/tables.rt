@@ -1,6 +1,5 @@
 //! Tables of what a module's numbers are to calls.
-ghost use Rattle.std.specs.Prelude.{◌≡◌, ◌++◌, ◌==◌, ℕ, [], map, if◌then◌else◌, IfOk, IfErr};
-ghost use Rattle.wesl_names.specs.declared.errors.Error as error;
+ghost use Rattle.std.specs.Prelude.{◌≡◌, ◌++◌, ◌==◌, ℕ, [], map, if◌then◌else◌, IfOk};
 ghost use Rattle.wesl_occurrences.specs.Identified.{identified};
 ghost use Rattle.wesl_occurrences.specs.Views.{occurrence_view};
 ghost use Rattle.wesl_kept.specs.Declarations.{all};
@@ -11,8 +10,7 @@ ghost use Rattle.wesl_fitting.specs.Views.{shape_view, tables_view};
 
 use crate::numbers::bound_numbers;
 use crate::shape::{Shape, shape_at, shapes_of};
-use std::alloc::Global;
-use wesl_names::Error;
+use std::alloc::{AllocError, Global};
 use wesl_occurrences::{Identifiers, Occurrence, Standing};
 use wesl_tree::TranslationUnit;
 use wesl_valid::add_edge;
@@ -66,10 +64,9 @@ fn add_target(
     graph: &mut Vec<Vec<usize>>,
     from: usize,
     target: Option<usize>,
-) -> Result<(), Error>
+) -> Result<(), AllocError>
     ensures added { IfOk result (λ _. (m : ℕ) → edges_at (graph_view graph.new.items) m ≡ edges_at (graph_view graph.old.items) m ++ (if from == m then one_or_none target else [])) }
     ensures closed { IfOk result (λ _. IsClosed (graph_view graph.old.items) → IsClosed (graph_view graph.new.items)) }
-    ensures refused { IfErr result (λ e. e ≡ error.Memory) }
 {
     match target {
         None => Ok(()),
@@ -78,9 +75,8 @@ fn add_target(
 }
 
 /// Of each number the declarations that declare it.
-fn declarers_of(alloc: Global, found: &Identifiers<'_>) -> Result<Vec<Vec<usize>>, Error>
-    ensures edges { IfOk result (λ graph. (m : ℕ) → edges_at (graph_view graph.items) m ≡ edges_of declaration_named m (map occurrence_view found.now.all.items)) }
-    ensures refused { IfErr result (λ e. e ≡ error.Memory) }
+fn declarers_of(alloc: Global, found: &Identifiers<'_>) -> Result<Vec<Vec<usize>>, AllocError>
+    ensures { IfOk result (λ graph. (m : ℕ) → edges_at (graph_view graph.items) m ≡ edges_of declaration_named m (map occurrence_view found.now.all.items)) }
 {
     let mut declarers = Vec::new(alloc);
     for occurrence in &found.all {
@@ -95,10 +91,9 @@ fn aliases_of(
     alloc: Global,
     shapes: &Vec<Shape>,
     found: &Identifiers<'_>,
-) -> Result<Vec<Vec<usize>>, Error>
+) -> Result<Vec<Vec<usize>>, AllocError>
     ensures edges { IfOk result (λ graph. (m : ℕ) → edges_at (graph_view graph.items) m ≡ edges_of (alias_named (map shape_view shapes.now.items)) m (map occurrence_view found.now.all.items)) }
     ensures closed { IfOk result (λ graph. IsClosed (graph_view graph.items)) }
-    ensures refused { IfErr result (λ e. e ≡ error.Memory) }
 {
     let mut aliases = Vec::new(alloc);
     for occurrence in &found.all {
@@ -113,10 +108,9 @@ pub(crate) fn tables_of(
     alloc: Global,
     unit: &TranslationUnit,
     found: &Identifiers<'_>,
-) -> Result<Tables, Error>
+) -> Result<Tables, AllocError>
     requires { identified found.now ≡ all (unit_view unit.now) }
-    ensures tables { IfOk result (λ tables. AreTables (unit_view unit.now) (tables_view tables)) }
-    ensures refused { IfErr result (λ e. e ≡ error.Memory) }
+    ensures { IfOk result (λ tables. AreTables (unit_view unit.now) (tables_view tables)) }
 {
     let shapes = shapes_of(alloc, unit.global_declarations())?;
     let declarers = declarers_of(alloc, found)?;

@@ -1,7 +1,6 @@
 //! Which declarations are kept.
-ghost use Rattle.std.specs.Prelude.{◌≡◌, ◌+◌, ◌<◌, ◌↔◌, ℕ, Bool, true, false, not, ◌&&◌, ◌||◌, ◌==◌, length, map, bytes_eq, IfOk, IfErr};
+ghost use Rattle.std.specs.Prelude.{◌≡◌, ◌+◌, ◌<◌, ◌↔◌, ℕ, Bool, true, false, not, ◌&&◌, ◌||◌, ◌==◌, length, map, bytes_eq, IfOk};
 ghost use Rattle.std.specs.List.{All, list_any};
-ghost use Rattle.wesl_names.specs.declared.errors.Error as error;
 ghost use Rattle.wesl_syntax.specs.Tree.{trees};
 ghost use Rattle.wesl_syntax.specs.Unit.{name_in};
 ghost use Rattle.wesl_occurrences.specs.Views.{occurrence_view};
@@ -9,9 +8,9 @@ ghost use Rattle.wesl_kept.specs.Declarations.{IsKept};
 ghost use Rattle.wesl_kept.specs.Marks.{Reached, mark_at, mark_of, unmarked, refers, declares, has_name, refers_here, declares_here, names_here};
 ghost use Rattle.wesl_tree.specs.Translation.{unit_view};
 
-use std::alloc::Global;
+use std::alloc::{AllocError, Global};
 use wesl_occurrences::{Occurrence, occurrences};
-use wesl_tree::{Error, Ident, Names, TranslationUnit};
+use wesl_tree::{Ident, Names, TranslationUnit};
 
 fn either(first: bool, second: bool) -> bool
     ensures { result ≡ first || second }
@@ -132,10 +131,9 @@ fn is_among(keep: &[&str], name: &str) -> bool
 }
 
 /// Of each number of the table, whether its name is to be kept.
-fn named(alloc: Global, names: &Names, keep: &[&str]) -> Result<Vec<bool>, Error>
+fn named(alloc: Global, names: &Names, keep: &[&str]) -> Result<Vec<bool>, AllocError>
     ensures all { IfOk result (λ wanted. length wanted.items ≡ length names.now) }
     ensures marked { IfOk result (λ wanted. (m : ℕ) → m < length names.now → mark_at wanted.items m ≡ list_any (λ k. bytes_eq k.now (name_in names.now m)) keep.now) }
-    ensures refused { IfErr result (λ e. e ≡ error.Memory) }
 {
     let mut wanted = Vec::with_capacity(alloc, names.len())?;
     for i in 0..names.len() {
@@ -162,10 +160,9 @@ fn unmark_declaration(occurrence: &Occurrence<'_>, kept: &mut [bool])
 
 /// Of each of so many declarations, whether it declares no name.
 #[tactic(auto, using(crate::proofs::Marking::any_next, crate::proofs::Marking::unset_step, crate::proofs::Marking::and_true_right))]
-fn nameless(alloc: Global, count: usize, all: &[Occurrence<'_>]) -> Result<Vec<bool>, Error>
+fn nameless(alloc: Global, count: usize, all: &[Occurrence<'_>]) -> Result<Vec<bool>, AllocError>
     ensures all { IfOk result (λ kept. length kept.items ≡ count) }
     ensures marked { IfOk result (λ kept. (j : ℕ) → j < count → mark_at kept.items j ≡ not (has_name (map occurrence_view all.now) j)) }
-    ensures refused { IfErr result (λ e. e ≡ error.Memory) }
 {
     let mut kept = vec![in alloc; true; count]?;
     for occurrence in all {
@@ -180,10 +177,9 @@ pub fn kept_declarations(
     alloc: Global,
     unit: &TranslationUnit,
     keep: &[&str],
-) -> Result<Vec<bool>, Error>
+) -> Result<Vec<bool>, AllocError>
     ensures all { IfOk result (λ kept. length kept.items ≡ length (trees (unit_view unit.now).declarations.children)) }
     ensures least { IfOk result (λ kept. (j : ℕ) → j < length kept.items → (mark_at kept.items j ≡ true) ↔ IsKept (unit_view unit.now) (map (λ k. k.now) keep.now) j) }
-    ensures refused { IfErr result (λ e. e ≡ error.Memory) }
 {
     let found = occurrences(alloc, unit)?;
     let mut kept = nameless(alloc, unit.global_declarations().len(), &found.all)?;

@@ -3,7 +3,7 @@ use serde_json::Value;
 use wesl_json::JsonText;
 use wesl_link::{Resolutions, resolve_eager, resolve_lazy};
 use wesl_resolve::VirtualResolver;
-use wesl_row::{Object, Row, of_diagnostic, unit_of_one};
+use wesl_row::{Object, Row, unit_of_one};
 use wesl_tree::{Diagnostic, TranslationUnit};
 
 /// The text of the path of the module of a number.
@@ -70,10 +70,10 @@ fn counts(row: Row<'_>, found: &Resolutions) -> Value {
 }
 
 /// How many modules and turns a link has, or how it is refused.
-fn counted(row: Row<'_>, found: &Result<Resolutions, Diagnostic>) -> Value {
-    match found {
-        Ok(found) => counts(row, found),
-        Err(refusal) => of_diagnostic(row, refusal),
+fn counted(row: Row<'_>, found: Result<Resolutions, Diagnostic>) -> Value {
+    match row.told(found) {
+        Ok(found) => counts(row, &found),
+        Err(fault) => fault,
     }
 }
 
@@ -84,7 +84,7 @@ pub fn lazy(row: Row<'_>) -> Value {
     let limit = row.number("limit", 1000);
     counted(
         row,
-        &resolve_lazy(
+        resolve_lazy(
             row.alloc,
             &["k"],
             module(row, 0),
@@ -102,6 +102,6 @@ pub fn eager(row: Row<'_>) -> Value {
     let limit = row.number("limit", 1000);
     counted(
         row,
-        &resolve_eager(row.alloc, module(row, 0), &path, &mut modules, limit),
+        resolve_eager(row.alloc, module(row, 0), &path, &mut modules, limit),
     )
 }

@@ -6,7 +6,7 @@ ghost use Rattle.wesl_resolutions.specs.Keeping.{IsSound};
 use serde_json::Value;
 use wesl_link::{Resolutions, resolve_eager, resolve_lazy};
 use wesl_mangle::EscapeMangler;
-use wesl_row::{List, Object, Row, is_refused, of_diagnostic, stands};
+use wesl_row::{List, Object, Row, is_refused, stands};
 use wesl_tree::{Diagnostic, TranslationUnit};
 
 /// The paths of the modules of a link, in their order.
@@ -73,7 +73,7 @@ fn outcome(row: Row<'_>, found: Result<Resolutions, Diagnostic>) -> Value
 {
     match found {
         Ok(found) => mangled(row, found),
-        Err(refusal) => of_diagnostic(row, &refusal),
+        Err(refusal) => row.answer_of(refusal),
     }
 }
 
@@ -130,6 +130,6 @@ fn all_mangled(row: Row<'_>, found: Resolutions) -> Value
 pub fn mangled_or_left(row: Row<'_>) -> Value {
     match lazily(row) {
         Ok(found) => all_mangled(row, found),
-        Err(refusal) => of_diagnostic(row, &refusal),
+        Err(refusal) => row.answer_of(refusal),
     }
 }

@@ -7,7 +7,7 @@ use serde_json::Value;
 use wesl_mangle::{
     CacheMangler, EscapeMangler, HashMangler, Mangler, NoMangler, PathHash, UnicodeMangler,
 };
-use wesl_row::{Row, is_refused, item_value, of_error, stands, text_of};
+use wesl_row::{Row, is_refused, item_value, stands, text_of};
 use wesl_tree::{
     BinaryOperator, Error, Expression, ExpressionNode, Ident, Literal, ModulePath, Names, Span,
     Spanned, TemplateArg, TypeExpression,
@@ -27,7 +27,7 @@ impl PathHash for Always {
 
 /// The name that a mangler gives to the item of a row.
 pub fn named<M: Mangler>(row: Row<'_>, mangler: &mut M) -> Value {
-    row.text_or_none(mangler.mangle(row.alloc, &row.path("path"), row.text("item")))
+    row.printed(mangler.mangle(row.alloc, &row.path("path"), row.text("item")))
 }
 
 /// The path and the item that a mangler reads a name as, null where it reads none.
@@ -171,9 +171,9 @@ fn variant(row: Row<'_>) -> Result<String, Error> {
 
 /// The same as an answer.
 pub fn written_variant(row: Row<'_>) -> Value {
-    match variant(row) {
+    match row.told(variant(row)) {
         Ok(name) => Value::String(name),
-        Err(error) => of_error(row, &error),
+        Err(fault) => fault,
     }
 }
 
@@ -181,7 +181,7 @@ pub fn written_variant(row: Row<'_>) -> Value {
 pub fn numbered_variant(row: Row<'_>) -> Value {
     let number = u32::try_from(row.number("number", 0)).unwrap_or(0);
     let names = Names::new(row.alloc);
-    row.text_or_none(NoMangler.mangle_types(row.alloc, &names, row.text("item"), number, &[]))
+    row.printed(NoMangler.mangle_types(row.alloc, &names, row.text("item"), number, &[]))
 }
 
 /// Whether the escape form of the item of a row is read back.

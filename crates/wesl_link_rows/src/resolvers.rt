@@ -6,31 +6,18 @@ use serde_json::Value;
 use wesl_json::JsonText;
 use wesl_resolve::{Router, VirtualResolver};
 use wesl_resolver::{NoResolver, Resolver};
-use wesl_row::{List, Row, is_refused, item_value, of_resolver, stands, text_of};
-use wesl_tree::{ModulePath, ResolveError, TranslationUnit};
-
-/// The answer of a source.
-fn source_told(row: Row<'_>, source: Result<String, ResolveError>) -> Value {
-    match source {
-        Ok(source) => Value::String(source),
-        Err(error) => of_resolver(row, &error),
-    }
-}
-
-/// The answer of a unit.
-fn unit_told(row: Row<'_>, unit: &Result<TranslationUnit, ResolveError>) -> Value {
-    match unit {
-        Ok(unit) => row.tree_of(unit),
-        Err(error) => of_resolver(row, error),
-    }
-}
+use wesl_row::{List, Row, is_refused, item_value, stands, text_of};
+use wesl_tree::{ModulePath, ResolveError};
 
 /// The source that a resolver gives for the path of a row.
 pub fn source<R: Resolver>(row: Row<'_>, resolver: &mut R) -> Value
     requires { R.ready resolver.old }
 {
     let path = row.rooted("path");
-    source_told(row, resolver.resolve_source(row.alloc, &path))
+    match row.told(resolver.resolve_source(row.alloc, &path)) {
+        Ok(source) => Value::String(source),
+        Err(fault) => fault,
+    }
 }
 
 /// The unit that a resolver gives for the path of a row.
@@ -38,28 +25,22 @@ pub fn module<R: Resolver>(row: Row<'_>, resolver: &mut R) -> Value
     requires { R.ready resolver.old }
 {
     let path = row.rooted("path");
-    let unit = resolver.resolve_module(row.alloc, &path);
-    let answer = unit_told(row, &unit);
-    // as a generic function lets go of it, which costs the proof a fraction
-    drop(unit);
-    answer
-}
-
-/// The answer of a name by which a module is shown, null where it has none.
-fn name_told(row: Row<'_>, name: Result<Option<String>, ResolveError>) -> Value {
-    match name {
-        Ok(Some(name)) => Value::String(name),
-        Ok(None) => Value::Null,
-        Err(error) => of_resolver(row, &error),
+    match row.told(resolver.resolve_module(row.alloc, &path)) {
+        Ok(unit) => row.tree_of(&unit),
+        Err(fault) => fault,
     }
 }
 
-/// The name by which a resolver shows the path of a row.
+/// The name by which a resolver shows the path of a row, null where it has none.
 pub fn name<R: Resolver>(row: Row<'_>, resolver: &mut R) -> Value
     requires { R.ready resolver.old }
 {
     let path = row.rooted("path");
-    name_told(row, resolver.display_name(row.alloc, &path))
+    match row.told(resolver.display_name(row.alloc, &path)) {
+        Ok(Some(name)) => Value::String(name),
+        Ok(None) => Value::Null,
+        Err(fault) => fault,
+    }
 }
 
 /// Null for a module that is not there; want of memory is none.
@@ -110,9 +91,9 @@ fn pairs(row: Row<'_>, held: &[(&ModulePath, &str)]) -> Value {
 
 /// The paths and the sources of a resolver's modules.
 fn listed(row: Row<'_>, modules: &VirtualResolver<JsonText>) -> Value {
-    match modules.modules(row.alloc) {
-        Ok(held) => pairs(row, held.as_slice()),
-        Err(_) => {
+    match modules.modules(row.alloc).ok() {
+        Some(held) => pairs(row, held.as_slice()),
+        None => {
             row.refused_if(true);
             Value::Null
         }
@@ -139,18 +120,14 @@ pub fn all(row: Row<'_>) -> Value {
     listed(row, &holding(row))
 }
 
-/// The answer of a stored text.
-fn text_told(row: Row<'_>, text: &Result<&str, ResolveError>) -> Value {
-    match text {
-        Ok(text) => row.text_value(text),
-        Err(error) => of_resolver(row, error),
-    }
-}
-
 /// The stored text of the module at the path of a row.
 pub fn stored(row: Row<'_>) -> Value {
     let path = row.rooted("path");
-    text_told(row, &holding(row).get_module(row.alloc, &path))
+    let modules = holding(row);
+    match row.told(modules.get_module(row.alloc, &path)) {
+        Ok(text) => row.text_value(text),
+        Err(fault) => fault,
+    }
 }
 
 /// The unit that a resolver of modules in memory gives.

@@ -1,5 +1,5 @@
 //! The linked unit: of each module, the directives and the declarations that are held.
-ghost use Rattle.std.specs.Prelude.{◌≡◌, ◌↔◌, [], List, Contains, IsTrue, IfOk, IfErr, map, false};
+ghost use Rattle.std.specs.Prelude.{◌≡◌, ◌↔◌, ◌∷◌, [], List, Contains, IsTrue, IfOk, IfErr, map, false};
 ghost use Rattle.wesl_names.specs.declared.errors.Error as error;
 ghost use Rattle.wesl_syntax.specs.Tree.{before, end};
 ghost use Rattle.wesl_syntax.specs.View.{global_view};
@@ -200,16 +200,20 @@ fn add_module<'a>(link: &'a Link, module: &'a LoadedModule, parts: &mut Parts<'a
     true
 }
 
-/// The units of a link's modules, in their order.
-fn units(alloc: Global, link: &Link) -> Result<Vec<&TranslationUnit>, Error>
-    ensures units { IfOk result (λ us. map (λ u. unit_view u.now) us.items ≡ map (λ m. unit_view m.unit) (all_loaded link.now)) }
+/// The units of modules: the root's first.
+fn units<'a>(
+    alloc: Global,
+    root: &'a LoadedModule,
+    others: &'a [LoadedModule],
+) -> Result<Vec<&'a TranslationUnit>, Error>
+    ensures units { IfOk result (λ us. map (λ u. unit_view u.now) us.items ≡ map (λ m. unit_view m.unit) (root.now ∷ others.now)) }
     ensures refused { IfErr result (λ e. e ≡ error.Memory) }
 {
     let mut units = Vec::new(alloc);
-    if units.push(&link.root.unit).is_err() {
+    if units.push(&root.unit).is_err() {
         return Err(Error::Memory);
     }
-    for module in &link.others {
+    for module in others {
         if units.push(&module.unit).is_err() {
             return Err(Error::Memory);
         }
@@ -241,7 +245,8 @@ pub fn assembled(alloc: Global, link: &Link, given: &GivenNames) -> Result<Trans
 {
     law_of_meanings();
     law_of_pieces();
-    let Directives { nodes, words } = thinned_directives(alloc, &units(alloc, link)?)?;
+    let units = units(alloc, &link.root, &link.others)?;
+    let Directives { nodes, words } = thinned_directives(alloc, &units)?;
     let mut parts = Parts {
         declarations: Vec::new(alloc),
         denotations: words,

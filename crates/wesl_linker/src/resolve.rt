@@ -88,7 +88,7 @@ fn root_table(
     ensures grows { Grows (numbering numbers.old) (numbering numbers.new) }
 {
     let id = numbers.path(alloc, path)?;
-    table_of(alloc, numbers, id, path, unit)
+    Ok(table_of(alloc, numbers, id, path, unit)?)
 }
 
 /// The root that stands at a path, and its symbol table; none where memory was wanting.

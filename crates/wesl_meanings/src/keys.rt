@@ -1,16 +1,15 @@
 //! What identifiers mean.
-ghost use Rattle.std.specs.Prelude.{◌≡◌, ℕ, ◌<◌, ◌||◌, ◌&&◌, ◌∷◌, [], nat_le, length, map, IfOk, IfErr, OnOk};
+ghost use Rattle.std.specs.Prelude.{◌≡◌, ℕ, ◌<◌, ◌||◌, ◌&&◌, ◌∷◌, [], nat_le, length, map, IfOk, OnOk};
 ghost use Rattle.std.specs.List.{All, list_any};
 ghost use Rattle.wesl_names.specs.Path.{Text};
-ghost use Rattle.wesl_names.specs.declared.errors.Error as error;
 ghost use Rattle.wesl_occurrences.specs.Views.{occurrence_view, standing_view};
 ghost use Rattle.wesl_occurrences.specs.Ways.{AreNested, way};
 ghost use Rattle.wesl_meanings.specs.Scopes.{bound, is_visible, same_key};
 ghost use Rattle.wesl_meanings.specs.Keys.{key_view, flat, IsKeyBelow, key_name, opened, open_at, binds_at, meaning_in, entry_key};
 
 use indexmap::IndexMap;
-use std::alloc::Global;
-use wesl_names::{Error, ModulePath, Names, law_of_equality};
+use std::alloc::{AllocError, Global};
+use wesl_names::{ModulePath, Names, law_of_equality};
 use wesl_occurrences::{Occurrence, Standing, law_of_ways};
 
 /// What an identifier means.
@@ -84,9 +83,8 @@ impl<'a> Drop for Binders<'a> {
 
 impl<'a> Binders<'a> {
     /// One more binder, which is visible from that place on.
-    fn add(&mut self, key: Key<'a>, from: usize) -> Result<(), Error>
-        ensures opens { OnOk result ((b : ℕ) (n : Text) (p : ℕ) → open_at self.new.from.entries b n p ≡ (open_at self.old.from.entries b n p || (nat_le from p && same_key (flat key.entry) (bound (b ∷ []) n)))) }
-        ensures refused { IfErr result (λ e. e ≡ error.Memory) }
+    fn add(&mut self, key: Key<'a>, from: usize) -> Result<(), AllocError>
+        ensures { OnOk result ((b : ℕ) (n : Text) (p : ℕ) → open_at self.new.from.entries b n p ≡ (open_at self.old.from.entries b n p || (nat_le from p && same_key (flat key.entry) (bound (b ∷ []) n)))) }
     {
         law_of_equality();
         let from = earlier(self.from.get(&key).copied(), from);
@@ -95,10 +93,9 @@ impl<'a> Binders<'a> {
     }
 
     /// An identifier, if it is a binder.
-    fn meet(&mut self, names: &'a Names, occurrence: &Occurrence<'_>) -> Result<(), Error>
+    fn meet(&mut self, names: &'a Names, occurrence: &Occurrence<'_>) -> Result<(), AllocError>
         requires { occurrence.now.ident.0 < length names.now }
-        ensures opens { OnOk result ((b : ℕ) (n : Text) (p : ℕ) → open_at self.new.from.entries b n p ≡ (open_at self.old.from.entries b n p || binds_at names.now b n p (occurrence_view occurrence.now))) }
-        ensures refused { IfErr result (λ e. e ≡ error.Memory) }
+        ensures { OnOk result ((b : ℕ) (n : Text) (p : ℕ) → open_at self.new.from.entries b n p ≡ (open_at self.old.from.entries b n p || binds_at names.now b n p (occurrence_view occurrence.now))) }
     {
         match visible_from(&occurrence.standing) {
             None => Ok(()),
@@ -115,10 +112,9 @@ impl<'a> Binders<'a> {
         alloc: Global,
         names: &'a Names,
         all: &[Occurrence<'_>],
-    ) -> Result<Binders<'a>, Error>
+    ) -> Result<Binders<'a>, AllocError>
         requires { All (λ o. o.ident.0 < length names.now) all.now }
-        ensures opens { IfOk result (λ binders. (b : ℕ) (n : Text) (p : ℕ) → open_at binders.from.entries b n p ≡ list_any (binds_at names.now b n p) (map occurrence_view all.now)) }
-        ensures refused { IfErr result (λ e. e ≡ error.Memory) }
+        ensures { IfOk result (λ binders. (b : ℕ) (n : Text) (p : ℕ) → open_at binders.from.entries b n p ≡ list_any (binds_at names.now b n p) (map occurrence_view all.now)) }
     {
         let mut binders = Binders {
             from: IndexMap::new(alloc),
@@ -187,13 +183,12 @@ impl<'a> Binders<'a> {
         names: &'b Names,
         outer: &[usize],
         all: &[Occurrence<'b>],
-    ) -> Result<Vec<Key<'b>>, Error>
+    ) -> Result<Vec<Key<'b>>, AllocError>
         requires named { All (λ o. o.ident.0 < length names.now) all.now }
         requires inside { All (λ o. o.block < length outer.now) all.now }
         requires nested { AreNested outer.now }
         ensures keys { IfOk result (λ keys. map (key_view (way outer.now)) keys.items ≡ map (entry_key self.now.from.entries names.now (way outer.now)) (map occurrence_view all.now)) }
         ensures below { IfOk result (λ keys. All (IsKeyBelow (length outer.now)) keys.items) }
-        ensures refused { IfErr result (λ e. e ≡ error.Memory) }
     {
         let mut keys = Vec::with_capacity(alloc, all.len())?;
         for occurrence in all {

@@ -1,7 +1,6 @@
 //! What the identifiers of a whole module mean.
-ghost use Rattle.std.specs.Prelude.{◌≡◌, ◌<◌, IfOk, IfErr, length, map};
+ghost use Rattle.std.specs.Prelude.{◌≡◌, ◌<◌, IfOk, length, map};
 ghost use Rattle.std.specs.List.{All};
-ghost use Rattle.wesl_names.specs.declared.errors.Error as error;
 ghost use Rattle.wesl_syntax.specs.Unit.{spelled, trees_of};
 ghost use Rattle.wesl_tree.specs.Translation.{unit_view};
 ghost use Rattle.wesl_occurrences.specs.Occurrences.{occurrences};
@@ -13,9 +12,9 @@ ghost use Rattle.wesl_meanings.specs.Keys.{key_view, IsKeyBelow};
 ghost use Rattle.wesl_meanings.specs.ByBinders.{AreKeysOf};
 
 use crate::keys::{Binders, Key};
-use std::alloc::Global;
+use std::alloc::{AllocError, Global};
 use wesl_occurrences::{Identifiers, Occurrence, law_of_occurrences, law_of_ways, occurrences};
-use wesl_tree::{Error, Names, TranslationUnit};
+use wesl_tree::{Names, TranslationUnit};
 
 /// The identifiers of a module, and what they mean.
 #[derive(Drop)]
@@ -32,27 +31,25 @@ fn keys_of<'a>(
     names: &'a Names,
     outer: &[usize],
     all: &[Occurrence<'a>],
-) -> Result<Vec<Key<'a>>, Error>
+) -> Result<Vec<Key<'a>>, AllocError>
     requires named { All (λ o. o.ident.0 < length names.now) all.now }
     requires inside { All (λ o. o.block < length outer.now) all.now }
     requires nested { AreNested outer.now }
     ensures keys { IfOk result (λ keys. AreKeysOf names.now outer.now all.now keys.items) }
     ensures below { IfOk result (λ keys. All (IsKeyBelow (length outer.now)) keys.items) }
-    ensures refused { IfErr result (λ e. e ≡ error.Memory) }
 {
     let binders = Binders::among(alloc, names, all)?;
     binders.keys(alloc, names, outer, all)
 }
 
 /// What each identifier of a module means, in document order. Refused for want of memory alone.
-pub fn meanings_of<'a>(alloc: Global, unit: &'a TranslationUnit) -> Result<Meanings<'a>, Error>
+pub fn meanings_of<'a>(alloc: Global, unit: &'a TranslationUnit) -> Result<Meanings<'a>, AllocError>
     ensures found { IfOk result (λ m. identified m.found ≡ occurrences (trees_of (unit_view unit.now))) }
     ensures keys { IfOk result (λ m. map (key_view (way m.found.outer.items)) m.keys.items ≡ keys (occurrences (spelled (unit_view unit.now)))) }
     ensures starts { IfOk result (λ m. m.found.starts.items ≡ starts (trees_of (unit_view unit.now))) }
     ensures names { IfOk result (λ m. All (λ o. o.ident.0 < length (unit_view unit.now).names) m.found.all.items) }
     ensures nested { IfOk result (λ m. AreNested m.found.outer.items) }
     ensures below { IfOk result (λ m. All (IsKeyBelow (length m.found.outer.items)) m.keys.items) }
-    ensures refused { IfErr result (λ e. e ≡ error.Memory) }
 {
     law_of_ways();
     law_of_occurrences();

@@ -1,7 +1,6 @@
 //! The identifiers of a whole module.
-ghost use Rattle.std.specs.Prelude.{◌≡◌, ◌<◌, IfOk, IfErr, length, map};
+ghost use Rattle.std.specs.Prelude.{◌≡◌, ◌<◌, IfOk, length, map};
 ghost use Rattle.std.specs.List.{All};
-ghost use Rattle.wesl_names.specs.declared.errors.Error as error;
 ghost use Rattle.wesl_syntax.specs.Tree.{before, end, identifiers, directive_node};
 ghost use Rattle.wesl_syntax.specs.Unit.{trees_of};
 ghost use Rattle.wesl_syntax.specs.View.{placed, directive_view};
@@ -14,8 +13,8 @@ ghost use Rattle.wesl_occurrences.specs.Outer.{outers};
 
 use crate::occurrence::Occurrence;
 use crate::walk::{Here, Walk};
-use std::alloc::Global;
-use wesl_tree::{Error, GlobalDirectiveNode, Ident, TranslationUnit};
+use std::alloc::{AllocError, Global};
+use wesl_tree::{GlobalDirectiveNode, Ident, TranslationUnit};
 
 /// The identifiers of a module, and its blocks.
 #[derive(Drop)]
@@ -30,14 +29,16 @@ pub struct Identifiers<'a> {
 
 /// The identifiers of a module in document order, each with how it stands, its place in that order and its block
 /// (WGSL, "Declaration and Scope"). Refused for want of memory alone.
-pub fn occurrences<'a>(alloc: Global, unit: &'a TranslationUnit) -> Result<Identifiers<'a>, Error>
+pub fn occurrences<'a>(
+    alloc: Global,
+    unit: &'a TranslationUnit,
+) -> Result<Identifiers<'a>, AllocError>
     ensures all { IfOk result (λ found. identified found ≡ occurrences (trees_of (unit_view unit.now))) }
     ensures blocks { IfOk result (λ found. All (λ o. o.block < length found.outer.items) found.all.items) }
     ensures nested { IfOk result (λ found. AreNested found.outer.items) }
     ensures outer { IfOk result (λ found. found.outer.items ≡ outers (trees_of (unit_view unit.now))) }
     ensures starts { IfOk result (λ found. found.starts.items ≡ starts (trees_of (unit_view unit.now))) }
     ensures names { IfOk result (λ found. All (λ o. o.ident.0 < length (unit_view unit.now).names) found.all.items) }
-    ensures refused { IfErr result (λ e. e ≡ error.Memory) }
 {
     let here = Here::outermost();
     let mut walk = Walk::new(alloc);
@@ -45,7 +46,7 @@ pub fn occurrences<'a>(alloc: Global, unit: &'a TranslationUnit) -> Result<Ident
     walk.directives(&here, unit.global_directives());
     let starts = walk.globals(alloc, &here, unit.global_declarations());
     if walk.is_refused {
-        return Err(Error::Memory);
+        return Err(AllocError);
     }
     Ok(Identifiers {
         all: walk.found,
@@ -55,9 +56,8 @@ pub fn occurrences<'a>(alloc: Global, unit: &'a TranslationUnit) -> Result<Ident
 }
 
 /// The identifiers themselves.
-fn idents(alloc: Global, found: &[Occurrence<'_>]) -> Result<Vec<Ident>, Error>
-    ensures idents { IfOk result (λ idents. map (λ i. i.0) idents.items ≡ map (λ o. o.ident.0) found.now) }
-    ensures refused { IfErr result (λ e. e ≡ error.Memory) }
+fn idents(alloc: Global, found: &[Occurrence<'_>]) -> Result<Vec<Ident>, AllocError>
+    ensures { IfOk result (λ idents. map (λ i. i.0) idents.items ≡ map (λ o. o.ident.0) found.now) }
 {
     let mut idents = Vec::new(alloc);
     let mut is_refused = false;
@@ -65,20 +65,19 @@ fn idents(alloc: Global, found: &[Occurrence<'_>]) -> Result<Vec<Ident>, Error>
         is_refused |= idents.push(occurrence.ident).is_err();
     }
     if is_refused {
-        return Err(Error::Memory);
+        return Err(AllocError);
     }
     Ok(idents)
 }
 
 /// The identifiers of a directive, in document order: all are words. Refused for want of memory alone.
-pub fn words_of(alloc: Global, directive: &GlobalDirectiveNode) -> Result<Vec<Ident>, Error>
-    ensures words { IfOk result (λ found. map (λ i. i.0) found.items ≡ identifiers (before (placed directive_view directive_node directive.now) end)) }
-    ensures refused { IfErr result (λ e. e ≡ error.Memory) }
+pub fn words_of(alloc: Global, directive: &GlobalDirectiveNode) -> Result<Vec<Ident>, AllocError>
+    ensures { IfOk result (λ found. map (λ i. i.0) found.items ≡ identifiers (before (placed directive_view directive_node directive.now) end)) }
 {
     let mut walk = Walk::new(alloc);
     walk.directive(&Here::outermost(), &directive.node);
     if walk.is_refused {
-        return Err(Error::Memory);
+        return Err(AllocError);
     }
     idents(alloc, &walk.found)
 }

@@ -16,8 +16,8 @@ use Rattle.wesl_program.specs.Naming.{named_by}
 use Rattle.wesl_program.specs.Refused.{IsLinkFault}
 use Rattle.wesl_program.proofs.Faults.{bundle-fault}
 
--- a resolver and a path that are others
-module _ {S : Type 0} (hands_of : S → Path → UnitOf Text → Type 0) (refuses_of : S → Path → ResolveError → Type 0) (features : Option Features) (s t : S) (same : s ≡ t) (at root : Path) (path : at ≡ root) (keep : List Text) (is_eager : Bool) (limit : ℕ) where
+-- a resolver, a path and names to keep that are others
+module _ {S : Type 0} (hands_of : S → Path → UnitOf Text → Type 0) (refuses_of : S → Path → ResolveError → Type 0) (features : Option Features) (s t : S) (same : s ≡ t) (at root : Path) (path : at ≡ root) (keep named : List Text) (keeps : keep ≡ named) (is_eager : Bool) (limit : ℕ) where
   abbrev hands : S → Path → UnitOf Text → Type 0
   hands x = hands_left (hands_of x) (refuses_of x) features
 
@@ -27,19 +27,21 @@ module _ {S : Type 0} (hands_of : S → Path → UnitOf Text → Type 0) (refuse
   -- and a mangler that is another, with nothing recorded before
   pub maps-from : {M : Type 0} (name_of : M → Path → Text → Text) (m n : M) → m ≡ n → (mangle_root : Bool) (before after : Record) (u : UnitView) → ((name : Text) → before name ≡ None)
       → MapsLink (hands s) (refuses s) (name_of m) at keep is_eager mangle_root limit before after u
-      → MapsLink (hands t) (refuses t) (name_of n) root keep is_eager mangle_root limit (λ name. None) after u
-  maps-from name_of m n named mangle_root before after u nothing h =
+      → MapsLink (hands t) (refuses t) (name_of n) root named is_eager mangle_root limit (λ name. None) after u
+  maps-from name_of m n same_names mangle_root before after u nothing h =
       let empty : Record = λ name. None in
       let none : before ≡ empty = λ i name. nothing name i in
-      subst (λ x. MapsLink (hands x) (refuses x) (name_of n) root keep is_eager mangle_root limit empty after u) same
-      (subst (λ x. MapsLink (hands s) (refuses s) (name_of x) root keep is_eager mangle_root limit empty after u) named
+      subst (λ ks. MapsLink (hands t) (refuses t) (name_of n) root ks is_eager mangle_root limit empty after u) keeps
+      (subst (λ x. MapsLink (hands x) (refuses x) (name_of n) root keep is_eager mangle_root limit empty after u) same
+      (subst (λ x. MapsLink (hands s) (refuses s) (name_of x) root keep is_eager mangle_root limit empty after u) same_names
       (subst (λ p. MapsLink (hands s) (refuses s) (name_of m) p keep is_eager mangle_root limit empty after u) path
-      (subst (λ r. MapsLink (hands s) (refuses s) (name_of m) at keep is_eager mangle_root limit r after u) none h)))
+      (subst (λ r. MapsLink (hands s) (refuses s) (name_of m) at keep is_eager mangle_root limit r after u) none h))))
 
-  pub refuses-from : (e : error.Error) → RefusesLink (hands s) (refuses s) at keep is_eager limit e → RefusesLink (hands t) (refuses t) root keep is_eager limit e
+  pub refuses-from : (e : error.Error) → RefusesLink (hands s) (refuses s) at keep is_eager limit e → RefusesLink (hands t) (refuses t) root named is_eager limit e
   refuses-from e h =
-      subst (λ x. RefusesLink (hands x) (refuses x) root keep is_eager limit e) same
-      (subst (λ p. RefusesLink (hands s) (refuses s) p keep is_eager limit e) path h)
+      subst (λ ks. RefusesLink (hands t) (refuses t) root ks is_eager limit e) keeps
+      (subst (λ x. RefusesLink (hands x) (refuses x) root keep is_eager limit e) same
+      (subst (λ p. RefusesLink (hands s) (refuses s) p keep is_eager limit e) path h))
 
 -- a link of a bundle's modules with nothing recorded before, of the names that are kept
 pub linked-from : (b : Bundle) (k : Kept b) (keep : List Text) → keep ≡ b.keep → (after : Record) (u : UnitView)

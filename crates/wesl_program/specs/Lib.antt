@@ -11,4 +11,5 @@ pub mod Line
 pub mod Answers
 pub mod Made
 pub mod Refused
+pub mod Refusals
 pub mod Naming

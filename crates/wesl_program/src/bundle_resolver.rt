@@ -1,5 +1,5 @@
 //! The modules of a bundle, as a resolver: the unit at a path is read only when it is asked for.
-ghost use Rattle.std.specs.Prelude.{◌≡◌, ◌⊎◌, None, IfOk, IfErr};
+ghost use Rattle.std.specs.Prelude.{◌≡◌, ◌⊎◌, None, Ok, Err, IfOk, IfErr};
 ghost use Rattle.wesl_names.specs.declared.errors.Error as error;
 ghost use Rattle.wesl_names.specs.Path.{path_view};
 ghost use Rattle.wesl_names.specs.Errors.{IsModuleNotFound, IsRefusedWith, OrMemory};
@@ -8,6 +8,7 @@ ghost use Rattle.wesl_syntax.specs.Unit.{spelled};
 ghost use Rattle.wesl_tree.specs.Translation.{unit_view};
 ghost use Rattle.wesl_json.specs.UnitTexts.{IsSpelled, IsTreeFault};
 ghost use Rattle.wesl_program.specs.Hands.{IsHandedAt, IsRefusedAt, unit_in, virtual_module};
+ghost use Rattle.wesl_program.specs.Refusals.{IsRefusalOf};
 
 use crate::modules::BundleUnits;
 use std::alloc::Global;
@@ -87,24 +88,35 @@ fn read_unit(alloc: Global, value: &BorrowedValue<'_>) -> Result<TranslationUnit
     ensures read { IfOk result (λ u. IsSpelled (borrowed_view value.now) (spelled (unit_view u))) }
     ensures refused { IfErr result (OrMemory (IsRefusedWith (IsTreeFault (borrowed_view value.now)))) }
 {
-    match tree_of(alloc, value) {
-        Ok(unit) => Ok(unit),
-        Err(Error::BadTree(place)) => Err(ResolveError::Error(Box::new(
-            alloc,
-            Diagnostic::of(Error::BadTree(place)),
-        )?)),
-        Err(_) => Err(ResolveError::Memory),
+    refused(alloc, tree_of(alloc, value))
+}
+
+// What was read, its fault as that of a resolver.
+fn refused<T>(alloc: Global, read: Result<T, Error>) -> Result<T, ResolveError>
+    ensures read { IfOk result (λ t. read ≡ Ok t) }
+    ensures refused { IfErr result (λ e. (f : error.Error) × (read ≡ Err f) × IsRefusalOf f e) }
+{
+    match read {
+        Ok(value) => Ok(value),
+        Err(fault) => Err(refusal(alloc, fault)),
+    }
+}
+
+// The refusal that tells a fault. Want of memory stays what it is.
+fn refusal(alloc: Global, fault: Error) -> ResolveError
+    ensures { IsRefusalOf fault result }
+{
+    match fault {
+        Error::Memory => ResolveError::Memory,
+        fault => match Box::new(alloc, Diagnostic::of(fault)) {
+            Ok(diagnostic) => ResolveError::Error(diagnostic),
+            Err(_) => ResolveError::Memory,
+        },
     }
 }
 
 fn not_found(alloc: Global, path: &ModulePath) -> ResolveError
     ensures { OrMemory (IsModuleNotFound (path_view path.now) virtual_module) result }
 {
-    let Ok(message) = String::from_str(alloc, "virtual module") else {
-        return ResolveError::Memory;
-    };
-    match path.try_clone(alloc) {
-        Ok(path) => ResolveError::ModuleNotFound(path, message),
-        Err(_) => ResolveError::Memory,
-    }
+    wesl_resolver::not_found(alloc, path, "virtual module")
 }

@@ -40,9 +40,9 @@ pub fn memory_line() -> Line
 pub fn refusal(alloc: Global, error: Error) -> Line
     ensures { Tells (fault_of error) (bytes_of result) }
 {
-    let line = match fault_line(alloc, &error) {
-        Ok(line) => Line::Made(line),
-        Err(_) => memory_line(),
+    let line = match fault_line(alloc, &error).ok() {
+        Some(line) => Line::Made(line),
+        None => memory_line(),
     };
     drop(error);
     line

@@ -83,9 +83,7 @@ fn linked_unit(alloc: Global, bundle: Bundle) -> Result<(Mapped, Option<BuiltinN
         options,
         builtins,
     } = bundle;
-    let units = modules_of(alloc, modules)?;
-    let sources = sources_of(alloc, units, packages)?;
-    let keep = names(alloc, &keep)?;
+    let sources = sources_of(alloc, modules, packages)?;
     match link_recorded(alloc, &keep, root, sources, &features, options) {
         Ok(made) => Ok((made, builtins)),
         Err(error) => Err(error),
@@ -95,7 +93,7 @@ fn linked_unit(alloc: Global, bundle: Bundle) -> Result<(Mapped, Option<BuiltinN
 // Links what a resolver hands out, with nothing recorded before.
 fn link_recorded<R: Resolver + Drop>(
     alloc: Global,
-    keep: &[&str],
+    keep: &[String],
     root: ModulePath,
     resolver: R,
     features: &Option<Features>,
@@ -103,15 +101,16 @@ fn link_recorded<R: Resolver + Drop>(
 ) -> Result<Mapped, Error>
     requires ready { R.ready resolver }
     requires asked { is_relative (path_view root) ≡ false }
-    ensures mapped { IfOk result (λ made. MapsLinkLeft (R.hands resolver) (R.refuses resolver) features.now (named_by options.mangler) (path_view root) (texts keep.now) options.eager options.mangle_root options.max_modules (λ name. None) (items made.map) (unit_view made.unit)) }
-    ensures refused { IfErr result (RefusesLinkLeft (R.hands resolver) (R.refuses resolver) features.now (path_view root) (texts keep.now) options.eager options.max_modules) }
+    ensures mapped { IfOk result (λ made. MapsLinkLeft (R.hands resolver) (R.refuses resolver) features.now (named_by options.mangler) (path_view root) (map string_bytes keep.now) options.eager options.mangle_root options.max_modules (λ name. None) (items made.map) (unit_view made.unit)) }
+    ensures refused { IfErr result (RefusesLinkLeft (R.hands resolver) (R.refuses resolver) features.now (path_view root) (map string_bytes keep.now) options.eager options.max_modules) }
 {
+    let keep = names(alloc, keep)?;
     let naming = BundleMangler {
         naming: options.mangler,
     };
     link_mapped(
         alloc,
-        keep,
+        &keep,
         options.eager,
         SourceMapper::new(alloc, root, resolver, naming),
         options.mangle_root,
@@ -136,13 +135,14 @@ fn modules_of<'t>(alloc: Global, listed: Vec<BundleModule<'t>>) -> Result<Bundle
 // first counts.
 fn sources_of<'t>(
     alloc: Global,
-    modules: BundleUnits<'t>,
+    listed: Vec<BundleModule<'t>>,
     packages: Vec<Package<'t>>,
 ) -> Result<Sources<'t>, Error>
-    ensures local { IfOk result (λ s. s.local.modules ≡ modules.entry) }
+    ensures local { IfOk result (λ s. Holds (map module_view listed.entry.items) s.local.modules) }
     ensures packages { IfOk result (λ s. ArePackagesOf (packages_view packages.entry.items) s.packages.packages.items) }
     ensures refused { IfErr result (λ e. e ≡ error.Memory) }
 {
+    let modules = modules_of(alloc, listed)?;
     let mut sources = StandardResolver::new(alloc, BundleResolver { modules }, StoredText);
     for package in packages {
         sources.add_package(package_of(alloc, package)?)?;

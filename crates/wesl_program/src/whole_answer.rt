@@ -29,8 +29,5 @@ fn linked_of_bytes(alloc: Global, bytes: &[u8]) -> Result<Answer, Error>
 {
     let mut scratch = Scratch::new(alloc);
     let bundle = bundle_of_bytes(alloc, bytes, &mut scratch)?;
-    match linked(alloc, bundle) {
-        Ok(answer) => Ok(answer),
-        Err(error) => Err(error),
-    }
+    linked(alloc, bundle)
 }

@@ -5,3 +5,4 @@ pub mod Members
 pub mod Cases
 pub mod Views
 pub mod Spaces
+pub mod Jumps

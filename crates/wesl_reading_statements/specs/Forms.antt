@@ -20,6 +20,10 @@ use Rattle.wesl_reading_statements.specs.declared.words.DeclaredWord.{DeclaredWo
 use Rattle.wesl_reading_statements.specs.declared.words.DeclaredWord.TheVariants as declareds
 use Rattle.wesl_reading_statements.specs.declared.words.StatementWord.{StatementWord}
 use Rattle.wesl_reading_statements.specs.declared.words.StatementWord.TheVariants as stated
+use Rattle.wesl_reading_statements.specs.declared.words.StepWord.{StepWord}
+use Rattle.wesl_reading_statements.specs.declared.words.StepWord.TheVariants as steps
+use Rattle.wesl_reading_statements.specs.declared.words.JumpWord.{JumpWord}
+use Rattle.wesl_reading_statements.specs.declared.words.JumpWord.TheVariants as jumps
 
 -- the row of an object with a word
 abbrev pub worded_row : Text → Head → Row → Row
@@ -138,6 +142,16 @@ ReadsStatement w = ReadsWorded (statement_text w) (statement_head w) (statement_
 
 abbrev pub statement_worded : StatementWord → Row
 statement_worded w = worded_row (statement_text w) (statement_head w) (statement_row w)
+
+-- the words of statements with attributes and an operand, and of those with attributes alone
+abbrev pub step_word : StepWord → StatementWord
+step_word steps.Increment = stated.Increment
+step_word steps.Decrement = stated.Decrement
+
+abbrev pub jump_word : JumpWord → StatementWord
+jump_word jumps.Break = stated.Break
+jump_word jumps.Continue = stated.Continue
+jump_word jumps.Discard = stated.Discard
 
 -- a condition lacks or is broken, or the block that it decides on
 abbrev pub LocatesCondition : Data → error.Error → Type 0

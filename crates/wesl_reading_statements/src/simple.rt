@@ -4,10 +4,10 @@ ghost use Rattle.wesl_form.specs.View.{borrowed_view};
 ghost use Rattle.wesl_syntax.specs.View.{statement_view};
 ghost use Rattle.wesl_reading.specs.Faults.{LocatesRow};
 ghost use Rattle.wesl_reading_statements.specs.declared.words.StatementWord.TheVariants as stated;
-ghost use Rattle.wesl_reading_statements.specs.Forms.{ReadsStatement, statement_worded};
+ghost use Rattle.wesl_reading_statements.specs.Forms.{ReadsStatement, jump_word, statement_worded, step_word};
 
 use crate::parts::call_member;
-use crate::words::assignment_member;
+use crate::words::{JumpWord, StepWord, assignment_member};
 use std::alloc::Global;
 use wesl_form::BorrowedValue;
 use wesl_names::Error;
@@ -48,89 +48,50 @@ pub(crate) fn read_assignment(
     }
 }
 
-/// `expr++;`
-pub(crate) fn read_increment(
+/// `expr++;` or `expr--;`, by its word.
+pub(crate) fn read_step(
     alloc: Global,
     numbering: &mut Numbering,
     value: &BorrowedValue<'_>,
+    word: StepWord,
 ) -> Result<Statement, Error>
-    ensures ok { IfOk result (λ e. ReadsStatement stated.Increment (borrowed_view value.now) (statement_view e) numbering.old numbering.new) }
-    ensures place { IfErr result (LocatesRow (statement_worded stated.Increment) (borrowed_view value.now)) }
+    ensures ok { IfOk result (λ e. ReadsStatement (step_word word) (borrowed_view value.now) (statement_view e) numbering.old numbering.new) }
+    ensures place { IfErr result (LocatesRow (statement_worded (step_word word)) (borrowed_view value.now)) }
 {
     match keyed_attributes(alloc, numbering, value, &["k", "attrs", "expr"]) {
         Ok(attributes) => match expression_member(alloc, numbering, value, "expr") {
-            Ok(expression) => Ok(Statement::Increment {
-                attributes,
-                expression,
-            }),
+            Ok(expression) => match word {
+                StepWord::Increment => Ok(Statement::Increment {
+                    attributes,
+                    expression,
+                }),
+                StepWord::Decrement => Ok(Statement::Decrement {
+                    attributes,
+                    expression,
+                }),
+            },
             Err(error) => Err(error),
         },
         Err(error) => Err(error),
     }
 }
 
-/// `expr--;`
-pub(crate) fn read_decrement(
+/// `break;`, `continue;` or `discard;`, by its word.
+pub(crate) fn read_jump(
     alloc: Global,
     numbering: &mut Numbering,
     value: &BorrowedValue<'_>,
+    word: JumpWord,
 ) -> Result<Statement, Error>
-    ensures ok { IfOk result (λ e. ReadsStatement stated.Decrement (borrowed_view value.now) (statement_view e) numbering.old numbering.new) }
-    ensures place { IfErr result (LocatesRow (statement_worded stated.Decrement) (borrowed_view value.now)) }
+    ensures ok { IfOk result (λ e. ReadsStatement (jump_word word) (borrowed_view value.now) (statement_view e) numbering.old numbering.new) }
+    ensures place { IfErr result (LocatesRow (statement_worded (jump_word word)) (borrowed_view value.now)) }
 {
-    match keyed_attributes(alloc, numbering, value, &["k", "attrs", "expr"]) {
-        Ok(attributes) => match expression_member(alloc, numbering, value, "expr") {
-            Ok(expression) => Ok(Statement::Decrement {
-                attributes,
-                expression,
-            }),
-            Err(error) => Err(error),
+    match keyed_attributes(alloc, numbering, value, &["k", "attrs"]) {
+        Ok(attributes) => match word {
+            JumpWord::Break => Ok(Statement::Break { attributes }),
+            JumpWord::Continue => Ok(Statement::Continue { attributes }),
+            JumpWord::Discard => Ok(Statement::Discard { attributes }),
         },
-        Err(error) => Err(error),
-    }
-}
-
-/// `break;`
-pub(crate) fn read_break(
-    alloc: Global,
-    numbering: &mut Numbering,
-    value: &BorrowedValue<'_>,
-) -> Result<Statement, Error>
-    ensures ok { IfOk result (λ e. ReadsStatement stated.Break (borrowed_view value.now) (statement_view e) numbering.old numbering.new) }
-    ensures place { IfErr result (LocatesRow (statement_worded stated.Break) (borrowed_view value.now)) }
-{
-    match keyed_attributes(alloc, numbering, value, &["k", "attrs"]) {
-        Ok(attributes) => Ok(Statement::Break { attributes }),
-        Err(error) => Err(error),
-    }
-}
-
-/// `continue;`
-pub(crate) fn read_continue(
-    alloc: Global,
-    numbering: &mut Numbering,
-    value: &BorrowedValue<'_>,
-) -> Result<Statement, Error>
-    ensures ok { IfOk result (λ e. ReadsStatement stated.Continue (borrowed_view value.now) (statement_view e) numbering.old numbering.new) }
-    ensures place { IfErr result (LocatesRow (statement_worded stated.Continue) (borrowed_view value.now)) }
-{
-    match keyed_attributes(alloc, numbering, value, &["k", "attrs"]) {
-        Ok(attributes) => Ok(Statement::Continue { attributes }),
-        Err(error) => Err(error),
-    }
-}
-
-/// `discard;`
-pub(crate) fn read_discard(
-    alloc: Global,
-    numbering: &mut Numbering,
-    value: &BorrowedValue<'_>,
-) -> Result<Statement, Error>
-    ensures ok { IfOk result (λ e. ReadsStatement stated.Discard (borrowed_view value.now) (statement_view e) numbering.old numbering.new) }
-    ensures place { IfErr result (LocatesRow (statement_worded stated.Discard) (borrowed_view value.now)) }
-{
-    match keyed_attributes(alloc, numbering, value, &["k", "attrs"]) {
-        Ok(attributes) => Ok(Statement::Discard { attributes }),
         Err(error) => Err(error),
     }
 }

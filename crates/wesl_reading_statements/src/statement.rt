@@ -15,11 +15,8 @@ ghost use Rattle.wesl_reading_statements.specs.Views.{condition_forest, turn_for
 
 use crate::declared::{read_declared, statement_of};
 use crate::selector::{cases_member, optional_break_if};
-use crate::simple::{
-    read_assignment, read_break, read_call_statement, read_continue, read_decrement, read_discard,
-    read_increment, read_return,
-};
-use crate::words::{StatementWord, statement_word};
+use crate::simple::{read_assignment, read_call_statement, read_jump, read_return, read_step};
+use crate::words::{JumpWord, StatementWord, StepWord, statement_word};
 use std::alloc::Global;
 use wesl_form::BorrowedValue;
 use wesl_names::Error;
@@ -78,16 +75,16 @@ fn read_worded(
     match word {
         StatementWord::Block => read_block(alloc, numbering, value),
         StatementWord::Assign => read_assignment(alloc, numbering, value),
-        StatementWord::Increment => read_increment(alloc, numbering, value),
-        StatementWord::Decrement => read_decrement(alloc, numbering, value),
+        StatementWord::Increment => read_step(alloc, numbering, value, StepWord::Increment),
+        StatementWord::Decrement => read_step(alloc, numbering, value, StepWord::Decrement),
         StatementWord::If => read_if(alloc, numbering, value),
         StatementWord::Switch => read_switch(alloc, numbering, value),
         StatementWord::Loop => read_loop(alloc, numbering, value),
         StatementWord::For => read_for(alloc, numbering, value),
         StatementWord::While => read_while(alloc, numbering, value),
-        StatementWord::Break => read_break(alloc, numbering, value),
-        StatementWord::Continue => read_continue(alloc, numbering, value),
-        StatementWord::Discard => read_discard(alloc, numbering, value),
+        StatementWord::Break => read_jump(alloc, numbering, value, JumpWord::Break),
+        StatementWord::Continue => read_jump(alloc, numbering, value, JumpWord::Continue),
+        StatementWord::Discard => read_jump(alloc, numbering, value, JumpWord::Discard),
         StatementWord::Return => read_return(alloc, numbering, value),
         StatementWord::Call => read_call_statement(alloc, numbering, value),
         StatementWord::Declared(word) => match read_declared(alloc, numbering, value, word) {
@@ -385,8 +382,12 @@ fn read_statements(
     };
     let mut statements = room(alloc, items.len());
     for (index, item) in items.iter().enumerate() {
-        let statement = read_statement(alloc, numbering, item);
-        statements = with_item(alloc, statements, index, statement);
+        statements = with_item(
+            alloc,
+            statements,
+            index,
+            read_statement(alloc, numbering, item),
+        );
     }
     statements
 }
@@ -442,8 +443,7 @@ fn read_elifs(
     };
     let mut clauses = room(alloc, items.len());
     for (index, item) in items.iter().enumerate() {
-        let clause = read_elif(alloc, numbering, item);
-        clauses = with_item(alloc, clauses, index, clause);
+        clauses = with_item(alloc, clauses, index, read_elif(alloc, numbering, item));
     }
     clauses
 }
@@ -534,8 +534,7 @@ fn read_clauses(
     };
     let mut clauses = room(alloc, items.len());
     for (index, item) in items.iter().enumerate() {
-        let clause = read_clause(alloc, numbering, item);
-        clauses = with_item(alloc, clauses, index, clause);
+        clauses = with_item(alloc, clauses, index, read_clause(alloc, numbering, item));
     }
     clauses
 }

@@ -53,6 +53,21 @@ pub(crate) enum StatementWord {
     Declared(DeclaredWord),
 }
 
+/// The words at `k` of statements that have attributes and an operand.
+#[derive(Clone, Copy)]
+pub(crate) enum StepWord {
+    Increment,
+    Decrement,
+}
+
+/// The words at `k` of statements that have attributes alone.
+#[derive(Clone, Copy)]
+pub(crate) enum JumpWord {
+    Break,
+    Continue,
+    Discard,
+}
+
 /// What a word names in modules and in functions.
 pub fn declared_word(text: &str) -> Option<DeclaredWord>
     ensures node { (outer : Kind) → option_map (declared_of outer) result ≡ look (declared_words outer) text.now }

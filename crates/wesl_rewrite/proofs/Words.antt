@@ -1,5 +1,5 @@
 -- What becomes of formulas, imports and directives.
-use Rattle.std.proofs.Common.{◌≡◌, Bool, true, false, ◌&&◌, List, [], ◌∷◌, map, refl, sym, ◌∙◌, subst, Option, None, Some, Vec, Global}
+use Rattle.std.proofs.Common.{◌≡◌, Bool, true, false, ◌&&◌, List, [], ◌∷◌, map, refl, sym, ◌∙◌, subst, Option, None, Some, Vec, Global, String}
 use Rattle.wesl_names.specs.declared.path.ModulePath.{ModulePath}
 use Rattle.wesl_syntax.specs.Tree.{Label, Forest, Tree, end, tree, before, forest_of, kind, attributes, attribute_node, if_attribute, elif_attribute, import_statement, diagnostic_directive, enable_directive, requires_directive}
 use Rattle.wesl_syntax.specs.Nodes.{is_formula}
@@ -55,11 +55,46 @@ formula_same types turns d l f i h = word (rw i refl) nothing
 formula_same statements turns d l f i h = statements_same turns d (tree l f end) h
 formula_same attribute_lists turns d l f i h = attributes_same turns d (tree l f end) h
 
-pub if_went : AttributesAreFlat → (k : Rule) (a : Bool) (e : Spanned Expression) → Went k a (before (operand_tree if_attribute e) end) a (before (operand_tree if_attribute e) end)
+if_went : AttributesAreFlat → (k : Rule) (a : Bool) (e : Spanned Expression) → Went k a (before (operand_tree if_attribute e) end) a (before (operand_tree if_attribute e) end)
 if_went law k a e = same a (before (operand_tree if_attribute e) end) (formula_same k.sought k.turns k.inner (kind if_attribute) (before (expression_tree e) end) refl (rw (operand_flat law e) refl))
 
-pub elif_went : AttributesAreFlat → (k : Rule) (a : Bool) (e : Spanned Expression) → Went k a (before (operand_tree elif_attribute e) end) a (before (operand_tree elif_attribute e) end)
+elif_went : AttributesAreFlat → (k : Rule) (a : Bool) (e : Spanned Expression) → Went k a (before (operand_tree elif_attribute e) end) a (before (operand_tree elif_attribute e) end)
 elif_went law k a e = same a (before (operand_tree elif_attribute e) end) (formula_same k.sought k.turns k.inner (kind elif_attribute) (before (expression_tree e) end) refl (rw (operand_flat law e) refl))
+
+-- an attribute without operands, or with a formula: nothing is replaced in it
+pub rest_went : AttributesAreFlat → (k : Rule) (a : Bool) (x : Attribute)
+    → ((e : Spanned Expression) → x ≡ attr.Align e → ⊥)
+    → ((e : Spanned Expression) → x ≡ attr.Binding e → ⊥)
+    → ((e : Spanned Expression) → x ≡ attr.BlendSrc e → ⊥)
+    → ((e : Spanned Expression) → x ≡ attr.Group e → ⊥)
+    → ((e : Spanned Expression) → x ≡ attr.Id e → ⊥)
+    → ((e : Spanned Expression) → x ≡ attr.Location e → ⊥)
+    → ((e : Spanned Expression) → x ≡ attr.Size e → ⊥)
+    → ((e : Spanned Expression) (y z : Option (Spanned Expression)) → x ≡ attr.WorkgroupSize e y z → ⊥)
+    → ((n : String Global) (v : Option (Vec (Spanned Expression) Global)) → x ≡ attr.Custom n v → ⊥)
+    → Went k a (before (attribute_view x) end) a (before (attribute_view x) end)
+rest_went law k a (attr.Align e) n0 n1 n2 n3 n4 n5 n6 n7 n8 = absurd (n0 e refl)
+rest_went law k a (attr.Binding e) n0 n1 n2 n3 n4 n5 n6 n7 n8 = absurd (n1 e refl)
+rest_went law k a (attr.BlendSrc e) n0 n1 n2 n3 n4 n5 n6 n7 n8 = absurd (n2 e refl)
+rest_went law k a (attr.Group e) n0 n1 n2 n3 n4 n5 n6 n7 n8 = absurd (n3 e refl)
+rest_went law k a (attr.Id e) n0 n1 n2 n3 n4 n5 n6 n7 n8 = absurd (n4 e refl)
+rest_went law k a (attr.Location e) n0 n1 n2 n3 n4 n5 n6 n7 n8 = absurd (n5 e refl)
+rest_went law k a (attr.Size e) n0 n1 n2 n3 n4 n5 n6 n7 n8 = absurd (n6 e refl)
+rest_went law k a (attr.WorkgroupSize e y z) n0 n1 n2 n3 n4 n5 n6 n7 n8 = absurd (n7 e y z refl)
+rest_went law k a (attr.Custom n v) n0 n1 n2 n3 n4 n5 n6 n7 n8 = absurd (n8 n v refl)
+rest_went law k a (attr.If e) n0 n1 n2 n3 n4 n5 n6 n7 n8 = if_went law k a e
+rest_went law k a (attr.Elif e) n0 n1 n2 n3 n4 n5 n6 n7 n8 = elif_went law k a e
+rest_went law k a (attr.Builtin n) n0 n1 n2 n3 n4 n5 n6 n7 n8 = same a (before (attribute_view (attr.Builtin n)) end) (hollow_same k (before (attribute_view (attr.Builtin n)) end) refl)
+rest_went law k a attr.Const n0 n1 n2 n3 n4 n5 n6 n7 n8 = same a (before (attribute_view attr.Const) end) (hollow_same k (before (attribute_view attr.Const) end) refl)
+rest_went law k a (attr.Diagnostic s r) n0 n1 n2 n3 n4 n5 n6 n7 n8 = same a (before (attribute_view (attr.Diagnostic s r)) end) (hollow_same k (before (attribute_view (attr.Diagnostic s r)) end) refl)
+rest_went law k a (attr.Interpolate n) n0 n1 n2 n3 n4 n5 n6 n7 n8 = same a (before (attribute_view (attr.Interpolate n)) end) (hollow_same k (before (attribute_view (attr.Interpolate n)) end) refl)
+rest_went law k a attr.Invariant n0 n1 n2 n3 n4 n5 n6 n7 n8 = same a (before (attribute_view attr.Invariant) end) (hollow_same k (before (attribute_view attr.Invariant) end) refl)
+rest_went law k a attr.MustUse n0 n1 n2 n3 n4 n5 n6 n7 n8 = same a (before (attribute_view attr.MustUse) end) (hollow_same k (before (attribute_view attr.MustUse) end) refl)
+rest_went law k a attr.Vertex n0 n1 n2 n3 n4 n5 n6 n7 n8 = same a (before (attribute_view attr.Vertex) end) (hollow_same k (before (attribute_view attr.Vertex) end) refl)
+rest_went law k a attr.Fragment n0 n1 n2 n3 n4 n5 n6 n7 n8 = same a (before (attribute_view attr.Fragment) end) (hollow_same k (before (attribute_view attr.Fragment) end) refl)
+rest_went law k a attr.Compute n0 n1 n2 n3 n4 n5 n6 n7 n8 = same a (before (attribute_view attr.Compute) end) (hollow_same k (before (attribute_view attr.Compute) end) refl)
+rest_went law k a attr.Publish n0 n1 n2 n3 n4 n5 n6 n7 n8 = same a (before (attribute_view attr.Publish) end) (hollow_same k (before (attribute_view attr.Publish) end) refl)
+rest_went law k a attr.Else n0 n1 n2 n3 n4 n5 n6 n7 n8 = same a (before (attribute_view attr.Else) end) (hollow_same k (before (attribute_view attr.Else) end) refl)
 
 -- an import or a directive: what stands in its attributes is passed over, but they are a list of attributes
 stays : (k : Rule) (a b : Bool) (l : Label) (inner rest : Forest) (t : Tree) → Replaced k (tree l (tree (kind attributes) inner rest) end) (tree l (tree (kind attributes) inner rest) end)

@@ -162,10 +162,8 @@ pub fn found_value(row: Row<'_>, item: Option<(&ModulePath, &str)>) -> Value {
 
 /// The unit of one declaration, which is a tree.
 pub fn unit_of_one(row: Row<'_>, declaration: Value) -> TranslationUnit {
-    let mut declarations = List::new(row.alloc);
-    declarations.put(declaration);
     let mut tree = Object::new(row.alloc);
-    tree.put("declarations", declarations.end(row));
+    tree.put("declarations", Value::Array(row.one(declaration)));
     row.of(&tree.end(row)).as_unit()
 }
 
@@ -179,10 +177,11 @@ fn line_value(row: Row<'_>, answer: Value) -> Value {
 
 /// The line of a row. Refused where something was noted of it.
 pub fn line(row: Row<'_>, answer: Value) -> Result<String, anyhow::Error> {
-    let line = line_value(row, answer);
+    let line = line_value(row, answer).to_string(row.alloc);
+    let text = row.or(line, String::new(row.alloc));
     let noted = row.noted();
     if noted.is_empty() {
-        Ok(line.to_string(row.alloc)?)
+        Ok(text)
     } else {
         Err(anyhow::Error::msg(noted))
     }

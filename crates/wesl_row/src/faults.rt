@@ -63,17 +63,36 @@ pub fn stands(row: Row<'_>, is_refused: bool, stands: Value) -> Value {
     }
 }
 
-/// The answer of an error.
-pub fn of_error(row: Row<'_>, error: &Error) -> Value {
-    object_of(row, error).end(row)
+/// What a call answers that was refused, where that is told in words.
+pub trait Worded: Drop {
+    /// The words, as an answer.
+    fn words(&self, row: Row<'_>) -> Value;
 }
 
-/// The answer of what a diagnostic tells, its error alone.
-pub fn of_diagnostic(row: Row<'_>, diagnostic: &Diagnostic) -> Value {
-    of_error(row, &diagnostic.error)
+impl Worded for Error {
+    fn words(&self, row: Row<'_>) -> Value {
+        object_of(row, self).end(row)
+    }
 }
 
-/// The same with the declaration that holds the fault.
+/// Of a diagnostic its error alone is told.
+impl Worded for Diagnostic {
+    fn words(&self, row: Row<'_>) -> Value {
+        self.error.words(row)
+    }
+}
+
+/// A refusal of a resolver; of what a diagnostic tells there, where it was too.
+impl Worded for ResolveError {
+    fn words(&self, row: Row<'_>) -> Value {
+        match self {
+            ResolveError::Error(diagnostic) => located(row, diagnostic),
+            error => of_refusal(row, error).end(row),
+        }
+    }
+}
+
+/// The answer of a diagnostic, with the declaration that holds the fault.
 pub fn declared(row: Row<'_>, diagnostic: &Diagnostic) -> Value {
     let mut answer = object_of(row, &diagnostic.error);
     answer.put("declaration", owned_value(row, &diagnostic.declaration));
@@ -168,20 +187,12 @@ fn of_refusal(row: Row<'_>, error: &ResolveError) -> Object {
     }
 }
 
-/// The answer of a refusal of a resolver; of what a diagnostic tells there, where it was.
-pub fn of_resolver(row: Row<'_>, error: &ResolveError) -> Value {
-    match error {
-        ResolveError::Error(diagnostic) => located(row, diagnostic),
-        error => of_refusal(row, error).end(row),
-    }
-}
-
 /// A fault of a call that takes so many arguments and got others.
 fn of_count(row: Row<'_>, name: &str, expected: usize, got: usize) -> Object {
     let mut arguments = List::new(row.alloc);
     arguments.text(name);
-    arguments.text(row.digits(expected).as_str());
-    arguments.text(row.digits(got).as_str());
+    arguments.put(Value::String(row.digits(expected)));
+    arguments.put(Value::String(row.digits(got)));
     told(row, "ParamCount", arguments)
 }
 

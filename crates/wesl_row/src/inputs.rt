@@ -2,6 +2,7 @@
 ghost use Rattle.std.specs.Prelude.{◌≡◌, false};
 ghost use Rattle.wesl_names.specs.Path.{path_view, is_relative};
 
+use crate::faults::Worded;
 use crate::refusals::{MEMORY, Refusal};
 use serde_json::Value;
 use std::alloc::Global;
@@ -57,6 +58,19 @@ impl<'a> Row<'a> {
                 other
             }
         }
+    }
+
+    /// What a call answers, or, where it was refused, its fault as an answer.
+    pub fn told<T: Drop, E: Worded>(self, outcome: Result<T, E>) -> Result<T, Value> {
+        match outcome {
+            Ok(value) => Ok(value),
+            Err(fault) => Err(self.answer_of(fault)),
+        }
+    }
+
+    /// The answer of a fault, which is let go here.
+    pub fn answer_of<E: Worded>(self, fault: E) -> Value {
+        fault.words(self)
     }
 
     /// Notes why a call was refused, if it was.
@@ -303,14 +317,9 @@ impl<'a> Row<'a> {
         Value::String(self.or(outcome, String::new(self.alloc)))
     }
 
-    /// The same of a call that names something.
-    pub fn text_or_none(self, outcome: Result<String, Error>) -> Value {
-        self.printed(outcome)
-    }
-
     /// The text of a path as a value.
     pub fn path_value(self, path: &ModulePath) -> Value {
-        self.text_or_none(path.to_text(self.alloc))
+        self.printed(path.to_text(self.alloc))
     }
 
     /// The tree of a unit as a value.

@@ -15,6 +15,6 @@ mod texts;
 pub use answers::{
     List, Object, found_value, item_value, line, names_value, numbers_value, unit_of_one,
 };
-pub use faults::{declared, fault, located, of_diagnostic, of_error, of_resolver, refused, stands};
+pub use faults::{Worded, declared, fault, located, refused, stands};
 pub use inputs::{Row, is_refused, text_of};
 pub use texts::printed;

@@ -1,35 +1,29 @@
 //! Texts of units as answers.
 use crate::answers::Object;
-use crate::faults::of_diagnostic;
 use crate::inputs::Row;
 use serde_json::Value;
 use wesl_json::JsonText;
 use wesl_resolver::UnitText;
-use wesl_tree::{Diagnostic, TranslationUnit};
+use wesl_tree::TranslationUnit;
 
 /// The text that is printed of a unit, and whether it is read with the unit's spelling; or the fault where it is not
-/// printed.
+/// printed or not read.
 pub fn printed(row: Row<'_>, unit: &TranslationUnit) -> Value {
-    printed_as(row, unit, &JsonText.print(row.alloc, unit))
-}
-
-/// The same of a text.
-fn printed_as(row: Row<'_>, unit: &TranslationUnit, text: &Result<String, Diagnostic>) -> Value {
-    match text {
+    match row.told(JsonText.print(row.alloc, unit)) {
         Ok(text) => printed_again(row, unit, text.as_str()),
-        Err(told) => of_diagnostic(row, told),
+        Err(fault) => fault,
     }
 }
 
 /// A unit's text, and whether it is read with the unit's spelling; or the fault where it is not read.
 fn printed_again(row: Row<'_>, unit: &TranslationUnit, printed: &str) -> Value {
-    match &JsonText.read(row.alloc, printed) {
+    match row.told(JsonText.read(row.alloc, printed)) {
         Ok(again) => {
             let mut answer = Object::new(row.alloc);
             answer.text("printed", printed);
             answer.flag("read_again", again.same_spelling(unit));
             answer.end(row)
         }
-        Err(told) => of_diagnostic(row, told),
+        Err(fault) => fault,
     }
 }

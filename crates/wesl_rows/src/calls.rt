@@ -64,23 +64,15 @@ fn of_paths(row: Row<'_>, call: &str) -> Value {
 /// Calls of mappers, and what is then asked of what they recorded.
 fn of_mappers(row: Row<'_>, call: &str) -> Value {
     match call {
-        "SourceMapper::mangle" => mappers::mangled(row, "mangle"),
-        "SourceMapper::mangle, then finish and decls" => mappers::mangled(row, "decls"),
-        "SourceMapper::unmangle" => mappers::mangled(row, "unmangle"),
-        "SourceMapper::mangle_types" => mappers::mangled(row, "mangle_types"),
-        "SourceMapper::resolve_module" => mappers::resolved(row, "resolve_module", ""),
-        "SourceMapper::resolve_module, then get_source" => {
-            mappers::resolved(row, "resolve_module", "get_source")
-        }
-        "SourceMapper::resolve_module, then finish and get_default_source" => {
-            mappers::resolved(row, "resolve_module", "get_default_source")
-        }
-        "SourceMapper::resolve_source, then get_source" => {
-            mappers::resolved(row, "resolve_source", "get_source")
-        }
-        "SourceMapper::new, then finish and get_default_source" => {
-            mappers::resolved(row, "new", "get_default_source")
-        }
+        "SourceMapper::mangle"
+        | "SourceMapper::mangle, then finish and decls"
+        | "SourceMapper::unmangle"
+        | "SourceMapper::mangle_types" => mappers::mangled(row, call),
+        "SourceMapper::resolve_module"
+        | "SourceMapper::resolve_module, then get_source"
+        | "SourceMapper::resolve_module, then finish and get_default_source"
+        | "SourceMapper::resolve_source, then get_source"
+        | "SourceMapper::new, then finish and get_default_source" => mappers::resolved(row, call),
         "SourceMapper::finish, or what stands" => mappers::finished_or_left(row),
         _ => of_maps(row, call),
     }
@@ -91,8 +83,8 @@ fn of_maps(row: Row<'_>, call: &str) -> Value {
     match call {
         "BasicSourceMap::decls" => maps::names(row),
         "BasicSourceMap::try_clone" => maps::copied(row),
-        "BasicSourceMap::add_decl, or what stands" => maps::added_or_left(row),
-        "BasicSourceMap::add_source, or what stands" => maps::added_or_left(row),
+        "BasicSourceMap::add_decl, or what stands" | "BasicSourceMap::add_source, or what stands" =>
+            maps::added_or_left(row),
         _ => match call.split_once("::") {
             Some((map, look)) => maps::looked_up(row, map, look),
             None => row.text_value("no such row"),

@@ -7,32 +7,29 @@ use wesl::{
     Diagnostic, Feature, Features, GlobalDeclaration, GlobalDeclarationNode, Names,
     TranslationUnit, eval_attr,
 };
-use wesl_row::{Row, fault, is_refused, of_diagnostic};
+use wesl_row::{Row, fault, is_refused};
 
 /// A copy of a unit.
 fn copy_of(row: Row<'_>, unit: &TranslationUnit) -> TranslationUnit {
     row.unit_or_none(unit.try_clone(row.alloc))
 }
 
-/// The fault of a refused run, which is to leave the unit as it was.
-fn refusal(row: Row<'_>, told: &Diagnostic, is_left: bool) -> Value {
-    if is_left {
-        of_diagnostic(row, told)
-    } else {
-        fault(row, "the refused run changed the unit")
-    }
-}
-
-/// What a run leaves of a unit, or the fault that it tells.
+/// What a run leaves of a unit, or the fault that it tells, which is to leave the unit as it was.
 fn told_of(
     row: Row<'_>,
-    outcome: &Result<(), Diagnostic>,
+    outcome: Result<(), Diagnostic>,
     before: &TranslationUnit,
     judged: &TranslationUnit,
 ) -> Value {
-    match outcome {
+    match row.told(outcome) {
         Ok(()) => row.tree_of(judged),
-        Err(told) => refusal(row, told, judged.same_spelling(before)),
+        Err(told) => {
+            if judged.same_spelling(before) {
+                told
+            } else {
+                fault(row, "the refused run changed the unit")
+            }
+        }
     }
 }
 
@@ -43,7 +40,7 @@ pub fn left(row: Row<'_>) -> Value {
     let before = row.tree();
     let mut judged = copy_of(row, &before);
     let outcome = run(row.alloc, &mut judged, &features);
-    told_of(row, &outcome, &before, &judged)
+    told_of(row, outcome, &before, &judged)
 }
 
 /// One of three answers by a number.
@@ -152,14 +149,6 @@ fn simplify_all(
     Ok(())
 }
 
-/// A unit, or the fault that is told of a formula.
-fn simplified(row: Row<'_>, outcome: &Result<(), Diagnostic>, unit: &TranslationUnit) -> Value {
-    match outcome {
-        Ok(()) => row.tree_of(unit),
-        Err(told) => of_diagnostic(row, told),
-    }
-}
-
 /// The unit of the `tree`, in whose assertions stands what the `features`, and then `next` if they are there, leave of
 /// the formulas; or the fault that is told of a formula.
 pub fn formulas_left(row: Row<'_>) -> Value {
@@ -167,5 +156,8 @@ pub fn formulas_left(row: Row<'_>) -> Value {
     let (names, imports, directives, mut declarations) = row.tree().into_parts();
     let outcome = simplify_all(row.alloc, &names, &mut declarations, &features);
     let unit = row.made(TranslationUnit::from_parts(names, imports, directives, declarations));
-    simplified(row, &outcome, &unit)
+    match row.told(outcome) {
+        Ok(()) => row.tree_of(&unit),
+        Err(told) => told,
+    }
 }

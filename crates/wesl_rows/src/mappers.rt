@@ -11,11 +11,11 @@ use wesl::{
     NoMangler, NoResolver, Preprocessor, ResolveError, Resolver, SourceMap, SourceMapper,
     TranslationUnit, VirtualResolver,
 };
-use wesl_row::{Row, is_refused, item_value, of_resolver, refused};
+use wesl_row::{Row, is_refused, item_value, refused};
 
 /// The name that a mangler gives to the item of a row.
 fn named<M: Mangler>(row: Row<'_>, mangler: &mut M) -> Value {
-    row.text_or_none(mangler.mangle(row.alloc, &row.path("path"), row.text("item")))
+    row.printed(mangler.mangle(row.alloc, &row.path("path"), row.text("item")))
 }
 
 /// The item that a mangler reads the name of a row as, null where it reads none.
@@ -29,7 +29,7 @@ fn read<M: Mangler>(row: Row<'_>, mangler: &M) -> Value {
 /// The name that a mangler gives to the third variant of the item of a row, without types.
 fn variant<M: Mangler>(row: Row<'_>, mangler: &M) -> Value {
     let names = Names::new(row.alloc);
-    row.text_or_none(mangler.mangle_types(row.alloc, &names, row.text("item"), 3, &[]))
+    row.printed(mangler.mangle_types(row.alloc, &names, row.text("item"), 3, &[]))
 }
 
 /// What a mapper has recorded in the end.
@@ -52,51 +52,33 @@ fn recorded<R: Drop, M: Mangler + Drop>(row: Row<'_>, mapper: SourceMapper<R, M>
     maps::listed(row, &finished(row, mapper))
 }
 
-/// What a mapper of a mangler's names answers to the question of a row.
-fn answered<M: Mangler + Drop>(row: Row<'_>, question: &str, mangler: M) -> Value {
+/// What a mapper of a mangler's names answers to a call.
+fn answered<M: Mangler + Drop>(row: Row<'_>, call: &str, mangler: M) -> Value {
     let root = ModulePath::new_root(row.alloc);
     let mut mapper = SourceMapper::new(row.alloc, root, NoResolver, mangler);
-    match question {
-        "mangle" => named(row, &mut mapper),
-        "unmangle" => read(row, &mapper),
-        "mangle_types" => variant(row, &mapper),
+    match call {
+        "SourceMapper::mangle" => named(row, &mut mapper),
+        "SourceMapper::unmangle" => read(row, &mapper),
+        "SourceMapper::mangle_types" => variant(row, &mapper),
         _ => recorded(row, mapper),
     }
 }
 
-/// What a mapper of the names of the `mangler` answers to the question of a row.
-pub fn mangled(row: Row<'_>, question: &str) -> Value {
+/// What a mapper of the names of the `mangler` answers to a call.
+pub fn mangled(row: Row<'_>, call: &str) -> Value {
     match row.text("mangler") {
-        "EscapeMangler" => answered(row, question, EscapeMangler),
-        _ => answered(row, question, NoMangler),
+        "EscapeMangler" => answered(row, call, EscapeMangler),
+        _ => answered(row, call, NoMangler),
     }
 }
 
-/// The answer of a refusal; want of memory is none.
-fn refusal(row: Row<'_>, error: &ResolveError) -> Value {
-    match error {
-        ResolveError::Memory => {
-            row.refused_if(true);
-            Value::Null
-        }
-        error => of_resolver(row, error),
+/// What a resolver answers, or its refusal as an answer; want of memory is noted, so that the row has no line.
+fn told<T: Drop>(row: Row<'_>, outcome: Result<T, ResolveError>) -> Result<T, Value> {
+    match &outcome {
+        Err(ResolveError::Memory) => row.refused_if(true),
+        _ => {}
     }
-}
-
-/// The answer of a source.
-fn source_told(row: Row<'_>, source: Result<String, ResolveError>) -> Value {
-    match source {
-        Ok(source) => Value::String(source),
-        Err(error) => refusal(row, &error),
-    }
-}
-
-/// The answer of a unit.
-fn unit_told(row: Row<'_>, unit: &Result<TranslationUnit, ResolveError>) -> Value {
-    match unit {
-        Ok(unit) => row.tree_of(unit),
-        Err(error) => refusal(row, error),
-    }
+    row.told(outcome)
 }
 
 /// The unit that a resolver gives for the path of a row.
@@ -104,11 +86,10 @@ fn module<R: Resolver>(row: Row<'_>, resolver: &mut R) -> Value
     requires { R.ready resolver.old }
 {
     let path = row.rooted("path");
-    let unit = resolver.resolve_module(row.alloc, &path);
-    let answer = unit_told(row, &unit);
-    // as a generic function lets go of it, which costs the proof a fraction
-    drop(unit);
-    answer
+    match told(row, resolver.resolve_module(row.alloc, &path)) {
+        Ok(unit) => row.tree_of(&unit),
+        Err(fault) => fault,
+    }
 }
 
 /// The source that a resolver gives for the path of a row.
@@ -116,17 +97,22 @@ fn source<R: Resolver>(row: Row<'_>, resolver: &mut R) -> Value
     requires { R.ready resolver.old }
 {
     let path = row.rooted("path");
-    source_told(row, resolver.resolve_source(row.alloc, &path))
+    match told(row, resolver.resolve_source(row.alloc, &path)) {
+        Ok(source) => Value::String(source),
+        Err(fault) => fault,
+    }
 }
 
-/// What a resolver answers to the question of a row.
-fn asked<R: Resolver>(row: Row<'_>, question: &str, resolver: &mut R) -> Value
+/// What a resolver answers to a call, or to the first of two.
+fn asked<R: Resolver>(row: Row<'_>, call: &str, resolver: &mut R) -> Value
     requires { R.ready resolver.old }
 {
-    match question {
-        "resolve_module" => module(row, resolver),
-        "resolve_source" => source(row, resolver),
-        _ => Value::Null,
+    if call.starts_with("SourceMapper::resolve_module") {
+        module(row, resolver)
+    } else if call.starts_with("SourceMapper::resolve_source") {
+        source(row, resolver)
+    } else {
+        Value::Null
     }
 }
 
@@ -135,22 +121,18 @@ fn default_source<R: Drop, M: Drop>(row: Row<'_>, mapper: SourceMapper<R, M>) ->
     row.found_text(finished(row, mapper).get_default_source())
 }
 
-/// What a mapper of a resolver's modules answers to the question of a row, or what is then looked up in its record.
-fn passed_on<R: Resolver + Drop>(
-    row: Row<'_>,
-    question: &str,
-    look: &str,
-    root: ModulePath,
-    resolver: R,
-) -> Value
+/// What a mapper of a resolver's modules answers to a call, or what is then looked up in its record.
+fn passed_on<R: Resolver + Drop>(row: Row<'_>, call: &str, root: ModulePath, resolver: R) -> Value
     requires { R.ready resolver }
 {
     let mut mapper = SourceMapper::new(row.alloc, root, resolver, NoMangler);
-    let answer = asked(row, question, &mut mapper);
-    match look {
-        "get_source" => maps::source(row, "source_of", &mapper.sourcemap),
-        "get_default_source" => default_source(row, mapper),
-        _ => answer,
+    let answer = asked(row, call, &mut mapper);
+    if call.ends_with("get_source") {
+        maps::source(row, "source_of", &mapper.sourcemap)
+    } else if call.ends_with("get_default_source") {
+        default_source(row, mapper)
+    } else {
+        answer
     }
 }
 
@@ -173,12 +155,12 @@ fn without_x(alloc: Global, unit: TranslationUnit) -> Result<TranslationUnit, Er
 }
 
 /// The same for a mapper of the modules of a row, of which is left what the feature X, disabled, leaves.
-pub fn resolved(row: Row<'_>, question: &str, look: &str) -> Value {
+pub fn resolved(row: Row<'_>, call: &str) -> Value {
     let alloc = row.alloc;
     let root = row.rooted("root");
     let modules = row.modules("modules");
     let left = Preprocessor::new(modules, |unit: TranslationUnit| without_x(alloc, unit));
-    passed_on(row, question, look, root, left)
+    passed_on(row, call, root, left)
 }
 
 type Recorder = SourceMapper<VirtualResolver<JsonText>, EscapeMangler>;

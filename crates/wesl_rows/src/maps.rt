@@ -59,9 +59,9 @@ fn all_named(row: Row<'_>, decls: &[(&str, &ModulePath, &str)]) -> Value {
 
 /// Every name of a map with its path and its item.
 pub fn listed(row: Row<'_>, map: &BasicSourceMap) -> Value {
-    match map.decls(row.alloc) {
-        Ok(decls) => all_named(row, decls.as_slice()),
-        Err(_) => {
+    match map.decls(row.alloc).ok() {
+        Some(decls) => all_named(row, decls.as_slice()),
+        None => {
             row.refused_if(true);
             Value::Null
         }

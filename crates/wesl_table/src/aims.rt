@@ -1,15 +1,15 @@
 //! Where the paths before names lead (WESL, "Imports").
-ghost use Rattle.std.specs.Prelude.{◌≡◌, [], false, All, IfOk, IfErr, OnOk};
-ghost use Rattle.wesl_names.specs.declared.errors.Error as error;
+ghost use Rattle.std.specs.Prelude.{◌≡◌, [], false, All, IfOk, OnOk};
 ghost use Rattle.wesl_names.specs.Path.{path_view, origin_view, join, is_relative};
 ghost use Rattle.wesl_table.specs.Uses as uses;
 ghost use Rattle.wesl_table.specs.Scope.{aims_in, item_in_place};
 ghost use Rattle.wesl_table.specs.Spelling.{spelled_import};
 ghost use Rattle.wesl_table.specs.Walks.{AddsPaths, paths_of};
 
+use crate::memory::{copied, memory};
 use crate::numbers::spelling;
-use std::alloc::Global;
-use wesl_names::{Error, Ident, ModulePath, Names, PathOrigin};
+use std::alloc::{AllocError, Global};
+use wesl_names::{Ident, ModulePath, Names, PathOrigin};
 use wesl_symbols::symbols::Import;
 
 /// A module as its names are read: where it stands, its table of names, and its imports.
@@ -36,13 +36,12 @@ fn module_in_place(
     names: &Names,
     path: &ModulePath,
     import: &Import<ModulePath, Ident>,
-) -> Result<ModulePath, Error>
-    ensures value { IfOk result (λ m. path_view m ≡ item_in_place (path_view path.now) (spelled_import names.now import.now)) }
-    ensures refused { IfErr result (λ e. e ≡ error.Memory) }
+) -> Result<ModulePath, AllocError>
+    ensures { IfOk result (λ m. path_view m ≡ item_in_place (path_view path.now) (spelled_import names.now import.now)) }
 {
-    let mut item = import.path.try_clone(alloc)?;
-    item.push(spelling(names, import.item))?;
-    item.join(alloc, &path.components)
+    let mut item = copied(alloc, &import.path)?;
+    memory(item.push(spelling(names, import.item)))?;
+    memory(item.join(alloc, &path.components))
 }
 
 /// The module that stands for a path which begins with the name that the import binds.
@@ -52,9 +51,8 @@ fn add_in_place(
     found: &mut Vec<ModulePath>,
     path: &ModulePath,
     import: &Import<ModulePath, Ident>,
-) -> Result<(), Error>
-    ensures found { OnOk result (AddsPaths found.old found.new (uses.module_in_place (path_view path.now) (spelled_import names.now import.now))) }
-    ensures refused { IfErr result (λ e. e ≡ error.Memory) }
+) -> Result<(), AllocError>
+    ensures { OnOk result (AddsPaths found.old found.new (uses.module_in_place (path_view path.now) (spelled_import names.now import.now))) }
 {
     if !is_package(&path.origin, spelling(names, import.bound)) {
         return Ok(());
@@ -69,12 +67,11 @@ fn add_joined(
     own: &ModulePath,
     found: &mut Vec<ModulePath>,
     path: &ModulePath,
-) -> Result<(), Error>
-    ensures found { OnOk result (paths_of found.new ≡ uses.or_else (paths_of found.old) (join (path_view own.now) (path_view path.now))) }
-    ensures refused { IfErr result (λ e. e ≡ error.Memory) }
+) -> Result<(), AllocError>
+    ensures { OnOk result (paths_of found.new ≡ uses.or_else (paths_of found.old) (join (path_view own.now) (path_view path.now))) }
 {
     if found.is_empty() {
-        found.push(own.join_path(alloc, path)?)?;
+        found.push(memory(own.join_path(alloc, path))?)?;
     }
     Ok(())
 }
@@ -85,10 +82,9 @@ fn add_aims(
     scope: &Scope<'_>,
     found: &mut Vec<ModulePath>,
     path: &ModulePath,
-) -> Result<(), Error>
+) -> Result<(), AllocError>
     requires { found.old.items ≡ [] }
-    ensures found { OnOk result (paths_of found.new ≡ aims_in scope.now (path_view path.now)) }
-    ensures refused { IfErr result (λ e. e ≡ error.Memory) }
+    ensures { OnOk result (paths_of found.new ≡ aims_in scope.now (path_view path.now)) }
 {
     for import in scope.imports {
         add_in_place(alloc, scope.names, found, path, import)?;
@@ -98,12 +94,15 @@ fn add_aims(
 
 /// The modules that a path before a name aims at: where it begins with a name that imports bind, the items of these
 /// imports in its place, else the path as the module means it. Refused for want of memory alone.
-pub fn aims(alloc: Global, scope: &Scope<'_>, path: &ModulePath) -> Result<Vec<ModulePath>, Error>
+pub fn aims(
+    alloc: Global,
+    scope: &Scope<'_>,
+    path: &ModulePath,
+) -> Result<Vec<ModulePath>, AllocError>
     requires own { is_relative (path_view scope.now.own.now) ≡ false }
     requires imports { All (λ i. is_relative (path_view i.path) ≡ false) scope.now.imports.now }
     ensures asked { IfOk result (λ found. All (λ p. is_relative (path_view p) ≡ false) found.items) }
     ensures aims { IfOk result (λ found. paths_of found ≡ aims_in scope.now (path_view path.now)) }
-    ensures refused { IfErr result (λ e. e ≡ error.Memory) }
 {
     let mut found = Vec::new(alloc);
     add_aims(alloc, scope, &mut found, path)?;

@@ -1,6 +1,5 @@
 //! What the imports of a module bind (WESL, "Imports").
-ghost use Rattle.std.specs.Prelude.{◌≡◌, ◌++◌, false, All, map, option_map, string_bytes, IfOk, IfErr, OnOk};
-ghost use Rattle.wesl_names.specs.declared.errors.Error as error;
+ghost use Rattle.std.specs.Prelude.{◌≡◌, ◌++◌, false, All, map, option_map, string_bytes, IfOk, OnOk};
 ghost use Rattle.wesl_names.specs.Path.{path_view, is_relative};
 ghost use Rattle.wesl_syntax.specs.Tree.{before, end, forest_of};
 ghost use Rattle.wesl_syntax.specs.View.{attribute_view, attributes_tree, content_view, entry_view, item_view, imports_tree};
@@ -8,8 +7,9 @@ ghost use Rattle.wesl_table.specs.Imports as imports;
 ghost use Rattle.wesl_table.specs.Base.{base_view};
 ghost use Rattle.wesl_table.specs.Walks.{HasImported, imports_of, statement_imports};
 
-use std::alloc::Global;
-use wesl_names::{Error, Ident, ModulePath, PathOrigin};
+use crate::memory::{copied, memory};
+use std::alloc::{AllocError, Global};
+use wesl_names::{Ident, ModulePath, PathOrigin};
 use wesl_symbols::symbols::Import;
 use wesl_syntax::{
     Attribute, Attributes, Import as ImportEntry, ImportContent, ImportItem, ImportStatement,
@@ -29,12 +29,11 @@ enum Base {
 
 impl Base {
     /// Where the entry with these components leads.
-    fn entered(&self, alloc: Global, components: &[String]) -> Result<Base, Error>
-        ensures base { IfOk result (λ b. base_view b ≡ imports.entered (base_view self.now) (map string_bytes components.now)) }
-        ensures refused { IfErr result (λ e. e ≡ error.Memory) }
+    fn entered(&self, alloc: Global, components: &[String]) -> Result<Base, AllocError>
+        ensures { IfOk result (λ b. base_view b ≡ imports.entered (base_view self.now) (map string_bytes components.now)) }
     {
         match self {
-            Base::At(path) => Ok(Base::At(path.join(alloc, components)?)),
+            Base::At(path) => Ok(Base::At(memory(path.join(alloc, components))?)),
             Base::Nowhere => Ok(Base::Nowhere),
             Base::Unset => in_package(alloc, components),
         }
@@ -42,25 +41,23 @@ impl Base {
 }
 
 /// The module that these components name, of which the first is a package.
-fn in_package(alloc: Global, components: &[String]) -> Result<Base, Error>
-    ensures base { IfOk result (λ b. base_view b ≡ imports.entered imports.unset (map string_bytes components.now)) }
-    ensures refused { IfErr result (λ e. e ≡ error.Memory) }
+fn in_package(alloc: Global, components: &[String]) -> Result<Base, AllocError>
+    ensures { IfOk result (λ b. base_view b ≡ imports.entered imports.unset (map string_bytes components.now)) }
 {
     let Some((package, names)) = components.split_first() else {
         return Ok(Base::Nowhere);
     };
     let origin = PathOrigin::Package(package.clone()?);
     let root = ModulePath::new(origin, Vec::new(alloc));
-    Ok(Base::At(root.join(alloc, names)?))
+    Ok(Base::At(memory(root.join(alloc, names))?))
 }
 
 /// Where a statement with this path leads in the module at `own`.
-fn base_of(alloc: Global, own: &ModulePath, path: &Option<ModulePath>) -> Result<Base, Error>
-    ensures base { IfOk result (λ b. base_view b ≡ imports.base_of (path_view own.now) (option_map path_view path.now)) }
-    ensures refused { IfErr result (λ e. e ≡ error.Memory) }
+fn base_of(alloc: Global, own: &ModulePath, path: &Option<ModulePath>) -> Result<Base, AllocError>
+    ensures { IfOk result (λ b. base_view b ≡ imports.base_of (path_view own.now) (option_map path_view path.now)) }
 {
     match path {
-        Some(path) => Ok(Base::At(own.join_path(alloc, path)?)),
+        Some(path) => Ok(Base::At(memory(own.join_path(alloc, path))?)),
         None => Ok(Base::Unset),
     }
 }
@@ -70,11 +67,10 @@ pub fn imports(
     alloc: Global,
     own: &ModulePath,
     statements: &Vec<ImportStatementNode>,
-) -> Result<Vec<Import<ModulePath, Ident>>, Error>
+) -> Result<Vec<Import<ModulePath, Ident>>, AllocError>
     requires { is_relative (path_view own.now) ≡ false }
     ensures imports { IfOk result (λ found. imports_of found ≡ imports.all_imports (path_view own.now) (imports_tree statements.now).children) }
     ensures asked { IfOk result (λ found. All (λ i. is_relative (path_view i.path) ≡ false) found.items) }
-    ensures refused { IfErr result (λ e. e ≡ error.Memory) }
 {
     let mut found = Vec::new(alloc);
     for statement in statements {
@@ -88,9 +84,8 @@ fn add_statement(
     own: &ModulePath,
     found: &mut Vec<Import<ModulePath, Ident>>,
     statement: &ImportStatement,
-) -> Result<(), Error>
-    ensures found { OnOk result (imports_of found.new ≡ imports_of found.old ++ statement_imports own.now statement.now) }
-    ensures refused { IfErr result (λ e. e ≡ error.Memory) }
+) -> Result<(), AllocError>
+    ensures { OnOk result (imports_of found.new ≡ imports_of found.old ++ statement_imports own.now statement.now) }
 {
     let base = base_of(alloc, own, &statement.path)?;
     let published = is_published(&statement.attributes);
@@ -104,9 +99,8 @@ fn add_content(
     published: bool,
     base: &Base,
     content: &ImportContent,
-) -> Result<(), Error>
-    ensures found { OnOk result (HasImported published base.now (before (content_view content.now) end) found.old found.new) }
-    ensures refused { IfErr result (λ e. e ≡ error.Memory) }
+) -> Result<(), AllocError>
+    ensures { OnOk result (HasImported published base.now (before (content_view content.now) end) found.old found.new) }
 {
     match content {
         ImportContent::Item(item) => add_item(alloc, found, published, base, item),
@@ -121,9 +115,8 @@ fn add_entries(
     published: bool,
     base: &Base,
     entries: &Vec<ImportEntry>,
-) -> Result<(), Error>
-    ensures found { OnOk result (HasImported published base.now (forest_of (map entry_view entries.now.items)) found.old found.new) }
-    ensures refused { IfErr result (λ e. e ≡ error.Memory) }
+) -> Result<(), AllocError>
+    ensures { OnOk result (HasImported published base.now (forest_of (map entry_view entries.now.items)) found.old found.new) }
 {
     for entry in entries {
         add_entry(alloc, found, published, base, entry)?;
@@ -138,9 +131,8 @@ fn add_entry(
     published: bool,
     base: &Base,
     entry: &ImportEntry,
-) -> Result<(), Error>
-    ensures found { OnOk result (HasImported published base.now (before (entry_view entry.now) end) found.old found.new) }
-    ensures refused { IfErr result (λ e. e ≡ error.Memory) }
+) -> Result<(), AllocError>
+    ensures { OnOk result (HasImported published base.now (before (entry_view entry.now) end) found.old found.new) }
 {
     let inner = base.entered(alloc, &entry.path)?;
     add_content(alloc, found, published, &inner, &entry.content)
@@ -152,9 +144,8 @@ fn add_item(
     published: bool,
     base: &Base,
     item: &ImportItem,
-) -> Result<(), Error>
-    ensures found { OnOk result (HasImported published base.now (before (item_view item.now) end) found.old found.new) }
-    ensures refused { IfErr result (λ e. e ≡ error.Memory) }
+) -> Result<(), AllocError>
+    ensures { OnOk result (HasImported published base.now (before (item_view item.now) end) found.old found.new) }
 {
     let Base::At(path) = base else {
         return Ok(());
@@ -164,7 +155,7 @@ fn add_item(
             Some(rename) => rename,
             None => item.ident,
         },
-        path: path.try_clone(alloc)?,
+        path: copied(alloc, path)?,
         item: item.ident,
         published,
     };

@@ -12,12 +12,11 @@ use wesl_names::Error;
 use wesl_symbols::ids::NameId;
 
 /// The index of a name, which goes last unless it is there.
-fn put(names: &mut IndexSet<String>, name: String) -> Result<usize, Error>
+fn put(names: &mut IndexSet<String>, name: String) -> Result<usize, AllocError>
     ensures stored { IfOk result (λ i. (k : String Global) × (slice_get names.new.keys i ≡ Some k) × (string_eq name k ≡ true)) }
     ensures keys { OnOk result (names.new.keys ≡ insert_key string_eq names.old.keys name) }
     ensures unchanged { OnErr result (names.new.keys ≡ names.old.keys) }
     ensures puts { PutsOrKeeps names.old.keys name names.new.keys }
-    ensures refused { IfErr result (λ e. e ≡ error.Memory) }
 {
     let (index, _) = names.insert_full(name)?;
     Ok(index)
@@ -55,6 +54,15 @@ impl Interner {
         ensures texts { OnOk result (texts_of self.new ≡ with_text (texts_of self.old) name.now) }
         ensures unchanged { OnErr result (texts_of self.new ≡ texts_of self.old) }
         ensures refused { IfErr result (λ e. e ≡ error.Memory) }
+    {
+        Ok(self.number(name)?)
+    }
+
+    /// The same, as the numbers of a link ask for it.
+    pub(crate) fn number(&mut self, name: &str) -> Result<NameId, AllocError>
+        ensures held { IfOk result (λ i. slice_get (texts_of self.new) i.0 ≡ Some name.now) }
+        ensures texts { OnOk result (texts_of self.new ≡ with_text (texts_of self.old) name.now) }
+        ensures unchanged { OnErr result (texts_of self.new ≡ texts_of self.old) }
     {
         if let Some(index) = self.names.get_index_of(name) {
             return Ok(NameId(index));

@@ -7,6 +7,7 @@ pub mod imports;
 pub mod interner;
 pub mod laws;
 pub mod marks;
+mod memory;
 pub mod numbers;
 pub mod reading;
 pub mod table;

@@ -1,7 +1,6 @@
 //! What the identifiers of a module are to a link.
-ghost use Rattle.std.specs.Prelude.{◌≡◌, ◌<◌, ◌≤◌, ◌++◌, [], false, All, length, get_or, drop, IfOk, IfErr, OnOk};
+ghost use Rattle.std.specs.Prelude.{◌≡◌, ◌<◌, ◌≤◌, ◌++◌, [], false, All, length, get_or, drop, IfOk, OnOk};
 ghost use Rattle.wesl_names.specs.Path.{path_view, is_relative};
-ghost use Rattle.wesl_names.specs.declared.errors.Error as error;
 ghost use Rattle.wesl_meanings.specs.Keys.{IsKeyBelow};
 ghost use Rattle.wesl_table.specs.Uses.{under};
 ghost use Rattle.wesl_table.specs.Marks.{IsMark};
@@ -12,9 +11,9 @@ ghost use Rattle.wesl_table.specs.Reading.{IsRead, IsNumberedBy, Marks, MarksNam
 use crate::aims::{Scope, aims};
 use crate::numbers::Numbers;
 use crate::reading::Reading;
-use std::alloc::Global;
+use std::alloc::{AllocError, Global};
 use wesl_meanings::Key;
-use wesl_names::{Error, Ident, ModulePath};
+use wesl_names::{Ident, ModulePath};
 use wesl_occurrences::{Standing, law_of_ways};
 use wesl_symbols::ids::{NameId, PathId};
 use wesl_symbols::symbols::{Reference, Symbol};
@@ -53,9 +52,8 @@ fn add_plain(
     reading: &Reading<'_, '_>,
     found: &mut Vec<Reference<PathId, NameId>>,
     name: NameId,
-) -> Result<(), Error>
-    ensures added { OnOk result (found.new.items ≡ found.old.items ++ plain_of reading.now name) }
-    ensures refused { IfErr result (λ e. e ≡ error.Memory) }
+) -> Result<(), AllocError>
+    ensures { OnOk result (found.new.items ≡ found.old.items ++ plain_of reading.now name) }
 {
     if reading.declared.contains(&name) {
         found.push(Reference {
@@ -81,10 +79,9 @@ fn mark_plain(
     reading: &Reading<'_, '_>,
     found: &mut Vec<Reference<PathId, NameId>>,
     name: NameId,
-) -> Result<Mark, Error>
+) -> Result<Mark, AllocError>
     requires numbered { IsNumberedBy (numbering numbers.now) reading.now }
-    ensures marked { IfOk result (λ m. MarksName numbers.now numbers.now name (plain_use reading.now) m found.old.items found.new.items) }
-    ensures refused { IfErr result (λ e. e ≡ error.Memory) }
+    ensures { IfOk result (λ m. MarksName numbers.now numbers.now name (plain_use reading.now) m found.old.items found.new.items) }
 {
     let before = found.len();
     add_plain(reading, found, name)?;
@@ -98,11 +95,10 @@ fn add_under(
     found: &mut Vec<Reference<PathId, NameId>>,
     name: NameId,
     modules: &[ModulePath],
-) -> Result<(), Error>
+) -> Result<(), AllocError>
     requires { All (λ p. is_relative (path_view p) ≡ false) modules.now }
     ensures added { OnOk result (AddsUnder numbers.old numbers.new name modules.now found.old.items found.new.items) }
     ensures grows { Grows (numbering numbers.old) (numbering numbers.new) }
-    ensures refused { IfErr result (λ e. e ≡ error.Memory) }
 {
     for module in modules {
         let path = Some(numbers.path(alloc, module)?);
@@ -119,11 +115,10 @@ fn mark_aimed(
     found: &mut Vec<Reference<PathId, NameId>>,
     name: NameId,
     path: &ModulePath,
-) -> Result<Mark, Error>
+) -> Result<Mark, AllocError>
     requires read { IsRead reading.now }
     ensures marked { IfOk result (λ m. MarksName numbers.old numbers.new name (aimed_in reading.now path.now) m found.old.items found.new.items) }
     ensures grows { Grows (numbering numbers.old) (numbering numbers.new) }
-    ensures refused { IfErr result (λ e. e ≡ error.Memory) }
 {
     let scope = Scope {
         own: reading.path,
@@ -144,13 +139,12 @@ fn mark_reference(
     found: &mut Vec<Reference<PathId, NameId>>,
     name: NameId,
     key: Key<'_>,
-) -> Result<Mark, Error>
+) -> Result<Mark, AllocError>
     requires read { IsRead reading.now }
     requires numbered { IsNumberedBy (numbering numbers.now) reading.now }
     requires below { IsKeyBelow (length reading.now.meanings.now.found.outer.items) key }
     ensures marked { IfOk result (λ m. MarksName numbers.old numbers.new name (meant_by reading.now key.entry) m found.old.items found.new.items) }
     ensures grows { Grows (numbering numbers.old) (numbering numbers.new) }
-    ensures refused { IfErr result (λ e. e ≡ error.Memory) }
 {
     law_of_ways();
     match key {
@@ -181,13 +175,12 @@ fn mark_at(
     reading: &Reading<'_, '_>,
     found: &mut Vec<Reference<PathId, NameId>>,
     index: usize,
-) -> Result<Mark, Error>
+) -> Result<Mark, AllocError>
     requires read { IsRead reading.now }
     requires numbered { IsNumberedBy (numbering numbers.now) reading.now }
     requires inside { index < length reading.now.meanings.now.found.all.items }
     ensures marked { IfOk result (λ m. Marks (numbering numbers.new) m found.old.items found.new.items (use_at reading.now index)) }
     ensures grows { Grows (numbering numbers.old) (numbering numbers.new) }
-    ensures refused { IfErr result (λ e. e ≡ error.Memory) }
 {
     let occurrence = reading.meanings.found.all[index];
     let name = id_of(reading.ids, occurrence.ident);
@@ -215,7 +208,7 @@ fn mark_span(
     marked: &mut Marked,
     from: usize,
     to: usize,
-) -> Result<(), Error>
+) -> Result<(), AllocError>
     requires read { IsRead reading.now }
     requires numbered { IsNumberedBy (numbering numbers.now) reading.now }
     requires ordered { from ≤ to }
@@ -225,7 +218,6 @@ fn mark_span(
     ensures marks { OnOk result (AreRelated (IsMark (numbering numbers.new)) marked.new.marks.items (span from to (all_uses reading.now))) }
     ensures references { OnOk result (AreNumberedReferences (numbering numbers.new) marked.new.references.items (references_in reading.now from to)) }
     ensures grows { Grows (numbering numbers.old) (numbering numbers.new) }
-    ensures refused { IfErr result (λ e. e ≡ error.Memory) }
 {
     marked.marks.reserve_exact(to - from)?;
     for index in from..to {
@@ -242,7 +234,7 @@ pub fn mark_piece(
     reading: &Reading<'_, '_>,
     from: usize,
     to: usize,
-) -> Result<Marked, Error>
+) -> Result<Marked, AllocError>
     requires read { IsRead reading.now }
     requires numbered { IsNumberedBy (numbering numbers.now) reading.now }
     requires ordered { from ≤ to }
@@ -250,7 +242,6 @@ pub fn mark_piece(
     ensures marks { IfOk result (λ m. AreRelated (IsMark (numbering numbers.new)) m.marks.items (span from to (all_uses reading.now))) }
     ensures references { IfOk result (λ m. AreNumberedReferences (numbering numbers.new) m.references.items (references_in reading.now from to)) }
     ensures grows { Grows (numbering numbers.old) (numbering numbers.new) }
-    ensures refused { IfErr result (λ e. e ≡ error.Memory) }
 {
     let mut marked = Marked {
         marks: Vec::new(alloc),

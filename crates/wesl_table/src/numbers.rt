@@ -1,24 +1,23 @@
 //! The numbers of paths and of names: one numbering for all modules of a link.
-ghost use Rattle.std.specs.Prelude.{◌≡◌, ℕ, [], true, false, All, IfOk, IfErr, IfSome, IfNone, Some, None, map, slice_get, string_bytes};
+ghost use Rattle.std.specs.Prelude.{◌≡◌, ℕ, [], true, false, All, IfOk, IfSome, IfNone, Some, None, map, slice_get, string_bytes};
 ghost use Rattle.wesl_names.specs.Path.{path_view, is_relative};
-ghost use Rattle.wesl_names.specs.declared.errors.Error as error;
 ghost use Rattle.wesl_syntax.specs.Unit.{name_in};
 ghost use Rattle.wesl_table.specs.Different.{AreDifferent};
 ghost use Rattle.wesl_table.specs.Numbering.{IsLonger, Puts, Grows, NameAt, PathAt};
 
 use crate::interner::Interner;
+use crate::memory::copied;
 use crate::texts::{NameTexts, NumberTexts, PathTexts};
 use indexmap::IndexSet;
 use std::alloc::{AllocError, Global};
 use std::hash::Hash;
-use wesl_names::{Error, Ident, ModulePath, Names, law_of_equality};
+use wesl_names::{Ident, ModulePath, Names, law_of_equality};
 use wesl_symbols::ids::{NameId, PathId};
 
 /// The index of a key, which goes last unless one equal to it is there.
-fn put<K: Eq + Hash + Drop>(keys: &mut IndexSet<K>, key: K) -> Result<usize, Error>
+fn put<K: Eq + Hash + Drop>(keys: &mut IndexSet<K>, key: K) -> Result<usize, AllocError>
     ensures stored { IfOk result (λ i. (k : K) × (slice_get keys.new.keys i ≡ Some k) × (K.eq key k ≡ true)) }
     ensures puts { Puts K.eq keys.old.keys key keys.new.keys }
-    ensures refused { IfErr result (λ e. e ≡ error.Memory) }
 {
     let (index, _) = keys.insert_full(key)?;
     Ok(index)
@@ -45,17 +44,16 @@ impl PathNumbers {
     }
 
     /// The number of a path, which is not relative. Refused for want of memory alone.
-    pub fn number(&mut self, alloc: Global, path: &ModulePath) -> Result<PathId, Error>
+    pub fn number(&mut self, alloc: Global, path: &ModulePath) -> Result<PathId, AllocError>
         requires { is_relative (path_view path.now) ≡ false }
         ensures held { IfOk result (λ i. slice_get (paths_of self.new) i.0 ≡ Some (path_view path.now)) }
         ensures grows { IsLonger (paths_of self.old) (paths_of self.new) }
-        ensures refused { IfErr result (λ e. e ≡ error.Memory) }
     {
         law_of_equality();
         if let Some(index) = self.paths.get_index_of(path) {
             return Ok(PathId(index));
         }
-        let path = path.try_clone(alloc)?;
+        let path = copied(alloc, path)?;
         Ok(PathId(put(&mut self.paths, path)?))
     }
 
@@ -121,20 +119,18 @@ impl Numbers {
     }
 
     /// The number of a name. Refused for want of memory alone.
-    pub fn name(&mut self, name: &str) -> Result<NameId, Error>
+    pub fn name(&mut self, name: &str) -> Result<NameId, AllocError>
         ensures numbered { IfOk result (λ n. NameAt (numbering self.new) n name.now) }
         ensures grows { Grows (numbering self.old) (numbering self.new) }
-        ensures refused { IfErr result (λ e. e ≡ error.Memory) }
     {
-        self.names.intern(name)
+        self.names.number(name)
     }
 
     /// The number of a path, which is not relative. Refused for want of memory alone.
-    pub fn path(&mut self, alloc: Global, path: &ModulePath) -> Result<PathId, Error>
+    pub fn path(&mut self, alloc: Global, path: &ModulePath) -> Result<PathId, AllocError>
         requires { is_relative (path_view path.now) ≡ false }
         ensures numbered { IfOk result (λ p. PathAt (numbering self.new) p (path_view path.now)) }
         ensures grows { Grows (numbering self.old) (numbering self.new) }
-        ensures refused { IfErr result (λ e. e ≡ error.Memory) }
     {
         self.paths.number(alloc, path)
     }

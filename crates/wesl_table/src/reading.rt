@@ -1,6 +1,5 @@
 //! A module as its identifiers are marked.
-ghost use Rattle.std.specs.Prelude.{◌≡◌, ◌↔◌, ◌⊎◌, [], Some, Contains, option_map, IfOk, IfErr, OnOk};
-ghost use Rattle.wesl_names.specs.declared.errors.Error as error;
+ghost use Rattle.std.specs.Prelude.{◌≡◌, ◌↔◌, ◌⊎◌, [], Some, Contains, option_map, IfOk, OnOk};
 ghost use Rattle.wesl_syntax.specs.Unit.{name_in};
 ghost use Rattle.wesl_syntax.specs.View.{global_view};
 ghost use Rattle.wesl_symbols.specs.declared.ids.NameId.{NameId};
@@ -11,8 +10,9 @@ ghost use Rattle.wesl_table.specs.Reading.{NumbersNames};
 
 use crate::numbers::{Numbers, spelling};
 use indexmap::IndexSet;
+use std::alloc::AllocError;
 use wesl_meanings::Meanings;
-use wesl_names::{Error, Ident, ModulePath, Names};
+use wesl_names::{Ident, ModulePath, Names};
 use wesl_symbols::ids::{NameId, PathId};
 use wesl_symbols::symbols::Import;
 use wesl_syntax::{GlobalDeclaration, GlobalDeclarationNode};
@@ -38,11 +38,14 @@ pub struct Reading<'a, 'b> {
 }
 
 /// Adds the numbers of these names. Refused for want of memory alone.
-pub fn add_ids(numbers: &mut Numbers, names: &Names, ids: &mut Vec<NameId>) -> Result<(), Error>
+pub fn add_ids(
+    numbers: &mut Numbers,
+    names: &Names,
+    ids: &mut Vec<NameId>,
+) -> Result<(), AllocError>
     requires { ids.old.items ≡ [] }
     ensures numbered { OnOk result (AreRelated (NameAt (numbering numbers.new)) ids.new.items names.now) }
     ensures grows { Grows (numbering numbers.old) (numbering numbers.new) }
-    ensures refused { IfErr result (λ e. e ≡ error.Memory) }
 {
     ids.reserve_exact(names.len())?;
     for i in 0..names.len() {
@@ -71,10 +74,9 @@ fn number_ident(
     numbers: &mut Numbers,
     names: &Names,
     ident: Option<Ident>,
-) -> Result<Option<NameId>, Error>
+) -> Result<Option<NameId>, AllocError>
     ensures numbered { IfOk result (λ n. IsRelatedOption (NameAt (numbering numbers.new)) n (option_map (λ i. name_in names.now i.0) ident)) }
     ensures grows { Grows (numbering numbers.old) (numbering numbers.new) }
-    ensures refused { IfErr result (λ e. e ≡ error.Memory) }
 {
     match ident {
         Some(ident) => Ok(Some(numbers.name(spelling(names, ident))?)),
@@ -88,11 +90,10 @@ pub fn add_names(
     names: &Names,
     nodes: &Vec<GlobalDeclarationNode>,
     found: &mut Vec<Option<NameId>>,
-) -> Result<(), Error>
+) -> Result<(), AllocError>
     requires { found.old.items ≡ [] }
     ensures numbered { OnOk result (NumbersNames (numbering numbers.new) names.now nodes.now found.new.items) }
     ensures grows { Grows (numbering numbers.old) (numbering numbers.new) }
-    ensures refused { IfErr result (λ e. e ≡ error.Memory) }
 {
     found.reserve_exact(nodes.len())?;
     for node in nodes {
@@ -104,9 +105,8 @@ pub fn add_names(
 }
 
 /// One more name, if there is one and it is not there yet.
-fn add_name(set: &mut IndexSet<NameId>, name: Option<NameId>) -> Result<(), Error>
-    ensures names { OnOk result ((n : NameId) → Contains set.new.keys n ↔ (Contains set.old.keys n ⊎ (name ≡ Some n))) }
-    ensures refused { IfErr result (λ e. e ≡ error.Memory) }
+fn add_name(set: &mut IndexSet<NameId>, name: Option<NameId>) -> Result<(), AllocError>
+    ensures { OnOk result ((n : NameId) → Contains set.new.keys n ↔ (Contains set.old.keys n ⊎ (name ≡ Some n))) }
 {
     match name {
         Some(name) => {
@@ -118,10 +118,9 @@ fn add_name(set: &mut IndexSet<NameId>, name: Option<NameId>) -> Result<(), Erro
 }
 
 /// Adds the names among these, each once. Refused for want of memory alone.
-pub fn add_set(names: &[Option<NameId>], set: &mut IndexSet<NameId>) -> Result<(), Error>
+pub fn add_set(names: &[Option<NameId>], set: &mut IndexSet<NameId>) -> Result<(), AllocError>
     requires { set.old.keys ≡ [] }
-    ensures names { OnOk result ((n : NameId) → Contains set.new.keys n ↔ Contains names.now (Some n)) }
-    ensures refused { IfErr result (λ e. e ≡ error.Memory) }
+    ensures { OnOk result ((n : NameId) → Contains set.new.keys n ↔ Contains names.now (Some n)) }
 {
     for name in names {
         add_name(set, *name)?;

@@ -1,7 +1,6 @@
 //! The symbol table of a module.
-ghost use Rattle.std.specs.Prelude.{◌≡◌, ◌<◌, ◌++◌, ◌∷◌, [], suc, false, All, IfOk, IfErr, OnOk, length, get_or};
+ghost use Rattle.std.specs.Prelude.{◌≡◌, ◌<◌, ◌++◌, ◌∷◌, [], suc, false, All, IfOk, OnOk, length, get_or};
 ghost use Rattle.wesl_names.specs.Path.{path_view, is_relative};
-ghost use Rattle.wesl_names.specs.declared.errors.Error as error;
 ghost use Rattle.wesl_syntax.specs.Unit.{spelled};
 ghost use Rattle.wesl_tree.specs.Translation.{unit_view};
 ghost use Rattle.wesl_occurrences.specs.Pieces.{declarations_in};
@@ -19,9 +18,9 @@ use crate::marks::{Mark, Marked, mark_piece};
 use crate::numbers::{Numbers, spelling};
 use crate::reading::{Reading, add_ids, add_names, add_set};
 use indexmap::IndexSet;
-use std::alloc::Global;
+use std::alloc::{AllocError, Global};
 use wesl_meanings::meanings_of;
-use wesl_names::{Error, Ident, ModulePath, Names};
+use wesl_names::{Ident, ModulePath, Names};
 use wesl_symbols::ids::{NameId, PathId};
 use wesl_symbols::symbols::Import;
 use wesl_symbols::table::{Declaration, Table};
@@ -39,11 +38,10 @@ fn number_import(
     numbers: &mut Numbers,
     names: &Names,
     import: &Import<ModulePath, Ident>,
-) -> Result<Import<PathId, NameId>, Error>
+) -> Result<Import<PathId, NameId>, AllocError>
     requires { is_relative (path_view import.now.path) ≡ false }
     ensures numbered { IfOk result (λ i. IsNumberedImport (numbering numbers.new) i (spelled_import names.now import.now)) }
     ensures grows { Grows (numbering numbers.old) (numbering numbers.new) }
-    ensures refused { IfErr result (λ e. e ≡ error.Memory) }
 {
     let bound = numbers.name(spelling(names, import.bound))?;
     let path = numbers.path(alloc, &import.path)?;
@@ -63,12 +61,11 @@ fn add_imports(
     names: &Names,
     imports: &[Import<ModulePath, Ident>],
     found: &mut Vec<Import<PathId, NameId>>,
-) -> Result<(), Error>
+) -> Result<(), AllocError>
     requires asked { All (λ i. is_relative (path_view i.path) ≡ false) imports.now }
     requires empty { found.old.items ≡ [] }
     ensures numbered { OnOk result (AreNumberedImports (numbering numbers.new) found.new.items (spelled_imports names.now imports.now)) }
     ensures grows { Grows (numbering numbers.old) (numbering numbers.new) }
-    ensures refused { IfErr result (λ e. e ≡ error.Memory) }
 {
     found.reserve_exact(imports.len())?;
     for import in imports {
@@ -98,10 +95,9 @@ struct Declared {
 
 impl Declared {
     /// Makes room for so many declarations.
-    fn reserve(&mut self, room: usize) -> Result<(), Error>
+    fn reserve(&mut self, room: usize) -> Result<(), AllocError>
         ensures declarations { self.new.declarations.items ≡ self.old.declarations.items }
         ensures marks { self.new.marks.items ≡ self.old.marks.items }
-        ensures refused { IfErr result (λ e. e ≡ error.Memory) }
     {
         self.declarations.reserve_exact(room)?;
         self.marks.reserve_exact(room)?;
@@ -109,10 +105,9 @@ impl Declared {
     }
 
     /// Adds the declaration that binds this name, if it binds one, with what its identifiers are.
-    fn add(&mut self, name: Option<NameId>, marked: Marked) -> Result<(), Error>
+    fn add(&mut self, name: Option<NameId>, marked: Marked) -> Result<(), AllocError>
         ensures declarations { OnOk result (self.new.declarations.items ≡ self.old.declarations.items ++ declared_as name marked ∷ []) }
         ensures marks { OnOk result (self.new.marks.items ≡ self.old.marks.items ++ marked.marks ∷ []) }
-        ensures refused { IfErr result (λ e. e ≡ error.Memory) }
     {
         let declaration = Declaration::new(name, marked.references);
         self.declarations.push(declaration)?;
@@ -128,14 +123,13 @@ fn add_declarations(
     reading: &Reading<'_, '_>,
     names: &[Option<NameId>],
     declared: &mut Declared,
-) -> Result<(), Error>
+) -> Result<(), AllocError>
     requires read { IsRead reading.now }
     requires numbered { IsNumberedBy (numbering numbers.now) reading.now }
     requires named { AreNumbersOfNames (numbering numbers.now) names.now (declarations_in (unit_in reading.now)) }
     requires empty { IsUndeclared declared.old }
     ensures declared { OnOk result (IsDeclared (numbering numbers.new) (own_path reading.now) (unit_in reading.now) declared.new) }
     ensures grows { Grows (numbering numbers.old) (numbering numbers.new) }
-    ensures refused { IfErr result (λ e. e ≡ error.Memory) }
 {
     let found = &reading.meanings.found;
     declared.reserve(names.len())?;
@@ -164,12 +158,11 @@ fn number_unit(
     unit: &TranslationUnit,
     imports: &[Import<ModulePath, Ident>],
     numbered: &mut UnitNumbers,
-) -> Result<(), Error>
+) -> Result<(), AllocError>
     requires asked { All (λ i. is_relative (path_view i.path) ≡ false) imports.now }
     requires empty { IsUnnumbered numbered.old }
     ensures numbered { OnOk result (IsNumberedUnit (numbering numbers.new) (spelled_in unit.now imports.now) (unit_view unit.now) numbered.new) }
     ensures grows { Grows (numbering numbers.old) (numbering numbers.new) }
-    ensures refused { IfErr result (λ e. e ≡ error.Memory) }
 {
     add_imports(alloc, numbers, unit.names(), imports, &mut numbered.imports)?;
     add_ids(numbers, unit.names(), &mut numbered.ids)?;
@@ -192,7 +185,7 @@ fn mark_unit(
     imports: &[Import<ModulePath, Ident>],
     numbered: &UnitNumbers,
     declared: &mut Declared,
-) -> Result<(), Error>
+) -> Result<(), AllocError>
     requires asked { is_relative (path_view path.now) ≡ false }
     requires held { PathAt (numbering numbers.old) id (path_view path.now) }
     requires targets { All (λ i. is_relative (path_view i.path) ≡ false) imports.now }
@@ -201,7 +194,6 @@ fn mark_unit(
     requires empty { IsUndeclared declared.old }
     ensures declared { OnOk result (IsDeclared (numbering numbers.new) (path_view path.now) (spelled (unit_view unit.now)) declared.new) }
     ensures grows { Grows (numbering numbers.old) (numbering numbers.new) }
-    ensures refused { IfErr result (λ e. e ≡ error.Memory) }
 {
     let meanings = meanings_of(alloc, unit)?;
     let reading = Reading {
@@ -254,7 +246,7 @@ impl Parts {
         path: &ModulePath,
         unit: &TranslationUnit,
         imports: &[Import<ModulePath, Ident>],
-    ) -> Result<(), Error>
+    ) -> Result<(), AllocError>
         requires asked { is_relative (path_view path.now) ≡ false }
         requires held { PathAt (numbering numbers.old) id (path_view path.now) }
         requires targets { All (λ i. is_relative (path_view i.path) ≡ false) imports.now }
@@ -264,7 +256,6 @@ impl Parts {
         ensures numbered { OnOk result (AreNumberedImports (numbering numbers.new) self.new.numbered.imports.items (imports_at path.now unit.now)) }
         ensures declared { OnOk result (IsDeclared (numbering numbers.new) (path_view path.now) (spelled (unit_view unit.now)) self.new.declared) }
         ensures grows { Grows (numbering numbers.old) (numbering numbers.new) }
-        ensures refused { IfErr result (λ e. e ≡ error.Memory) }
     {
         number_unit(alloc, numbers, unit, imports, &mut self.numbered)?;
         mark_unit(
@@ -286,10 +277,9 @@ fn make_tabled(
     id: PathId,
     imports: Vec<Import<PathId, NameId>>,
     declared: Declared,
-) -> Result<Tabled, Error>
+) -> Result<Tabled, AllocError>
     ensures table { IfOk result (λ t. t.table ≡ record { path = id; imports = imports.items; declarations = declared.declarations.items }) }
     ensures marks { IfOk result (λ t. t.marks ≡ declared.marks) }
-    ensures refused { IfErr result (λ e. e ≡ error.Memory) }
 {
     let table = Table::new(alloc, id, imports, declared.declarations)?;
     Ok(Tabled {
@@ -307,14 +297,13 @@ pub fn table_of(
     id: PathId,
     path: &ModulePath,
     unit: &TranslationUnit,
-) -> Result<Tabled, Error>
+) -> Result<Tabled, AllocError>
     requires asked { is_relative (path_view path.now) ≡ false }
     requires held { PathAt (numbering numbers.old) id (path_view path.now) }
     ensures numbered { IfOk result (λ t. IsNumbered (numbering numbers.new) t.table (table_at (path_view path.now) (spelled (unit_view unit.now)))) }
     ensures marked { IfOk result (λ t. AreMarked (numbering numbers.new) t.marks.items (uses (path_view path.now) (spelled (unit_view unit.now)))) }
     ensures path { IfOk result (λ t. t.table.path ≡ id) }
     ensures grows { Grows (numbering numbers.old) (numbering numbers.new) }
-    ensures refused { IfErr result (λ e. e ≡ error.Memory) }
 {
     let imports = imports(alloc, path, unit.imports())?;
     let mut parts = Parts::new(alloc);

@@ -4,7 +4,8 @@ use serde_json::Value;
 use wesl_copies::Copying;
 use wesl_row::{Object, Row};
 use wesl_tree::{
-    Attributes, Expression, ExpressionNode, GlobalDeclaration, StatementNode, TranslationUnit,
+    Attributes, Error, Expression, ExpressionNode, GlobalDeclaration, StatementNode,
+    TranslationUnit,
 };
 
 /// Which lists of two units are equal, and whether the units have the same spelling.
@@ -45,25 +46,34 @@ pub fn unit_copied(row: Row<'_>, unit: &TranslationUnit) -> Value {
     lists_compared(row, &copy, unit)
 }
 
+/// Whether a copy of nodes, the empty list where it was refused, is equal to them.
+fn is_equal<T: PartialEq + Drop>(
+    row: Row<'_>,
+    copy: Result<Vec<T>, Error>,
+    nodes: &Vec<T>,
+) -> bool {
+    row.or(copy, Vec::new(row.alloc)) == *nodes
+}
+
 /// Whether a copy of attributes is equal to them.
 fn has_equal_attributes(row: Row<'_>, attributes: &Attributes) -> bool {
     let mut copying = Copying::of(row.alloc);
     let copy = copying.attributes(attributes);
-    row.or(copying.end(copy), Vec::new(row.alloc)) == *attributes
+    is_equal(row, copying.end(copy), attributes)
 }
 
 /// Whether a copy of statements is equal to them.
 fn has_equal_statements(row: Row<'_>, statements: &Vec<StatementNode>) -> bool {
     let mut copying = Copying::of(row.alloc);
     let copy = copying.statements(statements);
-    row.or(copying.end(copy), Vec::new(row.alloc)) == *statements
+    is_equal(row, copying.end(copy), statements)
 }
 
 /// Whether a copy of expressions is equal to them.
 fn has_equal_nodes(row: Row<'_>, nodes: &Vec<ExpressionNode>) -> bool {
     let mut copying = Copying::of(row.alloc);
     let copy = copying.nodes(nodes);
-    row.or(copying.end(copy), Vec::new(row.alloc)) == *nodes
+    is_equal(row, copying.end(copy), nodes)
 }
 
 /// Whether a declaration is a function, and copies of its attributes and statements are equal to them.

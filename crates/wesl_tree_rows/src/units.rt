@@ -3,29 +3,22 @@ use serde_json::Value;
 use wesl_copies::Copying;
 use wesl_json::{JsonText, unit_of_value};
 use wesl_resolver::UnitText;
-use wesl_row::{Object, Row, of_diagnostic, of_error, printed};
-use wesl_tree::{Error, GlobalDirective, Names, Span, Spanned, TranslationUnit};
-
-/// The fault of an error, which is let go here once.
-fn fault_told(row: Row<'_>, error: Error) -> Value {
-    let answer = of_error(row, &error);
-    drop(error);
-    answer
-}
+use wesl_row::{Object, Row, printed};
+use wesl_tree::{GlobalDirective, Names, Span, Spanned, TranslationUnit};
 
 /// What is written of the unit that the `tree` stands for, or the fault where it stands for none.
 pub fn read(row: Row<'_>) -> Value {
-    match unit_of_value(row.alloc, row.part("tree").value) {
+    match row.told(unit_of_value(row.alloc, row.part("tree").value)) {
         Ok(unit) => row.tree_of(&unit),
-        Err(error) => fault_told(row, error),
+        Err(fault) => fault,
     }
 }
 
 /// Whether what is written of a unit is read with the unit's spelling, or the fault where it is not read.
 pub fn again(row: Row<'_>, unit: &TranslationUnit) -> Value {
-    match unit_of_value(row.alloc, &row.tree_of(unit)) {
+    match row.told(unit_of_value(row.alloc, &row.tree_of(unit))) {
         Ok(again) => Value::Bool(again.same_spelling(unit)),
-        Err(error) => fault_told(row, error),
+        Err(fault) => fault,
     }
 }
 
@@ -54,9 +47,9 @@ pub fn enabled(row: Row<'_>) -> TranslationUnit {
 
 /// What is printed of the unit that the `text` says, or the fault where it says none.
 pub fn text_read(row: Row<'_>) -> Value {
-    match &JsonText.read(row.alloc, row.text("text")) {
-        Ok(unit) => printed(row, unit),
-        Err(told) => of_diagnostic(row, told),
+    match row.told(JsonText.read(row.alloc, row.text("text"))) {
+        Ok(unit) => printed(row, &unit),
+        Err(fault) => fault,
     }
 }
 

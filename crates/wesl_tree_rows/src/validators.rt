@@ -14,10 +14,10 @@ fn builtins(lists: Row<'_>) -> Builtins {
 }
 
 /// What a validator answers, in words.
-fn verdict_told(row: Row<'_>, verdict: &Result<(), Diagnostic>) -> Value {
-    match verdict {
-        Ok(()) => row.text_value("valid"),
-        Err(diagnostic) => declared(row, diagnostic),
+fn verdict_told(row: Row<'_>, verdict: Result<(), Diagnostic>) -> Value {
+    match verdict.err() {
+        Some(diagnostic) => declared(row, &diagnostic),
+        None => row.text_value("valid"),
     }
 }
 
@@ -29,8 +29,8 @@ pub fn told(row: Row<'_>, call: &str, unit: &mut TranslationUnit) -> Value {
     }
     let builtins = builtins(row.part("builtins"));
     if call == "validate_wesl" {
-        verdict_told(row, &validate_wesl(row.alloc, unit, &builtins))
+        verdict_told(row, validate_wesl(row.alloc, unit, &builtins))
     } else {
-        verdict_told(row, &validate_wgsl(row.alloc, unit, &builtins))
+        verdict_told(row, validate_wgsl(row.alloc, unit, &builtins))
     }
 }

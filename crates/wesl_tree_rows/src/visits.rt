@@ -151,6 +151,28 @@ fn walk<T: Replace + Shown + Visit<T>, N: Visit<T>>(holder: &mut N, met: &mut Me
     }
 }
 
+/// Meets the nodes of a kind below the first of these holders.
+fn walk_first_of<T: Replace + Shown + Visit<T>, N: Visit<T>>(
+    holders: &mut Vec<Spanned<N>>,
+    met: &mut Met,
+) -> bool {
+    match holders.first_mut() {
+        Some(first) => walk::<T, N>(&mut first.node, met),
+        None => false,
+    }
+}
+
+/// Meets the nodes of a kind below a holder that may be absent.
+fn walk_if_there<T: Replace + Shown + Visit<T>, N: Visit<T>>(
+    holder: &mut Option<Spanned<N>>,
+    met: &mut Met,
+) -> bool {
+    match holder {
+        Some(holder) => walk::<T, N>(&mut holder.node, met),
+        None => false,
+    }
+}
+
 /// Meets the lists of attributes below a holder, as the call of the row does.
 fn walk_lists<N: Visit<Attributes>>(holder: &mut N, met: &mut Met) -> bool {
     let alloc = met.row.alloc;
@@ -165,14 +187,8 @@ fn walk_lists<N: Visit<Attributes>>(holder: &mut N, met: &mut Met) -> bool {
 fn walk_declaration(declaration: &mut Declaration, met: &mut Met) -> bool {
     match met.row.text("holder") {
         "declaration" => walk::<TypeExpression, _>(declaration, met),
-        "expression" => match &mut declaration.initializer {
-            Some(expression) => walk::<TypeExpression, _>(&mut expression.node, met),
-            None => false,
-        },
-        _ => match declaration.attributes.first_mut() {
-            Some(attribute) => walk::<TypeExpression, _>(&mut attribute.node, met),
-            None => false,
-        },
+        "expression" => walk_if_there::<TypeExpression, _>(&mut declaration.initializer, met),
+        _ => walk_first_of::<TypeExpression, _>(&mut declaration.attributes, met),
     }
 }
 
@@ -192,14 +208,12 @@ fn walk_whole(global: &mut GlobalDeclaration, met: &mut Met) -> bool {
 fn walk_inner_types(global: &mut GlobalDeclaration, met: &mut Met) -> bool {
     match global {
         GlobalDeclaration::Declaration(declaration) => walk_declaration(declaration, met),
-        GlobalDeclaration::Struct(structure) => match structure.members.first_mut() {
-            Some(member) => walk::<TypeExpression, _>(&mut member.node, met),
-            None => false,
-        },
-        GlobalDeclaration::Function(function) => match function.body.statements.first_mut() {
-            Some(statement) => walk::<TypeExpression, _>(&mut statement.node, met),
-            None => false,
-        },
+        GlobalDeclaration::Struct(structure) => {
+            walk_first_of::<TypeExpression, _>(&mut structure.members, met)
+        }
+        GlobalDeclaration::Function(function) => {
+            walk_first_of::<TypeExpression, _>(&mut function.body.statements, met)
+        }
         GlobalDeclaration::TypeAlias(alias) => walk::<TypeExpression, _>(&mut alias.ty, met),
         _ => false,
     }
@@ -214,49 +228,57 @@ fn walk_types(global: &mut GlobalDeclarationNode, met: &mut Met) -> bool {
     }
 }
 
-/// Meets the expressions, statements or lists of attributes below a statement.
-fn walk_statement(statement: &mut Statement, met: &mut Met) -> bool {
+/// Meets the expressions, statements or lists of attributes below a holder of all three.
+fn walk_kinds<N: Visit<ExpressionNode> + Visit<StatementNode> + Visit<Attributes>>(
+    holder: &mut N,
+    met: &mut Met,
+) -> bool {
     match met.row.text("kind") {
-        "expressions" => walk::<ExpressionNode, _>(statement, met),
-        "statements" => walk::<StatementNode, _>(statement, met),
-        _ => walk_lists(statement, met),
+        "expressions" => walk::<ExpressionNode, N>(holder, met),
+        "statements" => walk::<StatementNode, N>(holder, met),
+        _ => walk_lists(holder, met),
+    }
+}
+
+/// The same below the first of these holders.
+fn walk_kinds_of_first<N: Visit<ExpressionNode> + Visit<StatementNode> + Visit<Attributes>>(
+    holders: &mut Vec<Spanned<N>>,
+    met: &mut Met,
+) -> bool {
+    match holders.first_mut() {
+        Some(first) => walk_kinds(&mut first.node, met),
+        None => false,
     }
 }
 
 /// Meets the expressions, statements or lists of attributes below a part of a global declaration.
 fn walk_inner(global: &mut GlobalDeclaration, met: &mut Met) -> bool {
     match global {
-        GlobalDeclaration::Function(function) => match function.body.statements.first_mut() {
-            Some(statement) => walk_statement(&mut statement.node, met),
-            None => false,
-        },
-        GlobalDeclaration::Declaration(declaration) => match &mut declaration.initializer {
-            Some(expression) => walk::<ExpressionNode, _>(&mut expression.node, met),
-            None => false,
-        },
+        GlobalDeclaration::Function(function) => {
+            walk_kinds_of_first(&mut function.body.statements, met)
+        }
+        GlobalDeclaration::Declaration(declaration) => {
+            walk_if_there::<ExpressionNode, _>(&mut declaration.initializer, met)
+        }
         _ => false,
     }
 }
 
 /// Meets the expressions, statements or lists of attributes below a global declaration or a part of it.
 fn walk_others(global: &mut GlobalDeclarationNode, met: &mut Met) -> bool {
-    if met.row.text("holder") != "global declaration" {
-        return walk_inner(&mut global.node, met);
-    }
-    match met.row.text("kind") {
-        "expressions" => walk::<ExpressionNode, _>(global, met),
-        "statements" => walk::<StatementNode, _>(global, met),
-        _ => walk_lists(global, met),
+    if met.row.text("holder") == "global declaration" {
+        walk_kinds(global, met)
+    } else {
+        walk_inner(&mut global.node, met)
     }
 }
 
 /// Meets the nodes of a kind below a unit.
 fn walk_unit(unit: &mut TranslationUnit, met: &mut Met) -> bool {
-    match met.row.text("kind") {
-        "types" => walk::<TypeExpression, _>(unit, met),
-        "expressions" => walk::<ExpressionNode, _>(unit, met),
-        "statements" => walk::<StatementNode, _>(unit, met),
-        _ => walk_lists(unit, met),
+    if met.row.text("kind") == "types" {
+        walk::<TypeExpression, _>(unit, met)
+    } else {
+        walk_kinds(unit, met)
     }
 }
 

@@ -1,6 +1,5 @@
 //! Names that stand twice.
-ghost use Rattle.std.specs.Prelude.{◌≡◌, [], map, IfOk, IfErr, IfSome, IfNone};
-ghost use Rattle.wesl_names.specs.declared.errors.Error as error;
+ghost use Rattle.std.specs.Prelude.{◌≡◌, [], map, IfOk, IfSome, IfNone};
 ghost use Rattle.wesl_syntax.specs.Unit.{name_in};
 ghost use Rattle.wesl_tree.specs.Translation.{unit_view};
 ghost use Rattle.wesl_valid.specs.Valid.{spelling, AreDistinct};
@@ -9,8 +8,8 @@ ghost use Rattle.wesl_valid.specs.Twice.{AreApart, StandsTwice};
 
 use crate::plain::plain_numbers;
 use indexmap::IndexSet;
-use std::alloc::Global;
-use wesl_names::{Error, Ident, Names};
+use std::alloc::{AllocError, Global};
+use wesl_names::{Ident, Names};
 use wesl_tree::TranslationUnit;
 
 /// The name of a number, and the empty text where the table has none.
@@ -29,11 +28,10 @@ fn repeated_among<'a>(
     seen: &mut IndexSet<&'a str>,
     names: &'a Names,
     numbers: &Vec<usize>,
-) -> Result<Option<usize>, Error>
+) -> Result<Option<usize>, AllocError>
     requires { seen.old.keys ≡ [] }
     ensures repeated { IfOk result (λ r. IfSome r (λ m. StandsTwice (map (name_in names.now) numbers.now.items) (name_in names.now m))) }
     ensures none { IfOk result (λ r. IfNone r (AreApart (map (name_in names.now) numbers.now.items))) }
-    ensures refused { IfErr result (λ e. e ≡ error.Memory) }
 {
     for number in numbers {
         let (_, is_new) = seen.insert_full(name_of(names, *number))?;
@@ -45,10 +43,9 @@ fn repeated_among<'a>(
 }
 
 /// A number whose name one of the numbers before it has too, if there is one.
-fn repeated(alloc: Global, names: &Names, numbers: &Vec<usize>) -> Result<Option<usize>, Error>
+fn repeated(alloc: Global, names: &Names, numbers: &Vec<usize>) -> Result<Option<usize>, AllocError>
     ensures repeated { IfOk result (λ r. IfSome r (λ m. StandsTwice (map (name_in names.now) numbers.now.items) (name_in names.now m))) }
     ensures none { IfOk result (λ r. IfNone r (AreApart (map (name_in names.now) numbers.now.items))) }
-    ensures refused { IfErr result (λ e. e ≡ error.Memory) }
 {
     let mut seen = IndexSet::new(alloc);
     repeated_among(&mut seen, names, numbers)
@@ -56,10 +53,9 @@ fn repeated(alloc: Global, names: &Names, numbers: &Vec<usize>) -> Result<Option
 
 /// The number of a name that two imports or declarations without a condition have, if there is one. Refused for want
 /// of memory alone.
-pub fn duplicate(alloc: Global, unit: &TranslationUnit) -> Result<Option<usize>, Error>
+pub fn duplicate(alloc: Global, unit: &TranslationUnit) -> Result<Option<usize>, AllocError>
     ensures duplicate { IfOk result (λ r. IfSome r (λ m. IsDuplicate (unit_view unit.now) (spelling (unit_view unit.now) m))) }
     ensures none { IfOk result (λ r. IfNone r (AreDistinct (unit_view unit.now))) }
-    ensures refused { IfErr result (λ e. e ≡ error.Memory) }
 {
     let numbers = plain_numbers(alloc, unit)?;
     repeated(alloc, unit.names(), &numbers)

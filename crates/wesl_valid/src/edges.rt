@@ -1,18 +1,15 @@
 //! Graphs that grow by an edge.
-ghost use Rattle.std.specs.Prelude.{◌≡◌, ◌<◌, ◌≤◌, ◌++◌, ◌∷◌, ◌==◌, ℕ, [], length, if◌then◌else◌, IfOk, IfErr};
-ghost use Rattle.wesl_names.specs.declared.errors.Error as error;
+ghost use Rattle.std.specs.Prelude.{◌≡◌, ◌<◌, ◌≤◌, ◌++◌, ◌∷◌, ◌==◌, ℕ, [], length, if◌then◌else◌, IfOk};
 ghost use Rattle.wesl_valid.specs.Graphs.{graph_view, edges_at, IsClosed};
 
-use std::alloc::Global;
-use wesl_names::Error;
+use std::alloc::{AllocError, Global};
 
 /// Adds nodes without edges until there is one of this number.
 #[tactic(auto, using(crate::proofs::Growing::one_more))]
-fn grow(alloc: Global, graph: &mut Vec<Vec<usize>>, node: usize) -> Result<(), Error>
+fn grow(alloc: Global, graph: &mut Vec<Vec<usize>>, node: usize) -> Result<(), AllocError>
     ensures there { IfOk result (λ _. node < length graph.new.items) }
     ensures more { IfOk result (λ _. length graph.old.items ≤ length graph.new.items) }
     ensures same { IfOk result (λ _. (a : ℕ) → edges_at (graph_view graph.new.items) a ≡ edges_at (graph_view graph.old.items) a) }
-    ensures refused { IfErr result (λ e. e ≡ error.Memory) }
 {
     while graph.len() <= node {
         graph.push(Vec::new(alloc))?;
@@ -28,10 +25,9 @@ pub fn add_edge(
     graph: &mut Vec<Vec<usize>>,
     from: usize,
     to: usize,
-) -> Result<(), Error>
+) -> Result<(), AllocError>
     ensures added { IfOk result (λ _. (a : ℕ) → edges_at (graph_view graph.new.items) a ≡ edges_at (graph_view graph.old.items) a ++ (if from == a then to ∷ [] else [])) }
     ensures closed { IfOk result (λ _. IsClosed (graph_view graph.old.items) → IsClosed (graph_view graph.new.items)) }
-    ensures refused { IfErr result (λ e. e ≡ error.Memory) }
 {
     grow(alloc, graph, from)?;
     grow(alloc, graph, to)?;

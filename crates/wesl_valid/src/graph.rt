@@ -1,12 +1,10 @@
 //! Rings of a graph, by a search along its edges.
-ghost use Rattle.std.specs.Prelude.{◌≡◌, ◌≢◌, ◌<◌, ℕ, [], length, map, reverse, IfOk, IfErr, IfSome, IfNone};
-ghost use Rattle.wesl_names.specs.declared.errors.Error as error;
+ghost use Rattle.std.specs.Prelude.{◌≡◌, ◌≢◌, ◌<◌, ℕ, [], length, map, reverse, IfOk, IfSome, IfNone};
 ghost use Rattle.wesl_valid.specs.Graphs.{graph_view, IsClosed, IsGrounded, IsRing};
 ghost use Rattle.wesl_valid.specs.Searches.{IsSearch, mark_at};
 ghost use Rattle.wesl_valid.specs.declared.graph.Mark.TheVariants.{New};
 
-use std::alloc::Global;
-use wesl_names::Error;
+use std::alloc::{AllocError, Global};
 
 /// How far a search is with a node.
 #[derive(Clone, Copy)]
@@ -25,14 +23,13 @@ fn go_on(
     marks: &mut [Mark],
     left: &mut [usize],
     way: &mut Vec<usize>,
-) -> Result<Option<(usize, usize)>, Error>
+) -> Result<Option<(usize, usize)>, AllocError>
     requires closed { IsClosed (graph_view graph.now) }
     requires begun { IsSearch (graph_view graph.now) marks.old left.old (reverse way.old.items) }
     ensures ring { IfOk result (λ r. IfSome r (λ p. IsRing (graph_view graph.now) p.0 p.1)) }
     ensures none { IfOk result (λ r. IfNone r (IsSearch (graph_view graph.now) marks.new left.new [])) }
     ensures emptied { IfOk result (λ r. IfNone r (way.new.items ≡ [])) }
     ensures met { IfOk result (λ r. IfNone r ((a : ℕ) → mark_at marks.old a ≢ New → mark_at marks.new a ≢ New)) }
-    ensures refused { IfErr result (λ e. e ≡ error.Memory) }
 {
     while let Some(node) = way.pop() {
         let edges = left[node];
@@ -57,18 +54,16 @@ fn go_on(
 
 /// A mark for each node, none of which was met.
 #[tactic(auto, using(crate::proofs::Turns::all_new))]
-fn new_marks(alloc: Global, graph: &[Vec<usize>]) -> Result<Vec<Mark>, Error>
+fn new_marks(alloc: Global, graph: &[Vec<usize>]) -> Result<Vec<Mark>, AllocError>
     ensures all { IfOk result (λ marks. length marks.items ≡ length graph.now) }
     ensures new { IfOk result (λ marks. (a : ℕ) → mark_at marks.items a ≡ New) }
-    ensures refused { IfErr result (λ e. e ≡ error.Memory) }
 {
     Ok(vec![in alloc; Mark::New; graph.len()]?)
 }
 
 /// Of each node, how many edges it has.
-fn edge_counts(alloc: Global, graph: &[Vec<usize>]) -> Result<Vec<usize>, Error>
-    ensures counts { IfOk result (λ left. left.items ≡ map (λ v. length v.items) graph.now) }
-    ensures refused { IfErr result (λ e. e ≡ error.Memory) }
+fn edge_counts(alloc: Global, graph: &[Vec<usize>]) -> Result<Vec<usize>, AllocError>
+    ensures { IfOk result (λ left. left.items ≡ map (λ v. length v.items) graph.now) }
 {
     let mut left = Vec::with_capacity(alloc, graph.len())?;
     for edges in graph {
@@ -84,7 +79,7 @@ fn search_from(
     marks: &mut [Mark],
     left: &mut [usize],
     way: &mut Vec<usize>,
-) -> Result<Option<(usize, usize)>, Error>
+) -> Result<Option<(usize, usize)>, AllocError>
     requires closed { IsClosed (graph_view graph.now) }
     requires begun { IsSearch (graph_view graph.now) marks.old left.old [] }
     requires empty { way.old.items ≡ [] }
@@ -94,7 +89,6 @@ fn search_from(
     ensures emptied { IfOk result (λ r. IfNone r (way.new.items ≡ [])) }
     ensures met { IfOk result (λ r. IfNone r ((a : ℕ) → mark_at marks.old a ≢ New → mark_at marks.new a ≢ New)) }
     ensures here { IfOk result (λ r. IfNone r (mark_at marks.new start ≢ New)) }
-    ensures refused { IfErr result (λ e. e ≡ error.Memory) }
 {
     match marks[start] {
         Mark::New => {
@@ -111,11 +105,10 @@ fn search_from(
 /// each edge once, and calls itself nowhere.
 ///
 /// `graph` has of each node the nodes that it leads to. Refused for want of memory alone.
-pub fn ring(alloc: Global, graph: &[Vec<usize>]) -> Result<Option<(usize, usize)>, Error>
+pub fn ring(alloc: Global, graph: &[Vec<usize>]) -> Result<Option<(usize, usize)>, AllocError>
     requires closed { IsClosed (graph_view graph.now) }
     ensures ring { IfOk result (λ r. IfSome r (λ p. IsRing (graph_view graph.now) p.0 p.1)) }
     ensures none { IfOk result (λ r. IfNone r ((a : ℕ) → IsGrounded (graph_view graph.now) a)) }
-    ensures refused { IfErr result (λ e. e ≡ error.Memory) }
 {
     let mut marks = new_marks(alloc, graph)?;
     let mut left = edge_counts(alloc, graph)?;

@@ -1,13 +1,12 @@
 //! The names that imports without a condition bind.
-ghost use Rattle.std.specs.Prelude.{◌≡◌, ◌++◌, flat_map, OnOk, IfErr};
-ghost use Rattle.wesl_names.specs.declared.errors.Error as error;
+ghost use Rattle.std.specs.Prelude.{◌≡◌, ◌++◌, flat_map, OnOk};
 ghost use Rattle.wesl_scope.specs.EntryPoints.{one_begins};
 ghost use Rattle.wesl_syntax.specs.Tree.{before, end};
 ghost use Rattle.wesl_syntax.specs.View.{attribute_view, attributes_tree, content_view, item_view, import_view, imports_tree};
 ghost use Rattle.wesl_valid.specs.Names.{is_condition, imported_in, imported};
 ghost use Rattle.wesl_valid.specs.Gathered.{gathered};
 
-use wesl_names::Error;
+use std::alloc::AllocError;
 use wesl_syntax::{
     Attribute, Attributes, ImportContent, ImportItem, ImportStatement, ImportStatementNode,
 };
@@ -35,9 +34,8 @@ pub fn is_conditional(attributes: &Attributes) -> bool
     false
 }
 
-fn add_item(numbers: &mut Vec<usize>, item: &ImportItem) -> Result<(), Error>
-    ensures added { OnOk result (numbers.new.items ≡ gathered numbers.old.items (before (item_view item.now) end)) }
-    ensures refused { IfErr result (λ e. e ≡ error.Memory) }
+fn add_item(numbers: &mut Vec<usize>, item: &ImportItem) -> Result<(), AllocError>
+    ensures { OnOk result (numbers.new.items ≡ gathered numbers.old.items (before (item_view item.now) end)) }
 {
     match item.rename {
         Some(rename) => numbers.push(rename.0)?,
@@ -49,9 +47,8 @@ fn add_item(numbers: &mut Vec<usize>, item: &ImportItem) -> Result<(), Error>
 /// Adds the names that the content of an import binds.
 #[cycle(imports)]
 #[tactic(auto, using(crate::proofs::Gathering::view_entry))]
-fn add_content(numbers: &mut Vec<usize>, content: &ImportContent) -> Result<(), Error>
-    ensures added { OnOk result (numbers.new.items ≡ gathered numbers.old.items (before (content_view content.now) end)) }
-    ensures refused { IfErr result (λ e. e ≡ error.Memory) }
+fn add_content(numbers: &mut Vec<usize>, content: &ImportContent) -> Result<(), AllocError>
+    ensures { OnOk result (numbers.new.items ≡ gathered numbers.old.items (before (content_view content.now) end)) }
 {
     match content {
         ImportContent::Item(item) => add_item(numbers, item),
@@ -65,9 +62,8 @@ fn add_content(numbers: &mut Vec<usize>, content: &ImportContent) -> Result<(), 
 }
 
 /// Adds the names that an import binds, if it has no condition.
-fn add_import(numbers: &mut Vec<usize>, import: &ImportStatement) -> Result<(), Error>
-    ensures added { OnOk result (numbers.new.items ≡ numbers.old.items ++ imported_in (before (import_view import.now) end)) }
-    ensures refused { IfErr result (λ e. e ≡ error.Memory) }
+fn add_import(numbers: &mut Vec<usize>, import: &ImportStatement) -> Result<(), AllocError>
+    ensures { OnOk result (numbers.new.items ≡ numbers.old.items ++ imported_in (before (import_view import.now) end)) }
 {
     if is_conditional(&import.attributes) {
         return Ok(());
@@ -79,9 +75,8 @@ fn add_import(numbers: &mut Vec<usize>, import: &ImportStatement) -> Result<(), 
 pub fn add_imports(
     numbers: &mut Vec<usize>,
     imports: &Vec<ImportStatementNode>,
-) -> Result<(), Error>
-    ensures added { OnOk result (numbers.new.items ≡ numbers.old.items ++ imported (imports_tree imports.now).children) }
-    ensures refused { IfErr result (λ e. e ≡ error.Memory) }
+) -> Result<(), AllocError>
+    ensures { OnOk result (numbers.new.items ≡ numbers.old.items ++ imported (imports_tree imports.now).children) }
 {
     for import in imports {
         add_import(numbers, &import.node)?;

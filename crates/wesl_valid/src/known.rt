@@ -1,6 +1,5 @@
 //! Numbers whose name means something.
-ghost use Rattle.std.specs.Prelude.{◌≡◌, ◌<◌, ◌||◌, ◌==◌, ℕ, length, map, bytes_eq, IfOk, IfErr};
-ghost use Rattle.wesl_names.specs.declared.errors.Error as error;
+ghost use Rattle.std.specs.Prelude.{◌≡◌, ◌<◌, ◌||◌, ◌==◌, ℕ, length, map, bytes_eq, IfOk};
 ghost use Rattle.wesl_syntax.specs.Unit.{name_in};
 ghost use Rattle.wesl_occurrences.specs.Views.{occurrence_view};
 ghost use Rattle.wesl_kept.specs.Marks.{mark_at};
@@ -8,9 +7,9 @@ ghost use Rattle.wesl_builtins.specs.Builtins.{is_among, builtins_view};
 ghost use Rattle.wesl_valid.specs.Valid.{underscore};
 ghost use Rattle.wesl_valid.specs.Known.{binds_here, binds, is_meant};
 
-use std::alloc::Global;
+use std::alloc::{AllocError, Global};
 use wesl_builtins::Builtins;
-use wesl_names::{Error, Ident, Names};
+use wesl_names::{Ident, Names};
 use wesl_occurrences::{Identifiers, Occurrence};
 
 /// Sets a mark. A place past the end has none.
@@ -40,10 +39,9 @@ fn is_meant(builtins: &Builtins, name: &str) -> bool
 }
 
 /// Of each number of the table, whether its name is built in or `_`.
-fn meant(alloc: Global, names: &Names, builtins: &Builtins) -> Result<Vec<bool>, Error>
+fn meant(alloc: Global, names: &Names, builtins: &Builtins) -> Result<Vec<bool>, AllocError>
     ensures all { IfOk result (λ known. length known.items ≡ length names.now) }
     ensures marked { IfOk result (λ known. (m : ℕ) → m < length names.now → mark_at known.items m ≡ is_meant (builtins_view builtins.now) (name_in names.now m)) }
-    ensures refused { IfErr result (λ e. e ≡ error.Memory) }
 {
     let mut known = Vec::with_capacity(alloc, names.len())?;
     for i in 0..names.len() {
@@ -60,9 +58,8 @@ pub fn known_numbers(
     names: &Names,
     found: &Identifiers<'_>,
     builtins: &Builtins,
-) -> Result<Vec<bool>, Error>
-    ensures marked { IfOk result (λ known. (m : ℕ) → m < length names.now → mark_at known.items m ≡ is_meant (builtins_view builtins.now) (name_in names.now m) || binds (map occurrence_view found.now.all.items) m) }
-    ensures refused { IfErr result (λ e. e ≡ error.Memory) }
+) -> Result<Vec<bool>, AllocError>
+    ensures { IfOk result (λ known. (m : ℕ) → m < length names.now → mark_at known.items m ≡ is_meant (builtins_view builtins.now) (name_in names.now m) || binds (map occurrence_view found.now.all.items) m) }
 {
     let mut known = meant(alloc, names, builtins)?;
     for occurrence in &found.all {

@@ -1,6 +1,5 @@
 //! The names that a module declares for itself without a condition.
-ghost use Rattle.std.specs.Prelude.{◌≡◌, ◌++◌, [], ◌∷◌, if◌then◌else◌, IfOk, IfErr, OnOk};
-ghost use Rattle.wesl_names.specs.declared.errors.Error as error;
+ghost use Rattle.std.specs.Prelude.{◌≡◌, ◌++◌, [], ◌∷◌, if◌then◌else◌, IfOk, OnOk};
 ghost use Rattle.wesl_scope.specs.EntryPoints.{one_begins};
 ghost use Rattle.wesl_syntax.specs.Tree.{before, end};
 ghost use Rattle.wesl_syntax.specs.View.{attributes_tree, global_view, declarations_tree};
@@ -8,15 +7,18 @@ ghost use Rattle.wesl_tree.specs.Translation.{unit_view};
 ghost use Rattle.wesl_valid.specs.Names.{is_condition, declared_in, declared, plain_numbers};
 
 use crate::imports::{add_imports, is_conditional};
-use std::alloc::Global;
-use wesl_names::{Error, Ident};
+use std::alloc::{AllocError, Global};
+use wesl_names::Ident;
 use wesl_syntax::{Attributes, GlobalDeclaration, GlobalDeclarationNode};
 use wesl_tree::TranslationUnit;
 
 /// Adds a name, if these attributes of its declaration hold no condition.
-fn add_plain(numbers: &mut Vec<usize>, attributes: &Attributes, ident: Ident) -> Result<(), Error>
-    ensures added { OnOk result (numbers.new.items ≡ numbers.old.items ++ (if one_begins is_condition (attributes_tree attributes.now).children then [] else ident.0 ∷ [])) }
-    ensures refused { IfErr result (λ e. e ≡ error.Memory) }
+fn add_plain(
+    numbers: &mut Vec<usize>,
+    attributes: &Attributes,
+    ident: Ident,
+) -> Result<(), AllocError>
+    ensures { OnOk result (numbers.new.items ≡ numbers.old.items ++ (if one_begins is_condition (attributes_tree attributes.now).children then [] else ident.0 ∷ [])) }
 {
     if !is_conditional(attributes) {
         numbers.push(ident.0)?;
@@ -25,9 +27,11 @@ fn add_plain(numbers: &mut Vec<usize>, attributes: &Attributes, ident: Ident) ->
 }
 
 /// Adds the name that a declaration declares, if it has no condition.
-fn add_declaration(numbers: &mut Vec<usize>, declaration: &GlobalDeclaration) -> Result<(), Error>
-    ensures added { OnOk result (numbers.new.items ≡ numbers.old.items ++ declared_in (before (global_view declaration.now) end)) }
-    ensures refused { IfErr result (λ e. e ≡ error.Memory) }
+fn add_declaration(
+    numbers: &mut Vec<usize>,
+    declaration: &GlobalDeclaration,
+) -> Result<(), AllocError>
+    ensures { OnOk result (numbers.new.items ≡ numbers.old.items ++ declared_in (before (global_view declaration.now) end)) }
 {
     match declaration {
         GlobalDeclaration::Void => Ok(()),
@@ -47,9 +51,8 @@ fn add_declaration(numbers: &mut Vec<usize>, declaration: &GlobalDeclaration) ->
 fn add_declarations(
     numbers: &mut Vec<usize>,
     declarations: &Vec<GlobalDeclarationNode>,
-) -> Result<(), Error>
-    ensures added { OnOk result (numbers.new.items ≡ numbers.old.items ++ declared (declarations_tree declarations.now).children) }
-    ensures refused { IfErr result (λ e. e ≡ error.Memory) }
+) -> Result<(), AllocError>
+    ensures { OnOk result (numbers.new.items ≡ numbers.old.items ++ declared (declarations_tree declarations.now).children) }
 {
     for declaration in declarations {
         add_declaration(numbers, &declaration.node)?;
@@ -58,9 +61,8 @@ fn add_declarations(
 }
 
 /// The numbers of the names of imports and declarations without a condition, in the order of the source.
-pub fn plain_numbers(alloc: Global, unit: &TranslationUnit) -> Result<Vec<usize>, Error>
-    ensures numbers { IfOk result (λ numbers. numbers.items ≡ plain_numbers (unit_view unit.now)) }
-    ensures refused { IfErr result (λ e. e ≡ error.Memory) }
+pub fn plain_numbers(alloc: Global, unit: &TranslationUnit) -> Result<Vec<usize>, AllocError>
+    ensures { IfOk result (λ numbers. numbers.items ≡ plain_numbers (unit_view unit.now)) }
 {
     let mut numbers = Vec::new(alloc);
     add_imports(&mut numbers, unit.imports())?;

@@ -1,6 +1,5 @@
 //! Rings of declarations.
-ghost use Rattle.std.specs.Prelude.{◌≡◌, IfOk, IfErr, IfSome, IfNone};
-ghost use Rattle.wesl_names.specs.declared.errors.Error as error;
+ghost use Rattle.std.specs.Prelude.{◌≡◌, IfOk, IfSome, IfNone};
 ghost use Rattle.wesl_syntax.specs.Unit.{UnitView};
 ghost use Rattle.wesl_kept.specs.Declarations.{all};
 ghost use Rattle.wesl_occurrences.specs.Identified.{identified};
@@ -9,18 +8,16 @@ ghost use Rattle.wesl_valid.specs.Faults.{IsCycle};
 
 use crate::graph::ring;
 use crate::steps::steps_of;
-use std::alloc::Global;
-use wesl_names::Error;
+use std::alloc::{AllocError, Global};
 use wesl_occurrences::Identifiers;
 
 /// The number of a declaration that reaches itself, and the number of the last one on the way, if there is one.
 ///
 /// `found` are the identifiers of a module. It goes over them and over the steps between their numbers once. Refused
 /// for want of memory alone.
-pub fn cycle(alloc: Global, found: &Identifiers<'_>) -> Result<Option<(usize, usize)>, Error>
+pub fn cycle(alloc: Global, found: &Identifiers<'_>) -> Result<Option<(usize, usize)>, AllocError>
     ensures cycle { IfOk result (λ r. IfSome r (λ p. (u : UnitView) → identified found.now ≡ all u → IsCycle u (spelling u p.0) (spelling u p.1))) }
     ensures none { IfOk result (λ r. IfNone r ((u : UnitView) → identified found.now ≡ all u → IsAcyclic u)) }
-    ensures refused { IfErr result (λ e. e ≡ error.Memory) }
 {
     let graph = steps_of(alloc, found)?;
     ring(alloc, &graph)

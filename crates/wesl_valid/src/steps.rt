@@ -1,13 +1,11 @@
 //! The steps of a module's numbers: from the number of a declaration to those to which the declaration refers.
-ghost use Rattle.std.specs.Prelude.{◌≡◌, ◌++◌, ◌==◌, ℕ, [], map, if◌then◌else◌, IfOk, IfErr};
-ghost use Rattle.wesl_names.specs.declared.errors.Error as error;
+ghost use Rattle.std.specs.Prelude.{◌≡◌, ◌++◌, ◌==◌, ℕ, [], map, if◌then◌else◌, IfOk};
 ghost use Rattle.wesl_occurrences.specs.Views.{occurrence_view};
 ghost use Rattle.wesl_valid.specs.Graphs.{graph_view, edges_at, IsClosed};
 ghost use Rattle.wesl_valid.specs.Steps.{referred_here, referred, used_by, steps_here, steps};
 
 use crate::edges::add_edge;
-use std::alloc::Global;
-use wesl_names::Error;
+use std::alloc::{AllocError, Global};
 use wesl_occurrences::{Identifiers, Occurrence};
 
 /// Adds what an identifier refers to, if it is a reference in a declaration.
@@ -16,9 +14,8 @@ fn add_use(
     alloc: Global,
     uses: &mut Vec<Vec<usize>>,
     occurrence: &Occurrence<'_>,
-) -> Result<(), Error>
-    ensures added { IfOk result (λ _. (j : ℕ) → edges_at (graph_view uses.new.items) j ≡ edges_at (graph_view uses.old.items) j ++ referred_here j (occurrence_view occurrence.now)) }
-    ensures refused { IfErr result (λ e. e ≡ error.Memory) }
+) -> Result<(), AllocError>
+    ensures { IfOk result (λ _. (j : ℕ) → edges_at (graph_view uses.new.items) j ≡ edges_at (graph_view uses.old.items) j ++ referred_here j (occurrence_view occurrence.now)) }
 {
     if !occurrence.standing.is_reference() {
         return Ok(());
@@ -31,9 +28,8 @@ fn add_use(
 
 /// Of each declaration the numbers to which it refers.
 #[tactic(auto, using(crate::proofs::Stepping::joined_next))]
-fn uses_of(alloc: Global, found: &Identifiers<'_>) -> Result<Vec<Vec<usize>>, Error>
-    ensures uses { IfOk result (λ uses. (j : ℕ) → edges_at (graph_view uses.items) j ≡ referred (map occurrence_view found.now.all.items) j) }
-    ensures refused { IfErr result (λ e. e ≡ error.Memory) }
+fn uses_of(alloc: Global, found: &Identifiers<'_>) -> Result<Vec<Vec<usize>>, AllocError>
+    ensures { IfOk result (λ uses. (j : ℕ) → edges_at (graph_view uses.items) j ≡ referred (map occurrence_view found.now.all.items) j) }
 {
     let mut uses = Vec::new(alloc);
     for occurrence in &found.all {
@@ -48,10 +44,9 @@ fn add_edges(
     graph: &mut Vec<Vec<usize>>,
     from: usize,
     targets: &Vec<usize>,
-) -> Result<(), Error>
+) -> Result<(), AllocError>
     ensures added { IfOk result (λ _. (a : ℕ) → edges_at (graph_view graph.new.items) a ≡ edges_at (graph_view graph.old.items) a ++ (if from == a then targets.now.items else [])) }
     ensures closed { IfOk result (λ _. IsClosed (graph_view graph.old.items) → IsClosed (graph_view graph.new.items)) }
-    ensures refused { IfErr result (λ e. e ≡ error.Memory) }
 {
     for target in targets {
         add_edge(alloc, graph, from, *target)?;
@@ -65,10 +60,9 @@ fn add_steps(
     graph: &mut Vec<Vec<usize>>,
     uses: &Vec<Vec<usize>>,
     occurrence: &Occurrence<'_>,
-) -> Result<(), Error>
+) -> Result<(), AllocError>
     ensures added { IfOk result (λ _. (a : ℕ) → edges_at (graph_view graph.new.items) a ≡ edges_at (graph_view graph.old.items) a ++ steps_here (used_by (graph_view uses.now.items)) a (occurrence_view occurrence.now)) }
     ensures closed { IfOk result (λ _. IsClosed (graph_view graph.old.items) → IsClosed (graph_view graph.new.items)) }
-    ensures refused { IfErr result (λ e. e ≡ error.Memory) }
 {
     if !occurrence.standing.is_module_name() {
         return Ok(());
@@ -84,10 +78,12 @@ fn add_steps(
 
 /// The graph of the steps.
 #[tactic(auto, using(crate::proofs::Stepping::joined_next))]
-pub(crate) fn steps_of(alloc: Global, found: &Identifiers<'_>) -> Result<Vec<Vec<usize>>, Error>
+pub(crate) fn steps_of(
+    alloc: Global,
+    found: &Identifiers<'_>,
+) -> Result<Vec<Vec<usize>>, AllocError>
     ensures steps { IfOk result (λ graph. (a : ℕ) → edges_at (graph_view graph.items) a ≡ steps (map occurrence_view found.now.all.items) a) }
     ensures closed { IfOk result (λ graph. IsClosed (graph_view graph.items)) }
-    ensures refused { IfErr result (λ e. e ≡ error.Memory) }
 {
     let uses = uses_of(alloc, found)?;
     let mut graph = Vec::new(alloc);

@@ -1,8 +1,7 @@
 //! References to nothing.
-ghost use Rattle.std.specs.Prelude.{◌≡◌, ◌<◌, length, map, IfOk, IfErr, IfSome, IfNone};
+ghost use Rattle.std.specs.Prelude.{◌≡◌, ◌<◌, length, map, IfOk, IfSome, IfNone};
 ghost use Rattle.std.specs.List.{All, find};
 ghost use Rattle.std.specs.Option.{option_map};
-ghost use Rattle.wesl_names.specs.declared.errors.Error as error;
 ghost use Rattle.wesl_syntax.specs.Unit.{UnitView};
 ghost use Rattle.wesl_occurrences.specs.Identified.{identified};
 ghost use Rattle.wesl_occurrences.specs.Views.{occurrence_view};
@@ -12,9 +11,9 @@ ghost use Rattle.wesl_valid.specs.Valid.{IsDefined};
 ghost use Rattle.wesl_valid.specs.Known.{IsUndefinedAt, IsNamedBy, is_unknown};
 
 use crate::known::known_numbers;
-use std::alloc::Global;
+use std::alloc::{AllocError, Global};
 use wesl_builtins::Builtins;
-use wesl_names::{Error, Names};
+use wesl_names::Names;
 use wesl_occurrences::{Identifiers, Occurrence};
 
 /// Whether it is a reference without a path, in no argument of a custom attribute, to a number that is not marked.
@@ -50,11 +49,10 @@ pub fn undefined(
     names: &Names,
     found: &Identifiers<'_>,
     builtins: &Builtins,
-) -> Result<Option<(usize, Option<usize>)>, Error>
+) -> Result<Option<(usize, Option<usize>)>, AllocError>
     requires within { All (λ o. o.ident.0 < length names.now) found.now.all.items }
     ensures undefined { IfOk result (λ r. IfSome r (λ p. (u : UnitView) → IsNamedBy u names.now found.now → IsUndefinedAt u (builtins_view builtins.now) p.0 p.1)) }
     ensures none { IfOk result (λ r. IfNone r ((u : UnitView) → IsNamedBy u names.now found.now → IsDefined u (builtins_view builtins.now))) }
-    ensures refused { IfErr result (λ e. e ≡ error.Memory) }
 {
     let known = known_numbers(alloc, names, found, builtins)?;
     match first_unknown(found, &known) {

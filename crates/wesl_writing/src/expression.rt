@@ -157,9 +157,9 @@ fn plain_type_value<'a>(
 fn path_value<'a>(alloc: Global, path: &'a ModulePath) -> Written<'a>
     ensures { IfOk result (λ v. piece_view v ≡ string (to_text (path_view path.now))) }
 {
-    match path.to_text(alloc) {
-        Ok(text) => Ok(Piece::Owned(text)),
-        Err(_) => Err(AllocError),
+    match path.to_text(alloc).ok() {
+        Some(text) => Ok(Piece::Owned(text)),
+        None => Err(AllocError),
     }
 }
 

@@ -53,22 +53,7 @@ pub fn in_attribute<'a, T: Kind>(attribute: &'a Attribute, found: &mut Collected
             None => {}
             Some(arguments) => at_expressions(arguments, found),
         },
-        Attribute::If(_) => {}
-        Attribute::Elif(_) => {}
-        Attribute::Builtin(_) => {}
-        Attribute::Const => {}
-        Attribute::Diagnostic {
-            severity: _,
-            rule: _,
-        } => {}
-        Attribute::Interpolate(_) => {}
-        Attribute::Invariant => {}
-        Attribute::MustUse => {}
-        Attribute::Vertex => {}
-        Attribute::Fragment => {}
-        Attribute::Compute => {}
-        Attribute::Publish => {}
-        Attribute::Else => {}
+        _ => {}
     }
 }
 

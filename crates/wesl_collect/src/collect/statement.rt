@@ -48,13 +48,6 @@ fn in_selectors<'a, T: Kind>(selectors: &'a Vec<CaseSelector>, found: &mut Colle
     }
 }
 
-fn in_break_if<'a, T: Kind>(break_if: &'a BreakIfStatement, found: &mut Collected<'a, T>)
-    ensures { Adds T.sought T.view found.old (before (break_if_view break_if.now) end) found.new }
-{
-    at_attributes(&break_if.attributes, found);
-    at_expression(&break_if.expression, found);
-}
-
 fn in_optional_break_if<'a, T: Kind>(
     break_if: &'a Option<BreakIfStatement>,
     found: &mut Collected<'a, T>,
@@ -63,7 +56,10 @@ fn in_optional_break_if<'a, T: Kind>(
 {
     match break_if {
         None => {}
-        Some(break_if) => in_break_if(break_if, found),
+        Some(break_if) => {
+            at_attributes(&break_if.attributes, found);
+            at_expression(&break_if.expression, found);
+        }
     }
 }
 
@@ -88,11 +84,8 @@ pub fn in_statement<'a, T: Kind>(statement: &'a Statement, found: &mut Collected
         Statement::Increment {
             attributes,
             expression,
-        } => {
-            at_attributes(attributes, found);
-            at_expression(expression, found);
         }
-        Statement::Decrement {
+        | Statement::Decrement {
             attributes,
             expression,
         } => {
@@ -152,8 +145,9 @@ pub fn in_statement<'a, T: Kind>(statement: &'a Statement, found: &mut Collected
             at_expression(condition, found);
             in_compound(body, found);
         }
-        Statement::Break { attributes } => at_attributes(attributes, found),
-        Statement::Continue { attributes } => at_attributes(attributes, found),
+        Statement::Break { attributes }
+        | Statement::Continue { attributes }
+        | Statement::Discard { attributes } => at_attributes(attributes, found),
         Statement::Return {
             attributes,
             expression,
@@ -161,7 +155,6 @@ pub fn in_statement<'a, T: Kind>(statement: &'a Statement, found: &mut Collected
             at_attributes(attributes, found);
             at_optional_expression(expression, found);
         }
-        Statement::Discard { attributes } => at_attributes(attributes, found),
         Statement::FunctionCall { attributes, call } => {
             at_attributes(attributes, found);
             in_call(call, found);
@@ -280,15 +273,10 @@ fn in_optional_continuing<'a, T: Kind>(
 {
     match continuing {
         None => {}
-        Some(continuing) => in_continuing(continuing, found),
+        Some(continuing) => {
+            at_attributes(&continuing.attributes, found);
+            in_compound(&continuing.body, found);
+            in_optional_break_if(&continuing.break_if, found);
+        }
     }
-}
-
-#[cycle(collecting_statements)]
-fn in_continuing<'a, T: Kind>(continuing: &'a ContinuingStatement, found: &mut Collected<'a, T>)
-    ensures { Adds T.sought T.view found.old (before (continuing_view continuing.now) end) found.new }
-{
-    at_attributes(&continuing.attributes, found);
-    in_compound(&continuing.body, found);
-    in_optional_break_if(&continuing.break_if, found);
 }

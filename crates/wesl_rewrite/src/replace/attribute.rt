@@ -64,22 +64,7 @@ pub(crate) fn in_attribute<T: Replace, R: Rewrite<T>>(
             None => goes,
             Some(arguments) => at_expressions(arguments, deep, rewriter, goes),
         },
-        Attribute::If(_) => goes,
-        Attribute::Elif(_) => goes,
-        Attribute::Builtin(_) => goes,
-        Attribute::Const => goes,
-        Attribute::Diagnostic {
-            severity: _,
-            rule: _,
-        } => goes,
-        Attribute::Interpolate(_) => goes,
-        Attribute::Invariant => goes,
-        Attribute::MustUse => goes,
-        Attribute::Vertex => goes,
-        Attribute::Fragment => goes,
-        Attribute::Compute => goes,
-        Attribute::Publish => goes,
-        Attribute::Else => goes,
+        _ => goes,
     }
 }
 

@@ -68,18 +68,6 @@ fn in_selectors<T: Replace, R: Rewrite<T>>(
     goes
 }
 
-fn in_break_if<T: Replace, R: Rewrite<T>>(
-    break_if: &mut BreakIfStatement,
-    deep: bool,
-    rewriter: &mut R,
-    goes: bool,
-) -> bool
-    ensures { Went (rule T.Kind.sought R.rewrites deep) goes (before (break_if_view break_if.old) end) result (before (break_if_view break_if.new) end) }
-{
-    let goes = at_attributes(&mut break_if.attributes, deep, rewriter, goes);
-    at_expression(&mut break_if.expression, deep, rewriter, goes)
-}
-
 fn in_optional_break_if<T: Replace, R: Rewrite<T>>(
     break_if: &mut Option<BreakIfStatement>,
     deep: bool,
@@ -90,7 +78,10 @@ fn in_optional_break_if<T: Replace, R: Rewrite<T>>(
 {
     match break_if {
         None => goes,
-        Some(break_if) => in_break_if(break_if, deep, rewriter, goes),
+        Some(break_if) => {
+            let goes = at_attributes(&mut break_if.attributes, deep, rewriter, goes);
+            at_expression(&mut break_if.expression, deep, rewriter, goes)
+        }
     }
 }
 
@@ -214,6 +205,8 @@ fn at_optional_statement<T: Replace, R: Rewrite<T>>(
     match node {
         None => goes,
         Some(node) => {
+            // so that the box is followed once
+            let node: &mut StatementNode = node;
             if T::takes_whole_statements(deep) {
                 T::finish_statement(node, rewriter, goes)
             } else {
@@ -325,20 +318,6 @@ fn each_else_if<T: Replace, R: Rewrite<T>>(
 }
 
 #[cycle(replacing_statements)]
-fn in_else<T: Replace, R: Rewrite<T>>(
-    clause: &mut ElseClause,
-    deep: bool,
-    rewriter: &mut R,
-    goes: bool,
-) -> bool
-    ensures { Went (rule T.Kind.sought R.rewrites deep) goes (before (else_view clause.old) end) result (before (else_view clause.new) end) }
-{
-    let ElseClause { attributes, body } = clause;
-    let goes = at_attributes(attributes, deep, rewriter, goes);
-    in_compound(body, deep, rewriter, goes)
-}
-
-#[cycle(replacing_statements)]
 fn in_optional_else<T: Replace, R: Rewrite<T>>(
     clause: &mut Option<ElseClause>,
     deep: bool,
@@ -349,7 +328,11 @@ fn in_optional_else<T: Replace, R: Rewrite<T>>(
 {
     match clause {
         None => goes,
-        Some(clause) => in_else(clause, deep, rewriter, goes),
+        Some(clause) => {
+            let ElseClause { attributes, body } = clause;
+            let goes = at_attributes(attributes, deep, rewriter, goes);
+            in_compound(body, deep, rewriter, goes)
+        }
     }
 }
 
@@ -411,25 +394,15 @@ fn in_optional_continuing<T: Replace, R: Rewrite<T>>(
 {
     match continuing {
         None => goes,
-        Some(continuing) => in_continuing(continuing, deep, rewriter, goes),
+        Some(continuing) => {
+            let ContinuingStatement {
+                attributes,
+                body,
+                break_if,
+            } = continuing;
+            let goes = at_attributes(attributes, deep, rewriter, goes);
+            let goes = in_compound(body, deep, rewriter, goes);
+            in_optional_break_if(break_if, deep, rewriter, goes)
+        }
     }
-}
-
-#[cycle(replacing_statements)]
-fn in_continuing<T: Replace, R: Rewrite<T>>(
-    continuing: &mut ContinuingStatement,
-    deep: bool,
-    rewriter: &mut R,
-    goes: bool,
-) -> bool
-    ensures { Went (rule T.Kind.sought R.rewrites deep) goes (before (continuing_view continuing.old) end) result (before (continuing_view continuing.new) end) }
-{
-    let ContinuingStatement {
-        attributes,
-        body,
-        break_if,
-    } = continuing;
-    let goes = at_attributes(attributes, deep, rewriter, goes);
-    let goes = in_compound(body, deep, rewriter, goes);
-    in_optional_break_if(break_if, deep, rewriter, goes)
 }

@@ -3,7 +3,7 @@ use Rattle.wesl_syntax.specs.Tree.{statement_node, tree_below, list, clauses}
 use Rattle.wesl_syntax.specs.View.{clause_view, else_if_view, placed, statement_view, attributes_tree, expression_tree, if_view, else_view, listed, optional}
 use Rattle.wesl_bounds.proofs.Below.{end_below, next_below, not_below, placed_below, and_true, past_true, past_false}
 use Rattle.wesl_bounds.proofs.Views.{if_below, switch_below}
-use Rattle.wesl_bounds.proofs.statement_bounds.+bounds.Goals.{statement_is_below-then-attributes_are_below-4, statement_is_below-else-attributes_are_below-4, statement_is_below-then-if_is_below, statement_is_below-else-if_is_below, statement_is_below-then-attributes_are_below-5, statement_is_below-else-attributes_are_below-5, statement_is_below-then-node_is_below-2, statement_is_below-else-node_is_below-2}
+use Rattle.wesl_bounds.proofs.statement_bounds.+bounds.Goals.{statement_is_below-then-attributes_are_below-2, statement_is_below-else-attributes_are_below-2, statement_is_below-then-if_is_below, statement_is_below-else-if_is_below, statement_is_below-then-attributes_are_below-3, statement_is_below-else-attributes_are_below-3, statement_is_below-then-node_is_below-2, statement_is_below-else-node_is_below-2}
 use Rattle.wesl_bounds.proofs.statement_bounds.+bounds.Goals as goal
 
 pub statements_are_below-loop-node-init : goal.statements_are_below-loop-node-init
@@ -59,9 +59,9 @@ statement_is_below-returns-in-None t c =
     let i = tree_below n (if_view v.if_clause) in
     let e = tree_below n (listed else_if_view list v.else_if_clauses) in
     let o = tree_below n (optional else_view v.else_clause) in
-    let first : c.if-attributes_are_below-4.value ≡ (a && i) = elim c.if-attributes_are_below-4.branch [
-      | statement_is_below-then-attributes_are_below-4 w ↦ w.value-is ∙ (w.if_is_below.ensures ∙ sym (past_true a i (sym c.attributes_are_below-in-If.ensures ∙ w.if-attributes_are_below-4.true)))
-      | statement_is_below-else-attributes_are_below-4 w ↦ w.value-is ∙ (w.if-attributes_are_below-4.false ∙ sym (past_false a i (sym c.attributes_are_below-in-If.ensures ∙ w.if-attributes_are_below-4.false)))
+    let first : c.if-attributes_are_below-2.value ≡ (a && i) = elim c.if-attributes_are_below-2.branch [
+      | statement_is_below-then-attributes_are_below-2 w ↦ w.value-is ∙ (w.if_is_below.ensures ∙ sym (past_true a i (sym c.attributes_are_below-in-If.ensures ∙ w.if-attributes_are_below-2.true)))
+      | statement_is_below-else-attributes_are_below-2 w ↦ w.value-is ∙ (w.if-attributes_are_below-2.false ∙ sym (past_false a i (sym c.attributes_are_below-in-If.ensures ∙ w.if-attributes_are_below-2.false)))
     ] in
     let second : c.if-if_is_below.value ≡ ((a && i) && e) = elim c.if-if_is_below.branch [
       | statement_is_below-then-if_is_below w ↦ w.value-is ∙ (w.else_ifs_are_below.ensures ∙ sym (past_true (a && i) e (sym first ∙ w.if-if_is_below.true)))
@@ -78,9 +78,9 @@ statement_is_below-returns-in-Some t c =
     let i = tree_below n (if_view v.if_clause) in
     let e = tree_below n (listed else_if_view list v.else_if_clauses) in
     let o = tree_below n (optional else_view v.else_clause) in
-    let first : c.if-attributes_are_below-4.value ≡ (a && i) = elim c.if-attributes_are_below-4.branch [
-      | statement_is_below-then-attributes_are_below-4 w ↦ w.value-is ∙ (w.if_is_below.ensures ∙ sym (past_true a i (sym c.attributes_are_below-in-If.ensures ∙ w.if-attributes_are_below-4.true)))
-      | statement_is_below-else-attributes_are_below-4 w ↦ w.value-is ∙ (w.if-attributes_are_below-4.false ∙ sym (past_false a i (sym c.attributes_are_below-in-If.ensures ∙ w.if-attributes_are_below-4.false)))
+    let first : c.if-attributes_are_below-2.value ≡ (a && i) = elim c.if-attributes_are_below-2.branch [
+      | statement_is_below-then-attributes_are_below-2 w ↦ w.value-is ∙ (w.if_is_below.ensures ∙ sym (past_true a i (sym c.attributes_are_below-in-If.ensures ∙ w.if-attributes_are_below-2.true)))
+      | statement_is_below-else-attributes_are_below-2 w ↦ w.value-is ∙ (w.if-attributes_are_below-2.false ∙ sym (past_false a i (sym c.attributes_are_below-in-If.ensures ∙ w.if-attributes_are_below-2.false)))
     ] in
     let second : c.if-if_is_below.value ≡ ((a && i) && e) = elim c.if-if_is_below.branch [
       | statement_is_below-then-if_is_below w ↦ w.value-is ∙ (w.else_ifs_are_below.ensures ∙ sym (past_true (a && i) e (sym first ∙ w.if-if_is_below.true)))
@@ -98,9 +98,9 @@ statement_is_below-returns-else-else_ifs_are_below t c =
     let i = tree_below n (if_view v.if_clause) in
     let e = tree_below n (listed else_if_view list v.else_if_clauses) in
     let o = tree_below n (optional else_view v.else_clause) in
-    let first : c.if-attributes_are_below-4.value ≡ (a && i) = elim c.if-attributes_are_below-4.branch [
-      | statement_is_below-then-attributes_are_below-4 w ↦ w.value-is ∙ (w.if_is_below.ensures ∙ sym (past_true a i (sym c.attributes_are_below-in-If.ensures ∙ w.if-attributes_are_below-4.true)))
-      | statement_is_below-else-attributes_are_below-4 w ↦ w.value-is ∙ (w.if-attributes_are_below-4.false ∙ sym (past_false a i (sym c.attributes_are_below-in-If.ensures ∙ w.if-attributes_are_below-4.false)))
+    let first : c.if-attributes_are_below-2.value ≡ (a && i) = elim c.if-attributes_are_below-2.branch [
+      | statement_is_below-then-attributes_are_below-2 w ↦ w.value-is ∙ (w.if_is_below.ensures ∙ sym (past_true a i (sym c.attributes_are_below-in-If.ensures ∙ w.if-attributes_are_below-2.true)))
+      | statement_is_below-else-attributes_are_below-2 w ↦ w.value-is ∙ (w.if-attributes_are_below-2.false ∙ sym (past_false a i (sym c.attributes_are_below-in-If.ensures ∙ w.if-attributes_are_below-2.false)))
     ] in
     let second : c.if-if_is_below.value ≡ ((a && i) && e) = elim c.if-if_is_below.branch [
       | statement_is_below-then-if_is_below w ↦ w.value-is ∙ (w.else_ifs_are_below.ensures ∙ sym (past_true (a && i) e (sym first ∙ w.if-if_is_below.true)))
@@ -109,40 +109,40 @@ statement_is_below-returns-else-else_ifs_are_below t c =
     let whole = if_below n c.args.statement.now v.attributes v.if_clause v.else_if_clauses v.else_clause v.is in
     c.if-else_ifs_are_below.false ∙ sym (whole ∙ past_false ((a && i) && e) o (sym second ∙ c.if-else_ifs_are_below.false))
 
-pub statement_is_below-returns-then-attributes_are_below-6 : goal.statement_is_below-returns-then-attributes_are_below-6
-statement_is_below-returns-then-attributes_are_below-6 t c =
+pub statement_is_below-returns-then-attributes_are_below-4 : goal.statement_is_below-returns-then-attributes_are_below-4
+statement_is_below-returns-then-attributes_are_below-4 t c =
     let v = c.in-Switch in
     let n = c.args.bound in
     let a = tree_below n (attributes_tree v.attributes) in
     let e = tree_below n (expression_tree v.expression) in
     let b = tree_below n (attributes_tree v.body_attributes) in
     let cs = tree_below n (listed clause_view clauses v.clauses) in
-    let first : c.if-attributes_are_below-5.value ≡ (a && e) = elim c.if-attributes_are_below-5.branch [
-      | statement_is_below-then-attributes_are_below-5 w ↦ w.value-is ∙ (w.node_is_below-then-attributes_are_below-5.ensures ∙ sym (past_true a e (sym c.attributes_are_below-in-Switch.ensures ∙ w.if-attributes_are_below-5.true)))
-      | statement_is_below-else-attributes_are_below-5 w ↦ w.value-is ∙ (w.if-attributes_are_below-5.false ∙ sym (past_false a e (sym c.attributes_are_below-in-Switch.ensures ∙ w.if-attributes_are_below-5.false)))
+    let first : c.if-attributes_are_below-3.value ≡ (a && e) = elim c.if-attributes_are_below-3.branch [
+      | statement_is_below-then-attributes_are_below-3 w ↦ w.value-is ∙ (w.node_is_below-then-attributes_are_below-3.ensures ∙ sym (past_true a e (sym c.attributes_are_below-in-Switch.ensures ∙ w.if-attributes_are_below-3.true)))
+      | statement_is_below-else-attributes_are_below-3 w ↦ w.value-is ∙ (w.if-attributes_are_below-3.false ∙ sym (past_false a e (sym c.attributes_are_below-in-Switch.ensures ∙ w.if-attributes_are_below-3.false)))
     ] in
     let second : c.if-node_is_below-2.value ≡ ((a && e) && b) = elim c.if-node_is_below-2.branch [
       | statement_is_below-then-node_is_below-2 w ↦ w.value-is ∙ (w.attributes_are_below-then-node_is_below-2.ensures ∙ sym (past_true (a && e) b (sym first ∙ w.if-node_is_below-2.true)))
       | statement_is_below-else-node_is_below-2 w ↦ w.value-is ∙ (w.if-node_is_below-2.false ∙ sym (past_false (a && e) b (sym first ∙ w.if-node_is_below-2.false)))
     ] in
     let whole = switch_below n c.args.statement.now v.attributes v.expression v.body_attributes v.clauses v.is in
-    c.clauses_are_below.ensures ∙ sym (whole ∙ past_true ((a && e) && b) cs (sym second ∙ c.if-attributes_are_below-6.true))
+    c.clauses_are_below.ensures ∙ sym (whole ∙ past_true ((a && e) && b) cs (sym second ∙ c.if-attributes_are_below-4.true))
 
-pub statement_is_below-returns-else-attributes_are_below-6 : goal.statement_is_below-returns-else-attributes_are_below-6
-statement_is_below-returns-else-attributes_are_below-6 t c =
+pub statement_is_below-returns-else-attributes_are_below-4 : goal.statement_is_below-returns-else-attributes_are_below-4
+statement_is_below-returns-else-attributes_are_below-4 t c =
     let v = c.in-Switch in
     let n = c.args.bound in
     let a = tree_below n (attributes_tree v.attributes) in
     let e = tree_below n (expression_tree v.expression) in
     let b = tree_below n (attributes_tree v.body_attributes) in
     let cs = tree_below n (listed clause_view clauses v.clauses) in
-    let first : c.if-attributes_are_below-5.value ≡ (a && e) = elim c.if-attributes_are_below-5.branch [
-      | statement_is_below-then-attributes_are_below-5 w ↦ w.value-is ∙ (w.node_is_below-then-attributes_are_below-5.ensures ∙ sym (past_true a e (sym c.attributes_are_below-in-Switch.ensures ∙ w.if-attributes_are_below-5.true)))
-      | statement_is_below-else-attributes_are_below-5 w ↦ w.value-is ∙ (w.if-attributes_are_below-5.false ∙ sym (past_false a e (sym c.attributes_are_below-in-Switch.ensures ∙ w.if-attributes_are_below-5.false)))
+    let first : c.if-attributes_are_below-3.value ≡ (a && e) = elim c.if-attributes_are_below-3.branch [
+      | statement_is_below-then-attributes_are_below-3 w ↦ w.value-is ∙ (w.node_is_below-then-attributes_are_below-3.ensures ∙ sym (past_true a e (sym c.attributes_are_below-in-Switch.ensures ∙ w.if-attributes_are_below-3.true)))
+      | statement_is_below-else-attributes_are_below-3 w ↦ w.value-is ∙ (w.if-attributes_are_below-3.false ∙ sym (past_false a e (sym c.attributes_are_below-in-Switch.ensures ∙ w.if-attributes_are_below-3.false)))
     ] in
     let second : c.if-node_is_below-2.value ≡ ((a && e) && b) = elim c.if-node_is_below-2.branch [
       | statement_is_below-then-node_is_below-2 w ↦ w.value-is ∙ (w.attributes_are_below-then-node_is_below-2.ensures ∙ sym (past_true (a && e) b (sym first ∙ w.if-node_is_below-2.true)))
       | statement_is_below-else-node_is_below-2 w ↦ w.value-is ∙ (w.if-node_is_below-2.false ∙ sym (past_false (a && e) b (sym first ∙ w.if-node_is_below-2.false)))
     ] in
     let whole = switch_below n c.args.statement.now v.attributes v.expression v.body_attributes v.clauses v.is in
-    c.if-attributes_are_below-6.false ∙ sym (whole ∙ past_false ((a && e) && b) cs (sym second ∙ c.if-attributes_are_below-6.false))
+    c.if-attributes_are_below-4.false ∙ sym (whole ∙ past_false ((a && e) && b) cs (sym second ∙ c.if-attributes_are_below-4.false))

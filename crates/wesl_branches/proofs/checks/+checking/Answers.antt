@@ -7,7 +7,7 @@ use Rattle.wesl_syntax.specs.Tree.{Tree, kind, clauses, before, end, forest_of, 
 use Rattle.wesl_syntax.specs.View.{clause_view, compound_view, continuing_view, else_if_view, else_view, if_view, listed, optional, statement_tree, statement_view}
 use Rattle.wesl_syntax.specs.declared.span.Spanned.{Spanned}
 use Rattle.wesl_syntax.specs.declared.statement.Statement.{Statement}
-use Rattle.wesl_branches.proofs.Checked.{statement_checked, if_clause_checked, else_if_checked, else_checked, optional_checked, clause_checked, clauses_checked, compound_checked, if_checked, switch_checked, loop_checked, for_checked, while_checked, compound_body, compound_refused, listed_checked, three_in_turn}
+use Rattle.wesl_branches.proofs.Checked.{first_of_three, statement_checked, if_clause_checked, else_if_checked, else_checked, optional_checked, clause_checked, clauses_checked, compound_checked, if_checked, switch_checked, loop_checked, for_checked, while_checked, compound_body, compound_refused, listed_checked, three_in_turn}
 use Rattle.wesl_branches.proofs.Looped.{loop_tree, loop_in_turn, clear_cond, block_refused, block_checked}
 use Rattle.wesl_branches.proofs.Standing.{stay, nothing, list_refused}
 use Rattle.wesl_branches.proofs.Walked.{walks_in, walks_past, left_at_start, left_next, left_refused, left_clear, listed_next, listed_refused, listed_clear}
@@ -28,7 +28,7 @@ pub check_statement-returns-in-If : goal.check_statement-returns-in-If
 check_statement-returns-in-If t c =
     let names = c.args.names.now in
     let reply = replies names c.args.features.now in
-    if_checked reply names c.first_refusal.result c.args.statement.now _ c.in-If.if_clause c.in-If.else_if_clauses c.in-If.else_clause c.in-If.is (subst (Checks names reply (forest_of (if_view c.in-If.if_clause ∷ listed else_if_view list c.in-If.else_if_clauses ∷ optional else_view c.in-If.else_clause ∷ []))) (sym c.first_refusal.ensures) (three_in_turn reply names (if_view c.in-If.if_clause) (listed else_if_view list c.in-If.else_if_clauses) (optional else_view c.in-If.else_clause) c.check_if-first.result c.check_else_ifs-others.result c.check_else-last.result c.check_if-first.ensures (listed_checked reply names c.in-If.else_if_clauses c.check_else_ifs-others.result c.check_else_ifs-others.ensures) c.check_else-last.ensures))
+    if_checked reply names c.first_refusal.result c.args.statement.now _ c.in-If.if_clause c.in-If.else_if_clauses c.in-If.else_clause c.in-If.is (subst (Checks names reply (forest_of (if_view c.in-If.if_clause ∷ listed else_if_view list c.in-If.else_if_clauses ∷ optional else_view c.in-If.else_clause ∷ []))) (sym (first_of_three _ _ _ _ c.first_refusal.ensures)) (three_in_turn reply names (if_view c.in-If.if_clause) (listed else_if_view list c.in-If.else_if_clauses) (optional else_view c.in-If.else_clause) c.check_if-first.result c.check_else_ifs-others.result c.check_else-last.result c.check_if-first.ensures (listed_checked reply names c.in-If.else_if_clauses c.check_else_ifs-others.result c.check_else_ifs-others.ensures) c.check_else-last.ensures))
 
 pub check_statement-returns-in-Switch : goal.check_statement-returns-in-Switch
 check_statement-returns-in-Switch t c =
@@ -40,13 +40,13 @@ pub check_statement-returns-in-Loop : goal.check_statement-returns-in-Loop
 check_statement-returns-in-Loop t c =
     let names = c.args.names.now in
     let reply = replies names c.args.features.now in
-    loop_checked reply names c.first_refusal-in-Loop.result c.args.statement.now _ c.in-Loop.body c.in-Loop.continuing c.in-Loop.is (λ a. subst (Checks names reply (before (loop_tree reply names a c.in-Loop.body c.in-Loop.continuing) end)) (sym c.first_refusal-in-Loop.ensures) (loop_in_turn reply names c.in-Loop.body c.in-Loop.continuing c.check_both-listed.result c.check_statements-inside.result c.check_last-last.result c.closes-stays.result c.check_both-listed.ensures c.check_statements-inside.ensures c.closes-stays.ensures c.check_last-last.ensures a))
+    loop_checked reply names c.first_refusal-in-Loop.result c.args.statement.now _ c.in-Loop.body c.in-Loop.continuing c.in-Loop.is (λ a. subst (Checks names reply (before (loop_tree reply names a c.in-Loop.body c.in-Loop.continuing) end)) (sym (first_of_three _ _ _ _ c.first_refusal-in-Loop.ensures)) (loop_in_turn reply names c.in-Loop.body c.in-Loop.continuing c.check_both-listed.result c.check_statements-inside.result c.check_last-last.result c.closes-stays.result c.check_both-listed.ensures c.check_statements-inside.ensures c.closes-stays.ensures c.check_last-last.ensures a))
 
 pub check_statement-returns-in-For : goal.check_statement-returns-in-For
 check_statement-returns-in-For t c =
     let names = c.args.names.now in
     let reply = replies names c.args.features.now in
-    for_checked reply names c.first_refusal-in-For.result c.args.statement.now _ c.in-For.initializer _ c.in-For.update c.in-For.body c.in-For.is (subst (Checks names reply (forest_of (in_place c.in-For.initializer ∷ in_place c.in-For.update ∷ compound_view c.in-For.body ∷ []))) (sym c.first_refusal-in-For.ensures) (three_in_turn reply names (in_place c.in-For.initializer) (in_place c.in-For.update) (compound_view c.in-For.body) c.check_optional-before.result c.check_optional-after.result c.check_body-inside.result c.check_optional-before.ensures c.check_optional-after.ensures c.check_body-inside.ensures))
+    for_checked reply names c.first_refusal-in-For.result c.args.statement.now _ c.in-For.initializer _ c.in-For.update c.in-For.body c.in-For.is (subst (Checks names reply (forest_of (in_place c.in-For.initializer ∷ in_place c.in-For.update ∷ compound_view c.in-For.body ∷ []))) (sym (first_of_three _ _ _ _ c.first_refusal-in-For.ensures)) (three_in_turn reply names (in_place c.in-For.initializer) (in_place c.in-For.update) (compound_view c.in-For.body) c.check_optional-before.result c.check_optional-after.result c.check_body-inside.result c.check_optional-before.ensures c.check_optional-after.ensures c.check_body-inside.ensures))
 
 pub check_statement-returns-in-While : goal.check_statement-returns-in-While
 check_statement-returns-in-While t c =

@@ -14,4 +14,4 @@ loop-node-preserved c =
     let is : item ≡ get_or nodes i item = c.node-item.is ∙ ap (λ xs. get_or xs i item) same in
     more_calls statement_tree nodes i item
     (map call_told c.args.calls.now.items) (map call_told c.loop-node.calls.items) (map call_told c.add.new.calls.items) (one_told c.statement_call-call.result)
-    inside is c.loop-node.invariant c.in_ok-add.ensures.added c.statement_call-call.ensures
+    inside is c.loop-node.invariant c.in_ok-add.ensures c.statement_call-call.ensures

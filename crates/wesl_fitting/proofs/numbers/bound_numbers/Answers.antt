@@ -17,12 +17,12 @@ loop-occurrence-preserved c =
     let is : item ≡ get_or found i item = c.occurrence-item.is ∙ ap (λ xs. get_or xs i item) same in
     let old = c.loop-occurrence.bound.items in
     λ m. let rest = list_any (binds_here m) (map occurrence_view (drop (i + 1) found)) in
-    ap (λ b. b || rest) (c.in_ok-mark_binder.ensures.marked m)
+    ap (λ b. b || rest) (c.in_ok-mark_binder.ensures m)
     ∙ (or_assoc (mark_at old m) (binds_here m (occurrence_view item)) rest
     ∙ (ap (λ b. mark_at old m || b) (sym (any_next occurrence_view (binds_here m) found i item inside is)) ∙ c.loop-occurrence.invariant m))
 
-pub returns-clause-marked : goal.returns-clause-marked
-returns-clause-marked c =
+pub returns : goal.returns
+returns c =
     let found = c.args.found.now.all.items in
     let i = c.loop-occurrence.occurrence-index in
     let past : length found ≤ i = subst (λ xs. length xs ≤ i) c.deref-occurrence-items.ensures.value c.loop-occurrence-test.false in

@@ -20,7 +20,7 @@ loop-next-smaller c =
     let t = visits c.spread.new.marks c.spread.new.nodes.items in
     let inside : c.loop-next.next < length c.loop-next.nodes.items = omega (arith, c.loop-next-test.true, c.len.ensures) in
     let from : c.index-from.result.now ≡ get_or c.loop-next.nodes.items c.loop-next.next 0 = get_or_read c.loop-next.nodes.items c.loop-next.next c.index-from.result.now inside c.index-from.ensures 0 in
-    let entered : t ≡ all_entered (edges_at g (get_or c.loop-next.nodes.items c.loop-next.next 0)) s = c.in_ok-spread.ensures.entered ∙ ap (λ n. all_entered (edges_at g n) s) from in
+    let entered : t ≡ all_entered (edges_at g (get_or c.loop-next.nodes.items c.loop-next.next 0)) s = c.in_ok-spread.ensures ∙ ap (λ n. all_entered (edges_at g n) s) from in
     rw add-one (smaller g c.args.node c.loop-next.next s t c.requires.closed c.loop-next.invariant inside entered)
 
 pub loop-next-preserved : goal.loop-next-preserved
@@ -30,7 +30,7 @@ loop-next-preserved c =
     let t = visits c.spread.new.marks c.spread.new.nodes.items in
     let inside : c.loop-next.next < length c.loop-next.nodes.items = omega (arith, c.loop-next-test.true, c.len.ensures) in
     let from : c.index-from.result.now ≡ get_or c.loop-next.nodes.items c.loop-next.next 0 = get_or_read c.loop-next.nodes.items c.loop-next.next c.index-from.result.now inside c.index-from.ensures 0 in
-    let entered : t ≡ all_entered (edges_at g (get_or c.loop-next.nodes.items c.loop-next.next 0)) s = c.in_ok-spread.ensures.entered ∙ ap (λ n. all_entered (edges_at g n) s) from in
+    let entered : t ≡ all_entered (edges_at g (get_or c.loop-next.nodes.items c.loop-next.next 0)) s = c.in_ok-spread.ensures ∙ ap (λ n. all_entered (edges_at g n) s) from in
     rw add-one (step g c.args.node c.loop-next.next s t c.requires.closed c.loop-next.invariant inside entered)
 
 pub returns-clause-reached : goal.returns-clause-reached

@@ -22,8 +22,8 @@ loop-declaration-preserved c =
     ∙ (ap (λ l. l ++ shape_view c.shape_of.result ∷ []) c.loop-declaration.invariant
     ∙ (ap (λ v. map shown (take i all) ++ v ∷ []) (c.shape_of.ensures ∙ ap shown is) ∙ sym (map_more shown all i item inside))))
 
-pub returns-clause-shapes : goal.returns-clause-shapes
-returns-clause-shapes c =
+pub returns : goal.returns
+returns c =
     let all = c.args.declarations.now.items in
     let i = c.loop-declaration.declaration-index in
     let past : length all ≤ i = subst (λ xs. length xs ≤ i) c.deref-declaration-items.ensures.value c.loop-declaration-test.false in

@@ -30,13 +30,13 @@ linked_unit-requires c =
     let parts = c.add_modules.new.parts in
     let nodes = c.in_ok-nodes.field-0.nodes.items in
     let words = map denotation_view c.in_ok-nodes.field-0.words.items in
-    let us = map (λ u. unit_view u.now) c.deref.result.now in
-    let units = ap (map (λ u. unit_view u.now)) c.deref.ensures.value ∙ c.in_ok-units.ensures.units in
+    let us = map (λ u. unit_view u.now) c.deref-2.result.now in
+    let units = ap (map (λ u. unit_view u.now)) c.deref-2.ensures.value ∙ c.in_ok-units.ensures.units ∙ ap (λ ms. map (λ m. unit_view m.unit) (l.root ∷ ms)) c.deref.ensures.value in
     let start : Parts = record { declarations = c.new.result; denotations = c.in_ok-nodes.field-0.words } in
     let all : AreParts l (all_loaded l) words parts = c.add_modules.ensures (search rules) words (parts_none l words start c.new.ensures.items refl) in
-    let to : nodes_of c.deref-2.result.now c.deref-3.result.now ≡ nodes_of nodes parts.declarations.items = ap (λ ns. nodes_of ns c.deref-3.result.now) c.deref-2.ensures.value ∙ ap (nodes_of nodes) c.deref-3.ensures.value in
+    let to : nodes_of c.deref-3.result.now c.deref-4.result.now ≡ nodes_of nodes parts.declarations.items = ap (λ ns. nodes_of ns c.deref-4.result.now) c.deref-3.ensures.value ∙ ap (nodes_of nodes) c.deref-4.ensures.value in
     record {
-      one_each = ap length c.deref-4.ensures.value ∙ (sym (same_length denotation_view parts.denotations.items)
+      one_each = ap length c.deref-5.ensures.value ∙ (sym (same_length denotation_view parts.denotations.items)
           ∙ (all_named c.law_of_pieces.ensures l (given c.args.given.now) us nodes words parts units c.in_ok-nodes.ensures.thinned all ∙ ap (λ u. length (identifiers (forest_of_unit u))) (sym to)));
     }
 
@@ -46,14 +46,14 @@ returns-clause-assembled c =
     let parts = c.add_modules.new.parts in
     let nodes = c.in_ok-nodes.field-0.nodes.items in
     let words = map denotation_view c.in_ok-nodes.field-0.words.items in
-    let us = map (λ u. unit_view u.now) c.deref.result.now in
-    let units = ap (map (λ u. unit_view u.now)) c.deref.ensures.value ∙ c.in_ok-units.ensures.units in
+    let us = map (λ u. unit_view u.now) c.deref-2.result.now in
+    let units = ap (map (λ u. unit_view u.now)) c.deref-2.ensures.value ∙ c.in_ok-units.ensures.units ∙ ap (λ ms. map (λ m. unit_view m.unit) (l.root ∷ ms)) c.deref.ensures.value in
     let start : Parts = record { declarations = c.new.result; denotations = c.in_ok-nodes.field-0.words } in
     let all : AreParts l (all_loaded l) words parts = c.add_modules.ensures (search rules) words (parts_none l words start c.new.ensures.items refl) in
-    let to : nodes_of c.deref-2.result.now c.deref-3.result.now ≡ nodes_of nodes parts.declarations.items = ap (λ ns. nodes_of ns c.deref-3.result.now) c.deref-2.ensures.value ∙ ap (nodes_of nodes) c.deref-3.ensures.value in
+    let to : nodes_of c.deref-3.result.now c.deref-4.result.now ≡ nodes_of nodes parts.declarations.items = ap (λ ns. nodes_of ns c.deref-4.result.now) c.deref-3.ensures.value ∙ ap (nodes_of nodes) c.deref-4.ensures.value in
     let print : Meaning → Text = printed_as (printed_by (numbering l.numbers) (given c.args.given.now)) in
     if_ok c.linked_unit.result
     (λ unit linked. assembled_is c.law_of_pieces.ensures l (given c.args.given.now) us nodes words parts units c.in_ok-nodes.ensures.thinned all c.law_of_meanings.ensures (unit_view unit)
-    (subst (λ (ds : List Meaning). IsLinkedAs print (nodes_of nodes parts.declarations.items) ds (unit_view unit)) (ap (map denotation_view) c.deref-4.ensures.value)
-    (subst (λ (u : UnitOf ℕ). IsLinkedAs print u (map denotation_view c.deref-4.result.now) (unit_view unit)) to linked)))
+    (subst (λ (ds : List Meaning). IsLinkedAs print (nodes_of nodes parts.declarations.items) ds (unit_view unit)) (ap (map denotation_view) c.deref-5.ensures.value)
+    (subst (λ (u : UnitOf ℕ). IsLinkedAs print u (map denotation_view c.deref-5.result.now) (unit_view unit)) to linked)))
     c.linked_unit.ensures.linked

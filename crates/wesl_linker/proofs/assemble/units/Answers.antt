@@ -14,14 +14,12 @@ told ms = map (λ m. unit_view m.unit) ms
 
 pub loop-module-preserved : goal.loop-module-preserved
 loop-module-preserved c =
-    let xs = c.deref-module-items.result.now in
+    let xs = c.args.others.now in
     let i = c.loop-module.module-index in
     let m = c.module-item.result in
-    more_told (λ (v : Bor TranslationUnit). unit_view v.now) told c.loop-module.units.items c.push-in-loop-module.new.self.items _ c.args.link.now.root xs i m c.loop-module-test.true c.module-item.is
+    more_told (λ (v : Bor TranslationUnit). unit_view v.now) told c.loop-module.units.items c.push-in-loop-module.new.self.items _ c.args.root.now xs i m c.loop-module-test.true c.module-item.is
     (λ bs. map-append (λ (x : LoadedModule). unit_view x.unit) bs (m ∷ [])) c.loop-module.invariant
     (pushed c.loop-module.units.items c.push-in-loop-module.new.self.items _ c.push-in-loop-module.result (search rules) c.push-in-loop-module.ensures.items)
 
 pub returns-clause-units : goal.returns-clause-units
-returns-clause-units c =
-    let xs = c.deref-module-items.result.now in
-    c.loop-module.invariant ∙ ap (λ ms. told (c.args.link.now.root ∷ ms)) (take_all c.loop-module.module-index xs c.loop-module-test.false ∙ c.deref-module-items.ensures.value)
+returns-clause-units c = c.loop-module.invariant ∙ ap (λ ms. told (c.args.root.now ∷ ms)) (take_all c.loop-module.module-index c.args.others.now c.loop-module-test.false)

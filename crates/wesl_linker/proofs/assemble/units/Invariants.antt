@@ -3,4 +3,4 @@ use Rattle.wesl_tree.specs.Translation.{unit_view}
 use Rattle.wesl_linker.proofs.assemble.units.Given as goal
 
 abbrev pub invariant-loop-module : goal.invariant-loop-module
-invariant-loop-module l = map (λ u. unit_view u.now) l.units.items ≡ map (λ m. unit_view m.unit) (l.link.root ∷ take l.module-index l.module-items)
+invariant-loop-module l = map (λ u. unit_view u.now) l.units.items ≡ map (λ m. unit_view m.unit) (l.root ∷ take l.module-index l.others)

@@ -9,11 +9,11 @@ if_ok : {X E : Type 0} {P Q : X → Type 0} (r : Result X E) → ((x : X) → P 
 if_ok (Ok x) f h = f x h
 if_ok (Err e) f h = tt
 
-pub returns-clause-words : goal.returns-clause-words
-returns-clause-words c =
+pub returns : goal.returns
+returns c =
     let walk = c.directive.new.self in
     let k = c.if-walk.false in
     if_ok c.idents.result
     (λ found e. e ∙ (ap (map (λ (o : Occurrence). o.ident.0)) c.deref.ensures.value
     ∙ words_found (here_view c.outermost.result) (state_of c.new-walk.result) walk.found.items walk.outer.items c.args.directive.now (c.new-walk.ensures (c.directive.ensures.noted k)) (c.directive.ensures.found k)))
-    c.idents.ensures.idents
+    c.idents.ensures

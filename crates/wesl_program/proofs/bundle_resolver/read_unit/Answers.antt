@@ -1,15 +1,14 @@
-use Rattle.std.proofs.Common.{◌≡◌, sym, ap, ◌∙◌, subst, inr, rules}
 use Rattle.wesl_form.specs.View.{borrowed_view}
-use Rattle.wesl_names.specs.declared.errors.Error as error
-use Rattle.wesl_json.specs.UnitTexts.{IsTreeFault}
-use Rattle.wesl_program.proofs.TreeFaults.{no-memory}
+use Rattle.wesl_json.specs.UnitTexts.{IsSpelled}
+use Rattle.wesl_syntax.specs.Unit.{spelled}
+use Rattle.wesl_tree.specs.Translation.{unit_view}
+use Rattle.wesl_program.proofs.TreeFaults.{handed-on, refused-with}
 use Rattle.wesl_program.proofs.bundle_resolver.read_unit.Goals as goal
 
-pub returns-in-Err-BadTree-clause-refused : goal.returns-in-Err-BadTree-clause-refused
-returns-in-Err-BadTree-clause-refused c =
-    let place = c.in-Err-BadTree.place in
-    let d = borrowed_view c.args.value.now in
-    let boxed : c.in_ok-new-in-Err-BadTree.field-0.value ≡ c.of.result = search rules in
-    let bare : c.of.result.error ≡ error.BadTree place = search rules in
-    let fault : IsTreeFault d (error.BadTree place) = no-memory d _ (error.BadTree place) c.in-Err-BadTree.field-0-is (λ is. cc) c.in-Err-BadTree.ensures.refused in
-    inr (subst (IsTreeFault d) (sym (ap (λ x. x.error) boxed ∙ bare)) fault)
+pub returns-clause-read : goal.returns-clause-read
+returns-clause-read c =
+    handed-on (λ u. IsSpelled (borrowed_view c.args.value.now) (spelled (unit_view u))) c.refused.result c.tree_of.result c.refused.ensures.read c.tree_of.ensures.read
+
+pub returns-clause-refused : goal.returns-clause-refused
+returns-clause-refused c =
+    refused-with (borrowed_view c.args.value.now) c.refused.result c.tree_of.result c.refused.ensures.refused c.tree_of.ensures.refused

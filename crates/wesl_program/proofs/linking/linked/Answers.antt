@@ -1,11 +1,14 @@
-use Rattle.std.proofs.Common.{refl, subst, rules}
+use Rattle.std.proofs.Common.{◌≡◌, refl, ap, subst, inl, rules}
+use Rattle.std.proofs.lemmas.Result.{IfErr-weaker}
 use Rattle.std.specs.Prelude.{option_map}
 use Rattle.serde_json.specs.View.{view}
 use Rattle.wesl_form.specs.Units.{unit_value}
+use Rattle.wesl_names.specs.declared.errors.Error as error
 use Rattle.wesl_tree.specs.Translation.{unit_view}
 use Rattle.wesl_bundle.specs.Views.{builtins_view, bundle_view}
 use Rattle.wesl_map_entries.specs.Records.{SameItems}
 use Rattle.wesl_source_map.specs.BasicView.{items}
+use Rattle.wesl_program.specs.Fault.{fault_of}
 use Rattle.wesl_program.specs.Linking.{recorded_for}
 use Rattle.wesl_program.specs.Validity.{IsValidUnder, RefusesUnit}
 use Rattle.wesl_program.proofs.Faults.{found-fault}
@@ -26,3 +29,11 @@ returns-clause-linked c =
     let u = unit_view made.made.unit in
     let valid : IsValidUnder b.builtins u = search rules in
     answer-of b u (items made.made.map) c.in_ok-clash.clash (view c.in_ok-map.map) (unit_value u) made.ensures.linked valid c.in_ok-clash.ensures.exact c.in_ok-map.ensures.map refl
+
+pub returns-in_err-clash-clause-refused : goal.returns-in_err-clash-clause-refused
+returns-in_err-clash-clause-refused c =
+    IfErr-weaker c.from_residual-in_err-clash.result (λ e. e ≡ error.Memory) _ (λ e is. inl (ap fault_of is)) (search rules)
+
+pub returns-in_err-map-clause-refused : goal.returns-in_err-map-clause-refused
+returns-in_err-map-clause-refused c =
+    IfErr-weaker c.from_residual-in_err-map.result (λ e. e ≡ error.Memory) _ (λ e is. inl (ap fault_of is)) (search rules)

@@ -1,5 +1,4 @@
-use Rattle.std.proofs.Common.{◌≡◌, map, refl, ap, ◌∙◌, string_bytes}
-use Rattle.wesl_base.specs.Borrowed.{texts}
+use Rattle.std.proofs.Common.{◌≡◌, map, refl, ap, string_bytes}
 use Rattle.wesl_tree.specs.Translation.{unit_view}
 use Rattle.wesl_bundle.specs.Views.{bundle_view}
 use Rattle.wesl_source_map.specs.BasicView.{items}
@@ -16,13 +15,13 @@ returns-in-Ok-clause-linked c =
       units = unit_in sources.local.modules;
       packages = sources.packages.packages.items;
       features = c.args.bundle.features;
-      are_units = λ p. ap (λ m. unit_in m p) c.in_ok-sources.ensures.local ∙ c.in_ok-units.ensures.held p;
+      are_units = c.in_ok-sources.ensures.local;
       are_packages = c.in_ok-sources.ensures.packages;
       are_features = refl;
     } in
-    let keep : texts c.deref-2.result.now ≡ map string_bytes c.args.bundle.keep.items = ap texts c.deref-2.ensures.value ∙ c.in_ok-keep.ensures ∙ ap (map string_bytes) c.deref.ensures.value in
+    let keep : map string_bytes c.deref.result.now ≡ map string_bytes c.args.bundle.keep.items = ap (map string_bytes) c.deref.ensures.value in
     let made = c.in-Ok.made in
-    linked-from b kept (texts c.deref-2.result.now) keep (items made.map) (unit_view made.unit) c.in-Ok.ensures.mapped
+    linked-from b kept (map string_bytes c.deref.result.now) keep (items made.map) (unit_view made.unit) c.in-Ok.ensures.mapped
 
 pub returns-clause-refused : goal.returns-clause-refused
 returns-clause-refused c =
@@ -32,9 +31,9 @@ returns-clause-refused c =
       units = unit_in sources.local.modules;
       packages = sources.packages.packages.items;
       features = c.args.bundle.features;
-      are_units = λ p. ap (λ m. unit_in m p) c.in_ok-sources.ensures.local ∙ c.in_ok-units.ensures.held p;
+      are_units = c.in_ok-sources.ensures.local;
       are_packages = c.in_ok-sources.ensures.packages;
       are_features = refl;
     } in
-    let keep : texts c.deref-2.result.now ≡ map string_bytes c.args.bundle.keep.items = ap texts c.deref-2.ensures.value ∙ c.in_ok-keep.ensures ∙ ap (map string_bytes) c.deref.ensures.value in
-    fault-from b kept (texts c.deref-2.result.now) keep c.in-Err.error c.in-Err.ensures.refused
+    let keep : map string_bytes c.deref.result.now ≡ map string_bytes c.args.bundle.keep.items = ap (map string_bytes) c.deref.ensures.value in
+    fault-from b kept (map string_bytes c.deref.result.now) keep c.in-Err.error c.in-Err.ensures.refused

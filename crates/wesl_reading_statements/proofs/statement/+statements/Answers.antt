@@ -61,8 +61,8 @@ pub statements_member-returns-clause-place : goal.statements_member-returns-clau
 statements_member-returns-clause-place t c =
     fault-inside (codes "stmts") (borrowed_view c.args.value.now) (borrowed_view c.in-Some.member.now) (sym c.in-Some.ensures) c.read_statements.result (list_of statements a_statement) c.inside.result c.read_statements.ensures.place c.inside.ensures.place
 
-pub read_statements-read_statement-statement-requires : goal.read_statements-read_statement-statement-requires
-read_statements-read_statement-statement-requires t c =
+pub read_statements-read_statement-requires : goal.read_statements-read_statement-requires
+read_statements-read_statement-requires t c =
     let vs = c.deref-item-items.result.now in
     let is : as_array (borrowed_view c.args.value.now) ≡ Some (items_view vs) = sym c.in-Some.ensures ∙ ap (λ l. Some (items_view l)) (sym c.deref-item-items.ensures.value) in
     let below : depth (borrowed_view c.item-item.result) ≤ items_depth (items_view vs) = item-depth vs c.loop-index.index c.item-item.result c.loop-index-test.true c.item-item.is in
@@ -99,8 +99,8 @@ pub elifs_member-returns-clause-place : goal.elifs_member-returns-clause-place
 elifs_member-returns-clause-place t c =
     fault-inside (codes "elifs") (borrowed_view c.args.value.now) (borrowed_view c.in-Some.member.now) (sym c.in-Some.ensures) c.read_elifs.result (list_of list an_elif) c.inside.result c.read_elifs.ensures.place c.inside.ensures.place
 
-pub read_elifs-read_elif-clause-requires : goal.read_elifs-read_elif-clause-requires
-read_elifs-read_elif-clause-requires t c =
+pub read_elifs-read_elif-requires : goal.read_elifs-read_elif-requires
+read_elifs-read_elif-requires t c =
     let vs = c.deref-item-items.result.now in
     let is : as_array (borrowed_view c.args.value.now) ≡ Some (items_view vs) = sym c.in-Some.ensures ∙ ap (λ l. Some (items_view l)) (sym c.deref-item-items.ensures.value) in
     let below : depth (borrowed_view c.item-item.result) ≤ items_depth (items_view vs) = item-depth vs c.loop-index.index c.item-item.result c.loop-index-test.true c.item-item.is in
@@ -135,8 +135,8 @@ pub clauses_member-returns-clause-place : goal.clauses_member-returns-clause-pla
 clauses_member-returns-clause-place t c =
     fault-inside (codes "clauses") (borrowed_view c.args.value.now) (borrowed_view c.in-Some.member.now) (sym c.in-Some.ensures) c.read_clauses.result (list_of clauses a_clause) c.inside.result c.read_clauses.ensures.place c.inside.ensures.place
 
-pub read_clauses-read_clause-clause-requires : goal.read_clauses-read_clause-clause-requires
-read_clauses-read_clause-clause-requires t c =
+pub read_clauses-read_clause-requires : goal.read_clauses-read_clause-requires
+read_clauses-read_clause-requires t c =
     let vs = c.deref-item-items.result.now in
     let is : as_array (borrowed_view c.args.value.now) ≡ Some (items_view vs) = sym c.in-Some.ensures ∙ ap (λ l. Some (items_view l)) (sym c.deref-item-items.ensures.value) in
     let below : depth (borrowed_view c.item-item.result) ≤ items_depth (items_view vs) = item-depth vs c.loop-index.index c.item-item.result c.loop-index-test.true c.item-item.is in
@@ -279,19 +279,19 @@ read_worded-returns-in-Assign-clause-place t c =
 
 pub read_worded-returns-in-Increment-clause-ok : goal.read_worded-returns-in-Increment-clause-ok
 read_worded-returns-in-Increment-clause-ok t c =
-    same_word c.args.word stated.Increment c.read_increment.result (borrowed_view c.args.value.now) c.args.numbering.now c.read_increment.new.numbering c.in-Increment.is c.read_increment.ensures.ok
+    same_word c.args.word stated.Increment c.read_step.result (borrowed_view c.args.value.now) c.args.numbering.now c.read_step.new.numbering c.in-Increment.is c.read_step.ensures.ok
 
 pub read_worded-returns-in-Increment-clause-place : goal.read_worded-returns-in-Increment-clause-place
 read_worded-returns-in-Increment-clause-place t c =
-    same_word_place c.args.word stated.Increment c.read_increment.result (borrowed_view c.args.value.now) c.in-Increment.is c.read_increment.ensures.place
+    same_word_place c.args.word stated.Increment c.read_step.result (borrowed_view c.args.value.now) c.in-Increment.is c.read_step.ensures.place
 
 pub read_worded-returns-in-Decrement-clause-ok : goal.read_worded-returns-in-Decrement-clause-ok
 read_worded-returns-in-Decrement-clause-ok t c =
-    same_word c.args.word stated.Decrement c.read_decrement.result (borrowed_view c.args.value.now) c.args.numbering.now c.read_decrement.new.numbering c.in-Decrement.is c.read_decrement.ensures.ok
+    same_word c.args.word stated.Decrement c.read_step-in-Decrement.result (borrowed_view c.args.value.now) c.args.numbering.now c.read_step-in-Decrement.new.numbering c.in-Decrement.is c.read_step-in-Decrement.ensures.ok
 
 pub read_worded-returns-in-Decrement-clause-place : goal.read_worded-returns-in-Decrement-clause-place
 read_worded-returns-in-Decrement-clause-place t c =
-    same_word_place c.args.word stated.Decrement c.read_decrement.result (borrowed_view c.args.value.now) c.in-Decrement.is c.read_decrement.ensures.place
+    same_word_place c.args.word stated.Decrement c.read_step-in-Decrement.result (borrowed_view c.args.value.now) c.in-Decrement.is c.read_step-in-Decrement.ensures.place
 
 pub read_worded-returns-in-If-clause-ok : goal.read_worded-returns-in-If-clause-ok
 read_worded-returns-in-If-clause-ok t c =
@@ -335,27 +335,27 @@ read_worded-returns-in-While-clause-place t c =
 
 pub read_worded-returns-in-Break-clause-ok : goal.read_worded-returns-in-Break-clause-ok
 read_worded-returns-in-Break-clause-ok t c =
-    same_word c.args.word stated.Break c.read_break.result (borrowed_view c.args.value.now) c.args.numbering.now c.read_break.new.numbering c.in-Break.is c.read_break.ensures.ok
+    same_word c.args.word stated.Break c.read_jump.result (borrowed_view c.args.value.now) c.args.numbering.now c.read_jump.new.numbering c.in-Break.is c.read_jump.ensures.ok
 
 pub read_worded-returns-in-Break-clause-place : goal.read_worded-returns-in-Break-clause-place
 read_worded-returns-in-Break-clause-place t c =
-    same_word_place c.args.word stated.Break c.read_break.result (borrowed_view c.args.value.now) c.in-Break.is c.read_break.ensures.place
+    same_word_place c.args.word stated.Break c.read_jump.result (borrowed_view c.args.value.now) c.in-Break.is c.read_jump.ensures.place
 
 pub read_worded-returns-in-Continue-clause-ok : goal.read_worded-returns-in-Continue-clause-ok
 read_worded-returns-in-Continue-clause-ok t c =
-    same_word c.args.word stated.Continue c.read_continue.result (borrowed_view c.args.value.now) c.args.numbering.now c.read_continue.new.numbering c.in-Continue.is c.read_continue.ensures.ok
+    same_word c.args.word stated.Continue c.read_jump-in-Continue.result (borrowed_view c.args.value.now) c.args.numbering.now c.read_jump-in-Continue.new.numbering c.in-Continue.is c.read_jump-in-Continue.ensures.ok
 
 pub read_worded-returns-in-Continue-clause-place : goal.read_worded-returns-in-Continue-clause-place
 read_worded-returns-in-Continue-clause-place t c =
-    same_word_place c.args.word stated.Continue c.read_continue.result (borrowed_view c.args.value.now) c.in-Continue.is c.read_continue.ensures.place
+    same_word_place c.args.word stated.Continue c.read_jump-in-Continue.result (borrowed_view c.args.value.now) c.in-Continue.is c.read_jump-in-Continue.ensures.place
 
 pub read_worded-returns-in-Discard-clause-ok : goal.read_worded-returns-in-Discard-clause-ok
 read_worded-returns-in-Discard-clause-ok t c =
-    same_word c.args.word stated.Discard c.read_discard.result (borrowed_view c.args.value.now) c.args.numbering.now c.read_discard.new.numbering c.in-Discard.is c.read_discard.ensures.ok
+    same_word c.args.word stated.Discard c.read_jump-in-Discard.result (borrowed_view c.args.value.now) c.args.numbering.now c.read_jump-in-Discard.new.numbering c.in-Discard.is c.read_jump-in-Discard.ensures.ok
 
 pub read_worded-returns-in-Discard-clause-place : goal.read_worded-returns-in-Discard-clause-place
 read_worded-returns-in-Discard-clause-place t c =
-    same_word_place c.args.word stated.Discard c.read_discard.result (borrowed_view c.args.value.now) c.in-Discard.is c.read_discard.ensures.place
+    same_word_place c.args.word stated.Discard c.read_jump-in-Discard.result (borrowed_view c.args.value.now) c.in-Discard.is c.read_jump-in-Discard.ensures.place
 
 pub read_worded-returns-in-Return-clause-ok : goal.read_worded-returns-in-Return-clause-ok
 read_worded-returns-in-Return-clause-ok t c =
@@ -613,7 +613,7 @@ pub read_statements-loop-index-preserved : goal.read_statements-loop-index-prese
 read_statements-loop-index-preserved t c =
     let vs = c.deref-item-items.result.now in
     let is : as_array (borrowed_view c.args.value.now) ≡ Some (items_view vs) = sym c.in-Some.ensures ∙ ap (λ l. Some (items_view l)) (sym c.deref-item-items.ensures.value) in
-    list-turn statement_tree statements a_statement (borrowed_view c.args.value.now) vs is c.loop-index.index c.item-item.result c.args.numbering.now c.loop-index.numbering c.read_statement-statement.new.numbering c.loop-index.statements c.read_statement-statement.result c.loop-index-test.true c.item-item.is c.loop-index.invariant c.with_item-statements.result c.read_statement-statement.ensures.ok c.read_statement-statement.ensures.place c.with_item-statements.ensures.ok c.with_item-statements.ensures.place
+    list-turn statement_tree statements a_statement (borrowed_view c.args.value.now) vs is c.loop-index.index c.item-item.result c.args.numbering.now c.loop-index.numbering c.read_statement.new.numbering c.loop-index.statements c.read_statement.result c.loop-index-test.true c.item-item.is c.loop-index.invariant c.with_item-statements.result c.read_statement.ensures.ok c.read_statement.ensures.place c.with_item-statements.ensures.ok c.with_item-statements.ensures.place
 
 pub read_statements-returns-clause-ok : goal.read_statements-returns-clause-ok
 read_statements-returns-clause-ok t c =
@@ -632,7 +632,7 @@ pub read_elifs-loop-index-preserved : goal.read_elifs-loop-index-preserved
 read_elifs-loop-index-preserved t c =
     let vs = c.deref-item-items.result.now in
     let is : as_array (borrowed_view c.args.value.now) ≡ Some (items_view vs) = sym c.in-Some.ensures ∙ ap (λ l. Some (items_view l)) (sym c.deref-item-items.ensures.value) in
-    list-turn else_if_view list an_elif (borrowed_view c.args.value.now) vs is c.loop-index.index c.item-item.result c.args.numbering.now c.loop-index.numbering c.read_elif-clause.new.numbering c.loop-index.clauses c.read_elif-clause.result c.loop-index-test.true c.item-item.is c.loop-index.invariant c.with_item-clauses.result c.read_elif-clause.ensures.ok c.read_elif-clause.ensures.place c.with_item-clauses.ensures.ok c.with_item-clauses.ensures.place
+    list-turn else_if_view list an_elif (borrowed_view c.args.value.now) vs is c.loop-index.index c.item-item.result c.args.numbering.now c.loop-index.numbering c.read_elif.new.numbering c.loop-index.clauses c.read_elif.result c.loop-index-test.true c.item-item.is c.loop-index.invariant c.with_item-clauses.result c.read_elif.ensures.ok c.read_elif.ensures.place c.with_item-clauses.ensures.ok c.with_item-clauses.ensures.place
 
 pub read_elifs-returns-clause-ok : goal.read_elifs-returns-clause-ok
 read_elifs-returns-clause-ok t c =
@@ -651,7 +651,7 @@ pub read_clauses-loop-index-preserved : goal.read_clauses-loop-index-preserved
 read_clauses-loop-index-preserved t c =
     let vs = c.deref-item-items.result.now in
     let is : as_array (borrowed_view c.args.value.now) ≡ Some (items_view vs) = sym c.in-Some.ensures ∙ ap (λ l. Some (items_view l)) (sym c.deref-item-items.ensures.value) in
-    list-turn clause_view clauses a_clause (borrowed_view c.args.value.now) vs is c.loop-index.index c.item-item.result c.args.numbering.now c.loop-index.numbering c.read_clause-clause.new.numbering c.loop-index.clauses c.read_clause-clause.result c.loop-index-test.true c.item-item.is c.loop-index.invariant c.with_item-clauses.result c.read_clause-clause.ensures.ok c.read_clause-clause.ensures.place c.with_item-clauses.ensures.ok c.with_item-clauses.ensures.place
+    list-turn clause_view clauses a_clause (borrowed_view c.args.value.now) vs is c.loop-index.index c.item-item.result c.args.numbering.now c.loop-index.numbering c.read_clause.new.numbering c.loop-index.clauses c.read_clause.result c.loop-index-test.true c.item-item.is c.loop-index.invariant c.with_item-clauses.result c.read_clause.ensures.ok c.read_clause.ensures.place c.with_item-clauses.ensures.ok c.with_item-clauses.ensures.place
 
 pub read_clauses-returns-clause-ok : goal.read_clauses-returns-clause-ok
 read_clauses-returns-clause-ok t c =

@@ -13,7 +13,7 @@ loop-statement-init c = ap (map import_view) c.new-found.ensures.items
 pub loop-statement-preserved : goal.loop-statement-preserved
 loop-statement-preserved c =
     flat_next (imports_of (path_view c.args.own.now)) _ c.loop-statement.statement-index c.statement-item.result _ _ c.loop-statement-test.true c.statement-item.is c.loop-statement.invariant
-    c.in_ok-add_statement.ensures.found
+    c.in_ok-add_statement.ensures
 
 pub returns-clause-imports : goal.returns-clause-imports
 returns-clause-imports c =

@@ -9,8 +9,8 @@ pub loop-name-init : goal.loop-name-init
 loop-name-init c = λ n. subst (λ ks. Contains ks n ↔ Contains [] (Some n)) (sym c.requires) (λ h. absurd (contains_nil n h), λ h. absurd (contains_nil (Some n) h))
 
 pub loop-name-preserved : goal.loop-name-preserved
-loop-name-preserved c = λ n. put_at c.args.names.now c.loop-name.name-index _ c.loop-name-test.true c.loop-name.set.keys c.add_name.new.set.keys n (c.in_ok-add_name.ensures.names n) (c.loop-name.invariant n)
+loop-name-preserved c = λ n. put_at c.args.names.now c.loop-name.name-index _ c.loop-name-test.true c.loop-name.set.keys c.add_name.new.set.keys n (c.in_ok-add_name.ensures n) (c.loop-name.invariant n)
 
-pub returns-clause-names : goal.returns-clause-names
-returns-clause-names c = λ n.
+pub returns : goal.returns
+returns c = λ n.
     subst (λ ns. Contains c.loop-name.set.keys n ↔ Contains ns (Some n)) (taken_all c.args.names.now c.loop-name.name-index c.loop-name-test.false) (c.loop-name.invariant n)

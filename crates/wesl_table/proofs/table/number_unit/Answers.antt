@@ -25,7 +25,7 @@ returns-clause-numbered c =
       names = subst (λ os. AreRelated (IsRelatedOption (NameAt n3)) c.add_names.new.found.items os)
           (declared_are c.names-3.result.now u.names _ u.declarations c.names-3.ensures.names c.global_declarations.ensures.declarations) c.in_ok-add_names.ensures.numbered;
       declared = subst (λ (ns : List (Option NameId)). (x : NameId) → Contains c.add_set.new.set.keys x ↔ Contains ns (Some x)) c.deref.ensures.value set;
-    }) c.add_set.ensures.names
+    }) c.add_set.ensures
 
 pub returns-in_err-add_ids-clause-grows : goal.returns-in_err-add_ids-clause-grows
 returns-in_err-add_ids-clause-grows c = grows_trans (numbering c.args.numbers.now) (numbering c.add_imports.new.numbers) (numbering c.add_ids.new.numbers) c.add_imports.ensures.grows c.add_ids.ensures.grows

@@ -13,5 +13,5 @@ counted_all g i old h inv = inv ∙ ap (λ l. map (λ (v : Vec ℕ Global). leng
 pub loop-edges-preserved : goal.loop-edges-preserved
 loop-edges-preserved c = counted_next c.args.graph.now c.loop-edges.edges-index c.edges-item.result c.loop-edges.left.items c.push.new.self.items c.len.result c.loop-edges-test.true c.edges-item.is c.in_ok-push.ensures.items (c.len.ensures ∙ search rules) c.loop-edges.invariant
 
-pub returns-clause-counts : goal.returns-clause-counts
-returns-clause-counts c = counted_all c.args.graph.now c.loop-edges.edges-index c.loop-edges.left.items c.loop-edges-test.false c.loop-edges.invariant
+pub returns : goal.returns
+returns c = counted_all c.args.graph.now c.loop-edges.edges-index c.loop-edges.left.items c.loop-edges-test.false c.loop-edges.invariant

@@ -12,7 +12,7 @@ same_search g ms ns ls ks e f s = subst (λ xs. IsSearch g xs ls []) (sym e) (su
 
 pub loop-start-init : goal.loop-start-init
 loop-start-init c = record {
-  search = begins c.args.graph.now c.in_ok-marks.marks.items c.in_ok-left.left.items c.in_ok-marks.ensures.all c.in_ok-marks.ensures.new c.in_ok-left.ensures.counts;
+  search = begins c.args.graph.now c.in_ok-marks.marks.items c.in_ok-left.left.items c.in_ok-marks.ensures.all c.in_ok-marks.ensures.new c.in_ok-left.ensures;
   empty = search rules;
   met = λ a h. absurd (omega (arith, h));
 }

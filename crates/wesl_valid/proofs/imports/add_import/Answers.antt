@@ -7,11 +7,11 @@ use Rattle.wesl_valid.specs.Gathered.{gathered}
 use Rattle.wesl_valid.proofs.Gathering.{added_plain, on_ok}
 use Rattle.wesl_valid.proofs.imports.add_import.Goals as goal
 
-pub returns-clause-added : goal.returns-clause-added
-returns-clause-added c =
+pub returns : goal.returns
+returns c =
     let import = c.args.import.now in
     let old = c.args.numbers.now.items in
     let new = c.add_content.new.numbers.items in
     let content = before (content_view import.content) end in
     on_ok c.add_content.result (new ≡ gathered old content) (new ≡ old ++ imported_in (before (import_view import) end))
-    (added_plain old new (one_begins is_condition (attributes_tree import.attributes).children) content (sym c.is_conditional.ensures ∙ c.if-is_conditional.false)) c.add_content.ensures.added
+    (added_plain old new (one_begins is_condition (attributes_tree import.attributes).children) content (sym c.is_conditional.ensures ∙ c.if-is_conditional.false)) c.add_content.ensures

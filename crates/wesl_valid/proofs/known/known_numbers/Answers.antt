@@ -31,8 +31,8 @@ loop-occurrence-preserved c =
           ∙ (ap (λ b. mark_at old.items m || b) (sym (any_next occurrence_view (binds_here m) found i item inside is)) ∙ c.loop-occurrence.invariant.marked m l)));
     }
 
-pub returns-clause-marked : goal.returns-clause-marked
-returns-clause-marked c =
+pub returns : goal.returns
+returns c =
     let found = c.args.found.now.all.items in
     let i = c.loop-occurrence.occurrence-index in
     let past : length found ≤ i = subst (λ xs. length xs ≤ i) c.deref-occurrence-items.ensures.value c.loop-occurrence-test.false in

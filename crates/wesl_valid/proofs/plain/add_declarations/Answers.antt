@@ -4,8 +4,8 @@ use Rattle.std.proofs.lemmas.Grind.{common_steps}
 use Rattle.wesl_valid.proofs.Gathering.{added_next, declared_by, all_declared}
 use Rattle.wesl_valid.proofs.plain.add_declarations.Goals as goal
 
-pub returns-clause-added : goal.returns-clause-added
-returns-clause-added c =
+pub returns : goal.returns
+returns c =
     let old = c.args.numbers.now.items in
     let all = c.args.declarations.now.items in
     let e : c.loop-declaration.numbers.items ≡ old ++ flat_map declared_by all = grind (arith, common_steps, c.loop-declaration.invariant) in
@@ -13,4 +13,4 @@ returns-clause-added c =
 
 pub loop-declaration-preserved : goal.loop-declaration-preserved
 loop-declaration-preserved c =
-    added_next declared_by c.deref-declaration-items.result.now c.loop-declaration.declaration-index c.declaration-item.result c.args.numbers.now.items c.loop-declaration.numbers.items c.add_declaration.new.numbers.items c.loop-declaration-test.true c.declaration-item.is c.in_ok-add_declaration.ensures.added c.loop-declaration.invariant
+    added_next declared_by c.deref-declaration-items.result.now c.loop-declaration.declaration-index c.declaration-item.result c.args.numbers.now.items c.loop-declaration.numbers.items c.add_declaration.new.numbers.items c.loop-declaration-test.true c.declaration-item.is c.in_ok-add_declaration.ensures c.loop-declaration.invariant

@@ -13,7 +13,7 @@ returns-clause-steps c =
     let uses = graph_view c.in_ok-uses.uses.items in
     λ a.
     let e : edges_at (graph_view c.loop-occurrence.graph.items) a ≡ flat_map (steps_here (used_by uses) a) os = grind (arith, common_steps, c.loop-occurrence.invariant.added a) in
-    e ∙ same_listed uses os c.in_ok-uses.ensures.uses a os
+    e ∙ same_listed uses os c.in_ok-uses.ensures a os
 
 pub loop-occurrence-preserved : goal.loop-occurrence-preserved
 loop-occurrence-preserved c =

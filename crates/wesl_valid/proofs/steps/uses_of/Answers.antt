@@ -12,12 +12,12 @@ loop-occurrence-preserved c =
     let inside : i < length found = subst (λ xs. i < length xs) same c.loop-occurrence-test.true in
     let item = c.occurrence-item.result in
     let is : item ≡ get_or found i item = c.occurrence-item.is ∙ ap (λ xs. get_or xs i item) same in
-    λ j. c.in_ok-add_use.ensures.added j
+    λ j. c.in_ok-add_use.ensures j
     ∙ (ap (λ ns. ns ++ referred_here j (occurrence_view item)) (c.loop-occurrence.invariant j)
     ∙ sym (joined_next occurrence_view (referred_here j) found i item inside is))
 
-pub returns-clause-uses : goal.returns-clause-uses
-returns-clause-uses c =
+pub returns : goal.returns
+returns c =
     let found = c.args.found.now.all.items in
     let i = c.loop-occurrence.occurrence-index in
     let past : length found ≤ i = subst (λ xs. length xs ≤ i) c.deref-occurrence-items.ensures.value c.loop-occurrence-test.false in

@@ -1,8 +1,8 @@
 use Rattle.std.proofs.Common.{ap, refl}
 use Rattle.wesl_syntax.specs.Tree.{align, binding, blend_src, group, id, kind, location, size, workgroup_size}
 use Rattle.wesl_syntax.specs.View.{attribute_view}
-use Rattle.wesl_collect.proofs.Adds.{beside, hollow, inside, nothing, viewed}
-use Rattle.wesl_collect.proofs.Words.{elif_formula, if_formula}
+use Rattle.wesl_collect.proofs.Adds.{beside, inside, nothing, viewed}
+use Rattle.wesl_collect.proofs.Words.{rest_found}
 use Rattle.wesl_collect.proofs.collect.attribute.in_attribute.Goals as goal
 
 pub returns-in-Align : goal.returns-in-Align
@@ -37,54 +37,7 @@ pub returns-in-WorkgroupSize : goal.returns-in-WorkgroupSize
 returns-in-WorkgroupSize g c =
     viewed (ap attribute_view c.in-WorkgroupSize.is) (inside (kind workgroup_size) refl (λ f. refl) (beside c.at_expression-in-WorkgroupSize.ensures (beside c.at_optional_expression.ensures c.at_optional_expression-in-WorkgroupSize.ensures)))
 
-pub returns-in-Builtin : goal.returns-in-Builtin
-returns-in-Builtin g c =
-    viewed (ap attribute_view c.in-Builtin.is) (hollow _ refl)
-
-pub returns-in-Const : goal.returns-in-Const
-returns-in-Const g c =
-    viewed (ap attribute_view c.in-Const.is) (hollow _ refl)
-
-pub returns-in-Diagnostic : goal.returns-in-Diagnostic
-returns-in-Diagnostic g c =
-    viewed (ap attribute_view c.in-Diagnostic.is) (hollow _ refl)
-
-pub returns-in-Interpolate : goal.returns-in-Interpolate
-returns-in-Interpolate g c =
-    viewed (ap attribute_view c.in-Interpolate.is) (hollow _ refl)
-
-pub returns-in-Invariant : goal.returns-in-Invariant
-returns-in-Invariant g c =
-    viewed (ap attribute_view c.in-Invariant.is) (hollow _ refl)
-
-pub returns-in-MustUse : goal.returns-in-MustUse
-returns-in-MustUse g c =
-    viewed (ap attribute_view c.in-MustUse.is) (hollow _ refl)
-
-pub returns-in-Vertex : goal.returns-in-Vertex
-returns-in-Vertex g c =
-    viewed (ap attribute_view c.in-Vertex.is) (hollow _ refl)
-
-pub returns-in-Fragment : goal.returns-in-Fragment
-returns-in-Fragment g c =
-    viewed (ap attribute_view c.in-Fragment.is) (hollow _ refl)
-
-pub returns-in-Compute : goal.returns-in-Compute
-returns-in-Compute g c =
-    viewed (ap attribute_view c.in-Compute.is) (hollow _ refl)
-
-pub returns-in-Publish : goal.returns-in-Publish
-returns-in-Publish g c =
-    viewed (ap attribute_view c.in-Publish.is) (hollow _ refl)
-
-pub returns-in-Else : goal.returns-in-Else
-returns-in-Else g c =
-    viewed (ap attribute_view c.in-Else.is) (hollow _ refl)
-
-pub returns-in-If : goal.returns-in-If
-returns-in-If g c =
-    nothing _ (λ deep. if_formula g.T.Kind.sought deep c.args.attribute.now _ c.in-If.is)
-
-pub returns-in-Elif : goal.returns-in-Elif
-returns-in-Elif g c =
-    nothing _ (λ deep. elif_formula g.T.Kind.sought deep c.args.attribute.now _ c.in-Elif.is)
+pub returns-in_default : goal.returns-in_default
+returns-in_default g c =
+    let n = c.in_default in
+    nothing _ (λ deep. rest_found g.T.Kind.sought deep c.args.attribute.now n.not-Align n.not-Binding n.not-BlendSrc n.not-Group n.not-Id n.not-Location n.not-Size n.not-WorkgroupSize n.not-Custom)

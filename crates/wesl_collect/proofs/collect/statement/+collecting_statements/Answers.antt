@@ -1,12 +1,12 @@
 use Rattle.std.proofs.Common.{◌∙◌, ap, arith, refl, sym}
 use Rattle.std.specs.Box.{box_value}
-use Rattle.wesl_syntax.specs.Tree.{assignment, break, call_statement, clauses, compound, compound_statement, continue, continuing, decrement, discard, else_clause, else_if_clause, for_loop, if_clause, if_statement, increment, kind, list, loop, present, return, statements, switch, switch_clause, while_loop}
+use Rattle.wesl_syntax.specs.Tree.{assignment, call_statement, clauses, compound, compound_statement, continuing, else_clause, else_if_clause, for_loop, if_clause, if_statement, kind, list, loop, present, return, statements, switch, switch_clause, while_loop}
 use Rattle.wesl_syntax.specs.View.{continuing_view, else_view, optional, statement_tree, statement_view}
 use Rattle.wesl_syntax.specs.declared.span.Spanned.{Spanned}
 use Rattle.wesl_syntax.specs.declared.statement.Statement.{Statement}
 use Rattle.wesl_collect.proofs.Adds.{beside, entered, hollow, inside, passed, placed_at, viewed, walked_all, walked_next, walked_none}
 use Rattle.wesl_collect.proofs.Seen.{seen_statement}
-use Rattle.wesl_collect.proofs.Statements.{view_Assignment, view_Break, view_Compound, view_ConstAssert, view_Continue, view_Declaration, view_Decrement, view_Discard, view_For, view_FunctionCall, view_If, view_Increment, view_Loop, view_Return, view_Switch, view_Void, view_While, view_clause, view_compound, view_continuing, view_else, view_else_if, view_if}
+use Rattle.wesl_collect.proofs.Statements.{view_Assignment, view_Compound, view_ConstAssert, view_Declaration, view_For, view_FunctionCall, view_If, view_Loop, view_Return, view_Switch, view_Void, view_While, view_clause, view_compound, view_continuing, view_else, view_else_if, view_if}
 use Rattle.wesl_collect.proofs.collect.statement.+collecting_statements.Goals as goal
 
 pub in_statement-returns-in-Void : goal.in_statement-returns-in-Void
@@ -20,14 +20,6 @@ in_statement-returns-in-Compound g t c =
 pub in_statement-returns-in-Assignment : goal.in_statement-returns-in-Assignment
 in_statement-returns-in-Assignment g t c =
     viewed (ap statement_view c.in-Assignment.is ∙ view_Assignment c.in-Assignment.attributes c.in-Assignment.operator c.in-Assignment.lhs c.in-Assignment.rhs) (inside (assignment c.in-Assignment.operator) refl (λ f. refl) (beside c.at_attributes.ensures (beside c.at_expression.ensures c.at_expression-in-Assignment.ensures)))
-
-pub in_statement-returns-in-Increment : goal.in_statement-returns-in-Increment
-in_statement-returns-in-Increment g t c =
-    viewed (ap statement_view c.in-Increment.is ∙ view_Increment c.in-Increment.attributes c.in-Increment.expression) (inside (kind increment) refl (λ f. refl) (beside c.at_attributes-in-Increment.ensures c.at_expression-in-Increment.ensures))
-
-pub in_statement-returns-in-Decrement : goal.in_statement-returns-in-Decrement
-in_statement-returns-in-Decrement g t c =
-    viewed (ap statement_view c.in-Decrement.is ∙ view_Decrement c.in-Decrement.attributes c.in-Decrement.expression) (inside (kind decrement) refl (λ f. refl) (beside c.at_attributes-in-Decrement.ensures c.at_expression-in-Decrement.ensures))
 
 pub in_statement-returns-in-If : goal.in_statement-returns-in-If
 in_statement-returns-in-If g t c =
@@ -48,18 +40,6 @@ in_statement-returns-in-For g t c =
 pub in_statement-returns-in-While : goal.in_statement-returns-in-While
 in_statement-returns-in-While g t c =
     viewed (ap statement_view c.in-While.is ∙ view_While c.in-While.attributes c.in-While.condition c.in-While.body) (inside (kind while_loop) refl (λ f. refl) (beside c.at_attributes-in-While.ensures (beside c.at_expression-in-While.ensures c.in_compound-in-While.ensures)))
-
-pub in_statement-returns-in-Break : goal.in_statement-returns-in-Break
-in_statement-returns-in-Break g t c =
-    viewed (ap statement_view c.in-Break.is ∙ view_Break c.in-Break.attributes) (inside (kind break) refl (λ f. refl) c.at_attributes-in-Break.ensures)
-
-pub in_statement-returns-in-Continue : goal.in_statement-returns-in-Continue
-in_statement-returns-in-Continue g t c =
-    viewed (ap statement_view c.in-Continue.is ∙ view_Continue c.in-Continue.attributes) (inside (kind continue) refl (λ f. refl) c.at_attributes-in-Continue.ensures)
-
-pub in_statement-returns-in-Discard : goal.in_statement-returns-in-Discard
-in_statement-returns-in-Discard g t c =
-    viewed (ap statement_view c.in-Discard.is ∙ view_Discard c.in-Discard.attributes) (inside (kind discard) refl (λ f. refl) c.at_attributes-in-Discard.ensures)
 
 pub in_statement-returns-in-Return : goal.in_statement-returns-in-Return
 in_statement-returns-in-Return g t c =
@@ -97,10 +77,6 @@ pub in_clause-returns : goal.in_clause-returns
 in_clause-returns g t c =
     viewed (view_clause c.args.clause.now) (inside (kind switch_clause) refl (λ f. refl) (beside c.at_attributes.ensures (beside (inside (kind list) refl (λ f. refl) c.in_selectors.ensures) c.in_compound.ensures)))
 
-pub in_continuing-returns : goal.in_continuing-returns
-in_continuing-returns g t c =
-    viewed (view_continuing c.args.continuing.now) (inside (kind continuing) refl (λ f. refl) (beside c.at_attributes.ensures (beside c.in_compound.ensures c.in_optional_break_if.ensures)))
-
 pub in_optional_else-returns-in-None : goal.in_optional_else-returns-in-None
 in_optional_else-returns-in-None g t c =
     viewed (ap (optional else_view) c.in-None.is) (hollow _ refl)
@@ -115,7 +91,8 @@ in_optional_continuing-returns-in-None g t c =
 
 pub in_optional_continuing-returns-in-Some : goal.in_optional_continuing-returns-in-Some
 in_optional_continuing-returns-in-Some g t c =
-    viewed (ap (optional continuing_view) c.in-Some.is) (inside (kind present) refl (λ f. refl) c.in_continuing.ensures)
+    viewed (ap (optional continuing_view) c.in-Some.is) (inside (kind present) refl (λ f. refl)
+    (viewed (view_continuing c.in-Some.continuing) (inside (kind continuing) refl (λ f. refl) (beside c.at_attributes.ensures (beside c.in_compound.ensures c.in_optional_break_if.ensures)))))
 
 pub in_else_ifs-loop-clause-init : goal.in_else_ifs-loop-clause-init
 in_else_ifs-loop-clause-init g t c =

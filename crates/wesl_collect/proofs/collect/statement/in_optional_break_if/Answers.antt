@@ -1,7 +1,7 @@
 use Rattle.std.proofs.Common.{ap, refl}
-use Rattle.wesl_syntax.specs.Tree.{kind, present}
+use Rattle.wesl_syntax.specs.Tree.{break_if, kind, present}
 use Rattle.wesl_syntax.specs.View.{break_if_view, optional}
-use Rattle.wesl_collect.proofs.Adds.{hollow, inside, viewed}
+use Rattle.wesl_collect.proofs.Adds.{beside, hollow, inside, viewed}
 use Rattle.wesl_collect.proofs.collect.statement.in_optional_break_if.Goals as goal
 
 pub returns-in-None : goal.returns-in-None
@@ -10,4 +10,4 @@ returns-in-None g c =
 
 pub returns-in-Some : goal.returns-in-Some
 returns-in-Some g c =
-    viewed (ap (optional break_if_view) c.in-Some.is) (inside (kind present) refl (λ f. refl) c.in_break_if.ensures)
+    viewed (ap (optional break_if_view) c.in-Some.is) (inside (kind present) refl (λ f. refl) (inside (kind break_if) refl (λ f. refl) (beside c.at_attributes.ensures c.at_expression.ensures)))

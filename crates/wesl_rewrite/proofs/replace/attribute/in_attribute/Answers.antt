@@ -5,7 +5,7 @@ use Rattle.wesl_syntax.specs.declared.attribute.Attribute.TheVariants as made
 use Rattle.std.specs.Vec.{with_items}
 use Rattle.wesl_rewrite.proofs.Parts.{operand_went}
 use Rattle.wesl_rewrite.proofs.Steps.{beside, inside, unmoved, viewed, went_list}
-use Rattle.wesl_rewrite.proofs.Words.{elif_went, if_went}
+use Rattle.wesl_rewrite.proofs.Words.{rest_went}
 use Rattle.wesl_rewrite.proofs.replace.attribute.in_attribute.Goals as goal
 
 pub returns-in-Align : goal.returns-in-Align
@@ -66,67 +66,7 @@ returns-in-Some g c =
     (inside (kind custom) refl refl (beside (unmoved (before (text_tree b.name) end) refl) (inside (kind present) refl refl
     (went_list expression_tree list v _ d.new.nodes refl refl c.deref_mut.ensures.value (omega (arith, d.auto.nodes, c.deref_mut.ensures.len)) d.ensures))))
 
-pub returns-in-If : goal.returns-in-If
-returns-in-If g c =
-    let p = ap attribute_view c.in-If.is in
-    viewed _ _ p p (if_went c.law_of_words.ensures.attributes _ _ _)
-
-pub returns-in-Elif : goal.returns-in-Elif
-returns-in-Elif g c =
-    let p = ap attribute_view c.in-Elif.is in
-    viewed _ _ p p (elif_went c.law_of_words.ensures.attributes _ _ _)
-
-pub returns-in-Builtin : goal.returns-in-Builtin
-returns-in-Builtin g c =
-    let p = ap attribute_view c.in-Builtin.is in
-    viewed _ _ p p (unmoved _ refl)
-
-pub returns-in-Const : goal.returns-in-Const
-returns-in-Const g c =
-    let p = ap attribute_view c.in-Const.is in
-    viewed _ _ p p (unmoved _ refl)
-
-pub returns-in-Diagnostic : goal.returns-in-Diagnostic
-returns-in-Diagnostic g c =
-    let p = ap attribute_view c.in-Diagnostic.is in
-    viewed _ _ p p (unmoved _ refl)
-
-pub returns-in-Interpolate : goal.returns-in-Interpolate
-returns-in-Interpolate g c =
-    let p = ap attribute_view c.in-Interpolate.is in
-    viewed _ _ p p (unmoved _ refl)
-
-pub returns-in-Invariant : goal.returns-in-Invariant
-returns-in-Invariant g c =
-    let p = ap attribute_view c.in-Invariant.is in
-    viewed _ _ p p (unmoved _ refl)
-
-pub returns-in-MustUse : goal.returns-in-MustUse
-returns-in-MustUse g c =
-    let p = ap attribute_view c.in-MustUse.is in
-    viewed _ _ p p (unmoved _ refl)
-
-pub returns-in-Vertex : goal.returns-in-Vertex
-returns-in-Vertex g c =
-    let p = ap attribute_view c.in-Vertex.is in
-    viewed _ _ p p (unmoved _ refl)
-
-pub returns-in-Fragment : goal.returns-in-Fragment
-returns-in-Fragment g c =
-    let p = ap attribute_view c.in-Fragment.is in
-    viewed _ _ p p (unmoved _ refl)
-
-pub returns-in-Compute : goal.returns-in-Compute
-returns-in-Compute g c =
-    let p = ap attribute_view c.in-Compute.is in
-    viewed _ _ p p (unmoved _ refl)
-
-pub returns-in-Publish : goal.returns-in-Publish
-returns-in-Publish g c =
-    let p = ap attribute_view c.in-Publish.is in
-    viewed _ _ p p (unmoved _ refl)
-
-pub returns-in-Else : goal.returns-in-Else
-returns-in-Else g c =
-    let p = ap attribute_view c.in-Else.is in
-    viewed _ _ p p (unmoved _ refl)
+pub returns-in_default : goal.returns-in_default
+returns-in_default g c =
+    let n = c.in_default in
+    rest_went c.law_of_words.ensures.attributes _ _ c.args.attribute.now n.not-Align n.not-Binding n.not-BlendSrc n.not-Group n.not-Id n.not-Location n.not-Size n.not-WorkgroupSize n.not-Custom

@@ -5,8 +5,8 @@ use Rattle.wesl_syntax.specs.Tree.{assignment, break, call_statement, clauses, c
 use Rattle.wesl_syntax.specs.View.{assert_view, attributes_tree, call_view, clause_view, compound_view, continuing_view, declaration_view, else_if_view, else_view, expression_tree, if_view, listed, optional, selector_view, statement_tree, statement_view}
 use Rattle.wesl_syntax.specs.declared.span.Spanned.{Spanned}
 use Rattle.wesl_syntax.specs.declared.statement.CompoundStatement.{out-CompoundStatement}
-use Rattle.wesl_syntax.specs.declared.statement.ContinuingStatement.{out-ContinuingStatement}
-use Rattle.wesl_syntax.specs.declared.statement.ElseClause.{out-ElseClause}
+use Rattle.wesl_syntax.specs.declared.statement.ContinuingStatement.{roll-ContinuingStatement}
+use Rattle.wesl_syntax.specs.declared.statement.ElseClause.{roll-ElseClause}
 use Rattle.wesl_syntax.specs.declared.statement.ElseIfClause.{out-ElseIfClause}
 use Rattle.wesl_syntax.specs.declared.statement.IfClause.{out-IfClause}
 use Rattle.wesl_syntax.specs.declared.statement.Statement.{Statement, out-Statement}
@@ -186,14 +186,6 @@ in_else_if-returns g t c =
     viewed _ _ (ElseIfClause_is c.args.clause.now) (ElseIfClause_of d0.new.attributes d1.new.node d2.new.body)
     (inside (kind else_if_clause) refl refl (beside d0.ensures (beside d1.ensures d2.ensures)))
 
-pub in_else-returns : goal.in_else-returns
-in_else-returns g t c =
-    let old = out-ElseClause c.args.clause.now in
-    let d0 = c.at_attributes-goes in
-    let d1 = c.in_compound in
-    viewed _ _ (ElseClause_is c.args.clause.now) (ElseClause_of d0.new.attributes d1.new.body)
-    (inside (kind else_clause) refl refl (beside d0.ensures d1.ensures))
-
 pub in_clause-returns : goal.in_clause-returns
 in_clause-returns g t c =
     let old = out-SwitchClause c.args.clause.now in
@@ -203,15 +195,6 @@ in_clause-returns g t c =
     viewed _ _ (SwitchClause_is c.args.clause.now) (SwitchClause_of d0.new.attributes (with_items old.case_selectors d1.new.selectors) d2.new.body)
     (inside (kind switch_clause) refl refl (beside d0.ensures (beside (went_list selector_view list old.case_selectors _ d1.new.selectors refl refl c.deref_mut.ensures.value (omega (arith, d1.auto.selectors, c.deref_mut.ensures.len)) d1.ensures) d2.ensures)))
 
-pub in_continuing-returns : goal.in_continuing-returns
-in_continuing-returns g t c =
-    let old = out-ContinuingStatement c.args.continuing.now in
-    let d0 = c.at_attributes-goes in
-    let d1 = c.in_compound-goes in
-    let d2 = c.in_optional_break_if in
-    viewed _ _ (ContinuingStatement_is c.args.continuing.now) (ContinuingStatement_of d0.new.attributes d1.new.body d2.new.break_if)
-    (inside (kind continuing) refl refl (beside d0.ensures (beside d1.ensures d2.ensures)))
-
 pub in_optional_else-returns-in-None : goal.in_optional_else-returns-in-None
 in_optional_else-returns-in-None g t c =
     let p = ap (optional else_view) c.in-None.is in
@@ -219,8 +202,10 @@ in_optional_else-returns-in-None g t c =
 
 pub in_optional_else-returns-in-Some : goal.in_optional_else-returns-in-Some
 in_optional_else-returns-in-Some g t c =
-    let d = c.in_else in
-    viewed _ (optional else_view (Some d.new.clause)) (ap (optional else_view) c.in-Some.is) refl (inside (kind present) refl refl d.ensures)
+    let d0 = c.at_attributes-goes in
+    let d1 = c.in_compound in
+    viewed _ (optional else_view (Some (roll-ElseClause (record { attributes = d0.new.attributes; body = d1.new.body })))) (ap (optional else_view) c.in-Some.is) refl
+    (inside (kind present) refl refl (viewed _ _ (ElseClause_is c.in-Some.clause) (ElseClause_of d0.new.attributes d1.new.body) (inside (kind else_clause) refl refl (beside d0.ensures d1.ensures))))
 
 pub in_optional_continuing-returns-in-None : goal.in_optional_continuing-returns-in-None
 in_optional_continuing-returns-in-None g t c =
@@ -229,8 +214,11 @@ in_optional_continuing-returns-in-None g t c =
 
 pub in_optional_continuing-returns-in-Some : goal.in_optional_continuing-returns-in-Some
 in_optional_continuing-returns-in-Some g t c =
-    let d = c.in_continuing in
-    viewed _ (optional continuing_view (Some d.new.continuing)) (ap (optional continuing_view) c.in-Some.is) refl (inside (kind present) refl refl d.ensures)
+    let d0 = c.at_attributes-goes in
+    let d1 = c.in_compound-goes in
+    let d2 = c.in_optional_break_if in
+    viewed _ (optional continuing_view (Some (roll-ContinuingStatement (record { attributes = d0.new.attributes; body = d1.new.body; break_if = d2.new.break_if })))) (ap (optional continuing_view) c.in-Some.is) refl
+    (inside (kind present) refl refl (viewed _ _ (ContinuingStatement_is c.in-Some.continuing) (ContinuingStatement_of d0.new.attributes d1.new.body d2.new.break_if) (inside (kind continuing) refl refl (beside d0.ensures (beside d1.ensures d2.ensures)))))
 
 pub in_else_ifs-returns : goal.in_else_ifs-returns
 in_else_ifs-returns g t c =
@@ -301,14 +289,13 @@ at_optional_statement-returns-then-takes_whole_statements g t c =
     let w = c.takes_whole_statements in
     viewed _ (optional (λ s. statement_tree (box_value s)) (Some (with_value c.in-Some.node d.new.node))) (ap (optional (λ s. statement_tree (box_value s))) c.in-Some.is) refl
     (inside (kind present) refl refl (taken_if _ w.result _ _ (statement_tree c.in-Some.node.value) (statement_tree d.new.node) refl w.ensures c.if-takes_whole_statements.true
-    (subst (λ (n : Spanned Statement). Finished (seeks_statements g.T.Kind.sought) g.R.Rewrite.rewrites c.args.goes (statement_tree n) d.result (statement_tree d.new.node)) c.deref_mut.ensures.value d.ensures)))
+    (subst (λ (n : Spanned Statement). Finished (seeks_statements g.T.Kind.sought) g.R.Rewrite.rewrites c.args.goes (statement_tree n) d.result (statement_tree d.new.node)) c.deref_mut-node.ensures.value d.ensures)))
 
 pub at_optional_statement-returns-else-takes_whole_statements : goal.at_optional_statement-returns-else-takes_whole_statements
 at_optional_statement-returns-else-takes_whole_statements g t c =
     let d = c.finish_statement-else-takes_whole_statements in
     let w = c.takes_whole_statements in
     let e = c.in_statement-goes in
-    let s = c.deref_mut-else-takes_whole_statements.result.now in
+    let s = c.deref_mut-node.result.now in
     viewed _ (optional (λ s. statement_tree (box_value s)) (Some (with_value c.in-Some.node d.new.node))) (ap (optional (λ s. statement_tree (box_value s))) c.in-Some.is) refl
-    (inside (kind present) refl refl (from statement_tree c.deref_mut-else-takes_whole_statements.ensures.value (taken_else _ w.result (statement_tree s).label (statement_tree d.new.node) refl refl w.ensures c.if-takes_whole_statements.false e.ensures
-    (subst (λ (n : Spanned Statement). Finished (seeks_statements g.T.Kind.sought) g.R.Rewrite.rewrites e.result (statement_tree n) d.result (statement_tree d.new.node)) c.deref_mut-else-takes_whole_statements-2.ensures.value d.ensures))))
+    (inside (kind present) refl refl (from statement_tree c.deref_mut-node.ensures.value (taken_else _ w.result (statement_tree s).label (statement_tree d.new.node) refl refl w.ensures c.if-takes_whole_statements.false e.ensures d.ensures)))

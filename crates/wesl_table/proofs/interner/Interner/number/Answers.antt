@@ -3,7 +3,7 @@ use Rattle.std.specs.Prelude.{string_bytes}
 use Rattle.std.proofs.lemmas.Slice.Eq.{bytes_eq-Decides}
 use Rattle.wesl_table.specs.Interned.{with_text}
 use Rattle.wesl_table.proofs.Interning.{position_held, get_map, different_put, texts_known, texts_with}
-use Rattle.wesl_table.proofs.interner.Interner.intern.Goals as goal
+use Rattle.wesl_table.proofs.interner.Interner.number.Goals as goal
 
 pub returns-in-Some-clause-held : goal.returns-in-Some-clause-held
 returns-in-Some-clause-held c =
