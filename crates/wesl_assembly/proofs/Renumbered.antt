@@ -8,8 +8,8 @@ use Rattle.wesl_syntax.specs.declared.span.Spanned.{Spanned}
 use Rattle.wesl_syntax.specs.declared.declaration.GlobalDirective.{GlobalDirective}
 use Rattle.wesl_syntax.specs.declared.declaration.GlobalDeclaration.{GlobalDeclaration}
 use Rattle.wesl_copies.specs.Renumbered.{renumbered, after, other_numbers}
-use Rattle.wesl_renumber.specs.Leaves.{are_leaves}
-use Rattle.wesl_renumber.proofs.Leaves.{have_leaves}
+use Rattle.wesl_faith.specs.Leaves.{are_leaves}
+use Rattle.wesl_faith.proofs.Leaves.{have_leaves}
 use Rattle.wesl_assembly.specs.Linked.{directive_ref_tree, declaration_ref_tree, nodes_of}
 
 abbrev pub shape_of : {I : Type 0} → ForestOf I → ForestOf (Unit {0})

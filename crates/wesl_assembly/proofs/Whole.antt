@@ -11,9 +11,9 @@ use Rattle.wesl_syntax.specs.Numbers.{AreNumbers, number_at}
 use Rattle.wesl_copies.specs.Copied.{Copied}
 use Rattle.wesl_copies.specs.Renumbered.{renumbered}
 use Rattle.wesl_copies.specs.declared.copying.Copying.{Copying}
-use Rattle.wesl_renumber.specs.Leaves.{are_leaves}
-use Rattle.wesl_renumber.proofs.Taken.{numbers_are, taken}
-use Rattle.wesl_renumber.proofs.Units.{each_below}
+use Rattle.wesl_faith.specs.Leaves.{are_leaves}
+use Rattle.wesl_faith.proofs.Taken.{numbers_are, taken}
+use Rattle.wesl_faith.proofs.Units.{each_below}
 use Rattle.wesl_assembly.specs.Pathless.{without_paths}
 use Rattle.wesl_assembly.specs.Linked.{printed_unit, IsLinkedAs}
 use Rattle.wesl_assembly.proofs.Pathless.{same_identifiers, respelled_without}

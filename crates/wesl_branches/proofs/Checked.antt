@@ -1,20 +1,20 @@
 -- Faults in a node, from the faults in its parts.
-use Rattle.std.proofs.Common.{◌≡◌, ℕ, false, List, [], ◌∷◌, map, inl, inr, Option, Some, None, Result, Ok, Err, Vec, Global, Box, rules, refl, sym, ap, ◌∙◌, subst}
+use Rattle.std.proofs.Common.{◌≡◌, ℕ, false, List, [], ◌∷◌, map, inl, inr, Option, Some, None, Result, Ok, Err, Vec, Global, Box, refl, sym, ap, ◌∙◌, subst}
 use Rattle.std.specs.Box.{box_value}
 use Rattle.std.specs.Prelude.{MatchResult}
 use Rattle.wesl_chains.specs.Faults.{beside, list_faults}
-use Rattle.wesl_chains.specs.Judging.{IsClear, RefusesIn, Checks, in_turn}
+use Rattle.wesl_chains.specs.Judging.{IsClear, RefusesIn, Checks}
 use Rattle.wesl_chains.specs.Lists.{elements, alone, is_entered}
 use Rattle.wesl_branches.proofs.Closed.{body_refused, body_checked}
 use Rattle.wesl_branches.proofs.Settled.{view_clause, view_loop}
 use Rattle.wesl_branches.proofs.Standing.{stay, split, in_first, nothing, clear_leaf, passed_by, checks_same, list_checked, first_refused, next_checked, skip}
-use Rattle.wesl_branches.proofs.Views.{view_compound, view_if, view_switch, view_for}
+use Rattle.wesl_branches.proofs.Views.{view_block, view_compound, view_else, view_else_if, view_for, view_if, view_if_clause, view_switch, view_while}
 use Rattle.wesl_chains.specs.Evaluation.{Refuses}
 use Rattle.wesl_features.specs.Features.{Replies}
 use Rattle.wesl_names.specs.Path.{Text}
 use Rattle.wesl_names.specs.declared.errors.Error as error
 use Rattle.wesl_syntax.specs.Tree.{Tree, Forest, end, kind, at, before, branch, forest_of, list, present, absent, statement_node, compound_statement, if_statement, if_clause, else_if_clause, else_clause, switch, clauses, switch_clause, loop, for_loop, while_loop}
-use Rattle.wesl_syntax.specs.View.{attributes_tree, clause_step, clause_view, compound_step, compound_view, continuing_step, continuing_view, else_if_step, else_if_view, else_step, else_view, expression_tree, if_step, if_view, listed, optional, selector_view, statement_step, statement_tree, statement_view}
+use Rattle.wesl_syntax.specs.View.{attributes_tree, clause_view, compound_view, continuing_view, else_if_view, else_view, expression_tree, if_view, listed, optional, selector_view, statement_tree, statement_view}
 use Rattle.wesl_syntax.specs.declared.attribute.Attribute.{Attribute}
 use Rattle.wesl_syntax.specs.declared.expression.Expression.{Expression}
 use Rattle.wesl_syntax.specs.declared.span.Spanned.{Spanned}
@@ -26,30 +26,20 @@ use Rattle.wesl_syntax.specs.declared.statement.ElseClause.{ElseClause, out-Else
 use Rattle.wesl_syntax.specs.declared.statement.ElseIfClause.{ElseIfClause, out-ElseIfClause}
 use Rattle.wesl_syntax.specs.declared.statement.IfClause.{IfClause, out-IfClause}
 use Rattle.wesl_syntax.specs.declared.statement.SwitchClause.{SwitchClause, out-SwitchClause}
-use Rattle.wesl_syntax.specs.declared.statement.Statement.{Statement, the_lemmas}
-use Rattle.wesl_syntax.specs.declared.statement.Statement.TheFolds.{fold_out-IfClause, fold_out-ElseIfClause, fold_out-ElseClause}
+use Rattle.wesl_syntax.specs.declared.statement.Statement.{Statement}
 use Rattle.wesl_syntax.specs.declared.statement.Statement.TheViews as made
 
--- the first refusal of three, told by cases
+-- the first refusal of three, if there is one
+abbrev pub in_turn : {A : Type 0} → Result A error.Error → Result A error.Error → Result A error.Error → Result A error.Error
+in_turn (Err e) second third = Err e
+in_turn (Ok x) (Err e) third = Err e
+in_turn (Ok x) (Ok y) third = third
+
+-- the same told by cases
 pub first_of_three : {A : Type 0} (r s w all : Result A error.Error) → MatchResult r (λ _. MatchResult s (λ _. all ≡ w) (λ e. all ≡ Err e)) (λ e. all ≡ Err e) → all ≡ in_turn r s w
 first_of_three (Err e) s w all h = h
 first_of_three (Ok x) (Err e) w all h = h
 first_of_three (Ok x) (Ok y) w all h = h
-
-view_if_clause : (c : IfClause) → if_view c ≡ branch if_clause (expression_tree (out-IfClause c).expression ∷ compound_view (out-IfClause c).body ∷ [])
-view_if_clause c = fold_out-IfClause Tree Tree Tree Tree Tree Tree Tree statement_step compound_step continuing_step else_step else_if_step if_step clause_step c
-
-view_else_if : (c : ElseIfClause) → else_if_view c ≡ branch else_if_clause (attributes_tree (out-ElseIfClause c).attributes ∷ expression_tree (out-ElseIfClause c).expression ∷ compound_view (out-ElseIfClause c).body ∷ [])
-view_else_if c = fold_out-ElseIfClause Tree Tree Tree Tree Tree Tree Tree statement_step compound_step continuing_step else_step else_if_step if_step clause_step c
-
-view_else : (c : ElseClause) → else_view c ≡ branch else_clause (attributes_tree (out-ElseClause c).attributes ∷ compound_view (out-ElseClause c).body ∷ [])
-view_else c = fold_out-ElseClause Tree Tree Tree Tree Tree Tree Tree statement_step compound_step continuing_step else_step else_if_step if_step clause_step c
-
-view_block : (b : CompoundStatement) → statement_view (made.Compound b) ≡ branch compound_statement (compound_view b ∷ [])
-view_block b = search (rules, the_lemmas)
-
-view_while : (a : Vec (Spanned Attribute) Global) (e : Spanned Expression) (b : CompoundStatement) → statement_view (made.While a e b) ≡ branch while_loop (attributes_tree a ∷ expression_tree e ∷ compound_view b ∷ [])
-view_while a e b = search (rules, the_lemmas)
 
 module _ (reply : Replies ℕ) (names : List Text) where
   -- nodes that hold no list

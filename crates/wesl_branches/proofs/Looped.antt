@@ -1,9 +1,10 @@
 -- Faults in loops and continuing blocks, from the faults in their parts.
 use Rattle.std.proofs.Common.{◌≡◌, ℕ, Bool, true, false, cond, List, [], ◌∷◌, ◌++◌, map, Option, Some, None, Result, Ok, Err, Vec, Global, refl, sym, subst}
 use Rattle.wesl_chains.specs.Faults.{list_faults}
-use Rattle.wesl_chains.specs.Judging.{IsClear, RefusesIn, Checks, closing, in_turn}
+use Rattle.wesl_chains.specs.Judging.{IsClear, RefusesIn, Checks, closing}
 use Rattle.wesl_chains.specs.Lists.{Element, elements, alone}
 use Rattle.wesl_chains.specs.Nodes.{optional_forest}
+use Rattle.wesl_branches.proofs.Checked.{in_turn}
 use Rattle.wesl_branches.proofs.Closed.{closed_refused, front_refused, closed_checked, closed_front}
 use Rattle.wesl_branches.proofs.Settled.{view_continuing}
 use Rattle.wesl_branches.proofs.Standing.{stay, nothing}
@@ -20,10 +21,6 @@ use Rattle.wesl_syntax.specs.declared.span.Spanned.{Spanned}
 use Rattle.wesl_syntax.specs.declared.statement.BreakIfStatement.{BreakIfStatement}
 use Rattle.wesl_syntax.specs.declared.statement.CompoundStatement.{CompoundStatement, out-CompoundStatement}
 use Rattle.wesl_syntax.specs.declared.statement.ContinuingStatement.{ContinuingStatement, out-ContinuingStatement}
-
-pub clear_cond : (reply : Replies ℕ) (b : Bool) → IsClear reply (cond b end end)
-clear_cond reply true = nothing reply
-clear_cond reply false = nothing reply
 
 module _ (reply : Replies ℕ) (names : List Text) where
   abbrev pub trees_in : CompoundStatement → List Tree

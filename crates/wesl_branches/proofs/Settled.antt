@@ -1,17 +1,19 @@
 -- What is left of statements, as the code leaves it.
+use Rattle.std.specs.Box.{box_value}
 use Rattle.std.specs.Vec.{with_items}
-use Rattle.std.proofs.Common.{◌≡◌, ℕ, true, false, List, [], ◌∷◌, ◌++◌, map, Option, Some, None, Vec, Global, rules, refl, sym, ap, ◌∙◌}
+use Rattle.std.proofs.Common.{◌≡◌, ℕ, true, false, List, [], ◌∷◌, ◌++◌, map, Option, Some, None, Vec, Box, Global, rules, refl, sym, ap, ◌∙◌}
 use mathlib.Core.List.{map-map}
 use Rattle.wesl_chains.specs.Chains.{residual_list}
 use Rattle.wesl_chains.specs.Lists.{element, elements, alone}
 use Rattle.wesl_chains.specs.Nodes.{as_element, optional_elements, optional_forest}
 use Rattle.wesl_chains.specs.Residual.{residual_tree}
 use Rattle.wesl_branches.proofs.Levels.{inner, inner_left, listed_left, nodes_left, clauses_left, body_left, loop_left, continuing_left}
-use Rattle.wesl_branches.proofs.Views.{view_compound, view_if, view_switch}
+use Rattle.wesl_branches.proofs.Views.{view_block, view_compound, view_else, view_else_if, view_for, view_if, view_if_clause, view_switch, view_while}
 use Rattle.wesl_features.specs.Answers.{Answers}
-use Rattle.wesl_syntax.specs.Tree.{Tree, at, before, branch, end, forest_of, compound, statement_node, statements, list, if_statement, switch, switch_clause, loop, continuing}
-use Rattle.wesl_syntax.specs.View.{attributes_tree, break_if_view, clause_step, clause_view, compound_step, compound_view, continuing_step, continuing_view, else_if_step, else_if_view, else_step, else_view, expression_tree, if_step, if_view, listed, optional, selector_view, statement_step, statement_tree, statement_view}
+use Rattle.wesl_syntax.specs.Tree.{Tree, at, before, branch, declaration_node, end, forest_of, compound, compound_statement, for_loop, statement_node, statements, list, else_clause, else_if_clause, if_clause, if_statement, present, switch, switch_clause, loop, continuing, while_loop}
+use Rattle.wesl_syntax.specs.View.{attributes_tree, break_if_view, clause_step, clause_view, compound_step, compound_view, continuing_step, continuing_view, else_if_step, else_if_view, else_step, else_view, expression_tree, global_view, if_step, if_view, listed, optional, placed, selector_view, statement_step, statement_tree, statement_view}
 use Rattle.wesl_syntax.specs.declared.attribute.Attribute.{Attribute}
+use Rattle.wesl_syntax.specs.declared.declaration.GlobalDeclaration.{GlobalDeclaration}
 use Rattle.wesl_syntax.specs.declared.span.Spanned.{Spanned}
 use Rattle.wesl_syntax.specs.declared.statement.BreakIfStatement.{BreakIfStatement}
 use Rattle.wesl_syntax.specs.declared.statement.CompoundStatement.{CompoundStatement, out-CompoundStatement}
@@ -19,14 +21,14 @@ use Rattle.wesl_syntax.specs.declared.statement.ContinuingStatement.{ContinuingS
 use Rattle.wesl_syntax.specs.declared.expression.Expression.{Expression}
 use Rattle.wesl_syntax.specs.declared.statement.CaseSelector.{CaseSelector}
 use Rattle.wesl_syntax.specs.declared.statement.CaseSelector.TheVariants as selectors
-use Rattle.wesl_syntax.specs.declared.statement.ElseClause.{ElseClause}
-use Rattle.wesl_syntax.specs.declared.statement.ElseIfClause.{ElseIfClause}
-use Rattle.wesl_syntax.specs.declared.statement.IfClause.{IfClause}
+use Rattle.wesl_syntax.specs.declared.statement.ElseClause.{ElseClause, out-ElseClause}
+use Rattle.wesl_syntax.specs.declared.statement.ElseIfClause.{ElseIfClause, out-ElseIfClause}
+use Rattle.wesl_syntax.specs.declared.statement.IfClause.{IfClause, out-IfClause}
 use Rattle.wesl_syntax.specs.declared.statement.SwitchClause.{SwitchClause, out-SwitchClause}
 use Rattle.wesl_syntax.specs.declared.statement.Statement.{Statement, the_lemmas}
-use Rattle.wesl_syntax.specs.declared.statement.Statement.TheFolds.{fold_out-ContinuingStatement, fold_out-SwitchClause, fold-roll-CompoundStatement, fold-roll-ContinuingStatement, fold-roll-SwitchClause}
+use Rattle.wesl_syntax.specs.declared.statement.Statement.TheFolds.{fold_out-ContinuingStatement, fold_out-SwitchClause, fold-roll-CompoundStatement, fold-roll-ContinuingStatement, fold-roll-ElseClause, fold-roll-ElseIfClause, fold-roll-IfClause, fold-roll-SwitchClause}
 use Rattle.wesl_syntax.specs.declared.statement.Statement.TheViews as made
-use Rattle.wesl_syntax.specs.declared.statement.Statement.TheViews.{roll-CompoundStatement, roll-ContinuingStatement, roll-SwitchClause}
+use Rattle.wesl_syntax.specs.declared.statement.Statement.TheViews.{roll-CompoundStatement, roll-ContinuingStatement, roll-ElseClause, roll-ElseIfClause, roll-IfClause, roll-SwitchClause}
 
 view_rolled : (a : Vec (Spanned Attribute) Global) (v : Vec (Spanned Statement) Global) → compound_view (roll-CompoundStatement (record { attributes = a; statements = v })) ≡ branch compound (attributes_tree a ∷ branch statements (map statement_tree v.items) ∷ [])
 view_rolled a v = fold-roll-CompoundStatement Tree Tree Tree Tree Tree Tree Tree statement_step compound_step continuing_step else_step else_if_step if_step clause_step (record { attributes = a; statements = v }) ∙ simp map-map
@@ -42,6 +44,15 @@ view_loop a b o = search (rules, the_lemmas)
 
 pub view_clause : (c : SwitchClause) → clause_view c ≡ branch switch_clause (attributes_tree (out-SwitchClause c).attributes ∷ listed selector_view list (out-SwitchClause c).case_selectors ∷ compound_view (out-SwitchClause c).body ∷ [])
 view_clause c = fold_out-SwitchClause Tree Tree Tree Tree Tree Tree Tree statement_step compound_step continuing_step else_step else_if_step if_step clause_step c
+
+view_rolled_if : (e : Spanned Expression) (b : CompoundStatement) → if_view (roll-IfClause (record { expression = e; body = b })) ≡ branch if_clause (expression_tree e ∷ compound_view b ∷ [])
+view_rolled_if e b = fold-roll-IfClause Tree Tree Tree Tree Tree Tree Tree statement_step compound_step continuing_step else_step else_if_step if_step clause_step (record { expression = e; body = b })
+
+view_rolled_else_if : (a : Vec (Spanned Attribute) Global) (e : Spanned Expression) (b : CompoundStatement) → else_if_view (roll-ElseIfClause (record { attributes = a; expression = e; body = b })) ≡ branch else_if_clause (attributes_tree a ∷ expression_tree e ∷ compound_view b ∷ [])
+view_rolled_else_if a e b = fold-roll-ElseIfClause Tree Tree Tree Tree Tree Tree Tree statement_step compound_step continuing_step else_step else_if_step if_step clause_step (record { attributes = a; expression = e; body = b })
+
+view_rolled_else : (a : Vec (Spanned Attribute) Global) (b : CompoundStatement) → else_view (roll-ElseClause (record { attributes = a; body = b })) ≡ branch else_clause (attributes_tree a ∷ compound_view b ∷ [])
+view_rolled_else a b = fold-roll-ElseClause Tree Tree Tree Tree Tree Tree Tree statement_step compound_step continuing_step else_step else_if_step if_step clause_step (record { attributes = a; body = b })
 
 view_rolled_clause : (a : Vec (Spanned Attribute) Global) (x : Vec CaseSelector Global) (b : CompoundStatement) → clause_view (roll-SwitchClause (record { attributes = a; case_selectors = x; body = b })) ≡ branch switch_clause (attributes_tree a ∷ listed selector_view list x ∷ compound_view b ∷ [])
 view_rolled_clause a x b = fold-roll-SwitchClause Tree Tree Tree Tree Tree Tree Tree statement_step compound_step continuing_step else_step else_if_step if_step clause_step (record { attributes = a; case_selectors = x; body = b })
@@ -61,6 +72,12 @@ module _ (known : Answers ℕ) where
   node_settled x y s e =
       ap (λ p. record { label = at statement_node p.start p.end; children = before (statement_view y.node) end }) s
       ∙ ap (λ t. record { label = at statement_node x.span.start x.span.end; children = before t end }) e
+
+  -- a declaration in its place
+  pub global_settled : (x y : Spanned GlobalDeclaration) → y.span ≡ x.span → global_view y.node ≡ residual_tree known (global_view x.node) → placed global_view declaration_node y ≡ residual_tree known (placed global_view declaration_node x)
+  global_settled x y s e =
+      ap (λ p. record { label = at declaration_node p.start p.end; children = before (global_view y.node) end }) s
+      ∙ ap (λ t. record { label = at declaration_node x.span.start x.span.end; children = before t end }) e
 
   pub compound_settled : (b : CompoundStatement) (ys : List (Spanned Statement)) (v : Vec (Spanned Statement) Global) → IsEach (out-CompoundStatement b).statements.items ys
       → forest_of (map statement_tree v.items) ≡ alone (residual_list element known) (forest_of (map statement_tree ys))
@@ -97,6 +114,34 @@ module _ (known : Answers ℕ) where
       ∙ loop_left known statement_tree continuing_view a c.attributes c.statements.items ys v.items o p q e (inner_left known continuing_view o p d) kept
       ∙ ap (λ t. residual_tree known (branch loop (attributes_tree a ∷ t ∷ optional continuing_view o ∷ []))) (sym (view_compound b))
       ∙ ap (residual_tree known) (sym (view_loop a b o))
+
+  -- the clauses of an `if`, and an optional part
+  pub if_clause_settled : (c : IfClause) (b : CompoundStatement) → compound_view b ≡ residual_tree known (compound_view (out-IfClause c).body)
+      → if_view (roll-IfClause (record { expression = (out-IfClause c).expression; body = b })) ≡ residual_tree known (if_view c)
+  if_clause_settled c b e =
+      view_rolled_if (out-IfClause c).expression b
+      ∙ ap (λ t. branch if_clause (expression_tree (out-IfClause c).expression ∷ t ∷ [])) e
+      ∙ ap (residual_tree known) (sym (view_if_clause c))
+
+  pub else_if_settled : (c : ElseIfClause) (b : CompoundStatement) → compound_view b ≡ residual_tree known (compound_view (out-ElseIfClause c).body)
+      → else_if_view (roll-ElseIfClause (record { attributes = (out-ElseIfClause c).attributes; expression = (out-ElseIfClause c).expression; body = b })) ≡ residual_tree known (else_if_view c)
+  else_if_settled c b e =
+      view_rolled_else_if (out-ElseIfClause c).attributes (out-ElseIfClause c).expression b
+      ∙ ap (λ t. branch else_if_clause (attributes_tree (out-ElseIfClause c).attributes ∷ expression_tree (out-ElseIfClause c).expression ∷ t ∷ [])) e
+      ∙ ap (residual_tree known) (sym (view_else_if c))
+
+  pub else_settled : (c : ElseClause) (b : CompoundStatement) → compound_view b ≡ residual_tree known (compound_view (out-ElseClause c).body)
+      → else_view (roll-ElseClause (record { attributes = (out-ElseClause c).attributes; body = b })) ≡ residual_tree known (else_view c)
+  else_settled c b e =
+      view_rolled_else (out-ElseClause c).attributes b
+      ∙ ap (λ t. branch else_clause (attributes_tree (out-ElseClause c).attributes ∷ t ∷ [])) e
+      ∙ ap (residual_tree known) (sym (view_else c))
+
+  pub optional_settled : {A : Type 0} (view : A → Tree) (o : Option A) (x y : A) → o ≡ Some x → view y ≡ residual_tree known (view x) → optional view (Some y) ≡ residual_tree known (optional view o)
+  optional_settled view o x y is e = ap (λ t. branch present (t ∷ [])) e ∙ ap (λ p. residual_tree known (optional view p)) (sym is)
+
+  pub absent_settled : {A : Type 0} (view : A → Tree) (o : Option A) → o ≡ None → optional view o ≡ residual_tree known (optional view o)
+  absent_settled view o is = ap (optional view) is ∙ ap (λ p. residual_tree known (optional view p)) (sym is)
 
   selector_left : (x : CaseSelector) → residual_tree known (selector_view x) ≡ selector_view x
   selector_left selectors.Default = refl
@@ -157,3 +202,37 @@ module _ (known : Answers ℕ) where
       ∙ loop_settled a b0 ys v o0 p q e d kept
       ∙ ap (λ x. residual_tree known (statement_view (made.Loop a x o0))) k1 ∙ ap (λ x. residual_tree known (statement_view (made.Loop a b x))) k2
       ∙ ap (λ x. residual_tree known (statement_view x)) (sym is)
+
+  pub compound_in : (s s' : Statement) (b b0 b' : CompoundStatement) → s ≡ made.Compound b → s' ≡ made.Compound b' → b0 ≡ b → compound_view b' ≡ residual_tree known (compound_view b0)
+      → statement_view s' ≡ residual_tree known (statement_view s)
+  compound_in s s' b b0 b' is new k d =
+      ap statement_view new ∙ view_block b'
+      ∙ ap (λ t. branch compound_statement (t ∷ [])) (d ∙ ap (λ x. residual_tree known (compound_view x)) k)
+      ∙ ap (residual_tree known) (sym (view_block b)) ∙ ap (λ x. residual_tree known (statement_view x)) (sym is)
+
+  pub while_in : (s s' : Statement) (a : Vec (Spanned Attribute) Global) (e : Spanned Expression) (b b0 b' : CompoundStatement) → s ≡ made.While a e b → s' ≡ made.While a e b' → b0 ≡ b → compound_view b' ≡ residual_tree known (compound_view b0)
+      → statement_view s' ≡ residual_tree known (statement_view s)
+  while_in s s' a e b b0 b' is new k d =
+      ap statement_view new ∙ view_while a e b'
+      ∙ ap (λ t. branch while_loop (attributes_tree a ∷ expression_tree e ∷ t ∷ [])) (d ∙ ap (λ x. residual_tree known (compound_view x)) k)
+      ∙ ap (residual_tree known) (sym (view_while a e b)) ∙ ap (λ x. residual_tree known (statement_view x)) (sym is)
+
+  abbrev in_place : Option (Box (Spanned Statement) Global) → Tree
+  in_place = optional (λ s. statement_tree (box_value s))
+
+  condition_left : (c : Option (Spanned Expression)) → optional expression_tree c ≡ residual_tree known (optional expression_tree c)
+  condition_left None = refl
+  condition_left (Some e) = refl
+
+  pub for_in : (s s' : Statement) (a : Vec (Spanned Attribute) Global) (i i0 i' : Option (Box (Spanned Statement) Global)) (c : Option (Spanned Expression)) (u u0 u' : Option (Box (Spanned Statement) Global)) (b b0 b' : CompoundStatement)
+      → s ≡ made.For a i c u b → s' ≡ made.For a i' c u' b' → i0 ≡ i → u0 ≡ u → b0 ≡ b
+      → in_place i' ≡ residual_tree known (in_place i0) → in_place u' ≡ residual_tree known (in_place u0) → compound_view b' ≡ residual_tree known (compound_view b0)
+      → statement_view s' ≡ residual_tree known (statement_view s)
+  for_in s s' a i i0 i' c u u0 u' b b0 b' is new k0 k1 k2 f g d =
+      let left = residual_tree known in
+      ap statement_view new ∙ view_for a i' c u' b'
+      ∙ ap (λ t. branch for_loop (attributes_tree a ∷ t ∷ optional expression_tree c ∷ in_place u' ∷ compound_view b' ∷ [])) (f ∙ ap (λ x. left (in_place x)) k0)
+      ∙ ap (λ t. branch for_loop (attributes_tree a ∷ left (in_place i) ∷ t ∷ in_place u' ∷ compound_view b' ∷ [])) (condition_left c)
+      ∙ ap (λ t. branch for_loop (attributes_tree a ∷ left (in_place i) ∷ left (optional expression_tree c) ∷ t ∷ compound_view b' ∷ [])) (g ∙ ap (λ x. left (in_place x)) k1)
+      ∙ ap (λ t. branch for_loop (attributes_tree a ∷ left (in_place i) ∷ left (optional expression_tree c) ∷ left (in_place u) ∷ t ∷ [])) (d ∙ ap (λ x. left (compound_view x)) k2)
+      ∙ ap left (sym (view_for a i c u b)) ∙ ap (λ x. left (statement_view x)) (sym is)

@@ -1,20 +1,20 @@
 //! The faults of conditions inside statements. Nodes that do not stay are not entered.
-ghost use Rattle.std.specs.Prelude.{◌≡◌, cond, Err, false, map, MatchResult};
+ghost use Rattle.std.specs.Prelude.{◌≡◌, cond, Err, map, MatchResult};
 ghost use Rattle.std.specs.Box.{box_value};
 ghost use Rattle.wesl_chains.specs.Chains.{staying};
 ghost use Rattle.wesl_chains.specs.Judging.{Checks};
-ghost use Rattle.wesl_chains.specs.Lists.{alone, element, is_entered};
+ghost use Rattle.wesl_chains.specs.Lists.{alone, element};
 ghost use Rattle.wesl_chains.specs.Nodes.{answers, optional_forest, replies};
 ghost use Rattle.wesl_syntax.specs.Tree.{before, branch, clauses as clauses_kind, end, forest_of};
-ghost use Rattle.wesl_syntax.specs.View.{clause_view, compound_view, continuing_view, else_if_view, else_view, if_view, optional, statement_tree, statement_view};
+ghost use Rattle.wesl_syntax.specs.View.{clause_view, compound_view, continuing_view, else_if_view, else_view, optional, statement_tree, statement_view};
 
 use std::alloc::Global;
 use wesl_chains::{check_both, check_list, closes, stays};
 use wesl_features::{Chain, Features};
 use wesl_names::{Error, Names};
 use wesl_syntax::{
-    CompoundStatement, ContinuingStatement, ElseClause, ElseIfClause, IfClause, Statement,
-    StatementNode, SwitchClause,
+    CompoundStatement, ContinuingStatement, ElseClause, ElseIfClause, Statement, StatementNode,
+    SwitchClause,
 };
 
 /// Judges the conditions in a statement.
@@ -35,7 +35,7 @@ fn check_statement(
             else_clause,
             ..
         } => {
-            let first = check_if(alloc, if_clause, names, features);
+            let first = check_body(alloc, &if_clause.body, names, features);
             let others = check_else_ifs(alloc, else_if_clauses, names, features);
             let last = check_else(alloc, else_clause, names, features);
             first_refusal(first, others, last)
@@ -64,26 +64,9 @@ fn check_statement(
             first_refusal(before, after, inside)
         }
         Statement::While { body, .. } => check_body(alloc, body, names, features),
-        Statement::Void
-        | Statement::Assignment { .. }
-        | Statement::Increment { .. }
-        | Statement::Decrement { .. }
-        | Statement::Break { .. }
-        | Statement::Continue { .. }
-        | Statement::Return { .. }
-        | Statement::Discard { .. }
-        | Statement::FunctionCall { .. }
-        | Statement::ConstAssert(_)
-        | Statement::Declaration(_) => check_leaf(statement, names, features),
+        // no list lies in the others
+        _ => Ok(()),
     }
-}
-
-/// A statement in which no list lies has no condition.
-fn check_leaf(statement: &Statement, names: &Names, features: &Features) -> Result<(), Error>
-    requires { is_entered (statement_view statement.now).label ≡ false }
-    ensures { Checks names.now (replies names.now features.now) (before (statement_view statement.now) end) result }
-{
-    Ok(())
 }
 
 /// Judges the conditions in the statements of a list that stay.
@@ -124,30 +107,7 @@ pub fn check_body(
     }
 }
 
-#[cycle(checking)]
-fn check_if(
-    alloc: Global,
-    clause: &IfClause,
-    names: &Names,
-    features: &Features,
-) -> Result<(), Error>
-    ensures { Checks names.now (replies names.now features.now) (before (if_view clause.now) end) result }
-{
-    check_body(alloc, &clause.body, names, features)
-}
-
-#[cycle(checking)]
-fn check_else_if(
-    alloc: Global,
-    clause: &ElseIfClause,
-    names: &Names,
-    features: &Features,
-) -> Result<(), Error>
-    ensures { Checks names.now (replies names.now features.now) (before (else_if_view clause.now) end) result }
-{
-    check_body(alloc, &clause.body, names, features)
-}
-
+/// Judges the conditions in the bodies of `else if`.
 #[cycle(checking)]
 fn check_else_ifs(
     alloc: Global,
@@ -158,7 +118,7 @@ fn check_else_ifs(
     ensures { Checks names.now (replies names.now features.now) (forest_of (map else_if_view clauses.now.items)) result }
 {
     for clause in clauses {
-        match check_else_if(alloc, clause, names, features) {
+        match check_body(alloc, &clause.body, names, features) {
             Ok(()) => {}
             Err(fault) => return Err(fault),
         }
@@ -166,6 +126,7 @@ fn check_else_ifs(
     Ok(())
 }
 
+/// Judges the conditions in the body of an `else`, if there is one.
 #[cycle(checking)]
 fn check_else(
     alloc: Global,
@@ -181,41 +142,7 @@ fn check_else(
     }
 }
 
-#[cycle(checking)]
-fn check_clause(
-    alloc: Global,
-    clause: &SwitchClause,
-    names: &Names,
-    features: &Features,
-) -> Result<(), Error>
-    ensures { Checks names.now (replies names.now features.now) (before (clause_view clause.now) end) result }
-{
-    check_body(alloc, &clause.body, names, features)
-}
-
-/// Judges the conditions in the clauses of a list that stay.
-#[cycle(checking)]
-fn check_staying_clauses(
-    alloc: Global,
-    clauses: &Vec<SwitchClause>,
-    names: &Names,
-    features: &Features,
-) -> Result<(), Error>
-    ensures { Checks names.now (replies names.now features.now) (alone (staying element (answers names.now features.now)) (forest_of (map clause_view clauses.now.items))) result }
-{
-    let mut chain = Chain::new();
-    for clause in clauses {
-        if stays(clause, &mut chain, names, features) {
-            match check_clause(alloc, clause, names, features) {
-                Ok(()) => {}
-                Err(fault) => return Err(fault),
-            }
-        }
-    }
-    Ok(())
-}
-
-/// Judges the conditions of clauses and in them.
+/// Judges the conditions of clauses, and in those that stay.
 #[cycle(checking)]
 fn check_clauses(
     alloc: Global,
@@ -226,11 +153,22 @@ fn check_clauses(
     ensures { Checks names.now (replies names.now features.now) (before (branch clauses_kind (map clause_view clauses.now.items)) end) result }
 {
     match check_list(alloc, clauses, names, features) {
-        Ok(()) => check_staying_clauses(alloc, clauses, names, features),
-        Err(fault) => Err(fault),
+        Ok(()) => {}
+        Err(fault) => return Err(fault),
     }
+    let mut chain = Chain::new();
+    for clause in clauses {
+        if stays(clause, &mut chain, names, features) {
+            match check_body(alloc, &clause.body, names, features) {
+                Ok(()) => {}
+                Err(fault) => return Err(fault),
+            }
+        }
+    }
+    Ok(())
 }
 
+/// Judges the conditions in an optional statement.
 #[cycle(checking)]
 fn check_optional(
     alloc: Global,
@@ -246,28 +184,6 @@ fn check_optional(
     }
 }
 
-/// Judges the conditions in a continuing block.
-#[cycle(checking)]
-fn check_block(
-    alloc: Global,
-    block: &ContinuingStatement,
-    names: &Names,
-    features: &Features,
-) -> Result<(), Error>
-    ensures { Checks names.now (replies names.now features.now) (before (continuing_view block.now) end) result }
-{
-    match check_both(
-        alloc,
-        &block.body.statements,
-        &block.break_if,
-        names,
-        features,
-    ) {
-        Ok(()) => check_statements(alloc, &block.body.statements, names, features),
-        Err(fault) => Err(fault),
-    }
-}
-
 /// Judges the conditions in the continuing block that closes a list, if it stays there.
 #[cycle(checking)]
 fn check_last(
@@ -280,14 +196,14 @@ fn check_last(
     ensures { Checks names.now (replies names.now features.now) (cond stays (optional_forest continuing_view continuing.now) end) result }
 {
     match continuing {
-        Some(block) => {
-            if stays {
-                check_block(alloc, block, names, features)
-            } else {
-                Ok(())
+        Some(block) if stays => {
+            let statements = &block.body.statements;
+            match check_both(alloc, statements, &block.break_if, names, features) {
+                Ok(()) => check_statements(alloc, statements, names, features),
+                Err(fault) => Err(fault),
             }
         }
-        None => Ok(()),
+        Some(_) | None => Ok(()),
     }
 }
 

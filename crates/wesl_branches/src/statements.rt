@@ -3,14 +3,14 @@ ghost use Rattle.std.specs.Prelude.{◌≡◌, map};
 ghost use Rattle.std.specs.Box.{box_value};
 ghost use Rattle.wesl_chains.specs.Nodes.{answers};
 ghost use Rattle.wesl_chains.specs.Residual.{residual_tree};
-ghost use Rattle.wesl_syntax.specs.View.{clause_view, compound_view, continuing_view, else_if_view, else_view, if_view, optional, statement_tree, statement_view};
+ghost use Rattle.wesl_syntax.specs.View.{clause_view, compound_view, continuing_view, else_if_view, else_view, optional, statement_tree, statement_view};
 
 use wesl_chains::{settle_both, settle_list};
 use wesl_features::Features;
 use wesl_names::Names;
 use wesl_syntax::{
-    CompoundStatement, ContinuingStatement, ElseClause, ElseIfClause, IfClause, Statement,
-    StatementNode, SwitchClause,
+    CompoundStatement, ContinuingStatement, ElseClause, ElseIfClause, Statement, StatementNode,
+    SwitchClause,
 };
 
 /// Leaves what is left of a statement.
@@ -26,7 +26,7 @@ fn settle_statement(statement: &mut Statement, names: &Names, features: &Feature
             else_if_clauses,
             else_clause,
         } => {
-            settle_if(if_clause, names, features);
+            settle_body(&mut if_clause.body, names, features);
             settle_else_ifs(else_if_clauses, names, features);
             settle_else(else_clause, names, features);
         }
@@ -64,17 +64,8 @@ fn settle_statement(statement: &mut Statement, names: &Names, features: &Feature
             condition: _,
             body,
         } => settle_body(body, names, features),
-        Statement::Void
-        | Statement::Assignment { .. }
-        | Statement::Increment { .. }
-        | Statement::Decrement { .. }
-        | Statement::Break { .. }
-        | Statement::Continue { .. }
-        | Statement::Return { .. }
-        | Statement::Discard { .. }
-        | Statement::FunctionCall { .. }
-        | Statement::ConstAssert(_)
-        | Statement::Declaration(_) => {}
+        // no list lies in the others
+        _ => {}
     }
 }
 
@@ -97,61 +88,37 @@ pub fn settle_body(body: &mut CompoundStatement, names: &Names, features: &Featu
     settle_list(&mut body.statements, names, features);
 }
 
-#[cycle(settling)]
-fn settle_if(clause: &mut IfClause, names: &Names, features: &Features)
-    ensures { if_view clause.new ≡ residual_tree (answers names.now features.now) (if_view clause.old) }
-{
-    settle_body(&mut clause.body, names, features);
-}
-
-#[cycle(settling)]
-fn settle_else_if(clause: &mut ElseIfClause, names: &Names, features: &Features)
-    ensures { else_if_view clause.new ≡ residual_tree (answers names.now features.now) (else_if_view clause.old) }
-{
-    settle_body(&mut clause.body, names, features);
-}
-
+/// Leaves what is left of each `else if`.
 #[cycle(settling)]
 fn settle_else_ifs(clauses: &mut [ElseIfClause], names: &Names, features: &Features)
     ensures { map else_if_view clauses.new ≡ map (residual_tree (answers names.now features.now)) (map else_if_view clauses.old) }
 {
     for clause in clauses.iter_mut() {
-        settle_else_if(clause, names, features);
+        settle_body(&mut clause.body, names, features);
     }
 }
 
-#[cycle(settling)]
-fn settle_else_clause(clause: &mut ElseClause, names: &Names, features: &Features)
-    ensures { else_view clause.new ≡ residual_tree (answers names.now features.now) (else_view clause.old) }
-{
-    settle_body(&mut clause.body, names, features);
-}
-
+/// Leaves what is left of an `else`, if there is one.
 #[cycle(settling)]
 fn settle_else(clause: &mut Option<ElseClause>, names: &Names, features: &Features)
     ensures { optional else_view clause.new ≡ residual_tree (answers names.now features.now) (optional else_view clause.old) }
 {
     if let Some(clause) = clause {
-        settle_else_clause(clause, names, features);
+        settle_body(&mut clause.body, names, features);
     }
 }
 
-#[cycle(settling)]
-fn settle_clause(clause: &mut SwitchClause, names: &Names, features: &Features)
-    ensures { clause_view clause.new ≡ residual_tree (answers names.now features.now) (clause_view clause.old) }
-{
-    settle_body(&mut clause.body, names, features);
-}
-
+/// Leaves what is left of each clause of a `switch`.
 #[cycle(settling)]
 fn settle_clauses(clauses: &mut [SwitchClause], names: &Names, features: &Features)
     ensures { map clause_view clauses.new ≡ map (residual_tree (answers names.now features.now)) (map clause_view clauses.old) }
 {
     for clause in clauses.iter_mut() {
-        settle_clause(clause, names, features);
+        settle_body(&mut clause.body, names, features);
     }
 }
 
+/// Leaves what is left of an optional statement.
 #[cycle(settling)]
 fn settle_optional(node: &mut Option<Box<StatementNode>>, names: &Names, features: &Features)
     ensures { optional (λ s. statement_tree (box_value s)) node.new ≡ residual_tree (answers names.now features.now) (optional (λ s. statement_tree (box_value s)) node.old) }
@@ -161,19 +128,7 @@ fn settle_optional(node: &mut Option<Box<StatementNode>>, names: &Names, feature
     }
 }
 
-#[cycle(settling)]
-fn settle_block(block: &mut ContinuingStatement, names: &Names, features: &Features)
-    ensures { continuing_view block.new ≡ residual_tree (answers names.now features.now) (continuing_view block.old) }
-{
-    settle_statements(&mut block.body.statements, names, features);
-    settle_both(
-        &mut block.body.statements,
-        &mut block.break_if,
-        names,
-        features,
-    );
-}
-
+/// Leaves what is left of a continuing block, if there is one.
 #[cycle(settling)]
 fn settle_continuing(
     continuing: &mut Option<ContinuingStatement>,
@@ -183,6 +138,8 @@ fn settle_continuing(
     ensures { optional continuing_view continuing.new ≡ residual_tree (answers names.now features.now) (optional continuing_view continuing.old) }
 {
     if let Some(block) = continuing {
-        settle_block(block, names, features);
+        let statements = &mut block.body.statements;
+        settle_statements(statements, names, features);
+        settle_both(statements, &mut block.break_if, names, features);
     }
 }

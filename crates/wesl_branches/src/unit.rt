@@ -7,11 +7,11 @@ ghost use Rattle.wesl_features.specs.Features.{answer_to};
 ghost use Rattle.wesl_syntax.specs.Unit.{forest_of_unit, trees_of};
 ghost use Rattle.wesl_tree.specs.Translation.{unit_view};
 
-use crate::declarations::{settle_declarations, settle_directives, settle_imports};
-use crate::judge::{check_declarations, check_directives, check_imports};
+use crate::declarations::settle_declarations;
+use crate::judge::check_declarations;
 use std::alloc::Global;
 use std::mem;
-use wesl_chains::law_of_bounds;
+use wesl_chains::{check_list, law_of_bounds, settle_list};
 use wesl_features::Features;
 use wesl_names::Error;
 use wesl_tree::TranslationUnit;
@@ -21,8 +21,8 @@ pub fn check(alloc: Global, unit: &TranslationUnit, features: &Features) -> Resu
     ensures { Checks (unit_view unit.now).names (replies (unit_view unit.now).names features.now) (forest_of_unit (trees_of (unit_view unit.now))) result }
 {
     let names = unit.names();
-    match check_imports(alloc, unit.imports(), names, features) {
-        Ok(()) => match check_directives(alloc, unit.global_directives(), names, features) {
+    match check_list(alloc, unit.imports(), names, features) {
+        Ok(()) => match check_list(alloc, unit.global_directives(), names, features) {
             Ok(()) => check_declarations(alloc, unit.global_declarations(), names, features),
             Err(fault) => Err(fault),
         },
@@ -38,8 +38,8 @@ pub fn resolve(alloc: Global, unit: &mut TranslationUnit, features: &Features)
     law_of_bounds();
     let whole = mem::replace(unit, TranslationUnit::new(alloc));
     let (names, mut imports, mut directives, mut declarations) = whole.into_parts();
-    settle_imports(&mut imports, &names, features);
-    settle_directives(&mut directives, &names, features);
+    settle_list(&mut imports, &names, features);
+    settle_list(&mut directives, &names, features);
     settle_declarations(&mut declarations, &names, features);
     match TranslationUnit::from_parts(names, imports, directives, declarations) {
         Some(left) => *unit = left,

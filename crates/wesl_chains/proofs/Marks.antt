@@ -1,13 +1,12 @@
 -- The conditions among attributes, in a role.
-use Rattle.std.proofs.Common.{◌≡◌, ℕ, Bool, true, false, not, cond, List, [], ◌∷◌, map, Some, None, refl, ap, ◌∙◌}
+use Rattle.std.proofs.Common.{◌≡◌, ◌⊎◌, ℕ, Bool, true, false, not, cond, inl, inr, List, [], ◌∷◌, map, refl, sym, ap, ◌∙◌, subst}
 use Rattle.std.specs.List.{filter}
 use Rattle.wesl_features.specs.declared.chain.Role.{Role}
 use Rattle.wesl_features.specs.declared.chain.Role.TheVariants.{Plain, If, Elif, Else}
-use Rattle.wesl_chains.specs.Chains.{Condition, none, on, else_on, otherwise, recast_condition, follows_on, holds}
-use Rattle.wesl_chains.specs.Conditions.{condition_at, or_next, replaced, recast}
-use Rattle.wesl_chains.specs.Nodes.{attribute_tree, attributes_forest, condition_of_attribute, remade, marked, marked_tree, is_any, unconditional, follows_if_any, holds_if_any}
+use Rattle.wesl_chains.specs.Chains.{Condition, none, on, else_on, otherwise, recast_condition}
+use Rattle.wesl_chains.specs.Conditions.{condition_at, replaced, recast}
+use Rattle.wesl_chains.specs.Nodes.{attribute_tree, attributes_forest, condition_of_attribute, remade, marked, marked_tree, is_any, unconditional}
 use Rattle.wesl_features.specs.Answers.{Answers}
-use Rattle.wesl_features.specs.declared.features.Truth.{Truth}
 use Rattle.wesl_syntax.specs.Tree.{Label, Forest, Tree, end, tree, before, forest_of}
 use Rattle.wesl_syntax.specs.declared.attribute.Attribute.{Attribute}
 use Rattle.wesl_syntax.specs.declared.span.Spanned.{Spanned}
@@ -29,6 +28,11 @@ Keeps Plain = ⊥
 Keeps If = Unit {0}
 Keeps Elif = Unit {0}
 Keeps Else = Unit {0}
+
+pub keeps_any : (role : Role) → (role ≡ If) ⊎ ((role ≡ Elif) ⊎ (role ≡ Else)) → Keeps role
+keeps_any role (inl e) = subst Keeps (sym e) (tt {0})
+keeps_any role (inr (inl e)) = subst Keeps (sym e) (tt {0})
+keeps_any role (inr (inr e)) = subst Keeps (sym e) (tt {0})
 
 kept_at : (known : Answers ℕ) (role : Role) → Keeps role → (l : Label) (a : Forest) (c : Condition ℕ) (others : Forest) → tree l (remade a c (recast_condition known role c)) others ≡ replaced l a c (recast_condition known role c) others
 kept_at known Plain h l a c others = absurd h
@@ -66,28 +70,3 @@ conditional x = is_any (condition_of_attribute x.node)
 pub without_conditions : (xs : List (Spanned Attribute)) → attributes_forest (filter (λ x. not (conditional x)) xs) ≡ unconditional (attributes_forest xs)
 without_conditions [] = refl
 without_conditions (x ∷ xs) = map_cond (conditional x) x (filter (λ y. not (conditional y)) xs) (unconditional (attributes_forest xs)) (without_conditions xs)
-
--- The first condition, attribute by attribute.
-pub follows_first : (c d : Condition ℕ) (b : Bool) → follows_if_any c ≡ Some b → follows_on (or_next c d) ≡ b
-follows_first none d b e = cc
-follows_first (on x) d b e = cc
-follows_first (else_on x) d b e = cc
-follows_first otherwise d b e = cc
-
-pub follows_next : (c d : Condition ℕ) → follows_if_any c ≡ None → follows_on (or_next c d) ≡ follows_on d
-follows_next none d e = refl
-follows_next (on x) d e = cc
-follows_next (else_on x) d e = cc
-follows_next otherwise d e = cc
-
-pub holds_first : (known : Answers ℕ) (c d : Condition ℕ) (t : Truth) → holds_if_any known c ≡ Some t → holds known (or_next c d) ≡ t
-holds_first known none d t e = cc
-holds_first known (on x) d t e = cc
-holds_first known (else_on x) d t e = cc
-holds_first known otherwise d t e = cc
-
-pub holds_next : (known : Answers ℕ) (c d : Condition ℕ) → holds_if_any known c ≡ None → holds known (or_next c d) ≡ holds known d
-holds_next known none d e = refl
-holds_next known (on x) d e = cc
-holds_next known (else_on x) d e = cc
-holds_next known otherwise d e = cc

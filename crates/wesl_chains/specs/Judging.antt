@@ -32,9 +32,3 @@ ListBegins names reply opened xs (Err e) = (rest : List (Element ℕ)) → Refus
 -- what closes a list, if it stays
 abbrev pub closing : Answers ℕ → Forest → Forest → Forest
 closing answers items last = back true (staying element answers (elements false items ++ elements true last))
-
--- the first refusal of three, if there is one
-abbrev pub in_turn : {A : Type 0} → Result A error.Error → Result A error.Error → Result A error.Error → Result A error.Error
-in_turn (Err e) second third = Err e
-in_turn (Ok x) (Err e) third = Err e
-in_turn (Ok x) (Ok y) third = third

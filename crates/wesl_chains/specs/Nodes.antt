@@ -9,9 +9,6 @@ use Rattle.wesl_chains.specs.Lists.{Element}
 use Rattle.wesl_features.specs.Answers.{Answers}
 use Rattle.wesl_features.specs.Features.{Replies, answer_to, known, by_number}
 use Rattle.wesl_features.specs.declared.features.Features.{Features}
-use Rattle.wesl_chains.specs.FormulaResidual.{decided}
-use Rattle.wesl_features.specs.declared.features.Truth.{Truth}
-use Rattle.wesl_features.specs.declared.features.Truth.TheVariants.{Yes}
 use Rattle.wesl_names.specs.Path.{Text}
 use Rattle.wesl_syntax.specs.Tree.{Tree, Forest, end, tree, before, forest_of, attribute_node}
 use Rattle.wesl_syntax.specs.View.{attribute_view, expression_tree, placed}
@@ -89,18 +86,6 @@ several_after true (c ∷ cs) = true
 
 abbrev pub is_several : List (Condition ℕ) → Bool
 is_several cs = several_after false cs
-
-abbrev pub follows_if_any : Condition ℕ → Option Bool
-follows_if_any none = None
-follows_if_any (on x) = Some false
-follows_if_any (else_on x) = Some true
-follows_if_any otherwise = Some true
-
-abbrev pub holds_if_any : Answers ℕ → Condition ℕ → Option Truth
-holds_if_any known none = None
-holds_if_any known (on x) = Some (decided known x.form)
-holds_if_any known (else_on x) = Some (decided known x.form)
-holds_if_any known otherwise = Some Yes
 
 -- a node of a judged list, or what closes one
 abbrev pub as_element : Bool → Tree → Element ℕ

@@ -2,7 +2,7 @@
 ghost use Rattle.std.specs.Prelude.{◌≡◌, map};
 ghost use Rattle.wesl_chains.specs.Chains.{follows_on, holds};
 ghost use Rattle.wesl_chains.specs.Conditions.{first_condition, recast};
-ghost use Rattle.wesl_chains.specs.Nodes.{answers, attributes_forest, condition_of_attribute, condition_view, attribute_tree, follows_if_any, holds_if_any, instead, is_any, marked, marked_tree, unconditional};
+ghost use Rattle.wesl_chains.specs.Nodes.{answers, attributes_forest, condition_of_attribute, condition_view, attribute_tree, instead, is_any, marked, marked_tree};
 ghost use Rattle.wesl_chains.specs.Formulas.{form, written};
 ghost use Rattle.wesl_chains.specs.FormulaResidual.{residual};
 ghost use Rattle.wesl_syntax.specs.Tree.{before, end};
@@ -64,37 +64,15 @@ pub fn is_condition(attribute: &Attribute) -> bool
     condition_of(attribute).is_some()
 }
 
-/// Whether an attribute is an `@elif` or an `@else`, if it is a condition.
-fn follows_one(attribute: &Attribute) -> Option<bool>
-    ensures { result ≡ follows_if_any (condition_of_attribute attribute.now) }
-{
-    match condition_of(attribute) {
-        Some(Condition::If(_)) => Some(false),
-        Some(Condition::Elif(_) | Condition::Else) => Some(true),
-        None => None,
-    }
-}
-
-/// Whether an attribute holds, if it is a condition.
-fn holds_one(attribute: &Attribute, names: &Names, features: &Features) -> Option<Truth>
-    ensures { result ≡ holds_if_any (answers names.now features.now) (condition_of_attribute attribute.now) }
-{
-    match condition_of(attribute) {
-        Some(Condition::If(formula) | Condition::Elif(formula)) => {
-            Some(decided(&formula.node, names, features))
-        }
-        Some(Condition::Else) => Some(Truth::Yes),
-        None => None,
-    }
-}
-
 /// Whether the first condition, if there is one, is an `@elif` or an `@else`.
 pub fn follows_on(attributes: &[AttributeNode]) -> bool
     ensures { result ≡ follows_on (first_condition (attributes_forest attributes.now)) }
 {
     for attribute in attributes {
-        if let Some(follows) = follows_one(&attribute.node) {
-            return follows;
+        match condition_of(&attribute.node) {
+            Some(Condition::If(_)) => return false,
+            Some(Condition::Elif(_) | Condition::Else) => return true,
+            None => {}
         }
     }
     false
@@ -105,8 +83,12 @@ pub fn holds(attributes: &[AttributeNode], names: &Names, features: &Features) -
     ensures { result ≡ holds (answers names.now features.now) (first_condition (attributes_forest attributes.now)) }
 {
     for attribute in attributes {
-        if let Some(holds) = holds_one(&attribute.node, names, features) {
-            return holds;
+        match condition_of(&attribute.node) {
+            Some(Condition::If(formula) | Condition::Elif(formula)) => {
+                return decided(&formula.node, names, features);
+            }
+            Some(Condition::Else) => return Truth::Yes,
+            None => {}
         }
     }
     Truth::Yes
@@ -146,32 +128,14 @@ fn marked(
     }
 }
 
-/// Marks an attribute by a role in its place.
-fn mark(attribute: &mut AttributeNode, role: Role, names: &Names, features: &Features)
-    ensures { attribute_tree attribute.new ≡ marked_tree (answers names.now features.now) role (attribute_tree attribute.old) }
-{
-    if let Some(marked) = marked(&mut attribute.node, role, names, features) {
-        attribute.node = marked;
-    }
-}
-
 /// Marks the conditions among the attributes by a role, or drops them where the node is to be plain. No memory is taken.
 pub fn recast(attributes: &mut Attributes, role: Role, names: &Names, features: &Features)
     ensures { attributes_forest attributes.new.items ≡ recast (answers names.now features.now) role (attributes_forest attributes.old.items) }
 {
     match role {
-        Role::Plain => drop_conditions(attributes),
-        Role::If => mark_all(attributes, role, names, features),
-        Role::Elif => mark_all(attributes, role, names, features),
-        Role::Else => mark_all(attributes, role, names, features),
+        Role::Plain => attributes.retain(|attribute| !is_condition(&attribute.node)),
+        Role::If | Role::Elif | Role::Else => mark_all(attributes, role, names, features),
     }
-}
-
-/// Drops the conditions among the attributes.
-fn drop_conditions(attributes: &mut Attributes)
-    ensures { attributes_forest attributes.new.items ≡ unconditional (attributes_forest attributes.old.items) }
-{
-    attributes.retain(|attribute| !is_condition(&attribute.node));
 }
 
 /// Marks each condition among the attributes by a role.
@@ -179,6 +143,8 @@ fn mark_all(attributes: &mut [AttributeNode], role: Role, names: &Names, feature
     ensures { map attribute_tree attributes.new ≡ map (marked_tree (answers names.now features.now) role) (map attribute_tree attributes.old) }
 {
     for attribute in attributes.iter_mut() {
-        mark(attribute, role, names, features);
+        if let Some(marked) = marked(&mut attribute.node, role, names, features) {
+            attribute.node = marked;
+        }
     }
 }

@@ -1,5 +1,5 @@
 //! The faults of the conditions of a list.
-ghost use Rattle.std.specs.Prelude.{◌≡◌, Bool, ◌∷◌, [], ◌++◌, IfErr, IfOk, List, map, false, true};
+ghost use Rattle.std.specs.Prelude.{◌≡◌, Bool, ◌∷◌, [], ◌++◌, List, map, false, true};
 ghost use Rattle.std.specs.List.{flat_map};
 ghost use Rattle.wesl_chains.specs.Faults.{condition_faults, conditions, list_faults, opens, place_faults};
 ghost use Rattle.wesl_chains.specs.Judging.{ListBegins};
@@ -34,24 +34,15 @@ fn has_several(attributes: &[AttributeNode]) -> bool
     false
 }
 
-/// Whether an attribute is an `@if` or an `@elif`.
-fn opens_one(attribute: &Attribute) -> bool
-    ensures { result ≡ opens (condition_of_attribute attribute.now ∷ []) }
-{
-    match condition_of(attribute) {
-        Some(Condition::If(_) | Condition::Elif(_)) => true,
-        Some(Condition::Else) | None => false,
-    }
-}
-
 /// Whether an `@elif` or an `@else` may come after a node of these attributes.
 #[tactic(auto, using(crate::proofs::Places::opens_steps))]
 fn opens(attributes: &[AttributeNode]) -> bool
     ensures { result ≡ opens (conditions (attributes_forest attributes.now)) }
 {
     for attribute in attributes {
-        if opens_one(&attribute.node) {
-            return true;
+        match condition_of(&attribute.node) {
+            Some(Condition::If(_) | Condition::Elif(_)) => return true,
+            Some(Condition::Else) | None => {}
         }
     }
     false

@@ -1,10 +1,6 @@
 //! The nodes that stand in judged lists, and what closes them.
-ghost use Rattle.std.specs.Prelude.{◌≡◌};
-ghost use Rattle.wesl_chains.specs.Conditions.{attributes_in, recast, with_attributes};
-ghost use Rattle.wesl_chains.specs.Nodes.{answers, attributes_forest};
-ghost use Rattle.wesl_syntax.specs.Tree.{before, declaration_node, directive_node, end, import_node, member_node};
-ghost use Rattle.wesl_syntax.specs.Unit.{begins_void};
-ghost use Rattle.wesl_syntax.specs.View.{break_if_view, clause_view, compound_view, continuing_view, directive_view, global_view, import_view, member_view, parameter_view, placed, statement_tree, statement_view};
+ghost use Rattle.wesl_syntax.specs.Tree.{declaration_node, directive_node, import_node, member_node};
+ghost use Rattle.wesl_syntax.specs.View.{break_if_view, clause_view, continuing_view, directive_view, global_view, import_view, member_view, parameter_view, placed, statement_tree};
 
 use crate::conditions::recast;
 use crate::lists::Conditional;
@@ -191,84 +187,59 @@ impl Conditional for Spanned<Statement> {
     ghost tree = { statement_tree };
 
     fn is_void(&self) -> bool {
-        is_void_statement(&self.node)
+        match &self.node {
+            Statement::Void => true,
+            _ => false,
+        }
     }
 
+    #[tactic(auto, using(crate::proofs::Views::view_compound))]
     fn attributes(&self) -> &[AttributeNode] {
-        statement_attributes(&self.node)
+        match &self.node {
+            Statement::Void => &[],
+            Statement::Compound(body) => &body.attributes,
+            Statement::Assignment { attributes, .. }
+            | Statement::Increment { attributes, .. }
+            | Statement::Decrement { attributes, .. }
+            | Statement::If { attributes, .. }
+            | Statement::Switch { attributes, .. }
+            | Statement::Loop { attributes, .. }
+            | Statement::For { attributes, .. }
+            | Statement::While { attributes, .. }
+            | Statement::Break { attributes, .. }
+            | Statement::Continue { attributes, .. }
+            | Statement::Return { attributes, .. }
+            | Statement::Discard { attributes, .. }
+            | Statement::FunctionCall { attributes, .. } => attributes,
+            Statement::ConstAssert(assertion) => &assertion.attributes,
+            Statement::Declaration(declaration) => &declaration.attributes,
+        }
     }
 
+    #[tactic(auto, using(crate::proofs::Views::view_compound))]
     fn recast(&mut self, role: Role, names: &Names, features: &Features) {
-        recast_statement(&mut self.node, role, names, features);
-    }
-}
-
-fn is_void_statement(statement: &Statement) -> bool
-    ensures { result ≡ begins_void (before (statement_view statement.now) end) }
-{
-    match statement {
-        Statement::Void => true,
-        _ => false,
-    }
-}
-
-#[tactic(auto, using(crate::proofs::Views::view_compound))]
-fn statement_attributes(statement: &Statement) -> &[AttributeNode]
-    ensures { attributes_forest result.now ≡ attributes_in (before (statement_view statement.now) end) }
-{
-    match statement {
-        Statement::Void => &[],
-        Statement::Compound(body) => &body.attributes,
-        Statement::Assignment { attributes, .. }
-        | Statement::Increment { attributes, .. }
-        | Statement::Decrement { attributes, .. }
-        | Statement::If { attributes, .. }
-        | Statement::Switch { attributes, .. }
-        | Statement::Loop { attributes, .. }
-        | Statement::For { attributes, .. }
-        | Statement::While { attributes, .. }
-        | Statement::Break { attributes, .. }
-        | Statement::Continue { attributes, .. }
-        | Statement::Return { attributes, .. }
-        | Statement::Discard { attributes, .. }
-        | Statement::FunctionCall { attributes, .. } => attributes,
-        Statement::ConstAssert(assertion) => &assertion.attributes,
-        Statement::Declaration(declaration) => &declaration.attributes,
-    }
-}
-
-#[tactic(auto, using(crate::proofs::Views::view_compound))]
-fn recast_statement(statement: &mut Statement, role: Role, names: &Names, features: &Features)
-    ensures { before (statement_view statement.new) end ≡ with_attributes (recast (answers names.now features.now) role) (before (statement_view statement.old) end) }
-{
-    match statement {
-        Statement::Void => {}
-        Statement::Compound(body) => recast_body(body, role, names, features),
-        Statement::Assignment { attributes, .. } => recast(attributes, role, names, features),
-        Statement::Increment { attributes, .. } => recast(attributes, role, names, features),
-        Statement::Decrement { attributes, .. } => recast(attributes, role, names, features),
-        Statement::If { attributes, .. } => recast(attributes, role, names, features),
-        Statement::Switch { attributes, .. } => recast(attributes, role, names, features),
-        Statement::Loop { attributes, .. } => recast(attributes, role, names, features),
-        Statement::For { attributes, .. } => recast(attributes, role, names, features),
-        Statement::While { attributes, .. } => recast(attributes, role, names, features),
-        Statement::Break { attributes } => recast(attributes, role, names, features),
-        Statement::Continue { attributes } => recast(attributes, role, names, features),
-        Statement::Return { attributes, .. } => recast(attributes, role, names, features),
-        Statement::Discard { attributes } => recast(attributes, role, names, features),
-        Statement::FunctionCall { attributes, .. } => recast(attributes, role, names, features),
-        Statement::ConstAssert(assertion) => {
-            recast(&mut assertion.attributes, role, names, features)
-        }
-        Statement::Declaration(declaration) => {
-            recast(&mut declaration.attributes, role, names, features)
+        match &mut self.node {
+            Statement::Void => {}
+            Statement::Compound(body) => recast(&mut body.attributes, role, names, features),
+            Statement::Assignment { attributes, .. } => recast(attributes, role, names, features),
+            Statement::Increment { attributes, .. } => recast(attributes, role, names, features),
+            Statement::Decrement { attributes, .. } => recast(attributes, role, names, features),
+            Statement::If { attributes, .. } => recast(attributes, role, names, features),
+            Statement::Switch { attributes, .. } => recast(attributes, role, names, features),
+            Statement::Loop { attributes, .. } => recast(attributes, role, names, features),
+            Statement::For { attributes, .. } => recast(attributes, role, names, features),
+            Statement::While { attributes, .. } => recast(attributes, role, names, features),
+            Statement::Break { attributes } => recast(attributes, role, names, features),
+            Statement::Continue { attributes } => recast(attributes, role, names, features),
+            Statement::Return { attributes, .. } => recast(attributes, role, names, features),
+            Statement::Discard { attributes } => recast(attributes, role, names, features),
+            Statement::FunctionCall { attributes, .. } => recast(attributes, role, names, features),
+            Statement::ConstAssert(assertion) => {
+                recast(&mut assertion.attributes, role, names, features)
+            }
+            Statement::Declaration(declaration) => {
+                recast(&mut declaration.attributes, role, names, features)
+            }
         }
     }
-}
-
-#[tactic(auto, using(crate::proofs::Views::view_compound))]
-fn recast_body(body: &mut CompoundStatement, role: Role, names: &Names, features: &Features)
-    ensures { before (compound_view body.new) end ≡ with_attributes (recast (answers names.now features.now) role) (before (compound_view body.old) end) }
-{
-    recast(&mut body.attributes, role, names, features);
 }

@@ -22,7 +22,7 @@ struct Trees {
 impl Trees {
     /// The tree of the module at a path.
     fn tree_at(&self, alloc: Global, path: &ModulePath) -> Result<&Value, ResolveError> {
-        let (Ok(text), Ok(path)) = (path.to_text(alloc), path.try_clone(alloc)) else {
+        let (Some(text), Some(path)) = (path.to_text(alloc).ok(), path.try_clone(alloc).ok()) else {
             return Err(ResolveError::Memory);
         };
         match self.trees.get(text.as_str()) {

@@ -4,3 +4,9 @@ pub mod Agreement
 pub mod Retargeted
 pub mod Laws
 pub mod ByEntries
+pub mod Canonical
+pub mod NumberLaws
+pub mod Leaves
+pub mod Nodes
+pub mod Numbering
+pub use Rattle.wesl_copies.specs.Renumbered

@@ -1,4 +1,4 @@
-//! Laws of the definitions.
+//! Laws of faithful modules.
 ghost use Rattle.wesl_faith.specs.Laws.{TestsFaith, MeansTheFirst, CanonicalIsFaithful, FaithfulIsCanonical};
 
 use wesl_occurrences::law_of_occurrences;

@@ -1,28 +1,21 @@
 //! Which paths a link asks its resolver for.
 use serde_json::Value;
 use std::alloc::Global;
-use wesl_link::{Resolutions, resolve_lazy};
+use wesl_link::resolve_lazy;
 use wesl_names::{ModulePath, ResolveError};
 use wesl_resolver::Resolver;
 use wesl_row::{Object, Row};
-use wesl_tree::{Diagnostic, TranslationUnit};
+use wesl_tree::TranslationUnit;
 
-/// Asks another resolver, and keeps the paths that it was asked for.
+/// Asks another resolver, and keeps the paths that it was asked for. That memory was wanting for one is noted in the row.
 #[derive(Drop)]
-struct Counting<R> {
+struct Counting<'a, R> {
+    row: Row<'a>,
     inner: R,
     asked: Vec<String>,
 }
 
-/// Keeps the text of a path among those that were asked for, and tells whether there was memory for it.
-fn is_kept(alloc: Global, path: &ModulePath, asked: &mut Vec<String>) -> bool {
-    match path.to_text(alloc).ok() {
-        Some(text) => asked.push(text).is_ok(),
-        None => false,
-    }
-}
-
-impl<R: Resolver> Resolver for Counting<R> {
+impl<R: Resolver> Resolver for Counting<'_, R> {
     ghost ready = { λ s. R.ready s.inner };
 
     ghost hands = { λ s p u. R.hands s.inner p u };
@@ -44,11 +37,9 @@ impl<R: Resolver> Resolver for Counting<R> {
         alloc: Global,
         path: &ModulePath,
     ) -> Result<TranslationUnit, ResolveError> {
-        if is_kept(alloc, path, &mut self.asked) {
-            self.inner.resolve_module(alloc, path)
-        } else {
-            Err(ResolveError::Memory)
-        }
+        let text = self.row.or(path.to_text(alloc), String::new(alloc));
+        self.row.push(&mut self.asked, text);
+        self.inner.resolve_module(alloc, path)
     }
 
     fn display_name(
@@ -60,42 +51,44 @@ impl<R: Resolver> Resolver for Counting<R> {
     }
 }
 
+/// How often a path is among those that were asked for.
+fn count(asked: &[String], path: &str) -> usize {
+    let mut count: usize = 0;
+    for other in asked {
+        if other.as_str() == path {
+            count = count.wrapping_add(1);
+        }
+    }
+    count
+}
+
 /// How often each path was asked for.
-fn times(row: Row<'_>, asked: &[String]) -> Value {
-    let mut times = Object::new(row.alloc);
+fn counts(row: Row<'_>, asked: &[String]) -> Value {
+    let mut counts = Object::new(row.alloc);
     for path in asked {
-        let count = asked.iter().filter(|other| *other == path).count();
-        times.number(path.as_str(), count);
+        counts.number(path.as_str(), count(asked, path.as_str()));
     }
-    times.end(row)
+    counts.end(row)
 }
 
-/// How often each path was asked for, and how many modules a link has.
-fn counts(row: Row<'_>, found: &Resolutions, asked: &[String]) -> Value {
-    let modules = row.or(found.module_order(row.alloc), Vec::new(row.alloc));
-    let mut answer = Object::new(row.alloc);
-    answer.put("asked", times(row, asked));
-    answer.number("modules", modules.len());
-    answer.end(row)
-}
-
-/// The same, or how a link is refused.
-fn told(row: Row<'_>, found: Result<Resolutions, Diagnostic>, asked: &[String]) -> Value {
-    match row.told(found) {
-        Ok(found) => counts(row, &found, asked),
-        Err(fault) => fault,
-    }
-}
-
-/// How often a lazy link of a row's modules asks for each path, and how many modules it has.
+/// How often a lazy link of a row's modules asks for each path, and how many modules it has, or how it is refused.
 pub fn counted(row: Row<'_>) -> Value {
     let keep = row.texts("keep");
     let path = row.rooted("path");
     let root = row.unit("unit");
     let mut counting = Counting {
+        row,
         inner: row.modules("modules"),
         asked: Vec::new(row.alloc),
     };
-    let found = resolve_lazy(row.alloc, keep.as_slice(), root, &path, &mut counting, 1000);
-    told(row, found, counting.asked.as_slice())
+    match row.told(resolve_lazy(row.alloc, keep.as_slice(), root, &path, &mut counting, 1000)) {
+        Ok(found) => {
+            let modules = row.or(found.module_order(row.alloc), Vec::new(row.alloc));
+            let mut answer = Object::new(row.alloc);
+            answer.put("asked", counts(row, counting.asked.as_slice()));
+            answer.number("modules", modules.len());
+            answer.end(row)
+        }
+        Err(fault) => fault,
+    }
 }

@@ -18,18 +18,6 @@ pub fn converted(row: Row<'_>) -> Value {
     errors.end(row)
 }
 
-fn missing(row: Row<'_>) -> ImportError {
-    ImportError::MissingDecl(row.path_of("super::super::a"), row.copy_of("x"))
-}
-
-fn private(row: Row<'_>) -> ImportError {
-    ImportError::Private(row.copy_of("x"), row.path_of("p/q::a::b"))
-}
-
-fn absent(row: Row<'_>) -> ResolveError {
-    ResolveError::ModuleNotFound(row.path_of("self"), row.copy_of("no such file"))
-}
-
 /// The text of an error, which is let go here.
 fn text_of<E: Display + Drop>(row: Row<'_>, error: E) -> Value {
     row.printed(format!(in row.alloc; "{error}"))
@@ -37,40 +25,42 @@ fn text_of<E: Display + Drop>(row: Row<'_>, error: E) -> Value {
 
 /// The texts of errors, which say what they hold.
 pub fn told(row: Row<'_>) -> Value {
+    let missing = ImportError::MissingDecl(row.path_of("super::super::a"), row.copy_of("x"));
+    let private = ImportError::Private(row.copy_of("x"), row.path_of("p/q::a::b"));
+    let absent = ResolveError::ModuleNotFound(row.path_of("self"), row.copy_of("no such file"));
     let mut texts = List::new(row.alloc);
-    texts.put(text_of(row, missing(row)));
-    texts.put(text_of(row, private(row)));
-    texts.put(text_of(row, absent(row)));
+    texts.put(text_of(row, missing));
+    texts.put(text_of(row, private));
+    texts.put(text_of(row, absent));
     texts.end(row)
 }
 
-/// A diagnostic that says no place.
-fn unplaced(row: Row<'_>) -> Diagnostic {
-    let unknown = ValidateError::UndefinedSymbol(row.copy_of("x"));
-    Diagnostic::of(Error::from(unknown))
+/// A diagnostic of a name without meaning, in this module and this declaration.
+fn undefined(row: Row<'_>, module: Option<ModulePath>, declaration: Option<String>) -> Diagnostic {
+    Diagnostic {
+        error: Error::from(ValidateError::UndefinedSymbol(row.copy_of("x"))),
+        declaration,
+        module,
+        display: None,
+        span: None,
+        source: None,
+    }
 }
 
 /// One that says where.
 fn placed(row: Row<'_>) -> Diagnostic {
-    let mut diagnostic = unplaced(row);
-    diagnostic.module = Some(row.path_of("package::a"));
-    diagnostic.declaration = Some(row.copy_of("f"));
-    diagnostic
-}
-
-/// The refusal of a module that holds the latter.
-fn refusal(row: Row<'_>) -> Error {
-    match row.boxed(placed(row)) {
-        Some(diagnostic) => Error::of_resolve(ResolveError::from(diagnostic)),
-        None => Error::Memory,
-    }
+    let module = row.path_of("package::a");
+    undefined(row, Some(module), Some(row.copy_of("f")))
 }
 
 /// The texts of a diagnostic that says no place, of one that says where, and of the latter within the refusal of a module.
 pub fn told_where(row: Row<'_>) -> Value {
     let mut texts = List::new(row.alloc);
-    texts.put(text_of(row, unplaced(row)));
+    texts.put(text_of(row, undefined(row, None, None)));
     texts.put(text_of(row, placed(row)));
-    texts.put(text_of(row, refusal(row)));
+    texts.put(match row.boxed(placed(row)) {
+        Some(diagnostic) => text_of(row, Error::of_resolve(ResolveError::from(diagnostic))),
+        None => Value::Null,
+    });
     texts.end(row)
 }

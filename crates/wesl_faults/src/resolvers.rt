@@ -100,18 +100,30 @@ fn told<R: Resolver>(row: Row<'_>, resolver: &mut R, path: &str) -> Value
     }
 }
 
+/// Leaves a unit as it is.
+pub fn passed(unit: TranslationUnit) -> Result<TranslationUnit, Error> {
+    Ok(unit)
+}
+
+/// Wants memory for every unit.
+pub fn starved(_: TranslationUnit) -> Result<TranslationUnit, Error> {
+    Err(Error::Memory)
+}
+
+/// Refuses every unit.
+fn refused(_: TranslationUnit) -> Result<TranslationUnit, Error> {
+    Err(Error::NotNormalType)
+}
+
 /// What a preprocessor tells of the module `package::a`: one whose function refuses every unit, whose sources stay, and one
 /// whose function leaves it as it is.
 pub fn preprocessed(row: Row<'_>) -> Value {
     let mut held = holding(row, "package::a", "a");
-    let mut refusing = Preprocessor::new(
-        &mut held,
-        |_unit: TranslationUnit| Err(Error::NotNormalType),
-    );
+    let mut refusing = Preprocessor::new(&mut held, refused);
     let mut answer = Object::new(row.alloc);
     answer.put("refused", told(row, &mut refusing, "package::a"));
     answer.put("source", source(row, &mut refusing, "package::a"));
-    let mut passing = Preprocessor::new(held, |unit: TranslationUnit| Ok(unit));
+    let mut passing = Preprocessor::new(held, passed);
     answer.put("passed", told(row, &mut passing, "package::a"));
     answer.end(row)
 }
@@ -124,7 +136,7 @@ pub fn unread(row: Row<'_>) -> Value {
     let mut outcomes = List::new(row.alloc);
     outcomes.put(told(row, &mut large, "package::a"));
     outcomes.put(told(row, &mut held, "package::a"));
-    let mut refusing = Preprocessor::new(held, |_unit: TranslationUnit| Err(Error::Memory));
+    let mut refusing = Preprocessor::new(held, starved);
     outcomes.put(told(row, &mut refusing, "package::a"));
     outcomes.end(row)
 }

@@ -31,5 +31,5 @@ fn all_known(members: &Members<'_>, known: &[&str]) -> bool
 fn is_among(key: &str, known: &[&str]) -> bool
     ensures { result ≡ list_any (λ k. bytes_eq k.now key.now) known.now }
 {
-    known.iter().any(|k| *k == key)
+    known.contains(&key)
 }

@@ -144,10 +144,6 @@ import-read q ps pieces taken ns name e n r m =
 
 -- supers
 
-pub prefix_len-texts : (l : List (Bor Text)) → prefix_len (λ x. is_super x.now) l ≡ prefix_len is_super (texts l)
-prefix_len-texts [] = refl
-prefix_len-texts (x ∷ l) = rw (prefix_len-texts l) refl
-
 pub origin-supers : (w : Text) (ps pieces : List Text) (n : ℕ) → pieces ≡ w ∷ ps → bytes_eq w (codes "super") ≡ true → n ≡ prefix_len is_super pieces → read_origin pieces ≡ Some (relative n, drop n pieces)
 origin-supers w ps pieces n e s f =
     let w_is : w ≡ codes "super" = (bytes_eq-Decides w (codes "super")).0 s in

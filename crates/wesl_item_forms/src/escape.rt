@@ -118,22 +118,6 @@ fn push_origin(text: &mut Writer, origin: &PathOrigin)
     }
 }
 
-/// The pieces of the origin, the components and the item, joined by `_`.
-fn escape_item(alloc: Global, path: &ModulePath, item: &str) -> Result<String, Error>
-    ensures form { IfOk result (λ text. string_bytes text ≡ escape (path_view path.now) item.now) }
-    ensures refused { IfErr result (λ e. e ≡ error.Memory) }
-{
-    let mut text = Writer::new(alloc);
-    push_origin(&mut text, &path.origin);
-    for component in &path.components {
-        text.push("_");
-        push_escaped(&mut text, component.as_str());
-    }
-    text.push("_");
-    push_escaped(&mut text, item);
-    text.end()
-}
-
 /// The escape form of `item` of the module at `path`. Refused for want of memory alone.
 ///
 /// Where `is_reversible` says yes, `read_escape` reads it back. Where all names are identifiers of ASCII
@@ -145,5 +129,13 @@ pub fn escape_form(alloc: Global, path: &ModulePath, item: &str) -> Result<Strin
     ensures read_back { IfOk result (λ name. is_reversible (path_view path.now) item.now ≡ true → unescape (string_bytes name) ≡ Some (path_view path.now, item.now)) }
     ensures refused { IfErr result (λ e. e ≡ error.Memory) }
 {
-    escape_item(alloc, path, item)
+    let mut text = Writer::new(alloc);
+    push_origin(&mut text, &path.origin);
+    for component in &path.components {
+        text.push("_");
+        push_escaped(&mut text, component.as_str());
+    }
+    text.push("_");
+    push_escaped(&mut text, item);
+    text.end()
 }

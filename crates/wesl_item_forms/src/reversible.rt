@@ -1,9 +1,10 @@
 //! Where the escape form is read back as what it was written for.
 ghost use Rattle.std.specs.Prelude.{◌≡◌, ◌==◌, Some, true, map, string_bytes};
-ghost use Rattle.std.specs.List.{list_any, list_all};
+ghost use Rattle.std.specs.List.{list_all};
 ghost use Rattle.wesl_names.specs.Path.{path_view, origin_view};
 ghost use Rattle.wesl_item_forms.specs.Escape.{parts_of, is_word, is_plain, is_plain_origin, escape, unescape, is_reversible};
 
+use wesl_base::has_slash;
 use wesl_names::{ModulePath, PathOrigin};
 
 /// Whether the name is one of the words that the escape form writes.
@@ -11,12 +12,6 @@ fn is_word(name: &str) -> bool
     ensures { result ≡ is_word name.now }
 {
     name == "package" || name == "self" || name == "super" || name == "import"
-}
-
-fn has_slash(name: &str) -> bool
-    ensures { result ≡ list_any (λ c. c == 47) name.now }
-{
-    name.bytes().any(|byte| byte == b'/')
 }
 
 /// Whether the name is not empty, begins with no digit, has no slash and is none of the words.

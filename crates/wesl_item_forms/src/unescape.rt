@@ -1,27 +1,25 @@
 //! Reading the escape form. What is read from the front of some pieces is given with the number of
 //! pieces that it took.
-ghost use Rattle.std.specs.Prelude.{◌≡◌, ◌<◌, ◌≤◌, ◌^◌, ◌∷◌, ◌++◌, Some, None, IfErr, IfOk, IfSome, List, MatchOption, Option, true, false, length, string_bytes, option_and_then, option_map};
+ghost use Rattle.std.specs.Prelude.{◌≡◌, ◌<◌, ◌≤◌, ◌^◌, ◌∷◌, ◌++◌, Some, None, IfErr, IfOk, IfSome, List, MatchOption, Option, true, length, string_bytes, option_and_then, option_map};
 ghost use Rattle.std.specs.List.{prefix_len};
 ghost use Rattle.std.specs.Char.{is_ascii_digit};
 ghost use Rattle.std.specs.Str.Parse.{digits_value};
 ghost use Rattle.wesl_names.specs.Path.{Text, origin_view, from_package};
 ghost use Rattle.wesl_names.specs.declared.errors.Error as error;
-ghost use Rattle.wesl_item_forms.specs.Escape.{from_pieces, pieces_of, counted, read_name, read_names, read_all_names, is_number, read_import, is_super, read_origin, item_below, unescape, unescaped};
+ghost use Rattle.wesl_item_forms.specs.Escape.{from_pieces, pieces_of, counted, read_name, read_names, read_all_names, is_number, read_import, read_origin, item_below, unescape, unescaped};
 ghost use Rattle.wesl_item_forms.specs.Items.{item_view};
 ghost use Rattle.wesl_item_forms.specs.Views.{texts, names_view, name_before, names_before, origin_before};
 
 use crate::numbered::told;
 use std::alloc::{AllocError, Global};
+use wesl_base::leading_supers;
 use wesl_names::{Error, ModulePath, PathOrigin};
 
 /// How many digits the piece begins with.
 fn leading_digits(piece: &str) -> usize
     ensures { result ≡ prefix_len is_ascii_digit piece.now }
 {
-    piece
-        .bytes()
-        .take_while(|byte| byte.is_ascii_digit())
-        .count()
+    piece.bytes().take_while(u8::is_ascii_digit).count()
 }
 
 /// Appends an underscore and the piece.
@@ -43,19 +41,12 @@ fn joined(alloc: Global, first: &str, more: &[&str]) -> Result<String, AllocErro
     Ok(name)
 }
 
-/// How many pieces there are.
-fn count(pieces: &[&str]) -> usize
-    ensures { result ≡ length pieces.now }
-{
-    pieces.len()
-}
-
 /// The name that a piece begins, with the number of its further pieces, which stand first in the rest.
 fn counted(alloc: Global, piece: &str, rest: &[&str]) -> Result<Option<(String, usize)>, AllocError>
     ensures read { IfOk result (λ found. option_map (name_before (texts rest.now)) found ≡ counted piece.now (texts rest.now)) }
     ensures within { IfOk result (λ found. IfSome found (λ x. x.1 ≤ length rest.now)) }
 {
-    let available = count(rest);
+    let available = rest.len();
     let (digits, front) = piece.split_at(leading_digits(piece));
     let Ok(count) = digits.parse::<usize>() else {
         return Ok(None);
@@ -164,13 +155,6 @@ fn read_import(alloc: Global, pieces: &[&str]) -> Result<Option<(PathOrigin, usi
     Ok(Some((PathOrigin::Package(name), taken + 1)))
 }
 
-/// How many of the pieces, from the first on, are `super`.
-pub fn supers(pieces: &[&str]) -> usize
-    ensures { result ≡ prefix_len is_super (texts pieces.now) }
-{
-    pieces.iter().take_while(|piece| **piece == "super").count()
-}
-
 /// The package whose name stands first.
 fn read_package(alloc: Global, pieces: &[&str]) -> Result<Option<(PathOrigin, usize)>, AllocError>
     ensures read { IfOk result (λ found. option_map (origin_before (texts pieces.now)) found ≡ option_map (λ x. (from_package x.0, x.1)) (read_name (texts pieces.now))) }
@@ -197,7 +181,7 @@ fn read_origin(alloc: Global, pieces: &[&str]) -> Result<Option<(PathOrigin, usi
         return Ok(Some((PathOrigin::Relative(0), 1)));
     }
     if *first == "super" {
-        let up = supers(pieces);
+        let up = leading_supers(pieces);
         return Ok(Some((PathOrigin::Relative(up), up)));
     }
     if *first == "import" {

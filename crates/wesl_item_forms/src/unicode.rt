@@ -6,7 +6,7 @@ ghost use Rattle.wesl_names.specs.declared.errors.Error as error;
 ghost use Rattle.wesl_syntax.specs.Tree.{tree_below};
 ghost use Rattle.wesl_syntax.specs.View.{type_view};
 ghost use Rattle.wesl_item_forms.specs.Items.{IsRefusedVariant};
-ghost use Rattle.wesl_item_forms.specs.TypeText.{is_normal_type, bracketed, tree_text, unicode_variant};
+ghost use Rattle.wesl_item_forms.specs.TypeText.{is_normal_type, unicode_variant};
 ghost use Rattle.wesl_item_forms.specs.Written.{Adds};
 ghost use Rattle.wesl_item_forms.specs.Unicode.{separator, from_words, origin_words, unicode, from_unicode, has_own_words};
 
@@ -52,20 +52,6 @@ fn push_origin(text: &mut Writer, origin: &PathOrigin)
     }
 }
 
-/// The words of the origin, the components and the item.
-fn write_item(alloc: Global, path: &ModulePath, item: &str) -> Result<String, Error>
-    ensures form { IfOk result (λ text. string_bytes text ≡ unicode (path_view path.now) item.now) }
-    ensures refused { IfErr result (λ e. e ≡ error.Memory) }
-{
-    let mut text = Writer::new(alloc);
-    push_origin(&mut text, &path.origin);
-    for component in &path.components {
-        push_word(&mut text, component.as_str());
-    }
-    push_word(&mut text, item);
-    text.end()
-}
-
 /// Whether each of the types can be written.
 fn are_normal_types(types: &[TypeExpression]) -> bool
     ensures { result ≡ list_all is_normal_type (map type_view types.now) }
@@ -78,24 +64,6 @@ fn are_normal_types(types: &[TypeExpression]) -> bool
     true
 }
 
-/// The item, and the types in brackets.
-fn write_variant(
-    alloc: Global,
-    names: &Names,
-    item: &str,
-    types: &[TypeExpression],
-) -> Result<String, Error>
-    requires below { list_all (tree_below (length names.now)) (map type_view types.now) ≡ true }
-    requires normal { list_all is_normal_type (map type_view types.now) ≡ true }
-    ensures form { IfOk result (λ text. string_bytes text ≡ item.now ++ bracketed (map (tree_text names.now) (map type_view types.now))) }
-    ensures refused { IfErr result (λ e. e ≡ error.Memory) }
-{
-    let mut text = Writer::new(alloc);
-    text.push(item);
-    push_types(&mut text, names, types);
-    text.end()
-}
-
 /// The Unicode form of `item` of the module at `path`. Refused for want of memory alone.
 ///
 /// Where no name is empty, has a U+02D0 or is `package`, `self` or `super`, `read_unicode` reads it back.
@@ -104,7 +72,13 @@ pub fn unicode_form(alloc: Global, path: &ModulePath, item: &str) -> Result<Stri
     ensures read_back { IfOk result (λ name. has_own_words (path_view path.now) item.now ≡ true → from_unicode (string_bytes name) ≡ Some (path_view path.now, item.now)) }
     ensures refused { IfErr result (λ e. e ≡ error.Memory) }
 {
-    write_item(alloc, path, item)
+    let mut text = Writer::new(alloc);
+    push_origin(&mut text, &path.origin);
+    for component in &path.components {
+        push_word(&mut text, component.as_str());
+    }
+    push_word(&mut text, item);
+    text.end()
 }
 
 /// The item with the types in brackets, as the Unicode form writes a variant. `names` is the table of the
@@ -125,5 +99,8 @@ pub fn unicode_variant(
     if !are_normal_types(types) {
         return Err(Error::NotNormalType);
     }
-    write_variant(alloc, names, item, types)
+    let mut text = Writer::new(alloc);
+    text.push(item);
+    push_types(&mut text, names, types);
+    text.end()
 }

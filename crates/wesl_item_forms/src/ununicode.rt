@@ -1,6 +1,5 @@
 //! Reading the Unicode form.
-ghost use Rattle.std.specs.Prelude.{◌≡◌, ◌≤◌, IfOk, IfErr, IfSome, List, option_map, length};
-ghost use Rattle.wesl_names.specs.Path.{Text, origin_view};
+ghost use Rattle.std.specs.Prelude.{◌≡◌, ◌≤◌, IfOk, IfErr, IfSome, option_map, length};
 ghost use Rattle.wesl_names.specs.declared.errors.Error as error;
 ghost use Rattle.wesl_item_forms.specs.Escape.{item_below};
 ghost use Rattle.wesl_item_forms.specs.Items.{item_view};
@@ -8,9 +7,10 @@ ghost use Rattle.wesl_item_forms.specs.Unicode.{words_of, read_origin_words, ite
 ghost use Rattle.wesl_item_forms.specs.Views.{texts, names_view, origin_before, ReadsBelow};
 
 use crate::numbered::told;
-use crate::unescape::{item_below, supers};
+use crate::unescape::item_below;
 use crate::unicode::SEPARATOR;
 use std::alloc::{AllocError, Global};
+use wesl_base::leading_supers;
 use wesl_names::{Error, ModulePath, PathOrigin};
 
 /// The texts between the separators.
@@ -35,7 +35,7 @@ fn read_origin(alloc: Global, words: &[&str]) -> Result<Option<(PathOrigin, usiz
         return Ok(Some((PathOrigin::Relative(0), 1)));
     }
     if *first == "super" {
-        let up = supers(words);
+        let up = leading_supers(words);
         return Ok(Some((PathOrigin::Relative(up), up)));
     }
     let name = String::from_str(alloc, first)?;

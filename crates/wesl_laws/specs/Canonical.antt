@@ -5,7 +5,7 @@ use Rattle.wesl_names.specs.Path.{Text}
 use Rattle.wesl_syntax.specs.Unit.{UnitOf}
 use Rattle.wesl_occurrences.specs.Occurrences.{occurrences}
 use Rattle.wesl_meanings.specs.Scopes.{keys}
-use Rattle.wesl_renumber.specs.Canonical.{canonical}
+use Rattle.wesl_faith.specs.Canonical.{canonical}
 
 abbrev pub canonical_numbers : UnitOf Text → List ℕ
 canonical_numbers u = canonical (keys (occurrences u))

@@ -1,16 +1,18 @@
 //! Manglers: names of items, names that are read, and names of variants.
-ghost use Rattle.std.specs.Prelude.{◌≡◌, ◌<◌, ℕ, true};
+ghost use Rattle.std.specs.Prelude.{◌≡◌, ◌<◌, ℕ, true, IfOk};
 ghost use Rattle.wesl_syntax.specs.Tree.{tree_below};
 ghost use Rattle.wesl_syntax.specs.View.{expression_view, type_view};
 
 use serde_json::Value;
+use std::alloc::AllocError;
+use std::slice::from_ref;
 use wesl_mangle::{
     CacheMangler, EscapeMangler, HashMangler, Mangler, NoMangler, PathHash, UnicodeMangler,
 };
 use wesl_row::{Row, is_refused, item_value, stands, text_of};
 use wesl_tree::{
-    BinaryOperator, Error, Expression, ExpressionNode, Ident, Literal, ModulePath, Names, Span,
-    Spanned, TemplateArg, TypeExpression,
+    BinaryOperator, Expression, ExpressionNode, Ident, Literal, ModulePath, Names, Span, Spanned,
+    TemplateArg, TypeExpression,
 };
 
 /// The same number for each item.
@@ -31,16 +33,11 @@ pub fn named<M: Mangler>(row: Row<'_>, mangler: &mut M) -> Value {
 }
 
 /// The path and the item that a mangler reads a name as, null where it reads none.
-fn read_as<M: Mangler>(row: Row<'_>, mangler: &M, name: &str) -> Value {
+pub fn read<M: Mangler>(row: Row<'_>, mangler: &M, name: &str) -> Value {
     match &row.or(mangler.unmangle(row.alloc, name), None) {
         Some((path, item)) => item_value(row, path, item.as_str()),
         None => Value::Null,
     }
-}
-
-/// What a mangler reads the name of a row as.
-pub fn read<M: Mangler>(row: Row<'_>, mangler: &M) -> Value {
-    read_as(row, mangler, row.text("name"))
 }
 
 /// The name that a mangler of numbers gives to the item of a row, whose number is that of the row.
@@ -55,26 +52,20 @@ pub fn remembered(row: Row<'_>) -> Value {
     for item in row.list("given") {
         let _ = named(row.of(item), &mut mangler);
     }
-    read(row, &mangler)
-}
-
-/// A mangler with a record that named the item of a row at the paths `given`.
-fn remembering(row: Row<'_>) -> CacheMangler<NoMangler> {
-    let mut mangler = CacheMangler::new(row.alloc, NoMangler);
-    for text in row.list("given") {
-        let path = row.path_of(text_of(text));
-        row.refused_if(is_refused(mangler.mangle(row.alloc, &path, row.text("item"))));
-    }
-    mangler
+    read(row, &mangler, row.text("name"))
 }
 
 /// What a mangler with a record reads the `item` as, when it named the item of the paths `given`, and `then` of one more.
 pub fn remembered_or_left(row: Row<'_>) -> Value {
     let item = row.text("item");
+    let mut mangler = CacheMangler::new(row.alloc, NoMangler);
+    for text in row.list("given") {
+        let path = row.path_of(text_of(text));
+        row.refused_if(is_refused(mangler.mangle(row.alloc, &path, item)));
+    }
     let last = row.path("then");
-    let mut mangler = remembering(row);
     let is_refused = is_refused(mangler.mangle(row.alloc, &last, item));
-    stands(row, is_refused, read_as(row, &mangler, item))
+    stands(row, is_refused, read(row, &mangler, item))
 }
 
 fn placed(node: Expression) -> ExpressionNode
@@ -127,53 +118,49 @@ fn array_of(row: Row<'_>, size: Expression) -> TypeExpression
     }
 }
 
-/// The names `array` and `f32`, where there is memory for both.
-fn two_names(row: Row<'_>) -> Names {
-    let mut names = Names::new(row.alloc);
-    row.refused_if(is_refused(names.add("array")));
-    row.refused_if(is_refused(names.add("f32")));
-    names
-}
-
-/// The name in Unicode form of the first variant of `f`, for the type `array<f32, size>`.
-fn variant_of_f(row: Row<'_>, size: Expression) -> Result<String, Error>
-    requires below { tree_below 2 (expression_view size) ≡ true }
+/// The sum of two numbers, as `1 + 1`.
+fn sum(row: Row<'_>, left: &str, right: &str) -> Result<Expression, AllocError>
+    ensures { IfOk result (λ sum. tree_below 2 (expression_view sum) ≡ true) }
 {
-    let names = two_names(row);
-    let types = [array_of(row, size)];
-    if names.len() == 2 {
-        UnicodeMangler.mangle_types(row.alloc, &names, "f", 1, &types)
-    } else {
-        Err(Error::Memory)
-    }
-}
-
-/// The same for a size that is a sum, as `1 + 1`.
-fn variant_by_sum(row: Row<'_>, left: &str, right: &str) -> Result<String, Error> {
-    let sum = Expression::Binary {
+    Ok(Expression::Binary {
         operator: BinaryOperator::Addition,
         left: Box::new(row.alloc, placed(literal(row, left)))?,
         right: Box::new(row.alloc, placed(literal(row, right)))?,
-    };
-    variant_of_f(row, sum)
+    })
 }
 
-/// The name of a variant whose types are written, for the size of a row, which is a number or a sum of two.
-fn variant(row: Row<'_>) -> Result<String, Error> {
-    match row.list("array_of_f32_of_size") {
-        [Value::String(number)] => variant_of_f(row, literal(row, number.as_str())),
-        [Value::String(left), Value::String(right)] => {
-            variant_by_sum(row, left.as_str(), right.as_str())
+/// The name in Unicode form of the first variant of `f`, for the type `array<f32, size>`.
+fn variant_of_f(row: Row<'_>, size: Expression) -> Value
+    requires below { tree_below 2 (expression_view size) ≡ true }
+{
+    let mut names = Names::new(row.alloc);
+    row.refused_if(is_refused(names.add("array")));
+    row.refused_if(is_refused(names.add("f32")));
+    let array = array_of(row, size);
+    if names.len() == 2 {
+        match row.told(UnicodeMangler.mangle_types(row.alloc, &names, "f", 1, from_ref(&array))) {
+            Ok(name) => Value::String(name),
+            Err(fault) => fault,
         }
-        _ => Err(Error::NotNormalType),
+    } else {
+        Value::Null
     }
 }
 
-/// The same as an answer.
+/// The name of a variant whose types are written, for the size of a row, which is a number or a sum of two.
 pub fn written_variant(row: Row<'_>) -> Value {
-    match row.told(variant(row)) {
-        Ok(name) => Value::String(name),
-        Err(fault) => fault,
+    match row.list("array_of_f32_of_size") {
+        [Value::String(number)] => variant_of_f(row, literal(row, number.as_str())),
+        [Value::String(left), Value::String(right)] => {
+            match sum(row, left.as_str(), right.as_str()) {
+                Ok(sum) => variant_of_f(row, sum),
+                Err(_) => {
+                    row.refused_if(true);
+                    Value::Null
+                }
+            }
+        }
+        _ => row.text_value("no such size"),
     }
 }
 

@@ -13,19 +13,13 @@ fn listed(row: Row<'_>, interner: &Interner) -> Value {
     names.end(row)
 }
 
-/// An interner that was given the texts `given`.
-fn interner(row: Row<'_>) -> Interner {
+/// The names of an interner that was given the texts `given`, and `then` one more, or, where that is refused, those that
+/// it has then.
+pub fn interned_or_left(row: Row<'_>) -> Value {
     let mut interner = Interner::new(row.alloc);
     for text in row.list("given") {
         row.refused_if(is_refused(interner.intern(text_of(text))));
     }
-    interner
-}
-
-/// The names of an interner that was given the texts `given`, and `then` one more, or, where that is refused, those that
-/// it has then.
-pub fn interned_or_left(row: Row<'_>) -> Value {
-    let mut interner = interner(row);
     let is_refused = is_refused(interner.intern(row.text("then")));
     stands(row, is_refused, listed(row, &interner))
 }

@@ -7,12 +7,13 @@ use wesl_json::JsonText;
 use wesl_resolve::{Router, VirtualResolver};
 use wesl_resolver::{NoResolver, Resolver};
 use wesl_row::{List, Row, is_refused, item_value, stands, text_of};
-use wesl_tree::{ModulePath, ResolveError};
+use wesl_tree::ResolveError;
 
 /// The source that a resolver gives for the path of a row.
-pub fn source<R: Resolver>(row: Row<'_>, resolver: &mut R) -> Value
-    requires { R.ready resolver.old }
+pub fn source<R: Resolver + Drop>(row: Row<'_>, resolver: R) -> Value
+    requires { R.ready resolver }
 {
+    let mut resolver = resolver;
     let path = row.rooted("path");
     match row.told(resolver.resolve_source(row.alloc, &path)) {
         Ok(source) => Value::String(source),
@@ -21,9 +22,10 @@ pub fn source<R: Resolver>(row: Row<'_>, resolver: &mut R) -> Value
 }
 
 /// The unit that a resolver gives for the path of a row.
-pub fn module<R: Resolver>(row: Row<'_>, resolver: &mut R) -> Value
-    requires { R.ready resolver.old }
+pub fn module<R: Resolver + Drop>(row: Row<'_>, resolver: R) -> Value
+    requires { R.ready resolver }
 {
+    let mut resolver = resolver;
     let path = row.rooted("path");
     match row.told(resolver.resolve_module(row.alloc, &path)) {
         Ok(unit) => row.tree_of(&unit),
@@ -32,8 +34,8 @@ pub fn module<R: Resolver>(row: Row<'_>, resolver: &mut R) -> Value
 }
 
 /// The name by which a resolver shows the path of a row, null where it has none.
-pub fn name<R: Resolver>(row: Row<'_>, resolver: &mut R) -> Value
-    requires { R.ready resolver.old }
+pub fn name<R: Resolver + Drop>(row: Row<'_>, resolver: R) -> Value
+    requires { R.ready resolver }
 {
     let path = row.rooted("path");
     match row.told(resolver.display_name(row.alloc, &path)) {
@@ -43,20 +45,16 @@ pub fn name<R: Resolver>(row: Row<'_>, resolver: &mut R) -> Value
     }
 }
 
-/// Null for a module that is not there; want of memory is none.
-fn none_of(row: Row<'_>, error: &ResolveError) -> Value {
-    match error {
-        ResolveError::Memory => row.refused_if(true),
-        _ => {}
-    }
-    Value::Null
-}
-
-/// The answer of a source, null where there is none.
+/// The answer of a source, null where there is none; want of memory is noted.
 fn source_or_null(row: Row<'_>, source: Result<String, ResolveError>) -> Value {
     match source {
         Ok(source) => Value::String(source),
-        Err(error) => none_of(row, &error),
+        Err(error) => {
+            row.refused_if(matches!(error, ResolveError::Memory));
+            // as a generic function lets go of it, which costs the proof a fraction
+            drop(error);
+            Value::Null
+        }
     }
 }
 
@@ -70,54 +68,39 @@ fn given<R: Resolver>(row: Row<'_>, resolver: &mut R, text: &str) -> Value
 }
 
 /// What a resolver gives as the sources of the modules `asked`, null where it has none.
-pub fn sources<R: Resolver>(row: Row<'_>, resolver: &mut R) -> Value
-    requires { R.ready resolver.old }
+pub fn sources<R: Resolver + Drop>(row: Row<'_>, resolver: R) -> Value
+    requires { R.ready resolver }
 {
+    let mut resolver = resolver;
     let mut sources = List::new(row.alloc);
     for text in row.list("asked") {
-        sources.put(given(row, resolver, text_of(text)));
+        sources.put(given(row, &mut resolver, text_of(text)));
     }
     sources.end(row)
 }
 
-/// Paths and sources.
-fn pairs(row: Row<'_>, held: &[(&ModulePath, &str)]) -> Value {
+/// The paths and the sources of a resolver's modules.
+pub fn listed(row: Row<'_>, modules: VirtualResolver<JsonText>) -> Value {
     let mut pairs = List::new(row.alloc);
-    for (path, source) in held {
-        pairs.put(item_value(row, path, source));
+    match modules.modules(row.alloc).ok() {
+        Some(held) => {
+            for (path, source) in held.as_slice() {
+                pairs.put(item_value(row, path, source));
+            }
+        }
+        None => row.refused_if(true),
     }
     pairs.end(row)
 }
 
-/// The paths and the sources of a resolver's modules.
-fn listed(row: Row<'_>, modules: &VirtualResolver<JsonText>) -> Value {
-    match modules.modules(row.alloc).ok() {
-        Some(held) => pairs(row, held.as_slice()),
-        None => {
-            row.refused_if(true);
-            Value::Null
-        }
-    }
-}
-
-/// Adds the `unit` of the row to a resolver, if it has one (at `unit_at`).
-fn unit_added(row: Row<'_>, modules: &mut VirtualResolver<JsonText>) {
+/// A resolver of `modules`, to which the `unit` of the row is added (at `unit_at`), if it has one.
+pub fn holding(row: Row<'_>) -> VirtualResolver<JsonText> {
+    let mut modules = row.modules("modules");
     if row.has("unit") {
         let path = row.rooted("unit_at");
         row.done(modules.add_translation_unit(row.alloc, path, row.unit("unit")));
     }
-}
-
-/// A resolver of `modules`, to which the `unit` of the row was added.
-fn holding(row: Row<'_>) -> VirtualResolver<JsonText> {
-    let mut modules = row.modules("modules");
-    unit_added(row, &mut modules);
     modules
-}
-
-/// The modules of a resolver of modules in memory.
-pub fn all(row: Row<'_>) -> Value {
-    listed(row, &holding(row))
 }
 
 /// The stored text of the module at the path of a row.
@@ -130,17 +113,12 @@ pub fn stored(row: Row<'_>) -> Value {
     }
 }
 
-/// The unit that a resolver of modules in memory gives.
-pub fn held(row: Row<'_>) -> Value {
-    module(row, &mut holding(row))
-}
-
 /// The modules of a resolver of `modules` to which one more is added, with the source or the unit of `then`, or, where
 /// that is refused, those that it has then.
 pub fn added_or_left(row: Row<'_>) -> Value {
     let mut modules = row.modules("modules");
     let is_refused = is_refused(row.part("then").added_to(&mut modules));
-    stands(row, is_refused, listed(row, &modules))
+    stands(row, is_refused, listed(row, modules))
 }
 
 /// Mounts the modules at a key of a row at the path of another key.
@@ -149,46 +127,31 @@ fn mount(row: Row<'_>, at: &str, key: &str, router: &mut Router<VirtualResolver<
     row.done(router.mount_resolver(path, row.modules(key)));
 }
 
-/// A router with the modules `first` mounted at `first_at`.
-fn router(row: Row<'_>) -> Router<VirtualResolver<JsonText>> {
-    let mut router: Router<VirtualResolver<JsonText>> = Router::new(row.alloc);
-    mount(row, "first_at", "first", &mut router);
-    router
-}
-
 /// The source that a router gives with two mounts and a fallback, or after a third mount, if the row has one.
 pub fn routed(row: Row<'_>) -> Value {
-    let mut router = router(row);
+    let mut router = Router::new(row.alloc);
+    mount(row, "first_at", "first", &mut router);
     mount(row, "second_at", "second", &mut router);
     router.mount_fallback_resolver(row.modules("fallback"));
     if row.has("third") {
         mount(row, "third_at", "third", &mut router);
     }
-    source(row, &mut router)
+    source(row, router)
 }
 
 /// A router that has one mount, of a resolver without modules, and no fallback.
-fn unrouting(row: Row<'_>) -> Router<NoResolver> {
+pub fn unrouting(row: Row<'_>) -> Router<NoResolver> {
     let mut router: Router<NoResolver> = Router::new(row.alloc);
     row.done(router.mount_resolver(row.rooted("no_resolver_at"), NoResolver));
     router
 }
 
-/// The unit that it gives.
-pub fn unrouted(row: Row<'_>) -> Value {
-    module(row, &mut unrouting(row))
-}
-
-/// The name by which it shows a path.
-pub fn unrouted_name(row: Row<'_>) -> Value {
-    name(row, &mut unrouting(row))
-}
-
 /// What a router gives with the modules `first` mounted at `first_at`, to which those of `then` are mounted at `then_at`,
 /// or, where that is refused, what it gives then.
 pub fn mounted_or_left(row: Row<'_>) -> Value {
+    let mut router = Router::new(row.alloc);
+    mount(row, "first_at", "first", &mut router);
     let path = row.rooted("then_at");
-    let mut router = router(row);
     let is_refused = is_refused(router.mount_resolver(path, row.modules("then")));
-    stands(row, is_refused, sources(row, &mut router))
+    stands(row, is_refused, sources(row, router))
 }

@@ -34,6 +34,22 @@ impl Loader<usize> for Shelf<'_> {
     }
 }
 
+/// The imports of a module.
+fn imports(module: Row<'_>) -> Vec<Import<PathId, NameId>> {
+    let mut imports = Vec::new(module.alloc);
+    for value in module.list("imports") {
+        let row = module.of(value);
+        let import = Import {
+            bound: NameId(row.number("bound", 0)),
+            path: PathId(row.number("path", 0)),
+            item: NameId(row.number("item", 0)),
+            published: matches!(row.value.get("published"), Some(Value::Bool(true))),
+        };
+        module.push(&mut imports, import);
+    }
+    imports
+}
+
 /// The path at a key.
 fn path(row: Row<'_>, key: &str) -> Option<PathId> {
     if row.has(key) {
@@ -43,52 +59,23 @@ fn path(row: Row<'_>, key: &str) -> Option<PathId> {
     }
 }
 
-/// The name at a key.
-fn name(row: Row<'_>, key: &str) -> Option<NameId> {
-    if row.has(key) {
-        Some(NameId(row.number(key, 0)))
-    } else {
-        None
-    }
-}
-
-/// An import of a module.
-fn import(row: Row<'_>) -> Import<PathId, NameId> {
-    Import {
-        bound: NameId(row.number("bound", 0)),
-        path: PathId(row.number("path", 0)),
-        item: NameId(row.number("item", 0)),
-        published: match row.value.get("published") {
-            Some(Value::Bool(published)) => *published,
-            _ => false,
-        },
-    }
-}
-
-/// The imports of a module.
-fn imports(module: Row<'_>) -> Vec<Import<PathId, NameId>> {
-    let mut imports = Vec::new(module.alloc);
-    for value in module.list("imports") {
-        module.push(&mut imports, import(module.of(value)));
-    }
-    imports
-}
-
-/// A name that a declaration uses, with its path, if it has one.
-fn reference(row: Row<'_>) -> Reference<PathId, NameId> {
-    Reference {
-        path: path(row, "path"),
-        name: NameId(row.number("name", 0)),
-    }
-}
-
-/// A declaration with the names that it uses. One without a name is a const_assert.
+/// A declaration with the names that it uses, each with its path, if it has one. One without a name is a const_assert.
 fn declaration(row: Row<'_>) -> Declaration {
     let mut references = Vec::new(row.alloc);
     for value in row.list("uses") {
-        row.push(&mut references, reference(row.of(value)));
+        let used = row.of(value);
+        let reference = Reference {
+            path: path(used, "path"),
+            name: NameId(used.number("name", 0)),
+        };
+        row.push(&mut references, reference);
     }
-    Declaration::new(name(row, "name"), references)
+    let name = if row.has("name") {
+        Some(NameId(row.number("name", 0)))
+    } else {
+        None
+    };
+    Declaration::new(name, references)
 }
 
 /// The declarations of a module.
@@ -138,16 +125,11 @@ fn paths(row: Row<'_>, linked: &Linked) -> Value {
     paths.end(row)
 }
 
-/// A symbol as its path and its name.
-fn pair(row: Row<'_>, symbol: Symbol<PathId, NameId>) -> Value {
-    numbers_value(row, &[symbol.path.0, symbol.name.0])
-}
-
 /// The symbols that a link reached.
 fn symbols(row: Row<'_>, linked: &Linked) -> Value {
     let mut pairs = List::new(row.alloc);
     for symbol in linked.symbols() {
-        pairs.put(pair(row, *symbol));
+        pairs.put(numbers_value(row, &[symbol.path.0, symbol.name.0]));
     }
     pairs.end(row)
 }
@@ -174,14 +156,6 @@ fn first_meaning(linked: &Linked) -> Option<Symbol<PathId, NameId>> {
     }
 }
 
-/// The same as a value.
-fn first(row: Row<'_>, linked: &Linked) -> Value {
-    match first_meaning(linked) {
-        Some(symbol) => pair(row, symbol),
-        None => Value::Null,
-    }
-}
-
 /// Puts a fault with these numbers.
 fn put_fault(row: Row<'_>, answer: &mut Object, fault: &str, numbers: &[usize]) {
     answer.put("args", numbers_value(row, numbers));
@@ -204,64 +178,43 @@ fn put_refused(row: Row<'_>, answer: &mut Object, error: &LinkError<usize>) {
 
 /// Puts what a link has.
 fn put_reached(row: Row<'_>, answer: &mut Object, linked: &Linked) {
-    answer.put("first", first(row, linked));
+    match first_meaning(linked) {
+        Some(symbol) => answer.put("first", numbers_value(row, &[symbol.path.0, symbol.name.0])),
+        None => answer.put("first", Value::Null),
+    }
     answer.put("modules", paths(row, linked));
     answer.put("symbols", symbols(row, linked));
     answer.number("turns", linked.turns());
 }
 
-/// What a link answers, with the paths that its loader was asked for.
-fn told(row: Row<'_>, found: &Result<Linked, LinkError<usize>>, asked: &[usize]) -> Value {
-    let mut answer = Object::new(row.alloc);
-    answer.put("asked", numbers_value(row, asked));
-    match found {
+/// What a link from a table answers over the tables of a row, with the paths that its loader was asked for: an eager one, or
+/// a lazy one with the kept names.
+fn linked_from(row: Row<'_>, root: Table, is_eager: bool) -> Value {
+    let alloc = row.alloc;
+    let asked = Vec::new(alloc);
+    let mut shelf = Shelf { row, asked };
+    let limit = row.number("limit", 0);
+    let found = if is_eager {
+        link_eagerly(alloc, root, &mut shelf, limit)
+    } else {
+        link_lazily(alloc, root, kept(row), &mut shelf, limit)
+    };
+    let mut answer = Object::new(alloc);
+    answer.put("asked", numbers_value(row, shelf.asked.as_slice()));
+    match &found {
         Ok(linked) => put_reached(row, &mut answer, linked),
         Err(error) => put_refused(row, &mut answer, error),
     }
     answer.end(row)
 }
 
-/// Null where there is no memory for the root of a link.
-fn rootless(row: Row<'_>) -> Value {
-    row.refused_if(true);
-    Value::Null
-}
-
-/// A shelf of the modules of a row.
-fn shelf_of<'a>(row: Row<'a>) -> Shelf<'a> {
-    Shelf {
-        row,
-        asked: Vec::new(row.alloc),
-    }
-}
-
-/// What an eager link from a table answers over the tables of a row.
-fn eager_from(row: Row<'_>, root: Table) -> Value {
-    let mut shelf = shelf_of(row);
-    let found = link_eagerly(row.alloc, root, &mut shelf, row.number("limit", 0));
-    told(row, &found, shelf.asked.as_slice())
-}
-
-/// What an eager link answers over the tables of a row.
-pub fn eager(row: Row<'_>) -> Value {
+/// What an eager or a lazy link answers over the tables of a row.
+pub fn linked(row: Row<'_>, is_eager: bool) -> Value {
     match table(row.alloc, PathId(0), row) {
-        Ok(root) => eager_from(row, root),
-        Err(_) => rootless(row),
-    }
-}
-
-/// What a lazy link from a table answers over the tables of a row, with the kept names.
-fn lazy_from(row: Row<'_>, root: Table) -> Value {
-    let mut shelf = shelf_of(row);
-    let limit = row.number("limit", 0);
-    let found = link_lazily(row.alloc, root, kept(row), &mut shelf, limit);
-    told(row, &found, shelf.asked.as_slice())
-}
-
-/// What a lazy link answers over the tables of a row, with the kept names.
-pub fn lazy(row: Row<'_>) -> Value {
-    match table(row.alloc, PathId(0), row) {
-        Ok(root) => lazy_from(row, root),
-        Err(_) => rootless(row),
+        Ok(root) => linked_from(row, root, is_eager),
+        Err(_) => {
+            row.refused_if(true);
+            Value::Null
+        }
     }
 }

@@ -1,6 +1,7 @@
 pub mod Giving
 pub mod Recording
 pub mod Lists
+pub mod Tabled
 pub mod Marked
 pub mod Carried
 pub mod Built
@@ -15,6 +16,7 @@ pub mod Taking
 pub mod Reordered
 pub mod Found
 pub mod Sound
+pub mod Holding
 pub mod Texts
 pub mod Meant
 pub mod Parted
@@ -22,6 +24,7 @@ pub mod Adding
 pub mod Whole
 pub mod Naming
 pub mod Recorded
+pub mod Mangled
 pub mod Faultless
 pub mod Excluding
 pub mod Entries

@@ -73,10 +73,6 @@ module _ (nb : Numbering) (different_paths : AreDifferent nb.paths) (different_n
       first_held : (k : LoadedModule) → Contains ms k → Contains (ms ++ m ∷ []) k
       first_held k c = Contains-append_left ms (m ∷ []) k c
 
--- by other words for the same names
-pub gives_same : (nb : Numbering) (ms : List LoadedModule) (f h : Path → Text → Text) → ((p : Path) (x : Text) → f p x ≡ h p x) → (given : Given) → GivesTo nb ms f given → GivesTo nb ms h given
-gives_same nb ms f h same given s = record { names = λ m p n x c d at named. s.names m p n x c d at named ∙ ap Some (same (path_view m.path) x); none = s.none }
-
 -- ---- all modules
 
 differ : (b c : Bool) → b ≡ false → (b && c) ≡ false

@@ -1,20 +1,18 @@
 -- The record that a mangler keeps as the modules of a link are mangled.
-use Rattle.std.proofs.Common.{◌≡◌, Bool, true, false, ℕ, ◌<◌, ◌+◌, Option, Some, None, List, [], ◌∷◌, ◌++◌, take, length, get_or, refl, sym, ap, subst, ◌∙◌}
+use Rattle.std.proofs.Common.{◌≡◌, Bool, true, false, Option, Some, None, List, [], ◌∷◌, ◌++◌, refl, sym, ap, subst, ◌∙◌}
 use Rattle.std.specs.Prelude.{filter_map}
-use Rattle.std.proofs.lemmas.List.{map-append}
 use Rattle.std.proofs.lemmas.Option.{get_or_from_slice_get}
 use Rattle.wesl_names.specs.Path.{Text, Path, path_view}
 use Rattle.wesl_symbols.specs.declared.ids.PathId.{PathId}
 use Rattle.wesl_symbols.specs.declared.ids.NameId.{NameId}
 use Rattle.wesl_symbols.specs.Tables.{Declaration, Table}
 use Rattle.wesl_table.specs.Numbering.{Numbering, NameAt, PathAt, AreRelated, AreDifferent, IsNumbered, SameDeclaration, IsRelatedOption}
-use Rattle.wesl_table.proofs.Lists.{take_next}
 use Rattle.wesl_linker.specs.Given.{Given}
 use Rattle.wesl_linker.specs.Recorded.{Record, Write, IsRecordedBy, all_written, firsts, writes_of, declared_texts, text_of, HasNone}
 use Rattle.wesl_linker.proofs.Recording.{written_more}
 use Rattle.wesl_linker.specs.Worlds.{Module, table}
 use Rattle.wesl_linker.specs.Resolved.{declared_names, writes_from, writes}
-use Rattle.wesl_linker.specs.Keeping.{module_of, loaded_modules, modules_in, modules_of, resolved_of}
+use Rattle.wesl_linker.specs.Keeping.{module_of, modules_in, modules_of, resolved_of}
 use Rattle.wesl_linker.specs.Holding.{GivesTo, IsFreshAfter}
 use Rattle.wesl_linker.specs.declared.loaded.LoadedModule.{LoadedModule}
 use Rattle.wesl_linker.specs.declared.link.Link.{Link}
@@ -65,12 +63,6 @@ recorded_then w xs ys before now after h k x =
     let e : now ≡ all_written w xs before = λ i y. h y i in
     k x ∙ (ap (λ (q : Record). all_written w ys q x) e ∙ sym (ap (λ (q : Record). q x) (written_more w xs ys before)))
 
--- by other words for the same names
-pub recorded_same : (w : Bool) (f h : Path → Text → Text) → ((p : Path) (x : Text) → f p x ≡ h p x) → (ms : List Module) (before after : Record) → IsRecordedBy w (writes_from f ms) before after → IsRecordedBy w (writes_from h ms) before after
-recorded_same w f h same ms before after k x =
-    let e : f ≡ h = λ i p y. same p y i in
-    k x ∙ ap (λ (g : Path → Text → Text). all_written w (writes_from g ms) before x) e
-
 plus_nil : {X : Type 0} (xs : List X) → xs ++ [] ≡ xs
 plus_nil [] = refl
 plus_nil (x ∷ xs) = ap (λ ys. x ∷ ys) (plus_nil xs)
@@ -79,18 +71,10 @@ assoc : {X : Type 0} (xs ys zs : List X) → (xs ++ ys) ++ zs ≡ xs ++ (ys ++ z
 assoc [] ys zs = refl
 assoc (x ∷ xs) ys zs = ap (λ ws. x ∷ ws) (assoc xs ys zs)
 
-writes_more : (f : Path → Text → Text) (ms : List Module) (m : Module) → writes_from f (ms ++ m ∷ []) ≡ writes_from f ms ++ writes_of f m.path (declared_names m)
+pub writes_more : (f : Path → Text → Text) (ms : List Module) (m : Module) → writes_from f (ms ++ m ∷ []) ≡ writes_from f ms ++ writes_of f m.path (declared_names m)
 writes_more f [] m = plus_nil (writes_of f m.path (declared_names m))
 writes_more f (k ∷ ms) m =
     ap (λ (ws : List Write). writes_of f k.path (declared_names k) ++ ws) (writes_more f ms m) ∙ sym (assoc (writes_of f k.path (declared_names k)) (writes_from f ms) (writes_of f m.path (declared_names m)))
-
--- the next of the modules
-pub recorded_next : (w : Bool) (f : Path → Text → Text) (xs : List LoadedModule) (i : ℕ) (m : LoadedModule) → i < length xs → m ≡ get_or xs i m → (before now after : Record) → IsRecordedBy w (writes_from f (loaded_modules (take i xs))) before now
-    → IsRecordedBy w (writes_of f (path_view m.path) (declared_names (module_of m))) now after → IsRecordedBy w (writes_from f (loaded_modules (take (i + 1) xs))) before after
-recorded_next w f xs i m b e before now after h k x =
-    recorded_then w (writes_from f (loaded_modules (take i xs))) (writes_of f (path_view m.path) (declared_names (module_of m))) before now after h k x
-    ∙ ap (λ (ws : List Write). all_written w ws before x) (sym (ap (λ (ys : List LoadedModule). writes_from f (loaded_modules ys)) (take_next xs i m b e)
-    ∙ (ap (writes_from f) (map-append module_of (take i xs) (m ∷ [])) ∙ writes_more f (loaded_modules (take i xs)) (module_of m))))
 
 -- nothing is written of no module
 pub recorded_nothing : (w : Bool) (f : Path → Text → Text) (mangle_root : Bool) (items : Record) → IsRecordedBy w (writes f mangle_root []) items items

@@ -27,6 +27,9 @@ pub told_or_short : (P : Fault Path Text resolve_error.ResolveError → Type 0) 
 told_or_short P e T (inl short) to = subst (λ (x : error.Error). TellsOf P x) (sym short) tt
 told_or_short P e T (inr told) to = to told
 
+pub memory_told : (P : Fault Path Text resolve_error.ResolveError → Type 0) (e : error.Error) → e ≡ error.Memory → TellsOf P e
+memory_told P e short = subst (λ (x : error.Error). TellsOf P x) (sym short) tt
+
 module _ (nb : Numbering) (hands : Path → UnitOf Text → Type 0) (units : List (PathId × Held)) (one : HaveOne units) (rt : Table PathId NameId) (rm : Module) (root_same : SameTable (PathAt nb) (NameAt nb) rt (table rm))
     (different_paths : AreDifferent nb.paths) (different_names : AreDifferent nb.names) (asked : All (λ p. is_relative p ≡ false) nb.paths)
     (kept : List NameId) (keep : List Text) (kept_same : AreRelated (NameAt nb) kept keep) (is_eager : Bool) (refuses : Path → resolve_error.ResolveError → Type 0) (refuses_id : PathId → resolve_error.ResolveError → Type 0)

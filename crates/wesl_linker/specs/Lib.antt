@@ -10,7 +10,6 @@ pub mod Resolved
 pub mod Tabled
 pub mod Keeping
 pub mod Holding
-pub mod Mangling
 pub mod Refusal
 pub mod Linking
 pub mod Rooted

@@ -1,19 +1,24 @@
 -- A root whose kept names are numbers, and what a link of it finds.
-use Rattle.std.specs.Prelude.{◌≡◌, ℕ, List, Result, IfErr}
+use Rattle.std.specs.Prelude.{◌≡◌, ℕ, Some, None, List, Result, IfErr, drop}
 use Rattle.wesl_names.specs.Path.{Text, Path}
 use Rattle.wesl_names.specs.declared.errors.Error as error
 use Rattle.wesl_names.specs.declared.errors.ResolveError.{ResolveError}
 use Rattle.wesl_syntax.specs.Unit.{UnitOf}
 use Rattle.wesl_symbols.specs.declared.ids.PathId.{PathId}
 use Rattle.wesl_symbols.specs.declared.ids.NameId.{NameId}
+use Rattle.wesl_symbols.specs.declared.symbols.Symbol.{Symbol}
 use Rattle.wesl_world.specs.Linking as links
 use Rattle.wesl_table.specs.Numbering.{Numbering, AreRelated, NameAt}
+use Rattle.wesl_table.specs.TextsView.{numbering_of_texts}
 use Rattle.wesl_table.specs.declared.texts.NumberTexts.{NumberTexts}
+use Rattle.wesl_linker.specs.GivenView.{given}
+use Rattle.wesl_linker.specs.Taking.{AreTaken}
 use Rattle.wesl_linker.specs.Resolved.{module_at}
 use Rattle.wesl_linker.specs.Worlds.{IsModuleOrder}
 use Rattle.wesl_linker.specs.Keeping.{IsSound, resolved, modules_of}
 use Rattle.wesl_linker.specs.Linking.{LinksRoot, TellsFault}
 use Rattle.wesl_linker.specs.declared.link.Link.{Link}
+use Rattle.wesl_linker.specs.declared.loaded.Held.{Held}
 use Rattle.wesl_linker.specs.declared.resolutions.Resolutions.{Resolutions}
 use Rattle.wesl_linker.specs.declared.resolve.Root.{Root}
 
@@ -48,3 +53,12 @@ IsLinkFrom root numbers linked l =
       numbers = numbers;
       linked = linked;
     }
+
+-- What is found holds a link of the root, with the modules that are kept for the other tables, and no symbol was given a name.
+pub record HoldsLink (root : Root) (nb : Numbering) (units : List (PathId × Held)) (linked : links.Linking PathId NameId) (found : Resolutions) : Type 0 where
+  pub link : Link
+  pub holds : found.link ≡ Some link
+  pub others : AreTaken nb units (drop 1 linked.tables) link.others.items
+  pub texts : numbering_of_texts link.numbers ≡ nb
+  pub rest : IsLinkFrom root link.numbers linked link
+  pub none_given : (s : Symbol PathId NameId) → given found.given s ≡ None

@@ -1,26 +1,22 @@
 //! The linked unit: of each module, the directives and the declarations that are held.
-ghost use Rattle.std.specs.Prelude.{◌≡◌, ◌↔◌, ◌∷◌, [], List, Contains, IsTrue, IfOk, IfErr, map, false};
+ghost use Rattle.std.specs.Prelude.{◌≡◌, ◌↔◌, ◌∷◌, [], List, Contains, IsTrue, IfOk, IfErr, map};
 ghost use Rattle.wesl_names.specs.declared.errors.Error as error;
-ghost use Rattle.wesl_syntax.specs.Tree.{before, end};
-ghost use Rattle.wesl_syntax.specs.View.{global_view};
 ghost use Rattle.wesl_tree.specs.Translation.{unit_view};
 ghost use Rattle.wesl_world.specs.World.{LeadsTo};
 ghost use Rattle.wesl_world.specs.Keeping.{StandsHeld};
-ghost use Rattle.wesl_table.specs.Imports.{first_label};
 ghost use Rattle.wesl_table.specs.TextsView.{numbering_of_texts as numbering};
 ghost use Rattle.wesl_table.specs.Tables.{reference_to};
 ghost use Rattle.wesl_table.specs.declared.marks.Mark as marked;
 ghost use Rattle.wesl_assembly.specs.Views.{Meaning, denotation_view};
 ghost use Rattle.wesl_linker.specs.GivenView.{given as given_names};
-ghost use Rattle.wesl_linker.specs.Linked as linked;
 ghost use Rattle.wesl_linker.specs.Linked.{IsAssembled};
 ghost use Rattle.wesl_linker.specs.Keeping.{all_loaded, modules_in, name_text, name_under, IsLinkOf, task_in};
 ghost use Rattle.wesl_linker.specs.Holding as holding;
 
 use crate::given::GivenNames;
-use crate::link::{Link, module_table};
+use crate::link::{Link, table_at};
 use crate::loaded::LoadedModule;
-use std::alloc::Global;
+use std::alloc::{AllocError, Global};
 use wesl_assembly::{
     Denotation, Directives, Printing, law_of_meanings, linked_unit, thinned_directives,
 };
@@ -133,16 +129,6 @@ fn add_denotations<'a>(
     true
 }
 
-/// Whether a declaration is a const_assert.
-fn is_assert(declaration: &GlobalDeclaration) -> bool
-    ensures { result ≡ first_label false linked.is_assert (before (global_view declaration.now) end) }
-{
-    match declaration {
-        GlobalDeclaration::ConstAssert(_) => true,
-        _ => false,
-    }
-}
-
 /// Whether a declaration of a module is held: what it binds is a symbol that is reached, or it is a const_assert.
 fn is_held(
     linked: &Linked,
@@ -154,7 +140,7 @@ fn is_held(
 {
     match row.name() {
         Some(name) => linked.holds(table.path(), name),
-        None => is_assert(declaration),
+        None => matches!(declaration, GlobalDeclaration::ConstAssert(_)),
     }
 }
 
@@ -187,7 +173,7 @@ fn add_module<'a>(link: &'a Link, module: &'a LoadedModule, parts: &mut Parts<'a
     requires inside { Contains (all_loaded link.now) module.now }
     ensures { IsTrue result → holding.AddsModule link.now module.now parts.old parts.new }
 {
-    let table = module_table(link, module);
+    let table = table_at(&link.linked, module.place);
     let rows = table.declarations();
     let nodes = module.unit.global_declarations();
     for (index, declaration) in nodes.iter().enumerate() {
@@ -205,18 +191,13 @@ fn units<'a>(
     alloc: Global,
     root: &'a LoadedModule,
     others: &'a [LoadedModule],
-) -> Result<Vec<&'a TranslationUnit>, Error>
-    ensures units { IfOk result (λ us. map (λ u. unit_view u.now) us.items ≡ map (λ m. unit_view m.unit) (root.now ∷ others.now)) }
-    ensures refused { IfErr result (λ e. e ≡ error.Memory) }
+) -> Result<Vec<&'a TranslationUnit>, AllocError>
+    ensures { IfOk result (λ us. map (λ u. unit_view u.now) us.items ≡ map (λ m. unit_view m.unit) (root.now ∷ others.now)) }
 {
     let mut units = Vec::new(alloc);
-    if units.push(&root.unit).is_err() {
-        return Err(Error::Memory);
-    }
+    units.push(&root.unit)?;
     for module in others {
-        if units.push(&module.unit).is_err() {
-            return Err(Error::Memory);
-        }
+        units.push(&module.unit)?;
     }
     Ok(units)
 }

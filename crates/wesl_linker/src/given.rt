@@ -1,7 +1,6 @@
 //! Names that are given to symbols, a module at a time.
-ghost use Rattle.std.specs.Prelude.{◌≡◌, Some, None, OnOk, IfErr, option_map, string_bytes};
+ghost use Rattle.std.specs.Prelude.{◌≡◌, Some, None, OnOk, option_map};
 ghost use Rattle.wesl_names.specs.Path.{Text, Path, path_view};
-ghost use Rattle.wesl_names.specs.declared.errors.Error as error;
 ghost use Rattle.wesl_symbols.specs.declared.ids.PathId.{PathId};
 ghost use Rattle.wesl_symbols.specs.declared.ids.NameId.{NameId};
 ghost use Rattle.wesl_symbols.specs.declared.symbols.Symbol as symbols;
@@ -9,10 +8,10 @@ ghost use Rattle.wesl_table.specs.TextsView.{numbering_of_texts as numbering};
 ghost use Rattle.wesl_linker.specs.Given.{AreNamed, GivesName, GivesNames, Keeps, KeepsOthers, KeepsUndeclared};
 ghost use Rattle.wesl_linker.specs.Recording.{RecordsName, RecordsTable};
 
-use std::alloc::Global;
+use std::alloc::{AllocError, Global};
 use std::collections::HashMap;
 use wesl_item_forms::Mangler;
-use wesl_names::{Error, ModulePath};
+use wesl_names::ModulePath;
 use wesl_symbols::ids::{NameId, PathId};
 use wesl_symbols::symbols::Symbol;
 use wesl_symbols::table::Table;
@@ -54,18 +53,19 @@ impl GivenNames {
         path: &ModulePath,
         symbol: Symbol<PathId, NameId>,
         item: &str,
-    ) -> Result<(), Error>
+    ) -> Result<(), AllocError>
         ensures gives { OnOk result (GivesName (M.name_of mangler.old (path_view path.now) item.now) symbol (given self.old) (given self.new)) }
         ensures others { (s : symbols.Symbol PathId NameId) → (s ≡ symbol → ⊥) → given self.new s ≡ given self.old s }
         ensures keeps { Keeps (given self.old) (given self.new) }
         ensures same { (p : Path) (i : Text) → M.name_of mangler.new p i ≡ M.name_of mangler.old p i }
         ensures recorded { OnOk result (RecordsName M.writes (M.name_of mangler.old) path.now item.now (given self.old symbol) (M.recorded mangler.old) (M.recorded mangler.new)) }
-        ensures refused { IfErr result (λ e. e ≡ error.Memory) }
     {
         if self.get(symbol).is_some() {
             return Ok(());
         }
-        let name = mangler.mangle(alloc, path, item)?;
+        let Some(name) = mangler.mangle(alloc, path, item).ok() else {
+            return Err(AllocError);
+        };
         self.names.insert(symbol, name)?;
         Ok(())
     }
@@ -83,7 +83,7 @@ impl GivenNames {
         numbers: &NumberTexts,
         path: &ModulePath,
         table: &Table,
-    ) -> Result<(), Error>
+    ) -> Result<(), AllocError>
         requires numbered { AreNamed (numbering numbers.now) table.now }
         ensures given { OnOk result (GivesNames (numbering numbers.now) (M.name_of mangler.old (path_view path.now)) table.now (given self.old) (given self.new)) }
         ensures others { KeepsOthers table.now.path (given self.old) (given self.new) }
@@ -91,7 +91,6 @@ impl GivenNames {
         ensures keeps { Keeps (given self.old) (given self.new) }
         ensures same { (p : Path) (i : Text) → M.name_of mangler.new p i ≡ M.name_of mangler.old p i }
         ensures recorded { OnOk result (RecordsTable M.writes (M.name_of mangler.old) path.now numbers.now table.now self.old (M.recorded mangler.old) (M.recorded mangler.new)) }
-        ensures refused { IfErr result (λ e. e ≡ error.Memory) }
     {
         for declaration in table.declarations() {
             if let Some(name) = declaration.name() {

@@ -1,9 +1,8 @@
 //! What a link found: its modules, their numbers, and what is reached.
-ghost use Rattle.std.specs.Prelude.{Contains};
-ghost use Rattle.wesl_table.specs.Numbering.{IsNumbered};
-ghost use Rattle.wesl_table.specs.TextsView.{numbering_of_texts as numbering};
-ghost use Rattle.wesl_linker.specs.Worlds as worlds;
-ghost use Rattle.wesl_linker.specs.Tabled.{IsMarked, IsTabled, module_of};
+ghost use Rattle.std.specs.Prelude.{◌≡◌, Some, slice_get};
+ghost use Rattle.wesl_symbols.specs.declared.ids.PathId.{PathId};
+ghost use Rattle.wesl_symbols.specs.declared.ids.NameId.{NameId};
+ghost use Rattle.wesl_symbols.specs.Tables as tables;
 
 use crate::loaded::LoadedModule;
 use wesl_symbols::ids::NameId;
@@ -23,14 +22,12 @@ pub struct Link {
     pub linked: Linked,
 }
 
-/// The symbol table of a module.
-pub fn module_table<'a>(link: &'a Link, module: &LoadedModule) -> &'a Table
-    requires tabled { IsTabled (numbering link.now.numbers) link.now.linked.tables module.now }
-    ensures loaded { Contains link.now.linked.tables result.now }
-    ensures numbered { IsNumbered (numbering link.now.numbers) result.now (worlds.table (module_of module.now)) }
-    ensures marked { IsMarked (numbering link.now.numbers) module.now }
+/// The symbol table at a place.
+pub fn table_at(linked: &Linked, place: usize) -> &Table
+    requires { (t : tables.Table PathId NameId) × (slice_get linked.now.tables place ≡ Some t) }
+    ensures { slice_get linked.now.tables place ≡ Some result.now }
 {
-    let Some(table) = link.linked.tables().get(module.place) else {
+    let Some(table) = linked.tables().get(place) else {
         unreachable!()
     };
     table

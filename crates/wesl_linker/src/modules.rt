@@ -2,14 +2,12 @@
 ghost use Rattle.std.specs.Prelude.{◌≡◌, ℕ, false, [], IfOk, IfErr, IfSome, IfNone, OnErr, Contains};
 ghost use Rattle.wesl_names.specs.Path.{Text, Path, path_view, is_relative};
 ghost use Rattle.wesl_names.specs.declared.errors.ResolveError.{ResolveError};
-ghost use Rattle.wesl_syntax.specs.Unit.{UnitOf, spelled};
-ghost use Rattle.wesl_tree.specs.Translation.{unit_view};
+ghost use Rattle.wesl_syntax.specs.Unit.{UnitOf};
 ghost use Rattle.wesl_resolver.specs.Resolver.{MeansTheSame};
 ghost use Rattle.wesl_symbols.specs.declared.ids.PathId as path_id;
 ghost use Rattle.wesl_world.specs.Loader.{Explains};
 ghost use Rattle.wesl_symbols.specs.Tables as tables;
 ghost use Rattle.wesl_world.specs.declared.loader.LoadError.TheVariants as load_error;
-ghost use Rattle.wesl_table.specs.Tables.{table_at};
 ghost use Rattle.wesl_table.specs.Numbering.{Numbering, Grows, IsNumbered, PathAt};
 ghost use Rattle.wesl_table.specs.NumbersView.{numbering};
 ghost use Rattle.wesl_linker.specs.Handing.{Keeps, StaysOne, IsReadyPath, IsHandedTable, IsRefusedPath, KeepsUnit};
@@ -66,27 +64,6 @@ pub struct ModuleLoader<'r, 'n, R: Resolver, S: Source<R>> {
     pub numbers: &'n mut Numbers,
     pub units: &'n mut IndexMap<PathId, Held>,
     pub source: PhantomData<S>,
-}
-
-/// The table alone, of a unit that is kept for a path, whose number is `id`.
-fn read_again(
-    alloc: Global,
-    numbers: &mut Numbers,
-    id: PathId,
-    path: &ModulePath,
-    unit: &TranslationUnit,
-) -> Result<Table, LoadError<ResolveError>>
-    requires asked { is_relative (path_view path.now) ≡ false }
-    requires held { PathAt (numbering numbers.old) id (path_view path.now) }
-    ensures numbered { IfOk result (λ t. IsNumbered (numbering numbers.new) t (table_at (path_view path.now) (spelled (unit_view unit.now)))) }
-    ensures path { IfOk result (λ t. t.path ≡ id) }
-    ensures refused { IfErr result (λ e. e ≡ load_error.Memory) }
-    ensures grows { Grows (numbering numbers.old) (numbering numbers.new) }
-{
-    match table_of(alloc, numbers, id, path, unit).ok() {
-        Some(Tabled { table, marks: _ }) => Ok(table),
-        None => Err(LoadError::Memory),
-    }
 }
 
 /// The table of a unit that is handed out at a path, whose number is `id` and which has no unit: it is kept there.
@@ -169,7 +146,10 @@ impl<R: Resolver, S: Source<R>> Loader<ResolveError> for ModuleLoader<'_, '_, R,
             return Err(LoadError::Memory);
         };
         match unit_of(self.units, path) {
-            Some(held) => read_again(alloc, self.numbers, path, &module, &held.unit),
+            Some(held) => match table_of(alloc, self.numbers, path, &module, &held.unit).ok() {
+                Some(tabled) => Ok(tabled.table),
+                None => Err(LoadError::Memory),
+            },
             None => self.fetch(alloc, path, &module),
         }
     }

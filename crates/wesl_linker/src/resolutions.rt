@@ -1,28 +1,26 @@
 //! What a link found: its modules, what they declare that is reached, and the names that these print as.
-ghost use Rattle.std.specs.Prelude.{◌≡◌, ◌⊎◌, true, ◌∷◌, Contains, IsTrue, OnOk, OnErr, IfOk, IfErr, option_map};
+ghost use Rattle.std.specs.Prelude.{◌≡◌, ◌⊎◌, true, IsTrue, OnOk, OnErr, IfOk, IfErr, option_map};
 ghost use Rattle.wesl_names.specs.declared.errors.Error as error;
 ghost use Rattle.wesl_names.specs.Path.{Text, Path, path_view};
 ghost use Rattle.wesl_tree.specs.Translation.{unit_view};
 ghost use Rattle.wesl_linker.specs.GivenView.{given as given_names};
 ghost use Rattle.wesl_linker.specs.Resolved.{paths_of, paths_told, first_path, IsNothing, IsMangled, AssemblesTo, writes};
 ghost use Rattle.wesl_linker.specs.Recorded.{IsRecordedBy};
-ghost use Rattle.wesl_linker.specs.Keeping.{all_loaded, loaded_modules, modules_in, IsLinkOf, task_in, IsSound, resolved, modules_of, turns_of};
-ghost use Rattle.wesl_linker.specs.Holding.{IsFoundBy, IsGivenAll};
-ghost use Rattle.wesl_linker.specs.Mangling.{GivesNext, GivesOthers, RecordsNext, RecordsOthers};
+ghost use Rattle.wesl_linker.specs.Keeping.{modules_in, IsLinkOf, task_in, IsSound, resolved, modules_of, turns_of};
+ghost use Rattle.wesl_linker.specs.Holding.{IsGivenAll};
 
 use crate::assemble::assembled;
 use crate::given::GivenNames;
-use crate::link::{Link, module_table};
-use crate::loaded::LoadedModule;
-use std::alloc::Global;
+use crate::link::{Link, table_at};
+use std::alloc::{AllocError, Global};
 use wesl_item_forms::Mangler;
 use wesl_names::{Error, ModulePath};
 use wesl_tree::TranslationUnit;
 
 /// What a link found, and the names that its symbols print as: their own before any mangling.
 pub struct Resolutions {
-    link: Option<Link>,
-    given: GivenNames,
+    pub(crate) link: Option<Link>,
+    pub(crate) given: GivenNames,
 }
 
 // By hand, so that it is proved once: a derived one is proved in each crate that lets go of a value.
@@ -32,95 +30,27 @@ impl Drop for Resolutions {
     }
 }
 
-/// The paths of modules: the root first.
-fn paths<'a>(
-    alloc: Global,
-    root: &'a LoadedModule,
-    others: &'a [LoadedModule],
-) -> Result<Vec<&'a ModulePath>, Error>
-    ensures told { IfOk result (λ ps. paths_told ps.items ≡ paths_of (loaded_modules (root.now ∷ others.now))) }
-    ensures refused { IfErr result (λ e. e ≡ error.Memory) }
-{
-    let mut paths = Vec::new(alloc);
-    if paths.push(&root.path).is_err() {
-        return Err(Error::Memory);
-    }
-    for module in others {
-        if paths.push(&module.path).is_err() {
-            return Err(Error::Memory);
-        }
-    }
-    Ok(paths)
-}
-
-/// The names that a mangler has for what a module of a link declares, after those before them: whether there was memory
-/// for them.
-fn add_names<M: Mangler>(
-    alloc: Global,
-    link: &Link,
-    mangler: &mut M,
-    module: &LoadedModule,
-    given: &mut GivenNames,
-) -> bool
-    requires sound { IsLinkOf (task_in link.now) link.now }
-    requires inside { Contains (all_loaded link.now) module.now }
-    ensures given { IsTrue result → GivesNext link.now (M.name_of mangler.old) module.now given.old given.new }
-    ensures recorded { IsTrue result → RecordsNext link.now (M.name_of mangler.old) module.now given.old M.writes (M.recorded mangler.old) (M.recorded mangler.new) }
-    ensures same { (p : Path) (x : Text) → M.name_of mangler.new p x ≡ M.name_of mangler.old p x }
-{
-    let table = module_table(link, module);
-    given
-        .add_table(alloc, mangler, &link.numbers, &module.path, table)
-        .ok()
-        .is_some()
-}
-
-/// The names that a mangler has for what the modules but the root declare, after those before them: whether there was
-/// memory for them.
-fn add_others<M: Mangler>(
-    alloc: Global,
-    link: &Link,
-    mangler: &mut M,
-    given: &mut GivenNames,
-) -> bool
-    requires sound { IsLinkOf (task_in link.now) link.now }
-    ensures given { IsTrue result → GivesOthers link.now (M.name_of mangler.old) given.old given.new }
-    ensures recorded { IsTrue result → RecordsOthers link.now (M.name_of mangler.old) given.old M.writes (M.recorded mangler.old) (M.recorded mangler.new) }
-    ensures same { (p : Path) (x : Text) → M.name_of mangler.new p x ≡ M.name_of mangler.old p x }
-{
-    for module in &link.others {
-        if !add_names(alloc, link, mangler, module, given) {
-            return false;
-        }
-    }
-    true
-}
-
 /// The names that a mangler has for what the modules of a link declare, the root's only with `mangle_root`.
 fn names_of<M: Mangler>(
     alloc: Global,
     link: &Link,
     mangler: &mut M,
     mangle_root: bool,
-) -> Result<GivenNames, Error>
+) -> Result<GivenNames, AllocError>
     requires sound { IsLinkOf (task_in link.now) link.now }
     ensures given { IfOk result (λ names. IsGivenAll link.now mangle_root (M.name_of mangler.old) (given_names names)) }
     ensures recorded { OnOk result (IsRecordedBy M.writes (writes (M.name_of mangler.old) mangle_root (modules_in link.now)) (M.recorded mangler.old) (M.recorded mangler.new)) }
     ensures same { (p : Path) (x : Text) → M.name_of mangler.new p x ≡ M.name_of mangler.old p x }
-    ensures refused { IfErr result (λ e. e ≡ error.Memory) }
 {
     let mut given = GivenNames::new(alloc);
-    if !mangle_root {
-        if !add_others(alloc, link, mangler, &mut given) {
-            return Err(Error::Memory);
-        }
-        return Ok(given);
+    let numbers = &link.numbers;
+    if mangle_root {
+        let table = table_at(&link.linked, link.root.place);
+        given.add_table(alloc, mangler, numbers, &link.root.path, table)?;
     }
-    if !add_names(alloc, link, mangler, &link.root, &mut given) {
-        return Err(Error::Memory);
-    }
-    if !add_others(alloc, link, mangler, &mut given) {
-        return Err(Error::Memory);
+    for module in &link.others {
+        let table = table_at(&link.linked, module.place);
+        given.add_table(alloc, mangler, numbers, &module.path, table)?;
     }
     Ok(given)
 }
@@ -133,18 +63,6 @@ impl Resolutions {
     {
         Resolutions {
             link: None,
-            given: GivenNames::new(alloc),
-        }
-    }
-
-    /// What a link found, each symbol under its own name.
-    pub(crate) fn of_link(alloc: Global, link: Link) -> Resolutions
-        requires sound { IsLinkOf (task_in link) link }
-        ensures found { IsFoundBy link (resolved result) }
-        ensures sound { IsSound result }
-    {
-        Resolutions {
-            link: Some(link),
             given: GivenNames::new(alloc),
         }
     }
@@ -164,10 +82,14 @@ impl Resolutions {
         ensures order { IfOk result (λ ps. paths_told ps.items ≡ paths_of (modules_of self.now)) }
         ensures refused { IfErr result (λ e. e ≡ error.Memory) }
     {
-        match &self.link {
-            Some(link) => paths(alloc, &link.root, &link.others),
-            None => Ok(Vec::new(alloc)),
+        let mut paths = Vec::new(alloc);
+        if let Some(link) = &self.link {
+            paths.push(&link.root.path)?;
+            for module in &link.others {
+                paths.push(&module.path)?;
+            }
         }
+        Ok(paths)
     }
 
     /// Whether all that the modules declare was asked for.

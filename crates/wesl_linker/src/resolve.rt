@@ -1,5 +1,5 @@
 //! Linking a root with the modules that it reaches.
-ghost use Rattle.std.specs.Prelude.{◌≡◌, ◌∷◌, [], true, false, List, IfOk, IfErr, IfSome, drop, length, ◌<◌};
+ghost use Rattle.std.specs.Prelude.{◌≡◌, [], true, false, List, IfOk, IfErr, IfSome, drop, length, ◌<◌};
 ghost use Rattle.wesl_names.specs.declared.errors.Error as error;
 ghost use Rattle.wesl_base.specs.Borrowed.{texts};
 ghost use Rattle.wesl_names.specs.Path.{Text, Path, path_view, is_relative};
@@ -15,22 +15,22 @@ ghost use Rattle.wesl_table.specs.Marks.{AreMarked};
 ghost use Rattle.wesl_table.specs.Tables.{table_at, uses};
 ghost use Rattle.wesl_table.specs.Numbering.{AreRelated, Grows, NameAt, IsNumbered};
 ghost use Rattle.wesl_table.specs.NumbersView.{numbering};
-ghost use Rattle.wesl_table.specs.TextsView.{numbering_of_texts};
 ghost use Rattle.wesl_linker.specs.Handing.{Follows, StaysOne};
 ghost use Rattle.wesl_linker.specs.Resolved.{module_at};
 ghost use Rattle.wesl_linker.specs.Keeping.{IsSound, resolved, modules_of};
 ghost use Rattle.wesl_linker.specs.Linking.{LinksRoot, RefusesRoot, IsFaultlessRoot, TellsMemory};
-ghost use Rattle.wesl_linker.specs.Rooted.{AreKeptTexts, IsReached, RefusesNumbered, IsLinkFrom};
-ghost use Rattle.wesl_linker.specs.Taking.{AreKept, AreTaken};
+ghost use Rattle.wesl_linker.specs.Rooted.{AreKeptTexts, HoldsLink, IsReached, RefusesNumbered};
+ghost use Rattle.wesl_linker.specs.Taking.{AreKept};
 ghost use Rattle.wesl_linker.specs.Worlds as worlds;
 
+use crate::given::GivenNames;
 use crate::link::Link;
-use crate::loaded::{Held, LoadedModule, put_in_order, take_modules};
+use crate::loaded::{Held, LoadedModule, take_modules};
 use crate::modules::{ModuleLoader, Source};
 use crate::refusals::error_of;
 use crate::resolutions::Resolutions;
 use indexmap::IndexMap;
-use std::alloc::Global;
+use std::alloc::{AllocError, Global};
 use std::marker::{Brand, PhantomData};
 use std::mem::replace;
 use wesl_names::{Diagnostic, Error, ModulePath};
@@ -46,7 +46,11 @@ use wesl_world::link::Linked;
 use wesl_world::loader::Loader;
 
 /// The numbers of the kept names.
-fn numbers_of(alloc: Global, numbers: &mut Numbers, keep: &[&str]) -> Result<Vec<NameId>, Error>
+fn numbers_of(
+    alloc: Global,
+    numbers: &mut Numbers,
+    keep: &[&str],
+) -> Result<Vec<NameId>, AllocError>
     ensures numbered { IfOk result (λ kept. AreRelated (NameAt (numbering numbers.new)) kept.items (texts keep.now)) }
     ensures grows { Grows (numbering numbers.old) (numbering numbers.new) }
 {
@@ -75,22 +79,6 @@ struct TabledRoot {
     table: Table,
 }
 
-/// The symbol table of a root.
-fn root_table(
-    alloc: Global,
-    numbers: &mut Numbers,
-    path: &ModulePath,
-    unit: &TranslationUnit,
-) -> Result<Tabled, Error>
-    requires { is_relative (path_view path.now) ≡ false }
-    ensures numbered { IfOk result (λ t. IsNumbered (numbering numbers.new) t.table (table_at (path_view path.now) (spelled (unit_view unit.now)))) }
-    ensures marked { IfOk result (λ t. AreMarked (numbering numbers.new) t.marks.items (uses (path_view path.now) (spelled (unit_view unit.now)))) }
-    ensures grows { Grows (numbering numbers.old) (numbering numbers.new) }
-{
-    let id = numbers.path(alloc, path)?;
-    Ok(table_of(alloc, numbers, id, path, unit)?)
-}
-
 /// The root that stands at a path, and its symbol table; none where memory was wanting.
 fn root_of(
     alloc: Global,
@@ -107,47 +95,45 @@ fn root_of(
     ensures module { IfSome result (λ t. module_at t.root.path t.root.unit ≡ module_at path.now unit) }
     ensures eager { IfSome result (λ t. t.root.is_eager ≡ is_eager) }
 {
+    let Some(id) = numbers.path(alloc, path).ok() else {
+        return None;
+    };
     let Some(own) = path.try_clone(alloc).ok() else {
         return None;
     };
     let Some(kept) = numbers_of(alloc, numbers, keep).ok() else {
         return None;
     };
-    let Some(tabled) = root_table(alloc, numbers, path, &unit).ok() else {
+    let Some(Tabled { table, marks }) = table_of(alloc, numbers, id, path, &unit).ok() else {
         return None;
     };
-    Some(TabledRoot {
-        root: Root {
-            path: own,
-            unit,
-            marks: tabled.marks,
-            kept,
-            is_eager,
-        },
-        table: tabled.table,
-    })
+    let root = Root {
+        path: own,
+        unit,
+        marks,
+        kept,
+        is_eager,
+    };
+    Some(TabledRoot { root, table })
 }
 
-/// What a link found: the root, and the modules of its other tables.
-fn link_of(
+/// What a link found: the root, and the modules of its other tables, each symbol under its own name.
+fn found_of(
     alloc: Global,
     numbers: Numbers,
     units: &mut IndexMap<PathId, Held>,
     root: Root,
     linked: Linked,
-) -> Result<Link, Error>
+) -> Result<Resolutions, Error>
     requires some { 0 < length linked.tables }
     requires left { AreKept (numbering numbers) units.old.entries (drop 1 linked.tables) }
     requires once { AreDistinct (paths (drop 1 linked.tables)) }
-    ensures found { IfOk result (λ l. AreTaken (numbering numbers) units.old.entries (drop 1 linked.tables) l.others.items) }
-    ensures texts { IfOk result (λ l. numbering_of_texts l.numbers ≡ numbering numbers) }
-    ensures rest { IfOk result (λ l. IsLinkFrom root l.numbers linked l) }
+    ensures found { IfOk result (HoldsLink root (numbering numbers) units.old.entries linked) }
     ensures refused { IfErr result (λ e. e ≡ error.Memory) }
 {
-    let mut others = take_modules(alloc, &numbers, &linked.tables()[1..], units)?;
-    put_in_order(&mut others);
+    let others = take_modules(alloc, &numbers, &linked.tables()[1..], units)?;
     let numbers = numbers.into_texts(alloc)?;
-    Ok(Link {
+    let link = Link {
         root: LoadedModule {
             path: root.path,
             place: 0,
@@ -159,6 +145,10 @@ fn link_of(
         is_eager: root.is_eager,
         numbers,
         linked,
+    };
+    Ok(Resolutions {
+        link: Some(link),
+        given: GivenNames::new(alloc),
     })
 }
 
@@ -220,45 +210,14 @@ fn reach_modules<R: Resolver, S: Source<R>>(
     ) {
         Ok(linked) => {
             let numbers = replace(modules.numbers, Numbers::new(alloc));
-            let link = link_of(alloc, numbers, modules.units, root, linked)?;
-            Ok(Resolutions::of_link(alloc, link))
+            found_of(alloc, numbers, modules.units, root, linked)
         }
         Err(fault) => Err(error_of(alloc, modules.numbers, fault)),
     }
 }
 
-/// Links a root with the modules of a resolver, which means afterwards what it meant.
-fn reach<R: Resolver>(
-    alloc: Global,
-    numbers: Numbers,
-    tabled: TabledRoot,
-    resolver: &mut R,
-    max_modules: usize,
-) -> Result<Resolutions, Error>
-    requires ready { R.ready resolver.old }
-    requires root { IsNumbered (numbering numbers) tabled.table (table_at (path_view tabled.root.path) (spelled (unit_view tabled.root.unit))) }
-    requires marked { AreMarked (numbering numbers) tabled.root.marks.items (uses (path_view tabled.root.path) (spelled (unit_view tabled.root.unit))) }
-    requires asked { is_relative (path_view tabled.root.path) ≡ false }
-    requires kept { (keep : List Text) × AreKeptTexts (numbering numbers) tabled.root keep }
-    requires none_kept { tabled.root.is_eager ≡ true → tabled.root.kept.items ≡ [] }
-    ensures reached { IfOk result (IsReached (R.hands resolver.old) (R.refuses resolver.old) (numbering numbers) tabled.root max_modules) }
-    ensures refused { RefusesNumbered (R.hands resolver.old) (R.refuses resolver.old) (numbering numbers) tabled.root max_modules result }
-    ensures same { MeansTheSame R.hands R.refuses R.source R.lacks R.shown resolver.old resolver.new }
-    ensures stays_ready { R.ready resolver.new }
-{
-    let mut numbers = numbers;
-    let mut units = IndexMap::new(alloc);
-    let mut modules = ModuleLoader::<'_, '_, R, Brand> {
-        resolver,
-        numbers: &mut numbers,
-        units: &mut units,
-        source: PhantomData,
-    };
-    reach_modules::<R, Brand>(alloc, &mut modules, tabled.table, tabled.root, max_modules)
-}
-
-/// Links a root with the modules of a resolver: what the names in `keep` reach, or all that is declared, and then none is
-/// kept.
+/// Links a root with the modules of a resolver, which means afterwards what it meant: what the names in `keep` reach, or
+/// all that is declared, and then none is kept.
 fn resolutions_of<R: Resolver>(
     alloc: Global,
     keep: &[&str],
@@ -285,7 +244,15 @@ fn resolutions_of<R: Resolver>(
     let Some(tabled) = root_of(alloc, &mut numbers, keep, is_eager, unit, path) else {
         return Err(Diagnostic::of(Error::Memory));
     };
-    match reach(alloc, numbers, tabled, resolver, max_modules) {
+    let mut units = IndexMap::new(alloc);
+    let mut modules = ModuleLoader::<'_, '_, R, Brand> {
+        resolver,
+        numbers: &mut numbers,
+        units: &mut units,
+        source: PhantomData,
+    };
+    let TabledRoot { root, table } = tabled;
+    match reach_modules::<R, Brand>(alloc, &mut modules, table, root, max_modules) {
         Ok(resolutions) => Ok(resolutions),
         Err(error) => Err(Diagnostic::of(error)),
     }

@@ -5,21 +5,22 @@ ghost use Rattle.serde_json.specs.View.{view, items_view};
 ghost use Rattle.wesl_program.specs.Fault.{fault, fault_of, fault_of_condition, fault_of_import, fault_of_resolver, fault_of_validation};
 ghost use Rattle.wesl_program.specs.Line.{fault_line, fault_value, texts_value};
 
+use crate::path_text::path_text;
 use crate::text_line::text_line;
 use serde_json::{Value, json};
 use std::alloc::{AllocError, Global};
 use wesl_tree::{CondCompError, Error, ImportError, ResolveError, ValidateError};
 
-/// The line of an error. Refused for want of memory alone.
-pub(crate) fn fault_line(alloc: Global, error: &Error) -> Result<String, Error>
+/// The line of an error.
+pub(crate) fn fault_line(alloc: Global, error: &Error) -> Result<String, AllocError>
     ensures { IfOk result (λ s. string_bytes s ≡ fault_line (fault_of error.now)) }
 {
     let value = error_value(alloc, error)?;
-    Ok(text_line(alloc, &value)?)
+    text_line(alloc, &value)
 }
 
 #[cycle(errors)]
-fn error_value(alloc: Global, error: &Error) -> Result<Value, Error>
+fn error_value(alloc: Global, error: &Error) -> Result<Value, AllocError>
     ensures { IfOk result (λ v. view v ≡ fault_value (fault_of error.now)) }
 {
     match error {
@@ -37,7 +38,7 @@ fn error_value(alloc: Global, error: &Error) -> Result<Value, Error>
 }
 
 #[cycle(errors)]
-fn import_value(alloc: Global, error: &ImportError) -> Result<Value, Error>
+fn import_value(alloc: Global, error: &ImportError) -> Result<Value, AllocError>
     ensures { IfOk result (λ v. view v ≡ fault_value (fault_of_import error.now)) }
 {
     match error {
@@ -48,18 +49,18 @@ fn import_value(alloc: Global, error: &ImportError) -> Result<Value, Error>
         ),
         ImportError::ResolveError(inner) => resolver_value(alloc, inner),
         ImportError::MissingDecl(path, name) => {
-            let path = path.to_text(alloc)?;
+            let path = path_text(alloc, path)?;
             fault_value(alloc, "MissingDecl", &[path.as_str(), name.as_str()])
         }
         ImportError::Private(name, path) => {
-            let path = path.to_text(alloc)?;
+            let path = path_text(alloc, path)?;
             fault_value(alloc, "Private", &[name.as_str(), path.as_str()])
         }
     }
 }
 
 #[cycle(errors)]
-fn resolver_value(alloc: Global, error: &ResolveError) -> Result<Value, Error>
+fn resolver_value(alloc: Global, error: &ResolveError) -> Result<Value, AllocError>
     ensures { IfOk result (λ v. view v ≡ fault_value (fault_of_resolver error.now)) }
 {
     match error {
@@ -69,7 +70,7 @@ fn resolver_value(alloc: Global, error: &ResolveError) -> Result<Value, Error>
             &[file.as_str(), message.as_str()],
         ),
         ResolveError::ModuleNotFound(path, message) => {
-            let path = path.to_text(alloc)?;
+            let path = path_text(alloc, path)?;
             fault_value(alloc, "ModuleNotFound", &[path.as_str(), message.as_str()])
         }
         ResolveError::Error(diagnostic) => error_value(alloc, &diagnostic.error),
@@ -77,7 +78,7 @@ fn resolver_value(alloc: Global, error: &ResolveError) -> Result<Value, Error>
     }
 }
 
-fn condition_value(alloc: Global, error: &CondCompError) -> Result<Value, Error>
+fn condition_value(alloc: Global, error: &CondCompError) -> Result<Value, AllocError>
     ensures { IfOk result (λ v. view v ≡ fault_value (fault_of_condition error.now)) }
 {
     match error {
@@ -97,7 +98,7 @@ fn condition_value(alloc: Global, error: &CondCompError) -> Result<Value, Error>
     }
 }
 
-fn validation_value(alloc: Global, error: &ValidateError) -> Result<Value, Error>
+fn validation_value(alloc: Global, error: &ValidateError) -> Result<Value, AllocError>
     ensures { IfOk result (λ v. view v ≡ fault_value (fault_of_validation error.now)) }
 {
     match error {
@@ -125,7 +126,7 @@ fn validation_value(alloc: Global, error: &ValidateError) -> Result<Value, Error
     }
 }
 
-fn limit_value(alloc: Global, limit: usize) -> Result<Value, Error>
+fn limit_value(alloc: Global, limit: usize) -> Result<Value, AllocError>
     ensures { IfOk result (λ v. view v ≡ fault_value (fault (codes "ModuleLimit") (decimal limit ∷ []))) }
 {
     let limit = limit.to_string(alloc)?;
@@ -133,11 +134,11 @@ fn limit_value(alloc: Global, limit: usize) -> Result<Value, Error>
 }
 
 // A fault of this name with these arguments.
-fn fault_value(alloc: Global, name: &str, arguments: &[&str]) -> Result<Value, Error>
+fn fault_value(alloc: Global, name: &str, arguments: &[&str]) -> Result<Value, AllocError>
     ensures { IfOk result (λ v. view v ≡ fault_value (fault name.now (map (λ t. t.now) arguments.now))) }
 {
     let arguments = texts(alloc, arguments)?;
-    Ok(fault_object(alloc, name, arguments)?)
+    fault_object(alloc, name, arguments)
 }
 
 fn texts(alloc: Global, arguments: &[&str]) -> Result<Vec<Value>, AllocError>

@@ -12,6 +12,7 @@ mod map_value;
 mod modules;
 mod naming;
 mod packages;
+mod path_text;
 mod stored_text;
 mod streams;
 mod text_line;

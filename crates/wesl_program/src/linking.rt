@@ -120,9 +120,11 @@ fn link_recorded<R: Resolver + Drop>(
 }
 
 // The units of the modules, by their paths.
-fn modules_of<'t>(alloc: Global, listed: Vec<BundleModule<'t>>) -> Result<BundleUnits<'t>, Error>
+fn modules_of<'t>(
+    alloc: Global,
+    listed: Vec<BundleModule<'t>>,
+) -> Result<BundleUnits<'t>, AllocError>
     ensures held { IfOk result (λ m. Holds (map module_view listed.entry.items) m) }
-    ensures refused { IfErr result (λ e. e ≡ error.Memory) }
 {
     let mut modules = BundleUnits::new(alloc);
     for module in listed {
@@ -137,15 +139,17 @@ fn sources_of<'t>(
     alloc: Global,
     listed: Vec<BundleModule<'t>>,
     packages: Vec<Package<'t>>,
-) -> Result<Sources<'t>, Error>
+) -> Result<Sources<'t>, AllocError>
     ensures local { IfOk result (λ s. Holds (map module_view listed.entry.items) s.local.modules) }
     ensures packages { IfOk result (λ s. ArePackagesOf (packages_view packages.entry.items) s.packages.packages.items) }
-    ensures refused { IfErr result (λ e. e ≡ error.Memory) }
 {
     let modules = modules_of(alloc, listed)?;
     let mut sources = StandardResolver::new(alloc, BundleResolver { modules }, StoredText);
     for package in packages {
-        sources.add_package(package_of(alloc, package)?)?;
+        let package = package_of(alloc, package)?;
+        if sources.add_package(package).ok().is_none() {
+            return Err(AllocError);
+        }
     }
     Ok(sources)
 }

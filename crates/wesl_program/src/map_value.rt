@@ -1,5 +1,5 @@
 //! The value of a source map: what each name stands for.
-ghost use Rattle.std.specs.Prelude.{◌≡◌, IfOk, IfErr, false, string_bytes};
+ghost use Rattle.std.specs.Prelude.{◌≡◌, IfOk, IfErr, false};
 ghost use Rattle.serde_json.specs.View.{view};
 ghost use Rattle.serde_json.specs.Written.{has_float};
 ghost use Rattle.wesl_names.specs.declared.errors.Error as error;
@@ -7,8 +7,9 @@ ghost use Rattle.wesl_names.specs.Path.{path_view};
 ghost use Rattle.wesl_source_map.specs.BasicView.{items};
 ghost use Rattle.wesl_program.specs.Line.{IsMapOf, item_value};
 
+use crate::path_text::path_text;
 use serde_json::{Map, Value, json};
-use std::alloc::Global;
+use std::alloc::{AllocError, Global};
 use wesl_source_map::BasicSourceMap;
 use wesl_tree::{Error, ModulePath};
 
@@ -27,10 +28,9 @@ pub(crate) fn map_value(alloc: Global, map: &BasicSourceMap) -> Result<Value, Er
 }
 
 // The path of a module and an item of it.
-fn item_value(alloc: Global, path: &ModulePath, item: &str) -> Result<Value, Error>
+fn item_value(alloc: Global, path: &ModulePath, item: &str) -> Result<Value, AllocError>
     ensures value { IfOk result (λ v. view v ≡ item_value (path_view path.now, item.now)) }
-    ensures refused { IfErr result (λ e. e ≡ error.Memory) }
 {
-    let path = path.to_text(alloc)?;
-    Ok(json!(in alloc; [path, item])?)
+    let path = path_text(alloc, path)?;
+    json!(in alloc; [path, item])
 }

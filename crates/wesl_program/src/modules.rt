@@ -1,14 +1,12 @@
 //! The modules of a bundle.
-ghost use Rattle.std.specs.Prelude.{◌≡◌, ◌++◌, ◌∷◌, [], List, IfOk, IfErr, OnOk, option_map};
+ghost use Rattle.std.specs.Prelude.{◌≡◌, ◌++◌, ◌∷◌, [], List, OnOk, option_map};
 ghost use Rattle.wesl_form.specs.View.{borrowed_view};
 ghost use Rattle.wesl_names.specs.Path.{path_view};
 ghost use Rattle.wesl_program.specs.Bundle.{Module};
 ghost use Rattle.wesl_program.specs.Hands.{unit_in};
-ghost use Rattle.wesl_bundle.specs.declared.members.BundleError.TheVariants.{Memory};
 
 use indexmap::IndexMap;
-use std::alloc::Global;
-use wesl_bundle::BundleError;
+use std::alloc::{AllocError, Global};
 use wesl_form::BorrowedValue;
 use wesl_tree::ModulePath;
 
@@ -30,14 +28,13 @@ impl<'t> BundleUnits<'t> {
         }
     }
 
-    /// One more module, in the place of the one that was at its path. Refused for want of memory alone.
+    /// One more module, in the place of the one that was at its path.
     pub(crate) fn add(
         &mut self,
         path: ModulePath,
         unit: BorrowedValue<'t>,
-    ) -> Result<(), BundleError>
+    ) -> Result<(), AllocError>
         ensures added { OnOk result ((ms : List Module) → Holds ms self.old → Holds (ms ++ (record { path = path_view path; unit = borrowed_view unit.entry }) ∷ []) self.new) }
-        ensures refused { IfErr result (λ e. e ≡ Memory) }
     {
         self.units.insert(path, unit)?;
         Ok(())

@@ -1,24 +1,21 @@
 //! The packages of a bundle, their modules as texts.
-ghost use Rattle.std.specs.Prelude.{◌≡◌, IfOk, IfErr, string_bytes};
-ghost use Rattle.wesl_names.specs.declared.errors.Error as error;
+ghost use Rattle.std.specs.Prelude.{IfOk, string_bytes};
 ghost use Rattle.wesl_form.specs.View.{borrowed_view};
 ghost use Rattle.wesl_json.specs.Texts.{IsTextOf};
 ghost use Rattle.wesl_bundle.specs.PackageViews.{package_module_view, package_modules_view, package_view, packages_view};
 ghost use Rattle.wesl_program.specs.PackageTexts.{AreModulesOf, ArePackagesOf, IsModuleOf, IsPackageOf};
 
-use std::alloc::Global;
+use std::alloc::{AllocError, Global};
 use wesl_bundle::{Package, PackageModule};
 use wesl_form::BorrowedValue;
 use wesl_json::text_of_value;
 use wesl_piece::value_of_borrowed;
 use wesl_resolver::{CodegenModule, CodegenPkg};
-use wesl_tree::Error;
 
-/// A package whose modules are kept as compact JSON, and read only when they are loaded. Refused for want of memory alone.
+/// A package whose modules are kept as compact JSON, and read only when they are loaded.
 #[cycle(packages)]
-pub(crate) fn package_of(alloc: Global, said: Package) -> Result<CodegenPkg, Error>
+pub(crate) fn package_of(alloc: Global, said: Package) -> Result<CodegenPkg, AllocError>
     ensures held { IfOk result (IsPackageOf (package_view said.entry)) }
-    ensures refused { IfErr result (λ e. e ≡ error.Memory) }
 {
     let Package { root, dependencies } = said;
     Ok(CodegenPkg {
@@ -29,9 +26,8 @@ pub(crate) fn package_of(alloc: Global, said: Package) -> Result<CodegenPkg, Err
 }
 
 #[cycle(packages)]
-fn packages_of(alloc: Global, said: Vec<Package>) -> Result<Vec<CodegenPkg>, Error>
+fn packages_of(alloc: Global, said: Vec<Package>) -> Result<Vec<CodegenPkg>, AllocError>
     ensures held { IfOk result (λ ks. ArePackagesOf (packages_view said.entry.items) ks.items) }
-    ensures refused { IfErr result (λ e. e ≡ error.Memory) }
 {
     let mut made = Vec::new(alloc);
     for one in said {
@@ -41,9 +37,8 @@ fn packages_of(alloc: Global, said: Vec<Package>) -> Result<Vec<CodegenPkg>, Err
 }
 
 #[cycle(modules)]
-fn module_of(alloc: Global, said: PackageModule) -> Result<CodegenModule, Error>
+fn module_of(alloc: Global, said: PackageModule) -> Result<CodegenModule, AllocError>
     ensures held { IfOk result (IsModuleOf (package_module_view said.entry)) }
-    ensures refused { IfErr result (λ e. e ≡ error.Memory) }
 {
     let PackageModule {
         name,
@@ -58,9 +53,8 @@ fn module_of(alloc: Global, said: PackageModule) -> Result<CodegenModule, Error>
 }
 
 #[cycle(modules)]
-fn modules_of(alloc: Global, said: Vec<PackageModule>) -> Result<Vec<CodegenModule>, Error>
+fn modules_of(alloc: Global, said: Vec<PackageModule>) -> Result<Vec<CodegenModule>, AllocError>
     ensures held { IfOk result (λ ms. AreModulesOf (package_modules_view said.entry.items) ms.items) }
-    ensures refused { IfErr result (λ e. e ≡ error.Memory) }
 {
     let mut made = Vec::new(alloc);
     for one in said {
@@ -70,10 +64,9 @@ fn modules_of(alloc: Global, said: Vec<PackageModule>) -> Result<Vec<CodegenModu
 }
 
 // The text of a value, which is let go.
-fn text_of(alloc: Global, unit: BorrowedValue) -> Result<String, Error>
+fn text_of(alloc: Global, unit: BorrowedValue) -> Result<String, AllocError>
     ensures text { IfOk result (λ s. IsTextOf (borrowed_view unit.entry) (string_bytes s)) }
-    ensures refused { IfErr result (λ e. e ≡ error.Memory) }
 {
     let value = value_of_borrowed(alloc, &unit)?;
-    text_of_value(alloc, &value)
+    text_of_value(alloc, &value).ok().ok_or(AllocError)
 }

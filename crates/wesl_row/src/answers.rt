@@ -4,6 +4,7 @@ ghost use Rattle.std.specs.Prelude.{◌<◌, length};
 use crate::inputs::Row;
 use serde_json::{Map, Value, put};
 use std::alloc::Global;
+use wesl_json::unit_of_value;
 use wesl_tree::{Ident, ModulePath, Names, TranslationUnit};
 
 /// A list that is put together item by item. That memory was wanting is noted at its end.
@@ -164,21 +165,15 @@ pub fn found_value(row: Row<'_>, item: Option<(&ModulePath, &str)>) -> Value {
 pub fn unit_of_one(row: Row<'_>, declaration: Value) -> TranslationUnit {
     let mut tree = Object::new(row.alloc);
     tree.put("declarations", Value::Array(row.one(declaration)));
-    row.of(&tree.end(row)).as_unit()
+    row.unit_or_none(unit_of_value(row.alloc, &tree.end(row)))
 }
 
-/// The line of a row: its name, and what its call answers.
-fn line_value(row: Row<'_>, answer: Value) -> Value {
+/// The line of a row: its name, and what its call answers. Refused where something was noted of it.
+pub fn line(row: Row<'_>, answer: Value) -> Result<String, anyhow::Error> {
     let mut line = Object::new(row.alloc);
     line.put("answer", answer);
     line.text("row", row.text("row"));
-    line.end(row)
-}
-
-/// The line of a row. Refused where something was noted of it.
-pub fn line(row: Row<'_>, answer: Value) -> Result<String, anyhow::Error> {
-    let line = line_value(row, answer).to_string(row.alloc);
-    let text = row.or(line, String::new(row.alloc));
+    let text = row.or(line.end(row).to_string(row.alloc), String::new(row.alloc));
     let noted = row.noted();
     if noted.is_empty() {
         Ok(text)

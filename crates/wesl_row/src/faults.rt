@@ -102,7 +102,11 @@ pub fn declared(row: Row<'_>, diagnostic: &Diagnostic) -> Value {
 /// The same with the module, its source and its display name.
 pub fn located(row: Row<'_>, diagnostic: &Diagnostic) -> Value {
     let mut answer = object_of(row, &diagnostic.error);
-    answer.put("module", module_value(row, &diagnostic.module));
+    let module = match &diagnostic.module {
+        Some(path) => row.path_value(path),
+        None => Value::Null,
+    };
+    answer.put("module", module);
     answer.put("source", owned_value(row, &diagnostic.source));
     answer.put("display", owned_value(row, &diagnostic.display));
     answer.end(row)
@@ -112,14 +116,6 @@ pub fn located(row: Row<'_>, diagnostic: &Diagnostic) -> Value {
 fn owned_value(row: Row<'_>, text: &Option<String>) -> Value {
     match text {
         Some(text) => row.text_value(text.as_str()),
-        None => Value::Null,
-    }
-}
-
-/// The text of a path, null where there is none.
-fn module_value(row: Row<'_>, path: &Option<ModulePath>) -> Value {
-    match path {
-        Some(path) => row.path_value(path),
         None => Value::Null,
     }
 }

@@ -213,16 +213,11 @@ impl<'a> Row<'a> {
     pub fn path_of(self, text: &str) -> ModulePath {
         match self.or(ModulePath::parse(self.alloc, text), None) {
             Some(path) => path,
-            None => self.no_path("no path"),
+            None => {
+                self.wrong("no path");
+                ModulePath::new_root(self.alloc)
+            }
         }
-    }
-
-    /// The root of the package in place of a path that is not there.
-    fn no_path(self, what: &'static str) -> ModulePath
-        ensures { is_relative (path_view result) ≡ false }
-    {
-        self.wrong(what);
-        ModulePath::new_root(self.alloc)
     }
 
     /// The path whose text stands at a key.
@@ -236,7 +231,8 @@ impl<'a> Row<'a> {
     {
         let path = self.path_of(text);
         if path.is_relative() {
-            self.no_path("a relative path")
+            self.wrong("a relative path");
+            ModulePath::new_root(self.alloc)
         } else {
             path
         }
@@ -265,14 +261,9 @@ impl<'a> Row<'a> {
         }
     }
 
-    /// The unit of the tree that this is.
-    pub fn as_unit(self) -> TranslationUnit {
-        self.unit_or_none(unit_of_value(self.alloc, self.value))
-    }
-
     /// The unit whose tree stands at a key.
     pub fn unit(self, key: &str) -> TranslationUnit {
-        self.part(key).as_unit()
+        self.unit_or_none(unit_of_value(self.alloc, self.part(key).value))
     }
 
     /// The unit of the `tree`.

@@ -10,20 +10,15 @@ use wesl_tree::TranslationUnit;
 /// printed or not read.
 pub fn printed(row: Row<'_>, unit: &TranslationUnit) -> Value {
     match row.told(JsonText.print(row.alloc, unit)) {
-        Ok(text) => printed_again(row, unit, text.as_str()),
-        Err(fault) => fault,
-    }
-}
-
-/// A unit's text, and whether it is read with the unit's spelling; or the fault where it is not read.
-fn printed_again(row: Row<'_>, unit: &TranslationUnit, printed: &str) -> Value {
-    match row.told(JsonText.read(row.alloc, printed)) {
-        Ok(again) => {
-            let mut answer = Object::new(row.alloc);
-            answer.text("printed", printed);
-            answer.flag("read_again", again.same_spelling(unit));
-            answer.end(row)
-        }
+        Ok(text) => match row.told(JsonText.read(row.alloc, text.as_str())) {
+            Ok(again) => {
+                let mut answer = Object::new(row.alloc);
+                answer.text("printed", text.as_str());
+                answer.flag("read_again", again.same_spelling(unit));
+                answer.end(row)
+            }
+            Err(fault) => fault,
+        },
         Err(fault) => fault,
     }
 }

@@ -1,30 +1,32 @@
-//! The calls by their names: what is not among the calls of one list is looked up in the next.
-use crate::{builtins, conditions, features, mappers, maps, paths, program};
+//! The calls by their names: what is not among the calls of one list is looked up in the next. A call of a few steps stands
+//! in its place.
+use crate::builtins::{size, space};
+use crate::features::{answers_then, features, word};
+use crate::{conditions, mappers, maps, paths, program};
 use serde_json::Value;
+use wesl::{
+    BasicSourceMap, BuiltinIdent, BuiltinType, Builtins, Feature, Features, ModulePath,
+    NoSourceMap, PathOrigin,
+};
 use wesl_row::Row;
 
-/// What the call of a row answers.
+/// What the call of a row answers. Here are those of the program, of the caller of the linker and of built-in names.
 pub fn answered(row: Row<'_>) -> Value {
-    if row.text("of") == "example" {
-        example(row)
-    } else {
-        of_programs(row)
-    }
-}
-
-/// What the caller of the linker tells of the `text`.
-fn example(row: Row<'_>) -> Value {
-    row.printed(wesl_example::told(row.alloc, row.text("text")))
-}
-
-/// Calls of the program and of names that are built in.
-fn of_programs(row: Row<'_>) -> Value {
+    let alloc = row.alloc;
     match row.text("call") {
         "wesl::run" => program::ran(row),
         "wesl::run on each beginning" => program::refused_beginnings(row),
-        "BuiltinType::Mat, builtin_ident" => builtins::of_matrix(row),
-        "AddressSpace::builtin_ident" => builtins::of_space(row),
-        "Builtins::builtin_ident" => builtins::handed_in(row),
+        "wesl_example::told" => row.printed(wesl_example::told(alloc, row.text("text"))),
+        "BuiltinType::Mat, builtin_ident" => {
+            let matrix = BuiltinType::Mat(size(row, "columns"), size(row, "rows"));
+            row.found_text(matrix.builtin_ident())
+        }
+        "AddressSpace::builtin_ident" => row.found_text(space(row).builtin_ident()),
+        "Builtins::builtin_ident" => {
+            let names = row.owned_texts("names");
+            let builtins = Builtins::new(names, Vec::new(alloc), Vec::new(alloc));
+            row.found_text(builtins.builtin_ident(row.text("name")))
+        }
         call => of_conditions(row, call),
     }
 }
@@ -35,59 +37,70 @@ fn of_conditions(row: Row<'_>, call: &str) -> Value {
         "wesl_cond::run" => conditions::left(row),
         "wesl_cond::run in stages" => conditions::stages(row),
         "eval_attr" => conditions::formulas_left(row),
-        "Feature::from" => features::switched(row),
-        "Feature::default" => features::usual(row),
-        "Features::answer" => features::answer(row),
-        "Features::then" => features::answers_then(row),
-        "Features::try_clone" => features::copied(row),
+        "Feature::from" => {
+            let is_on = row.part("flag").value.as_bool() == Some(true);
+            row.text_value(word(Feature::from(is_on)))
+        }
+        "Feature::default" => row.text_value(word(Feature::default())),
+        "Features::answer" => {
+            let answer = features(row, "features").answer(row.text("name"));
+            row.text_value(word(answer))
+        }
+        "Features::then" => answers_then(row),
+        "Features::try_clone" => {
+            let some = features(row, "features");
+            let copy = row.or(some.try_clone(row.alloc), Features::new(row.alloc));
+            Value::Bool(copy == features(row, "other"))
+        }
         _ => of_paths(row, call),
     }
 }
 
 /// Calls of paths and names.
 fn of_paths(row: Row<'_>, call: &str) -> Value {
+    let alloc = row.alloc;
     match call {
         "ModulePath::parse" => paths::parsed(row),
-        "ModulePath::new_root" => paths::is_root(row),
-        "ModulePath::new" => paths::is_new(row),
+        "ModulePath::new_root" => Value::Bool(row.path("path") == ModulePath::new_root(alloc)),
+        "ModulePath::new" => {
+            let origin = PathOrigin::Relative(row.number("relative", 0));
+            let made = ModulePath::new(origin, row.owned_texts("components"));
+            Value::Bool(made == row.path("path"))
+        }
         "ModulePath::join" => paths::joined(row),
-        "ModulePath::join_path" => paths::path_joined(row),
-        "ModulePath::starts_with" => paths::starts_with(row),
-        "ModulePath::is_relative" => paths::is_relative(row),
-        "ModulePath::cmp" => paths::compared(row),
+        "ModulePath::join_path" => {
+            let whole = row.path("from").join_path(alloc, &row.path("to"));
+            row.path_value(&row.or(whole, ModulePath::new_root(alloc)))
+        }
+        "ModulePath::starts_with" => {
+            Value::Bool(row.path("path").starts_with(&row.path("prefix")))
+        }
+        "ModulePath::is_relative" => Value::Bool(row.path("path").is_relative()),
+        "ModulePath::cmp" => {
+            row.text_value(paths::order(&row.path("first"), &row.path("second")))
+        }
         "ModulePath::try_clone" => paths::copied(row),
         "Names::add" => paths::names_added(row),
-        _ => of_mappers(row, call),
-    }
-}
-
-/// Calls of mappers, and what is then asked of what they recorded.
-fn of_mappers(row: Row<'_>, call: &str) -> Value {
-    match call {
-        "SourceMapper::mangle"
-        | "SourceMapper::mangle, then finish and decls"
-        | "SourceMapper::unmangle"
-        | "SourceMapper::mangle_types" => mappers::mangled(row, call),
-        "SourceMapper::resolve_module"
-        | "SourceMapper::resolve_module, then get_source"
-        | "SourceMapper::resolve_module, then finish and get_default_source"
-        | "SourceMapper::resolve_source, then get_source"
-        | "SourceMapper::new, then finish and get_default_source" => mappers::resolved(row, call),
-        "SourceMapper::finish, or what stands" => mappers::finished_or_left(row),
         _ => of_maps(row, call),
     }
 }
 
-/// Calls of source maps.
+/// Calls of source maps and mappers: by their names, or by the type that is asked, which may be a map that may be absent,
+/// an absent one, or the one that knows nothing.
 fn of_maps(row: Row<'_>, call: &str) -> Value {
     match call {
-        "BasicSourceMap::decls" => maps::names(row),
+        "SourceMapper::finish, or what stands" => mappers::finished_or_left(row),
+        "BasicSourceMap::decls" => maps::listed(row, &maps::recorded(row)),
         "BasicSourceMap::try_clone" => maps::copied(row),
         "BasicSourceMap::add_decl, or what stands" | "BasicSourceMap::add_source, or what stands" =>
             maps::added_or_left(row),
         _ => match call.split_once("::") {
-            Some((map, look)) => maps::looked_up(row, map, look),
-            None => row.text_value("no such row"),
+            Some(("SourceMapper", asked)) => mappers::answered(row, asked),
+            Some(("BasicSourceMap", look)) => maps::found(row, look, &maps::recorded(row)),
+            Some(("Some", look)) => maps::found(row, look, &Some(maps::recorded(row))),
+            Some(("None", look)) => maps::found(row, look, &None::<BasicSourceMap>),
+            Some(("NoSourceMap", look)) => maps::found(row, look, &NoSourceMap),
+            _ => row.text_value("no such row"),
         },
     }
 }

@@ -16,45 +16,18 @@ use serde_json::Value;
 use std::alloc::Global;
 use std::cell::Cell;
 use std::io::{BufRead, BufReader};
-use wesl_row::{Row, line, text_of};
+use wesl_row::{Row, line};
 
-/// The crate that has the call of a row.
-enum Home {
-    Trees,
-    Links,
-    Faults,
-    This,
-}
-
-/// The crate that the key `of` of a row names, or else this one.
-fn home_of(alloc: Global, text: &str) -> Result<Home, anyhow::Error> {
-    let value = Value::from_str(alloc, text)?;
-    Ok(match value.get("of") {
-        Some(of) => match text_of(of) {
-            "trees" => Home::Trees,
-            "links" => Home::Links,
-            "faults" => Home::Faults,
-            _ => Home::This,
-        },
-        None => Home::This,
-    })
-}
-
-/// The line that is written for the text of a row, of which this crate has the call.
-fn own_line_of(alloc: Global, text: &str) -> Result<String, anyhow::Error> {
+/// The line that is written for the text of a row, by the crate that its key `of` names, or else by this one.
+fn line_of(alloc: Global, text: &str) -> Result<String, anyhow::Error> {
     let value = Value::from_str(alloc, text)?;
     let note = Cell::new("");
     let row = Row::new(alloc, &value, &note);
-    line(row, calls::answered(row))
-}
-
-/// The line that is written for the text of a row.
-fn line_of(alloc: Global, text: &str) -> Result<String, anyhow::Error> {
-    match home_of(alloc, text)? {
-        Home::Trees => wesl_tree_rows::line_of(alloc, text),
-        Home::Links => wesl_link_rows::line_of(alloc, text),
-        Home::Faults => wesl_faults::line_of(alloc, text),
-        Home::This => own_line_of(alloc, text),
+    match row.text("of") {
+        "trees" => wesl_tree_rows::line_of(alloc, text),
+        "links" => wesl_link_rows::line_of(alloc, text),
+        "faults" => wesl_faults::line_of(alloc, text),
+        _ => line(row, calls::answered(row)),
     }
 }
 

@@ -1,12 +1,12 @@
 //! Directives, and declarations but for functions.
 ghost use Rattle.std.specs.Prelude.{◌≡◌};
 ghost use Rattle.wesl_syntax.specs.Tree.{member_node, members, parameters};
-ghost use Rattle.wesl_syntax.specs.View.{access_tree, space_tree, kind_tree, directive_view, directives_tree, declaration_view, alias_view, member_view, struct_view, parameter_view, assert_view, listed, optional, placed};
+ghost use Rattle.wesl_syntax.specs.View.{access_tree, kind_tree, directive_view, directives_tree, declaration_view, member_view, parameter_view, assert_view, listed, optional, placed};
 
 use crate::tables::{Tables, same_texts};
 use wesl_syntax::{
-    AccessMode, AddressSpace, ConstAssert, Declaration, DeclarationKind, FormalParameter,
-    GlobalDirective, GlobalDirectiveNode, Struct, StructMember, StructMemberNode, TypeAlias,
+    AccessMode, ConstAssert, Declaration, DeclarationKind, FormalParameter, GlobalDirective,
+    GlobalDirectiveNode, StructMember, StructMemberNode,
 };
 
 impl Tables<'_> {
@@ -85,22 +85,6 @@ impl Tables<'_> {
     }
 
     #[tactic(auto, using(crate::proofs::Bools::steps))]
-    fn same_space(
-        &self,
-        left: &Option<(AddressSpace, Option<AccessMode>)>,
-        right: &Option<(AddressSpace, Option<AccessMode>)>,
-    ) -> bool
-        ensures { result ≡ same_in self.now (optional space_tree left.now) (optional space_tree right.now) }
-    {
-        match (left, right) {
-            (None, None) => true,
-            (Some((left, left_access)), Some((right, right_access))) => *left == *right
-                && self.same_access(left_access, right_access),
-            _ => false,
-        }
-    }
-
-    #[tactic(auto, using(crate::proofs::Bools::steps))]
     fn same_kind(&self, left: &DeclarationKind, right: &DeclarationKind) -> bool
         ensures { result ≡ same_in self.now (kind_tree left.now) (kind_tree right.now) }
     {
@@ -108,9 +92,11 @@ impl Tables<'_> {
             (DeclarationKind::Const, DeclarationKind::Const) => true,
             (DeclarationKind::Override, DeclarationKind::Override) => true,
             (DeclarationKind::Let, DeclarationKind::Let) => true,
-            (DeclarationKind::Var(left), DeclarationKind::Var(right)) => self.same_space(
-                left, right,
-            ),
+            (DeclarationKind::Var(None), DeclarationKind::Var(None)) => true,
+            (
+                DeclarationKind::Var(Some((left, left_access))),
+                DeclarationKind::Var(Some((right, right_access))),
+            ) => *left == *right && self.same_access(left_access, right_access),
             _ => false,
         }
     }
@@ -127,15 +113,6 @@ impl Tables<'_> {
     }
 
     #[tactic(auto, using(crate::proofs::Bools::steps))]
-    pub fn same_alias(&self, left: &TypeAlias, right: &TypeAlias) -> bool
-        ensures { result ≡ same_in self.now (alias_view left.now) (alias_view right.now) }
-    {
-        self.same_attributes(&left.attributes, &right.attributes)
-            && self.same_ident(left.ident, right.ident)
-            && self.same_type(&left.ty, &right.ty)
-    }
-
-    #[tactic(auto, using(crate::proofs::Bools::steps))]
     fn same_member(&self, left: &StructMember, right: &StructMember) -> bool
         ensures { result ≡ same_in self.now (member_view left.now) (member_view right.now) }
     {
@@ -144,7 +121,7 @@ impl Tables<'_> {
             && self.same_type(&left.ty, &right.ty)
     }
 
-    fn same_members(&self, left: &Vec<StructMemberNode>, right: &Vec<StructMemberNode>) -> bool
+    pub fn same_members(&self, left: &Vec<StructMemberNode>, right: &Vec<StructMemberNode>) -> bool
         ensures { result ≡ same_in self.now (listed (placed member_view member_node) members left.now) (listed (placed member_view member_node) members right.now) }
     {
         if left.len() != right.len() {
@@ -156,15 +133,6 @@ impl Tables<'_> {
             }
         }
         true
-    }
-
-    #[tactic(auto, using(crate::proofs::Bools::steps))]
-    pub fn same_struct(&self, left: &Struct, right: &Struct) -> bool
-        ensures { result ≡ same_in self.now (struct_view left.now) (struct_view right.now) }
-    {
-        self.same_attributes(&left.attributes, &right.attributes)
-            && self.same_ident(left.ident, right.ident)
-            && self.same_members(&left.members, &right.members)
     }
 
     #[tactic(auto, using(crate::proofs::Bools::steps))]

@@ -1,24 +1,12 @@
 //! Functions, and declarations of a module.
 ghost use Rattle.std.specs.Prelude.{◌≡◌};
-ghost use Rattle.wesl_syntax.specs.View.{function_view, global_view, declarations_tree};
+ghost use Rattle.wesl_syntax.specs.View.{global_view, declarations_tree};
 
 use crate::tables::Tables;
-use wesl_syntax::{Function, GlobalDeclaration, GlobalDeclarationNode};
+use wesl_syntax::{GlobalDeclaration, GlobalDeclarationNode};
 
 impl Tables<'_> {
     ghost use Rattle.wesl_spelling.specs.Tables.{same_in};
-
-    #[tactic(auto, using(crate::proofs::Bools::steps))]
-    fn same_function(&self, left: &Function, right: &Function) -> bool
-        ensures { result ≡ same_in self.now (function_view left.now) (function_view right.now) }
-    {
-        self.same_attributes(&left.attributes, &right.attributes)
-            && self.same_ident(left.ident, right.ident)
-            && self.same_parameters(&left.parameters, &right.parameters)
-            && self.same_attributes(&left.return_attributes, &right.return_attributes)
-            && self.same_optional_type(&left.return_type, &right.return_type)
-            && self.same_compound(&left.body, &right.body)
-    }
 
     #[tactic(auto, using(crate::proofs::Bools::steps))]
     fn same_global(&self, left: &GlobalDeclaration, right: &GlobalDeclaration) -> bool
@@ -29,12 +17,20 @@ impl Tables<'_> {
             (GlobalDeclaration::Declaration(left), GlobalDeclaration::Declaration(right)) =>
                 self.same_declaration(left, right),
             (GlobalDeclaration::TypeAlias(left), GlobalDeclaration::TypeAlias(right)) =>
-                self.same_alias(left, right),
-            (GlobalDeclaration::Struct(left), GlobalDeclaration::Struct(right)) => self.same_struct(
-                left, right,
-            ),
+                self.same_attributes(&left.attributes, &right.attributes)
+                    && self.same_ident(left.ident, right.ident)
+                    && self.same_type(&left.ty, &right.ty),
+            (GlobalDeclaration::Struct(left), GlobalDeclaration::Struct(right)) =>
+                self.same_attributes(&left.attributes, &right.attributes)
+                    && self.same_ident(left.ident, right.ident)
+                    && self.same_members(&left.members, &right.members),
             (GlobalDeclaration::Function(left), GlobalDeclaration::Function(right)) =>
-                self.same_function(left, right),
+                self.same_attributes(&left.attributes, &right.attributes)
+                    && self.same_ident(left.ident, right.ident)
+                    && self.same_parameters(&left.parameters, &right.parameters)
+                    && self.same_attributes(&left.return_attributes, &right.return_attributes)
+                    && self.same_optional_type(&left.return_type, &right.return_type)
+                    && self.same_compound(&left.body, &right.body),
             (GlobalDeclaration::ConstAssert(left), GlobalDeclaration::ConstAssert(right)) =>
                 self.same_assert(left, right),
             _ => false,

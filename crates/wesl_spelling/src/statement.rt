@@ -42,14 +42,6 @@ impl Tables<'_> {
     }
 
     #[tactic(auto, using(crate::proofs::Bools::steps))]
-    fn same_break_if(&self, left: &BreakIfStatement, right: &BreakIfStatement) -> bool
-        ensures { result ≡ same_in self.now (break_if_view left.now) (break_if_view right.now) }
-    {
-        self.same_attributes(&left.attributes, &right.attributes)
-            && self.same_node(&left.expression, &right.expression)
-    }
-
-    #[tactic(auto, using(crate::proofs::Bools::steps))]
     fn same_optional_break_if(
         &self,
         left: &Option<BreakIfStatement>,
@@ -59,7 +51,8 @@ impl Tables<'_> {
     {
         match (left, right) {
             (None, None) => true,
-            (Some(left), Some(right)) => self.same_break_if(left, right),
+            (Some(left), Some(right)) => self.same_attributes(&left.attributes, &right.attributes)
+                && self.same_node(&left.expression, &right.expression),
             _ => false,
         }
     }

@@ -3,7 +3,6 @@
 
 mod clone;
 mod unit;
-mod voids;
 
 pub use unit::TranslationUnit;
 pub use wesl_names::{

@@ -1,16 +1,17 @@
 //! Whole modules.
-ghost use Rattle.std.specs.Prelude.{◌≡◌, ◌↔◌, IsTrue, true, false, length, MatchOption};
-ghost use Rattle.wesl_syntax.specs.Tree.{tree_below};
-ghost use Rattle.wesl_syntax.specs.Unit.{unit_below, empty_unit, spelled, without_voids};
-ghost use Rattle.wesl_syntax.specs.View.{imports_tree, directives_tree, declarations_tree};
+ghost use Rattle.std.specs.Prelude.{◌≡◌, ◌↔◌, IsTrue, true, false, not, length, [], ◌∷◌, MatchOption};
+ghost use Rattle.wesl_syntax.specs.Tree.{tree_below, forest_of};
+ghost use Rattle.wesl_syntax.specs.Unit.{unit_below, empty_unit, spelled, begins_void, without_voids};
+ghost use Rattle.wesl_syntax.specs.View.{imports_tree, directives_tree, declarations_tree, global_view};
 ghost use Rattle.wesl_tree.specs.Parts.{parts_view};
 
-use crate::voids::drop_voids;
 use std::alloc::Global;
 use wesl_bounds::{declarations_are_below, directives_are_below, imports_are_below};
 use wesl_names::Names;
 use wesl_spelling::{same_declarations, same_directives, same_imports};
-use wesl_syntax::{GlobalDeclarationNode, GlobalDirectiveNode, ImportStatementNode};
+use wesl_syntax::{
+    GlobalDeclaration, GlobalDeclarationNode, GlobalDirectiveNode, ImportStatementNode,
+};
 
 /// A module: a table of names, and the imports, directives and declarations whose identifiers are numbers of it.
 ///
@@ -31,6 +32,16 @@ impl Drop for TranslationUnit {
             directives: _,
             declarations: _,
         } = self;
+    }
+}
+
+/// Whether it declares something.
+fn is_declaring(node: &GlobalDeclarationNode) -> bool
+    ensures { result ≡ not (begins_void (forest_of (global_view node.now.node ∷ []))) }
+{
+    match &node.node {
+        GlobalDeclaration::Void => false,
+        _ => true,
     }
 }
 
@@ -131,7 +142,7 @@ impl TranslationUnit {
     pub fn remove_voids(&mut self)
         ensures { let unit = unit_view self.old in unit_view self.new ≡ record unit { declarations = record unit.declarations { children = without_voids unit.declarations.children } } }
     {
-        drop_voids(&mut self.declarations);
+        self.declarations.retain(is_declaring);
     }
 
     /// Whether two units are the same once each identifier is replaced by its name. Spans do not count, and no memory

@@ -22,27 +22,24 @@ pub fn again(row: Row<'_>, unit: &TranslationUnit) -> Value {
     }
 }
 
-/// A directive that enables the `name`, which may be empty.
-fn enabling(row: Row<'_>) -> GlobalDirective {
-    GlobalDirective::Enable {
-        attributes: Vec::new(row.alloc),
-        names: row.one(row.owned("name")),
-    }
-}
-
-/// A unit of a directive that enables the `name`.
-pub fn enabled(row: Row<'_>) -> TranslationUnit {
+/// The same of a unit of a directive that enables the `name`, which may be empty.
+pub fn enabled(row: Row<'_>) -> Value {
     let alloc = row.alloc;
+    let enabling = GlobalDirective::Enable {
+        attributes: Vec::new(alloc),
+        names: row.one(row.owned("name")),
+    };
     let directives = row.one(Spanned {
-        node: enabling(row),
+        node: enabling,
         span: Span { start: 3, end: 5 },
     });
-    row.made(TranslationUnit::from_parts(
+    let unit = row.made(TranslationUnit::from_parts(
         Names::new(alloc),
         Vec::new(alloc),
         directives,
         Vec::new(alloc),
-    ))
+    ));
+    again(row, &unit)
 }
 
 /// What is printed of the unit that the `text` says, or the fault where it says none.
@@ -53,55 +50,41 @@ pub fn text_read(row: Row<'_>) -> Value {
     }
 }
 
-/// How many nodes and names a unit has.
-fn counts(row: Row<'_>, unit: &TranslationUnit) -> Value {
-    let mut answer = Object::new(row.alloc);
-    answer.number("declarations", unit.global_declarations().len());
-    answer.number("directives", unit.global_directives().len());
-    answer.number("imports", unit.imports().len());
-    answer.number("names", unit.names().len());
-    answer.end(row)
-}
-
-/// Whether the parts of a unit are a unit again.
-fn is_whole(unit: TranslationUnit) -> bool {
-    let (names, imports, directives, declarations) = unit.into_parts();
-    TranslationUnit::from_parts(names, imports, directives, declarations).is_some()
-}
-
 /// How many nodes and names the unit of the `tree` has, and whether its parts are a unit again.
 pub fn parted(row: Row<'_>) -> Value {
     let unit = row.tree();
+    let mut counts = Object::new(row.alloc);
+    counts.number("declarations", unit.global_declarations().len());
+    counts.number("directives", unit.global_directives().len());
+    counts.number("imports", unit.imports().len());
+    counts.number("names", unit.names().len());
+    let (names, imports, directives, declarations) = unit.into_parts();
+    let again = TranslationUnit::from_parts(names, imports, directives, declarations);
     let mut answer = Object::new(row.alloc);
-    answer.put("counts", counts(row, &unit));
-    answer.flag("is_a_unit_again", is_whole(unit));
+    answer.put("counts", counts.end(row));
+    answer.flag("is_a_unit_again", again.is_some());
     answer.end(row)
 }
 
 /// The unit of the nodes of a `tree` in which the identifiers have these `numbers`, in document order, of a table of
-/// these `names`; where both are there. Otherwise the unit of the `tree`.
+/// these `names`, if each number has a name; where both are there. Otherwise the unit of the `tree`.
 pub fn numbered(row: Row<'_>) -> Option<TranslationUnit> {
     let unit = row.tree();
     if row.has("names") && row.has("numbers") {
-        renumbered(row, &unit)
+        let given = row.numbers("numbers");
+        let mut copying = Copying {
+            alloc: row.alloc,
+            rest: given.as_slice(),
+            is_refused: false,
+        };
+        let imports = copying.imports(unit.imports());
+        let directives = copying.directives(unit.global_directives());
+        let declarations = copying.globals(unit.global_declarations());
+        row.done(copying.end(()));
+        TranslationUnit::from_parts(row.names("names"), imports, directives, declarations)
     } else {
         Some(unit)
     }
-}
-
-/// The nodes of a unit with the `numbers` and the `names` of a row, which are a unit where each number has a name.
-fn renumbered(row: Row<'_>, unit: &TranslationUnit) -> Option<TranslationUnit> {
-    let given = row.numbers("numbers");
-    let mut copying = Copying {
-        alloc: row.alloc,
-        rest: given.as_slice(),
-        is_refused: false,
-    };
-    let imports = copying.imports(unit.imports());
-    let directives = copying.directives(unit.global_directives());
-    let declarations = copying.globals(unit.global_declarations());
-    row.done(copying.end(()));
-    TranslationUnit::from_parts(row.names("names"), imports, directives, declarations)
 }
 
 /// What is written of the unit of a `tree` with other numbers, and null where an identifier has no name.
@@ -112,8 +95,9 @@ pub fn made(row: Row<'_>) -> Value {
     }
 }
 
-/// What is written of a unit without its voids.
-pub fn without_voids(row: Row<'_>, unit: &mut TranslationUnit) -> Value {
+/// What is written of the unit of the `tree` without its voids.
+pub fn without_voids(row: Row<'_>) -> Value {
+    let mut unit = row.tree();
     unit.remove_voids();
-    row.tree_of(unit)
+    row.tree_of(&unit)
 }

@@ -10,7 +10,7 @@ use wesl_row::{List, Object, Row, is_refused};
 use wesl_tree::{
     Attributes, Declaration, Error, Expression, ExpressionNode, GlobalDeclaration,
     GlobalDeclarationNode, Ident, Names, Span, Spanned, Statement, StatementNode, TemplateArg,
-    TranslationUnit, TypeAlias, TypeExpression,
+    TranslationUnit, TypeExpression,
 };
 use wesl_visit::{Kind, Replace, Rewrite, Visit, Visitor};
 
@@ -78,17 +78,7 @@ struct Met<'a> {
     left: usize,
 }
 
-impl<'a> Met<'a> {
-    /// One that has met none.
-    fn new(row: Row<'a>, names: &'a Names) -> Met<'a> {
-        Met {
-            row,
-            names,
-            nodes: Vec::new(row.alloc),
-            left: row.number("at_most", 20),
-        }
-    }
-
+impl Met<'_> {
     /// Lists a node, and tells whether it did: no more than so many may be met.
     fn list<T: Shown>(&mut self, node: &T) -> bool {
         let is_listed = self.left > 0;
@@ -151,28 +141,6 @@ fn walk<T: Replace + Shown + Visit<T>, N: Visit<T>>(holder: &mut N, met: &mut Me
     }
 }
 
-/// Meets the nodes of a kind below the first of these holders.
-fn walk_first_of<T: Replace + Shown + Visit<T>, N: Visit<T>>(
-    holders: &mut Vec<Spanned<N>>,
-    met: &mut Met,
-) -> bool {
-    match holders.first_mut() {
-        Some(first) => walk::<T, N>(&mut first.node, met),
-        None => false,
-    }
-}
-
-/// Meets the nodes of a kind below a holder that may be absent.
-fn walk_if_there<T: Replace + Shown + Visit<T>, N: Visit<T>>(
-    holder: &mut Option<Spanned<N>>,
-    met: &mut Met,
-) -> bool {
-    match holder {
-        Some(holder) => walk::<T, N>(&mut holder.node, met),
-        None => false,
-    }
-}
-
 /// Meets the lists of attributes below a holder, as the call of the row does.
 fn walk_lists<N: Visit<Attributes>>(holder: &mut N, met: &mut Met) -> bool {
     let alloc = met.row.alloc;
@@ -183,102 +151,61 @@ fn walk_lists<N: Visit<Attributes>>(holder: &mut N, met: &mut Met) -> bool {
     }
 }
 
-/// Meets the types below a declaration, its initial value or its first attribute.
-fn walk_declaration(declaration: &mut Declaration, met: &mut Met) -> bool {
-    match met.row.text("holder") {
-        "declaration" => walk::<TypeExpression, _>(declaration, met),
-        "expression" => walk_if_there::<TypeExpression, _>(&mut declaration.initializer, met),
-        _ => walk_first_of::<TypeExpression, _>(&mut declaration.attributes, met),
-    }
-}
-
-/// Meets the types below a structure, a function, a type alias or an assertion.
-fn walk_whole(global: &mut GlobalDeclaration, met: &mut Met) -> bool {
-    match global {
-        GlobalDeclaration::Struct(structure) => walk::<TypeExpression, _>(structure, met),
-        GlobalDeclaration::Function(function) => walk::<TypeExpression, _>(function, met),
-        GlobalDeclaration::TypeAlias(alias) => walk::<TypeExpression, _>(alias, met),
-        GlobalDeclaration::ConstAssert(assertion) => walk::<TypeExpression, _>(assertion, met),
-        _ => false,
-    }
-}
-
-/// Meets the types below a declaration or a part of it, the first member of a structure, the first statement of a
-/// function, or the type of a type alias.
-fn walk_inner_types(global: &mut GlobalDeclaration, met: &mut Met) -> bool {
-    match global {
-        GlobalDeclaration::Declaration(declaration) => walk_declaration(declaration, met),
-        GlobalDeclaration::Struct(structure) => {
-            walk_first_of::<TypeExpression, _>(&mut structure.members, met)
-        }
-        GlobalDeclaration::Function(function) => {
-            walk_first_of::<TypeExpression, _>(&mut function.body.statements, met)
-        }
-        GlobalDeclaration::TypeAlias(alias) => walk::<TypeExpression, _>(&mut alias.ty, met),
-        _ => false,
-    }
-}
-
-/// Meets the types below a global declaration or a part of it.
-fn walk_types(global: &mut GlobalDeclarationNode, met: &mut Met) -> bool {
-    match met.row.text("holder") {
-        "global declaration" => walk::<TypeExpression, _>(global, met),
-        "alias" | "struct" | "function" | "assertion" => walk_whole(&mut global.node, met),
-        _ => walk_inner_types(&mut global.node, met),
-    }
-}
-
-/// Meets the expressions, statements or lists of attributes below a holder of all three.
-fn walk_kinds<N: Visit<ExpressionNode> + Visit<StatementNode> + Visit<Attributes>>(
-    holder: &mut N,
-    met: &mut Met,
-) -> bool {
+/// Meets the nodes of the kind of the row below a holder of all kinds.
+fn walk_kinds<N>(holder: &mut N, met: &mut Met) -> bool
+where
+    N: Visit<TypeExpression> + Visit<ExpressionNode> + Visit<StatementNode> + Visit<Attributes>,
+{
     match met.row.text("kind") {
+        "types" => walk::<TypeExpression, N>(holder, met),
         "expressions" => walk::<ExpressionNode, N>(holder, met),
         "statements" => walk::<StatementNode, N>(holder, met),
         _ => walk_lists(holder, met),
     }
 }
 
-/// The same below the first of these holders.
-fn walk_kinds_of_first<N: Visit<ExpressionNode> + Visit<StatementNode> + Visit<Attributes>>(
-    holders: &mut Vec<Spanned<N>>,
-    met: &mut Met,
-) -> bool {
-    match holders.first_mut() {
-        Some(first) => walk_kinds(&mut first.node, met),
-        None => false,
+/// Meets the types below a declaration or its first attribute, or the types or expressions below its initial value.
+fn walk_declaration(declaration: &mut Declaration, met: &mut Met) -> bool {
+    match met.row.text("holder") {
+        "declaration" => walk::<TypeExpression, _>(declaration, met),
+        "expression" => match &mut declaration.initializer {
+            Some(value) if met.row.text("kind") == "types" => {
+                walk::<TypeExpression, _>(&mut value.node, met)
+            }
+            Some(value) => walk::<ExpressionNode, _>(&mut value.node, met),
+            None => false,
+        },
+        _ => match declaration.attributes.first_mut() {
+            Some(first) => walk::<TypeExpression, _>(&mut first.node, met),
+            None => false,
+        },
     }
 }
 
-/// Meets the expressions, statements or lists of attributes below a part of a global declaration.
-fn walk_inner(global: &mut GlobalDeclaration, met: &mut Met) -> bool {
+/// Meets the nodes below the holder of the row: a declaration that is no node of its own, or a part of it, which is the
+/// first member of a structure, the first statement of a function, or the type of a type alias.
+fn walk_part(global: &mut GlobalDeclaration, met: &mut Met) -> bool {
+    let is_whole = matches!(met.row.text("holder"), "alias" | "struct" | "function");
     match global {
-        GlobalDeclaration::Function(function) => {
-            walk_kinds_of_first(&mut function.body.statements, met)
+        GlobalDeclaration::Declaration(declaration) => walk_declaration(declaration, met),
+        GlobalDeclaration::TypeAlias(alias) if is_whole => walk::<TypeExpression, _>(alias, met),
+        GlobalDeclaration::TypeAlias(alias) => walk::<TypeExpression, _>(&mut alias.ty, met),
+        GlobalDeclaration::Struct(structure) if is_whole => {
+            walk::<TypeExpression, _>(structure, met)
         }
-        GlobalDeclaration::Declaration(declaration) => {
-            walk_if_there::<ExpressionNode, _>(&mut declaration.initializer, met)
+        GlobalDeclaration::Struct(structure) => match structure.members.first_mut() {
+            Some(first) => walk::<TypeExpression, _>(&mut first.node, met),
+            None => false,
+        },
+        GlobalDeclaration::Function(function) if is_whole => {
+            walk::<TypeExpression, _>(function, met)
         }
-        _ => false,
-    }
-}
-
-/// Meets the expressions, statements or lists of attributes below a global declaration or a part of it.
-fn walk_others(global: &mut GlobalDeclarationNode, met: &mut Met) -> bool {
-    if met.row.text("holder") == "global declaration" {
-        walk_kinds(global, met)
-    } else {
-        walk_inner(&mut global.node, met)
-    }
-}
-
-/// Meets the nodes of a kind below a unit.
-fn walk_unit(unit: &mut TranslationUnit, met: &mut Met) -> bool {
-    if met.row.text("kind") == "types" {
-        walk::<TypeExpression, _>(unit, met)
-    } else {
-        walk_kinds(unit, met)
+        GlobalDeclaration::Function(function) => match function.body.statements.first_mut() {
+            Some(first) => walk_kinds(&mut first.node, met),
+            None => false,
+        },
+        GlobalDeclaration::ConstAssert(assertion) => walk::<TypeExpression, _>(assertion, met),
+        GlobalDeclaration::Void => false,
     }
 }
 
@@ -290,24 +217,6 @@ struct Wrap<'a> {
     left: usize,
 }
 
-fn named(ident: Ident) -> TypeExpression {
-    TypeExpression {
-        path: None,
-        ident,
-        template_args: None,
-    }
-}
-
-/// A type as an argument of another.
-fn argument(ty: TypeExpression) -> TemplateArg {
-    TemplateArg {
-        expression: Spanned {
-            node: Expression::TypeOrIdentifier(ty),
-            span: Span { start: 0, end: 0 },
-        },
-    }
-}
-
 impl Rewrite<TypeExpression> for Wrap<'_> {
     ghost rewrites = { λ before after. Unit {0} };
 
@@ -316,100 +225,93 @@ impl Rewrite<TypeExpression> for Wrap<'_> {
             return Err(Error::Memory);
         }
         self.left -= 1;
-        let inner = mem::replace(node, named(self.name));
-        node.template_args = Some(self.row.one(argument(inner)));
+        let outer = TypeExpression {
+            path: None,
+            ident: self.name,
+            template_args: None,
+        };
+        let inner = mem::replace(node, outer);
+        node.template_args = Some(
+            self.row.one(TemplateArg {
+                expression: Spanned {
+                    node: Expression::TypeOrIdentifier(inner),
+                    span: Span { start: 0, end: 0 },
+                },
+            }),
+        );
         Ok(())
     }
 }
 
-/// Wraps the types below a type alias.
-fn wrapped_alias(alias: &mut TypeAlias, wrap: &mut Wrap) -> bool {
-    let alloc = wrap.row.alloc;
-    if wrap.row.text("call") == "Visit::rewrite" {
-        is_refused(alias.rewrite(alloc, wrap))
-    } else {
-        is_refused(alias.rewrite_rec(alloc, wrap))
-    }
-}
-
-/// Wraps the types below a declaration or its first attribute.
-fn wrapped_declaration(declaration: &mut Declaration, wrap: &mut Wrap) -> bool {
-    let alloc = wrap.row.alloc;
-    if wrap.row.text("holder") == "declaration" {
-        return is_refused(declaration.rewrite(alloc, wrap));
-    }
-    match declaration.attributes.first_mut() {
-        Some(attribute) => is_refused(attribute.node.rewrite(alloc, wrap)),
-        None => false,
-    }
-}
-
-/// Wraps the types below a global declaration or its first attribute.
+/// Wraps the types below a type alias, or a declaration or its first attribute, as the call of the row does.
 fn wrapped(row: Row<'_>, global: &mut GlobalDeclaration) -> bool {
+    let alloc = row.alloc;
     let mut wrap = Wrap {
         row,
         name: Ident(0),
         left: row.number("wrap_at_most", 0),
     };
     match global {
-        GlobalDeclaration::TypeAlias(alias) => wrapped_alias(alias, &mut wrap),
-        GlobalDeclaration::Declaration(declaration) => wrapped_declaration(declaration, &mut wrap),
+        GlobalDeclaration::TypeAlias(alias) => {
+            if row.text("call") == "Visit::rewrite" {
+                is_refused(alias.rewrite(alloc, &mut wrap))
+            } else {
+                is_refused(alias.rewrite_rec(alloc, &mut wrap))
+            }
+        }
+        GlobalDeclaration::Declaration(declaration) => {
+            if row.text("holder") == "declaration" {
+                is_refused(declaration.rewrite(alloc, &mut wrap))
+            } else {
+                match declaration.attributes.first_mut() {
+                    Some(first) => is_refused(first.node.rewrite(alloc, &mut wrap)),
+                    None => false,
+                }
+            }
+        }
         _ => false,
     }
 }
 
-/// Meets or wraps the nodes of a kind below the first of these declarations or a part of it.
-fn walk_first(declarations: &mut Vec<GlobalDeclarationNode>, met: &mut Met) -> bool {
-    match declarations.first_mut() {
-        Some(global) => {
-            if met.row.text("kind") != "types" {
-                walk_others(global, met)
-            } else if met.row.has("wrap_at_most") {
-                wrapped(met.row, &mut global.node)
-            } else {
-                walk_types(global, met)
-            }
-        }
-        None => false,
+/// Meets or wraps the nodes of a kind below a global declaration or a part of it.
+fn walk_global(global: &mut GlobalDeclarationNode, met: &mut Met) -> bool {
+    if met.row.has("wrap_at_most") {
+        wrapped(met.row, &mut global.node)
+    } else if met.row.text("holder") == "global declaration" {
+        walk_kinds(global, met)
+    } else {
+        walk_part(&mut global.node, met)
     }
 }
 
-/// The answer of a call: what was met, and the unit afterwards.
-fn told(row: Row<'_>, is_refused: bool, met: Vec<Value>, unit: &TranslationUnit) -> Value {
+/// What a visit of a row answers, whose holder is a whole unit, or its first global declaration or a part of that: what was
+/// met, and the unit afterwards.
+pub fn answered(row: Row<'_>) -> Value {
+    let mut unit = row.unit("unit");
+    let names = row.or(unit.names().try_clone(row.alloc), Names::new(row.alloc));
+    let mut met = Met {
+        row,
+        names: &names,
+        nodes: Vec::new(row.alloc),
+        left: row.number("at_most", 20),
+    };
+    let is_refused;
+    if row.text("holder") == "unit" {
+        is_refused = walk_kinds(&mut unit, &mut met);
+    } else {
+        let (table, imports, directives, mut declarations) = unit.into_parts();
+        is_refused = match declarations.first_mut() {
+            Some(global) => walk_global(global, &mut met),
+            None => false,
+        };
+        unit = row.made(TranslationUnit::from_parts(table, imports, directives, declarations));
+    }
     let mut answer = Object::new(row.alloc);
-    answer.put("met", Value::Array(met));
-    answer.put("unit", row.tree_of(unit));
+    answer.put("met", Value::Array(met.nodes));
+    answer.put("unit", row.tree_of(&unit));
     if is_refused {
         answer.put("args", Value::Array(Vec::new(row.alloc)));
         answer.text("fault", "Memory");
     }
     answer.end(row)
-}
-
-/// What a call answers whose holder is a whole unit.
-fn in_unit(row: Row<'_>, unit: &mut TranslationUnit) -> Value {
-    let names = row.or(unit.names().try_clone(row.alloc), Names::new(row.alloc));
-    let mut met = Met::new(row, &names);
-    let is_refused = walk_unit(unit, &mut met);
-    told(row, is_refused, met.nodes, unit)
-}
-
-/// What a call answers whose holder is the first global declaration of a unit or a part of it.
-fn in_part(row: Row<'_>, unit: TranslationUnit) -> Value {
-    let (names, imports, directives, mut declarations) = unit.into_parts();
-    let mut met = Met::new(row, &names);
-    let is_refused = walk_first(&mut declarations, &mut met);
-    let nodes = met.nodes;
-    let unit = row.made(TranslationUnit::from_parts(names, imports, directives, declarations));
-    told(row, is_refused, nodes, &unit)
-}
-
-/// What a visit of a row answers.
-pub fn answered(row: Row<'_>) -> Value {
-    let mut unit = row.unit("unit");
-    if row.text("holder") == "unit" {
-        in_unit(row, &mut unit)
-    } else {
-        in_part(row, unit)
-    }
 }

@@ -57,18 +57,12 @@ pub fn in_attribute<'a, T: Kind>(attribute: &'a Attribute, found: &mut Collected
     }
 }
 
-pub(crate) fn in_attributes<'a, T: Kind>(attributes: &'a Attributes, found: &mut Collected<'a, T>)
-    ensures { Adds T.sought T.view found.old (attributes_tree attributes.now).children found.new }
-{
-    for attribute in attributes {
-        in_attribute(&attribute.node, found);
-    }
-}
-
 pub(crate) fn at_attributes<'a, T: Kind>(attributes: &'a Attributes, found: &mut Collected<'a, T>)
     ensures { Adds T.sought T.view found.old (before (attributes_tree attributes.now) end) found.new }
 {
     if found.enter(Node::Attributes(attributes)) {
-        in_attributes(attributes, found);
+        for attribute in attributes {
+            in_attribute(&attribute.node, found);
+        }
     }
 }

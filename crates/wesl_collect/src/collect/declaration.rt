@@ -1,7 +1,6 @@
 //! What is collected in declarations, imports, directives and whole units.
-ghost use Rattle.std.specs.Prelude.{map};
-ghost use Rattle.wesl_syntax.specs.Tree.{before, end, forest_of, member_node};
-ghost use Rattle.wesl_syntax.specs.View.{alias_view, attributes_tree, declarations_tree, directive_view, directives_tree, function_view, global_view, import_view, imports_tree, member_view, parameter_view, placed, struct_view};
+ghost use Rattle.wesl_syntax.specs.Tree.{before, end};
+ghost use Rattle.wesl_syntax.specs.View.{alias_view, declarations_tree, directive_view, directives_tree, function_view, global_view, imports_tree, member_view, struct_view};
 ghost use Rattle.wesl_collect.specs.Adds.{Adds};
 
 use crate::collect::attribute::{at_attributes, at_optional_type};
@@ -10,9 +9,8 @@ use crate::collect::statement::{in_assert, in_compound, in_declaration};
 use crate::collected::Collected;
 use crate::kinds::{Kind, Node};
 use wesl_syntax::{
-    Attributes, FormalParameter, Function, GlobalDeclaration, GlobalDeclarationNode,
-    GlobalDirective, GlobalDirectiveNode, ImportStatement, ImportStatementNode, Struct,
-    StructMember, StructMemberNode, TypeAlias,
+    Attributes, Function, GlobalDeclaration, GlobalDeclarationNode, GlobalDirective,
+    GlobalDirectiveNode, ImportStatementNode, Struct, StructMember, TypeAlias,
 };
 
 /// Adds the nodes of a kind in a type alias, in document order.
@@ -31,34 +29,13 @@ pub fn in_member<'a, T: Kind>(member: &'a StructMember, found: &mut Collected<'a
     at_type(&member.ty, found);
 }
 
-fn in_members<'a, T: Kind>(all: &'a Vec<StructMemberNode>, found: &mut Collected<'a, T>)
-    ensures { Adds T.sought T.view found.old (forest_of (map (placed member_view member_node) all.now.items)) found.new }
-{
-    for member in all {
-        in_member(&member.node, found);
-    }
-}
-
 /// Adds those in a structure.
 pub fn in_struct<'a, T: Kind>(structure: &'a Struct, found: &mut Collected<'a, T>)
     ensures { Adds T.sought T.view found.old (before (struct_view structure.now) end) found.new }
 {
     at_attributes(&structure.attributes, found);
-    in_members(&structure.members, found);
-}
-
-fn in_parameter<'a, T: Kind>(parameter: &'a FormalParameter, found: &mut Collected<'a, T>)
-    ensures { Adds T.sought T.view found.old (before (parameter_view parameter.now) end) found.new }
-{
-    at_attributes(&parameter.attributes, found);
-    at_type(&parameter.ty, found);
-}
-
-fn in_parameters<'a, T: Kind>(all: &'a Vec<FormalParameter>, found: &mut Collected<'a, T>)
-    ensures { Adds T.sought T.view found.old (forest_of (map parameter_view all.now.items)) found.new }
-{
-    for parameter in all {
-        in_parameter(parameter, found);
+    for member in &structure.members {
+        in_member(&member.node, found);
     }
 }
 
@@ -67,7 +44,10 @@ pub fn in_function<'a, T: Kind>(function: &'a Function, found: &mut Collected<'a
     ensures { Adds T.sought T.view found.old (before (function_view function.now) end) found.new }
 {
     at_attributes(&function.attributes, found);
-    in_parameters(&function.parameters, found);
+    for parameter in &function.parameters {
+        at_attributes(&parameter.attributes, found);
+        at_type(&parameter.ty, found);
+    }
     at_attributes(&function.return_attributes, found);
     at_optional_type(&function.return_type, found);
     in_compound(&function.body, found);
@@ -99,19 +79,12 @@ pub fn in_declarations<'a, T: Kind>(
     }
 }
 
-/// Adds the attributes of an import. What stands in them is passed over, as the other words are.
-fn in_import<'a, T: Kind>(import: &'a ImportStatement, found: &mut Collected<'a, T>)
-    ensures { Adds T.sought T.view found.old (before (import_view import.now) end) found.new }
-{
-    found.enter(Node::Attributes(&import.attributes));
-}
-
-/// Adds those in imports, whose words are passed over.
+/// Adds the attributes of imports. What stands in them is passed over, as the other words are.
 pub fn in_imports<'a, T: Kind>(imports: &'a Vec<ImportStatementNode>, found: &mut Collected<'a, T>)
     ensures { Adds T.sought T.view found.old (before (imports_tree imports.now) end) found.new }
 {
     for import in imports {
-        in_import(&import.node, found);
+        found.enter(Node::Attributes(&import.node.attributes));
     }
 }
 

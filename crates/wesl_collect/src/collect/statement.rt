@@ -2,7 +2,7 @@
 ghost use Rattle.std.specs.Box.{box_value};
 ghost use Rattle.std.specs.Prelude.{map};
 ghost use Rattle.wesl_syntax.specs.Tree.{before, end, forest_of};
-ghost use Rattle.wesl_syntax.specs.View.{assert_view, break_if_view, clause_view, compound_view, continuing_view, declaration_view, else_if_view, else_view, if_view, optional, selector_view, statement_tree, statement_view};
+ghost use Rattle.wesl_syntax.specs.View.{assert_view, break_if_view, clause_view, compound_view, continuing_view, declaration_view, else_if_view, else_view, optional, selector_view, statement_tree, statement_view};
 ghost use Rattle.wesl_collect.specs.Adds.{Adds};
 
 use crate::collect::attribute::{at_attributes, at_optional_expression, at_optional_type};
@@ -11,7 +11,7 @@ use crate::collected::Collected;
 use crate::kinds::{Kind, Node};
 use wesl_syntax::{
     BreakIfStatement, CaseSelector, CompoundStatement, ConstAssert, ContinuingStatement,
-    Declaration, ElseClause, ElseIfClause, IfClause, Statement, StatementNode, SwitchClause,
+    Declaration, ElseClause, ElseIfClause, Statement, StatementNode, SwitchClause,
 };
 
 /// Adds the nodes of a kind in a declaration, in document order.
@@ -99,7 +99,8 @@ pub fn in_statement<'a, T: Kind>(statement: &'a Statement, found: &mut Collected
             else_clause,
         } => {
             at_attributes(attributes, found);
-            in_if(if_clause, found);
+            at_expression(&if_clause.expression, found);
+            in_compound(&if_clause.body, found);
             in_else_ifs(else_if_clauses, found);
             in_optional_else(else_clause, found);
         }
@@ -202,28 +203,13 @@ pub(crate) fn in_compound<'a, T: Kind>(body: &'a CompoundStatement, found: &mut 
 }
 
 #[cycle(collecting_statements)]
-fn in_if<'a, T: Kind>(clause: &'a IfClause, found: &mut Collected<'a, T>)
-    ensures { Adds T.sought T.view found.old (before (if_view clause.now) end) found.new }
-{
-    at_expression(&clause.expression, found);
-    in_compound(&clause.body, found);
-}
-
-#[cycle(collecting_statements)]
-fn in_else_if<'a, T: Kind>(clause: &'a ElseIfClause, found: &mut Collected<'a, T>)
-    ensures { Adds T.sought T.view found.old (before (else_if_view clause.now) end) found.new }
-{
-    at_attributes(&clause.attributes, found);
-    at_expression(&clause.expression, found);
-    in_compound(&clause.body, found);
-}
-
-#[cycle(collecting_statements)]
 fn in_else_ifs<'a, T: Kind>(clauses: &'a Vec<ElseIfClause>, found: &mut Collected<'a, T>)
     ensures { Adds T.sought T.view found.old (forest_of (map else_if_view clauses.now.items)) found.new }
 {
     for clause in clauses {
-        in_else_if(clause, found);
+        at_attributes(&clause.attributes, found);
+        at_expression(&clause.expression, found);
+        in_compound(&clause.body, found);
     }
 }
 
@@ -247,20 +233,13 @@ fn in_optional_else<'a, T: Kind>(clause: &'a Option<ElseClause>, found: &mut Col
 }
 
 #[cycle(collecting_statements)]
-fn in_clause<'a, T: Kind>(clause: &'a SwitchClause, found: &mut Collected<'a, T>)
-    ensures { Adds T.sought T.view found.old (before (clause_view clause.now) end) found.new }
-{
-    at_attributes(&clause.attributes, found);
-    in_selectors(&clause.case_selectors, found);
-    in_compound(&clause.body, found);
-}
-
-#[cycle(collecting_statements)]
 fn in_clauses<'a, T: Kind>(clauses: &'a Vec<SwitchClause>, found: &mut Collected<'a, T>)
     ensures { Adds T.sought T.view found.old (forest_of (map clause_view clauses.now.items)) found.new }
 {
     for clause in clauses {
-        in_clause(clause, found);
+        at_attributes(&clause.attributes, found);
+        in_selectors(&clause.case_selectors, found);
+        in_compound(&clause.body, found);
     }
 }
 

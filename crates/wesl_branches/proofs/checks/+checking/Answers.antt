@@ -8,11 +8,12 @@ use Rattle.wesl_syntax.specs.View.{clause_view, compound_view, continuing_view, 
 use Rattle.wesl_syntax.specs.declared.span.Spanned.{Spanned}
 use Rattle.wesl_syntax.specs.declared.statement.Statement.{Statement}
 use Rattle.wesl_branches.proofs.Checked.{first_of_three, statement_checked, if_clause_checked, else_if_checked, else_checked, optional_checked, clause_checked, clauses_checked, compound_checked, if_checked, switch_checked, loop_checked, for_checked, while_checked, compound_body, compound_refused, listed_checked, three_in_turn}
-use Rattle.wesl_branches.proofs.Looped.{loop_tree, loop_in_turn, clear_cond, block_refused, block_checked}
-use Rattle.wesl_branches.proofs.Standing.{stay, nothing, list_refused}
+use Rattle.wesl_branches.proofs.Leaves.{no_list}
+use Rattle.wesl_branches.proofs.Looped.{loop_tree, loop_in_turn, block_refused, block_checked}
+use Rattle.wesl_branches.proofs.Standing.{stay, clear_leaf, list_refused}
 use Rattle.wesl_branches.proofs.Walked.{walks_in, walks_past, left_at_start, left_next, left_refused, left_clear, listed_next, listed_refused, listed_clear}
 use Rattle.wesl_branches.proofs.checks.+checking.Goals as goal
-use Rattle.wesl_branches.proofs.checks.+checking.Goals.{check_statements-then-stays+in-Ok, check_statements-else-stays, check_staying_clauses-then-stays+in-Ok, check_staying_clauses-else-stays}
+use Rattle.wesl_branches.proofs.checks.+checking.Goals.{check_statements-then-stays+in-Ok, check_statements-else-stays, check_clauses-then-stays+in-Ok-check_body, check_clauses-else-stays}
 
 -- a statement in its box, if there is one
 abbrev in_place : Option (Box (Spanned Statement) Global) → Tree
@@ -28,7 +29,7 @@ pub check_statement-returns-in-If : goal.check_statement-returns-in-If
 check_statement-returns-in-If t c =
     let names = c.args.names.now in
     let reply = replies names c.args.features.now in
-    if_checked reply names c.first_refusal.result c.args.statement.now _ c.in-If.if_clause c.in-If.else_if_clauses c.in-If.else_clause c.in-If.is (subst (Checks names reply (forest_of (if_view c.in-If.if_clause ∷ listed else_if_view list c.in-If.else_if_clauses ∷ optional else_view c.in-If.else_clause ∷ []))) (sym (first_of_three _ _ _ _ c.first_refusal.ensures)) (three_in_turn reply names (if_view c.in-If.if_clause) (listed else_if_view list c.in-If.else_if_clauses) (optional else_view c.in-If.else_clause) c.check_if-first.result c.check_else_ifs-others.result c.check_else-last.result c.check_if-first.ensures (listed_checked reply names c.in-If.else_if_clauses c.check_else_ifs-others.result c.check_else_ifs-others.ensures) c.check_else-last.ensures))
+    if_checked reply names c.first_refusal.result c.args.statement.now _ c.in-If.if_clause c.in-If.else_if_clauses c.in-If.else_clause c.in-If.is (subst (Checks names reply (forest_of (if_view c.in-If.if_clause ∷ listed else_if_view list c.in-If.else_if_clauses ∷ optional else_view c.in-If.else_clause ∷ []))) (sym (first_of_three _ _ _ _ c.first_refusal.ensures)) (three_in_turn reply names (if_view c.in-If.if_clause) (listed else_if_view list c.in-If.else_if_clauses) (optional else_view c.in-If.else_clause) c.check_body-first.result c.check_else_ifs-others.result c.check_else-last.result (if_clause_checked reply names c.check_body-first.result c.in-If.if_clause c.check_body-first.ensures) (listed_checked reply names c.in-If.else_if_clauses c.check_else_ifs-others.result c.check_else_ifs-others.ensures) c.check_else-last.ensures))
 
 pub check_statement-returns-in-Switch : goal.check_statement-returns-in-Switch
 check_statement-returns-in-Switch t c =
@@ -66,24 +67,6 @@ check_body-returns-in-Err t c =
     let reply = replies names c.args.features.now in
     compound_refused reply names c.args.body.now c.in-Err.fault c.in-Err.ensures
 
-pub check_if-returns : goal.check_if-returns
-check_if-returns t c =
-    let names = c.args.names.now in
-    let reply = replies names c.args.features.now in
-    if_clause_checked reply names c.check_body.result c.args.clause.now c.check_body.ensures
-
-pub check_else_if-returns : goal.check_else_if-returns
-check_else_if-returns t c =
-    let names = c.args.names.now in
-    let reply = replies names c.args.features.now in
-    else_if_checked reply names c.check_body.result c.args.clause.now c.check_body.ensures
-
-pub check_clause-returns : goal.check_clause-returns
-check_clause-returns t c =
-    let names = c.args.names.now in
-    let reply = replies names c.args.features.now in
-    clause_checked reply names c.check_body.result c.args.clause.now c.check_body.ensures
-
 pub check_else-returns-in-Some : goal.check_else-returns-in-Some
 check_else-returns-in-Some t c =
     let names = c.args.names.now in
@@ -96,47 +79,11 @@ check_optional-returns-in-Some t c =
     let reply = replies names c.args.features.now in
     optional_checked reply names c.check_statement.result c.args.node.now c.in-Some.node c.in-Some.is (subst (λ n. Checks names reply (before (statement_view n.node) end) c.check_statement.result) c.deref.ensures c.check_statement.ensures)
 
-pub check_clauses-returns-in-Ok : goal.check_clauses-returns-in-Ok
-check_clauses-returns-in-Ok t c =
-    let names = c.args.names.now in
-    let reply = replies names c.args.features.now in
-    clauses_checked reply names c.check_staying_clauses.result c.args.clauses.now.items c.in-Ok.ensures c.check_staying_clauses.ensures
-
 pub check_clauses-returns-in-Err : goal.check_clauses-returns-in-Err
 check_clauses-returns-in-Err t c =
     let names = c.args.names.now in
     let reply = replies names c.args.features.now in
     list_refused reply names (kind clauses) (forest_of (map clause_view c.args.clauses.now.items)) c.in-Err.fault refl c.in-Err.ensures
-
-pub check_block-returns-in-Ok : goal.check_block-returns-in-Ok
-check_block-returns-in-Ok t c =
-    let names = c.args.names.now in
-    let reply = replies names c.args.features.now in
-    block_checked reply names c.args.block.now c.check_statements.result c.in-Ok.ensures c.check_statements.ensures
-
-pub check_block-returns-in-Err : goal.check_block-returns-in-Err
-check_block-returns-in-Err t c =
-    let names = c.args.names.now in
-    let reply = replies names c.args.features.now in
-    block_refused reply names c.args.block.now c.in-Err.fault c.in-Err.ensures
-
-pub check_last-returns-then-stays : goal.check_last-returns-then-stays
-check_last-returns-then-stays t c =
-    let names = c.args.names.now in
-    let reply = replies names c.args.features.now in
-    subst (λ o. Checks names reply (cond c.args.stays (optional_forest continuing_view o) end) c.check_block.result) (sym c.in-Some.is) (subst (λ s. Checks names reply (cond s (before (continuing_view c.in-Some.block) end) end) c.check_block.result) (sym c.if-stays.true) c.check_block.ensures)
-
-pub check_last-returns-else-stays : goal.check_last-returns-else-stays
-check_last-returns-else-stays t c =
-    let names = c.args.names.now in
-    let reply = replies names c.args.features.now in
-    subst (λ s. IsClear reply (cond s (optional_forest continuing_view c.args.continuing.now) end)) (sym c.if-stays.false) (nothing reply)
-
-pub check_last-returns-in-None : goal.check_last-returns-in-None
-check_last-returns-in-None t c =
-    let names = c.args.names.now in
-    let reply = replies names c.args.features.now in
-    subst (λ o. IsClear reply (cond c.args.stays (optional_forest continuing_view o) end)) (sym c.in-None.is) (clear_cond reply c.args.stays)
 
 pub check_statements-loop-node-preserved : goal.check_statements-loop-node-preserved
 check_statements-loop-node-preserved t c =
@@ -171,53 +118,77 @@ check_statements-loop-node-init t c =
     let reply = replies names c.args.features.now in
     left_at_start reply statement_tree c.deref-node-items.result.now _ _ c.new-chain.ensures.kept c.new-chain.ensures.decided
 
-pub check_staying_clauses-loop-clause-preserved : goal.check_staying_clauses-loop-clause-preserved
-check_staying_clauses-loop-clause-preserved t c =
-    let names = c.args.names.now in
-    let reply = replies names c.args.features.now in
-    let l = c.loop-clause in
-    let x = c.clause-item.result in
-    elim c.if-stays.branch [
-      | check_staying_clauses-then-stays+in-Ok w ↦ (left_next reply clause_view names c.deref-clause-items.result.now l.clause-index l.chain.kept l.chain.decided c.stays.new.chain.kept c.stays.new.chain.decided x (tt {0}) (omega arith) c.clause-item.is l.invariant (walks_in reply names l.chain.kept l.chain.decided c.stays.new.chain.kept c.stays.new.chain.decided c.stays.result (clause_view x) (Ok (tt {0})) w.if-stays.true (c.stays.ensures false) (w.in-Ok.ensures)))
-      | check_staying_clauses-else-stays w ↦ (left_next reply clause_view names c.deref-clause-items.result.now l.clause-index l.chain.kept l.chain.decided c.stays.new.chain.kept c.stays.new.chain.decided x (tt {0}) (omega arith) c.clause-item.is l.invariant (walks_past reply names l.chain.kept l.chain.decided c.stays.new.chain.kept c.stays.new.chain.decided c.stays.result (clause_view x) (tt {0}) w.if-stays.false (c.stays.ensures false)))
-    ]
-
-pub check_staying_clauses-returns-in-Err : goal.check_staying_clauses-returns-in-Err
-check_staying_clauses-returns-in-Err t c =
-    let names = c.args.names.now in
-    let reply = replies names c.args.features.now in
-    let l = c.loop-clause in
-    let x = c.clause-item.result in
-    subst (λ xs. RefusesIn names reply (alone (stay reply) (forest_of (map clause_view xs))) c.in-Err.fault) c.deref-clause-items.ensures.value
-    (left_refused reply clause_view (Unit {0}) names c.deref-clause-items.result.now l.clause-index l.chain.kept l.chain.decided c.stays.new.chain.kept c.stays.new.chain.decided x c.in-Err.fault (omega arith) c.clause-item.is l.invariant (walks_in reply {A = Unit {0}} names l.chain.kept l.chain.decided c.stays.new.chain.kept c.stays.new.chain.decided c.stays.result (clause_view x) (Err c.in-Err.fault) c.if-stays.true (c.stays.ensures false) (c.in-Err.ensures)))
-
-pub check_staying_clauses-returns : goal.check_staying_clauses-returns
-check_staying_clauses-returns t c =
-    let names = c.args.names.now in
-    let reply = replies names c.args.features.now in
-    let l = c.loop-clause in
-    subst (λ xs. IsClear reply (alone (stay reply) (forest_of (map clause_view xs)))) c.deref-clause-items.ensures.value (left_clear reply clause_view c.deref-clause-items.result.now l.clause-index l.chain.kept l.chain.decided (omega arith) l.invariant)
-
-pub check_staying_clauses-loop-clause-init : goal.check_staying_clauses-loop-clause-init
-check_staying_clauses-loop-clause-init t c =
-    let names = c.args.names.now in
-    let reply = replies names c.args.features.now in
-    left_at_start reply clause_view c.deref-clause-items.result.now _ _ c.new-chain.ensures.kept c.new-chain.ensures.decided
-
 pub check_else_ifs-loop-clause-preserved : goal.check_else_ifs-loop-clause-preserved
 check_else_ifs-loop-clause-preserved t c =
     let names = c.args.names.now in
     let reply = replies names c.args.features.now in
-    listed_next reply else_if_view c.deref-clause-items.result.now c.loop-clause.clause-index c.clause-item.result (omega arith) c.clause-item.is c.loop-clause.invariant c.in-Ok.ensures
+    listed_next reply else_if_view c.deref-clause-items.result.now c.loop-clause.clause-index c.clause-item.result (omega arith) c.clause-item.is c.loop-clause.invariant (else_if_checked reply names {A = Unit {0}} (Ok (tt {0})) c.clause-item.result c.in-Ok.ensures)
 
 pub check_else_ifs-returns-in-Err : goal.check_else_ifs-returns-in-Err
 check_else_ifs-returns-in-Err t c =
     let names = c.args.names.now in
     let reply = replies names c.args.features.now in
-    subst (λ xs. RefusesIn names reply (forest_of (map else_if_view xs)) c.in-Err.fault) c.deref-clause-items.ensures.value (listed_refused reply else_if_view names c.deref-clause-items.result.now c.loop-clause.clause-index c.clause-item.result c.in-Err.fault (omega arith) c.clause-item.is c.loop-clause.invariant c.in-Err.ensures)
+    subst (λ xs. RefusesIn names reply (forest_of (map else_if_view xs)) c.in-Err.fault) c.deref-clause-items.ensures.value (listed_refused reply else_if_view names c.deref-clause-items.result.now c.loop-clause.clause-index c.clause-item.result c.in-Err.fault (omega arith) c.clause-item.is c.loop-clause.invariant (else_if_checked reply names {A = Unit {0}} (Err c.in-Err.fault) c.clause-item.result c.in-Err.ensures))
 
 pub check_else_ifs-returns : goal.check_else_ifs-returns
 check_else_ifs-returns t c =
     let names = c.args.names.now in
     let reply = replies names c.args.features.now in
     subst (λ xs. IsClear reply (forest_of (map else_if_view xs))) c.deref-clause-items.ensures.value (listed_clear reply else_if_view c.deref-clause-items.result.now c.loop-clause.clause-index (omega arith) c.loop-clause.invariant)
+
+pub check_clauses-loop-clause-preserved : goal.check_clauses-loop-clause-preserved
+check_clauses-loop-clause-preserved t c =
+    let names = c.args.names.now in
+    let reply = replies names c.args.features.now in
+    let l = c.loop-clause in
+    let x = c.clause-item.result in
+    elim c.if-stays.branch [
+      | check_clauses-then-stays+in-Ok-check_body w ↦ (left_next reply clause_view names c.deref-clause-items.result.now l.clause-index l.chain.kept l.chain.decided c.stays.new.chain.kept c.stays.new.chain.decided x (tt {0}) (omega arith) c.clause-item.is l.invariant (walks_in reply names l.chain.kept l.chain.decided c.stays.new.chain.kept c.stays.new.chain.decided c.stays.result (clause_view x) (Ok (tt {0})) w.if-stays.true (c.stays.ensures false) (clause_checked reply names {A = Unit {0}} (Ok (tt {0})) x w.in-Ok-check_body.ensures)))
+      | check_clauses-else-stays w ↦ (left_next reply clause_view names c.deref-clause-items.result.now l.clause-index l.chain.kept l.chain.decided c.stays.new.chain.kept c.stays.new.chain.decided x (tt {0}) (omega arith) c.clause-item.is l.invariant (walks_past reply names l.chain.kept l.chain.decided c.stays.new.chain.kept c.stays.new.chain.decided c.stays.result (clause_view x) (tt {0}) w.if-stays.false (c.stays.ensures false)))
+    ]
+
+pub check_clauses-returns-in-Err-check_body : goal.check_clauses-returns-in-Err-check_body
+check_clauses-returns-in-Err-check_body t c =
+    let names = c.args.names.now in
+    let reply = replies names c.args.features.now in
+    let l = c.loop-clause in
+    let x = c.clause-item.result in
+    clauses_checked reply names {A = Unit {0}} (Err c.in-Err-check_body.fault) c.args.clauses.now.items c.in-Ok.ensures (subst (λ xs. RefusesIn names reply (alone (stay reply) (forest_of (map clause_view xs))) c.in-Err-check_body.fault) c.deref-clause-items.ensures.value
+    (left_refused reply clause_view (Unit {0}) names c.deref-clause-items.result.now l.clause-index l.chain.kept l.chain.decided c.stays.new.chain.kept c.stays.new.chain.decided x c.in-Err-check_body.fault (omega arith) c.clause-item.is l.invariant (walks_in reply {A = Unit {0}} names l.chain.kept l.chain.decided c.stays.new.chain.kept c.stays.new.chain.decided c.stays.result (clause_view x) (Err c.in-Err-check_body.fault) c.if-stays.true (c.stays.ensures false) (clause_checked reply names {A = Unit {0}} (Err c.in-Err-check_body.fault) x c.in-Err-check_body.ensures))))
+
+pub check_clauses-returns : goal.check_clauses-returns
+check_clauses-returns t c =
+    let names = c.args.names.now in
+    let reply = replies names c.args.features.now in
+    let l = c.loop-clause in
+    clauses_checked reply names {A = Unit {0}} (Ok (tt {0})) c.args.clauses.now.items c.in-Ok.ensures (subst (λ xs. IsClear reply (alone (stay reply) (forest_of (map clause_view xs)))) c.deref-clause-items.ensures.value (left_clear reply clause_view c.deref-clause-items.result.now l.clause-index l.chain.kept l.chain.decided (omega arith) l.invariant))
+
+pub check_clauses-loop-clause-init : goal.check_clauses-loop-clause-init
+check_clauses-loop-clause-init t c =
+    let names = c.args.names.now in
+    let reply = replies names c.args.features.now in
+    left_at_start reply clause_view c.deref-clause-items.result.now _ _ c.new-chain.ensures.kept c.new-chain.ensures.decided
+
+pub check_last-returns-in-Ok : goal.check_last-returns-in-Ok
+check_last-returns-in-Ok t c =
+    let names = c.args.names.now in
+    let reply = replies names c.args.features.now in
+    let b = c.in-Some.block in
+    let r = c.check_statements.result in
+    subst (λ o. Checks names reply (cond c.args.stays (optional_forest continuing_view o) end) r) (sym c.in-Some.is)
+    (subst (λ s. Checks names reply (cond s (before (continuing_view b) end) end) r) (sym c.if-stays.true) (block_checked reply names b r c.in-Ok.ensures c.check_statements.ensures))
+
+pub check_last-returns-in-Err : goal.check_last-returns-in-Err
+check_last-returns-in-Err t c =
+    let names = c.args.names.now in
+    let reply = replies names c.args.features.now in
+    let b = c.in-Some.block in
+    let e = c.in-Err.fault in
+    subst (λ o. RefusesIn names reply (cond c.args.stays (optional_forest continuing_view o) end) e) (sym c.in-Some.is)
+    (subst (λ s. RefusesIn names reply (cond s (before (continuing_view b) end) end) e) (sym c.if-stays.true) (block_refused reply names b e c.in-Err.ensures))
+
+pub check_statement-returns-in_default : goal.check_statement-returns-in_default
+check_statement-returns-in_default t c =
+    let s = c.args.statement.now in
+    let n = c.in_default in
+    clear_leaf (replies c.args.names.now c.args.features.now) (statement_view s).label (statement_view s).children (no_list s n.not-Compound n.not-If n.not-Switch n.not-Loop n.not-For n.not-While)

@@ -9,5 +9,5 @@ invariant-check_else_ifs-loop-clause l = IsListed (replies l.names l.features) e
 abbrev pub invariant-check_statements-loop-node : goal.invariant-check_statements-loop-node
 invariant-check_statements-loop-node l = IsLeft (replies l.names l.features) statement_tree l.node-items l.node-index l.chain.kept l.chain.decided
 
-abbrev pub invariant-check_staying_clauses-loop-clause : goal.invariant-check_staying_clauses-loop-clause
-invariant-check_staying_clauses-loop-clause l = IsLeft (replies l.names l.features) clause_view l.clause-items l.clause-index l.chain.kept l.chain.decided
+abbrev pub invariant-check_clauses-loop-clause : goal.invariant-check_clauses-loop-clause
+invariant-check_clauses-loop-clause l = IsLeft (replies l.names l.features) clause_view l.clause-items l.clause-index l.chain.kept l.chain.decided

@@ -4,13 +4,14 @@ use Rattle.wesl_table.specs.TextsView.{numbering_of_texts as numbering}
 use Rattle.wesl_linker.specs.Linked.{Placed, placed}
 use Rattle.wesl_linker.specs.Keeping.{module_of}
 use Rattle.wesl_linker.specs.Holding.{Adds}
+use Rattle.wesl_linker.proofs.Tabled.{stands, numbered_there, marked_there}
 use Rattle.wesl_linker.proofs.Meant.{refers_to_all}
 use Rattle.wesl_linker.proofs.Parted.{adds_none}
 use Rattle.wesl_linker.proofs.Adding.{OneAt, spelled_in, declarations_are, rows_many, marks_many, placed_many, told_at, row_held, adds_next}
 use Rattle.wesl_linker.proofs.assemble.add_module.Goals as goal
 
-pub module_table-table-requires : goal.module_table-table-requires
-module_table-table-requires c = record { tabled = c.requires.sound.tabled c.args.module.now c.requires.inside }
+pub table_at-table-requires : goal.table_at-table-requires
+table_at-table-requires c = stands c.args.link.now c.requires.sound c.args.module.now c.requires.inside
 
 pub loop-index-init : goal.loop-index-init
 loop-index-init c = adds_none c.args.link.now c.args.parts.now
@@ -20,7 +21,7 @@ bounds-rows-index c =
     let m = c.args.module.now in
     let xs = c.deref-declaration-items.result.now in
     let all = declarations_are m c.global_declarations-nodes.result.now xs c.global_declarations-nodes.ensures.declarations c.deref-declaration-items.ensures.value in
-    let many = rows_many (numbering c.args.link.now.numbers) m c.module_table-table.result.now c.module_table-table.ensures.numbered c.module_table-table.ensures.marked xs all in
+    let many = rows_many (numbering c.args.link.now.numbers) m c.table_at-table.result.now (numbered_there c.args.link.now c.requires.sound c.args.module.now c.requires.inside c.table_at-table.result.now c.table_at-table.ensures) (marked_there c.args.link.now c.requires.sound c.args.module.now c.requires.inside) xs all in
     subst (λ n. c.loop-index.index < n) (sym (ap length c.declarations-rows.ensures ∙ many)) c.loop-index-test.true
 
 pub index-marks-requires : goal.index-marks-requires
@@ -28,44 +29,44 @@ index-marks-requires c =
     let m = c.args.module.now in
     let xs = c.deref-declaration-items.result.now in
     let all = declarations_are m c.global_declarations-nodes.result.now xs c.global_declarations-nodes.ensures.declarations c.deref-declaration-items.ensures.value in
-    subst (λ n. c.loop-index.index < n) (sym (m.marks.ok.0 ∙ marks_many (numbering c.args.link.now.numbers) m c.module_table-table.result.now c.module_table-table.ensures.numbered c.module_table-table.ensures.marked xs all)) c.loop-index-test.true
+    subst (λ n. c.loop-index.index < n) (sym (m.marks.ok.0 ∙ marks_many (numbering c.args.link.now.numbers) m c.table_at-table.result.now (numbered_there c.args.link.now c.requires.sound c.args.module.now c.requires.inside c.table_at-table.result.now c.table_at-table.ensures) (marked_there c.args.link.now c.requires.sound c.args.module.now c.requires.inside) xs all)) c.loop-index-test.true
 
 pub add_declaration-requires-clause-inside : goal.add_declaration-requires-clause-inside
 add_declaration-requires-clause-inside c =
     let m = c.args.module.now in
-    let t = c.module_table-table.result.now in
+    let t = c.table_at-table.result.now in
     let nb = numbering c.args.link.now.numbers in
     let xs = c.deref-declaration-items.result.now in
     let all = declarations_are m c.global_declarations-nodes.result.now xs c.global_declarations-nodes.ensures.declarations c.deref-declaration-items.ensures.value in
-    row_held nb m t c.module_table-table.ensures.numbered c.module_table-table.ensures.marked xs all c.loop-index.index c.declarations-rows.result.now c.index-rows-index.result c.loop-index-test.true c.declarations-rows.ensures c.index-rows-index.is
+    row_held nb m t (numbered_there c.args.link.now c.requires.sound c.args.module.now c.requires.inside c.table_at-table.result.now c.table_at-table.ensures) (marked_there c.args.link.now c.requires.sound c.args.module.now c.requires.inside) xs all c.loop-index.index c.declarations-rows.result.now c.index-rows-index.result c.loop-index-test.true c.declarations-rows.ensures c.index-rows-index.is
 
 pub add_declaration-requires-clause-refers : goal.add_declaration-requires-clause-refers
 add_declaration-requires-clause-refers c =
     let m = c.args.module.now in
-    let t = c.module_table-table.result.now in
+    let t = c.table_at-table.result.now in
     let nb = numbering c.args.link.now.numbers in
     let xs = c.deref-declaration-items.result.now in
     let all = declarations_are m c.global_declarations-nodes.result.now xs c.global_declarations-nodes.ensures.declarations c.deref-declaration-items.ensures.value in
     let row = c.index-rows-index.result in
     let ms = c.deref.result.now in
     let one : OneAt nb m c.loop-index.index c.declaration-item.result row ms =
-    told_at nb m t c.module_table-table.ensures.numbered c.module_table-table.ensures.marked xs all c.loop-index.index c.declaration-item.result c.declarations-rows.result.now row c.index-marks.result.now ms
+    told_at nb m t (numbered_there c.args.link.now c.requires.sound c.args.module.now c.requires.inside c.table_at-table.result.now c.table_at-table.ensures) (marked_there c.args.link.now c.requires.sound c.args.module.now c.requires.inside) xs all c.loop-index.index c.declaration-item.result c.declarations-rows.result.now row c.index-marks.result.now ms
     c.loop-index-test.true c.declarations-rows.ensures c.declaration-item.is c.index-rows-index.is c.index-marks.ensures c.deref.ensures.value in
     refers_to_all nb c.args.link.now.numbers.paths.different c.args.link.now.numbers.names.different row (spelled_in m c.declaration-item.result) ms one.uses one.same one.marked
 
 pub loop-index-preserved : goal.loop-index-preserved
 loop-index-preserved c =
     let m = c.args.module.now in
-    let t = c.module_table-table.result.now in
+    let t = c.table_at-table.result.now in
     let nb = numbering c.args.link.now.numbers in
     let xs = c.deref-declaration-items.result.now in
     let all = declarations_are m c.global_declarations-nodes.result.now xs c.global_declarations-nodes.ensures.declarations c.deref-declaration-items.ensures.value in
     let row = c.index-rows-index.result in
     let ms = c.deref.result.now in
     let one : OneAt nb m c.loop-index.index c.declaration-item.result row ms =
-    told_at nb m t c.module_table-table.ensures.numbered c.module_table-table.ensures.marked xs all c.loop-index.index c.declaration-item.result c.declarations-rows.result.now row c.index-marks.result.now ms
+    told_at nb m t (numbered_there c.args.link.now c.requires.sound c.args.module.now c.requires.inside c.table_at-table.result.now c.table_at-table.ensures) (marked_there c.args.link.now c.requires.sound c.args.module.now c.requires.inside) xs all c.loop-index.index c.declaration-item.result c.declarations-rows.result.now row c.index-marks.result.now ms
     c.loop-index-test.true c.declarations-rows.ensures c.declaration-item.is c.index-rows-index.is c.index-marks.ensures c.deref.ensures.value in
-    adds_next c.args.link.now c.requires.sound m t c.module_table-table.ensures.numbered c.args.parts.now c.loop-index.parts c.add_declaration.new.parts c.loop-index.index _ row ms one c.loop-index.invariant (c.add_declaration.ensures (search rules))
+    adds_next c.args.link.now c.requires.sound m t (numbered_there c.args.link.now c.requires.sound c.args.module.now c.requires.inside c.table_at-table.result.now c.table_at-table.ensures) c.args.parts.now c.loop-index.parts c.add_declaration.new.parts c.loop-index.index _ row ms one c.loop-index.invariant (c.add_declaration.ensures (search rules))
 
 pub returns : goal.returns
 returns c = λ h.
@@ -73,6 +74,6 @@ returns c = λ h.
     let m = c.args.module.now in
     let xs = c.deref-declaration-items.result.now in
     let all = declarations_are m c.global_declarations-nodes.result.now xs c.global_declarations-nodes.ensures.declarations c.deref-declaration-items.ensures.value in
-    let many = placed_many (numbering l.numbers) m c.module_table-table.result.now c.module_table-table.ensures.numbered c.module_table-table.ensures.marked xs all in
+    let many = placed_many (numbering l.numbers) m c.table_at-table.result.now (numbered_there c.args.link.now c.requires.sound c.args.module.now c.requires.inside c.table_at-table.result.now c.table_at-table.ensures) (marked_there c.args.link.now c.requires.sound c.args.module.now c.requires.inside) xs all in
     let done = take_all c.loop-index.index (placed (module_of m)) (rw many c.loop-index-test.false) in
     subst (λ (ds : List Placed). Adds l ds c.args.parts.now c.loop-index.parts) done c.loop-index.invariant

@@ -31,7 +31,7 @@ linked_unit-requires c =
     let nodes = c.in_ok-nodes.field-0.nodes.items in
     let words = map denotation_view c.in_ok-nodes.field-0.words.items in
     let us = map (λ u. unit_view u.now) c.deref-2.result.now in
-    let units = ap (map (λ u. unit_view u.now)) c.deref-2.ensures.value ∙ c.in_ok-units.ensures.units ∙ ap (λ ms. map (λ m. unit_view m.unit) (l.root ∷ ms)) c.deref.ensures.value in
+    let units = ap (map (λ u. unit_view u.now)) c.deref-2.ensures.value ∙ c.in_ok-units.ensures ∙ ap (λ ms. map (λ m. unit_view m.unit) (l.root ∷ ms)) c.deref.ensures.value in
     let start : Parts = record { declarations = c.new.result; denotations = c.in_ok-nodes.field-0.words } in
     let all : AreParts l (all_loaded l) words parts = c.add_modules.ensures (search rules) words (parts_none l words start c.new.ensures.items refl) in
     let to : nodes_of c.deref-3.result.now c.deref-4.result.now ≡ nodes_of nodes parts.declarations.items = ap (λ ns. nodes_of ns c.deref-4.result.now) c.deref-3.ensures.value ∙ ap (nodes_of nodes) c.deref-4.ensures.value in
@@ -47,7 +47,7 @@ returns-clause-assembled c =
     let nodes = c.in_ok-nodes.field-0.nodes.items in
     let words = map denotation_view c.in_ok-nodes.field-0.words.items in
     let us = map (λ u. unit_view u.now) c.deref-2.result.now in
-    let units = ap (map (λ u. unit_view u.now)) c.deref-2.ensures.value ∙ c.in_ok-units.ensures.units ∙ ap (λ ms. map (λ m. unit_view m.unit) (l.root ∷ ms)) c.deref.ensures.value in
+    let units = ap (map (λ u. unit_view u.now)) c.deref-2.ensures.value ∙ c.in_ok-units.ensures ∙ ap (λ ms. map (λ m. unit_view m.unit) (l.root ∷ ms)) c.deref.ensures.value in
     let start : Parts = record { declarations = c.new.result; denotations = c.in_ok-nodes.field-0.words } in
     let all : AreParts l (all_loaded l) words parts = c.add_modules.ensures (search rules) words (parts_none l words start c.new.ensures.items refl) in
     let to : nodes_of c.deref-3.result.now c.deref-4.result.now ≡ nodes_of nodes parts.declarations.items = ap (λ ns. nodes_of ns c.deref-4.result.now) c.deref-3.ensures.value ∙ ap (nodes_of nodes) c.deref-4.ensures.value in

@@ -21,5 +21,5 @@ loop-module-preserved c =
     (λ bs. map-append (λ (x : LoadedModule). unit_view x.unit) bs (m ∷ [])) c.loop-module.invariant
     (pushed c.loop-module.units.items c.push-in-loop-module.new.self.items _ c.push-in-loop-module.result (search rules) c.push-in-loop-module.ensures.items)
 
-pub returns-clause-units : goal.returns-clause-units
-returns-clause-units c = c.loop-module.invariant ∙ ap (λ ms. told (c.args.root.now ∷ ms)) (take_all c.loop-module.module-index c.args.others.now c.loop-module-test.false)
+pub returns : goal.returns
+returns c = c.loop-module.invariant ∙ ap (λ ms. told (c.args.root.now ∷ ms)) (take_all c.loop-module.module-index c.args.others.now c.loop-module-test.false)

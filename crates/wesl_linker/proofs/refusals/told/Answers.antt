@@ -7,20 +7,20 @@ use Rattle.wesl_table.specs.NumbersView.{numbering}
 use Rattle.wesl_linker.specs.Refusal.{Tells}
 use Rattle.wesl_linker.proofs.refusals.told.Goals as goal
 
-pub returns-in_ok-name-in-DuplicateSymbol-clause-told : goal.returns-in_ok-name-in-DuplicateSymbol-clause-told
-returns-in_ok-name-in-DuplicateSymbol-clause-told c =
+pub returns-in_ok-name-in-DuplicateSymbol : goal.returns-in_ok-name-in-DuplicateSymbol
+returns-in_ok-name-in-DuplicateSymbol c =
     let e = error.Import (import_error.DuplicateSymbol c.in_ok-name-in-DuplicateSymbol.name) in
     subst (λ (f : LinkError resolve_error.ResolveError). Tells (numbering c.args.numbers.now) f e) (sym c.in-DuplicateSymbol.is)
-    (c.in_ok-name-in-DuplicateSymbol.name, refl, c.in_ok-name-in-DuplicateSymbol.ensures.told)
+    (c.in_ok-name-in-DuplicateSymbol.name, refl, c.in_ok-name-in-DuplicateSymbol.ensures)
 
-pub returns-in_ok-name-in-MissingDecl-clause-told : goal.returns-in_ok-name-in-MissingDecl-clause-told
-returns-in_ok-name-in-MissingDecl-clause-told c =
+pub returns-in_ok-name-in-MissingDecl : goal.returns-in_ok-name-in-MissingDecl
+returns-in_ok-name-in-MissingDecl c =
     let e = error.Import (import_error.MissingDecl c.in_ok-path-in-MissingDecl.path c.in_ok-name-in-MissingDecl.name) in
     subst (λ (f : LinkError resolve_error.ResolveError). Tells (numbering c.args.numbers.now) f e) (sym c.in-MissingDecl.is)
-    (c.in_ok-path-in-MissingDecl.path, c.in_ok-name-in-MissingDecl.name, refl, c.in_ok-path-in-MissingDecl.ensures.told, c.in_ok-name-in-MissingDecl.ensures.told)
+    (c.in_ok-path-in-MissingDecl.path, c.in_ok-name-in-MissingDecl.name, refl, c.in_ok-path-in-MissingDecl.ensures, c.in_ok-name-in-MissingDecl.ensures)
 
-pub returns-in_ok-path-in-Private-clause-told : goal.returns-in_ok-path-in-Private-clause-told
-returns-in_ok-path-in-Private-clause-told c =
+pub returns-in_ok-path-in-Private : goal.returns-in_ok-path-in-Private
+returns-in_ok-path-in-Private c =
     let e = error.Import (import_error.Private c.in_ok-name-in-Private.name c.in_ok-path-in-Private.path) in
     subst (λ (f : LinkError resolve_error.ResolveError). Tells (numbering c.args.numbers.now) f e) (sym c.in-Private.is)
-    (c.in_ok-name-in-Private.name, c.in_ok-path-in-Private.path, refl, c.in_ok-name-in-Private.ensures.told, c.in_ok-path-in-Private.ensures.told)
+    (c.in_ok-name-in-Private.name, c.in_ok-path-in-Private.path, refl, c.in_ok-name-in-Private.ensures, c.in_ok-path-in-Private.ensures)

@@ -23,7 +23,9 @@ use Rattle.wesl_linker.specs.Worlds.{IsRefused}
 use Rattle.wesl_linker.proofs.Found.{kept_left, once_left, some_left}
 use Rattle.wesl_linker.proofs.Sound as sound
 use Rattle.wesl_linker.proofs.Reaching.{reach_numbers, reach_refused}
-use Rattle.wesl_linker.proofs.Refusing.{told_or_short}
+use Rattle.std.proofs.lemmas.Result.{IfOk-weaker, IfErr-weaker}
+use Rattle.wesl_linker.proofs.Holding.{found_by, sound_by}
+use Rattle.wesl_linker.proofs.Refusing.{told_or_short, memory_told}
 use Rattle.wesl_linker.proofs.Readying.{keeps_nothing, ready_table}
 use Rattle.wesl_linker.proofs.resolve.reach_modules.Goals as goal
 
@@ -35,8 +37,8 @@ linked_by-requires-clause-ready g c =
     ready_table ((g.R.Resolver.ready c.args.modules.now.resolver.now × StaysOne g.R.Resolver.hands g.R.Resolver.refuses g.R.Resolver.source g.R.Resolver.lacks g.R.Resolver.shown g.S.Source.these g.S.Source.loan c.args.modules.now.resolver.now c.args.modules.now.resolver.ghost_name) × Keeps (g.R.Resolver.hands c.args.modules.now.resolver.now) (g.R.Resolver.refuses c.args.modules.now.resolver.now) g.S.Source.hands g.S.Source.refuses g.S.Source.first first c.args.modules.now.units.now.entries) ((c.requires.ready, c.requires.stays), start) first c.args.table
     (table_at (path_view c.args.root.path) (spelled (unit_view c.args.root.unit))) c.requires.root
 
-pub link_of-requires-clause-some : goal.link_of-requires-clause-some
-link_of-requires-clause-some g c =
+pub found_of-requires-clause-some : goal.found_of-requires-clause-some
+found_of-requires-clause-some g c =
     let first = numbering c.args.modules.now.numbers.now in
     let start : Keeps (g.R.Resolver.hands c.args.modules.now.resolver.now) (g.R.Resolver.refuses c.args.modules.now.resolver.now) g.S.Source.hands g.S.Source.refuses g.S.Source.first first c.args.modules.now.units.now.entries =
     keeps_nothing (g.R.Resolver.hands c.args.modules.now.resolver.now) g.S.Source.hands (g.R.Resolver.refuses c.args.modules.now.resolver.now) g.S.Source.refuses g.S.Source.first first c.args.modules.now.units.now.entries c.requires.follows c.requires.first c.requires.nothing in
@@ -55,8 +57,8 @@ link_of-requires-clause-some g c =
     let is = linked.root_first.1 in
     some_left first nb grown g.S.Source.hands g.S.Source.refuses end.units.now.entries kept.one_unit c.args.table rm c.requires.root numbers.paths.different numbers.names.different numbers.paths.asked c.args.root.kept.items c.requires.kept.0 c.requires.kept.1 c.args.root.is_eager c.args.max_modules c.in-Ok.linked linked ts is
 
-pub link_of-requires-clause-left : goal.link_of-requires-clause-left
-link_of-requires-clause-left g c =
+pub found_of-requires-clause-left : goal.found_of-requires-clause-left
+found_of-requires-clause-left g c =
     let first = numbering c.args.modules.now.numbers.now in
     let start : Keeps (g.R.Resolver.hands c.args.modules.now.resolver.now) (g.R.Resolver.refuses c.args.modules.now.resolver.now) g.S.Source.hands g.S.Source.refuses g.S.Source.first first c.args.modules.now.units.now.entries =
     keeps_nothing (g.R.Resolver.hands c.args.modules.now.resolver.now) g.S.Source.hands (g.R.Resolver.refuses c.args.modules.now.resolver.now) g.S.Source.refuses g.S.Source.first first c.args.modules.now.units.now.entries c.requires.follows c.requires.first c.requires.nothing in
@@ -75,8 +77,8 @@ link_of-requires-clause-left g c =
     let is = linked.root_first.1 in
     kept_left first nb grown g.S.Source.hands g.S.Source.refuses end.units.now.entries kept.one_unit c.args.table rm c.requires.root numbers.paths.different numbers.names.different numbers.paths.asked c.args.root.kept.items c.requires.kept.0 c.requires.kept.1 c.args.root.is_eager c.args.max_modules c.in-Ok.linked linked ts is
 
-pub link_of-requires-clause-once : goal.link_of-requires-clause-once
-link_of-requires-clause-once g c =
+pub found_of-requires-clause-once : goal.found_of-requires-clause-once
+found_of-requires-clause-once g c =
     let first = numbering c.args.modules.now.numbers.now in
     let start : Keeps (g.R.Resolver.hands c.args.modules.now.resolver.now) (g.R.Resolver.refuses c.args.modules.now.resolver.now) g.S.Source.hands g.S.Source.refuses g.S.Source.first first c.args.modules.now.units.now.entries =
     keeps_nothing (g.R.Resolver.hands c.args.modules.now.resolver.now) g.S.Source.hands (g.R.Resolver.refuses c.args.modules.now.resolver.now) g.S.Source.refuses g.S.Source.first first c.args.modules.now.units.now.entries c.requires.follows c.requires.first c.requires.nothing in
@@ -95,30 +97,6 @@ link_of-requires-clause-once g c =
     let is = linked.root_first.1 in
     once_left first nb grown g.S.Source.hands g.S.Source.refuses end.units.now.entries kept.one_unit c.args.table rm c.requires.root numbers.paths.different numbers.names.different numbers.paths.asked c.args.root.kept.items c.requires.kept.0 c.requires.kept.1 c.args.root.is_eager c.args.max_modules c.in-Ok.linked linked ts is
 
-pub of_link-requires : goal.of_link-requires
-of_link-requires g c =
-    let first = numbering c.args.modules.now.numbers.now in
-    let start : Keeps (g.R.Resolver.hands c.args.modules.now.resolver.now) (g.R.Resolver.refuses c.args.modules.now.resolver.now) g.S.Source.hands g.S.Source.refuses g.S.Source.first first c.args.modules.now.units.now.entries =
-    keeps_nothing (g.R.Resolver.hands c.args.modules.now.resolver.now) g.S.Source.hands (g.R.Resolver.refuses c.args.modules.now.resolver.now) g.S.Source.refuses g.S.Source.first first c.args.modules.now.units.now.entries c.requires.follows c.requires.first c.requires.nothing in
-    let end = c.linked_by.new.loader in
-    let there = (c.linked_by.ensures.adds.ready c.args.table.path ((path_view c.args.root.path, c.requires.root.path), ((c.requires.ready, c.requires.stays), start))).1 in
-    let numbers = c.in_ok-link-in-Ok.link.numbers in
-    let told : numbering c.replace-numbers.result ≡ numbering_of_texts numbers = sym c.in_ok-link-in-Ok.ensures.texts in
-    let moved : numbering end.numbers.now ≡ numbering_of_texts numbers = sym (ap numbering c.replace-numbers.ensures.value) ∙ told in
-    let nb = numbering_of_texts numbers in
-    let kept : Keeps (g.R.Resolver.hands end.resolver.now) (g.R.Resolver.refuses end.resolver.now) g.S.Source.hands g.S.Source.refuses g.S.Source.first nb end.units.now.entries =
-    subst (λ (n : Numbering). Keeps (g.R.Resolver.hands end.resolver.now) (g.R.Resolver.refuses end.resolver.now) g.S.Source.hands g.S.Source.refuses g.S.Source.first n end.units.now.entries) moved there.1 in
-    let grown : Grows first nb = subst (λ (x : Numbering). Grows x nb) c.requires.first kept.grows in
-    let rm = module_at c.args.root.path c.args.root.unit in
-    let named = c.in-Ok.ensures.linked in
-    let linked = subst (λ (n : Numbering). IsLinked (IsHandedTable g.S.Source.hands n end.units.now.entries) (IsRefusedPath g.S.Source.refuses n) c.args.table (task_of c.args.table c.args.root.kept.items c.args.root.is_eager) c.args.max_modules c.in-Ok.linked) moved named in
-    let ts = linked.root_first.0 in
-    let is = linked.root_first.1 in
-    let l = c.in_ok-link-in-Ok.link in
-    let (ms, rel, same, sorted) = c.in_ok-link-in-Ok.ensures.found in
-    let taken : AreRelated (IsTaken nb end.units.now.entries ts) ts ms = subst (λ (xs : List (Table PathId NameId)). AreRelated (IsTaken nb end.units.now.entries (drop 1 xs)) (drop 1 xs) ms) is (subst (λ (n : Numbering). AreRelated (IsTaken n end.units.now.entries (drop 1 c.in-Ok.linked.tables)) (drop 1 c.in-Ok.linked.tables) ms) told rel) in
-    record { sound = subst (λ (x : Link). IsLinkOf (task_in x) x) (sym c.in_ok-link-in-Ok.ensures.rest) (sound.sound numbers first grown g.S.Source.hands g.S.Source.refuses end.units.now.entries kept.one_unit kept.handed_out c.args.table c.args.root.path c.args.root.unit c.args.root.marks c.requires.root c.requires.marked c.args.root.kept c.requires.kept.0 c.requires.kept.1 c.args.root.is_eager c.args.max_modules c.in-Ok.linked linked ts is ms l.others taken same) }
-
 pub error_of-requires : goal.error_of-requires
 error_of-requires g c =
     let first = numbering c.args.modules.now.numbers.now in
@@ -132,37 +110,40 @@ error_of-requires g c =
     let rm = module_at c.args.root.path c.args.root.unit in
     reach_numbers first nb grown g.S.Source.hands g.S.Source.refuses end.units.now.entries kept.one_unit c.args.table rm c.requires.root end.numbers.now.paths.different end.numbers.now.names.different end.numbers.now.paths.asked c.args.root.kept.items c.requires.kept.0 c.requires.kept.1 c.args.root.is_eager c.args.max_modules c.in-Err.fault c.in-Err.ensures.refused
 
-pub returns-in_ok-link-in-Ok-clause-reached : goal.returns-in_ok-link-in-Ok-clause-reached
-returns-in_ok-link-in-Ok-clause-reached g c =
+pub returns-in-Ok-clause-reached : goal.returns-in-Ok-clause-reached
+returns-in-Ok-clause-reached g c = IfOk-weaker c.found_of.result _ _ (λ r h.
     let first = numbering c.args.modules.now.numbers.now in
     let start : Keeps (g.R.Resolver.hands c.args.modules.now.resolver.now) (g.R.Resolver.refuses c.args.modules.now.resolver.now) g.S.Source.hands g.S.Source.refuses g.S.Source.first first c.args.modules.now.units.now.entries =
     keeps_nothing (g.R.Resolver.hands c.args.modules.now.resolver.now) g.S.Source.hands (g.R.Resolver.refuses c.args.modules.now.resolver.now) g.S.Source.refuses g.S.Source.first first c.args.modules.now.units.now.entries c.requires.follows c.requires.first c.requires.nothing in
     let end = c.linked_by.new.loader in
     let there = (c.linked_by.ensures.adds.ready c.args.table.path ((path_view c.args.root.path, c.requires.root.path), ((c.requires.ready, c.requires.stays), start))).1 in
-    let numbers = c.in_ok-link-in-Ok.link.numbers in
-    let told : numbering c.replace-numbers.result ≡ numbering_of_texts numbers = sym c.in_ok-link-in-Ok.ensures.texts in
+    let l = h.link in
+    let numbers = l.numbers in
+    let told : numbering c.replace-numbers.result ≡ numbering_of_texts numbers = sym h.texts in
     let moved : numbering end.numbers.now ≡ numbering_of_texts numbers = sym (ap numbering c.replace-numbers.ensures.value) ∙ told in
     let nb = numbering_of_texts numbers in
     let kept : Keeps (g.R.Resolver.hands end.resolver.now) (g.R.Resolver.refuses end.resolver.now) g.S.Source.hands g.S.Source.refuses g.S.Source.first nb end.units.now.entries =
     subst (λ (n : Numbering). Keeps (g.R.Resolver.hands end.resolver.now) (g.R.Resolver.refuses end.resolver.now) g.S.Source.hands g.S.Source.refuses g.S.Source.first n end.units.now.entries) moved there.1 in
     let grown : Grows first nb = subst (λ (x : Numbering). Grows x nb) c.requires.first kept.grows in
-    let rm = module_at c.args.root.path c.args.root.unit in
     let named = c.in-Ok.ensures.linked in
     let linked = subst (λ (n : Numbering). IsLinked (IsHandedTable g.S.Source.hands n end.units.now.entries) (IsRefusedPath g.S.Source.refuses n) c.args.table (task_of c.args.table c.args.root.kept.items c.args.root.is_eager) c.args.max_modules c.in-Ok.linked) moved named in
     let ts = linked.root_first.0 in
     let is = linked.root_first.1 in
-    let l = c.in_ok-link-in-Ok.link in
-    let (ms, rel, same, sorted) = c.in_ok-link-in-Ok.ensures.found in
+    let (ms, rel, same, sorted) = h.others in
     let taken : AreRelated (IsTaken nb end.units.now.entries ts) ts ms = subst (λ (xs : List (Table PathId NameId)). AreRelated (IsTaken nb end.units.now.entries (drop 1 xs)) (drop 1 xs) ms) is (subst (λ (n : Numbering). AreRelated (IsTaken n end.units.now.entries (drop 1 c.in-Ok.linked.tables)) (drop 1 c.in-Ok.linked.tables) ms) told rel) in
-    let found = subst (λ (x : Link). IsFoundBy x (resolved c.of_link.result)) c.in_ok-link-in-Ok.ensures.rest c.of_link.ensures.found in
+    let by_link = found_by r l h.holds h.none_given in
+    let found = subst (λ (x : Link). IsFoundBy x (resolved r)) h.rest by_link in
     record {
-      linked = λ keep kept_so. sound.linked_told numbers first grown g.S.Source.hands g.S.Source.refuses end.units.now.entries kept.one_unit kept.handed_out c.args.table c.args.root.path c.args.root.unit c.args.root.marks c.requires.root c.requires.marked c.args.root.kept keep kept_so c.args.root.is_eager c.args.max_modules c.in-Ok.linked linked ts is ms l.others taken same (resolved c.of_link.result) found;
-      order = sound.order_told numbers first grown g.S.Source.hands g.S.Source.refuses end.units.now.entries kept.one_unit kept.handed_out c.args.table c.args.root.path c.args.root.unit c.args.root.marks c.requires.root c.requires.marked c.args.root.kept c.requires.kept.0 c.requires.kept.1 c.args.root.is_eager c.args.max_modules c.in-Ok.linked linked ts is ms l.others taken same (resolved c.of_link.result) found sorted;
-      kept = λ keep kept_so. sound.kept_told numbers first grown g.S.Source.hands g.S.Source.refuses end.units.now.entries kept.one_unit kept.handed_out c.args.table c.args.root.path c.args.root.unit c.args.root.marks c.requires.root c.requires.marked c.args.root.kept keep kept_so c.args.root.is_eager c.args.max_modules c.in-Ok.linked linked ts is ms l.others taken same (resolved c.of_link.result) found;
-      eager = c.of_link.ensures.found.eager ∙ ap (λ (x : Link). x.is_eager) c.in_ok-link-in-Ok.ensures.rest;
-      sound = c.of_link.ensures.sound;
-      names = c.of_link.ensures.found.names;
-    }
+      linked = λ keep kept_so. sound.linked_told numbers first grown g.S.Source.hands g.S.Source.refuses end.units.now.entries kept.one_unit kept.handed_out c.args.table c.args.root.path c.args.root.unit c.args.root.marks c.requires.root c.requires.marked c.args.root.kept keep kept_so c.args.root.is_eager c.args.max_modules c.in-Ok.linked linked ts is ms l.others taken same (resolved r) found;
+      order = sound.order_told numbers first grown g.S.Source.hands g.S.Source.refuses end.units.now.entries kept.one_unit kept.handed_out c.args.table c.args.root.path c.args.root.unit c.args.root.marks c.requires.root c.requires.marked c.args.root.kept c.requires.kept.0 c.requires.kept.1 c.args.root.is_eager c.args.max_modules c.in-Ok.linked linked ts is ms l.others taken same (resolved r) found sorted;
+      kept = λ keep kept_so. sound.kept_told numbers first grown g.S.Source.hands g.S.Source.refuses end.units.now.entries kept.one_unit kept.handed_out c.args.table c.args.root.path c.args.root.unit c.args.root.marks c.requires.root c.requires.marked c.args.root.kept keep kept_so c.args.root.is_eager c.args.max_modules c.in-Ok.linked linked ts is ms l.others taken same (resolved r) found;
+      eager = by_link.eager ∙ ap (λ (x : Link). x.is_eager) h.rest;
+      sound = sound_by r l h.holds (subst (λ (x : Link). IsLinkOf (task_in x) x) (sym h.rest) (sound.sound numbers first grown g.S.Source.hands g.S.Source.refuses end.units.now.entries kept.one_unit kept.handed_out c.args.table c.args.root.path c.args.root.unit c.args.root.marks c.requires.root c.requires.marked c.args.root.kept c.requires.kept.0 c.requires.kept.1 c.args.root.is_eager c.args.max_modules c.in-Ok.linked linked ts is ms l.others taken same));
+      names = by_link.names;
+    }) c.found_of.ensures.found
+
+pub returns-in-Ok-clause-refused : goal.returns-in-Ok-clause-refused
+returns-in-Ok-clause-refused g c = λ keep same. IfErr-weaker c.found_of.result _ _ (λ e h. memory_told (IsRefused g.S.Source.hands g.S.Source.refuses (module_at c.args.root.path c.args.root.unit) (worlds.task_of (module_at c.args.root.path c.args.root.unit) keep c.args.root.is_eager) c.args.max_modules) e h) c.found_of.ensures.refused
 
 pub returns-in-Err-clause-refused : goal.returns-in-Err-clause-refused
 returns-in-Err-clause-refused g c =
@@ -177,8 +158,8 @@ returns-in-Err-clause-refused g c =
     let rm = module_at c.args.root.path c.args.root.unit in
     λ keep same. told_or_short (IsRefused g.S.Source.hands g.S.Source.refuses rm (worlds.task_of rm keep c.args.root.is_eager) c.args.max_modules) c.error_of.result (Tells nb c.in-Err.fault c.error_of.result) c.error_of.ensures (reach_refused first nb grown g.S.Source.hands g.S.Source.refuses end.units.now.entries kept.one_unit c.args.table rm c.requires.root end.numbers.now.paths.different end.numbers.now.names.different end.numbers.now.paths.asked c.args.root.kept.items keep same c.args.root.is_eager c.args.max_modules c.in-Err.fault c.error_of.result c.in-Err.ensures.refused)
 
-pub returns-in_err-link-in-Ok-clause-these : goal.returns-in_err-link-in-Ok-clause-these
-returns-in_err-link-in-Ok-clause-these g c =
+pub returns-in-Ok-clause-these : goal.returns-in-Ok-clause-these
+returns-in-Ok-clause-these g c =
     let first = numbering c.args.modules.now.numbers.now in
     let start : Keeps (g.R.Resolver.hands c.args.modules.now.resolver.now) (g.R.Resolver.refuses c.args.modules.now.resolver.now) g.S.Source.hands g.S.Source.refuses g.S.Source.first first c.args.modules.now.units.now.entries =
     keeps_nothing (g.R.Resolver.hands c.args.modules.now.resolver.now) g.S.Source.hands (g.R.Resolver.refuses c.args.modules.now.resolver.now) g.S.Source.refuses g.S.Source.first first c.args.modules.now.units.now.entries c.requires.follows c.requires.first c.requires.nothing in
@@ -186,8 +167,8 @@ returns-in_err-link-in-Ok-clause-these g c =
     let there = (c.linked_by.ensures.adds.ready c.args.table.path ((path_view c.args.root.path, c.requires.root.path), ((c.requires.ready, c.requires.stays), start))).1 in
     there.0.1.here
 
-pub returns-in_err-link-in-Ok-clause-stays_ready : goal.returns-in_err-link-in-Ok-clause-stays_ready
-returns-in_err-link-in-Ok-clause-stays_ready g c =
+pub returns-in-Ok-clause-stays_ready : goal.returns-in-Ok-clause-stays_ready
+returns-in-Ok-clause-stays_ready g c =
     let first = numbering c.args.modules.now.numbers.now in
     let start : Keeps (g.R.Resolver.hands c.args.modules.now.resolver.now) (g.R.Resolver.refuses c.args.modules.now.resolver.now) g.S.Source.hands g.S.Source.refuses g.S.Source.first first c.args.modules.now.units.now.entries =
     keeps_nothing (g.R.Resolver.hands c.args.modules.now.resolver.now) g.S.Source.hands (g.R.Resolver.refuses c.args.modules.now.resolver.now) g.S.Source.refuses g.S.Source.first first c.args.modules.now.units.now.entries c.requires.follows c.requires.first c.requires.nothing in
@@ -195,35 +176,8 @@ returns-in_err-link-in-Ok-clause-stays_ready g c =
     let there = (c.linked_by.ensures.adds.ready c.args.table.path ((path_view c.args.root.path, c.requires.root.path), ((c.requires.ready, c.requires.stays), start))).1 in
     there.0.0
 
-pub returns-in_err-link-in-Ok-clause-loan : goal.returns-in_err-link-in-Ok-clause-loan
-returns-in_err-link-in-Ok-clause-loan g c =
-    let first = numbering c.args.modules.now.numbers.now in
-    let start : Keeps (g.R.Resolver.hands c.args.modules.now.resolver.now) (g.R.Resolver.refuses c.args.modules.now.resolver.now) g.S.Source.hands g.S.Source.refuses g.S.Source.first first c.args.modules.now.units.now.entries =
-    keeps_nothing (g.R.Resolver.hands c.args.modules.now.resolver.now) g.S.Source.hands (g.R.Resolver.refuses c.args.modules.now.resolver.now) g.S.Source.refuses g.S.Source.first first c.args.modules.now.units.now.entries c.requires.follows c.requires.first c.requires.nothing in
-    let end = c.linked_by.new.loader in
-    let there = (c.linked_by.ensures.adds.ready c.args.table.path ((path_view c.args.root.path, c.requires.root.path), ((c.requires.ready, c.requires.stays), start))).1 in
-    there.0.1.held ∙ sym c.requires.stays.held
-
-pub returns-in_ok-link-in-Ok-clause-these : goal.returns-in_ok-link-in-Ok-clause-these
-returns-in_ok-link-in-Ok-clause-these g c =
-    let first = numbering c.args.modules.now.numbers.now in
-    let start : Keeps (g.R.Resolver.hands c.args.modules.now.resolver.now) (g.R.Resolver.refuses c.args.modules.now.resolver.now) g.S.Source.hands g.S.Source.refuses g.S.Source.first first c.args.modules.now.units.now.entries =
-    keeps_nothing (g.R.Resolver.hands c.args.modules.now.resolver.now) g.S.Source.hands (g.R.Resolver.refuses c.args.modules.now.resolver.now) g.S.Source.refuses g.S.Source.first first c.args.modules.now.units.now.entries c.requires.follows c.requires.first c.requires.nothing in
-    let end = c.linked_by.new.loader in
-    let there = (c.linked_by.ensures.adds.ready c.args.table.path ((path_view c.args.root.path, c.requires.root.path), ((c.requires.ready, c.requires.stays), start))).1 in
-    there.0.1.here
-
-pub returns-in_ok-link-in-Ok-clause-stays_ready : goal.returns-in_ok-link-in-Ok-clause-stays_ready
-returns-in_ok-link-in-Ok-clause-stays_ready g c =
-    let first = numbering c.args.modules.now.numbers.now in
-    let start : Keeps (g.R.Resolver.hands c.args.modules.now.resolver.now) (g.R.Resolver.refuses c.args.modules.now.resolver.now) g.S.Source.hands g.S.Source.refuses g.S.Source.first first c.args.modules.now.units.now.entries =
-    keeps_nothing (g.R.Resolver.hands c.args.modules.now.resolver.now) g.S.Source.hands (g.R.Resolver.refuses c.args.modules.now.resolver.now) g.S.Source.refuses g.S.Source.first first c.args.modules.now.units.now.entries c.requires.follows c.requires.first c.requires.nothing in
-    let end = c.linked_by.new.loader in
-    let there = (c.linked_by.ensures.adds.ready c.args.table.path ((path_view c.args.root.path, c.requires.root.path), ((c.requires.ready, c.requires.stays), start))).1 in
-    there.0.0
-
-pub returns-in_ok-link-in-Ok-clause-loan : goal.returns-in_ok-link-in-Ok-clause-loan
-returns-in_ok-link-in-Ok-clause-loan g c =
+pub returns-in-Ok-clause-loan : goal.returns-in-Ok-clause-loan
+returns-in-Ok-clause-loan g c =
     let first = numbering c.args.modules.now.numbers.now in
     let start : Keeps (g.R.Resolver.hands c.args.modules.now.resolver.now) (g.R.Resolver.refuses c.args.modules.now.resolver.now) g.S.Source.hands g.S.Source.refuses g.S.Source.first first c.args.modules.now.units.now.entries =
     keeps_nothing (g.R.Resolver.hands c.args.modules.now.resolver.now) g.S.Source.hands (g.R.Resolver.refuses c.args.modules.now.resolver.now) g.S.Source.refuses g.S.Source.first first c.args.modules.now.units.now.entries c.requires.follows c.requires.first c.requires.nothing in

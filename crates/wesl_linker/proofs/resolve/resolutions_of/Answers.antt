@@ -1,4 +1,4 @@
-use Rattle.std.proofs.Common.{◌≡◌, Bool, false, sym, subst, ap, ◌∙◌}
+use Rattle.std.proofs.Common.{◌≡◌, Bool, false, refl, sym, subst, ap, ◌∙◌}
 use Rattle.wesl_base.specs.Borrowed.{texts}
 use Rattle.wesl_names.specs.Path.{is_relative}
 use Rattle.wesl_names.specs.declared.errors.Error as error
@@ -9,16 +9,17 @@ use Rattle.wesl_linker.specs.Resolved.{module_at}
 use Rattle.wesl_linker.specs.Keeping.{modules_of, turns_of}
 use Rattle.wesl_linker.specs.Worlds.{Module, task_of, IsLinked, IsModuleOrder, IsRefused}
 use Rattle.wesl_linker.proofs.Keeping.{none_related}
+use Rattle.wesl_linker.proofs.Readying.{means_itself, means_on}
 use Rattle.wesl_linker.proofs.resolve.resolutions_of.Goals as goal
 
-pub reach-requires-clause-asked : goal.reach-requires-clause-asked
-reach-requires-clause-asked g c = subst (λ (m : Module). is_relative m.path ≡ false) (sym c.in-Some.ensures.module) c.requires.asked
+pub reach_modules-requires-clause-asked : goal.reach_modules-requires-clause-asked
+reach_modules-requires-clause-asked g c = subst (λ (m : Module). is_relative m.path ≡ false) (sym c.in-Some.ensures.module) c.requires.asked
 
-pub reach-requires-clause-kept : goal.reach-requires-clause-kept
-reach-requires-clause-kept g c = (texts c.args.keep.now, c.in-Some.ensures.kept)
+pub reach_modules-requires-clause-kept : goal.reach_modules-requires-clause-kept
+reach_modules-requires-clause-kept g c = (texts c.args.keep.now, c.in-Some.ensures.kept)
 
-pub reach-requires-clause-none_kept : goal.reach-requires-clause-none_kept
-reach-requires-clause-none_kept g c = λ eager. none_related (NameAt (numbering c.root_of.new.numbers)) c.in-Some.tabled.root.kept.items (texts c.args.keep.now) c.in-Some.ensures.kept (c.requires.none_kept (sym c.in-Some.ensures.eager ∙ eager))
+pub reach_modules-requires-clause-none_kept : goal.reach_modules-requires-clause-none_kept
+reach_modules-requires-clause-none_kept g c = λ eager. none_related (NameAt (numbering c.root_of.new.numbers)) c.in-Some.tabled.root.kept.items (texts c.args.keep.now) c.in-Some.ensures.kept (c.requires.none_kept (sym c.in-Some.ensures.eager ∙ eager))
 
 pub returns-in-Ok-clause-linked : goal.returns-in-Ok-clause-linked
 returns-in-Ok-clause-linked g c =
@@ -41,8 +42,8 @@ returns-in-Ok-clause-kept g c = c.in-Ok.ensures.reached.kept (texts c.args.keep.
 pub returns-in-Ok-clause-eager : goal.returns-in-Ok-clause-eager
 returns-in-Ok-clause-eager g c = c.in-Ok.ensures.reached.eager ∙ c.in-Some.ensures.eager
 
-pub returns-in-Err-clause-refused : goal.returns-in-Err-clause-refused
-returns-in-Err-clause-refused g c =
+pub returns-clause-refused : goal.returns-clause-refused
+returns-clause-refused g c =
     let hands = g.R.Resolver.hands c.args.resolver.now in
     let refuses = g.R.Resolver.refuses c.args.resolver.now in
     let keep = texts c.args.keep.now in
@@ -59,3 +60,12 @@ returns-in-Ok-clause-sound g c = c.in-Ok.ensures.reached.sound
 
 pub returns-in-Ok-clause-names : goal.returns-in-Ok-clause-names
 returns-in-Ok-clause-names g c = c.in-Ok.ensures.reached.names
+
+pub reach_modules-requires-clause-stays : goal.reach_modules-requires-clause-stays
+reach_modules-requires-clause-stays g c =
+    let hands = g.R.Resolver.hands in
+    let refuses = g.R.Resolver.refuses in
+    let source = g.R.Resolver.source in
+    let lacks = g.R.Resolver.lacks in
+    let shown = g.R.Resolver.shown in
+    record { here = means_itself hands refuses source lacks shown c.args.resolver.now; on = λ a b m n. means_on hands refuses source lacks shown c.args.resolver.now a b m n; held = refl }

@@ -1,7 +1,10 @@
-use Rattle.std.proofs.Common.{◌≡◌, map, refl, ap, string_bytes}
+use Rattle.std.proofs.Common.{◌≡◌, map, refl, ap, inl, string_bytes, rules}
+use Rattle.std.proofs.lemmas.Result.{IfErr-weaker}
+use Rattle.wesl_names.specs.declared.errors.Error as error
 use Rattle.wesl_tree.specs.Translation.{unit_view}
 use Rattle.wesl_bundle.specs.Views.{bundle_view}
 use Rattle.wesl_source_map.specs.BasicView.{items}
+use Rattle.wesl_program.specs.Fault.{fault_of}
 use Rattle.wesl_program.specs.Hands.{unit_in}
 use Rattle.wesl_program.specs.Linking.{Kept}
 use Rattle.wesl_program.proofs.Mapped.{fault-from, linked-from}
@@ -37,3 +40,7 @@ returns-clause-refused c =
     } in
     let keep : map string_bytes c.deref.result.now ≡ map string_bytes c.args.bundle.keep.items = ap (map string_bytes) c.deref.ensures.value in
     fault-from b kept (map string_bytes c.deref.result.now) keep c.in-Err.error c.in-Err.ensures.refused
+
+pub returns-in_err-sources-clause-refused : goal.returns-in_err-sources-clause-refused
+returns-in_err-sources-clause-refused c =
+    IfErr-weaker c.from_residual.result (λ e. e ≡ error.Memory) _ (λ e is. inl (ap fault_of is)) (search rules)

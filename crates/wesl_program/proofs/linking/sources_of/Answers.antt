@@ -4,6 +4,7 @@ use Rattle.wesl_bundle.specs.PackageViews.{packages_of, package_view}
 use Rattle.wesl_bundle.specs.Views.{module_view}
 use Rattle.wesl_program.specs.Holds.{Holds}
 use Rattle.wesl_program.specs.PackageTexts.{ArePackagesOf}
+use Rattle.wesl_linker.proofs.Told.{ok_so}
 use Rattle.wesl_program.proofs.PackageTexts.{packages-more}
 use Rattle.wesl_program.proofs.linking.sources_of.Goals as goal
 
@@ -13,9 +14,9 @@ loop-package-preserved c =
     let one = c.in-Some.package in
     let before = l.sources.packages.packages.items in
     let same : c.add_package.new.self.local.modules ≡ l.sources.local.modules = search rules in
-    let more : ArePackagesOf (packages_of (map package_view l.yielded ++ package_view one ∷ [])) (before ++ c.in_ok-package_of.field-0 ∷ []) =
-    packages-more (map package_view l.yielded) before (package_view one) c.in_ok-package_of.field-0 l.invariant.1 c.in_ok-package_of.ensures.held in (
+    let more : ArePackagesOf (packages_of (map package_view l.yielded ++ package_view one ∷ [])) (before ++ c.in_ok-package.package ∷ []) =
+    packages-more (map package_view l.yielded) before (package_view one) c.in_ok-package.package l.invariant.1 c.in_ok-package.ensures.held in (
       subst (Holds (map module_view c.args.listed.items)) (sym same) l.invariant.0,
-      subst (ArePackagesOf (packages_of (map package_view (l.yielded ++ one ∷ [])))) (sym c.in_ok-add_package.ensures.added)
-          (subst (λ xs. ArePackagesOf (packages_of xs) (before ++ c.in_ok-package_of.field-0 ∷ [])) (sym (map-append package_view l.yielded (one ∷ []))) more),
+      subst (ArePackagesOf (packages_of (map package_view (l.yielded ++ one ∷ [])))) (sym (ok_so c.add_package.result (search rules) c.add_package.ensures.added))
+          (subst (λ xs. ArePackagesOf (packages_of xs) (before ++ c.in_ok-package.package ∷ [])) (sym (map-append package_view l.yielded (one ∷ []))) more),
     )

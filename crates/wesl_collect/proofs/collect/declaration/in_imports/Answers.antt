@@ -1,6 +1,7 @@
 use Rattle.std.proofs.Common.{arith, refl}
 use Rattle.wesl_syntax.specs.Tree.{at, import_node, imports, kind}
-use Rattle.wesl_collect.proofs.Adds.{inside, walked_all, walked_next, walked_none}
+use Rattle.wesl_collect.proofs.Adds.{alone, inside, walked_all, walked_next, walked_none}
+use Rattle.wesl_collect.proofs.Words.{import_found}
 use Rattle.wesl_collect.proofs.collect.declaration.in_imports.Goals as goal
 
 pub loop-import-init : goal.loop-import-init
@@ -9,7 +10,7 @@ loop-import-init g c =
 
 pub loop-import-preserved : goal.loop-import-preserved
 loop-import-preserved g c =
-    walked_next c.import-item.result (omega arith) c.import-item.is c.loop-import.invariant (inside (at import_node _ _) refl (λ f. refl) c.in_import.ensures)
+    walked_next c.import-item.result (omega arith) c.import-item.is c.loop-import.invariant (inside (at import_node _ _) refl (λ f. refl) (alone (λ deep. import_found g.T.Kind.sought deep c.import-item.result.node) c.enter.ensures))
 
 pub returns : goal.returns
 returns g c =

@@ -23,7 +23,7 @@ in_statement-returns-in-Assignment g t c =
 
 pub in_statement-returns-in-If : goal.in_statement-returns-in-If
 in_statement-returns-in-If g t c =
-    viewed (ap statement_view c.in-If.is ∙ view_If c.in-If.attributes c.in-If.if_clause c.in-If.else_if_clauses c.in-If.else_clause) (inside (kind if_statement) refl (λ f. refl) (beside c.at_attributes-in-If.ensures (beside c.in_if.ensures (beside (inside (kind list) refl (λ f. refl) c.in_else_ifs.ensures) c.in_optional_else.ensures))))
+    viewed (ap statement_view c.in-If.is ∙ view_If c.in-If.attributes c.in-If.if_clause c.in-If.else_if_clauses c.in-If.else_clause) (inside (kind if_statement) refl (λ f. refl) (beside c.at_attributes-in-If.ensures (beside (viewed (view_if c.in-If.if_clause) (inside (kind if_clause) refl (λ f. refl) (beside c.at_expression-in-If.ensures c.in_compound-in-If.ensures))) (beside (inside (kind list) refl (λ f. refl) c.in_else_ifs.ensures) c.in_optional_else.ensures))))
 
 pub in_statement-returns-in-Switch : goal.in_statement-returns-in-Switch
 in_statement-returns-in-Switch g t c =
@@ -61,21 +61,9 @@ pub in_compound-returns : goal.in_compound-returns
 in_compound-returns g t c =
     viewed (view_compound c.args.body.now) (inside (kind compound) refl (λ f. refl) (beside c.at_attributes.ensures (inside (kind statements) refl (λ f. refl) c.at_statements.ensures)))
 
-pub in_if-returns : goal.in_if-returns
-in_if-returns g t c =
-    viewed (view_if c.args.clause.now) (inside (kind if_clause) refl (λ f. refl) (beside c.at_expression.ensures c.in_compound.ensures))
-
-pub in_else_if-returns : goal.in_else_if-returns
-in_else_if-returns g t c =
-    viewed (view_else_if c.args.clause.now) (inside (kind else_if_clause) refl (λ f. refl) (beside c.at_attributes.ensures (beside c.at_expression.ensures c.in_compound.ensures)))
-
 pub in_else-returns : goal.in_else-returns
 in_else-returns g t c =
     viewed (view_else c.args.clause.now) (inside (kind else_clause) refl (λ f. refl) (beside c.at_attributes.ensures c.in_compound.ensures))
-
-pub in_clause-returns : goal.in_clause-returns
-in_clause-returns g t c =
-    viewed (view_clause c.args.clause.now) (inside (kind switch_clause) refl (λ f. refl) (beside c.at_attributes.ensures (beside (inside (kind list) refl (λ f. refl) c.in_selectors.ensures) c.in_compound.ensures)))
 
 pub in_optional_else-returns-in-None : goal.in_optional_else-returns-in-None
 in_optional_else-returns-in-None g t c =
@@ -100,7 +88,7 @@ in_else_ifs-loop-clause-init g t c =
 
 pub in_else_ifs-loop-clause-preserved : goal.in_else_ifs-loop-clause-preserved
 in_else_ifs-loop-clause-preserved g t c =
-    walked_next c.clause-item.result (omega arith) c.clause-item.is c.loop-clause.invariant c.in_else_if.ensures
+    walked_next c.clause-item.result (omega arith) c.clause-item.is c.loop-clause.invariant (viewed (view_else_if c.clause-item.result) (inside (kind else_if_clause) refl (λ f. refl) (beside c.at_attributes.ensures (beside c.at_expression.ensures c.in_compound.ensures))))
 
 pub in_else_ifs-returns : goal.in_else_ifs-returns
 in_else_ifs-returns g t c =
@@ -112,7 +100,7 @@ in_clauses-loop-clause-init g t c =
 
 pub in_clauses-loop-clause-preserved : goal.in_clauses-loop-clause-preserved
 in_clauses-loop-clause-preserved g t c =
-    walked_next c.clause-item.result (omega arith) c.clause-item.is c.loop-clause.invariant c.in_clause.ensures
+    walked_next c.clause-item.result (omega arith) c.clause-item.is c.loop-clause.invariant (viewed (view_clause c.clause-item.result) (inside (kind switch_clause) refl (λ f. refl) (beside c.at_attributes.ensures (beside (inside (kind list) refl (λ f. refl) c.in_selectors.ensures) c.in_compound.ensures))))
 
 pub in_clauses-returns : goal.in_clauses-returns
 in_clauses-returns g t c =

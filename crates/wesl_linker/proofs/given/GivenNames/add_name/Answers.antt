@@ -2,6 +2,7 @@ use Rattle.std.proofs.Common.{◌≡◌, true, false, Option, Some, None, is_som
 use Rattle.wesl_names.specs.Path.{path_view}
 use Rattle.wesl_linker.specs.GivenView.{given}
 use Rattle.wesl_linker.specs.Recorded.{written_unless}
+use Rattle.wesl_linker.proofs.Told.{ok_on}
 use Rattle.wesl_linker.proofs.Recording.{unless_some}
 use Rattle.wesl_linker.proofs.Giving.{others_stay, names_stay}
 use Rattle.wesl_linker.proofs.given.GivenNames.add_name.Goals as goal
@@ -19,7 +20,7 @@ returns-then-is_some-clause-recorded g c = unless_some (given c.args.self.now c.
 
 pub returns-clause-recorded : goal.returns-clause-recorded
 returns-clause-recorded g c = λ x.
-    c.in_ok-name.ensures.written x ∙ ap (λ o. written_unless o g.M.Mangler.writes (g.M.Mangler.name_of c.args.mangler.now (path_view c.args.path.now) c.args.item.now) (path_view c.args.path.now, c.args.item.now) (g.M.Mangler.recorded c.args.mangler.now) x)
+    ok_on c.mangle.result c.in-Some.name c.in-Some.ensures.value c.mangle.ensures.written x ∙ ap (λ o. written_unless o g.M.Mangler.writes (g.M.Mangler.name_of c.args.mangler.now (path_view c.args.path.now) c.args.item.now) (path_view c.args.path.now, c.args.item.now) (g.M.Mangler.recorded c.args.mangler.now) x)
     (sym (sym c.get.ensures ∙ none_of (λ x. x.now) c.get.result c.if-is_some.ensures))
 
 pub returns-clause-others : goal.returns-clause-others
@@ -29,3 +30,15 @@ pub returns-clause-keeps : goal.returns-clause-keeps
 returns-clause-keeps g c =
     names_stay (given c.args.self.now) _ c.args.symbol (λ s e. ap (option_map string_bytes) (c.in_ok-insert.ensures.updates.2 s e))
     (sym c.get.ensures ∙ none_of (λ x. x.now) c.get.result c.if-is_some.ensures)
+
+pub returns-then-is_some-clause-others : goal.returns-then-is_some-clause-others
+returns-then-is_some-clause-others g c = λ s e. refl
+
+pub returns-then-is_some-clause-keeps : goal.returns-then-is_some-clause-keeps
+returns-then-is_some-clause-keeps g c = λ s x h. h
+
+pub returns-in_default-clause-others : goal.returns-in_default-clause-others
+returns-in_default-clause-others g c = λ s e. refl
+
+pub returns-in_default-clause-keeps : goal.returns-in_default-clause-keeps
+returns-in_default-clause-keeps g c = λ s x h. h

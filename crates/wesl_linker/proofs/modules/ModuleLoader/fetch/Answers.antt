@@ -1,9 +1,11 @@
-use Rattle.wesl_names.specs.Path.{path_view}
+use Rattle.std.proofs.Common.{◌≡◌}
+use Rattle.wesl_names.specs.Path.{Text, Path, path_view}
 use Rattle.wesl_syntax.specs.Unit.{spelled}
 use Rattle.wesl_tree.specs.Translation.{unit_view}
 use Rattle.wesl_symbols.specs.declared.ids.PathId.{PathId}
 use Rattle.wesl_symbols.specs.declared.ids.NameId.{NameId}
 use Rattle.wesl_symbols.specs.Tables.{Table}
+use Rattle.wesl_table.specs.Numbering.{IsNumbered}
 use Rattle.wesl_table.specs.NumbersView.{numbering}
 use Rattle.wesl_table.proofs.Related.{path_later}
 use Rattle.wesl_linker.specs.Handing.{IsHandedTable, KeepsUnit}
@@ -29,3 +31,18 @@ returns-in-Ok-clause-keeps g c =
     keeps_kept (g.R.Resolver.hands c.args.self.now.resolver.now) (g.R.Resolver.hands c.resolve_module.new.self) g.S.Source.hands (g.R.Resolver.refuses c.args.self.now.resolver.now) (g.R.Resolver.refuses c.resolve_module.new.self) g.S.Source.refuses g.S.Source.first
     (numbering c.args.self.now.numbers.now) (numbering c.keep.new.numbers) c.args.self.now.units.now.entries c.keep.new.units.entries c.args.id c.in-Ok.unit (path_view c.args.path.now) c.requires.keeps c.resolve_module.ensures.same.units
     c.resolve_module.ensures.same.faults c.keep.ensures.grows c.requires.held c.in-Ok.ensures.handed c.keep.result c.keep.ensures.kept c.keep.ensures.unchanged
+
+pub returns-in-Ok-clause-path : goal.returns-in-Ok-clause-path
+returns-in-Ok-clause-path g c =
+    in_ok (λ (t : Table PathId NameId). KeepsUnit (numbering c.keep.new.numbers) c.args.self.now.units.now.entries c.args.id (path_view c.args.path.now) c.in-Ok.unit t c.keep.new.units.entries) (λ t. t.path ≡ c.args.id) c.keep.result (λ t h. h.path) c.keep.ensures.kept
+
+pub returns-in-Ok-clause-numbered : goal.returns-in-Ok-clause-numbered
+returns-in-Ok-clause-numbered g c =
+    in_ok (λ (t : Table PathId NameId). KeepsUnit (numbering c.keep.new.numbers) c.args.self.now.units.now.entries c.args.id (path_view c.args.path.now) c.in-Ok.unit t c.keep.new.units.entries)
+    (λ t. (u : Table Path Text) × IsNumbered (numbering c.keep.new.numbers) t u) c.keep.result (λ t h. (_, h.numbered)) c.keep.ensures.kept
+
+pub keep-requires-clause-held : goal.keep-requires-clause-held
+keep-requires-clause-held g c = c.requires.held
+
+pub keep-requires-clause-asked : goal.keep-requires-clause-asked
+keep-requires-clause-asked g c = c.requires.asked

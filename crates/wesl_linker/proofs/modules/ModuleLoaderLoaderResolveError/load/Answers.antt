@@ -9,52 +9,66 @@ use Rattle.wesl_world.specs.Loader.{IsReady}
 use Rattle.wesl_table.specs.Tables.{table_at}
 use Rattle.wesl_table.specs.Numbering.{PathAt, IsNumbered}
 use Rattle.wesl_table.specs.NumbersView.{numbering}
-use Rattle.wesl_linker.specs.Handing.{Keeps, StaysOne, IsReadyPath, IsHandedTable}
+use Rattle.wesl_table.specs.declared.table.Tabled.{Tabled}
+use Rattle.wesl_linker.specs.Handing.{Keeps, StaysOne, IsReadyPath}
 use Rattle.wesl_names.specs.declared.path.ModulePath.{ModulePath}
 use Rattle.wesl_linker.proofs.Told.{ok_told}
 use Rattle.wesl_linker.proofs.Built.{path_asked}
 use Rattle.wesl_linker.proofs.Readying.{keeps_on, stays_on, adds_more, ready_table, handed_again, in_ok, itself}
 use Rattle.wesl_linker.proofs.modules.ModuleLoaderLoaderResolveError.load.Goals as goal
 
-pub returns-in-Some-unit_of-clause-handed : goal.returns-in-Some-unit_of-clause-handed
-returns-in-Some-unit_of-clause-handed g c =
+pub returns-in-Some-ok-clause-handed : goal.returns-in-Some-ok-clause-handed
+returns-in-Some-ok-clause-handed g c =
     let a = numbering c.args.self.now.numbers.now in
-    let b = numbering c.read_again.new.numbers in
+    let b = numbering c.table_of.new.numbers in
     let q = path_view c.in-Some.module in
-    let at : PathAt a c.args.path q = (ok_told (λ (p : ModulePath). PathAt (numbering c.args.self.now.numbers.now) c.args.path (path_view p)) c.path_of.result c.in-Some.module c.in-Some.ensures.value c.path_of.ensures.told) in
-    in_ok (λ (t : Table PathId NameId). IsNumbered b t (table_at q (spelled (unit_view c.in-Some-unit_of.held.now.unit)))) (IsHandedTable g.S.Source.hands b c.args.self.now.units.now.entries c.args.path) c.read_again.result
-    (λ t h. handed_again g.S.Source.hands a b c.args.self.now.units.now.entries c.args.path c.in-Some-unit_of.held.now q t c.read_again.ensures.grows c.requires.1.1.handed_out c.in-Some-unit_of.ensures.found at h) c.read_again.ensures.numbered
+    let at : PathAt a c.args.path q = (ok_told (λ (p : ModulePath). PathAt (numbering c.args.self.now.numbers.now) c.args.path (path_view p)) c.path_of.result c.in-Some.module c.in-Some.ensures.value c.path_of.ensures) in
+    let numbered = ok_told (λ (x : Tabled). IsNumbered b x.table (table_at q (spelled (unit_view c.in-Some-unit_of.held.now.unit)))) c.table_of.result c.in-Some-ok.tabled c.in-Some-ok.ensures.value c.table_of.ensures.numbered in
+    handed_again g.S.Source.hands a b c.args.self.now.units.now.entries c.args.path c.in-Some-unit_of.held.now q c.in-Some-ok.tabled.table c.table_of.ensures.grows c.requires.1.1.handed_out c.in-Some-unit_of.ensures.found at numbered
 
-pub returns-in-Some-unit_of-clause-ready_paths : goal.returns-in-Some-unit_of-clause-ready_paths
-returns-in-Some-unit_of-clause-ready_paths g c =
-    let b = numbering c.read_again.new.numbers in
+pub returns-in-Some-ok-clause-ready_paths : goal.returns-in-Some-ok-clause-ready_paths
+returns-in-Some-ok-clause-ready_paths g c =
+    let b = numbering c.table_of.new.numbers in
     let q = path_view c.in-Some.module in
     let hands = g.R.Resolver.hands c.args.self.now.resolver.now in
     let refuses = g.R.Resolver.refuses c.args.self.now.resolver.now in
     let units = c.args.self.now.units.now.entries in
     let keeps : Keeps hands refuses g.S.Source.hands g.S.Source.refuses g.S.Source.first b units =
-    keeps_on hands hands g.S.Source.hands refuses refuses g.S.Source.refuses g.S.Source.first (numbering c.args.self.now.numbers.now) b units units c.requires.1.1 (itself hands) (itself refuses) c.read_again.ensures.grows refl in
+    keeps_on hands hands g.S.Source.hands refuses refuses g.S.Source.refuses g.S.Source.first (numbering c.args.self.now.numbers.now) b units units c.requires.1.1 (itself hands) (itself refuses) c.table_of.ensures.grows refl in
     let u : Table Path Text = table_at q (spelled (unit_view c.in-Some-unit_of.held.now.unit)) in
     let K = (g.R.Resolver.ready c.args.self.now.resolver.now × StaysOne g.R.Resolver.hands g.R.Resolver.refuses g.R.Resolver.source g.R.Resolver.lacks g.R.Resolver.shown g.S.Source.these g.S.Source.loan c.args.self.now.resolver.now c.args.self.now.resolver.ghost_name) × Keeps hands refuses g.S.Source.hands g.S.Source.refuses g.S.Source.first b units in
-    in_ok (λ (t : Table PathId NameId). IsNumbered b t u) (IsReady (λ p. IsReadyPath b p × K)) c.read_again.result (λ t h. ready_table K (c.requires.1.0, keeps) b t u h) c.read_again.ensures.numbered
+    let numbered = ok_told (λ (x : Tabled). IsNumbered b x.table u) c.table_of.result c.in-Some-ok.tabled c.in-Some-ok.ensures.value c.table_of.ensures.numbered in
+    ready_table K (c.requires.1.0, keeps) b c.in-Some-ok.tabled.table u numbered
 
-pub returns-in-Some-unit_of-clause-adds : goal.returns-in-Some-unit_of-clause-adds
-returns-in-Some-unit_of-clause-adds g c =
+pub returns-in-Some-ok-clause-adds : goal.returns-in-Some-ok-clause-adds
+returns-in-Some-ok-clause-adds g c =
     let a = numbering c.args.self.now.numbers.now in
-    let b = numbering c.read_again.new.numbers in
+    let b = numbering c.table_of.new.numbers in
     let ready = g.R.Resolver.ready c.args.self.now.resolver.now × StaysOne g.R.Resolver.hands g.R.Resolver.refuses g.R.Resolver.source g.R.Resolver.lacks g.R.Resolver.shown g.S.Source.these g.S.Source.loan c.args.self.now.resolver.now c.args.self.now.resolver.ghost_name in
     let hands = g.R.Resolver.hands c.args.self.now.resolver.now in
     let refuses = g.R.Resolver.refuses c.args.self.now.resolver.now in
     let units = c.args.self.now.units.now.entries in
     adds_more (ready × Keeps hands refuses g.S.Source.hands g.S.Source.refuses g.S.Source.first a units) (ready × Keeps hands refuses g.S.Source.hands g.S.Source.refuses g.S.Source.first b units)
-    (λ (r, k). (r, keeps_on hands hands g.S.Source.hands refuses refuses g.S.Source.refuses g.S.Source.first a b units units k (itself hands) (itself refuses) c.read_again.ensures.grows refl)) g.S.Source.hands g.S.Source.refuses a b units units c.read_again.ensures.grows
+    (λ (r, k). (r, keeps_on hands hands g.S.Source.hands refuses refuses g.S.Source.refuses g.S.Source.first a b units units k (itself hands) (itself refuses) c.table_of.ensures.grows refl)) g.S.Source.hands g.S.Source.refuses a b units units c.table_of.ensures.grows
     (λ p u h. h)
 
-pub read_again-requires-clause-asked : goal.read_again-requires-clause-asked
-read_again-requires-clause-asked g c = path_asked (numbering c.args.self.now.numbers.now) c.args.self.now.numbers.now.paths.asked c.args.path (path_view c.in-Some.module) (ok_told (λ (p : ModulePath). PathAt (numbering c.args.self.now.numbers.now) c.args.path (path_view p)) c.path_of.result c.in-Some.module c.in-Some.ensures.value c.path_of.ensures.told)
+pub returns-in-Some-unit_of-clause-adds : goal.returns-in-Some-unit_of-clause-adds
+returns-in-Some-unit_of-clause-adds g c =
+    let a = numbering c.args.self.now.numbers.now in
+    let b = numbering c.table_of.new.numbers in
+    let ready = g.R.Resolver.ready c.args.self.now.resolver.now × StaysOne g.R.Resolver.hands g.R.Resolver.refuses g.R.Resolver.source g.R.Resolver.lacks g.R.Resolver.shown g.S.Source.these g.S.Source.loan c.args.self.now.resolver.now c.args.self.now.resolver.ghost_name in
+    let hands = g.R.Resolver.hands c.args.self.now.resolver.now in
+    let refuses = g.R.Resolver.refuses c.args.self.now.resolver.now in
+    let units = c.args.self.now.units.now.entries in
+    adds_more (ready × Keeps hands refuses g.S.Source.hands g.S.Source.refuses g.S.Source.first a units) (ready × Keeps hands refuses g.S.Source.hands g.S.Source.refuses g.S.Source.first b units)
+    (λ (r, k). (r, keeps_on hands hands g.S.Source.hands refuses refuses g.S.Source.refuses g.S.Source.first a b units units k (itself hands) (itself refuses) c.table_of.ensures.grows refl)) g.S.Source.hands g.S.Source.refuses a b units units c.table_of.ensures.grows
+    (λ p u h. h)
+
+pub table_of-requires-clause-asked : goal.table_of-requires-clause-asked
+table_of-requires-clause-asked g c = path_asked (numbering c.args.self.now.numbers.now) c.args.self.now.numbers.now.paths.asked c.args.path (path_view c.in-Some.module) (ok_told (λ (p : ModulePath). PathAt (numbering c.args.self.now.numbers.now) c.args.path (path_view p)) c.path_of.result c.in-Some.module c.in-Some.ensures.value c.path_of.ensures)
 
 pub fetch-requires-clause-asked : goal.fetch-requires-clause-asked
-fetch-requires-clause-asked g c = path_asked (numbering c.args.self.now.numbers.now) c.args.self.now.numbers.now.paths.asked c.args.path (path_view c.in-Some.module) (ok_told (λ (p : ModulePath). PathAt (numbering c.args.self.now.numbers.now) c.args.path (path_view p)) c.path_of.result c.in-Some.module c.in-Some.ensures.value c.path_of.ensures.told)
+fetch-requires-clause-asked g c = path_asked (numbering c.args.self.now.numbers.now) c.args.self.now.numbers.now.paths.asked c.args.path (path_view c.in-Some.module) (ok_told (λ (p : ModulePath). PathAt (numbering c.args.self.now.numbers.now) c.args.path (path_view p)) c.path_of.result c.in-Some.module c.in-Some.ensures.value c.path_of.ensures)
 
 pub returns-clause-ready_paths : goal.returns-clause-ready_paths
 returns-clause-ready_paths g c =

@@ -1,0 +1,24 @@
+-- What is told of a link that is held, whose symbols were given no names.
+use Rattle.std.proofs.Common.{◌≡◌, ℕ, Option, Some, None, refl, sym, subst, ap}
+use Rattle.wesl_names.specs.Path.{Text}
+use Rattle.wesl_symbols.specs.declared.ids.PathId.{PathId}
+use Rattle.wesl_symbols.specs.declared.ids.NameId.{NameId}
+use Rattle.wesl_symbols.specs.declared.symbols.Symbol.{Symbol}
+use Rattle.wesl_linker.specs.Given.{Given}
+use Rattle.wesl_linker.specs.GivenView.{given}
+use Rattle.wesl_linker.specs.Keeping.{IsLinkOf, task_in, IsSound, IsSoundLink, resolved, resolved_of, or_own, given_at}
+use Rattle.wesl_linker.specs.Holding.{IsFoundBy}
+use Rattle.wesl_linker.specs.declared.link.Link.{Link}
+use Rattle.wesl_linker.specs.declared.resolutions.Resolutions.{Resolutions}
+
+own_name : (names : Given) → ((s : Symbol PathId NameId) → names s ≡ None) → (n : Text) (p q : Option ℕ) → or_own n (given_at names p q) ≡ n
+own_name names none n None q = refl
+own_name names none n (Some i) None = refl
+own_name names none n (Some i) (Some j) = ap (or_own n) (none (record { path = record { 0 = i }; name = record { 0 = j } }))
+
+module _ (r : Resolutions) (l : Link) (is : r.link ≡ Some l) where
+  pub found_by : ((s : Symbol PathId NameId) → given r.given s ≡ None) → IsFoundBy l (resolved r)
+  found_by none = subst (λ (o : Option Link). IsFoundBy l (resolved_of o (given r.given))) (sym is) (record { modules = refl; kept = refl; eager = refl; turns = refl; names = λ p n. own_name (given r.given) none n _ _ })
+
+  pub sound_by : IsLinkOf (task_in l) l → IsSound r
+  sound_by h = subst (λ (o : Option Link). IsSoundLink o) (sym is) h
