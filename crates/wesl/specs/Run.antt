@@ -1,5 +1,5 @@
 -- What a run wrote, of what the reader had.
-use Rattle.std.specs.Prelude.{◌≡◌, ℕ, List, take, Option, Some, None, string_bytes}
+use Rattle.std.specs.Prelude.{◌≡◌, ℕ, List, take, Option, Some, None}
 use Rattle.std.specs.Io.KnownBytes.{Appends}
 use Rattle.wesl.specs.declared.program.Outcome.{Outcome}
 use Rattle.wesl.specs.declared.program.Outcome.TheVariants.{Linked, Refused}

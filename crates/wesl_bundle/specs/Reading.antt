@@ -1,6 +1,6 @@
 -- How names, paths, lists and members are read from a value.
 use Rattle.std.specs.Prelude.{List, [], ◌∷◌, if◌then◌else◌, Option, Some, None, option_map, option_and_then}
-use Rattle.serde_json.specs.Data.{Data, Items, no_items, item, member}
+use Rattle.serde_json.specs.Data.{Data, Items, no_items, item}
 use Rattle.serde_json.specs.Find.{get, as_str, as_array}
 use Rattle.wesl_names.specs.Path.{Text, Path, is_relative}
 use Rattle.wesl_names.specs.PathText.{parse}

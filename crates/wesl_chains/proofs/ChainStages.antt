@@ -7,11 +7,30 @@ use Rattle.wesl_features.specs.declared.chain.Role.TheVariants.{Plain, If, Elif,
 use Rattle.wesl_features.specs.Answers.{Answers, in_stages}
 use Rattle.wesl_chains.specs.Formulas.{Form, Spot}
 use Rattle.wesl_chains.specs.FormulaResidual.{literal, residual, decided}
-use Rattle.wesl_chains.specs.Chains.{Condition, none, on, else_on, otherwise, holds, follows_on, residual_spot, recast_condition, Judged, Goes, Laws, is_branch, branch, residual_list}
+use Rattle.wesl_chains.specs.Chains.{Condition, none, on, else_on, otherwise, holds, follows_on, residual_spot, recast_condition, Judged, is_branch, branch, residual_list}
 use Rattle.wesl_features.specs.Branch.{fate, kept_after, decided_after}
 use Rattle.wesl_chains.proofs.Walk.{enact, scan}
 use Rattle.wesl_chains.proofs.FormulaStages.{is_always, is_never, residual_in_stages}
 use Rattle.wesl_chains.proofs.ChainTurns.{and-false, scan_is}
+
+-- a node in one role may come into another in a later stage
+abbrev pub Goes : Role → Role → Type 0
+Goes Plain Plain = Unit {0}
+Goes Plain If = ⊥
+Goes Plain Elif = ⊥
+Goes Plain Else = ⊥
+Goes If r = Unit {0}
+Goes Elif r = Unit {0}
+Goes Else Plain = Unit {0}
+Goes Else If = ⊥
+Goes Else Elif = ⊥
+Goes Else Else = Unit {0}
+
+-- what a second stage asks of how nodes are judged
+pub record Laws {I N : Type 0} (J : Judged I N) : Type 0 where
+  pub void : (known : Answers I) (r : Role) (n : N) → J.is_void (J.in_role known r n) ≡ J.is_void n
+  pub condition : (known : Answers I) (r : Role) (n : N) → J.condition_of (J.in_role known r n) ≡ recast_condition known r (J.condition_of n)
+  pub again : (first second : Answers I) (r s : Role) (n : N) → Goes r s → J.in_role second s (J.in_role first r n) ≡ J.in_role (in_stages first second) s n
 
 module _ {I : Type 0} where
   spot_in_stages : (F G : Answers I) (x : Spot I) → residual_spot G (residual_spot F x) ≡ residual_spot (in_stages F G) x

@@ -5,11 +5,16 @@ use Rattle.wesl_features.specs.declared.chain.Role.{Role}
 use Rattle.wesl_features.specs.declared.chain.Role.TheVariants.{Plain, If, Elif, Else}
 use Rattle.wesl_chains.specs.Chains.{Condition, none, on, else_on, otherwise, recast_condition}
 use Rattle.wesl_chains.specs.Conditions.{condition_at, replaced, recast}
-use Rattle.wesl_chains.specs.Nodes.{attribute_tree, attributes_forest, condition_of_attribute, remade, marked, marked_tree, is_any, unconditional}
+use Rattle.wesl_chains.specs.Nodes.{attribute_tree, attributes_forest, condition_of_attribute, remade, marked, marked_tree, is_any}
 use Rattle.wesl_features.specs.Answers.{Answers}
 use Rattle.wesl_syntax.specs.Tree.{Label, Forest, Tree, end, tree, before, forest_of}
 use Rattle.wesl_syntax.specs.declared.attribute.Attribute.{Attribute}
 use Rattle.wesl_syntax.specs.declared.span.Spanned.{Spanned}
+
+-- an attributes list without its conditions
+abbrev pub unconditional : Forest → Forest
+unconditional end = end
+unconditional (tree l attribute others) = cond (is_any (condition_at attribute)) (unconditional others) (tree l attribute (unconditional others))
 
 -- A plain node has no condition left.
 plain_at : (known : Answers ℕ) (l : Label) (a : Forest) (c : Condition ℕ) (others left : Forest) → left ≡ others → cond (is_any c) left (tree l a left) ≡ replaced l a c none others

@@ -3,14 +3,14 @@ use Rattle.std.proofs.Common.{◌≡◌, List, [], ◌∷◌, Bool, true, false,
 use Rattle.wesl_features.specs.declared.chain.Role.{Role}
 use Rattle.wesl_features.specs.declared.chain.Role.TheVariants.{Plain, If, Elif, Else}
 use Rattle.wesl_features.specs.Answers.{Answers, in_stages}
-use Rattle.wesl_chains.specs.Chains.{Condition, none, on, else_on, otherwise, recast_condition, Goes, Laws}
+use Rattle.wesl_chains.specs.Chains.{Condition, none, on, else_on, otherwise, recast_condition}
 use Rattle.wesl_chains.specs.Conditions.{first_of, first_spot, condition_at, or_next, first_condition, attribute_of, replaced, recast, is_list, attributes_in, with_attributes, is_void}
 use Rattle.wesl_syntax.specs.Nodes.{is_attributes}
 use Rattle.wesl_syntax.specs.Unit.{begins_void}
 use Rattle.wesl_chains.specs.Faults.{and_rest, conditions}
 use Rattle.wesl_chains.specs.Lists.{element}
 use Rattle.wesl_chains.proofs.ReadBack.{Leaves, AllLeaves, reads_back, residual_leaves, spots_leaves}
-use Rattle.wesl_chains.proofs.ChainStages.{recast_again}
+use Rattle.wesl_chains.proofs.ChainStages.{Goes, Laws, recast_again}
 use Rattle.wesl_syntax.specs.Tree.{LabelOf, ForestOf, end, tree, kind, at, void, if_attribute, elif_attribute, else_attribute}
 use Rattle.wesl_chains.specs.Formulas.{Spot, spots}
 

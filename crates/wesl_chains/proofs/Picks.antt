@@ -9,21 +9,25 @@ use Rattle.wesl_features.specs.declared.chain.Role.TheVariants.{Plain, If, Elif,
 use Rattle.wesl_features.specs.Answers.{Answers, or_else}
 use Rattle.wesl_chains.specs.Formulas.{Form, always, never, flag, templated, within, negation, conjunction, disjunction, other, value_under}
 use Rattle.wesl_chains.specs.FormulaResidual.{literal, flag_as, parenthesized, negated_as, both_as, either_as, residual}
-use Rattle.wesl_chains.specs.Chains.{Condition, none, on, else_on, otherwise, holds, recast_condition, Judged, Goes, Laws, is_node, is_branch, branch, attach, chains, residual_list}
+use Rattle.wesl_chains.specs.Chains.{Condition, none, on, else_on, otherwise, holds, recast_condition, Judged, is_node, is_branch, branch, attach, chains, residual_list}
 use Rattle.wesl_features.specs.Branch.{fate, kept_after, decided_after}
 use Rattle.wesl_chains.proofs.Walk.{enact, scan}
 use Rattle.wesl_chains.specs.Lists.{element}
 use Rattle.wesl_syntax.specs.Unit.{UnitOf}
 use Rattle.wesl_chains.specs.Residual.{residual_forest, residual_tree, residual_unit}
-use Rattle.wesl_chains.specs.Picked.{Choice, chosen, Agrees, is_true, picked_chain, picked_list, picked_forest, picked_tree, picked_unit}
+use Rattle.wesl_chains.specs.Picked.{Choice, chosen, is_true, picked_chain, picked_list, picked_forest, picked_tree, picked_unit}
 use Rattle.wesl_chains.proofs.FormulaStages.{is_always, is_never}
 use Rattle.wesl_chains.proofs.ChainTurns.{and-false, scan_is}
-use Rattle.wesl_chains.proofs.ChainStages.{follows-if, follows-elif, follows-else}
+use Rattle.wesl_chains.proofs.ChainStages.{Goes, Laws, follows-if, follows-elif, follows-else}
 use Rattle.wesl_chains.proofs.NodeLaws.{element_laws}
 use Rattle.wesl_chains.proofs.Passing.{first_children, through_again}
 use Rattle.wesl_chains.proofs.TreeStages.{residual_tidy}
 use Rattle.wesl_syntax.specs.Tree.{ForestOf, TreeOf, end, tree}
 use Rattle.wesl_base.specs.declared.span.Span.{Span}
+
+-- flags that are answered are so in the choice
+abbrev pub Agrees : {I : Type 0} → Choice I → Answers I → Type 0
+Agrees {I} choice known = (flag : I) → or_else (known flag) (chosen choice flag) ≡ chosen choice flag
 
 and-true : (b : Bool) → b && true ≡ b
 and-true true = refl

@@ -1,9 +1,9 @@
 -- What answers to flags leave of chains of branches, over any nodes that may have a condition.
-use Rattle.std.specs.Prelude.{◌≡◌, List, [], ◌∷◌, ◌++◌, map, Bool, true, false, not, cond, ◌&&◌}
+use Rattle.std.specs.Prelude.{List, [], ◌∷◌, ◌++◌, map, Bool, true, false, not, cond, ◌&&◌}
 use Rattle.std.specs.List.{flat_map, filter}
 use Rattle.wesl_features.specs.declared.chain.Role.{Role}
 use Rattle.wesl_features.specs.declared.chain.Role.TheVariants.{Plain, If, Elif, Else}
-use Rattle.wesl_features.specs.Answers.{Answers, in_stages}
+use Rattle.wesl_features.specs.Answers.{Answers}
 use Rattle.wesl_chains.specs.Formulas.{Spot}
 use Rattle.wesl_chains.specs.FormulaResidual.{residual, decided}
 use Rattle.wesl_features.specs.declared.features.Truth.{Truth}
@@ -56,24 +56,6 @@ pub record Judged (I N : Type 0) : Type 0 where
   pub is_void : N → Bool
   pub condition_of : N → Condition I
   pub in_role : Answers I → Role → N → N
-
--- a node in one role may come into another in a later stage
-abbrev pub Goes : Role → Role → Type 0
-Goes Plain Plain = Unit {0}
-Goes Plain If = ⊥
-Goes Plain Elif = ⊥
-Goes Plain Else = ⊥
-Goes If r = Unit {0}
-Goes Elif r = Unit {0}
-Goes Else Plain = Unit {0}
-Goes Else If = ⊥
-Goes Else Elif = ⊥
-Goes Else Else = Unit {0}
-
-pub record Laws {I N : Type 0} (J : Judged I N) : Type 0 where
-  pub void : (known : Answers I) (r : Role) (n : N) → J.is_void (J.in_role known r n) ≡ J.is_void n
-  pub condition : (known : Answers I) (r : Role) (n : N) → J.condition_of (J.in_role known r n) ≡ recast_condition known r (J.condition_of n)
-  pub again : (first second : Answers I) (r s : Role) (n : N) → Goes r s → J.in_role second s (J.in_role first r n) ≡ J.in_role (in_stages first second) s n
 
 abbrev pub is_not_false : Truth → Bool
 is_not_false Yes = true

@@ -1,5 +1,5 @@
 -- The nodes of the code as nodes of a judged list.
-use Rattle.std.specs.Prelude.{ℕ, Bool, true, false, cond, List, [], ◌∷◌, map, Option, Some, None}
+use Rattle.std.specs.Prelude.{ℕ, Bool, true, false, List, [], ◌∷◌, map, Option, Some, None}
 use Rattle.wesl_features.specs.declared.chain.Role.{Role}
 use Rattle.wesl_chains.specs.declared.conditions.Condition.{Condition as Lent}
 use Rattle.wesl_chains.specs.declared.conditions.Condition.TheVariants as lent
@@ -10,7 +10,7 @@ use Rattle.wesl_features.specs.Answers.{Answers}
 use Rattle.wesl_features.specs.Features.{Replies, answer_to, known, by_number}
 use Rattle.wesl_features.specs.declared.features.Features.{Features}
 use Rattle.wesl_names.specs.Path.{Text}
-use Rattle.wesl_syntax.specs.Tree.{Tree, Forest, end, tree, before, forest_of, attribute_node}
+use Rattle.wesl_syntax.specs.Tree.{Tree, Forest, end, before, forest_of, attribute_node}
 use Rattle.wesl_syntax.specs.View.{attribute_view, expression_tree, placed}
 use Rattle.wesl_syntax.specs.declared.attribute.Attribute.{Attribute}
 use Rattle.wesl_syntax.specs.declared.span.Spanned.{Spanned}
@@ -72,11 +72,6 @@ is_any none = false
 is_any (on x) = true
 is_any (else_on x) = true
 is_any otherwise = true
-
--- an attributes list without its conditions
-abbrev pub unconditional : Forest → Forest
-unconditional end = end
-unconditional (tree l attribute others) = cond (is_any (condition_at attribute)) (unconditional others) (tree l attribute (unconditional others))
 
 -- whether there are two conditions, one of which may be seen already
 abbrev pub several_after : Bool → List (Condition ℕ) → Bool

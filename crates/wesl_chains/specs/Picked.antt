@@ -1,11 +1,11 @@
 -- What a choice picks: of each chain the first branch whose formula is true.
-use Rattle.std.specs.Prelude.{◌≡◌, List, [], ◌∷◌, Bool, true, false, cond}
+use Rattle.std.specs.Prelude.{List, [], ◌∷◌, Bool, true, false, cond}
 use Rattle.std.specs.List.{flat_map, filter}
 use Rattle.wesl_features.specs.declared.chain.Role.TheVariants.{Plain}
 use Rattle.wesl_chains.specs.Chains.{Condition, none, on, else_on, otherwise, Judged, is_node, chains}
 use Rattle.wesl_chains.specs.Lists.{element, through}
 use Rattle.wesl_chains.specs.Residual.{first_tree}
-use Rattle.wesl_features.specs.Answers.{Answers, or_else}
+use Rattle.wesl_features.specs.Answers.{Answers}
 use Rattle.wesl_chains.specs.Formulas.{value_under}
 use Rattle.wesl_features.specs.declared.features.Truth.TheVariants.{Yes, No}
 use Rattle.wesl_syntax.specs.Tree.{ForestOf, TreeOf, end, tree}
@@ -19,10 +19,6 @@ module _ {I : Type 0} where
   -- the answers of a choice
   abbrev pub chosen : Choice I → Answers I
   chosen choice = λ flag. cond (choice flag) Yes No
-
-  -- flags that are answered are so in the choice
-  abbrev pub Agrees : Choice I → Answers I → Type 0
-  Agrees choice known = (flag : I) → or_else (known flag) (chosen choice flag) ≡ chosen choice flag
 
   -- no condition and an @else count as true
   abbrev pub is_true : Choice I → Condition I → Bool

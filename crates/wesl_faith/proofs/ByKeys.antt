@@ -14,7 +14,7 @@ use Rattle.wesl_occurrences.specs.Walk.{Found}
 use Rattle.wesl_occurrences.specs.Ways.{AreNested, way, told}
 use Rattle.wesl_occurrences.specs.Laws.{WaysLeadOutwards, SpellingKeepsOccurrences}
 use Rattle.wesl_meanings.specs.Scopes as scopes
-use Rattle.wesl_meanings.specs.Scopes.{bound, free, is_visible, binds, binder_of, meaning, key_as, key_of, keys, same_key}
+use Rattle.wesl_meanings.specs.Scopes.{bound, is_visible, binds, binder_of, meaning, key_as, key_of, keys, same_key}
 use Rattle.wesl_meanings.specs.Keys.{named, key_view, flat, IsKeyBelow}
 use Rattle.wesl_meanings.specs.declared.keys.Key.{Key}
 use Rattle.wesl_meanings.specs.declared.keys.Key.TheVariants as made

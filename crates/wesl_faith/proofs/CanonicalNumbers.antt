@@ -6,7 +6,7 @@ use Rattle.std.specs.Bool.{Decides}
 use Rattle.std.proofs.lemmas.Bool.{cases_lt}
 use Rattle.std.proofs.lemmas.Grind.{same_number_lists}
 use Rattle.std.proofs.lemmas.Bool.Decides.{eqb_tells}
-use Rattle.wesl_meanings.specs.Scopes.{Key, free, same_key}
+use Rattle.wesl_meanings.specs.Scopes.{Key, same_key}
 use Rattle.wesl_syntax.specs.Numbers.{AreNumbers, number_at}
 use Rattle.wesl_faith.specs.Canonical.{index_in, canonical_from, canonical}
 use Rattle.wesl_meanings.proofs.Entries.{keys_decide}

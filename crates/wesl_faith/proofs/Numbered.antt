@@ -7,7 +7,6 @@ use Rattle.std.proofs.lemmas.List.{map-append}
 use Rattle.std.proofs.lemmas.Grind.{common_steps}
 use Rattle.std.proofs.lemmas.Bool.{cases_lt}
 use Rattle.std.proofs.lemmas.Bool.Decides.{eqb_tells, Decides-eqb}
-use Rattle.wesl_names.specs.Path.{Text}
 use Rattle.wesl_syntax.specs.Unit.{name_in}
 use Rattle.wesl_meanings.specs.Scopes.{Key, free, same_key}
 use Rattle.wesl_faith.specs.Canonical.{index_in, canonical_from}

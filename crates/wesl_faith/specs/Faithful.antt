@@ -1,5 +1,5 @@
 -- When plain scoping of the names of a module reads each reference as its number says (WGSL, "Declaration and Scope").
-use Rattle.std.specs.Prelude.{◌≡◌, ◌≢◌, ℕ, Bool, true, false, ◌&&◌, bytes_eq, None, List, [], ◌∷◌}
+use Rattle.std.specs.Prelude.{◌≡◌, ◌≢◌, ℕ, Bool, true, ◌&&◌, bytes_eq, List, [], ◌∷◌}
 use Rattle.std.specs.List.{All, filter}
 use Rattle.wesl_names.specs.Path.{Text}
 use Rattle.wesl_syntax.specs.Unit.{UnitView, name_in, trees_of}

@@ -1,5 +1,5 @@
 -- The keys that have numbers.
-use Rattle.std.specs.Prelude.{ℕ, ◌==◌, List, [], ◌∷◌, ◌++◌, length, if◌then◌else◌}
+use Rattle.std.specs.Prelude.{◌==◌, List, [], ◌∷◌, ◌++◌, length, if◌then◌else◌}
 use Rattle.wesl_meanings.specs.Scopes.{Key}
 use Rattle.wesl_faith.specs.Canonical.{index_in}
 

@@ -20,7 +20,7 @@ use Rattle.wesl_collect.proofs.Joined.{all_found_below}
 use Rattle.wesl_builtins.specs.Builtins.{BuiltinNames}
 use Rattle.wesl_valid.specs.Calls.{CallOf, called_in, calls_in}
 use Rattle.wesl_valid.specs.Valid.{calls_of, AliasesTo, IsEnd, Fits, IsFitting}
-use Rattle.wesl_fitting.specs.Misfits.{Misses, Passes, MissesIn, MissesAmong, PassBefore}
+use Rattle.wesl_fitting.specs.Misfits.{Misses, Passes, MissesIn, MissesAmong}
 use Rattle.wesl_fitting.specs.Made.{call_told}
 use Rattle.wesl_fitting.specs.declared.calls.Call.{Call}
 use Rattle.wesl_fitting.specs.declared.misfit.Misfit.{Misfit}
@@ -103,6 +103,10 @@ passed_next P xs i x h is all this = rw add-one (subst (All P) (sym (mapped xs i
 
 pub among : (u : UnitView) (b : BuiltinNames) (xs : List Call) (i : ℕ) (x : Call) (m : Misfit) → i < length xs → x ≡ get_or xs i x → Misses u b (call_told x) m → MissesAmong u b (map call_told xs) m
 among u b xs i x m h is s = (call_told x, to_mapped call_told xs x (i, h, sym is), s)
+
+-- the calls of the declarations before one pass
+abbrev pub PassBefore : UnitView → BuiltinNames → ℕ → Type 0
+PassBefore u b j = (i : ℕ) → i < j → All (Passes u b) (calls_of u i)
 
 module _ (u : UnitView) (b : BuiltinNames) (v : Vec (Spanned GlobalDeclaration) Global) (same : declarations_tree v ≡ u.declarations) where
   calls_at : (j : ℕ) (d : Spanned GlobalDeclaration) → j < length v.items → d ≡ get_or v.items j d → calls_in (before (global_view d.node) end) ≡ calls_of u j

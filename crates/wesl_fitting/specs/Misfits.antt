@@ -1,6 +1,6 @@
 -- Calls that fit nothing of what their aliases end in.
-use Rattle.std.specs.Prelude.{◌≡◌, ◌<◌, ℕ, List}
-use Rattle.std.specs.List.{Contains, All}
+use Rattle.std.specs.Prelude.{◌≡◌, ℕ, List}
+use Rattle.std.specs.List.{Contains}
 use Rattle.wesl_syntax.specs.Unit.{UnitView}
 use Rattle.wesl_builtins.specs.Builtins.{BuiltinNames}
 use Rattle.wesl_valid.specs.Calls.{CallOf}
@@ -27,7 +27,3 @@ module _ (u : UnitView) (b : BuiltinNames) where
   -- one in this declaration does
   abbrev pub MissesIn : ℕ → Misfit → Type 0
   MissesIn j m = MissesAmong (calls_of u j) m
-
-  -- the calls of the declarations before one pass
-  abbrev pub PassBefore : ℕ → Type 0
-  PassBefore j = (i : ℕ) → i < j → All Passes (calls_of u i)

@@ -1,14 +1,14 @@
 -- Expressions and types that were written read back.
-use Rattle.std.proofs.Common.{◌≡◌, ℕ, zero, suc, ◌<◌, ◌≤◌, max, List, [], ◌∷◌, ◌++◌, Option, Some, None, Bool, true, false, if◌then◌else◌, option_map, option_and_then, codes, refl, sym, ap, ◌∙◌, arith, subst}
-use Rattle.serde_json.specs.Data.{Data, boolean, string, array, object, Items, no_items, item, Members, no_members, member, depth, items_depth}
-use Rattle.wesl_syntax.specs.Tree.{before, branch, kind, at, end, tree, unary, binary, expression_node, parenthesized, template_argument}
+use Rattle.std.proofs.Common.{◌≡◌, ℕ, zero, suc, ◌<◌, max, ◌∷◌, Some, Bool, true, refl, arith, subst}
+use Rattle.serde_json.specs.Data.{Data, Items, depth, items_depth}
+use Rattle.wesl_syntax.specs.Tree.{before, end}
 use Rattle.wesl_syntax.specs.declared.expression.UnaryOperator.{UnaryOperator}
 use Rattle.wesl_syntax.specs.declared.expression.UnaryOperator.TheVariants as unary_operator
 use Rattle.wesl_syntax.specs.declared.expression.BinaryOperator.{BinaryOperator}
 use Rattle.wesl_syntax.specs.declared.expression.BinaryOperator.TheVariants as binary_operator
 use Rattle.wesl_names.specs.Path.{Text, Path}
 use Rattle.wesl_names.specs.PathText.{parse, to_text}
-use Rattle.wesl_form.specs.Schema.{Spelled, SpelledForest, labelled, node, an_expression, a_type, a_template_argument}
+use Rattle.wesl_form.specs.Schema.{Spelled, SpelledForest, node, an_expression, a_type, a_template_argument}
 use Rattle.wesl_form.specs.Nodes.{whole_form}
 use Rattle.wesl_form.specs.Reading.{reading, items_in, is_literal}
 use Rattle.wesl_form.specs.Writing.{written, written_forest}

@@ -1,5 +1,5 @@
 -- A value that breaks its form somewhere has no reading.
-use Rattle.std.proofs.Common.{◌≡◌, ◌⊎◌, inl, inr, ℕ, zero, suc, List, [], ◌∷◌, ◌++◌, Option, Some, None, Bool, true, false, not, ◌&&◌, ◌||◌, if◌then◌else◌, option_map, option_and_then, map, refl, sym, ap, subst, ◌∙◌}
+use Rattle.std.proofs.Common.{◌≡◌, ◌⊎◌, inl, inr, ℕ, zero, suc, List, [], ◌∷◌, ◌++◌, Option, Some, None, Bool, true, false, not, ◌&&◌, ◌||◌, if◌then◌else◌, option_map, option_and_then, refl, sym, ap, subst, ◌∙◌}
 use Rattle.std.specs.Option.{is_some}
 use Rattle.std.specs.Ordering.{nat_cmp, match_ordering}
 use Rattle.std.specs.Cmp.Lexicographic.{slice_cmp}
@@ -9,18 +9,18 @@ use Rattle.std.specs.List.{list_any}
 use Rattle.std.proofs.lemmas.Slice.Eq.{bytes_eq-Decides}
 use Rattle.std.proofs.lemmas.Map.Text.{is_eq-slice_cmp}
 use Rattle.serde_json.specs.Data.{Data, null, boolean, number, string, array, object, Items, no_items, item, Members, no_members, member}
-use Rattle.serde_json.specs.Find.{get, at, get_item, get_member, as_str, as_array, as_object, as_number, is_float}
+use Rattle.serde_json.specs.Find.{get, at, get_item, get_member, as_str, as_object, is_float}
 use Rattle.serde_json.specs.Written.{has_float, items_have_float, members_have_float}
 use Rattle.wesl_names.specs.Path.{Text}
-use Rattle.wesl_syntax.specs.Tree.{kind, list, texts, text, present, end, tree, before}
-use Rattle.wesl_form.specs.Schema.{Spelled, SpelledForest, SpelledLabel, Words, leaf_of, Form, leaf, list_of, node, Leaf, an_ident, a_name, a_text, a_literal, some_names, a_path, one_of, a_fixed_path, a_truth, a_limit, some_texts, a_map_to, anything, Name, Node, Row, nothing, marked, needs, may, many, given, inner, inner_where, Head, fixed, chosen, Table}
+use Rattle.wesl_syntax.specs.Tree.{kind, list, texts, text, present, tree, before}
+use Rattle.wesl_form.specs.Schema.{Spelled, SpelledForest, SpelledLabel, leaf_of, Form, leaf, list_of, node, Leaf, an_ident, a_name, a_text, a_literal, some_names, a_path, one_of, a_fixed_path, a_truth, a_limit, some_texts, a_map_to, anything, Name, Node, Row, nothing, marked, needs, may, many, given, inner, inner_where, Head, fixed, chosen, Table}
 use Rattle.wesl_form.specs.Schema.{a_type, an_expression, a_template_argument, a_case, an_attribute}
 use Rattle.wesl_form.specs.Nodes.{shorts_of, whole_form}
-use Rattle.wesl_form.specs.Reading.{Reader, reading, leaf_label, any_leaf, name_in, texts_in, all_members, children_in, items_in, node_in, object_in, head_keys, known_keys, label_in, needed, optional, or_empty, empty_of, where_there, present_tree, word_in}
+use Rattle.wesl_form.specs.Reading.{reading, leaf_label, any_leaf, name_in, texts_in, all_members, children_in, items_in, head_keys, known_keys, label_in, needed, optional, or_empty, empty_of, where_there, present_tree, word_in}
 use Rattle.wesl_form.specs.Keys.{all_known, has_only}
-use Rattle.wesl_form.specs.Place.{Field, field, fields, head_fields, find_field, fields_of, member_form, item_form, IsWrongLeaf, IsWrongNode, IsWrongValue, IsWrongObject, IsWrong, HasUnknownWord, BreaksAt}
+use Rattle.wesl_form.specs.Place.{Field, field, fields, head_fields, find_field, member_form, item_form, IsWrongLeaf, IsWrongNode, IsWrongValue, IsWrongObject, IsWrong, HasUnknownWord, BreaksAt}
 use Rattle.wesl_form.specs.Pointer.{Part, key, index}
-use Rattle.wesl_form.specs.Laws.{ListsAreNoNodes, BrokenIsRefused}
+use Rattle.wesl_form.specs.Laws.{BrokenIsRefused}
 
 abbrev Holds : Field → List Field → Type 0
 Holds f [] = ⊥
@@ -342,6 +342,10 @@ leaf-wrong table anything (number n) h = float-refused (is_float n) (some_same h
 leaf-wrong table anything (string s) h = absurd (no_value true (sym h))
 leaf-wrong table anything (array ds) h = absurd (no_value true (sym h))
 leaf-wrong table anything (object ms) h = absurd (no_value true (sym h))
+
+-- a list is no short form of a node
+abbrev pub ListsAreNoNodes : Table → Type 0
+ListsAreNoNodes table = (m : Name) (ds : Items) → table.shorts m (array ds) ≡ None
 
 module _ (table : Table) (flat : ListsAreNoNodes table) where
   no-node-fails : (n : ℕ) (m : Name) (d : Data) → is_some (as_object d) ≡ true → table.nodes m d ≡ None → reading table n (node m) d ≡ None

@@ -1,14 +1,10 @@
 -- What the form promises, for any table of nodes.
 use Rattle.std.specs.Prelude.{◌≡◌, ℕ, List, Some, None}
-use Rattle.serde_json.specs.Data.{Data, array, Items}
-use Rattle.wesl_form.specs.Schema.{Form, Name, Table}
+use Rattle.serde_json.specs.Data.{Data}
+use Rattle.wesl_form.specs.Schema.{Form, Table}
 use Rattle.wesl_form.specs.Reading.{reading}
 use Rattle.wesl_form.specs.Place.{BreaksAt}
 use Rattle.wesl_form.specs.Pointer.{Part}
-
--- a list is no short form of a node
-abbrev pub ListsAreNoNodes : Table → Type 0
-ListsAreNoNodes table = (m : Name) (ds : Items) → table.shorts m (array ds) ≡ None
 
 -- a value that breaks its form somewhere has no reading, at any number of levels
 abbrev pub BrokenIsRefused : Table → Type 0

@@ -1,10 +1,10 @@
 -- The table of all nodes: the members of each, in document order, and the short forms.
-use Rattle.std.specs.Prelude.{List, [], ◌∷◌, ◌++◌, Bool, true, false, if◌then◌else◌, is_some, Option, Some, None, option_map, option_and_then, codes, map}
+use Rattle.std.specs.Prelude.{List, [], ◌∷◌, if◌then◌else◌, is_some, Option, Some, None, option_map, option_and_then, codes, map}
 use Rattle.serde_json.specs.Data.{Data}
 use Rattle.serde_json.specs.Find.{get, as_str, as_bool}
 use Rattle.wesl_names.specs.Path.{Text}
-use Rattle.wesl_syntax.specs.Tree.{branch, Kind, binder, reference, word, LabelOf, kind, at, ident, text, texts, truth, expression_node, statement_node, attribute_node, member_node, import_node, directive_node, declaration_node, literal, parenthesized, named_component, indexing, call_expression, call, type_or_identifier, type_expression, template_argument, list, present, absent, attributes, statements, clauses, members, parameters, align, binding, blend_src, builtin, const_attribute, diagnostic, group, id, interpolate, invariant_attribute, location, must_use, size, workgroup_size, vertex, fragment, compute, publish, if_attribute, elif_attribute, else_attribute, custom, void, compound_statement, compound, increment, decrement, if_statement, if_clause, else_if_clause, else_clause, switch, switch_clause, default_case, expression_case, loop, continuing, break_if, for_loop, while_loop, break, continue, return, discard, call_statement, const_assert, import_statement, import_item, import_collection, import_entry, diagnostic_directive, enable_directive, requires_directive, type_alias, struct, member, function, parameter, declaration, const_kind, override_kind, let_kind, var_kind, imports, directive_list, declarations, unit}
-use Rattle.wesl_form.specs.Schema.{Spelled, SpelledLabel, leaf_of, labelled, look, nonempty, Words, Leaf, an_ident, a_name, a_text, a_literal, some_names, a_path, one_of, a_fixed_path, a_truth, a_limit, some_texts, a_map_to, anything, Name, a_unit, an_import, a_content, an_entry, a_directive, a_declaration, a_member, a_parameter, a_body, a_statement, an_elif, an_else, a_clause, a_case, a_continuing, a_break_if, a_call, a_type, a_template_argument, an_expression, an_attribute, a_bundle, a_module, a_package, a_package_module, some_features, some_builtins, Form, leaf, list_of, node, Head, fixed, chosen, Row, nothing, marked, needs, may, many, given, inner, inner_where, Node, node_of_kind, spanned, within, worded, Table}
+use Rattle.wesl_syntax.specs.Tree.{branch, Kind, binder, reference, word, kind, at, ident, text, truth, expression_node, statement_node, attribute_node, member_node, import_node, directive_node, declaration_node, literal, parenthesized, named_component, indexing, call_expression, call, type_or_identifier, type_expression, template_argument, list, absent, attributes, statements, clauses, members, parameters, align, binding, blend_src, builtin, diagnostic, group, id, interpolate, location, size, workgroup_size, if_attribute, elif_attribute, custom, void, compound_statement, compound, increment, decrement, if_statement, if_clause, else_if_clause, else_clause, switch, switch_clause, default_case, expression_case, loop, continuing, break_if, for_loop, while_loop, break, continue, return, discard, call_statement, const_assert, import_statement, import_item, import_collection, import_entry, diagnostic_directive, enable_directive, requires_directive, type_alias, struct, member, function, parameter, declaration, const_kind, override_kind, let_kind, var_kind, imports, directive_list, declarations, unit}
+use Rattle.wesl_form.specs.Schema.{Spelled, leaf_of, labelled, look, nonempty, Words, Leaf, an_ident, a_name, a_text, a_literal, some_names, a_path, one_of, a_fixed_path, a_truth, a_limit, some_texts, a_map_to, anything, Name, a_unit, an_import, a_content, an_entry, a_directive, a_declaration, a_member, a_parameter, a_body, a_statement, an_elif, an_else, a_clause, a_case, a_continuing, a_break_if, a_call, a_type, a_template_argument, an_expression, an_attribute, a_bundle, a_module, a_package, a_package_module, some_features, some_builtins, Form, leaf, list_of, node, Head, fixed, chosen, Row, nothing, needs, may, many, inner, inner_where, Node, node_of_kind, spanned, within, worded, Table}
 use Rattle.wesl_form.specs.Words.{unary_words, binary_words, assignment_words, space_words, access_words, attribute_words}
 
 -- the word at `k` picks a node

@@ -1,11 +1,11 @@
 -- The places where a value breaks its form, and their JSON Pointers.
-use Rattle.std.specs.Prelude.{◌≡◌, ◌⊎◌, ℕ, List, [], ◌∷◌, ◌++◌, Bool, true, false, if◌then◌else◌, ◌==◌, is_some, Option, Some, None, option_map, option_and_then, codes, decimal, flat_map, encode_utf8, map}
-use Rattle.std.specs.Str.{bytes_eq, chars}
-use Rattle.serde_json.specs.Data.{Num, Data, Members}
-use Rattle.serde_json.specs.Find.{get, at, as_str, as_number, as_array, as_object, is_float}
+use Rattle.std.specs.Prelude.{◌≡◌, ◌⊎◌, List, [], ◌∷◌, ◌++◌, Bool, true, false, if◌then◌else◌, is_some, Option, Some, None, option_map, option_and_then, codes}
+use Rattle.std.specs.Str.{bytes_eq}
+use Rattle.serde_json.specs.Data.{Data, Members}
+use Rattle.serde_json.specs.Find.{get, at, as_number, as_array, as_object, is_float}
 use Rattle.wesl_names.specs.Path.{Text}
-use Rattle.wesl_syntax.specs.Tree.{Kind, kind, present}
-use Rattle.wesl_form.specs.Schema.{Words, Leaf, an_ident, a_name, a_text, a_literal, some_names, a_path, one_of, a_fixed_path, a_truth, a_limit, some_texts, a_map_to, anything, Name, Form, leaf, list_of, node, Head, fixed, chosen, Row, nothing, marked, needs, may, many, given, inner, inner_where, Node, Table}
+use Rattle.wesl_syntax.specs.Tree.{kind, present}
+use Rattle.wesl_form.specs.Schema.{Leaf, a_name, a_text, some_names, one_of, some_texts, a_map_to, anything, Name, Form, leaf, list_of, node, Head, fixed, chosen, Row, nothing, marked, needs, may, many, given, inner, inner_where, Node, Table}
 use Rattle.wesl_form.specs.Reading.{leaf_label, known_keys}
 use Rattle.wesl_form.specs.Keys.{has_only}
 use Rattle.wesl_form.specs.Pointer.{Part, key, index, pointer_text}

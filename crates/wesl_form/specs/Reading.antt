@@ -1,11 +1,10 @@
 -- The tree that a value is read as, by a table of nodes.
-use Rattle.std.specs.Prelude.{ℕ, zero, suc, List, [], ◌∷◌, ◌++◌, Bool, true, false, not, ◌&&◌, ◌||◌, if◌then◌else◌, nat_le, is_some, Option, Some, None, option_map, option_and_then, codes, map}
-use Rattle.std.specs.List.{list_any}
+use Rattle.std.specs.Prelude.{ℕ, zero, suc, List, [], ◌∷◌, ◌++◌, Bool, true, false, not, ◌&&◌, if◌then◌else◌, nat_le, is_some, Option, Some, None, option_map, option_and_then, codes}
 use Rattle.std.specs.Str.{bytes_eq}
-use Rattle.serde_json.specs.Data.{Num, unsigned, negative, float, Data, null, boolean, number, string, array, object, Items, no_items, item, Members, no_members, member}
+use Rattle.serde_json.specs.Data.{Data, Items, no_items, item, Members, no_members, member}
 use Rattle.serde_json.specs.Find.{get, as_str, as_bool, as_number, as_array, as_object, as_u64}
 use Rattle.serde_json.specs.Written.{has_float}
-use Rattle.wesl_syntax.specs.Tree.{before, Kind, LabelOf, kind, at, ident, text, texts, truth, path, ForestOf, end, tree, TreeOf, absent, present, list}
+use Rattle.wesl_syntax.specs.Tree.{before, kind, ident, text, texts, truth, path, end, tree, absent, present, list}
 use Rattle.wesl_names.specs.Path.{Text, Path, is_relative}
 use Rattle.wesl_names.specs.PathText.{parse}
 use Rattle.wesl_form.specs.Keys.{has_only}
@@ -22,9 +21,6 @@ if_text test s = if test s then Some s else None
 
 abbrev pub is_literal : Text → Bool
 is_literal s = is_some (nonempty s) && not (bytes_eq s (codes "true")) && not (bytes_eq s (codes "false"))
-
-abbrev pub text_in : Data → Option Text
-text_in d = as_str d
 
 abbrev pub name_in : Data → Option Text
 name_in d = option_and_then nonempty (as_str d)

@@ -1,9 +1,9 @@
 -- What a schema is: which members an object has, and the tree that each gives.
-use Rattle.std.specs.Prelude.{ℕ, List, [], ◌∷◌, ◌++◌, Bool, true, false, if◌then◌else◌, Option, Some, None}
+use Rattle.std.specs.Prelude.{List, [], ◌∷◌, if◌then◌else◌, Option, Some, None}
 use Rattle.std.specs.Str.{bytes_eq}
 use Rattle.serde_json.specs.Data.{Data}
 use Rattle.wesl_names.specs.Path.{Text}
-use Rattle.wesl_syntax.specs.Tree.{forest_of, Kind, Role, LabelOf, kind, at, ForestOf, end, tree, TreeOf}
+use Rattle.wesl_syntax.specs.Tree.{forest_of, Kind, Role, LabelOf, kind, at, ForestOf, end, TreeOf}
 
 -- a tree whose identifiers are names
 abbrev pub Spelled : Type 0

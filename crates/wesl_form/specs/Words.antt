@@ -1,6 +1,5 @@
 -- The words of operators, spaces and access modes, and of attributes without operand.
-use Rattle.std.specs.Prelude.{List, [], ◌∷◌, codes}
-use Rattle.wesl_names.specs.Path.{Text}
+use Rattle.std.specs.Prelude.{[], ◌∷◌, codes}
 use Rattle.wesl_syntax.specs.Tree.{kind, unary, binary, assignment, space, access, const_attribute, invariant_attribute, must_use, vertex, fragment, compute, publish, else_attribute}
 use Rattle.wesl_syntax.specs.declared.expression.UnaryOperator.TheVariants as unary_operator
 use Rattle.wesl_syntax.specs.declared.expression.BinaryOperator.TheVariants as binary_operator

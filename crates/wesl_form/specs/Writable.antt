@@ -1,9 +1,9 @@
 -- Expressions and types that can be written: names are nonempty, literals no truth values, paths read back.
-use Rattle.std.specs.Prelude.{◌≡◌, ℕ, zero, suc, ◌<◌, List, [], ◌∷◌, Bool, true, Option, Some, None}
+use Rattle.std.specs.Prelude.{◌≡◌, ℕ, ◌<◌, List, [], ◌∷◌, Bool, true, Some}
 use Rattle.serde_json.specs.Data.{depth}
 use Rattle.wesl_names.specs.Path.{Text, Path}
 use Rattle.wesl_names.specs.PathText.{parse, to_text}
-use Rattle.wesl_syntax.specs.Tree.{kind, at, ident, reference, text, truth, unary, binary, path, end, tree, before, branch, list, present, absent, expression_node, literal, parenthesized, named_component, indexing, call_expression, call, type_or_identifier, type_expression, template_argument}
+use Rattle.wesl_syntax.specs.Tree.{kind, at, ident, reference, text, truth, unary, binary, path, end, before, branch, list, present, absent, expression_node, literal, parenthesized, named_component, indexing, call_expression, call, type_or_identifier, type_expression, template_argument}
 use Rattle.wesl_syntax.specs.declared.expression.UnaryOperator.{UnaryOperator}
 use Rattle.wesl_syntax.specs.declared.expression.BinaryOperator.{BinaryOperator}
 use Rattle.wesl_form.specs.Schema.{Spelled, SpelledForest, SpelledLabel, leaf_of, labelled, node, an_expression, a_type}

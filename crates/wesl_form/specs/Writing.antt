@@ -1,17 +1,17 @@
 -- The value that a tree is written as: short forms wherever they exist, no empty list, no absent option.
-use Rattle.std.specs.Prelude.{ℕ, zero, suc, List, [], ◌∷◌, ◌++◌, Bool, true, false, not, ◌&&◌, ◌||◌, if◌then◌else◌, is_some, Option, Some, None, option_map, option_and_then, codes, map}
+use Rattle.std.specs.Prelude.{ℕ, zero, suc, List, [], ◌∷◌, ◌++◌, Bool, true, false, ◌&&◌, if◌then◌else◌, is_some, Option, Some, None, option_map, option_and_then, map}
 use denote.Enum.Bare.{sameb}
-use Rattle.serde_json.specs.Data.{Data, null, boolean, number, string, array, object, Items, no_items, item, Members, no_members, member, put}
+use Rattle.serde_json.specs.Data.{Data, null, boolean, string, array, object, Items, no_items, item, Members, no_members, put}
 use Rattle.wesl_names.specs.Path.{Text}
-use Rattle.wesl_syntax.specs.Tree.{before, Kind, LabelOf, kind, at, ident, text, texts, truth, unary, binary, assignment, space, access, path, ForestOf, end, tree, TreeOf, absent, present, literal, type_or_identifier, expression_case, template_argument}
-use Rattle.wesl_syntax.specs.Kinds.{kind_number, same_kind}
+use Rattle.wesl_syntax.specs.Tree.{before, Kind, kind, at, ident, text, texts, truth, unary, binary, assignment, space, access, path, end, tree, absent, literal, type_or_identifier, expression_case, template_argument}
+use Rattle.wesl_syntax.specs.Kinds.{same_kind}
 use Rattle.wesl_syntax.specs.contracts.expression.UnaryOperator as unary_operator
 use Rattle.wesl_syntax.specs.contracts.expression.BinaryOperator as binary_operator
 use Rattle.wesl_syntax.specs.contracts.statement.AssignmentOperator as assignment_operator
 use Rattle.wesl_syntax.specs.contracts.declaration.AddressSpace as address_space
 use Rattle.wesl_syntax.specs.contracts.declaration.AccessMode as access_mode
 use Rattle.wesl_names.specs.PathText.{to_text}
-use Rattle.wesl_form.specs.Schema.{Spelled, SpelledForest, SpelledLabel, Words, Leaf, one_of, Name, a_unit, an_import, a_content, an_entry, a_directive, a_declaration, a_member, a_parameter, a_body, a_statement, an_elif, an_else, a_clause, a_case, a_continuing, a_break_if, a_call, a_type, a_template_argument, an_expression, an_attribute, a_bundle, a_module, a_package, a_package_module, some_features, some_builtins, Form, leaf, list_of, node, Head, fixed, chosen, Row, nothing, marked, needs, may, many, given, inner, inner_where, Node, within}
+use Rattle.wesl_form.specs.Schema.{Spelled, SpelledForest, SpelledLabel, Words, Leaf, one_of, Name, a_content, a_directive, a_declaration, a_statement, a_case, a_type, a_template_argument, an_expression, an_attribute, Form, leaf, list_of, node, Head, fixed, chosen, Row, nothing, marked, needs, may, many, given, inner, inner_where, Node, within}
 use Rattle.wesl_form.specs.Words.{attribute_words}
 use Rattle.wesl_form.specs.Nodes.{NodeWords, nodes_of, expression_words, type_or_identifier_node, attribute_nodes, declaration_words, statement_words, directive_words, collection_node, item_node, a_default_case}
 

@@ -1,5 +1,5 @@
 -- What the marks of a module's declarations reach is what is kept.
-use Rattle.std.proofs.Common.{◌≡◌, ℕ, zero, suc, ◌<◌, ◌≤◌, Bool, true, false, not, ◌&&◌, ◌||◌, ◌==◌, cond, List, [], ◌∷◌, length, get_or, map, refl, sym, ◌∙◌, ap, subst, arith, ◌⊎◌, inl, inr, ◌↔◌}
+use Rattle.std.proofs.Common.{◌≡◌, ℕ, zero, suc, ◌<◌, Bool, true, false, not, ◌&&◌, ◌||◌, ◌==◌, cond, List, [], ◌∷◌, length, get_or, map, refl, sym, ◌∙◌, ap, subst, arith, ◌⊎◌, inl, inr, ◌↔◌}
 use Rattle.std.specs.Prelude.{Option, Some, None, bytes_eq}
 use Rattle.std.specs.List.{list_any, filter, Contains, All}
 use Rattle.std.proofs.lemmas.List.Folds.{list_any_at}
@@ -8,7 +8,7 @@ use Rattle.std.proofs.lemmas.Slice.Eq.{bytes_eq-Decides}
 use Rattle.wesl_names.specs.Path.{Text}
 use Rattle.wesl_syntax.specs.Tree.{Tree, forest_of, trees}
 use Rattle.wesl_syntax.specs.Unit.{UnitView, trees_of, name_in}
-use Rattle.wesl_occurrences.specs.Occurrences.{Block, OccurrenceIn, Occurrence, occurrences, is_module_name, is_reference}
+use Rattle.wesl_occurrences.specs.Occurrences.{Block, Occurrence, occurrences, is_module_name, is_reference}
 use Rattle.wesl_occurrences.specs.Walk.{Found}
 use Rattle.wesl_occurrences.specs.Ways.{told}
 use Rattle.wesl_kept.specs.Declarations.{lies_in, count, declared_in, referred_in, IsKept, named, nameless, reached}

@@ -1,5 +1,5 @@
 -- The global declarations by their numbers in the list: what each declares, and to what it refers.
-use Rattle.std.specs.Prelude.{◌≡◌, ℕ, ◌<◌, length, Bool, true, false, ◌&&◌, ◌==◌, Option, Some, None, List, [], map}
+use Rattle.std.specs.Prelude.{◌≡◌, ℕ, ◌<◌, length, Bool, false, ◌&&◌, ◌==◌, Option, Some, None, List, [], map}
 use Rattle.std.specs.List.{Contains, filter}
 use Rattle.wesl_names.specs.Path.{Text}
 use Rattle.wesl_syntax.specs.Tree.{trees}

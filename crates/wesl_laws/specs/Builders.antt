@@ -1,7 +1,7 @@
 -- Small trees, written short: a node type's fields in their order, without spans.
-use Rattle.std.specs.Prelude.{Bool, List, [], ◌∷◌, map}
+use Rattle.std.specs.Prelude.{List, [], ◌∷◌, map}
 use Rattle.wesl_names.specs.Path.{Text, Origin}
-use Rattle.wesl_syntax.specs.Tree.{Kind, LabelOf, ForestOf, TreeOf, end, tree, binder, reference, word, kind, at, ident, text, texts, truth, unary, binary, assignment, space, path, expression_node, statement_node, attribute_node, member_node, import_node, directive_node, declaration_node, literal, parenthesized, named_component, indexing, call_expression, call, type_or_identifier, type_expression, template_argument, list, present, absent, attributes, statements, clauses, members, parameters, workgroup_size, custom, compound_statement, compound, if_statement, if_clause, else_if_clause, else_clause, switch, switch_clause, default_case, expression_case, loop, continuing, break_if, for_loop, while_loop, return, call_statement, const_assert, import_statement, import_item, import_collection, import_entry, type_alias, struct, member, function, parameter, declaration, const_kind, let_kind, override_kind, var_kind, imports, directive_list, enable_directive, declarations}
+use Rattle.wesl_syntax.specs.Tree.{Kind, LabelOf, ForestOf, TreeOf, end, tree, binder, reference, word, kind, at, ident, text, texts, unary, binary, assignment, space, path, expression_node, statement_node, attribute_node, member_node, import_node, directive_node, declaration_node, literal, call, type_or_identifier, type_expression, template_argument, list, present, absent, attributes, statements, clauses, members, parameters, workgroup_size, compound_statement, compound, if_statement, if_clause, else_if_clause, else_clause, switch, switch_clause, default_case, expression_case, loop, continuing, break_if, for_loop, while_loop, call_statement, const_assert, import_statement, import_item, import_collection, import_entry, type_alias, struct, member, function, parameter, declaration, const_kind, let_kind, var_kind, imports, directive_list, enable_directive, declarations}
 use Rattle.wesl_syntax.specs.declared.expression.UnaryOperator.{UnaryOperator}
 use Rattle.wesl_syntax.specs.declared.expression.BinaryOperator.{BinaryOperator}
 use Rattle.wesl_syntax.specs.declared.expression.BinaryOperator.TheVariants.{Addition}

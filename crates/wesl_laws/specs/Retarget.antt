@@ -1,6 +1,6 @@
 -- The retarget test.
 use Rattle.std.specs.Prelude.{◌≡◌, ℕ, true, Option, Some, None, List, [], ◌∷◌, codes}
-use Rattle.wesl_names.specs.Path.{Text, absolute, relative, from_package}
+use Rattle.wesl_names.specs.Path.{Text, from_package}
 use Rattle.wesl_syntax.specs.Tree.{increment}
 use Rattle.wesl_syntax.specs.declared.statement.AssignmentOperator.TheVariants.{Equal}
 use Rattle.wesl_syntax.specs.declared.declaration.AddressSpace.TheVariants.{Private}

@@ -1,5 +1,5 @@
 -- A link over relations that mean the same.
-use Rattle.std.proofs.Common.{◌≡◌, ◌⊎◌, ◌↔◌, Option, ℕ, Bool, List, Result, Ok, Err, IfOk, inl, inr, ⊎_elim}
+use Rattle.std.proofs.Common.{◌⊎◌, ◌↔◌, Option, ℕ, Bool, List, Result, Ok, Err, IfOk, inl, inr, ⊎_elim}
 use Rattle.wesl_names.specs.Path.{Text, Path}
 use Rattle.wesl_names.specs.declared.errors.Error as error
 use Rattle.wesl_names.specs.declared.errors.ImportError as import_error

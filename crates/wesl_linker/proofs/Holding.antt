@@ -1,15 +1,23 @@
 -- What is told of a link that is held, whose symbols were given no names.
 use Rattle.std.proofs.Common.{◌≡◌, ℕ, Option, Some, None, refl, sym, subst, ap}
-use Rattle.wesl_names.specs.Path.{Text}
+use Rattle.wesl_names.specs.Path.{Text, Path}
 use Rattle.wesl_symbols.specs.declared.ids.PathId.{PathId}
 use Rattle.wesl_symbols.specs.declared.ids.NameId.{NameId}
 use Rattle.wesl_symbols.specs.declared.symbols.Symbol.{Symbol}
 use Rattle.wesl_linker.specs.Given.{Given}
 use Rattle.wesl_linker.specs.GivenView.{given}
-use Rattle.wesl_linker.specs.Keeping.{IsLinkOf, task_in, IsSound, IsSoundLink, resolved, resolved_of, or_own, given_at}
-use Rattle.wesl_linker.specs.Holding.{IsFoundBy}
+use Rattle.wesl_linker.specs.Keeping.{IsLinkOf, task_in, modules_in, kept_texts, IsSound, IsSoundLink, resolved, resolved_of, or_own, given_at}
+use Rattle.wesl_linker.specs.Resolved.{Resolved}
 use Rattle.wesl_linker.specs.declared.link.Link.{Link}
 use Rattle.wesl_linker.specs.declared.resolutions.Resolutions.{Resolutions}
+
+-- nothing but the link, each symbol under its own name
+pub record IsFoundBy (l : Link) (r : Resolved) : Type 0 where
+  pub modules : r.modules ≡ modules_in l
+  pub kept : r.kept ≡ kept_texts l
+  pub eager : r.is_eager ≡ l.is_eager
+  pub turns : r.turns ≡ l.linked.turns
+  pub names : (p : Path) (n : Text) → r.names p n ≡ n
 
 own_name : (names : Given) → ((s : Symbol PathId NameId) → names s ≡ None) → (n : Text) (p q : Option ℕ) → or_own n (given_at names p q) ≡ n
 own_name names none n None q = refl

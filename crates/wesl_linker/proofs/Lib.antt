@@ -22,6 +22,7 @@ pub mod Meant
 pub mod Parted
 pub mod Adding
 pub mod Whole
+pub mod Named
 pub mod Naming
 pub mod Recorded
 pub mod Mangled

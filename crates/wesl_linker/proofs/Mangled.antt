@@ -16,9 +16,10 @@ use Rattle.wesl_linker.specs.Recorded.{Record, Write, IsRecordedBy, HasNone, all
 use Rattle.wesl_linker.specs.Worlds.{Module, table}
 use Rattle.wesl_linker.specs.Resolved.{paths_of, declared_names, writes}
 use Rattle.wesl_linker.specs.Keeping.{module_of, loaded_modules, modules_in}
-use Rattle.wesl_linker.specs.Holding.{GivesTo, IsGivenAll, IsFreshAfter, AreOnlyRoot}
+use Rattle.wesl_linker.specs.Holding.{IsGivenAll}
 use Rattle.wesl_linker.specs.declared.loaded.LoadedModule.{LoadedModule}
 use Rattle.wesl_linker.specs.declared.link.Link.{Link}
+use Rattle.wesl_linker.proofs.Named.{GivesTo, IsFreshAfter, AreOnlyRoot}
 use Rattle.wesl_linker.proofs.Naming.{gives_none, gives_more, given_all, given_others, fresh_other}
 use Rattle.wesl_linker.proofs.Recorded.{module_recorded, recorded_then, writes_more}
 

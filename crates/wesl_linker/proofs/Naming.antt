@@ -19,7 +19,7 @@ use Rattle.wesl_linker.specs.Given.{Given, AreNamed, GivesNames, KeepsOthers, Ke
 use Rattle.wesl_linker.specs.Worlds.{Module, table}
 use Rattle.wesl_linker.specs.Resolved.{mangled, paths_of, IsMangled}
 use Rattle.wesl_linker.specs.Keeping.{IsSoundLink, IsSound, resolved, resolved_of, or_own, name_text, name_under, module_of, loaded_modules, all_loaded, modules_in, IsLinkOf, task_in}
-use Rattle.wesl_linker.specs.Holding.{printed_by, GivesTo, IsGivenAll, IsFreshAfter, AreOnlyRoot}
+use Rattle.wesl_linker.specs.Holding.{printed_by, IsGivenAll}
 use Rattle.wesl_linker.specs.declared.loaded.LoadedModule.{LoadedModule}
 use Rattle.wesl_linker.specs.declared.link.Link.{Link}
 use Rattle.wesl_linker.specs.declared.resolutions.Resolutions.{Resolutions}
@@ -27,6 +27,7 @@ use Rattle.wesl_linker.specs.GivenView.{given}
 use Rattle.wesl_linker.specs.declared.given.GivenNames.{GivenNames}
 use Rattle.wesl_linker.proofs.Carried.{related_in, related_back, option_of, option_back, declares_from, IsOneToOne}
 use Rattle.wesl_linker.proofs.Built.{paths_one, names_one}
+use Rattle.wesl_linker.proofs.Named.{GivesTo, IsFreshAfter, AreOnlyRoot}
 use Rattle.wesl_linker.proofs.Texts.{name_is, name_by}
 use Rattle.wesl_linker.proofs.Lists.{item_held}
 

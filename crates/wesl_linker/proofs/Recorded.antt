@@ -13,12 +13,12 @@ use Rattle.wesl_linker.proofs.Recording.{written_more}
 use Rattle.wesl_linker.specs.Worlds.{Module, table}
 use Rattle.wesl_linker.specs.Resolved.{declared_names, writes_from, writes}
 use Rattle.wesl_linker.specs.Keeping.{module_of, modules_in, modules_of, resolved_of}
-use Rattle.wesl_linker.specs.Holding.{GivesTo, IsFreshAfter}
 use Rattle.wesl_linker.specs.declared.loaded.LoadedModule.{LoadedModule}
 use Rattle.wesl_linker.specs.declared.link.Link.{Link}
 use Rattle.wesl_linker.specs.declared.resolutions.Resolutions.{Resolutions}
 use Rattle.wesl_linker.specs.GivenView.{given}
 use Rattle.wesl_linker.proofs.Built.{paths_one}
+use Rattle.wesl_linker.proofs.Named.{GivesTo, IsFreshAfter}
 
 text_is : (nb : Numbering) (n : NameId) (x : Text) → NameAt nb n x → text_of nb n ≡ x
 text_is nb n x at = get_or_from_slice_get nb.names n.0 x [] at

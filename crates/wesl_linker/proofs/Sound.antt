@@ -32,7 +32,6 @@ use Rattle.wesl_linker.specs.Taking.{path_eq, IsTaken, AreInOrder}
 use Rattle.wesl_linker.specs.Tabled.{IsMarked}
 use Rattle.wesl_linker.specs.Worlds.{Module, table, tables, task_of, IsLinked, IsModuleOrder}
 use Rattle.wesl_linker.specs.Resolved.{Resolved, module_at}
-use Rattle.wesl_linker.specs.Holding.{IsFoundBy}
 use Rattle.wesl_linker.specs.Keeping.{name_text, module_of, loaded_modules, IsTabled, IsCovered, IsLinkOf, task_in}
 use Rattle.wesl_linker.specs.declared.loaded.Held.{Held}
 use Rattle.wesl_linker.specs.declared.loaded.LoadedModule.{LoadedModule}
@@ -41,6 +40,7 @@ use Rattle.wesl_linker.proofs.Carried.{Back, one_back, related_in, related_back,
 use Rattle.wesl_linker.proofs.Built.{paths_one, names_one}
 use Rattle.wesl_linker.proofs.Found as found
 use Rattle.wesl_linker.proofs.Kept.{path_same, path_laws}
+use Rattle.wesl_linker.proofs.Holding.{IsFoundBy}
 use Rattle.wesl_linker.proofs.Lists.{at_has}
 use Rattle.wesl_linker.proofs.Marked.{marks_later}
 use Rattle.wesl_linker.proofs.Texts.{name_is}

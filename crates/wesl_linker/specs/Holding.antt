@@ -27,9 +27,9 @@ use Rattle.wesl_assembly.specs.Views.{Meaning, denotation_view}
 use Rattle.wesl_assembly.specs.declared.denotation.Denotation.{Denotation}
 use Rattle.wesl_linker.specs.Given.{Given}
 use Rattle.wesl_linker.specs.Linked.{Selects, Joins, Placed, placed, is_assert, IsHeld, AreHeldOf, AreMeanings}
-use Rattle.wesl_linker.specs.Resolved.{Resolved, mangled}
+use Rattle.wesl_linker.specs.Resolved.{mangled}
 use Rattle.wesl_linker.specs.Worlds.{table, tables}
-use Rattle.wesl_linker.specs.Keeping.{name_text, denotation_text, module_of, all_loaded, loaded_modules, modules_in, task_in, kept_texts, or_own}
+use Rattle.wesl_linker.specs.Keeping.{name_text, denotation_text, module_of, all_loaded, loaded_modules, modules_in, task_in, or_own}
 use Rattle.wesl_linker.specs.declared.loaded.LoadedModule.{LoadedModule}
 use Rattle.wesl_linker.specs.declared.link.Link.{Link}
 use Rattle.wesl_linker.specs.declared.assemble.Parts.{Parts}
@@ -40,14 +40,6 @@ use Rattle.wesl_linker.specs.declared.assemble.Parts.{Parts}
 abbrev pub printed_by : Numbering → Given → PathId → NameId → Text
 printed_by nb given p n = or_own (name_text nb n) (given (record { path = p; name = n }))
 
--- nothing but the link, each symbol under its own name
-pub record IsFoundBy (l : Link) (r : Resolved) : Type 0 where
-  pub modules : r.modules ≡ modules_in l
-  pub kept : r.kept ≡ kept_texts l
-  pub eager : r.is_eager ≡ l.is_eager
-  pub turns : r.turns ≡ l.linked.turns
-  pub names : (p : Path) (n : Text) → r.names p n ≡ n
-
 -- each name that the module declares has the name that the mangler gives, the root's only where it is to be mangled
 abbrev pub IsGivenName : Link → Given → Bool → (Path → Text → Text) → LoadedModule → Type 0
 IsGivenName l given mangle_root name_of m =
@@ -57,20 +49,6 @@ IsGivenName l given mangle_root name_of m =
 -- so it is for all modules
 abbrev pub IsGivenAll : Link → Bool → (Path → Text → Text) → Given → Type 0
 IsGivenAll l mangle_root name_of given = (m : LoadedModule) → Contains (all_loaded l) m → IsGivenName l given mangle_root name_of m
-
--- the names that these modules declare have the names that a mangler gives, and no others have one
-pub record GivesTo (nb : Numbering) (ms : List LoadedModule) (name_of : Path → Text → Text) (given : Given) : Type 0 where
-  pub names : (m : LoadedModule) (p : PathId) (n : NameId) (x : Text) → Contains ms m → Declares (table (module_of m)) x → PathAt nb p (path_view m.path) → NameAt nb n x
-      → given (record { path = p; name = n }) ≡ Some (name_of (path_view m.path) x)
-  pub none : (p : PathId) (n : NameId) → ((m : LoadedModule) → Contains ms m → PathAt nb p (path_view m.path) → ⊥) → given (record { path = p; name = n }) ≡ None
-
--- none of these modules has the path of this one
-abbrev pub IsFreshAfter : List LoadedModule → LoadedModule → Type 0
-IsFreshAfter ms m = (k : LoadedModule) → Contains ms k → path_view k.path ≡ path_view m.path → ⊥
-
--- no module, or the root alone
-abbrev pub AreOnlyRoot : Link → List LoadedModule → Type 0
-AreOnlyRoot l ms = (k : LoadedModule) → Contains ms k → k ≡ l.root
 
 -- ---- identifiers
 

@@ -10,9 +10,8 @@ use Rattle.std.proofs.lemmas.Slice.Eq.{bytes_eq-Decides}
 use Rattle.indexmap.specs.IndexMap.{insert_entry}
 use Rattle.wesl_names.specs.Path.{Text, Path, Origin, absolute, relative, from_package, same_origin, path_view}
 use Rattle.wesl_names.specs.PathLaws.{Equality, path_eq}
-use Rattle.wesl_occurrences.specs.Occurrences.{OccurrenceIn}
 use Rattle.wesl_meanings.specs.Scopes as scopes
-use Rattle.wesl_meanings.specs.Scopes.{is_visible, same_key}
+use Rattle.wesl_meanings.specs.Scopes.{same_key}
 use Rattle.wesl_names.specs.PathOrder.{same_components, same_path}
 use Rattle.wesl_meanings.specs.Keys.{flat, opened, open_at}
 use Rattle.wesl_meanings.specs.contracts.keys.KeyPartialEq.TheImpl as equality

@@ -1,15 +1,15 @@
 -- The keys that the code finds are those of plain scoping.
-use Rattle.std.proofs.Common.{◌≡◌, ℕ, zero, suc, ◌<◌, Bool, ◌&&◌, ◌||◌, ◌==◌, List, [], ◌∷◌, length, get_or, map, refl, sym, ◌∙◌, ap, arith, ◌↔◌}
+use Rattle.std.proofs.Common.{◌≡◌, ℕ, zero, suc, ◌<◌, ◌&&◌, ◌||◌, List, [], ◌∷◌, length, get_or, map, refl, sym, ◌∙◌, ap, arith}
 use Rattle.std.specs.Prelude.{bytes_eq, slice_index_or, Some, None}
 use Rattle.std.specs.List.{list_any, All}
-use Rattle.wesl_names.specs.Path.{Text, Path}
+use Rattle.wesl_names.specs.Path.{Text}
 use Rattle.wesl_syntax.specs.Unit.{UnitView, trees_of, spelled, name_in}
 use Rattle.wesl_occurrences.specs.Occurrences.{Block, Standing, module_name, parameter, local, reference, word, OccurrenceIn, Occurrence, occurrences}
 use Rattle.wesl_occurrences.specs.Views.{occurrence_view}
 use Rattle.wesl_occurrences.specs.declared.occurrence.Occurrence.{Occurrence as FoundOccurrence}
 use Rattle.wesl_occurrences.specs.Laws.{WaysLeadOutwards, SpellingKeepsOccurrences}
 use Rattle.wesl_occurrences.specs.Ways.{AreNested, way, told}
-use Rattle.wesl_meanings.specs.Scopes.{Key, bound, free, qualified, is_visible, binds, binder_of, meaning, key_as, key_of, keys}
+use Rattle.wesl_meanings.specs.Scopes.{Key, bound, is_visible, binds, binder_of, meaning, key_of, keys}
 use Rattle.wesl_syntax.specs.Numbers.{AreNumbers}
 use Rattle.wesl_meanings.specs.declared.keys.Key.{Key as FoundKey}
 use Rattle.wesl_meanings.specs.declared.keys.Key.TheVariants as made

@@ -1,16 +1,16 @@
 -- Scoping by the numbers of blocks is scoping by their ways.
-use Rattle.std.proofs.Common.{◌≡◌, ◌≢◌, ℕ, zero, suc, ◌+◌, ◌<◌, ◌≤◌, Bool, true, false, ◌&&◌, ◌||◌, ◌==◌, List, [], ◌∷◌, length, get_or, map, refl, sym, ◌∙◌, ap, subst, arith}
+use Rattle.std.proofs.Common.{◌≡◌, ℕ, zero, suc, ◌<◌, Bool, true, false, ◌&&◌, ◌==◌, List, [], ◌∷◌, length, get_or, refl, sym, ◌∙◌, ap, subst, arith}
 use Rattle.std.specs.Prelude.{bytes_eq, Option, Some, None, if◌then◌else◌}
 use Rattle.std.specs.Option.{option_or}
-use Rattle.std.specs.List.{find, list_any, All}
+use Rattle.std.specs.List.{find, list_any}
 use Rattle.std.specs.Bool.{Decides}
 use Rattle.std.proofs.lemmas.Bool.Decides.{Decides-eqb}
 use Rattle.std.proofs.lemmas.Slice.Eq.{bytes_eq-Decides}
 use Rattle.wesl_names.specs.Path.{Text}
-use Rattle.wesl_occurrences.specs.Occurrences.{Block, Standing, module_name, parameter, local, reference, word, OccurrenceIn, Occurrence}
-use Rattle.wesl_occurrences.specs.Ways.{AreNested, way, told}
+use Rattle.wesl_occurrences.specs.Occurrences.{Block, Standing, module_name, parameter, local, reference, word, Occurrence}
+use Rattle.wesl_occurrences.specs.Ways.{AreNested, way}
 use Rattle.wesl_occurrences.specs.Laws.{WaysLeadOutwards}
-use Rattle.wesl_meanings.specs.Scopes.{Key, bound, free, qualified, is_visible, binds, binder_of, meaning, key_as, key_of, keys}
+use Rattle.wesl_meanings.specs.Scopes.{bound, free, is_visible, binds, binder_of, meaning, key_as}
 use Rattle.wesl_meanings.specs.declared.keys.Key.{Key as FoundKey}
 use Rattle.wesl_meanings.specs.Keys.{resolved, number_of, key_by, open_at, meaning_in}
 use Rattle.wesl_meanings.proofs.Entries.{one_test}

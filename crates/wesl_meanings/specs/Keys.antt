@@ -1,7 +1,7 @@
 -- What the values of the code that tell what identifiers mean stand for.
-use Rattle.std.specs.Prelude.{◌≡◌, ℕ, ◌<◌, Bool, true, false, ◌&&◌, ◌==◌, nat_le, bytes_eq, Option, Some, None, List, [], ◌∷◌, map, if◌then◌else◌}
+use Rattle.std.specs.Prelude.{ℕ, ◌<◌, Bool, false, ◌&&◌, ◌==◌, nat_le, bytes_eq, Option, Some, None, List, [], ◌∷◌, if◌then◌else◌}
 use Rattle.std.specs.Map.{lookup}
-use Rattle.wesl_names.specs.Path.{Text, Path, path_view}
+use Rattle.wesl_names.specs.Path.{Text, path_view}
 use Rattle.wesl_syntax.specs.Unit.{name_in}
 use Rattle.wesl_occurrences.specs.Occurrences.{Block, Standing, module_name, parameter, local, reference, word, OccurrenceIn, Occurrence}
 use Rattle.wesl_occurrences.specs.Laws.{renamed}

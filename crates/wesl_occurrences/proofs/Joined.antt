@@ -11,7 +11,7 @@ use Rattle.wesl_occurrences.specs.Walk.{Found, Here, State, Fields, numbers_at, 
 use Rattle.std.specs.List.{All}
 use Rattle.wesl_occurrences.specs.Views.{occurrence_view}
 use Rattle.wesl_occurrences.specs.declared.occurrence.Occurrence as found
-use Rattle.wesl_occurrences.specs.Ways.{AreNested, grown, way, told, told_here, told_node}
+use Rattle.wesl_occurrences.specs.Ways.{AreNested, grown, way, told}
 
 abbrev pub Each : {X : Type 0} → (X → Type 0) → List X → Type 0
 Each P [] = Unit {0}
@@ -106,6 +106,13 @@ way_unfolds (m ∷ bs) zero ns some h = absurd (omega arith)
 way_unfolds (m ∷ bs) (suc b) ns some h =
     let e : 1 + b ≡ suc b = omega arith in
     subst (λ k. get_or (grown ([] ∷ []) bs) k [] ≡ k ∷ get_or (grown ([] ∷ []) bs) (get_or bs b 0) []) e (grown_entry ([] ∷ []) bs b (omega arith) (let l : get_or bs b 0 < suc b = ns (suc b) some h in omega (arith, l)))
+
+-- what is told of a node, where each block is told by its way
+abbrev pub told_here : (ℕ → Block) → Surroundings ℕ → Surroundings Block
+told_here w h = record { block = w h.block; held_block = w h.held_block; is_local = h.is_local; declaration = h.declaration; words = h.words; excused = h.excused }
+
+abbrev pub told_node : (ℕ → Block) → Node ℕ → Node Block
+told_node w n = record { ahead = map (told_here w) n.ahead; others = told_here w n.others; next_declaration = n.next_declaration; declares = n.declares; path = n.path }
 
 -- nodes
 first_told : (w : ℕ → Block) (others : Here) (ahead : List Here) → first_or (told_here w others) (map (told_here w) ahead) ≡ told_here w (first_or others ahead)

@@ -3,7 +3,7 @@ use Rattle.std.specs.Prelude.{ℕ, map}
 use Rattle.std.specs.Option.{option_map}
 use Rattle.wesl_names.specs.Path.{path_view}
 use Rattle.wesl_occurrences.specs.Occurrences as spec
-use Rattle.wesl_occurrences.specs.Occurrences.{OccurrenceIn, Surroundings}
+use Rattle.wesl_occurrences.specs.Occurrences.{Surroundings}
 use Rattle.wesl_occurrences.specs.Walk.{State, Found}
 use Rattle.wesl_occurrences.specs.declared.occurrence.Standing.{Standing}
 use Rattle.wesl_occurrences.specs.declared.occurrence.Standing.TheVariants as standings

@@ -1,6 +1,6 @@
 -- Blocks by their numbers, and by their ways.
-use Rattle.std.specs.Prelude.{ℕ, ◌<◌, List, [], ◌∷◌, ◌++◌, map, length, get_or}
-use Rattle.wesl_occurrences.specs.Occurrences.{Block, OccurrenceIn, Occurrence, Surroundings, Node}
+use Rattle.std.specs.Prelude.{ℕ, ◌<◌, List, [], ◌∷◌, ◌++◌, length, get_or}
+use Rattle.wesl_occurrences.specs.Occurrences.{Block, OccurrenceIn, Occurrence}
 
 abbrev pub grown : List Block → List ℕ → List Block
 grown ws [] = ws
@@ -18,12 +18,6 @@ way outer b = get_or (ways outer) b []
 -- the same, where each block is told by its way
 abbrev pub told : (ℕ → Block) → OccurrenceIn ℕ ℕ → Occurrence ℕ
 told w o = record { role = o.role; name = o.name; place = o.place; block = w o.block; declaration = o.declaration; excused = o.excused }
-
-abbrev pub told_here : (ℕ → Block) → Surroundings ℕ → Surroundings Block
-told_here w h = record { block = w h.block; held_block = w h.held_block; is_local = h.is_local; declaration = h.declaration; words = h.words; excused = h.excused }
-
-abbrev pub told_node : (ℕ → Block) → Node ℕ → Node Block
-told_node w n = record { ahead = map (told_here w) n.ahead; others = told_here w n.others; next_declaration = n.next_declaration; declares = n.declares; path = n.path }
 
 -- each block but the module's opens after the one round it
 abbrev pub AreNested : List ℕ → Type 0

@@ -2,8 +2,8 @@
 use Rattle.std.proofs.Common.{◌≡◌, ℕ, List, [], ◌∷◌, map, Bool, true, false, ◌&&◌, if◌then◌else◌, Some, None, codes, refl, sym, ◌∙◌, subst}
 use Rattle.serde_json.specs.Data.{string, object, Members, no_members, put}
 use Rattle.wesl_names.specs.Path.{Text}
-use Rattle.wesl_syntax.specs.Tree.{Tree, Kind, kind, at, ident, text, texts, binder, word, absent, present, list, end, tree, before, branch, forest_of, respell, respell_forest, import_node, directive_node, declaration_node, attributes, imports, directive_list, declarations, unit, import_statement, import_item, import_collection, import_entry, diagnostic_directive, enable_directive, requires_directive, function, parameters}
-use Rattle.wesl_syntax.specs.View.{attributes_tree, type_view, placed, optional, path_tree, item_view, content_step, entry_step, content_view, entry_view, import_view, directive_view, function_view, global_view, imports_tree, directives_tree, declarations_tree}
+use Rattle.wesl_syntax.specs.Tree.{Tree, kind, at, ident, binder, word, absent, present, list, end, tree, before, branch, forest_of, respell_forest, import_node, directive_node, declaration_node, imports, directive_list, declarations, unit, import_statement, import_item, import_entry, diagnostic_directive, enable_directive, requires_directive, function, parameters}
+use Rattle.wesl_syntax.specs.View.{type_view, placed, path_tree, item_view, content_step, entry_step, content_view, entry_view, import_view, directive_view, function_view, global_view}
 use Rattle.wesl_syntax.specs.Unit.{forest_of_unit, spelled, name_in}
 use Rattle.wesl_syntax.specs.declared.span.Spanned.{Spanned}
 use Rattle.wesl_syntax.specs.declared.import.ImportItem.{ImportItem}

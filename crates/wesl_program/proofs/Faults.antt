@@ -1,8 +1,7 @@
 -- The fault of a module that is refused is none of the bundle that holds it.
-use Rattle.std.specs.declared.alloc.Global.{Global}
 use Rattle.std.specs.Option.{option_map}
 use Rattle.std.specs.Prelude.{string_bytes}
-use Rattle.std.proofs.Common.{◌≡◌, ◌⊎◌, ℕ, List, [], ◌∷◌, Bool, true, false, true≢false, Option, Some, None, String, bytes_eq, codes, refl, sym, ap, ◌∙◌, subst, inl, inr}
+use Rattle.std.proofs.Common.{◌≡◌, ◌⊎◌, ℕ, List, [], Bool, true, false, true≢false, Option, Some, None, bytes_eq, codes, refl, sym, ap, ◌∙◌, subst, inl, inr}
 use Rattle.serde_json.specs.Data.{Data}
 use Rattle.wesl_syntax.specs.Unit.{UnitOf}
 use Rattle.wesl_names.specs.Path.{Text, Origin, absolute, relative, from_package, Path}
@@ -13,7 +12,6 @@ use Rattle.wesl_base.specs.declared.faults.CondCompError.TheVariants as cond
 use Rattle.wesl_names.specs.declared.errors.ResolveError as resolve_error
 use Rattle.wesl_names.specs.declared.errors.ImportError as import_error
 use Rattle.wesl_chains.specs.FormulaFaults.{Fault, Tells}
-use Rattle.wesl_features.specs.Features.{answer_to}
 use Rattle.wesl_features.specs.declared.features.Features.{Features}
 use Rattle.wesl_tree.specs.Translation.{unit_view}
 use Rattle.wesl_tree.specs.declared.unit.TranslationUnit.{TranslationUnit}

@@ -1,5 +1,5 @@
 -- Packages as texts, one more at a time.
-use Rattle.std.proofs.Common.{◌≡◌, List, [], ◌∷◌, ◌++◌}
+use Rattle.std.proofs.Common.{List, [], ◌∷◌, ◌++◌}
 use Rattle.wesl_bundle.specs.Packages as said
 use Rattle.wesl_bundle.specs.PackageViews.{package_modules, packages_of}
 use Rattle.wesl_resolver.specs.declared.packages.CodegenModule.{CodegenModule}

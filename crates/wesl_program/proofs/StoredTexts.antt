@@ -1,5 +1,5 @@
 -- Why a text is refused: as JSON is, but for one that is no JSON.
-use Rattle.std.proofs.Common.{◌≡◌, ◌⊎◌, Some, [], None, sym, ◌∙◌, subst, inl, inr}
+use Rattle.std.proofs.Common.{◌≡◌, ◌⊎◌, Some, [], sym, ◌∙◌, subst, inl, inr}
 use Rattle.wesl_names.specs.Path.{Text}
 use Rattle.wesl_names.specs.declared.errors.Error as error
 use Rattle.wesl_json.specs.UnitTexts as json

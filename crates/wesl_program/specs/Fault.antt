@@ -1,6 +1,6 @@
 -- What a fault line tells of an error: the name of the fault and its arguments. Of errors that hold one
 -- another, as the refusal of a resolver holds the fault of a unit, the innermost is told.
-use Rattle.std.specs.Prelude.{ℕ, List, [], ◌∷◌, codes, decimal, string_bytes}
+use Rattle.std.specs.Prelude.{List, [], ◌∷◌, codes, decimal, string_bytes}
 use Rattle.wesl_names.specs.Path.{Text, path_view}
 use Rattle.wesl_names.specs.PathText.{to_text}
 use Rattle.wesl_names.specs.declared.path.ModulePath.{ModulePath}

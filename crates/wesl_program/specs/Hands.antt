@@ -1,5 +1,5 @@
 -- What the modules of a bundle hand out at a path, and what they refuse.
-use Rattle.std.specs.Prelude.{◌≡◌, Option, Some, None, codes}
+use Rattle.std.specs.Prelude.{Option, Some, None, codes}
 use Rattle.serde_json.specs.Data.{Data}
 use Rattle.wesl_syntax.specs.Unit.{UnitOf}
 use Rattle.wesl_names.specs.Path.{Text, Path}

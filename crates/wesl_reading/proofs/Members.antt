@@ -14,7 +14,7 @@ use Rattle.wesl_form.specs.Keys.{has_only}
 use Rattle.wesl_form.specs.Units.{NumberedFrom}
 use Rattle.wesl_form.specs.Nodes.{whole_form, nodes_of}
 use Rattle.wesl_reading.specs.Forms.{HasWord}
-use Rattle.wesl_reading.specs.Numbers.{Begins, IsNumbered, IsReadAs, AreReadAs, ReadsForm, ReadsMember, ReadsOptional, ReadsList, ReadsRow, ReadsNode, ReadsPlain}
+use Rattle.wesl_reading.specs.Numbers.{Begins, IsNumbered, IsReadAs, AreReadAs, ReadsForm, ReadsMember, ReadsOptional, ReadsList, ReadsRow, ReadsPlain}
 use Rattle.wesl_reading.proofs.Depths.{get-depth}
 use Rattle.wesl_reading.proofs.Rows.{IsPlain, plain-kind, over, none-read, Begins-same}
 use Rattle.wesl_reading.proofs.Lists.{one-up}
@@ -109,6 +109,10 @@ pub word-label : (w : Text) (d : Data) → HasWord w d → look {A = SpelledLabe
 word-label w d h same = word-case w (get (codes "k") d) h same
 
 -- ---- nodes
+
+-- an object is read as the node
+abbrev pub ReadsNode : Node → Data → Tree → List Text → List Text → Type 0
+ReadsNode nd d = IsReadAs (λ n. node_in (reading whole_form n) d nd) (depth d)
 
 -- an object is read by its members
 pub node-of-row : (nd : Node) (d : Data) (l : Label) (s : SpelledLabel) (ts : Forest) (a b : List Text) → IsPlain l s → label_in nd.head d ≡ Some s → has_only (known_keys nd.row d) d ≡ true → ReadsRow nd.row d ts a b → ReadsNode nd d (record { label = l; children = ts }) a b

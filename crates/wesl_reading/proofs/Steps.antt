@@ -12,12 +12,12 @@ use Rattle.wesl_form.specs.Reading.{reading, leaf_label, name_in as name_of, lab
 use Rattle.wesl_form.specs.Keys.{has_only}
 use Rattle.wesl_form.specs.Place.{field, fields, find_field, IsWrongLeaf}
 use Rattle.wesl_reading.specs.Forms.{HasWord, worded_node}
-use Rattle.wesl_reading.specs.Numbers.{IsNumbered, Reads, ReadsNeeded, ReadsMay, ReadsMany, ReadsPlain, ReadsRows, ReadsNode, ReadsRow}
+use Rattle.wesl_reading.specs.Numbers.{IsNumbered, Reads, ReadsNeeded, ReadsMay, ReadsMany, ReadsPlain, ReadsRows, ReadsRow}
 use Rattle.wesl_reading.specs.Faults.{Locates, LocatesMember, LocatesInside, LocatesText}
 use Rattle.wesl_reading.proofs.Places.{node-row, row-member, row-inside, row-text}
 use Rattle.wesl_reading.proofs.Lists.{one-up}
 use Rattle.wesl_reading.proofs.Rows.{IsPlain, plain-at, row-nothing, row-needs, row-may, row-many, row-inner, row-marked, over, none-read}
-use Rattle.wesl_reading.proofs.Members.{member-form, member-present, member-absent, member-ident, member-leaf, word-label, node-of-row, form-of-node, form-of-short, list-there, list-absent, as_expression, plain_type, truth-read, plain-expression}
+use Rattle.wesl_reading.proofs.Members.{ReadsNode, member-form, member-present, member-absent, member-ident, member-leaf, word-label, node-of-row, form-of-node, form-of-short, list-there, list-absent, as_expression, plain_type, truth-read, plain-expression}
 
 -- ---- members
 

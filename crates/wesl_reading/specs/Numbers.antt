@@ -5,9 +5,9 @@ use Rattle.serde_json.specs.Find.{get}
 use Rattle.wesl_names.specs.Path.{Text}
 use Rattle.wesl_syntax.specs.Tree.{Tree, Forest, kind, type_expression, before, end, identifiers, forest_below, respell, respell_forest}
 use Rattle.wesl_syntax.specs.Unit.{name_in}
-use Rattle.wesl_form.specs.Schema.{Spelled, SpelledForest, Form, Row, Node}
+use Rattle.wesl_form.specs.Schema.{Spelled, SpelledForest, Form, Row}
 use Rattle.wesl_form.specs.Nodes.{short_type, type_row}
-use Rattle.wesl_form.specs.Reading.{known_keys, reading, needed, optional, or_empty, empty_of, children_in, node_in}
+use Rattle.wesl_form.specs.Reading.{known_keys, reading, needed, optional, or_empty, empty_of, children_in}
 use Rattle.wesl_form.specs.Keys.{has_only}
 use Rattle.wesl_form.specs.Units.{NumberedFrom, HasNoSpan, same_number}
 use Rattle.wesl_form.specs.Nodes.{whole_form}
@@ -55,10 +55,6 @@ ReadsList k f d = IsReadAs (λ n. or_empty (empty_of f) (reading whole_form n f)
 -- the members of an object are read as the children
 abbrev pub ReadsRow : Row → Data → Forest → List Text → List Text → Type 0
 ReadsRow row d = AreReadAs (λ n. children_in (reading whole_form n) row d) (depth d)
-
--- an object is read as the node
-abbrev pub ReadsNode : Node → Data → Tree → List Text → List Text → Type 0
-ReadsNode nd d = IsReadAs (λ n. node_in (reading whole_form n) d nd) (depth d)
 
 -- a value that is no object is read as a type by its name alone
 pub record ReadsPlain (d : Data) (t : Tree) (old new : List Text) : Type 0 where

@@ -1,5 +1,5 @@
 -- What a standard resolver means, once its packages or its other resolver were asked.
-use Rattle.std.proofs.Common.{◌≡◌, ◌↔◌, Option, Result, IfOk, IfErr, String, subst, sym, refl, inl, inr, ⊎_elim}
+use Rattle.std.proofs.Common.{◌≡◌, ◌↔◌, Option, Result, IfOk, IfErr, String, subst, sym, refl}
 use Rattle.std.specs.declared.alloc.Global.{Global}
 use Rattle.wesl_names.specs.Path.{Text, Path, Origin, absolute, relative, from_package, origin_view, path_view}
 use Rattle.wesl_names.specs.Errors.{OrMemory}

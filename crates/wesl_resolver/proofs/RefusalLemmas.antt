@@ -1,5 +1,5 @@
 -- What a refusal tells of a fault, told by another way to say the fault.
-use Rattle.std.proofs.Common.{◌≡◌, ◌⊎◌, Bool, true, Option, Some, None, IfSome, subst, sym, ◌∙◌, ⊎_elim, true≢false}
+use Rattle.std.proofs.Common.{◌≡◌, ◌⊎◌, true, Option, Some, None, IfSome, subst, sym, ◌∙◌, ⊎_elim, true≢false}
 use Rattle.std.specs.Option.{is_some}
 use Rattle.wesl_names.specs.Errors.{OrMemory, IsRefusedWith}
 use Rattle.wesl_names.specs.declared.path.ModulePath.{ModulePath}

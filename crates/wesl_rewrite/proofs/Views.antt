@@ -1,29 +1,21 @@
 -- The trees of the nodes that hold lists of their own cycle, by the trees of their parts; and the labels of variants.
-use Rattle.std.proofs.Common.{◌≡◌, [], ◌∷◌, false, refl, sym, ap, ◌∙◌, rules}
+use Rattle.std.proofs.Common.{◌≡◌, [], ◌∷◌, ◌∙◌, rules}
 use mathlib.Core.List.{map-map}
 use Rattle.std.specs.Prelude.{Option}
 use Rattle.std.specs.Box.{box_value}
 use Rattle.std.specs.Global.{Box, Vec}
 use Rattle.wesl_syntax.specs.declared.span.Spanned.{Spanned}
 use Rattle.wesl_syntax.specs.Tree.{branch, kind, type_expression, call, call_statement, compound, for_loop, list, return, statements, Tree, while_loop}
-use Rattle.wesl_syntax.specs.View.{attribute_view, call_view, type_view, expression_view, expression_tree, listed, optional, attributes_tree, expression_step, call_step, argument_step, type_step, compound_view, statement_view, statement_tree, statement_step, compound_step, continuing_step, else_step, else_if_step, if_step, clause_step, global_view}
+use Rattle.wesl_syntax.specs.View.{call_view, type_view, expression_tree, listed, optional, attributes_tree, expression_step, call_step, argument_step, type_step, compound_view, statement_view, statement_tree, statement_step, compound_step, continuing_step, else_step, else_if_step, if_step, clause_step}
 use Rattle.wesl_syntax.specs.declared.attribute.Attribute.{Attribute}
-use Rattle.wesl_syntax.specs.declared.attribute.Attribute.TheVariants as attr
-use Rattle.wesl_syntax.specs.declared.declaration.GlobalDeclaration.{GlobalDeclaration}
-use Rattle.wesl_syntax.specs.declared.declaration.GlobalDeclaration.TheVariants as globals
-use Rattle.wesl_syntax.specs.declared.expression.Expression.{Expression, out-Expression, the_lemmas as type_lemmas}
-use Rattle.wesl_syntax.specs.declared.expression.Expression.TheFolds.{fold_out-FunctionCall, fold-roll-Expression}
-use Rattle.wesl_syntax.specs.declared.expression.Expression.TheOpen.{Expression-F}
-use Rattle.wesl_syntax.specs.declared.expression.Expression.TheViews as expressions
+use Rattle.wesl_syntax.specs.declared.expression.Expression.{Expression, the_lemmas as type_lemmas}
+use Rattle.wesl_syntax.specs.declared.expression.Expression.TheFolds.{fold_out-FunctionCall}
 use Rattle.wesl_syntax.specs.declared.expression.TypeExpression.{TypeExpression}
 use Rattle.wesl_syntax.specs.declared.expression.FunctionCall.{FunctionCall, out-FunctionCall}
 use Rattle.wesl_syntax.specs.declared.statement.CompoundStatement.{CompoundStatement, out-CompoundStatement}
-use Rattle.wesl_syntax.specs.declared.statement.Statement.{Statement, FunctionCall as CallStatement, Return as ReturnStatement, the_lemmas, out-Statement}
-use Rattle.wesl_syntax.specs.declared.statement.Statement.TheFolds.{fold_out-CompoundStatement, fold-roll-Statement}
-use Rattle.wesl_syntax.specs.declared.statement.Statement.TheOpen.{Statement-F}
+use Rattle.wesl_syntax.specs.declared.statement.Statement.{Statement, FunctionCall as CallStatement, Return as ReturnStatement, the_lemmas}
+use Rattle.wesl_syntax.specs.declared.statement.Statement.TheFolds.{fold_out-CompoundStatement}
 use Rattle.wesl_syntax.specs.declared.statement.Statement.TheViews as statement_views
-use Rattle.wesl_collect.specs.Sought.{Sought}
-use Rattle.wesl_collect.specs.Picks.{picks}
 
 pub view_call : (c : FunctionCall) → call_view c ≡ branch call (type_view (out-FunctionCall c).ty ∷ listed expression_tree list (out-FunctionCall c).arguments ∷ [])
 view_call c = fold_out-FunctionCall Tree Tree Tree Tree expression_step call_step argument_step type_step c ∙ simp map-map

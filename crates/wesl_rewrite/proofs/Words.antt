@@ -1,5 +1,5 @@
 -- What becomes of formulas, imports and directives.
-use Rattle.std.proofs.Common.{◌≡◌, Bool, true, false, ◌&&◌, List, [], ◌∷◌, map, refl, sym, ◌∙◌, subst, Option, None, Some, Vec, Global, String}
+use Rattle.std.proofs.Common.{◌≡◌, Bool, true, false, List, [], ◌∷◌, map, refl, sym, ◌∙◌, subst, Option, None, Some, Vec, Global, String}
 use Rattle.wesl_names.specs.declared.path.ModulePath.{ModulePath}
 use Rattle.wesl_syntax.specs.Tree.{Label, Forest, Tree, end, tree, before, forest_of, kind, attributes, attribute_node, if_attribute, elif_attribute, import_statement, diagnostic_directive, enable_directive, requires_directive}
 use Rattle.wesl_syntax.specs.Nodes.{is_formula}

@@ -1,5 +1,5 @@
 -- Nodes and identifiers of a tree, in document order: a node before its children, children in the order of their fields.
-use Rattle.std.specs.Prelude.{Bool, true, false, ◌||◌, List, [], ◌∷◌, ◌++◌, if◌then◌else◌}
+use Rattle.std.specs.Prelude.{Bool, true, false, List, [], ◌∷◌, ◌++◌, if◌then◌else◌}
 use Rattle.wesl_syntax.specs.Tree.{LabelOf, ForestOf, TreeOf, end, tree, kind, at, attributes, type_expression, expression_node, statement_node, if_attribute, elif_attribute, import_statement, diagnostic_directive, enable_directive, requires_directive}
 
 module _ {I : Type 0} where

@@ -1,7 +1,7 @@
 -- A whole module: a table of names, and its imports, directives and declarations.
 use Rattle.std.specs.Prelude.{ℕ, Bool, true, false, ◌&&◌, List, [], length, get_or, if◌then◌else◌}
 use Rattle.wesl_names.specs.Path.{Text}
-use Rattle.wesl_syntax.specs.Tree.{LabelOf, ForestOf, TreeOf, Tree, kind, void, end, tree, branch, identifiers, respell, tree_below, imports as imports_kind, directive_list, declarations as declarations_kind}
+use Rattle.wesl_syntax.specs.Tree.{ForestOf, TreeOf, Tree, kind, void, end, tree, branch, identifiers, respell, tree_below, imports as imports_kind, directive_list, declarations as declarations_kind}
 
 -- what a module says: numbers for its identifiers, and a name for each number
 pub record UnitView : Type 0 where

@@ -1,9 +1,8 @@
 -- The tree that each node type stands for: its fields in document order, attributes first.
-use Rattle.std.specs.Prelude.{ℕ, List, [], ◌∷◌, map, String, string_bytes, Vec, Option, Some, None}
+use Rattle.std.specs.Prelude.{List, [], ◌∷◌, map, String, string_bytes, Vec, Option, Some, None}
 use Rattle.std.specs.Box.{box_value}
-use Rattle.std.specs.Global.{Box}
 use Rattle.std.specs.declared.alloc.Global.{Global}
-use Rattle.wesl_syntax.specs.Tree.{Kind, Role, Label, Forest, Tree, leaf, forest_of, branch, binder, reference, word, kind, at, ident, text, texts, truth, unary, binary, assignment, space, access, path, expression_node, statement_node, attribute_node, member_node, import_node, directive_node, declaration_node, literal, parenthesized, named_component, indexing, call_expression, call, type_or_identifier, type_expression, template_argument, list, present, absent, attributes, statements, clauses, members, parameters, align, binding, blend_src, builtin, const_attribute, diagnostic, group, id, interpolate, invariant_attribute, location, must_use, size, workgroup_size, vertex, fragment, compute, publish, if_attribute, elif_attribute, else_attribute, custom, void, compound_statement, compound, increment, decrement, if_statement, if_clause, else_if_clause, else_clause, switch, switch_clause, default_case, expression_case, loop, continuing, break_if, for_loop, while_loop, break, continue, return, discard, call_statement, const_assert, import_statement, import_item, import_collection, import_entry, diagnostic_directive, enable_directive, requires_directive, type_alias, struct, member, function, parameter, declaration, const_kind, override_kind, let_kind, var_kind, imports, directive_list, declarations, unit}
+use Rattle.wesl_syntax.specs.Tree.{Kind, Role, Tree, leaf, forest_of, branch, binder, reference, word, kind, at, ident, text, texts, truth, unary, binary, assignment, space, access, path, expression_node, statement_node, attribute_node, member_node, import_node, directive_node, declaration_node, literal, parenthesized, named_component, indexing, call_expression, call, type_or_identifier, type_expression, template_argument, list, present, absent, attributes, statements, clauses, members, parameters, align, binding, blend_src, builtin, const_attribute, diagnostic, group, id, interpolate, invariant_attribute, location, must_use, size, workgroup_size, vertex, fragment, compute, publish, if_attribute, elif_attribute, else_attribute, custom, void, compound_statement, compound, increment, decrement, if_statement, if_clause, else_if_clause, else_clause, switch, switch_clause, default_case, expression_case, loop, continuing, break_if, for_loop, while_loop, break, continue, return, discard, call_statement, const_assert, import_statement, import_item, import_collection, import_entry, diagnostic_directive, enable_directive, requires_directive, type_alias, struct, member, function, parameter, declaration, const_kind, override_kind, let_kind, var_kind, imports, directive_list, declarations}
 use Rattle.wesl_names.specs.Path.{Text, path_view}
 use Rattle.wesl_names.specs.declared.names.Ident.{Ident}
 use Rattle.wesl_names.specs.declared.path.ModulePath.{ModulePath}
@@ -51,10 +50,6 @@ use Rattle.wesl_syntax.specs.declared.statement.ElseClause.{ElseClause}
 use Rattle.wesl_syntax.specs.declared.statement.ElseIfClause.{ElseIfClause}
 use Rattle.wesl_syntax.specs.declared.statement.IfClause.{IfClause}
 use Rattle.wesl_syntax.specs.declared.statement.SwitchClause.{SwitchClause}
-
-abbrev pub option_tree : Option Tree → Tree
-option_tree None = leaf (kind absent)
-option_tree (Some t) = branch present (t ∷ [])
 
 -- an optional field
 module _ {A : Type 0} (view : A → Tree) where

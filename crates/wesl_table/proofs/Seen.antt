@@ -18,7 +18,7 @@ use Rattle.wesl_occurrences.specs.declared.occurrence.Standing.{Standing}
 use Rattle.wesl_occurrences.specs.declared.occurrence.Standing.TheVariants as standings
 use Rattle.wesl_meanings.specs.Keys.{key_view, IsKeyBelow}
 use Rattle.wesl_meanings.specs.Scopes as scopes
-use Rattle.wesl_meanings.specs.Scopes.{key_of, keys}
+use Rattle.wesl_meanings.specs.Scopes.{key_of}
 use Rattle.wesl_meanings.specs.declared.keys.Key.{Key}
 use Rattle.wesl_meanings.specs.declared.keys.Key.TheVariants as made
 use Rattle.wesl_table.specs.Numbering.{Numbering, NameAt}

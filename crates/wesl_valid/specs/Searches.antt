@@ -1,6 +1,5 @@
 -- What a search along edges has found so far.
-use Rattle.std.specs.Prelude.{◌≡◌, ◌≢◌, ◌⊎◌, ℕ, ◌<◌, ◌≤◌, ◌+◌, Option, Some, None, List, [], ◌∷◌, length, get_or}
-use Rattle.std.specs.List.{sum}
+use Rattle.std.specs.Prelude.{◌≡◌, ◌⊎◌, ℕ, ◌<◌, ◌≤◌, Option, Some, None, List, [], ◌∷◌, length, get_or}
 use Rattle.wesl_valid.specs.Graphs.{Graph, edges_at, Leads, IsGrounded}
 use Rattle.wesl_valid.specs.declared.graph.Mark.{Mark}
 use Rattle.wesl_valid.specs.declared.graph.Mark.TheVariants.{New, Open, Done}

@@ -1,6 +1,6 @@
 -- What the validators ask of a module, by the numbers of its identifiers as they stand: that names are defined and
 -- distinct, that no declaration reaches itself, and that calls fit (WGSL, "Declaration and Scope" and "Function Calls").
-use Rattle.std.specs.Prelude.{◌≡◌, ◌≢◌, ◌⊎◌, ℕ, ◌<◌, length, get_or, Bool, true, false, not, ◌&&◌, ◌||◌, ◌==◌, bytes_eq, None, List, [], codes, map}
+use Rattle.std.specs.Prelude.{◌≡◌, ◌≢◌, ◌⊎◌, ℕ, ◌<◌, length, get_or, Bool, true, false, not, ◌&&◌, ◌||◌, ◌==◌, bytes_eq, List, [], codes, map}
 use Rattle.std.specs.List.{Contains, list_any}
 use Rattle.wesl_names.specs.Path.{Text}
 use Rattle.wesl_syntax.specs.Tree.{Forest, end, trees}

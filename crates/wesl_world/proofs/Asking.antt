@@ -12,9 +12,18 @@ use Rattle.wesl_symbols.specs.Tables.{Declaration, Table}
 use Rattle.wesl_symbols.specs.Names.{Declares, Imports, Asks, AsksUnder, AsksFrom}
 use Rattle.wesl_world.specs.Faults.{Agrees}
 use Rattle.wesl_symbols.specs.Index.{IsLast, IsNamed}
-use Rattle.wesl_world.specs.Asked.{Gains, AsksIn, AsksBehind}
+use Rattle.wesl_world.specs.Asked.{Gains, AsksIn}
 use Rattle.wesl_symbols.proofs.Lists.{contains_nil, one_at, at_contains, contains_at}
 use Rattle.wesl_world.proofs.Least.{asks_for_one}
+
+-- some reference in a declaration of that name at n or behind asks for it
+abbrev pub AsksBehind : {P N : Type 0} → Table P N → Option N → ℕ → LookUp P N → Type 0
+AsksBehind {P} {N} t name n l = (i : ℕ) × (n ≤ i) × (d : Declaration P N) × (slice_get t.declarations i ≡ Some d) × (d.name ≡ name) × AsksIn t d.references l
+
+-- how many declarations at most are still to be gone over
+abbrev pub steps : Option ℕ → ℕ
+steps None = 0
+steps (Some i) = i + 1
 
 module _ {P N : Type 0} where
   pub free_name : (t : Table P N) (n : N) → (Declares t n → ⊥) → ((i : Import P N) → Imports t n i → ⊥) → (l : LookUp P N) → AsksUnder t None n l → ⊥

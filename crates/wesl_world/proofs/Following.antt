@@ -1,5 +1,5 @@
 -- What following a look-up keeps, and what its refusals mean.
-use Rattle.std.proofs.Common.{◌≡◌, ◌⊎◌, inl, inr, ℕ, true, Some, List, [], ◌∷◌, ◌++◌, Contains, subst, sym, refl, ◌∙◌}
+use Rattle.std.proofs.Common.{◌≡◌, ◌↔◌, ◌⊎◌, inl, inr, ℕ, true, Some, List, [], ◌∷◌, ◌++◌, Contains, subst, sym, refl, ◌∙◌}
 use Rattle.std.proofs.lemmas.List.Elements.{Contains-push_cases, Contains-append_left, Contains-push}
 use Rattle.wesl_symbols.specs.declared.ids.PathId.{PathId}
 use Rattle.wesl_symbols.specs.declared.ids.NameId.{NameId}
@@ -21,11 +21,16 @@ use Rattle.wesl_world.specs.Answers.{IsAnswer}
 use Rattle.wesl_world.specs.Loader.{OnlyAdds}
 use Rattle.wesl_world.specs.Laws.{Within}
 use Rattle.std.proofs.lemmas.List.{append-nil}
-use Rattle.wesl_world.specs.Loading.{GoesOn, IsSoundIn, CanEnter, IsAnswered, IsWalked, IsTrail, HasFound, symbol_of, Grows, world_of}
+use Rattle.wesl_world.specs.Loading.{GoesOn, IsSoundIn, CanEnter, IsAnswered, IsWalked, HasFound, symbol_of, Grows, world_of}
 use Rattle.wesl_symbols.proofs.Lists.{contains_first, contains_later, contains_cases}
 use Rattle.wesl_world.proofs.Growth.{walk_more, followed_more, at_more}
 use Rattle.wesl_world.proofs.Exclusive.{walk_comes}
 use Rattle.wesl_world.proofs.Growing.{within_on, within_cons, goes_on_itself, goes_on_trans}
+
+-- the questions met from the start to where the search is now
+pub record IsTrail {P N : Type 0} (w : List (Table P N)) (task : Task P N) (start : LookUp P N) (trail : List (LookUp P N)) (current : LookUp P N) : Type 0 where
+  pub followed : Followed w task start
+  pub walk : (met : List (LookUp P N)) × Walk w start met current × ((b : LookUp P N) → Contains met b ↔ Contains trail b)
 
 pub puts_has : {K : Type 0} (old new : List K) (k : K) → PutsKey old k new → Contains new k
 puts_has {K} old new k (inl (there, e)) = subst (λ (xs : List K). Contains xs k) (sym e) there

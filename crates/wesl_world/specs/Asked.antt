@@ -1,8 +1,8 @@
 -- What lists of references and of declarations ask for.
-use Rattle.std.specs.Prelude.{◌≡◌, ◌⊎◌, ◌↔◌, ℕ, ◌+◌, ◌≤◌, slice_get, Option, Some, None, List, Contains}
+use Rattle.std.specs.Prelude.{◌⊎◌, ◌↔◌, Option, List, Contains}
 use Rattle.wesl_symbols.specs.declared.symbols.LookUp.{LookUp}
 use Rattle.wesl_symbols.specs.declared.symbols.Reference.{Reference}
-use Rattle.wesl_symbols.specs.Tables.{Declaration, Table}
+use Rattle.wesl_symbols.specs.Tables.{Table}
 use Rattle.wesl_symbols.specs.Names.{Asks, AsksFrom}
 
 -- the list gains what Q says, and nothing else
@@ -18,12 +18,3 @@ AsksIn {P} {N} t rs l = (r : Reference P N) × Contains rs r × Asks t r l
 -- these are the look-ups that declarations of that name ask for
 abbrev pub AreAsked : {P N : Type 0} → Table P N → Option N → List (LookUp P N) → Type 0
 AreAsked {P} {N} t name ls = (l : LookUp P N) → Contains ls l ↔ AsksFrom t name l
-
--- some reference in a declaration of that name at n or behind asks for it
-abbrev pub AsksBehind : {P N : Type 0} → Table P N → Option N → ℕ → LookUp P N → Type 0
-AsksBehind {P} {N} t name n l = (i : ℕ) × (n ≤ i) × (d : Declaration P N) × (slice_get t.declarations i ≡ Some d) × (d.name ≡ name) × AsksIn t d.references l
-
--- how many declarations at most are still to be gone over
-abbrev pub steps : Option ℕ → ℕ
-steps None = 0
-steps (Some i) = i + 1

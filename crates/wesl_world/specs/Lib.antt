@@ -1,7 +1,6 @@
 pub mod World
 pub mod Asked
 pub mod Answers
-pub mod Agreement
 pub mod Loader
 pub mod Refusal
 pub mod Loading

@@ -1,5 +1,5 @@
 -- What stands while modules are loaded.
-use Rattle.std.specs.Prelude.{◌≡◌, ◌⊎◌, ◌↔◌, ℕ, ◌≤◌, length, take, slice_get, true, Some, None, List, ◌∷◌, ◌++◌, Contains}
+use Rattle.std.specs.Prelude.{◌≡◌, ◌⊎◌, ℕ, ◌≤◌, length, take, slice_get, true, Some, None, List, ◌∷◌, ◌++◌, Contains}
 use Rattle.wesl_symbols.specs.declared.ids.PathId.{PathId}
 use Rattle.wesl_symbols.specs.declared.ids.NameId.{NameId}
 use Rattle.wesl_world.specs.declared.request.Request.{Request}
@@ -58,11 +58,6 @@ module _ {P N : Type 0} where
   -- it is found where it asks, and its symbol is held
   abbrev pub HasFound : List (Table P N) → List (Symbol P N) → LookUp P N → Type 0
   HasFound w ss l = Finds w l (symbol_of l) × Contains ss (symbol_of l)
-
--- the questions met from the start to where the search is now
-pub record IsTrail {P N : Type 0} (w : List (Table P N)) (task : Task P N) (start : LookUp P N) (trail : List (LookUp P N)) (current : LookUp P N) : Type 0 where
-  pub followed : Followed w task start
-  pub walk : (met : List (LookUp P N)) × Walk w start met current × ((b : LookUp P N) → Contains met b ↔ Contains trail b)
 
 -- all that the module's const_asserts ask for is answered; an eager link holds its symbols and has the modules that it imports from
 pub record IsModuleDone {P N : Type 0} (w : List (Table P N)) (task : Task P N) (ss : List (Symbol P N)) (answers : List (LookUp P N × Symbol P N)) (t : Table P N) : Type 0 where

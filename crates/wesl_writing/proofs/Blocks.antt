@@ -1,9 +1,9 @@
 -- What is made of a statement's parts.
-use Rattle.std.proofs.Common.{◌≡◌, ℕ, List, [], ◌∷◌, Option, Some, None, String, Vec, Global, codes, refl, sym, ap, ◌∙◌, rules, map}
+use Rattle.std.proofs.Common.{◌≡◌, List, [], ◌∷◌, Option, Vec, Global, codes, sym, ap, ◌∙◌, rules, map}
 use mathlib.Core.List.{map-map}
 use Rattle.std.specs.Box.{box_value}
 use Rattle.std.specs.Global.{Box}
-use Rattle.serde_json.specs.Data.{Data, Items, Members, no_members}
+use Rattle.serde_json.specs.Data.{Data, Members, no_members}
 use Rattle.wesl_names.specs.Path.{Text}
 use Rattle.wesl_syntax.specs.Tree.{Tree, Forest, statement_node, assignment, forest_of, branch, list, statements, clauses, compound_statement, compound, increment, decrement, if_statement, if_clause, else_if_clause, else_clause, switch, switch_clause, loop, continuing, for_loop, while_loop, break, continue, return, discard, call_statement, call}
 use Rattle.wesl_syntax.specs.View.{attributes_tree, expression_tree, expression_view, call_view, type_view, compound_view, continuing_view, else_view, else_if_view, if_view, clause_view, selector_view, break_if_view, statement_view, statement_tree, listed, optional, statement_step, compound_step, continuing_step, else_step, else_if_step, if_step, clause_step}

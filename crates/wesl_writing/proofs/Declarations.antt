@@ -1,18 +1,16 @@
 -- What each declaration is written as.
-use Rattle.std.proofs.Common.{◌≡◌, ℕ, List, [], ◌∷◌, Option, Some, None, String, Vec, Global, codes, string_bytes, refl, sym, ap, ◌∙◌, rules, map}
-use Rattle.serde_json.specs.Data.{Data, string, array, Items, Members, no_members}
+use Rattle.std.proofs.Common.{◌≡◌, List, [], ◌∷◌, Option, Some, None, String, Vec, Global, codes, string_bytes, refl, sym, ap, ◌∙◌}
+use Rattle.serde_json.specs.Data.{Data, string, Members, no_members}
 use Rattle.wesl_names.specs.Path.{Text}
 use Rattle.wesl_names.specs.declared.names.Ident.{Ident}
-use Rattle.wesl_syntax.specs.Tree.{Tree, Forest, Kind, kind, text, space, access, leaf as leaf_tree, forest_of, branch, binder, absent, present, declaration, type_alias, struct, member, function, parameter, const_assert, void, attributes, members, member_node, parameters}
+use Rattle.wesl_syntax.specs.Tree.{Tree, Forest, kind, space, access, branch, binder, declaration, type_alias, struct, member, function, parameter, const_assert, void, attributes, members, member_node, parameters}
 use Rattle.wesl_syntax.specs.Unit.{name_in}
 use Rattle.wesl_syntax.specs.View.{access_tree, expression_tree, expression_view, type_view, optional, ident_tree, text_tree, attributes_tree, kind_tree, declaration_view, alias_view, struct_view, member_view, parameter_view, assert_view, function_view, compound_view, listed, placed}
 use Rattle.wesl_syntax.specs.declared.span.Spanned.{Spanned}
 use Rattle.wesl_syntax.specs.declared.expression.Expression.{Expression}
 use Rattle.wesl_syntax.specs.declared.expression.TypeExpression.{TypeExpression}
 use Rattle.wesl_syntax.specs.declared.declaration.AddressSpace.{AddressSpace}
-use Rattle.wesl_syntax.specs.declared.declaration.AddressSpace.TheVariants as spaces
 use Rattle.wesl_syntax.specs.declared.declaration.AccessMode.{AccessMode}
-use Rattle.wesl_syntax.specs.declared.declaration.AccessMode.TheVariants as modes
 use Rattle.wesl_syntax.specs.declared.declaration.DeclarationKind.{DeclarationKind}
 use Rattle.wesl_syntax.specs.declared.declaration.DeclarationKind.TheVariants as kinds
 use Rattle.wesl_syntax.specs.declared.attribute.Attribute.{Attribute}

@@ -1,5 +1,5 @@
 -- What each expression is written as.
-use Rattle.std.proofs.Common.{◌≡◌, ℕ, List, [], ◌∷◌, Option, Some, None, String, Vec, Global, Bool, codes, string_bytes, refl, sym, ap, ◌∙◌, rules, map}
+use Rattle.std.proofs.Common.{◌≡◌, List, [], ◌∷◌, Option, Some, None, String, Vec, Global, Bool, codes, string_bytes, refl, sym, ap, ◌∙◌, rules, map}
 use mathlib.Core.List.{map-map}
 use Rattle.std.specs.Box.{box_value}
 use Rattle.std.specs.Global.{Box}
@@ -8,7 +8,7 @@ use Rattle.wesl_names.specs.Path.{Text, path_view}
 use Rattle.wesl_names.specs.PathText.{to_text}
 use Rattle.wesl_names.specs.declared.names.Ident.{Ident}
 use Rattle.wesl_names.specs.declared.path.ModulePath.{ModulePath}
-use Rattle.wesl_syntax.specs.Tree.{Tree, kind, unary, binary, truth, text, leaf as leaf_tree, forest_of, branch, reference, absent, present, literal, parenthesized, named_component, indexing, call_expression, call, type_or_identifier, type_expression, list, template_argument}
+use Rattle.wesl_syntax.specs.Tree.{Tree, kind, unary, binary, truth, text, leaf as leaf_tree, forest_of, branch, reference, absent, literal, parenthesized, named_component, indexing, call_expression, call, type_or_identifier, type_expression, list, template_argument}
 use Rattle.wesl_syntax.specs.Unit.{name_in}
 use Rattle.wesl_syntax.specs.View.{expression_tree, expression_view, call_view, type_view, argument_view, listed, optional, path_tree, ident_tree, text_tree, literal_tree, expression_step, call_step, argument_step, type_step}
 use Rattle.wesl_syntax.specs.declared.span.Spanned.{Spanned}

@@ -1,23 +1,23 @@
 -- What imports, custom attributes, cases and units are made of.
-use Rattle.std.proofs.Common.{◌≡◌, ℕ, List, [], ◌∷◌, Option, Some, None, String, Vec, Global, codes, string_bytes, refl, sym, ap, ◌∙◌, rules, map}
+use Rattle.std.proofs.Common.{◌≡◌, List, [], ◌∷◌, Option, Some, None, Vec, Global, codes, refl, sym, ap, ◌∙◌, rules, map}
 use mathlib.Core.List.{map-map}
-use Rattle.serde_json.specs.Data.{Data, string, array, Items, Members, no_members}
+use Rattle.serde_json.specs.Data.{Data, string, array, Items, no_members}
 use Rattle.wesl_names.specs.Path.{Text}
 use Rattle.wesl_names.specs.declared.names.Ident.{Ident}
-use Rattle.wesl_syntax.specs.Tree.{Tree, Forest, kind, text, texts, leaf as leaf_tree, branch, list, attributes, custom, import_node, import_statement, import_item, import_collection, import_entry, imports, directive_list, declarations}
+use Rattle.wesl_syntax.specs.Tree.{Tree, Forest, kind, text, texts, leaf as leaf_tree, branch, list, attributes, custom, import_node, import_statement, import_collection, import_entry, imports, directive_list, declarations}
 use Rattle.wesl_syntax.specs.Unit.{name_in, UnitView}
 use Rattle.wesl_syntax.specs.View.{expression_tree, expression_view, optional, listed, attributes_tree, path_tree, names_tree, texts_of, item_view, content_view, entry_view, import_view, content_step, entry_step, selector_view, break_if_view}
 use Rattle.wesl_syntax.specs.declared.span.Spanned.{Spanned}
 use Rattle.wesl_syntax.specs.declared.expression.Expression.{Expression}
 use Rattle.wesl_syntax.specs.declared.import.ImportItem.{ImportItem}
-use Rattle.wesl_syntax.specs.declared.import.ImportContent.{ImportContent, the_lemmas, Item, Collection}
+use Rattle.wesl_syntax.specs.declared.import.ImportContent.{ImportContent, the_lemmas, Collection}
 use Rattle.wesl_syntax.specs.declared.import.ImportContent.TheFolds.{fold_out-Import}
 use Rattle.wesl_syntax.specs.declared.import.Import.{Import, out-Import}
 use Rattle.wesl_syntax.specs.declared.import.ImportStatement.{ImportStatement}
 use Rattle.wesl_syntax.specs.declared.statement.CaseSelector.{CaseSelector}
 use Rattle.wesl_syntax.specs.declared.statement.CaseSelector.TheVariants as selectors
 use Rattle.wesl_syntax.specs.declared.statement.BreakIfStatement.{BreakIfStatement}
-use Rattle.wesl_form.specs.Schema.{node, leaf, a_path, a_content, an_entry, an_import, an_attribute, an_expression, a_case, a_break_if, a_directive, a_declaration}
+use Rattle.wesl_form.specs.Schema.{node, leaf, a_path, a_content, an_entry, an_import, an_expression, a_case, a_break_if, a_directive, a_declaration}
 use Rattle.wesl_form.specs.Units.{unit_value}
 use Rattle.wesl_form.specs.Writing.{texts_value}
 use Rattle.wesl_writing.specs.Values.{value_in, placed_in, items_in, attribute_in, expression_in, with_member, with_list, with_option, bare, worded}

@@ -1,16 +1,14 @@
 -- What each statement is written as.
-use Rattle.std.proofs.Common.{◌≡◌, ℕ, List, [], ◌∷◌, Option, Some, None, String, Vec, Global, codes, string_bytes, refl, sym, ap, ◌∙◌, rules, map}
-use mathlib.Core.List.{map-map}
-use Rattle.serde_json.specs.Data.{Data, string, array, Items, Members, no_members}
+use Rattle.std.proofs.Common.{◌≡◌, List, [], ◌∷◌, codes, refl}
+use Rattle.serde_json.specs.Data.{Members, no_members}
 use Rattle.wesl_names.specs.Path.{Text}
-use Rattle.wesl_syntax.specs.Tree.{Tree, Forest, Kind, kind, assignment, forest_of, branch, attributes, list, statements, clauses, void, compound_statement, compound, increment, decrement, if_statement, if_clause, else_if_clause, else_clause, switch, switch_clause, default_case, expression_case, loop, continuing, break_if, for_loop, while_loop, break, continue, return, discard, call_statement, call}
-use Rattle.wesl_syntax.specs.Unit.{name_in}
+use Rattle.wesl_syntax.specs.Tree.{Tree, Forest, Kind, kind, assignment, forest_of, branch, attributes, list, statements, clauses, compound_statement, compound, increment, decrement, if_statement, if_clause, else_if_clause, else_clause, switch, switch_clause, default_case, loop, continuing, break_if, for_loop, while_loop, break, continue, return, discard, call_statement, call}
 use Rattle.wesl_syntax.specs.View.{expression_tree, expression_view}
 use Rattle.wesl_syntax.specs.declared.span.Spanned.{Spanned}
 use Rattle.wesl_syntax.specs.declared.expression.Expression.{Expression}
 use Rattle.wesl_syntax.specs.declared.statement.AssignmentOperator.{AssignmentOperator}
 use Rattle.wesl_syntax.specs.declared.statement.AssignmentOperator.TheVariants as assignments
-use Rattle.wesl_form.specs.Schema.{node, an_expression, an_attribute, a_body, a_statement, an_elif, an_else, a_clause, a_case, a_continuing, a_break_if, a_call}
+use Rattle.wesl_form.specs.Schema.{node, an_expression, an_attribute, a_body, a_statement, an_elif, an_else, a_clause, a_case, a_continuing, a_break_if}
 use Rattle.wesl_form.specs.Words.{assignment_words}
 use Rattle.wesl_writing.specs.Values.{value_in, placed_in, items_in, expression_in, statement_in, with_member, with_list, with_option, with_row, with_clause, body_members, call_members, bare, worded, word_value}
 use Rattle.wesl_writing.proofs.Declarations.{attributes_with}

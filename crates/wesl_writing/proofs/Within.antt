@@ -1,16 +1,15 @@
 -- A node within another one is written as it is alone.
-use Rattle.std.proofs.Common.{◌≡◌, List, [], ◌∷◌, ◌&&◌, Bool, true, false, if◌then◌else◌, Option, Some, None, map, refl, sym, ap, ◌∙◌}
+use Rattle.std.proofs.Common.{◌≡◌, List, [], ◌∷◌, ◌&&◌, Bool, true, false, if◌then◌else◌, Option, Some, None, map, refl, ap}
 use Rattle.serde_json.specs.Data.{Data, Members, no_members, string, object, put}
 use Rattle.wesl_names.specs.Path.{Text}
-use Rattle.wesl_syntax.specs.Tree.{Tree, Kind, branch, kind, at, end, tree, expression_node, template_argument, expression_case, respell_label, respell_forest}
+use Rattle.wesl_syntax.specs.Tree.{Kind, branch, kind, at, end, tree, expression_node, template_argument, expression_case, respell_label, respell_forest}
 use Rattle.wesl_syntax.specs.Unit.{name_in}
 use Rattle.wesl_syntax.specs.View.{expression_tree, expression_view}
 use Rattle.wesl_syntax.specs.declared.span.Spanned.{Spanned}
 use Rattle.wesl_syntax.specs.declared.expression.Expression.{Expression}
 use Rattle.wesl_syntax.specs.Kinds.{same_kind}
-use Rattle.wesl_form.specs.Schema.{SpelledForest, SpelledLabel, Head, fixed, Row, nothing, marked, needs, may, many, given, inner, inner_where, Node, node, under, within, an_expression, a_template_argument, a_case}
-use Rattle.wesl_form.specs.Nodes.{a_default_case}
-use Rattle.wesl_form.specs.Writing.{Writes, fits_head, fits_row, first_fit, expression_nodes, object_value, marks, unmarked, written_forest, short_expression_value}
+use Rattle.wesl_form.specs.Schema.{SpelledForest, SpelledLabel, Head, fixed, Row, nothing, marked, needs, may, many, given, inner, inner_where, Node, node, under, within, a_template_argument, a_case}
+use Rattle.wesl_form.specs.Writing.{fits_head, fits_row, first_fit, expression_nodes, object_value, marks, unmarked, written_forest, short_expression_value}
 use Rattle.wesl_writing.specs.Values.{value_in, placed_in, expression_in}
 
 abbrev outer_head : Head

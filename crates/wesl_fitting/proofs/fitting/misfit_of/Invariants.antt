@@ -2,7 +2,7 @@ use Rattle.wesl_tree.specs.Translation.{unit_view}
 use Rattle.wesl_builtins.specs.Builtins.{builtins_view}
 use Rattle.wesl_fitting.specs.Reached.{IsClear}
 use Rattle.wesl_fitting.specs.Views.{tables_view}
-use Rattle.wesl_fitting.specs.Misfits.{PassBefore}
+use Rattle.wesl_fitting.proofs.Gathering.{PassBefore}
 use Rattle.wesl_fitting.proofs.fitting.misfit_of.Given as goal
 
 abbrev pub invariant-loop-j : goal.invariant-loop-j

@@ -1,4 +1,4 @@
-use Rattle.std.proofs.Common.{◌≡◌, ℕ, ◌<◌, ◌||◌, not, ◌&&◌, length, map, drop}
+use Rattle.std.proofs.Common.{◌≡◌, ℕ, ◌<◌, not, ◌&&◌, length, map, drop}
 use Rattle.wesl_occurrences.specs.Views.{occurrence_view}
 use Rattle.wesl_kept.specs.Marks.{mark_at, has_name}
 use Rattle.wesl_kept.proofs.kept.nameless.Given as goal

@@ -1,4 +1,4 @@
-use Rattle.std.proofs.Common.{◌≡◌, ◌+◌, ◌<◌, map, ap, sym, subst, length, false}
+use Rattle.std.proofs.Common.{◌+◌, ◌<◌, map, ap, sym, subst, length, false}
 use Rattle.std.specs.Prelude.{if◌then◌else◌}
 use Rattle.wesl_occurrences.specs.Views.{occurrence_view}
 use Rattle.wesl_kept.specs.Marks.{unmarked}

@@ -1,8 +1,6 @@
-use Rattle.std.proofs.Common.{inl, inr, refl, false, ap, ◌∙◌, rules, ◌≡◌}
+use Rattle.std.proofs.Common.{inr, refl}
 use Rattle.std.proofs.lemmas.Result.{IfErr-weaker}
 use Rattle.wesl_base.specs.Borrowed.{texts}
-use Rattle.wesl_names.specs.Path.{path_view}
-use Rattle.wesl_names.specs.Errors.{error_of_resolve}
 use Rattle.wesl_linker.specs.Resolved.{module_at}
 use Rattle.wesl_resolutions.specs.Keeping.{modules_of, turns_of}
 use Rattle.wesl_linker.specs.Worlds.{task_of}

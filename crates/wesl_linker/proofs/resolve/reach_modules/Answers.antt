@@ -14,7 +14,6 @@ use Rattle.wesl_world.specs.Linking.{IsLinked, task_of}
 use Rattle.wesl_linker.specs.Handing.{Keeps, StaysOne, IsHandedTable, IsRefusedPath}
 use Rattle.wesl_linker.specs.Resolved.{module_at}
 use Rattle.wesl_linker.specs.Keeping.{resolved, IsLinkOf, task_in}
-use Rattle.wesl_linker.specs.Holding.{IsFoundBy}
 use Rattle.wesl_linker.specs.declared.link.Link.{Link}
 use Rattle.wesl_linker.specs.Refusal.{Tells}
 use Rattle.wesl_linker.specs.Taking.{IsTaken}
@@ -24,7 +23,7 @@ use Rattle.wesl_linker.proofs.Found.{kept_left, once_left, some_left}
 use Rattle.wesl_linker.proofs.Sound as sound
 use Rattle.wesl_linker.proofs.Reaching.{reach_numbers, reach_refused}
 use Rattle.std.proofs.lemmas.Result.{IfOk-weaker, IfErr-weaker}
-use Rattle.wesl_linker.proofs.Holding.{found_by, sound_by}
+use Rattle.wesl_linker.proofs.Holding.{IsFoundBy, found_by, sound_by}
 use Rattle.wesl_linker.proofs.Refusing.{told_or_short, memory_told}
 use Rattle.wesl_linker.proofs.Readying.{keeps_nothing, ready_table}
 use Rattle.wesl_linker.proofs.resolve.reach_modules.Goals as goal

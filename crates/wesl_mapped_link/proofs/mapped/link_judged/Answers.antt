@@ -2,8 +2,6 @@ use Rattle.std.proofs.Common.{◌≡◌, ◌↔◌, sym, subst}
 use Rattle.std.proofs.lemmas.Result.{IfOk-weaker, IfErr-weaker}
 use Rattle.wesl_base.specs.Borrowed.{texts}
 use Rattle.wesl_names.specs.Path.{path_view}
-use Rattle.wesl_tree.specs.Translation.{unit_view}
-use Rattle.wesl_source_map.specs.BasicView.{items}
 use Rattle.wesl_cond.specs.Conditioned.{IsConditioned}
 use Rattle.wesl_link.proofs.Along.{left-alike, links-over, refuses-over}
 use Rattle.wesl_mapped_link.proofs.mapped.link_judged.Goals as goal

@@ -1,6 +1,6 @@
 use Rattle.std.proofs.Common.{◌≡◌, IfOk, subst, rules}
 use Rattle.wesl_base.specs.Borrowed.{texts}
-use Rattle.wesl_names.specs.Path.{Path, path_view}
+use Rattle.wesl_names.specs.Path.{path_view}
 use Rattle.wesl_tree.specs.Translation.{unit_view}
 use Rattle.wesl_resolutions.specs.Keeping.{resolved}
 use Rattle.wesl_source_map.specs.BasicView.{items}

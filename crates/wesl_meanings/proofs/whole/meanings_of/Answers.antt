@@ -1,4 +1,4 @@
-use Rattle.std.proofs.Common.{◌≡◌, length, subst}
+use Rattle.std.proofs.Common.{length, subst}
 use Rattle.std.specs.List.{All}
 use Rattle.wesl_tree.specs.Translation.{unit_view}
 use Rattle.wesl_meanings.specs.Keys.{IsKeyBelow}

@@ -1,4 +1,4 @@
-use Rattle.std.proofs.Common.{◌≡◌, ◌<◌, List, [], ℕ, Bor, length, get_or, refl, rules}
+use Rattle.std.proofs.Common.{◌<◌, List, [], ℕ, Bor, length, get_or, rules}
 use Rattle.wesl_program.proofs.Texts.{texts-turn}
 use Rattle.wesl_program.proofs.fault_line.texts.Goals as goal
 

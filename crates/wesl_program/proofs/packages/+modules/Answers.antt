@@ -1,4 +1,4 @@
-use Rattle.std.proofs.Common.{map, ◌∷◌, [], ◌++◌, sym, subst, ap, ◌∙◌}
+use Rattle.std.proofs.Common.{map, ◌∷◌, [], ◌++◌, sym, subst}
 use Rattle.std.proofs.lemmas.List.{map-append}
 use Rattle.wesl_bundle.specs.PackageViews.{package_modules, package_module_view}
 use Rattle.wesl_program.specs.PackageTexts.{AreModulesOf}

@@ -1,4 +1,4 @@
-use Rattle.std.proofs.Common.{◌≡◌, ◌+◌, ◌<◌, ◌≤◌, ◌∙◌, ap, map, sym, subst, arith, length}
+use Rattle.std.proofs.Common.{◌+◌, ◌<◌, ◌≤◌, ◌∙◌, ap, map, sym, subst, arith, length}
 use Rattle.std.specs.List.{swap}
 use Rattle.wesl_syntax.specs.Tree.{forest_of, declaration_node}
 use Rattle.wesl_syntax.specs.View.{global_view, placed}

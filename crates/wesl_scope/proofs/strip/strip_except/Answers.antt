@@ -1,4 +1,4 @@
-use Rattle.std.proofs.Common.{◌≡◌, ◌∙◌, ap, sym, subst, length, arith, map, true}
+use Rattle.std.proofs.Common.{◌≡◌, ◌∙◌, ap, sym, subst, length, arith, true}
 use Rattle.wesl_syntax.specs.Unit.{unit_below}
 use Rattle.wesl_syntax.specs.Tree.{kind, trees, declaration_node, declarations}
 use Rattle.wesl_syntax.specs.View.{global_view, placed, declarations_tree}

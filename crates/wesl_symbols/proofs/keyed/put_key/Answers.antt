@@ -1,5 +1,4 @@
-use Rattle.std.proofs.Common.{◌↔◌, List, Contains, subst, sym, ap, ◌∙◌}
-use Rattle.wesl_symbols.specs.Keyed.{HaveTheSame}
+use Rattle.std.proofs.Common.{◌↔◌, List, Contains, subst, sym, ◌∙◌}
 use Rattle.wesl_symbols.proofs.Entries.{key_there, key_absent, same_more, popped}
 use Rattle.wesl_symbols.proofs.keyed.put_key.Goals as goal
 

@@ -1,6 +1,5 @@
-use Rattle.std.proofs.Common.{◌≡◌, ◌∙◌, ◌<◌, ◌≤◌, ◌++◌, ◌==◌, ◌∷◌, [], ℕ, length, ap, arith}
+use Rattle.std.proofs.Common.{◌∙◌, ◌<◌, ◌≤◌, ◌++◌, ◌==◌, ◌∷◌, [], length, ap, arith}
 use Rattle.std.specs.Prelude.{if◌then◌else◌}
-use Rattle.wesl_valid.specs.Graphs.{graph_view, edges_at}
 use Rattle.wesl_valid.proofs.Growing.{pushed_at, closed_at}
 use Rattle.wesl_valid.proofs.edges.add_edge.Goals as goal
 

@@ -1,4 +1,4 @@
-use Rattle.std.proofs.Common.{◌≡◌, ◌≢◌, ℕ, ◌<◌, [], length, map, take}
+use Rattle.std.proofs.Common.{◌≡◌, ◌≢◌, ℕ, ◌<◌, []}
 use Rattle.wesl_valid.specs.Graphs.{graph_view}
 use Rattle.wesl_valid.specs.Searches.{IsSearch, mark_at}
 use Rattle.wesl_valid.specs.declared.graph.Mark.TheVariants.{New}

@@ -1,6 +1,7 @@
 use Rattle.std.proofs.Common.{vec_len, ◌-◌, ◌^◌}
 use Rattle.wesl_world.specs.Loader.{OnlyAdds}
-use Rattle.wesl_world.specs.Loading.{IsSound, IsTrail, CanEnter, Grows, world_of, task_at}
+use Rattle.wesl_world.specs.Loading.{IsSound, CanEnter, Grows, world_of, task_at}
+use Rattle.wesl_world.proofs.Following.{IsTrail}
 use Rattle.wesl_world.proofs.follow.follow_new.Given as goal
 
 abbrev pub invariant-hops : goal.invariant-hops

@@ -1,5 +1,5 @@
 use Rattle.std.proofs.Common.{take}
-use Rattle.wesl_world.specs.Agreement.{AgreeSoFar}
+use Rattle.wesl_world.proofs.Agreeing.{AgreeSoFar}
 use Rattle.wesl_world.proofs.names.clash.Given as goal
 
 abbrev pub invariant-loop-import : goal.invariant-loop-import

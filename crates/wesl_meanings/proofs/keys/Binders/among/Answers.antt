@@ -1,4 +1,3 @@
-use Rattle.std.proofs.Common.{◌≡◌, ◌∙◌, sym, ap}
 use Rattle.wesl_occurrences.specs.Views.{occurrence_view}
 use Rattle.wesl_meanings.specs.Keys.{open_at, binds_at}
 use Rattle.wesl_meanings.proofs.Entries.{next_bound, all_bound}

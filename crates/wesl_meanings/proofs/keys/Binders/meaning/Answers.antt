@@ -1,4 +1,4 @@
-use Rattle.std.proofs.Common.{◌≡◌, ◌∙◌, sym, ap, arith}
+use Rattle.std.proofs.Common.{◌∙◌, sym, arith}
 use Rattle.wesl_meanings.proofs.Scoping.{passed, bound_here, bound_outside, free_outside, still_inside}
 use Rattle.wesl_meanings.proofs.keys.Binders.meaning.Goals as goal
 

@@ -1,5 +1,4 @@
 use Rattle.std.specs.HashMap.{get_by_text}
-use Rattle.wesl_form.specs.Units.{AreDistinct}
 use Rattle.wesl_reading.proofs.Spellings.{distinct_names}
 use Rattle.wesl_reading.proofs.numbering.Numbering.into_names.Goals as goal
 

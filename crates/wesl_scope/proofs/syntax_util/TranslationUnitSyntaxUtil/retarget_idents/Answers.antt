@@ -1,4 +1,4 @@
-use Rattle.std.proofs.Common.{◌≡◌, ℕ, ◌<◌, ◌↔◌, length, sym, ◌∙◌, subst}
+use Rattle.std.proofs.Common.{ℕ, ◌<◌, ◌↔◌, length, sym, ◌∙◌, subst}
 use Rattle.std.specs.List.{Contains}
 use Rattle.wesl_syntax.specs.Unit.{numbers}
 use Rattle.wesl_tree.specs.Translation.{unit_view}

@@ -1,5 +1,5 @@
-use Rattle.std.proofs.Common.{◌≡◌, List, All, false, subst, sym}
-use Rattle.wesl_names.specs.Path.{Text, Path, is_relative}
+use Rattle.std.proofs.Common.{List, subst, sym}
+use Rattle.wesl_names.specs.Path.{Text}
 use Rattle.wesl_table.specs.Different.{AreDifferent}
 use Rattle.wesl_table.proofs.numbers.Numbers.into_texts.Goals as goal
 
