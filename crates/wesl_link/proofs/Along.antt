@@ -7,14 +7,13 @@ use Rattle.wesl_names.specs.declared.errors.ResolveError.{ResolveError}
 use Rattle.wesl_names.specs.declared.errors.ResolveError as resolve_error
 use Rattle.wesl_features.specs.declared.features.Features.{Features}
 use Rattle.wesl_tree.specs.declared.unit.TranslationUnit.{TranslationUnit}
-use Rattle.wesl_resolver.specs.Refusals.{IsRefusedFor}
+use Rattle.wesl_names.specs.Errors.{IsRefusedFor, OrMemory}
 use Rattle.wesl_resolve.specs.Preprocessor.{IsMade, IsMadeFault}
 use Rattle.wesl_cond.specs.Conditioned.{IsConditioned}
 use Rattle.wesl_syntax.specs.Unit.{UnitOf}
 use Rattle.wesl_symbols.specs.Tables.{Table}
 use Rattle.wesl_world.specs.World.{Task}
 use Rattle.wesl_world.specs.Faults.{Fault, duplicate, refused, missing, private, too_many, Stands}
-use Rattle.wesl_names.specs.Errors.{OrMemory}
 use Rattle.wesl_linker.specs.Worlds.{Module, tables, task_of, IsWorld, IsLinked, IsRefused}
 use Rattle.wesl_link.specs.Linking.{Links, RefusesLink, kept_names, hands_left, refuses_left}
 use Rattle.wesl_linker.specs.Refusal.{TellsOfImport, TellsOf}

@@ -3,7 +3,7 @@
 //!
 //! Want of memory is `Memory` wherever it comes up, and no call wraps it in another error.
 ghost use Rattle.std.specs.Prelude.{◌≡◌};
-ghost use Rattle.wesl_names.specs.Errors.{error_of_resolve, IsBare};
+ghost use Rattle.wesl_names.specs.Errors.{error_of_resolve, span_told, IsBare, IsPlaced};
 ghost use Rattle.wesl_names.specs.declared.errors.Diagnostic.{out-Diagnostic};
 
 use crate::path::ModulePath;
@@ -79,6 +79,13 @@ pub enum ImportError {
     /// module.
     #[error("`{0}` of `{1}` is private")]
     Private(String, ModulePath),
+    /// A name has binders with several targets, and may stand for two of them where it is used. It carries
+    /// the name.
+    #[error("`{0}` may stand for two symbols")]
+    AmbiguousSymbol(String),
+    /// A module has a name with several targets, and more than 16 feature flags. It carries the module's path.
+    #[error("too many feature flags in `{0}`")]
+    TooManyFlags(ModulePath),
 }
 
 /// Any fault of the linker.
@@ -162,6 +169,17 @@ impl fmt::Debug for Error {
 
 impl std::error::Error for Diagnostic {}
 
+/// A span as a diagnostic tells it.
+fn told(span: Span) -> Option<Span>
+    ensures { result ≡ span_told span }
+{
+    if span.start == 0 && span.end == 0 {
+        None
+    } else {
+        Some(span)
+    }
+}
+
 impl Error {
     /// The error of a link whose resolver refuses a module: want of memory stays that, and anything else
     /// is a fault of an import.
@@ -186,6 +204,21 @@ impl Diagnostic {
             module: None,
             display: None,
             span: None,
+            source: None,
+        }
+    }
+
+    /// The diagnostic of an error at a place of its module's source, which is told unless it is `0..0`: the
+    /// other fields are `None`.
+    pub fn at(error: Error, span: Span) -> Diagnostic
+        ensures { IsPlaced error span result }
+    {
+        Diagnostic {
+            error,
+            declaration: None,
+            module: None,
+            display: None,
+            span: told(span),
             source: None,
         }
     }

@@ -6,7 +6,7 @@ use Rattle.wesl_names.specs.declared.errors.ResolveError.{ResolveError}
 use Rattle.wesl_syntax.specs.Unit.{UnitOf, spelled}
 use Rattle.wesl_tree.specs.Translation.{unit_view}
 use Rattle.wesl_tree.specs.declared.unit.TranslationUnit.{TranslationUnit}
-use Rattle.wesl_resolver.specs.Refusals.{IsRefusedFor}
+use Rattle.wesl_names.specs.Errors.{IsRefusedFor}
 
 -- the function makes such a unit of one that is handed out
 abbrev pub IsMade : (UnitOf Text → Type 0) → (TranslationUnit → Result TranslationUnit Error → Type 0) → UnitOf Text → Type 0

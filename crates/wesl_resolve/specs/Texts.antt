@@ -3,12 +3,11 @@ use Rattle.std.specs.Prelude.{◌≡◌, ◌⊎◌, if◌then◌else◌, Option,
 use Rattle.std.specs.declared.alloc.Global.{Global}
 use Rattle.wesl_names.specs.Path.{Text, Path, path_view}
 use Rattle.wesl_names.specs.PathOrder.{same_path}
-use Rattle.wesl_names.specs.Errors.{IsModuleNotFound}
+use Rattle.wesl_names.specs.Errors.{IsModuleNotFound, IsRefusedFor}
 use Rattle.wesl_names.specs.declared.path.ModulePath.{ModulePath}
 use Rattle.wesl_names.specs.declared.errors.Error.{Error}
 use Rattle.wesl_names.specs.declared.errors.ResolveError.{ResolveError}
 use Rattle.wesl_syntax.specs.Unit.{UnitOf}
-use Rattle.wesl_resolver.specs.Refusals.{IsRefusedFor}
 
 -- what the entries of a map say
 abbrev pub texts_of : List (ModulePath × String Global) → List (Path × Text)

@@ -1,11 +1,10 @@
 -- What a refusal tells of a fault, told by another way to say the fault.
 use Rattle.std.proofs.Common.{◌≡◌, ◌⊎◌, true, Option, Some, None, IfSome, subst, sym, ◌∙◌, ⊎_elim, true≢false}
 use Rattle.std.specs.Option.{is_some}
-use Rattle.wesl_names.specs.Errors.{OrMemory, IsRefusedWith}
+use Rattle.wesl_names.specs.Errors.{OrMemory, IsRefusedWith, IsRefusedFor}
 use Rattle.wesl_names.specs.declared.path.ModulePath.{ModulePath}
 use Rattle.wesl_names.specs.declared.errors.Error as error
 use Rattle.wesl_names.specs.declared.errors.ResolveError as resolve_error
-use Rattle.wesl_resolver.specs.Refusals.{IsRefusedFor}
 use Rattle.wesl_resolver.proofs.ResultLemmas.{OrMemory-to}
 
 -- a path is told where the fault is not want of memory

@@ -1,4 +1,3 @@
-pub mod Refusals
 pub mod Resolver
 pub mod UnitText
 pub mod Packages

@@ -4,11 +4,10 @@ use Rattle.std.specs.Str.{bytes_eq}
 use Rattle.std.specs.List.{find}
 use Rattle.wesl_names.specs.Path.{Text, Path, Origin, absolute, relative, from_package}
 use Rattle.wesl_base.specs.Pieces.{cut, slash}
-use Rattle.wesl_names.specs.Errors.{IsModuleNotFound}
+use Rattle.wesl_names.specs.Errors.{IsModuleNotFound, IsRefusedFor}
 use Rattle.wesl_names.specs.declared.errors.Error.{Error}
 use Rattle.wesl_names.specs.declared.errors.ResolveError.{ResolveError}
 use Rattle.wesl_syntax.specs.Unit.{UnitOf}
-use Rattle.wesl_resolver.specs.Refusals.{IsRefusedFor}
 use Rattle.wesl_resolver.specs.declared.packages.CodegenModule.{CodegenModule, out-CodegenModule}
 use Rattle.wesl_resolver.specs.declared.packages.CodegenPkg.{CodegenPkg, out-CodegenPkg}
 

@@ -2,11 +2,10 @@
 ghost use Rattle.std.specs.Prelude.{◌≡◌, false, IfOk, IfErr, IfSome, IsOkAnd, string_bytes};
 ghost use Rattle.std.specs.Result.{result_ok};
 ghost use Rattle.wesl_names.specs.Path.{path_view, is_relative};
-ghost use Rattle.wesl_names.specs.Errors.{OrMemory, IsModuleNotFound, IsRefusedWith};
+ghost use Rattle.wesl_names.specs.Errors.{OrMemory, IsModuleNotFound, IsRefusedWith, IsRefusedFor};
 ghost use Rattle.wesl_names.specs.declared.errors.Error as error;
 ghost use Rattle.wesl_names.specs.declared.errors.ResolveError as resolve_error;
 ghost use Rattle.wesl_names.specs.declared.errors.Diagnostic.{out-Diagnostic};
-ghost use Rattle.wesl_resolver.specs.Refusals.{IsRefusedFor};
 
 use crate::resolver::Resolver;
 use std::alloc::{AllocError, Global};

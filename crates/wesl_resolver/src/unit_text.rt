@@ -1,13 +1,12 @@
 //! A form in which units are written as texts.
 ghost use Rattle.std.specs.Prelude.{◌≡◌, ◌⊎◌, IfOk, IfErr, string_bytes};
 ghost use Rattle.wesl_names.specs.Path.{Text, path_view};
-ghost use Rattle.wesl_names.specs.Errors.{OrMemory};
+ghost use Rattle.wesl_names.specs.Errors.{OrMemory, IsRefusedFor};
 ghost use Rattle.wesl_names.specs.declared.errors.Error.{Error};
 ghost use Rattle.wesl_names.specs.declared.errors.Error as error;
 ghost use Rattle.wesl_names.specs.declared.errors.Diagnostic.{out-Diagnostic};
 ghost use Rattle.wesl_syntax.specs.Unit.{UnitOf, spelled};
 ghost use Rattle.wesl_tree.specs.Translation.{unit_view};
-ghost use Rattle.wesl_resolver.specs.Refusals.{IsRefusedFor};
 ghost use Rattle.wesl_resolver.specs.UnitText.{HasTextPaths};
 
 use crate::refusals::refused;

@@ -1,7 +1,6 @@
 use Rattle.std.proofs.Common.{◌≡◌, refl, inl, subst}
-use Rattle.wesl_names.specs.Errors.{OrMemory}
+use Rattle.wesl_names.specs.Errors.{OrMemory, IsRefusedFor}
 use Rattle.wesl_names.specs.declared.errors.Error.{Error}
-use Rattle.wesl_resolver.specs.Refusals.{IsRefusedFor}
 use Rattle.wesl_resolver.proofs.unit_text.unreadable.Goals as goal
 
 pub returns-in-Ok : goal.returns-in-Ok
