@@ -27,10 +27,14 @@ fn text_of<E: Display + Drop>(row: Row<'_>, error: E) -> Value {
 pub fn told(row: Row<'_>) -> Value {
     let missing = ImportError::MissingDecl(row.path_of("super::super::a"), row.copy_of("x"));
     let private = ImportError::Private(row.copy_of("x"), row.path_of("p/q::a::b"));
+    let ambiguous = ImportError::AmbiguousSymbol(row.copy_of("x"));
+    let crowded = ImportError::TooManyFlags(row.path_of("package::a"));
     let absent = ResolveError::ModuleNotFound(row.path_of("self"), row.copy_of("no such file"));
     let mut texts = List::new(row.alloc);
     texts.put(text_of(row, missing));
     texts.put(text_of(row, private));
+    texts.put(text_of(row, ambiguous));
+    texts.put(text_of(row, crowded));
     texts.put(text_of(row, absent));
     texts.end(row)
 }

@@ -13,7 +13,7 @@ use Rattle.wesl_cond.specs.Conditioned.{IsConditioned}
 use Rattle.wesl_syntax.specs.Unit.{UnitOf}
 use Rattle.wesl_symbols.specs.Tables.{Table}
 use Rattle.wesl_world.specs.World.{Task}
-use Rattle.wesl_world.specs.Faults.{Fault, duplicate, refused, missing, private, too_many, Stands}
+use Rattle.wesl_world.specs.Faults.{Fault, duplicate, refused, missing, private, ambiguous, too_many_flags, too_many, Stands}
 use Rattle.wesl_linker.specs.Worlds.{Module, tables, task_of, IsWorld, IsLinked, IsRefused}
 use Rattle.wesl_link.specs.Linking.{Links, RefusesLink, kept_names, hands_left, refuses_left}
 use Rattle.wesl_linker.specs.Refusal.{TellsOfImport, TellsOf}
@@ -23,6 +23,8 @@ stands-over refuses others to task limit ts (duplicate n) h = h
 stands-over refuses others to task limit ts (refused e) h = (h.0, h.1, h.2, to h.0 e h.3)
 stands-over refuses others to task limit ts (missing p n) h = h
 stands-over refuses others to task limit ts (private n p) h = h
+stands-over refuses others to task limit ts (ambiguous n) h = h
+stands-over refuses others to task limit ts (too_many_flags p) h = h
 stands-over refuses others to task limit ts (too_many k) h = h
 
 world-over : (hands others : Path → UnitOf Text → Type 0) → ((p : Path) (u : UnitOf Text) → hands p u → others p u) → (root : Module) (w : List Module) → IsWorld hands root w → IsWorld others root w
@@ -33,6 +35,8 @@ tells-import P Q to (import_error.DuplicateSymbol n) h = to _ h
 tells-import P Q to (import_error.ResolveError e) (unwrapped, h) = (unwrapped, to _ h)
 tells-import P Q to (import_error.MissingDecl p n) h = to _ h
 tells-import P Q to (import_error.Private n p) h = to _ h
+tells-import P Q to (import_error.AmbiguousSymbol n) h = to _ h
+tells-import P Q to (import_error.TooManyFlags p) h = to _ h
 
 tells-over : (P Q : Fault Path Text ResolveError → Type 0) → ((f : Fault Path Text ResolveError) → P f → Q f) → (e : error.Error) → TellsOf P e → TellsOf Q e
 tells-over P Q to (error.Import e) h = tells-import P Q to e h

@@ -147,6 +147,8 @@ module _ (hands : Path → UnitOf Text → Type 0) (refuses : Path → resolve_e
   import-is-of-modules (import_error.ResolveError r) (unwrapped, (w, is_world, (p, entered, absent, h))) = inr (of p r h)
   import-is-of-modules (import_error.MissingDecl p n) h = inr (of_modules (fault_of (error.Import (import_error.MissingDecl p n))) refl refl)
   import-is-of-modules (import_error.Private n p) h = inr (of_modules (fault_of (error.Import (import_error.Private n p))) refl refl)
+  import-is-of-modules (import_error.AmbiguousSymbol n) h = inr (of_modules (fault_of (error.Import (import_error.AmbiguousSymbol n))) refl refl)
+  import-is-of-modules (import_error.TooManyFlags p) h = inr (of_modules (fault_of (error.Import (import_error.TooManyFlags p))) refl refl)
 
   standing-is-of-modules : (e : error.Error) → TellsOf IsStanding e → IsModuleFault e
   standing-is-of-modules (error.Import e) h = import-is-of-modules e h

@@ -54,6 +54,8 @@ abbrev mutual
   fault_of_import (import_error.ResolveError e) = fault_of_resolver e
   fault_of_import (import_error.MissingDecl p name) = fault (codes "MissingDecl") (path_text p ∷ string_bytes name ∷ [])
   fault_of_import (import_error.Private name p) = fault (codes "Private") (string_bytes name ∷ path_text p ∷ [])
+  fault_of_import (import_error.AmbiguousSymbol name) = fault (codes "AmbiguousSymbol") (string_bytes name ∷ [])
+  fault_of_import (import_error.TooManyFlags p) = fault (codes "TooManyFlags") (path_text p ∷ [])
 
   pub fault_of_resolver : resolve_error.ResolveError → Fault
   fault_of_resolver (resolve_error.FileNotFound file message) = fault (codes "FileNotFound") (string_bytes file ∷ string_bytes message ∷ [])

@@ -56,6 +56,15 @@ fn import_value(alloc: Global, error: &ImportError) -> Result<Value, AllocError>
             let path = path_text(alloc, path)?;
             fault_value(alloc, "Private", &[name.as_str(), path.as_str()])
         }
+        ImportError::AmbiguousSymbol(name) => fault_value(
+            alloc,
+            "AmbiguousSymbol",
+            &[name.as_str()],
+        ),
+        ImportError::TooManyFlags(path) => {
+            let path = path_text(alloc, path)?;
+            fault_value(alloc, "TooManyFlags", &[path.as_str()])
+        }
     }
 }
 

@@ -159,12 +159,21 @@ fn private(row: Row<'_>, name: &str, path: &ModulePath) -> Object {
     told(row, "Private", arguments)
 }
 
+/// A fault of the module at a path.
+fn of_path(row: Row<'_>, name: &str, path: &ModulePath) -> Object {
+    let mut arguments = List::new(row.alloc);
+    arguments.put(row.path_value(path));
+    told(row, name, arguments)
+}
+
 /// A fault of an import or a path.
 fn of_import(row: Row<'_>, error: &ImportError) -> Object {
     match error {
         ImportError::DuplicateSymbol(name) => of_name(row, "DuplicateSymbol", name.as_str()),
         ImportError::MissingDecl(path, name) => at_path(row, "MissingDecl", path, name.as_str()),
         ImportError::Private(name, path) => private(row, name.as_str(), path),
+        ImportError::AmbiguousSymbol(name) => of_name(row, "AmbiguousSymbol", name.as_str()),
+        ImportError::TooManyFlags(path) => of_path(row, "TooManyFlags", path),
         ImportError::ResolveError(error) => of_refusal(row, error),
     }
 }
