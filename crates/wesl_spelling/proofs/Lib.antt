@@ -2,6 +2,7 @@ mod Bools
 mod Chains
 mod Pairs
 mod Respelled
+mod Shown
 mod UnlikeExpressions
 mod UnlikeStatements
 mod Views

@@ -2,14 +2,12 @@
 use Rattle.std.proofs.Common.{◌≡◌, ℕ, ◌+◌, ◌<◌, ◌≤◌, Bool, true, false, ◌&&◌, List, [], ◌∷◌, length, get_or, map, drop, refl, sym, ap, ◌∙◌, add-one, drop-cons, suc, String, string_bytes, bytes_eq, arith, Vec, Global}
 use Rattle.std.proofs.lemmas.List.{drop_all}
 use Rattle.std.specs.Vec.{vec_len}
-use Rattle.wesl_names.specs.Path.{Text}
-use Rattle.wesl_syntax.specs.Kinds.{same_kind}
-use Rattle.wesl_syntax.specs.Tree.{Kind, Tree, forest_of}
-use Rattle.wesl_syntax.specs.Unit.{name_in}
-use Rattle.wesl_syntax.specs.View.{placed}
-use Rattle.wesl_syntax.specs.declared.span.Spanned.{Spanned}
-use Rattle.wesl_spelling.proofs.Bools.{and_true, and_false}
-use Rattle.wesl_spelling.specs.Same.{same_forest, same_tree, same_texts}
+use Rattle.wesl_syntax.specs.Tree.{Tree, forest_of}
+use Rattle.wesl_spelling.proofs.Bools.{and_false}
+use Rattle.wesl_spelling.proofs.Chains.{left_by, right_by}
+use Rattle.wesl_spelling.specs.Same.{same_forest, same_texts}
+use Rattle.wesl_spelling.specs.Tables.{same_in}
+use Rattle.wesl_spelling.specs.declared.tables.Tables.{Tables}
 
 -- a test of two lists, which goes on pair by pair
 module _ {A : Type 0} (agree : List A → List A → Bool) where
@@ -17,9 +15,9 @@ module _ {A : Type 0} (agree : List A → List A → Bool) where
   pub record Compared (xs ys : Vec A Global) (i : ℕ) : Type 0 where
     pub rest : agree xs.items ys.items ≡ agree (drop i xs.items) (drop i ys.items)
 
-module _ {A : Type 0} (view : A → Tree) (f g : List Text) where
+module _ {A : Type 0} (view : A → Tree) (tables : Tables) where
   abbrev pub all_same : List A → List A → Bool
-  all_same xs ys = same_forest (name_in f) (name_in g) (forest_of (map view xs)) (forest_of (map view ys))
+  all_same xs ys = same_forest tables.places (left_by tables) (right_by tables) (forest_of (map view xs)) (forest_of (map view ys))
 
   -- lists of different lengths differ
   lengths : (xs ys : List A) → (length xs ≡ length ys → ⊥) → all_same xs ys ≡ false
@@ -29,7 +27,7 @@ module _ {A : Type 0} (view : A → Tree) (f g : List Text) where
   lengths (x ∷ xs) (y ∷ ys) h = rw (lengths xs ys (λ e. h (ap suc e))) (and_false _)
 
   next : (xs ys : List A) (i : ℕ) (x y : A) → i < length xs → i < length ys → x ≡ get_or xs i x → y ≡ get_or ys i y
-      → all_same (drop i xs) (drop i ys) ≡ same_tree (name_in f) (name_in g) (view x) (view y) && all_same (drop (i + 1) xs) (drop (i + 1) ys)
+      → all_same (drop i xs) (drop i ys) ≡ same_in tables (view x) (view y) && all_same (drop (i + 1) xs) (drop (i + 1) ys)
   next xs ys i x y h k is js = rw (drop-cons xs i x h, drop-cons ys i y k, ← is, ← js, add-one) refl
 
   -- the lists whose lengths were read as `l` and `r`
@@ -37,14 +35,14 @@ module _ {A : Type 0} (view : A → Tree) (f g : List Text) where
   other_lengths xs ys d e h = sym (lengths xs.items ys.items (λ q. h (d ∙ omega (arith, xs.ok.0, ys.ok.0, q) ∙ sym e)))
 
   pub pair_agrees : {xs ys : Vec A Global} {l r n i : ℕ} {b : Bool} (x y : A) → l ≡ vec_len xs → r ≡ vec_len ys → l ≡ r → n ≡ vec_len xs → i < n → x ≡ get_or xs.items i x → y ≡ get_or ys.items i y
-      → b ≡ same_tree (name_in f) (name_in g) (view x) (view y) → b ≡ true → Compared all_same xs ys i → Compared all_same xs ys (i + 1)
+      → b ≡ same_in tables (view x) (view y) → b ≡ true → Compared all_same xs ys i → Compared all_same xs ys (i + 1)
   pair_agrees {xs} {ys} {i = i} x y d e h n t is js b y' w =
       let p : i < length xs.items = omega (arith, xs.ok.0, n, t) in
       let q : i < length ys.items = omega (arith, xs.ok.0, ys.ok.0, d, e, h, n, t) in
       record { rest = w.rest ∙ next xs.items ys.items i x y p q is js ∙ ap (λ r. r && all_same (drop (i + 1) xs.items) (drop (i + 1) ys.items)) (sym b ∙ y') }
 
   pub pair_differs : {xs ys : Vec A Global} {l r n i : ℕ} {b : Bool} (x y : A) → l ≡ vec_len xs → r ≡ vec_len ys → l ≡ r → n ≡ vec_len xs → i < n → x ≡ get_or xs.items i x → y ≡ get_or ys.items i y
-      → b ≡ same_tree (name_in f) (name_in g) (view x) (view y) → b ≡ false → Compared all_same xs ys i → false ≡ all_same xs.items ys.items
+      → b ≡ same_in tables (view x) (view y) → b ≡ false → Compared all_same xs ys i → false ≡ all_same xs.items ys.items
   pair_differs {xs} {ys} {i = i} x y d e h n t is js b y' w =
       let p : i < length xs.items = omega (arith, xs.ok.0, n, t) in
       let q : i < length ys.items = omega (arith, xs.ok.0, ys.ok.0, d, e, h, n, t) in
@@ -53,11 +51,6 @@ module _ {A : Type 0} (view : A → Tree) (f g : List Text) where
   pub all_agree : {xs ys : Vec A Global} {l r n i : ℕ} → l ≡ vec_len xs → r ≡ vec_len ys → l ≡ r → n ≡ vec_len xs → n ≤ i → Compared all_same xs ys i → true ≡ all_same xs.items ys.items
   all_agree {xs} {ys} {i = i} d e h n t w =
       sym (w.rest ∙ rw (drop_all i xs.items (omega (arith, xs.ok.0, n, t)), drop_all i ys.items (omega (arith, xs.ok.0, ys.ok.0, d, e, h, n, t))) refl)
-
--- nodes agree where what they hold does
-pub in_nodes : {A : Type 0} (view : A → Tree) (k : Kind) (f g : List Text) (x y : Spanned A) {b : Bool} → same_kind k k ≡ true → b ≡ same_tree (name_in f) (name_in g) (view x.node) (view y.node)
-    → b ≡ same_tree (name_in f) (name_in g) (placed view k x) (placed view k y)
-in_nodes view k f g x y h e = rw h (e ∙ sym (and_true _))
 
 abbrev pub agree : List (String Global) → List (String Global) → Bool
 agree xs ys = same_texts (map string_bytes xs) (map string_bytes ys)

@@ -1,14 +1,16 @@
--- `same_tree` says whether two trees are one once each identifier is replaced by its name.
-use Rattle.std.proofs.Common.{◌≡◌, ℕ, Bool, true, false, ◌&&◌, List, [], ◌∷◌, get_or, refl, sym, ap, ◌∙◌, rules, bytes_eq}
+-- `same_tree` says whether two trees show the same.
+use Rattle.std.proofs.Common.{◌≡◌, ℕ, Bool, true, false, ◌&&◌, List, [], ◌∷◌, get_or, if◌then◌else◌, refl, sym, ap, ◌∙◌, rules, bytes_eq}
 use Rattle.std.specs.Bool.{Decides}
 use Rattle.std.proofs.lemmas.Bool.Decides.{Decides-eqb}
 use Rattle.std.proofs.lemmas.Slice.Eq.{bytes_eq-Decides}
 use Rattle.std.specs.Cmp.{booleans_Decides}
 use denote.Enum.Bare.{same_true, true_same}
-use Rattle.wesl_syntax.specs.Tree.{Kind, Role, Label, LabelOf, Forest, TreeOf, end, tree, binder, reference, word, Tree, respell_label, respell_forest, respell, kind, at, ident, text, texts, truth, unary, binary, assignment, space, access, path, expression_node, statement_node, attribute_node, member_node, import_node, directive_node, declaration_node, literal, parenthesized, named_component, indexing, call_expression, call, type_or_identifier, type_expression, template_argument, list, present, absent, attributes, statements, clauses, members, parameters, align, binding, blend_src, builtin, const_attribute, diagnostic, group, id, interpolate, invariant_attribute, location, must_use, size, workgroup_size, vertex, fragment, compute, publish, if_attribute, elif_attribute, else_attribute, custom, void, compound_statement, compound, increment, decrement, if_statement, if_clause, else_if_clause, else_clause, switch, switch_clause, default_case, expression_case, loop, continuing, break_if, for_loop, while_loop, break, continue, return, discard, call_statement, const_assert, import_statement, import_item, import_collection, import_entry, diagnostic_directive, enable_directive, requires_directive, type_alias, struct, member, function, parameter, declaration, const_kind, override_kind, let_kind, var_kind, imports, directive_list, declarations, unit}
+use Rattle.wesl_syntax.specs.Tree.{Kind, Role, Label, LabelOf, Forest, TreeOf, end, tree, binder, reference, word, Tree, kind, at, ident, text, texts, truth, unary, binary, assignment, space, access, path, expression_node, statement_node, attribute_node, member_node, import_node, directive_node, declaration_node, literal, parenthesized, named_component, indexing, call_expression, call, type_or_identifier, type_expression, template_argument, list, present, absent, attributes, statements, clauses, members, parameters, align, binding, blend_src, builtin, const_attribute, diagnostic, group, id, interpolate, invariant_attribute, location, must_use, size, workgroup_size, vertex, fragment, compute, publish, if_attribute, elif_attribute, else_attribute, custom, void, compound_statement, compound, increment, decrement, if_statement, if_clause, else_if_clause, else_clause, switch, switch_clause, default_case, expression_case, loop, continuing, break_if, for_loop, while_loop, break, continue, return, discard, call_statement, const_assert, import_statement, import_item, import_collection, import_entry, diagnostic_directive, enable_directive, requires_directive, type_alias, struct, member, function, parameter, declaration, const_kind, override_kind, let_kind, var_kind, imports, directive_list, declarations, unit}
+use Rattle.wesl_syntax.specs.Shown.{shown, shown_label, shown_forest}
+use Rattle.wesl_spelling.proofs.Bools.{and_true}
 use Rattle.wesl_names.specs.Path.{Text, Origin, Path, absolute, relative, from_package, same_origin}
 use Rattle.wesl_syntax.specs.Kinds.{same_kind, kind_number, same_role, role_number}
-use Rattle.wesl_spelling.specs.Same.{same_texts, same_path, same_label, same_forest, same_tree}
+use Rattle.wesl_spelling.specs.Same.{same_texts, same_path, same_span, same_label, same_forest, same_tree}
 use Rattle.wesl_syntax.specs.contracts.expression.UnaryOperator as unary_operator
 use Rattle.wesl_syntax.specs.contracts.expression.BinaryOperator as binary_operator
 use Rattle.wesl_syntax.specs.contracts.statement.AssignmentOperator as assignment_operator
@@ -157,10 +159,19 @@ paths_Decides p q =
     (λ h. let a = h.0 in let b = h.1 in let e : record { origin = p.origin; components = p.components } ≡ record { origin = q.origin; components = q.components } = rw (a, b) refl in e)
     (λ e. (ap (λ (r : Path). r.origin) e, ap (λ (r : Path). r.components) e))
 
-module _ (f g : ℕ → Text) where
-  label_Decides : (l m : Label) → Decides (same_label f g l m) (respell_label f l ≡ respell_label g m)
+abbrev at_node : Kind → ℕ → ℕ → LabelOf Text
+at_node k s e = at k s e
+
+at_Decides : (places : Bool) (a b : Kind) (s t u v : ℕ) → Decides (same_kind a b && same_span places s t u v) (at_node a (if places then s else 0) (if places then t else 0) ≡ at_node b (if places then u else 0) (if places then v else 0))
+at_Decides true a b s t u v =
+    along (and_Decides _ _ (kinds_Decides a b) (and_Decides _ _ (Decides-eqb s u) (Decides-eqb t v))) (λ h. let p = h.0 in let q = h.1.0 in let r = h.1.1 in cc (p, q, r))
+    (λ e. (let p : a ≡ b = cc in p, (let q : s ≡ u = cc in q, let r : t ≡ v = cc in r)))
+at_Decides false a b s t u v = rw (and_true (same_kind a b)) (along (kinds_Decides a b) (λ e. ap (λ k. let l : LabelOf Text = at k 0 0 in l) e) (λ e. let p : a ≡ b = cc in p))
+
+module _ (places : Bool) (f g : ℕ → Text) where
+  label_Decides : (l m : Label) → Decides (same_label places f g l m) (shown_label places f l ≡ shown_label places g m)
   label_Decides (kind a) (kind b) = along (kinds_Decides a b) (λ e. ap (λ k. let l : LabelOf Text = kind k in l) e) (λ e. let p : a ≡ b = cc in p)
-  label_Decides (at a s t) (at b u v) = along (kinds_Decides a b) (λ e. ap (λ k. let l : LabelOf Text = at k 0 0 in l) e) (λ e. let p : a ≡ b = cc in p)
+  label_Decides (at a s t) (at b u v) = at_Decides places a b s t u v
   label_Decides (ident r i) (ident s j) = along (and_Decides _ _ (roles_Decides r s) (same_text (f i) (g j))) (λ h. let p = h.0 in let q = h.1 in cc (p, q)) (λ e. (let p : r ≡ s = cc in p, let q : f i ≡ g j = cc in q))
   label_Decides (text x) (text y) = along (same_text x y) (λ e. ap (λ k. let l : LabelOf Text = text k in l) e) (λ e. let p : x ≡ y = cc in p)
   label_Decides (texts x) (texts y) = along (texts_Decides x y) (λ e. ap (λ k. let l : LabelOf Text = texts k in l) e) (λ e. let p : x ≡ y = cc in p)
@@ -173,15 +184,15 @@ module _ (f g : ℕ → Text) where
   label_Decides (path x) (path y) = along (paths_Decides x y) (λ e. ap (λ k. let l : LabelOf Text = path k in l) e) (λ e. let p : x ≡ y = cc in p)
   label_Decides _ _ = (λ e. cc, λ e. cc)
 
-  pub forest_Decides : (a b : Forest) → Decides (same_forest f g a b) (respell_forest f a ≡ respell_forest g b)
+  pub forest_Decides : (a b : Forest) → Decides (same_forest places f g a b) (shown_forest places f a ≡ shown_forest places g b)
   forest_Decides end end = (λ e. refl, λ e. refl)
   forest_Decides (tree l a as') (tree m b bs) =
       along (and_Decides _ _ (and_Decides _ _ (label_Decides l m) (forest_Decides a b)) (forest_Decides as' bs))
       (λ h. let p = h.0.0 in let q = h.0.1 in let r = h.1 in cc (p, q, r))
-      (λ e. ((let p : respell_label f l ≡ respell_label g m = cc in p, let q : respell_forest f a ≡ respell_forest g b = cc in q), let r : respell_forest f as' ≡ respell_forest g bs = cc in r))
+      (λ e. ((let p : shown_label places f l ≡ shown_label places g m = cc in p, let q : shown_forest places f a ≡ shown_forest places g b = cc in q), let r : shown_forest places f as' ≡ shown_forest places g bs = cc in r))
   forest_Decides _ _ = (λ e. cc, λ e. cc)
 
-  pub tree_Decides : (s t : Tree) → Decides (same_tree f g s t) (respell f s ≡ respell g t)
+  pub tree_Decides : (s t : Tree) → Decides (same_tree places f g s t) (shown places f s ≡ shown places g t)
   tree_Decides s t =
       along (and_Decides _ _ (label_Decides s.label t.label) (forest_Decides s.children t.children)) (λ h. rw (h.0, h.1) refl)
       (λ e. (ap (λ (r : TreeOf Text). r.label) e, ap (λ (r : TreeOf Text). r.children) e))

@@ -1,5 +1,5 @@
--- Whether two trees are the same once each identifier is replaced by its name, by a test that computes.
-use Rattle.std.specs.Prelude.{ℕ, Bool, true, false, ◌&&◌, List, [], ◌∷◌, bytes_eq}
+-- Whether two trees are the same once each identifier is replaced by its name, and spans are shown or left out, by a test that computes.
+use Rattle.std.specs.Prelude.{ℕ, Bool, true, false, ◌&&◌, ◌==◌, if◌then◌else◌, List, [], ◌∷◌, bytes_eq}
 use mathlib.Core.Bool.{beq}
 use denote.Enum.Bare.{sameb}
 use Rattle.wesl_names.specs.Path.{Text, Path, same_origin}
@@ -21,12 +21,16 @@ same_texts _ _ = false
 abbrev pub same_path : Path → Path → Bool
 same_path p q = same_origin p.origin q.origin && same_texts p.components q.components
 
--- `f` names the identifiers of the one tree, and `g` those of the other
-module _ (f g : ℕ → Text) where
-  -- labels agree where they are of one form and hold the same; places in the source do not count
+-- from where to where two nodes stand, where that counts
+abbrev pub same_span : Bool → ℕ → ℕ → ℕ → ℕ → Bool
+same_span places s e t u = if places then s == t && e == u else true
+
+-- `f` names the identifiers of the one tree, and `g` those of the other; the flag says whether places in the source count
+module _ (places : Bool) (f g : ℕ → Text) where
+  -- labels agree where they are of one form and hold the same
   abbrev pub same_label : Label → Label → Bool
   same_label (kind a) (kind b) = same_kind a b
-  same_label (at a _ _) (at b _ _) = same_kind a b
+  same_label (at a s e) (at b t u) = same_kind a b && same_span places s e t u
   same_label (ident r i) (ident s j) = same_role r s && bytes_eq (f i) (g j)
   same_label (text x) (text y) = bytes_eq x y
   same_label (texts xs) (texts ys) = same_texts xs ys

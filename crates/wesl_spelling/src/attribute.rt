@@ -1,7 +1,7 @@
 //! Attributes.
 ghost use Rattle.std.specs.Prelude.{◌≡◌};
-ghost use Rattle.wesl_syntax.specs.Tree.{list};
-ghost use Rattle.wesl_syntax.specs.View.{attribute_view, attributes_tree, expression_tree, listed, optional};
+ghost use Rattle.wesl_syntax.specs.Tree.{attribute_node, list};
+ghost use Rattle.wesl_syntax.specs.View.{attribute_view, attributes_tree, expression_tree, listed, optional, placed};
 
 use crate::tables::{Tables, same_texts};
 use wesl_syntax::{Attribute, AttributeNode, ExpressionNode};
@@ -88,14 +88,25 @@ impl Tables<'_> {
         }
     }
 
-    pub fn same_attributes(&self, left: &Vec<AttributeNode>, right: &Vec<AttributeNode>) -> bool
+    #[tactic(auto, using(crate::proofs::Bools::steps))]
+    fn same_attribute_node(&self, left: &AttributeNode, right: &AttributeNode) -> bool
+        ensures { result ≡ same_in self.now (placed attribute_view attribute_node left.now) (placed attribute_view attribute_node right.now) }
+    {
+        self.same_span(left.span, right.span) && self.same_attribute(&left.node, &right.node)
+    }
+
+    pub(crate) fn same_attributes(
+        &self,
+        left: &Vec<AttributeNode>,
+        right: &Vec<AttributeNode>,
+    ) -> bool
         ensures { result ≡ same_in self.now (attributes_tree left.now) (attributes_tree right.now) }
     {
         if left.len() != right.len() {
             return false;
         }
         for i in 0..left.len() {
-            if !self.same_attribute(&left[i].node, &right[i].node) {
+            if !self.same_attribute_node(&left[i], &right[i]) {
                 return false;
             }
         }

@@ -1,6 +1,6 @@
 //! Directives, and declarations but for functions.
 ghost use Rattle.std.specs.Prelude.{◌≡◌};
-ghost use Rattle.wesl_syntax.specs.Tree.{member_node, members, parameters};
+ghost use Rattle.wesl_syntax.specs.Tree.{directive_node, member_node, members, parameters};
 ghost use Rattle.wesl_syntax.specs.View.{access_tree, kind_tree, directive_view, directives_tree, declaration_view, member_view, parameter_view, assert_view, listed, optional, placed};
 
 use crate::tables::{Tables, same_texts};
@@ -55,7 +55,14 @@ impl Tables<'_> {
         }
     }
 
-    pub fn same_directives(
+    #[tactic(auto, using(crate::proofs::Bools::steps))]
+    fn same_directive_node(&self, left: &GlobalDirectiveNode, right: &GlobalDirectiveNode) -> bool
+        ensures { result ≡ same_in self.now (placed directive_view directive_node left.now) (placed directive_view directive_node right.now) }
+    {
+        self.same_span(left.span, right.span) && self.same_directive(&left.node, &right.node)
+    }
+
+    pub(crate) fn same_directives(
         &self,
         left: &Vec<GlobalDirectiveNode>,
         right: &Vec<GlobalDirectiveNode>,
@@ -66,7 +73,7 @@ impl Tables<'_> {
             return false;
         }
         for i in 0..left.len() {
-            if !self.same_directive(&left[i].node, &right[i].node) {
+            if !self.same_directive_node(&left[i], &right[i]) {
                 return false;
             }
         }
@@ -102,7 +109,7 @@ impl Tables<'_> {
     }
 
     #[tactic(auto, using(crate::proofs::Bools::steps))]
-    pub fn same_declaration(&self, left: &Declaration, right: &Declaration) -> bool
+    pub(crate) fn same_declaration(&self, left: &Declaration, right: &Declaration) -> bool
         ensures { result ≡ same_in self.now (declaration_view left.now) (declaration_view right.now) }
     {
         self.same_attributes(&left.attributes, &right.attributes)
@@ -121,14 +128,25 @@ impl Tables<'_> {
             && self.same_type(&left.ty, &right.ty)
     }
 
-    pub fn same_members(&self, left: &Vec<StructMemberNode>, right: &Vec<StructMemberNode>) -> bool
+    #[tactic(auto, using(crate::proofs::Bools::steps))]
+    fn same_member_node(&self, left: &StructMemberNode, right: &StructMemberNode) -> bool
+        ensures { result ≡ same_in self.now (placed member_view member_node left.now) (placed member_view member_node right.now) }
+    {
+        self.same_span(left.span, right.span) && self.same_member(&left.node, &right.node)
+    }
+
+    pub(crate) fn same_members(
+        &self,
+        left: &Vec<StructMemberNode>,
+        right: &Vec<StructMemberNode>,
+    ) -> bool
         ensures { result ≡ same_in self.now (listed (placed member_view member_node) members left.now) (listed (placed member_view member_node) members right.now) }
     {
         if left.len() != right.len() {
             return false;
         }
         for i in 0..left.len() {
-            if !self.same_member(&left[i].node, &right[i].node) {
+            if !self.same_member_node(&left[i], &right[i]) {
                 return false;
             }
         }
@@ -144,7 +162,11 @@ impl Tables<'_> {
             && self.same_type(&left.ty, &right.ty)
     }
 
-    pub fn same_parameters(&self, left: &Vec<FormalParameter>, right: &Vec<FormalParameter>) -> bool
+    pub(crate) fn same_parameters(
+        &self,
+        left: &Vec<FormalParameter>,
+        right: &Vec<FormalParameter>,
+    ) -> bool
         ensures { result ≡ same_in self.now (listed parameter_view parameters left.now) (listed parameter_view parameters right.now) }
     {
         if left.len() != right.len() {
@@ -159,7 +181,7 @@ impl Tables<'_> {
     }
 
     #[tactic(auto, using(crate::proofs::Bools::steps))]
-    pub fn same_assert(&self, left: &ConstAssert, right: &ConstAssert) -> bool
+    pub(crate) fn same_assert(&self, left: &ConstAssert, right: &ConstAssert) -> bool
         ensures { result ≡ same_in self.now (assert_view left.now) (assert_view right.now) }
     {
         self.same_attributes(&left.attributes, &right.attributes)

@@ -89,21 +89,22 @@ impl Tables<'_> {
     }
 
     #[cycle(expression)]
-    pub fn same_node(&self, left: &ExpressionNode, right: &ExpressionNode) -> bool
+    #[tactic(auto, using(crate::proofs::Bools::steps))]
+    pub(crate) fn same_node(&self, left: &ExpressionNode, right: &ExpressionNode) -> bool
         ensures { result ≡ same_in self.now (expression_tree left.now) (expression_tree right.now) }
     {
-        self.same_expression(&left.node, &right.node)
+        self.same_span(left.span, right.span) && self.same_expression(&left.node, &right.node)
     }
 
     #[cycle(expression)]
-    pub fn same_nodes(&self, left: &Vec<ExpressionNode>, right: &Vec<ExpressionNode>) -> bool
+    pub(crate) fn same_nodes(&self, left: &Vec<ExpressionNode>, right: &Vec<ExpressionNode>) -> bool
         ensures { result ≡ same_in self.now (listed expression_tree list left.now) (listed expression_tree list right.now) }
     {
         if left.len() != right.len() {
             return false;
         }
         for i in 0..left.len() {
-            if !self.same_expression(&left[i].node, &right[i].node) {
+            if !self.same_node(&left[i], &right[i]) {
                 return false;
             }
         }
@@ -112,7 +113,7 @@ impl Tables<'_> {
 
     #[cycle(expression)]
     #[tactic(auto, using(crate::proofs::Bools::steps, crate::proofs::Views::view_call))]
-    pub fn same_call(&self, left: &FunctionCall, right: &FunctionCall) -> bool
+    pub(crate) fn same_call(&self, left: &FunctionCall, right: &FunctionCall) -> bool
         ensures { result ≡ same_in self.now (call_view left.now) (call_view right.now) }
     {
         self.same_type(&left.ty, &right.ty) && self.same_nodes(&left.arguments, &right.arguments)
@@ -120,7 +121,7 @@ impl Tables<'_> {
 
     #[cycle(expression)]
     #[tactic(auto, using(crate::proofs::Bools::steps))]
-    pub fn same_type(&self, left: &TypeExpression, right: &TypeExpression) -> bool
+    pub(crate) fn same_type(&self, left: &TypeExpression, right: &TypeExpression) -> bool
         ensures { result ≡ same_in self.now (type_view left.now) (type_view right.now) }
     {
         self.same_path(&left.path, &right.path)
@@ -148,7 +149,7 @@ impl Tables<'_> {
     }
 
     #[tactic(auto, using(crate::proofs::Bools::steps))]
-    pub fn same_optional_node(
+    pub(crate) fn same_optional_node(
         &self,
         left: &Option<ExpressionNode>,
         right: &Option<ExpressionNode>,
@@ -163,7 +164,7 @@ impl Tables<'_> {
     }
 
     #[tactic(auto, using(crate::proofs::Bools::steps))]
-    pub fn same_optional_type(
+    pub(crate) fn same_optional_type(
         &self,
         left: &Option<TypeExpression>,
         right: &Option<TypeExpression>,

@@ -1,6 +1,7 @@
 //! Functions, and declarations of a module.
 ghost use Rattle.std.specs.Prelude.{◌≡◌};
-ghost use Rattle.wesl_syntax.specs.View.{global_view, declarations_tree};
+ghost use Rattle.wesl_syntax.specs.Tree.{declaration_node};
+ghost use Rattle.wesl_syntax.specs.View.{global_view, declarations_tree, placed};
 
 use crate::tables::Tables;
 use wesl_syntax::{GlobalDeclaration, GlobalDeclarationNode};
@@ -37,7 +38,14 @@ impl Tables<'_> {
         }
     }
 
-    pub fn same_declarations(
+    #[tactic(auto, using(crate::proofs::Bools::steps))]
+    fn same_global_node(&self, left: &GlobalDeclarationNode, right: &GlobalDeclarationNode) -> bool
+        ensures { result ≡ same_in self.now (placed global_view declaration_node left.now) (placed global_view declaration_node right.now) }
+    {
+        self.same_span(left.span, right.span) && self.same_global(&left.node, &right.node)
+    }
+
+    pub(crate) fn same_declarations(
         &self,
         left: &Vec<GlobalDeclarationNode>,
         right: &Vec<GlobalDeclarationNode>,
@@ -48,7 +56,7 @@ impl Tables<'_> {
             return false;
         }
         for i in 0..left.len() {
-            if !self.same_global(&left[i].node, &right[i].node) {
+            if !self.same_global_node(&left[i], &right[i]) {
                 return false;
             }
         }

@@ -1,7 +1,7 @@
 //! Imports.
 ghost use Rattle.std.specs.Prelude.{◌≡◌};
-ghost use Rattle.wesl_syntax.specs.Tree.{list};
-ghost use Rattle.wesl_syntax.specs.View.{item_view, content_view, entry_view, import_view, imports_tree, listed};
+ghost use Rattle.wesl_syntax.specs.Tree.{import_node, list};
+ghost use Rattle.wesl_syntax.specs.View.{item_view, content_view, entry_view, import_view, imports_tree, listed, placed};
 
 use crate::tables::{Tables, same_texts};
 use wesl_syntax::{Import, ImportContent, ImportItem, ImportStatement, ImportStatementNode};
@@ -65,7 +65,14 @@ impl Tables<'_> {
             && self.same_content(&left.content, &right.content)
     }
 
-    pub fn same_imports(
+    #[tactic(auto, using(crate::proofs::Bools::steps))]
+    fn same_import_node(&self, left: &ImportStatementNode, right: &ImportStatementNode) -> bool
+        ensures { result ≡ same_in self.now (placed import_view import_node left.now) (placed import_view import_node right.now) }
+    {
+        self.same_span(left.span, right.span) && self.same_import(&left.node, &right.node)
+    }
+
+    pub(crate) fn same_imports(
         &self,
         left: &Vec<ImportStatementNode>,
         right: &Vec<ImportStatementNode>,
@@ -76,7 +83,7 @@ impl Tables<'_> {
             return false;
         }
         for i in 0..left.len() {
-            if !self.same_import(&left[i].node, &right[i].node) {
+            if !self.same_import_node(&left[i], &right[i]) {
                 return false;
             }
         }

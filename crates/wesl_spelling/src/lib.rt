@@ -1,4 +1,5 @@
-//! Whether two lists of nodes are the same once each identifier is replaced by its name.
+//! Whether two lists of nodes are the same once each identifier is replaced by its name, or once each is left without a
+//! name and spans count.
 #![tactic(auto)]
 
 mod attribute;
@@ -11,3 +12,4 @@ mod statement;
 mod tables;
 
 pub use spelling::{same_declarations, same_directives, same_imports};
+pub use tables::Tables;

@@ -1,5 +1,6 @@
-//! The comparison of the parts of two modules by their spelling. Spans do not count, and no memory is taken.
+//! The comparison of the parts of two modules, by their spelling or by the places of their nodes. No memory is taken.
 ghost use Rattle.std.specs.Prelude.{◌≡◌, ◌↔◌, IsTrue};
+ghost use Rattle.wesl_spelling.specs.Tables.{shown_in};
 ghost use Rattle.wesl_syntax.specs.Tree.{respell};
 ghost use Rattle.wesl_syntax.specs.Unit.{name_in};
 ghost use Rattle.wesl_syntax.specs.View.{imports_tree, directives_tree, declarations_tree};
@@ -8,7 +9,43 @@ use crate::tables::Tables;
 use wesl_names::Names;
 use wesl_syntax::{GlobalDeclarationNode, GlobalDirectiveNode, ImportStatementNode};
 
-/// Whether two lists of imports are the same once each identifier is replaced by its name in its table.
+impl Tables<'_> {
+    /// Whether two lists of imports show the same by these tables.
+    pub fn imports_agree(
+        &self,
+        left: &Vec<ImportStatementNode>,
+        right: &Vec<ImportStatementNode>,
+    ) -> bool
+        ensures { let t = self.now in IsTrue result ↔ (shown_in t.places t.left.now (imports_tree left.now) ≡ shown_in t.places t.right.now (imports_tree right.now)) }
+    {
+        self.same_imports(left, right)
+    }
+
+    /// Whether two lists of directives show the same by these tables.
+    pub fn directives_agree(
+        &self,
+        left: &Vec<GlobalDirectiveNode>,
+        right: &Vec<GlobalDirectiveNode>,
+    ) -> bool
+        ensures { let t = self.now in IsTrue result ↔ (shown_in t.places t.left.now (directives_tree left.now) ≡ shown_in t.places t.right.now (directives_tree right.now)) }
+    {
+        self.same_directives(left, right)
+    }
+
+    /// Whether two lists of declarations show the same by these tables.
+    pub fn declarations_agree(
+        &self,
+        left: &Vec<GlobalDeclarationNode>,
+        right: &Vec<GlobalDeclarationNode>,
+    ) -> bool
+        ensures { let t = self.now in IsTrue result ↔ (shown_in t.places t.left.now (declarations_tree left.now) ≡ shown_in t.places t.right.now (declarations_tree right.now)) }
+    {
+        self.same_declarations(left, right)
+    }
+}
+
+/// Whether two lists of imports are the same once each identifier is replaced by its name in its table. Spans do not
+/// count.
 pub fn same_imports(
     left_names: &Names,
     left: &Vec<ImportStatementNode>,
@@ -20,11 +57,13 @@ pub fn same_imports(
     let tables = Tables {
         left: left_names,
         right: right_names,
+        places: false,
     };
     tables.same_imports(left, right)
 }
 
-/// Whether two lists of directives are the same once each identifier is replaced by its name in its table.
+/// Whether two lists of directives are the same once each identifier is replaced by its name in its table. Spans do
+/// not count.
 pub fn same_directives(
     left_names: &Names,
     left: &Vec<GlobalDirectiveNode>,
@@ -36,11 +75,13 @@ pub fn same_directives(
     let tables = Tables {
         left: left_names,
         right: right_names,
+        places: false,
     };
     tables.same_directives(left, right)
 }
 
-/// Whether two lists of declarations are the same once each identifier is replaced by its name in its table.
+/// Whether two lists of declarations are the same once each identifier is replaced by its name in its table. Spans do
+/// not count.
 pub fn same_declarations(
     left_names: &Names,
     left: &Vec<GlobalDeclarationNode>,
@@ -52,6 +93,7 @@ pub fn same_declarations(
     let tables = Tables {
         left: left_names,
         right: right_names,
+        places: false,
     };
     tables.same_declarations(left, right)
 }

@@ -356,18 +356,27 @@ impl Tables<'_> {
     {
         match (left, right) {
             (None, None) => true,
-            (Some(left), Some(right)) => self.same_statement(&left.node, &right.node),
+            (Some(left), Some(right)) => self.same_span(left.span, right.span)
+                && self.same_statement(&left.node, &right.node),
             _ => false,
         }
     }
 
     #[cycle(statement)]
     #[tactic(auto, using(crate::proofs::Bools::steps, crate::proofs::Views::view_compound))]
-    pub fn same_compound(&self, left: &CompoundStatement, right: &CompoundStatement) -> bool
+    pub(crate) fn same_compound(&self, left: &CompoundStatement, right: &CompoundStatement) -> bool
         ensures { result ≡ same_in self.now (compound_view left.now) (compound_view right.now) }
     {
         self.same_attributes(&left.attributes, &right.attributes)
             && self.same_statements(&left.statements, &right.statements)
+    }
+
+    #[cycle(statement)]
+    #[tactic(auto, using(crate::proofs::Bools::steps))]
+    fn same_statement_node(&self, left: &StatementNode, right: &StatementNode) -> bool
+        ensures { result ≡ same_in self.now (statement_tree left.now) (statement_tree right.now) }
+    {
+        self.same_span(left.span, right.span) && self.same_statement(&left.node, &right.node)
     }
 
     #[cycle(statement)]
@@ -378,7 +387,7 @@ impl Tables<'_> {
             return false;
         }
         for i in 0..left.len() {
-            if !self.same_statement(&left[i].node, &right[i].node) {
+            if !self.same_statement_node(&left[i], &right[i]) {
                 return false;
             }
         }

@@ -1,17 +1,20 @@
 //! The tables by which two trees are compared, and what has no parts: names, texts and paths.
 ghost use Rattle.std.specs.Prelude.{◌≡◌, [], get_or, bytes_eq};
 ghost use Rattle.wesl_names.specs.Path.{path_view, same_origin, origin_view};
-ghost use Rattle.wesl_spelling.specs.Same.{same_texts as texts_agree};
-ghost use Rattle.wesl_syntax.specs.Unit.{name_in};
+ghost use Rattle.wesl_spelling.specs.Same.{same_texts as texts_agree, same_span as spans_agree};
 ghost use Rattle.wesl_syntax.specs.View.{optional, path_tree, texts_of};
 
-use wesl_names::{Ident, ModulePath, Names, PathOrigin};
+use wesl_names::{Ident, ModulePath, Names, PathOrigin, Span};
 
-/// The names of the identifiers of the left tree, and of those of the right tree.
+/// By what two trees are compared: by the names of their identifiers, or by the places of their nodes.
 #[derive(Clone, Copy)]
 pub struct Tables<'a> {
+    /// The names of the identifiers of the left tree.
     pub left: &'a Names,
+    /// The names of the identifiers of the right tree.
     pub right: &'a Names,
+    /// Whether the spans of nodes count, and what identifiers are called does not.
+    pub places: bool,
 }
 
 /// The name of an identifier, and the empty text where it has none.
@@ -27,7 +30,7 @@ fn name_of(names: &Names, ident: Ident) -> &str
 
 /// Whether the same texts stand in the same order.
 #[tactic(auto, using(crate::proofs::Pairs::text_steps))]
-pub fn same_texts(left: &Vec<String>, right: &Vec<String>) -> bool
+pub(crate) fn same_texts(left: &Vec<String>, right: &Vec<String>) -> bool
     ensures { result ≡ texts_agree (texts_of left.now) (texts_of right.now) }
 {
     if left.len() != right.len() {
@@ -53,16 +56,22 @@ fn same_origin(left: &PathOrigin, right: &PathOrigin) -> bool
 }
 
 impl Tables<'_> {
-    ghost use Rattle.wesl_spelling.specs.Tables.{same_in};
+    ghost use Rattle.wesl_spelling.specs.Tables.{naming, same_in};
 
-    pub fn same_ident(&self, left: Ident, right: Ident) -> bool
-        ensures { result ≡ bytes_eq (name_in self.now.left.now left.0) (name_in self.now.right.now right.0) }
+    pub(crate) fn same_ident(&self, left: Ident, right: Ident) -> bool
+        ensures { result ≡ bytes_eq (naming self.now.places self.now.left.now left.0) (naming self.now.places self.now.right.now right.0) }
     {
-        name_of(self.left, left) == name_of(self.right, right)
+        self.places || name_of(self.left, left) == name_of(self.right, right)
+    }
+
+    pub(crate) fn same_span(&self, left: Span, right: Span) -> bool
+        ensures { result ≡ spans_agree self.now.places left.start left.end right.start right.end }
+    {
+        !self.places || (left.start == right.start && left.end == right.end)
     }
 
     #[tactic(auto, using(crate::proofs::Bools::steps))]
-    pub fn same_path(&self, left: &Option<ModulePath>, right: &Option<ModulePath>) -> bool
+    pub(crate) fn same_path(&self, left: &Option<ModulePath>, right: &Option<ModulePath>) -> bool
         ensures { result ≡ same_in self.now (optional path_tree left.now) (optional path_tree right.now) }
     {
         match (left, right) {

@@ -1,6 +1,7 @@
 //! Whole modules.
 ghost use Rattle.std.specs.Prelude.{◌≡◌, ◌↔◌, IsTrue, true, false, not, length, [], ◌∷◌, MatchOption};
 ghost use Rattle.wesl_syntax.specs.Tree.{tree_below, forest_of};
+ghost use Rattle.wesl_syntax.specs.Shown.{unnamed};
 ghost use Rattle.wesl_syntax.specs.Unit.{unit_below, empty_unit, spelled, begins_void, without_voids};
 ghost use Rattle.wesl_syntax.specs.View.{imports_tree, directives_tree, declarations_tree, global_view};
 ghost use Rattle.wesl_tree.specs.Parts.{parts_view};
@@ -8,7 +9,7 @@ ghost use Rattle.wesl_tree.specs.Parts.{parts_view};
 use std::alloc::Global;
 use wesl_bounds::{declarations_are_below, directives_are_below, imports_are_below};
 use wesl_names::Names;
-use wesl_spelling::{same_declarations, same_directives, same_imports};
+use wesl_spelling::{Tables, same_declarations, same_directives, same_imports};
 use wesl_syntax::{
     GlobalDeclaration, GlobalDeclarationNode, GlobalDirectiveNode, ImportStatementNode,
 };
@@ -163,5 +164,26 @@ impl TranslationUnit {
                 &other.names,
                 &other.declarations,
             )
+    }
+
+    /// Whether two units have the same nodes at the same places of their sources. What identifiers are called does not
+    /// count, while all else that a node holds does, as texts and operators. No memory is taken.
+    ///
+    /// With `same_spelling` it says that two units agree in all but the numbers of their identifiers:
+    ///
+    /// ```
+    /// let is_equal = unit.same_spelling(&other) && unit.same_spans(&other);
+    /// ```
+    pub fn same_spans(&self, other: &TranslationUnit) -> bool
+        ensures { IsTrue result ↔ (unnamed (unit_view self.now) ≡ unnamed (unit_view other.now)) }
+    {
+        let tables = Tables {
+            left: &self.names,
+            right: &other.names,
+            places: true,
+        };
+        tables.imports_agree(&self.imports, &other.imports)
+            && tables.directives_agree(&self.directives, &other.directives)
+            && tables.declarations_agree(&self.declarations, &other.declarations)
     }
 }

@@ -1,15 +1,15 @@
 use Rattle.std.proofs.Common.{None, Some, ap, arith, refl, sym, ◌∙◌}
-use Rattle.wesl_syntax.specs.Tree.{call, call_expression, expression_node, indexing, literal, named_component, parenthesized, template_argument, type_expression, type_or_identifier}
+use Rattle.wesl_syntax.specs.Tree.{call, call_expression, indexing, literal, named_component, parenthesized, template_argument, type_expression, type_or_identifier}
 use Rattle.wesl_syntax.specs.View.{argument_view, expression_tree, expression_view}
 use Rattle.wesl_spelling.proofs.Chains.{at_places, last, of_kind, of_labels, seen, stop, then}
-use Rattle.wesl_spelling.proofs.Pairs.{all_agree, in_nodes, other_lengths, pair_agrees, pair_differs}
+use Rattle.wesl_spelling.proofs.Pairs.{all_agree, other_lengths, pair_agrees, pair_differs}
 use Rattle.wesl_spelling.proofs.UnlikeExpressions.{unlike}
 use Rattle.wesl_spelling.proofs.Views.{type_of, view_argument, view_binary, view_call, view_call_expression, view_indexing, view_literal, view_name, view_named, view_parenthesized, view_type}
 use Rattle.wesl_spelling.proofs.Bools.{and_true}
 use Rattle.wesl_spelling.proofs.tables.Tables.+expression.Goals as goal
 
 pub same_nodes-returns-then-len : goal.same_nodes-returns-then-len
-same_nodes-returns-then-len t c = other_lengths expression_tree c.args.self.now.left.now c.args.self.now.right.now c.args.left.now c.args.right.now c.len.ensures c.len-2.ensures c.if-len.true
+same_nodes-returns-then-len t c = other_lengths expression_tree c.args.self.now c.args.left.now c.args.right.now c.len.ensures c.len-2.ensures c.if-len.true
 
 pub same_nodes-loop-i-init : goal.same_nodes-loop-i-init
 same_nodes-loop-i-init t c = record { rest = refl }
@@ -22,19 +22,19 @@ same_nodes-index-requires-in-loop-i t c = omega (arith, c.loop-i-test.true, c.le
 
 pub same_nodes-loop-i-preserved : goal.same_nodes-loop-i-preserved
 same_nodes-loop-i-preserved t c =
-    pair_agrees expression_tree c.args.self.now.left.now c.args.self.now.right.now c.index.result.now c.index-in-loop-i.result.now c.len.ensures c.len-2.ensures c.if-len.false c.len-i-end.ensures c.loop-i-test.true c.index.ensures c.index-in-loop-i.ensures
-    (in_nodes expression_view expression_node c.args.self.now.left.now c.args.self.now.right.now c.index.result.now c.index-in-loop-i.result.now refl c.same_expression.ensures) c.if-not-same_expression.false c.loop-i.invariant
+    pair_agrees expression_tree c.args.self.now c.index.result.now c.index-in-loop-i.result.now c.len.ensures c.len-2.ensures c.if-len.false c.len-i-end.ensures c.loop-i-test.true c.index.ensures c.index-in-loop-i.ensures
+    c.same_node.ensures c.if-not-same_node.false c.loop-i.invariant
 
-pub same_nodes-returns-then-not-same_expression : goal.same_nodes-returns-then-not-same_expression
-same_nodes-returns-then-not-same_expression t c =
-    pair_differs expression_tree c.args.self.now.left.now c.args.self.now.right.now c.index.result.now c.index-in-loop-i.result.now c.len.ensures c.len-2.ensures c.if-len.false c.len-i-end.ensures c.loop-i-test.true c.index.ensures c.index-in-loop-i.ensures
-    (in_nodes expression_view expression_node c.args.self.now.left.now c.args.self.now.right.now c.index.result.now c.index-in-loop-i.result.now refl c.same_expression.ensures) c.if-not-same_expression.true c.loop-i.invariant
+pub same_nodes-returns-then-not-same_node : goal.same_nodes-returns-then-not-same_node
+same_nodes-returns-then-not-same_node t c =
+    pair_differs expression_tree c.args.self.now c.index.result.now c.index-in-loop-i.result.now c.len.ensures c.len-2.ensures c.if-len.false c.len-i-end.ensures c.loop-i-test.true c.index.ensures c.index-in-loop-i.ensures
+    c.same_node.ensures c.if-not-same_node.true c.loop-i.invariant
 
 pub same_nodes-returns : goal.same_nodes-returns
-same_nodes-returns t c = all_agree expression_tree c.args.self.now.left.now c.args.self.now.right.now c.len.ensures c.len-2.ensures c.if-len.false c.len-i-end.ensures c.loop-i-test.false c.loop-i.invariant
+same_nodes-returns t c = all_agree expression_tree c.args.self.now c.len.ensures c.len-2.ensures c.if-len.false c.len-i-end.ensures c.loop-i-test.false c.loop-i.invariant
 
 pub same_arguments-returns-then-len : goal.same_arguments-returns-then-len
-same_arguments-returns-then-len t c = other_lengths argument_view c.args.self.now.left.now c.args.self.now.right.now c.args.left.now c.args.right.now c.len.ensures c.len-2.ensures c.if-len.true
+same_arguments-returns-then-len t c = other_lengths argument_view c.args.self.now c.args.left.now c.args.right.now c.len.ensures c.len-2.ensures c.if-len.true
 
 pub same_arguments-loop-i-init : goal.same_arguments-loop-i-init
 same_arguments-loop-i-init t c = record { rest = refl }
@@ -47,16 +47,16 @@ same_arguments-index-requires-in-loop-i t c = omega (arith, c.loop-i-test.true, 
 
 pub same_arguments-loop-i-preserved : goal.same_arguments-loop-i-preserved
 same_arguments-loop-i-preserved t c =
-    pair_agrees argument_view c.args.self.now.left.now c.args.self.now.right.now c.index.result.now c.index-in-loop-i.result.now c.len.ensures c.len-2.ensures c.if-len.false c.len-i-end.ensures c.loop-i-test.true c.index.ensures c.index-in-loop-i.ensures
+    pair_agrees argument_view c.args.self.now c.index.result.now c.index-in-loop-i.result.now c.len.ensures c.len-2.ensures c.if-len.false c.len-i-end.ensures c.loop-i-test.true c.index.ensures c.index-in-loop-i.ensures
     (seen c.args.self.now (view_argument c.index.result.now) (view_argument c.index-in-loop-i.result.now) (of_kind template_argument refl (last c.same_node.ensures))) c.if-not-same_node.false c.loop-i.invariant
 
 pub same_arguments-returns-then-not-same_node : goal.same_arguments-returns-then-not-same_node
 same_arguments-returns-then-not-same_node t c =
-    pair_differs argument_view c.args.self.now.left.now c.args.self.now.right.now c.index.result.now c.index-in-loop-i.result.now c.len.ensures c.len-2.ensures c.if-len.false c.len-i-end.ensures c.loop-i-test.true c.index.ensures c.index-in-loop-i.ensures
+    pair_differs argument_view c.args.self.now c.index.result.now c.index-in-loop-i.result.now c.len.ensures c.len-2.ensures c.if-len.false c.len-i-end.ensures c.loop-i-test.true c.index.ensures c.index-in-loop-i.ensures
     (seen c.args.self.now (view_argument c.index.result.now) (view_argument c.index-in-loop-i.result.now) (of_kind template_argument refl (last c.same_node.ensures))) c.if-not-same_node.true c.loop-i.invariant
 
 pub same_arguments-returns : goal.same_arguments-returns
-same_arguments-returns t c = all_agree argument_view c.args.self.now.left.now c.args.self.now.right.now c.len.ensures c.len-2.ensures c.if-len.false c.len-i-end.ensures c.loop-i-test.false c.loop-i.invariant
+same_arguments-returns t c = all_agree argument_view c.args.self.now c.len.ensures c.len-2.ensures c.if-len.false c.len-i-end.ensures c.loop-i-test.false c.loop-i.invariant
 
 pub same_call-returns-then-same_type : goal.same_call-returns-then-same_type
 same_call-returns-then-same_type t c = seen c.args.self.now (view_call c.args.left.now) (view_call c.args.right.now) (of_kind call refl (then c.same_type.ensures c.if-same_type.true (last c.same_nodes.ensures)))
@@ -87,31 +87,31 @@ same_expression-returns-in-Literal-Literal t c =
 
 pub same_expression-returns-in-Parenthesized-Parenthesized : goal.same_expression-returns-in-Parenthesized-Parenthesized
 same_expression-returns-in-Parenthesized-Parenthesized t c =
-    seen c.args.self.now (ap expression_view c.in-Parenthesized-Parenthesized.is-0 ∙ view_parenthesized _) (ap expression_view c.in-Parenthesized-Parenthesized.is-1 ∙ view_parenthesized _) (of_kind parenthesized refl (last (at_places expression_tree c.args.self.now.left.now c.args.self.now.right.now c.deref.ensures c.deref-in-Parenthesized-Parenthesized.ensures c.same_node.ensures)))
+    seen c.args.self.now (ap expression_view c.in-Parenthesized-Parenthesized.is-0 ∙ view_parenthesized _) (ap expression_view c.in-Parenthesized-Parenthesized.is-1 ∙ view_parenthesized _) (of_kind parenthesized refl (last (at_places expression_tree c.args.self.now c.deref.ensures c.deref-in-Parenthesized-Parenthesized.ensures c.same_node.ensures)))
 
 pub same_expression-returns-then-same_node : goal.same_expression-returns-then-same_node
 same_expression-returns-then-same_node t c =
-    seen c.args.self.now (ap expression_view c.in-NamedComponent-NamedComponent.is-0 ∙ view_named _ _) (ap expression_view c.in-NamedComponent-NamedComponent.is-1 ∙ view_named _ _) (of_kind named_component refl (then (at_places expression_tree c.args.self.now.left.now c.args.self.now.right.now c.deref-in-NamedComponent-NamedComponent.ensures c.deref-in-NamedComponent-NamedComponent-2.ensures c.same_node-in-NamedComponent-NamedComponent.ensures) c.if-same_node.true (last (c.eq.ensures ∙ sym (and_true _)))))
+    seen c.args.self.now (ap expression_view c.in-NamedComponent-NamedComponent.is-0 ∙ view_named _ _) (ap expression_view c.in-NamedComponent-NamedComponent.is-1 ∙ view_named _ _) (of_kind named_component refl (then (at_places expression_tree c.args.self.now c.deref-in-NamedComponent-NamedComponent.ensures c.deref-in-NamedComponent-NamedComponent-2.ensures c.same_node-in-NamedComponent-NamedComponent.ensures) c.if-same_node.true (last (c.eq.ensures ∙ sym (and_true _)))))
 
 pub same_expression-returns-else-same_node : goal.same_expression-returns-else-same_node
 same_expression-returns-else-same_node t c =
-    seen c.args.self.now (ap expression_view c.in-NamedComponent-NamedComponent.is-0 ∙ view_named _ _) (ap expression_view c.in-NamedComponent-NamedComponent.is-1 ∙ view_named _ _) (of_kind named_component refl (stop (at_places expression_tree c.args.self.now.left.now c.args.self.now.right.now c.deref-in-NamedComponent-NamedComponent.ensures c.deref-in-NamedComponent-NamedComponent-2.ensures c.same_node-in-NamedComponent-NamedComponent.ensures) c.if-same_node.false))
+    seen c.args.self.now (ap expression_view c.in-NamedComponent-NamedComponent.is-0 ∙ view_named _ _) (ap expression_view c.in-NamedComponent-NamedComponent.is-1 ∙ view_named _ _) (of_kind named_component refl (stop (at_places expression_tree c.args.self.now c.deref-in-NamedComponent-NamedComponent.ensures c.deref-in-NamedComponent-NamedComponent-2.ensures c.same_node-in-NamedComponent-NamedComponent.ensures) c.if-same_node.false))
 
 pub same_expression-returns-then-same_node-2 : goal.same_expression-returns-then-same_node-2
 same_expression-returns-then-same_node-2 t c =
-    seen c.args.self.now (ap expression_view c.in-Indexing-Indexing.is-0 ∙ view_indexing _ _) (ap expression_view c.in-Indexing-Indexing.is-1 ∙ view_indexing _ _) (of_kind indexing refl (then (at_places expression_tree c.args.self.now.left.now c.args.self.now.right.now c.deref-in-Indexing-Indexing.ensures c.deref-in-Indexing-Indexing-2.ensures c.same_node-in-Indexing-Indexing.ensures) c.if-same_node-2.true (last (at_places expression_tree c.args.self.now.left.now c.args.self.now.right.now c.deref-then-same_node-2.ensures c.deref-then-same_node-2-2.ensures c.same_node-then-same_node-2.ensures))))
+    seen c.args.self.now (ap expression_view c.in-Indexing-Indexing.is-0 ∙ view_indexing _ _) (ap expression_view c.in-Indexing-Indexing.is-1 ∙ view_indexing _ _) (of_kind indexing refl (then (at_places expression_tree c.args.self.now c.deref-in-Indexing-Indexing.ensures c.deref-in-Indexing-Indexing-2.ensures c.same_node-in-Indexing-Indexing.ensures) c.if-same_node-2.true (last (at_places expression_tree c.args.self.now c.deref-then-same_node-2.ensures c.deref-then-same_node-2-2.ensures c.same_node-then-same_node-2.ensures))))
 
 pub same_expression-returns-else-same_node-2 : goal.same_expression-returns-else-same_node-2
 same_expression-returns-else-same_node-2 t c =
-    seen c.args.self.now (ap expression_view c.in-Indexing-Indexing.is-0 ∙ view_indexing _ _) (ap expression_view c.in-Indexing-Indexing.is-1 ∙ view_indexing _ _) (of_kind indexing refl (stop (at_places expression_tree c.args.self.now.left.now c.args.self.now.right.now c.deref-in-Indexing-Indexing.ensures c.deref-in-Indexing-Indexing-2.ensures c.same_node-in-Indexing-Indexing.ensures) c.if-same_node-2.false))
+    seen c.args.self.now (ap expression_view c.in-Indexing-Indexing.is-0 ∙ view_indexing _ _) (ap expression_view c.in-Indexing-Indexing.is-1 ∙ view_indexing _ _) (of_kind indexing refl (stop (at_places expression_tree c.args.self.now c.deref-in-Indexing-Indexing.ensures c.deref-in-Indexing-Indexing-2.ensures c.same_node-in-Indexing-Indexing.ensures) c.if-same_node-2.false))
 
 pub same_expression-returns-then-same_node-3 : goal.same_expression-returns-then-same_node-3
 same_expression-returns-then-same_node-3 t c =
-    seen c.args.self.now (ap expression_view c.in-Binary-Binary.is-0 ∙ view_binary _ _ _) (ap expression_view c.in-Binary-Binary.is-1 ∙ view_binary _ _ _) (of_labels _ _ c.eq-in-Binary-Binary.ensures c.if-eq-2.true (then (at_places expression_tree c.args.self.now.left.now c.args.self.now.right.now c.deref-then-eq-2-2.ensures c.deref-then-eq-2-3.ensures c.same_node-then-eq-2.ensures) c.if-same_node-3.true (last (at_places expression_tree c.args.self.now.left.now c.args.self.now.right.now c.deref-then-same_node-3.ensures c.deref-then-same_node-3-2.ensures c.same_node-then-same_node-3.ensures))))
+    seen c.args.self.now (ap expression_view c.in-Binary-Binary.is-0 ∙ view_binary _ _ _) (ap expression_view c.in-Binary-Binary.is-1 ∙ view_binary _ _ _) (of_labels _ _ c.eq-in-Binary-Binary.ensures c.if-eq-2.true (then (at_places expression_tree c.args.self.now c.deref-then-eq-2-2.ensures c.deref-then-eq-2-3.ensures c.same_node-then-eq-2.ensures) c.if-same_node-3.true (last (at_places expression_tree c.args.self.now c.deref-then-same_node-3.ensures c.deref-then-same_node-3-2.ensures c.same_node-then-same_node-3.ensures))))
 
 pub same_expression-returns-else-same_node-3 : goal.same_expression-returns-else-same_node-3
 same_expression-returns-else-same_node-3 t c =
-    seen c.args.self.now (ap expression_view c.in-Binary-Binary.is-0 ∙ view_binary _ _ _) (ap expression_view c.in-Binary-Binary.is-1 ∙ view_binary _ _ _) (of_labels _ _ c.eq-in-Binary-Binary.ensures c.if-eq-2.true (stop (at_places expression_tree c.args.self.now.left.now c.args.self.now.right.now c.deref-then-eq-2-2.ensures c.deref-then-eq-2-3.ensures c.same_node-then-eq-2.ensures) c.if-same_node-3.false))
+    seen c.args.self.now (ap expression_view c.in-Binary-Binary.is-0 ∙ view_binary _ _ _) (ap expression_view c.in-Binary-Binary.is-1 ∙ view_binary _ _ _) (of_labels _ _ c.eq-in-Binary-Binary.ensures c.if-eq-2.true (stop (at_places expression_tree c.args.self.now c.deref-then-eq-2-2.ensures c.deref-then-eq-2-3.ensures c.same_node-then-eq-2.ensures) c.if-same_node-3.false))
 
 pub same_expression-returns-in-FunctionCall-FunctionCall : goal.same_expression-returns-in-FunctionCall-FunctionCall
 same_expression-returns-in-FunctionCall-FunctionCall t c =

@@ -8,7 +8,7 @@ use Rattle.wesl_spelling.proofs.Views.{view_entry}
 use Rattle.wesl_spelling.proofs.tables.Tables.+import.Goals as goal
 
 pub same_entries-returns-then-len : goal.same_entries-returns-then-len
-same_entries-returns-then-len t c = other_lengths entry_view c.args.self.now.left.now c.args.self.now.right.now c.args.left.now c.args.right.now c.len.ensures c.len-2.ensures c.if-len.true
+same_entries-returns-then-len t c = other_lengths entry_view c.args.self.now c.args.left.now c.args.right.now c.len.ensures c.len-2.ensures c.if-len.true
 
 pub same_entries-loop-i-init : goal.same_entries-loop-i-init
 same_entries-loop-i-init t c = record { rest = refl }
@@ -21,16 +21,16 @@ same_entries-index-requires-in-loop-i t c = omega (arith, c.loop-i-test.true, c.
 
 pub same_entries-loop-i-preserved : goal.same_entries-loop-i-preserved
 same_entries-loop-i-preserved t c =
-    pair_agrees entry_view c.args.self.now.left.now c.args.self.now.right.now c.index.result.now c.index-in-loop-i.result.now c.len.ensures c.len-2.ensures c.if-len.false c.len-i-end.ensures c.loop-i-test.true c.index.ensures c.index-in-loop-i.ensures
+    pair_agrees entry_view c.args.self.now c.index.result.now c.index-in-loop-i.result.now c.len.ensures c.len-2.ensures c.if-len.false c.len-i-end.ensures c.loop-i-test.true c.index.ensures c.index-in-loop-i.ensures
     c.same_entry.ensures c.if-not-same_entry.false c.loop-i.invariant
 
 pub same_entries-returns-then-not-same_entry : goal.same_entries-returns-then-not-same_entry
 same_entries-returns-then-not-same_entry t c =
-    pair_differs entry_view c.args.self.now.left.now c.args.self.now.right.now c.index.result.now c.index-in-loop-i.result.now c.len.ensures c.len-2.ensures c.if-len.false c.len-i-end.ensures c.loop-i-test.true c.index.ensures c.index-in-loop-i.ensures
+    pair_differs entry_view c.args.self.now c.index.result.now c.index-in-loop-i.result.now c.len.ensures c.len-2.ensures c.if-len.false c.len-i-end.ensures c.loop-i-test.true c.index.ensures c.index-in-loop-i.ensures
     c.same_entry.ensures c.if-not-same_entry.true c.loop-i.invariant
 
 pub same_entries-returns : goal.same_entries-returns
-same_entries-returns t c = all_agree entry_view c.args.self.now.left.now c.args.self.now.right.now c.len.ensures c.len-2.ensures c.if-len.false c.len-i-end.ensures c.loop-i-test.false c.loop-i.invariant
+same_entries-returns t c = all_agree entry_view c.args.self.now c.len.ensures c.len-2.ensures c.if-len.false c.len-i-end.ensures c.loop-i-test.false c.loop-i.invariant
 
 pub same_entry-returns-then-same_texts : goal.same_entry-returns-then-same_texts
 same_entry-returns-then-same_texts t c = seen c.args.self.now (view_entry c.args.left.now) (view_entry c.args.right.now) (of_kind import_entry refl (then (c.same_texts.ensures ∙ sym (and_true _)) c.if-same_texts.true (last c.same_content.ensures)))

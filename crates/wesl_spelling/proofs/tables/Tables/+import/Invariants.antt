@@ -3,4 +3,4 @@ use Rattle.wesl_spelling.proofs.Pairs.{Compared, all_same}
 use Rattle.wesl_spelling.proofs.tables.Tables.+import.Given as goal
 
 abbrev pub invariant-same_entries-loop-i : goal.invariant-same_entries-loop-i
-invariant-same_entries-loop-i l = Compared (all_same entry_view l.self.left.now l.self.right.now) l.left l.right l.i
+invariant-same_entries-loop-i l = Compared (all_same entry_view l.self) l.left l.right l.i

@@ -1,16 +1,15 @@
 use Rattle.std.proofs.Common.{ap, arith, refl, ◌∙◌}
-use Rattle.wesl_syntax.specs.Tree.{compound, compound_statement, continuing, else_clause, else_if_clause, for_loop, if_clause, if_statement, loop, statement_node, switch, switch_clause, while_loop}
-use Rattle.wesl_syntax.specs.Unit.{name_in}
+use Rattle.wesl_syntax.specs.Tree.{compound, compound_statement, continuing, else_clause, else_if_clause, for_loop, if_clause, if_statement, loop, switch, switch_clause, while_loop}
 use Rattle.wesl_syntax.specs.View.{clause_view, else_if_view, statement_tree, statement_view}
-use Rattle.wesl_spelling.proofs.Chains.{grouped, last, of_kind, plainly, seen, stop, then}
-use Rattle.wesl_spelling.proofs.Pairs.{all_agree, in_nodes, other_lengths, pair_agrees, pair_differs}
+use Rattle.wesl_spelling.proofs.Chains.{grouped, last, left_by, of_kind, plainly, right_by, seen, stop, then}
+use Rattle.wesl_spelling.proofs.Pairs.{all_agree, other_lengths, pair_agrees, pair_differs}
 use Rattle.wesl_spelling.proofs.UnlikeStatements.{group_left, group_right, not_is_for, not_is_if, not_is_plain_loop, not_is_switch, unlike_Compound, unlike_ConstAssert, unlike_Declaration, unlike_For, unlike_If, unlike_Loop, unlike_Switch, unlike_Void, unlike_While}
 use Rattle.wesl_spelling.proofs.Views.{view_block, view_clause, view_compound, view_const_assert, view_continuing, view_else, view_else_if, view_for, view_if, view_if_clause, view_local, view_loop, view_switch, view_while}
 use Rattle.wesl_spelling.specs.Groups.{is_for, is_if, is_plain_loop, is_switch}
 use Rattle.wesl_spelling.proofs.tables.Tables.+statement.Goals as goal
 
 pub same_statements-returns-then-len : goal.same_statements-returns-then-len
-same_statements-returns-then-len t c = other_lengths statement_tree c.args.self.now.left.now c.args.self.now.right.now c.args.left.now c.args.right.now c.len.ensures c.len-2.ensures c.if-len.true
+same_statements-returns-then-len t c = other_lengths statement_tree c.args.self.now c.args.left.now c.args.right.now c.len.ensures c.len-2.ensures c.if-len.true
 
 pub same_statements-loop-i-init : goal.same_statements-loop-i-init
 same_statements-loop-i-init t c = record { rest = refl }
@@ -23,19 +22,19 @@ same_statements-index-requires-in-loop-i t c = omega (arith, c.loop-i-test.true,
 
 pub same_statements-loop-i-preserved : goal.same_statements-loop-i-preserved
 same_statements-loop-i-preserved t c =
-    pair_agrees statement_tree c.args.self.now.left.now c.args.self.now.right.now c.index.result.now c.index-in-loop-i.result.now c.len.ensures c.len-2.ensures c.if-len.false c.len-i-end.ensures c.loop-i-test.true c.index.ensures c.index-in-loop-i.ensures
-    (in_nodes statement_view statement_node c.args.self.now.left.now c.args.self.now.right.now c.index.result.now c.index-in-loop-i.result.now refl c.same_statement.ensures) c.if-not-same_statement.false c.loop-i.invariant
+    pair_agrees statement_tree c.args.self.now c.index.result.now c.index-in-loop-i.result.now c.len.ensures c.len-2.ensures c.if-len.false c.len-i-end.ensures c.loop-i-test.true c.index.ensures c.index-in-loop-i.ensures
+    c.same_statement_node.ensures c.if-not-same_statement_node.false c.loop-i.invariant
 
-pub same_statements-returns-then-not-same_statement : goal.same_statements-returns-then-not-same_statement
-same_statements-returns-then-not-same_statement t c =
-    pair_differs statement_tree c.args.self.now.left.now c.args.self.now.right.now c.index.result.now c.index-in-loop-i.result.now c.len.ensures c.len-2.ensures c.if-len.false c.len-i-end.ensures c.loop-i-test.true c.index.ensures c.index-in-loop-i.ensures
-    (in_nodes statement_view statement_node c.args.self.now.left.now c.args.self.now.right.now c.index.result.now c.index-in-loop-i.result.now refl c.same_statement.ensures) c.if-not-same_statement.true c.loop-i.invariant
+pub same_statements-returns-then-not-same_statement_node : goal.same_statements-returns-then-not-same_statement_node
+same_statements-returns-then-not-same_statement_node t c =
+    pair_differs statement_tree c.args.self.now c.index.result.now c.index-in-loop-i.result.now c.len.ensures c.len-2.ensures c.if-len.false c.len-i-end.ensures c.loop-i-test.true c.index.ensures c.index-in-loop-i.ensures
+    c.same_statement_node.ensures c.if-not-same_statement_node.true c.loop-i.invariant
 
 pub same_statements-returns : goal.same_statements-returns
-same_statements-returns t c = all_agree statement_tree c.args.self.now.left.now c.args.self.now.right.now c.len.ensures c.len-2.ensures c.if-len.false c.len-i-end.ensures c.loop-i-test.false c.loop-i.invariant
+same_statements-returns t c = all_agree statement_tree c.args.self.now c.len.ensures c.len-2.ensures c.if-len.false c.len-i-end.ensures c.loop-i-test.false c.loop-i.invariant
 
 pub same_else_ifs-returns-then-len : goal.same_else_ifs-returns-then-len
-same_else_ifs-returns-then-len t c = other_lengths else_if_view c.args.self.now.left.now c.args.self.now.right.now c.args.left.now c.args.right.now c.len.ensures c.len-2.ensures c.if-len.true
+same_else_ifs-returns-then-len t c = other_lengths else_if_view c.args.self.now c.args.left.now c.args.right.now c.len.ensures c.len-2.ensures c.if-len.true
 
 pub same_else_ifs-loop-i-init : goal.same_else_ifs-loop-i-init
 same_else_ifs-loop-i-init t c = record { rest = refl }
@@ -48,19 +47,19 @@ same_else_ifs-index-requires-in-loop-i t c = omega (arith, c.loop-i-test.true, c
 
 pub same_else_ifs-loop-i-preserved : goal.same_else_ifs-loop-i-preserved
 same_else_ifs-loop-i-preserved t c =
-    pair_agrees else_if_view c.args.self.now.left.now c.args.self.now.right.now c.index.result.now c.index-in-loop-i.result.now c.len.ensures c.len-2.ensures c.if-len.false c.len-i-end.ensures c.loop-i-test.true c.index.ensures c.index-in-loop-i.ensures
+    pair_agrees else_if_view c.args.self.now c.index.result.now c.index-in-loop-i.result.now c.len.ensures c.len-2.ensures c.if-len.false c.len-i-end.ensures c.loop-i-test.true c.index.ensures c.index-in-loop-i.ensures
     c.same_else_if.ensures c.if-not-same_else_if.false c.loop-i.invariant
 
 pub same_else_ifs-returns-then-not-same_else_if : goal.same_else_ifs-returns-then-not-same_else_if
 same_else_ifs-returns-then-not-same_else_if t c =
-    pair_differs else_if_view c.args.self.now.left.now c.args.self.now.right.now c.index.result.now c.index-in-loop-i.result.now c.len.ensures c.len-2.ensures c.if-len.false c.len-i-end.ensures c.loop-i-test.true c.index.ensures c.index-in-loop-i.ensures
+    pair_differs else_if_view c.args.self.now c.index.result.now c.index-in-loop-i.result.now c.len.ensures c.len-2.ensures c.if-len.false c.len-i-end.ensures c.loop-i-test.true c.index.ensures c.index-in-loop-i.ensures
     c.same_else_if.ensures c.if-not-same_else_if.true c.loop-i.invariant
 
 pub same_else_ifs-returns : goal.same_else_ifs-returns
-same_else_ifs-returns t c = all_agree else_if_view c.args.self.now.left.now c.args.self.now.right.now c.len.ensures c.len-2.ensures c.if-len.false c.len-i-end.ensures c.loop-i-test.false c.loop-i.invariant
+same_else_ifs-returns t c = all_agree else_if_view c.args.self.now c.len.ensures c.len-2.ensures c.if-len.false c.len-i-end.ensures c.loop-i-test.false c.loop-i.invariant
 
 pub same_clauses-returns-then-len : goal.same_clauses-returns-then-len
-same_clauses-returns-then-len t c = other_lengths clause_view c.args.self.now.left.now c.args.self.now.right.now c.args.left.now c.args.right.now c.len.ensures c.len-2.ensures c.if-len.true
+same_clauses-returns-then-len t c = other_lengths clause_view c.args.self.now c.args.left.now c.args.right.now c.len.ensures c.len-2.ensures c.if-len.true
 
 pub same_clauses-loop-i-init : goal.same_clauses-loop-i-init
 same_clauses-loop-i-init t c = record { rest = refl }
@@ -73,16 +72,16 @@ same_clauses-index-requires-in-loop-i t c = omega (arith, c.loop-i-test.true, c.
 
 pub same_clauses-loop-i-preserved : goal.same_clauses-loop-i-preserved
 same_clauses-loop-i-preserved t c =
-    pair_agrees clause_view c.args.self.now.left.now c.args.self.now.right.now c.index.result.now c.index-in-loop-i.result.now c.len.ensures c.len-2.ensures c.if-len.false c.len-i-end.ensures c.loop-i-test.true c.index.ensures c.index-in-loop-i.ensures
+    pair_agrees clause_view c.args.self.now c.index.result.now c.index-in-loop-i.result.now c.len.ensures c.len-2.ensures c.if-len.false c.len-i-end.ensures c.loop-i-test.true c.index.ensures c.index-in-loop-i.ensures
     c.same_clause.ensures c.if-not-same_clause.false c.loop-i.invariant
 
 pub same_clauses-returns-then-not-same_clause : goal.same_clauses-returns-then-not-same_clause
 same_clauses-returns-then-not-same_clause t c =
-    pair_differs clause_view c.args.self.now.left.now c.args.self.now.right.now c.index.result.now c.index-in-loop-i.result.now c.len.ensures c.len-2.ensures c.if-len.false c.len-i-end.ensures c.loop-i-test.true c.index.ensures c.index-in-loop-i.ensures
+    pair_differs clause_view c.args.self.now c.index.result.now c.index-in-loop-i.result.now c.len.ensures c.len-2.ensures c.if-len.false c.len-i-end.ensures c.loop-i-test.true c.index.ensures c.index-in-loop-i.ensures
     c.same_clause.ensures c.if-not-same_clause.true c.loop-i.invariant
 
 pub same_clauses-returns : goal.same_clauses-returns
-same_clauses-returns t c = all_agree clause_view c.args.self.now.left.now c.args.self.now.right.now c.len.ensures c.len-2.ensures c.if-len.false c.len-i-end.ensures c.loop-i-test.false c.loop-i.invariant
+same_clauses-returns t c = all_agree clause_view c.args.self.now c.len.ensures c.len-2.ensures c.if-len.false c.len-i-end.ensures c.loop-i-test.false c.loop-i.invariant
 
 pub same_compound-returns-then-same_attributes : goal.same_compound-returns-then-same_attributes
 same_compound-returns-then-same_attributes t c = seen c.args.self.now (view_compound c.args.left.now) (view_compound c.args.right.now) (of_kind compound refl (then c.same_attributes.ensures c.if-same_attributes.true (last c.same_statements.ensures)))
@@ -151,16 +150,16 @@ same_statement-returns-in-Declaration-right t c =
     seen c.args.self.now (ap statement_view c.in-Declaration.is ∙ view_local _) (ap statement_view c.in-Declaration-right.is ∙ view_local _) (plainly c.same_declaration.ensures)
 
 pub same_statement-returns-in_default : goal.same_statement-returns-in_default
-same_statement-returns-in_default t c = unlike_Void (name_in c.args.self.now.left.now) (name_in c.args.self.now.right.now) c.args.left.now c.args.right.now c.in-Void.is c.in_default.not-Void
+same_statement-returns-in_default t c = unlike_Void c.args.self.now.places (left_by c.args.self.now) (right_by c.args.self.now) c.args.left.now c.args.right.now c.in-Void.is c.in_default.not-Void
 
 pub same_statement-returns-in_default-right : goal.same_statement-returns-in_default-right
-same_statement-returns-in_default-right t c = unlike_Compound (name_in c.args.self.now.left.now) (name_in c.args.self.now.right.now) c.args.left.now c.args.right.now c.in-Compound.body c.in-Compound.is c.in_default-right.not-Compound
+same_statement-returns-in_default-right t c = unlike_Compound c.args.self.now.places (left_by c.args.self.now) (right_by c.args.self.now) c.args.left.now c.args.right.now c.in-Compound.body c.in-Compound.is c.in_default-right.not-Compound
 
 pub same_statement-returns-in_default-right-2 : goal.same_statement-returns-in_default-right-2
-same_statement-returns-in_default-right-2 t c = unlike_ConstAssert (name_in c.args.self.now.left.now) (name_in c.args.self.now.right.now) c.args.left.now c.args.right.now c.in-ConstAssert.assertion c.in-ConstAssert.is c.in_default-right-2.not-ConstAssert
+same_statement-returns-in_default-right-2 t c = unlike_ConstAssert c.args.self.now.places (left_by c.args.self.now) (right_by c.args.self.now) c.args.left.now c.args.right.now c.in-ConstAssert.assertion c.in-ConstAssert.is c.in_default-right-2.not-ConstAssert
 
 pub same_statement-returns-in_default-right-3 : goal.same_statement-returns-in_default-right-3
-same_statement-returns-in_default-right-3 t c = unlike_Declaration (name_in c.args.self.now.left.now) (name_in c.args.self.now.right.now) c.args.left.now c.args.right.now c.in-Declaration.declaration c.in-Declaration.is c.in_default-right-3.not-Declaration
+same_statement-returns-in_default-right-3 t c = unlike_Declaration c.args.self.now.places (left_by c.args.self.now) (right_by c.args.self.now) c.args.left.now c.args.right.now c.in-Declaration.declaration c.in-Declaration.is c.in_default-right-3.not-Declaration
 
 pub same_if_statement-returns-in_default : goal.same_if_statement-returns-in_default
 same_if_statement-returns-in_default t c =
@@ -168,7 +167,7 @@ same_if_statement-returns-in_default t c =
 
 pub same_if_statement-returns-in_default-right : goal.same_if_statement-returns-in_default-right
 same_if_statement-returns-in_default-right t c =
-    group_right is_if (statement_view c.args.left.now) _ (unlike_If (name_in c.args.self.now.left.now) (name_in c.args.self.now.right.now) c.args.left.now c.args.right.now c.in-If.left_attributes c.in-If.left_if_clause c.in-If.left_else_if_clauses c.in-If.left_else_clause c.in-If.is c.in_default-right.not-If)
+    group_right is_if (statement_view c.args.left.now) _ (unlike_If c.args.self.now.places (left_by c.args.self.now) (right_by c.args.self.now) c.args.left.now c.args.right.now c.in-If.left_attributes c.in-If.left_if_clause c.in-If.left_else_if_clauses c.in-If.left_else_clause c.in-If.is c.in_default-right.not-If)
 
 pub same_if_statement-returns-then-same_else_ifs : goal.same_if_statement-returns-then-same_else_ifs
 same_if_statement-returns-then-same_else_ifs t c =
@@ -192,7 +191,7 @@ same_switch-returns-in_default t c =
 
 pub same_switch-returns-in_default-right : goal.same_switch-returns-in_default-right
 same_switch-returns-in_default-right t c =
-    group_right is_switch (statement_view c.args.left.now) _ (unlike_Switch (name_in c.args.self.now.left.now) (name_in c.args.self.now.right.now) c.args.left.now c.args.right.now c.in-Switch.left_attributes c.in-Switch.left_expression c.in-Switch.left_body_attributes c.in-Switch.left_clauses c.in-Switch.is c.in_default-right.not-Switch)
+    group_right is_switch (statement_view c.args.left.now) _ (unlike_Switch c.args.self.now.places (left_by c.args.self.now) (right_by c.args.self.now) c.args.left.now c.args.right.now c.in-Switch.left_attributes c.in-Switch.left_expression c.in-Switch.left_body_attributes c.in-Switch.left_clauses c.in-Switch.is c.in_default-right.not-Switch)
 
 pub same_switch-returns-then-same_attributes-2 : goal.same_switch-returns-then-same_attributes-2
 same_switch-returns-then-same_attributes-2 t c =
@@ -216,7 +215,7 @@ same_plain_loop-returns-in_default t c =
 
 pub same_plain_loop-returns-in_default-right : goal.same_plain_loop-returns-in_default-right
 same_plain_loop-returns-in_default-right t c =
-    group_right is_plain_loop (statement_view c.args.left.now) _ (unlike_Loop (name_in c.args.self.now.left.now) (name_in c.args.self.now.right.now) c.args.left.now c.args.right.now c.in-Loop.left_attributes c.in-Loop.left_body c.in-Loop.left_continuing c.in-Loop.is c.in_default-right.not-Loop)
+    group_right is_plain_loop (statement_view c.args.left.now) _ (unlike_Loop c.args.self.now.places (left_by c.args.self.now) (right_by c.args.self.now) c.args.left.now c.args.right.now c.in-Loop.left_attributes c.in-Loop.left_body c.in-Loop.left_continuing c.in-Loop.is c.in_default-right.not-Loop)
 
 pub same_plain_loop-returns-then-same_compound : goal.same_plain_loop-returns-then-same_compound
 same_plain_loop-returns-then-same_compound t c =
@@ -232,7 +231,7 @@ same_plain_loop-returns-else-same_compound t c =
 
 pub same_plain_loop-returns-in_default-right-2 : goal.same_plain_loop-returns-in_default-right-2
 same_plain_loop-returns-in_default-right-2 t c =
-    group_right is_plain_loop (statement_view c.args.left.now) _ (unlike_While (name_in c.args.self.now.left.now) (name_in c.args.self.now.right.now) c.args.left.now c.args.right.now c.in-While.left_attributes c.in-While.left_condition c.in-While.left_body c.in-While.is c.in_default-right-2.not-While)
+    group_right is_plain_loop (statement_view c.args.left.now) _ (unlike_While c.args.self.now.places (left_by c.args.self.now) (right_by c.args.self.now) c.args.left.now c.args.right.now c.in-While.left_attributes c.in-While.left_condition c.in-While.left_body c.in-While.is c.in_default-right-2.not-While)
 
 pub same_plain_loop-returns-then-same_node : goal.same_plain_loop-returns-then-same_node
 same_plain_loop-returns-then-same_node t c =
@@ -252,7 +251,7 @@ same_for-returns-in_default t c =
 
 pub same_for-returns-in_default-right : goal.same_for-returns-in_default-right
 same_for-returns-in_default-right t c =
-    group_right is_for (statement_view c.args.left.now) _ (unlike_For (name_in c.args.self.now.left.now) (name_in c.args.self.now.right.now) c.args.left.now c.args.right.now c.in-For.left_attributes c.in-For.left_initializer c.in-For.left_condition c.in-For.left_update c.in-For.left_body c.in-For.is c.in_default-right.not-For)
+    group_right is_for (statement_view c.args.left.now) _ (unlike_For c.args.self.now.places (left_by c.args.self.now) (right_by c.args.self.now) c.args.left.now c.args.right.now c.in-For.left_attributes c.in-For.left_initializer c.in-For.left_condition c.in-For.left_update c.in-For.left_body c.in-For.is c.in_default-right.not-For)
 
 pub same_for-returns-then-same_optional_statement-2 : goal.same_for-returns-then-same_optional_statement-2
 same_for-returns-then-same_optional_statement-2 t c =

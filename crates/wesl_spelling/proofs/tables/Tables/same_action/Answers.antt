@@ -1,8 +1,7 @@
 use Rattle.std.proofs.Common.{ap, refl, ◌∙◌}
 use Rattle.wesl_syntax.specs.Tree.{call_statement}
-use Rattle.wesl_syntax.specs.Unit.{name_in}
 use Rattle.wesl_syntax.specs.View.{statement_view}
-use Rattle.wesl_spelling.proofs.Chains.{grouped, last, of_kind, stop, then}
+use Rattle.wesl_spelling.proofs.Chains.{grouped, last, left_by, of_kind, right_by, stop, then}
 use Rattle.wesl_spelling.proofs.UnlikeStatements.{group_left, group_right, not_is_action, unlike_Assignment, unlike_FunctionCall}
 use Rattle.wesl_spelling.proofs.Views.{view_call_statement}
 use Rattle.wesl_spelling.specs.Groups.{is_action}
@@ -14,11 +13,11 @@ returns-in_default c =
 
 pub returns-in_default-right : goal.returns-in_default-right
 returns-in_default-right c =
-    group_right is_action (statement_view c.args.left.now) _ (unlike_Assignment (name_in c.args.self.now.left.now) (name_in c.args.self.now.right.now) c.args.left.now c.args.right.now c.in-Assignment.left_attributes c.in-Assignment.left_operator c.in-Assignment.left_lhs c.in-Assignment.left_rhs c.in-Assignment.is c.in_default-right.not-Assignment)
+    group_right is_action (statement_view c.args.left.now) _ (unlike_Assignment c.args.self.now.places (left_by c.args.self.now) (right_by c.args.self.now) c.args.left.now c.args.right.now c.in-Assignment.left_attributes c.in-Assignment.left_operator c.in-Assignment.left_lhs c.in-Assignment.left_rhs c.in-Assignment.is c.in_default-right.not-Assignment)
 
 pub returns-in_default-right-2 : goal.returns-in_default-right-2
 returns-in_default-right-2 c =
-    group_right is_action (statement_view c.args.left.now) _ (unlike_FunctionCall (name_in c.args.self.now.left.now) (name_in c.args.self.now.right.now) c.args.left.now c.args.right.now c.in-FunctionCall.left_attributes c.in-FunctionCall.left_call c.in-FunctionCall.is c.in_default-right-2.not-FunctionCall)
+    group_right is_action (statement_view c.args.left.now) _ (unlike_FunctionCall c.args.self.now.places (left_by c.args.self.now) (right_by c.args.self.now) c.args.left.now c.args.right.now c.in-FunctionCall.left_attributes c.in-FunctionCall.left_call c.in-FunctionCall.is c.in_default-right-2.not-FunctionCall)
 
 pub returns-then-same_attributes-2 : goal.returns-then-same_attributes-2
 returns-then-same_attributes-2 c =

@@ -4,4 +4,4 @@ use Rattle.wesl_spelling.proofs.Pairs.{Compared, all_same}
 use Rattle.wesl_spelling.proofs.tables.Tables.same_declarations.Given as goal
 
 abbrev pub invariant-loop-i : goal.invariant-loop-i
-invariant-loop-i l = Compared (all_same (placed global_view declaration_node) l.self.left.now l.self.right.now) l.left l.right l.i
+invariant-loop-i l = Compared (all_same (placed global_view declaration_node) l.self) l.left l.right l.i

@@ -1,11 +1,11 @@
 use Rattle.std.proofs.Common.{arith, refl}
 use Rattle.wesl_syntax.specs.Tree.{import_node}
 use Rattle.wesl_syntax.specs.View.{import_view, placed}
-use Rattle.wesl_spelling.proofs.Pairs.{all_agree, in_nodes, other_lengths, pair_agrees, pair_differs}
+use Rattle.wesl_spelling.proofs.Pairs.{all_agree, other_lengths, pair_agrees, pair_differs}
 use Rattle.wesl_spelling.proofs.tables.Tables.same_imports.Goals as goal
 
 pub returns-then-len : goal.returns-then-len
-returns-then-len c = other_lengths (placed import_view import_node) c.args.self.now.left.now c.args.self.now.right.now c.args.left.now c.args.right.now c.len.ensures c.len-2.ensures c.if-len.true
+returns-then-len c = other_lengths (placed import_view import_node) c.args.self.now c.args.left.now c.args.right.now c.len.ensures c.len-2.ensures c.if-len.true
 
 pub loop-i-init : goal.loop-i-init
 loop-i-init c = record { rest = refl }
@@ -18,13 +18,13 @@ index-requires-in-loop-i c = omega (arith, c.loop-i-test.true, c.len-i-end.ensur
 
 pub loop-i-preserved : goal.loop-i-preserved
 loop-i-preserved c =
-    pair_agrees (placed import_view import_node) c.args.self.now.left.now c.args.self.now.right.now c.index.result.now c.index-in-loop-i.result.now c.len.ensures c.len-2.ensures c.if-len.false c.len-i-end.ensures c.loop-i-test.true c.index.ensures c.index-in-loop-i.ensures
-    (in_nodes import_view import_node c.args.self.now.left.now c.args.self.now.right.now c.index.result.now c.index-in-loop-i.result.now refl c.same_import.ensures) c.if-not-same_import.false c.loop-i.invariant
+    pair_agrees (placed import_view import_node) c.args.self.now c.index.result.now c.index-in-loop-i.result.now c.len.ensures c.len-2.ensures c.if-len.false c.len-i-end.ensures c.loop-i-test.true c.index.ensures c.index-in-loop-i.ensures
+    c.same_import_node.ensures c.if-not-same_import_node.false c.loop-i.invariant
 
-pub returns-then-not-same_import : goal.returns-then-not-same_import
-returns-then-not-same_import c =
-    pair_differs (placed import_view import_node) c.args.self.now.left.now c.args.self.now.right.now c.index.result.now c.index-in-loop-i.result.now c.len.ensures c.len-2.ensures c.if-len.false c.len-i-end.ensures c.loop-i-test.true c.index.ensures c.index-in-loop-i.ensures
-    (in_nodes import_view import_node c.args.self.now.left.now c.args.self.now.right.now c.index.result.now c.index-in-loop-i.result.now refl c.same_import.ensures) c.if-not-same_import.true c.loop-i.invariant
+pub returns-then-not-same_import_node : goal.returns-then-not-same_import_node
+returns-then-not-same_import_node c =
+    pair_differs (placed import_view import_node) c.args.self.now c.index.result.now c.index-in-loop-i.result.now c.len.ensures c.len-2.ensures c.if-len.false c.len-i-end.ensures c.loop-i-test.true c.index.ensures c.index-in-loop-i.ensures
+    c.same_import_node.ensures c.if-not-same_import_node.true c.loop-i.invariant
 
 pub returns : goal.returns
-returns c = all_agree (placed import_view import_node) c.args.self.now.left.now c.args.self.now.right.now c.len.ensures c.len-2.ensures c.if-len.false c.len-i-end.ensures c.loop-i-test.false c.loop-i.invariant
+returns c = all_agree (placed import_view import_node) c.args.self.now c.len.ensures c.len-2.ensures c.if-len.false c.len-i-end.ensures c.loop-i-test.false c.loop-i.invariant

@@ -1,8 +1,7 @@
 use Rattle.std.proofs.Common.{ap, refl, ◌∙◌}
 use Rattle.wesl_syntax.specs.Tree.{break, continue, discard, return}
-use Rattle.wesl_syntax.specs.Unit.{name_in}
 use Rattle.wesl_syntax.specs.View.{statement_view}
-use Rattle.wesl_spelling.proofs.Chains.{grouped, last, of_kind, stop, then}
+use Rattle.wesl_spelling.proofs.Chains.{grouped, last, left_by, of_kind, right_by, stop, then}
 use Rattle.wesl_spelling.proofs.UnlikeStatements.{group_left, group_right, not_is_jump, unlike_Break, unlike_Continue, unlike_Discard, unlike_Return}
 use Rattle.wesl_spelling.proofs.Views.{view_break, view_continue, view_discard, view_return}
 use Rattle.wesl_spelling.specs.Groups.{is_jump}
@@ -14,7 +13,7 @@ returns-in_default c =
 
 pub returns-in_default-right : goal.returns-in_default-right
 returns-in_default-right c =
-    group_right is_jump (statement_view c.args.left.now) _ (unlike_Break (name_in c.args.self.now.left.now) (name_in c.args.self.now.right.now) c.args.left.now c.args.right.now c.in-Break.left c.in-Break.is c.in_default-right.not-Break)
+    group_right is_jump (statement_view c.args.left.now) _ (unlike_Break c.args.self.now.places (left_by c.args.self.now) (right_by c.args.self.now) c.args.left.now c.args.right.now c.in-Break.left c.in-Break.is c.in_default-right.not-Break)
 
 pub returns-in-Break-right : goal.returns-in-Break-right
 returns-in-Break-right c =
@@ -22,7 +21,7 @@ returns-in-Break-right c =
 
 pub returns-in_default-right-2 : goal.returns-in_default-right-2
 returns-in_default-right-2 c =
-    group_right is_jump (statement_view c.args.left.now) _ (unlike_Continue (name_in c.args.self.now.left.now) (name_in c.args.self.now.right.now) c.args.left.now c.args.right.now c.in-Continue.left c.in-Continue.is c.in_default-right-2.not-Continue)
+    group_right is_jump (statement_view c.args.left.now) _ (unlike_Continue c.args.self.now.places (left_by c.args.self.now) (right_by c.args.self.now) c.args.left.now c.args.right.now c.in-Continue.left c.in-Continue.is c.in_default-right-2.not-Continue)
 
 pub returns-in-Continue-right : goal.returns-in-Continue-right
 returns-in-Continue-right c =
@@ -30,7 +29,7 @@ returns-in-Continue-right c =
 
 pub returns-in_default-right-3 : goal.returns-in_default-right-3
 returns-in_default-right-3 c =
-    group_right is_jump (statement_view c.args.left.now) _ (unlike_Return (name_in c.args.self.now.left.now) (name_in c.args.self.now.right.now) c.args.left.now c.args.right.now c.in-Return.left_attributes c.in-Return.left_expression c.in-Return.is c.in_default-right-3.not-Return)
+    group_right is_jump (statement_view c.args.left.now) _ (unlike_Return c.args.self.now.places (left_by c.args.self.now) (right_by c.args.self.now) c.args.left.now c.args.right.now c.in-Return.left_attributes c.in-Return.left_expression c.in-Return.is c.in_default-right-3.not-Return)
 
 pub returns-then-same_attributes : goal.returns-then-same_attributes
 returns-then-same_attributes c =
@@ -42,7 +41,7 @@ returns-else-same_attributes c =
 
 pub returns-in_default-right-4 : goal.returns-in_default-right-4
 returns-in_default-right-4 c =
-    group_right is_jump (statement_view c.args.left.now) _ (unlike_Discard (name_in c.args.self.now.left.now) (name_in c.args.self.now.right.now) c.args.left.now c.args.right.now c.in-Discard.left c.in-Discard.is c.in_default-right-4.not-Discard)
+    group_right is_jump (statement_view c.args.left.now) _ (unlike_Discard c.args.self.now.places (left_by c.args.self.now) (right_by c.args.self.now) c.args.left.now c.args.right.now c.in-Discard.left c.in-Discard.is c.in_default-right-4.not-Discard)
 
 pub returns-in-Discard-right : goal.returns-in-Discard-right
 returns-in-Discard-right c =

@@ -1,8 +1,7 @@
 use Rattle.std.proofs.Common.{ap, refl, ◌∙◌}
 use Rattle.wesl_syntax.specs.Tree.{decrement, increment}
-use Rattle.wesl_syntax.specs.Unit.{name_in}
 use Rattle.wesl_syntax.specs.View.{statement_view}
-use Rattle.wesl_spelling.proofs.Chains.{grouped, last, of_kind, stop, then}
+use Rattle.wesl_spelling.proofs.Chains.{grouped, last, left_by, of_kind, right_by, stop, then}
 use Rattle.wesl_spelling.proofs.UnlikeStatements.{group_left, group_right, not_is_step, unlike_Decrement, unlike_Increment}
 use Rattle.wesl_spelling.proofs.Views.{view_decrement, view_increment}
 use Rattle.wesl_spelling.specs.Groups.{is_step}
@@ -14,7 +13,7 @@ returns-in_default c =
 
 pub returns-in_default-right : goal.returns-in_default-right
 returns-in_default-right c =
-    group_right is_step (statement_view c.args.left.now) _ (unlike_Increment (name_in c.args.self.now.left.now) (name_in c.args.self.now.right.now) c.args.left.now c.args.right.now c.in-Increment.left_attributes c.in-Increment.left_expression c.in-Increment.is c.in_default-right.not-Increment)
+    group_right is_step (statement_view c.args.left.now) _ (unlike_Increment c.args.self.now.places (left_by c.args.self.now) (right_by c.args.self.now) c.args.left.now c.args.right.now c.in-Increment.left_attributes c.in-Increment.left_expression c.in-Increment.is c.in_default-right.not-Increment)
 
 pub returns-then-same_attributes : goal.returns-then-same_attributes
 returns-then-same_attributes c =
@@ -26,7 +25,7 @@ returns-else-same_attributes c =
 
 pub returns-in_default-right-2 : goal.returns-in_default-right-2
 returns-in_default-right-2 c =
-    group_right is_step (statement_view c.args.left.now) _ (unlike_Decrement (name_in c.args.self.now.left.now) (name_in c.args.self.now.right.now) c.args.left.now c.args.right.now c.in-Decrement.left_attributes c.in-Decrement.left_expression c.in-Decrement.is c.in_default-right-2.not-Decrement)
+    group_right is_step (statement_view c.args.left.now) _ (unlike_Decrement c.args.self.now.places (left_by c.args.self.now) (right_by c.args.self.now) c.args.left.now c.args.right.now c.in-Decrement.left_attributes c.in-Decrement.left_expression c.in-Decrement.is c.in_default-right-2.not-Decrement)
 
 pub returns-then-same_attributes-2 : goal.returns-then-same_attributes-2
 returns-then-same_attributes-2 c =
