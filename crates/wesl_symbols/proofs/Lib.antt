@@ -1,3 +1,6 @@
 pub mod Lists
 pub mod Entries
 pub mod Indexing
+pub mod Once
+pub mod Whole
+pub mod Answering

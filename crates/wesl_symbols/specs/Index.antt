@@ -1,20 +1,12 @@
 -- Indexes of a module's imports and declarations by name.
-use Rattle.std.specs.Prelude.{◌≡◌, ℕ, ◌<◌, length, slice_get, true, Option, Some, None, List, Contains}
+use Rattle.std.specs.Prelude.{◌≡◌, ℕ, ◌<◌, length, slice_get, Option, Some, None, List, Contains}
 use Rattle.wesl_symbols.specs.Tables.{Import, Declaration}
-
-abbrev pub Binds : {P N : Type 0} → Import P N → N → Type 0
-Binds i n = i.bound ≡ n
-
-abbrev pub Publishes : {P N : Type 0} → Import P N → N → Type 0
-Publishes i n = (i.published ≡ true) × (i.bound ≡ n)
-
--- for each name that an element of the list has, the entries have such an element at it
-pub record Indexes {X N : Type 0} (Named : X → N → Type 0) (xs : List X) (es : List (N × X)) : Type 0 where
-  pub only : (n : N) (x : X) → Contains es (n, x) → Contains xs x × Named x n
-  pub all : (n : N) (x : X) → Contains xs x → Named x n → (y : X) × Contains es (n, y)
 
 abbrev pub IsNamed : {P N : Type 0} → Option N → Declaration P N → Type 0
 IsNamed name d = d.name ≡ name
+
+abbrev pub Binds : {P N : Type 0} → N → Import P N → Type 0
+Binds n i = i.bound ≡ n
 
 abbrev pub HasAt : {X : Type 0} → (X → Type 0) → List X → ℕ → Type 0
 HasAt {X} Q xs i = (x : X) × (slice_get xs i ≡ Some x) × Q x
@@ -24,16 +16,25 @@ abbrev pub IsLast : {X : Type 0} → (X → Type 0) → List X → ℕ → Optio
 IsLast Q xs n (Some i) = (i < n) × HasAt Q xs i × ((j : ℕ) → i < j → j < n → HasAt Q xs j → ⊥)
 IsLast Q xs n None = (j : ℕ) → j < n → HasAt Q xs j → ⊥
 
--- of the first n declarations: for each name the last of it, and for each declaration the one of its name before it
-pub record Chains {P N : Type 0} (ds : List (Declaration P N)) (n : ℕ) (latest : List (Option N × ℕ)) (earlier : List (Option ℕ)) : Type 0 where
-  pub latest_only : (name : Option N) (i : ℕ) → Contains latest (name, i) → IsLast (IsNamed name) ds n (Some i)
-  pub latest_all : (name : Option N) (i : ℕ) → i < n → HasAt (IsNamed name) ds i → (j : ℕ) × Contains latest (name, j)
-  pub earlier_is : (name : Option N) (i : ℕ) (o : Option ℕ) → slice_get earlier i ≡ Some o → HasAt (IsNamed name) ds i → IsLast (IsNamed name) ds i o
+-- the element has that key
+abbrev pub IsKeyed : {X K : Type 0} → (X → K) → K → X → Type 0
+IsKeyed key k x = key x ≡ k
+
+-- of the first n elements: for each key the last of it, and for each element the one of its key before it
+pub record Chains {X K : Type 0} (key : X → K) (xs : List X) (n : ℕ) (latest : List (K × ℕ)) (earlier : List (Option ℕ)) : Type 0 where
+  pub latest_only : (k : K) (i : ℕ) → Contains latest (k, i) → IsLast (IsKeyed key k) xs n (Some i)
+  pub latest_all : (k : K) (i : ℕ) → i < n → HasAt (IsKeyed key k) xs i → (j : ℕ) × Contains latest (k, j)
+  pub earlier_is : (k : K) (i : ℕ) (o : Option ℕ) → slice_get earlier i ≡ Some o → HasAt (IsKeyed key k) xs i → IsLast (IsKeyed key k) xs i o
   pub earlier_len : length earlier ≡ n
+
+abbrev pub name_of : {P N : Type 0} → Declaration P N → Option N
+name_of d = d.name
+
+abbrev pub bound_of : {P N : Type 0} → Import P N → N
+bound_of i = i.bound
 
 -- the indexes of a whole module
 pub record IsIndexed {P N : Type 0} (imports : List (Import P N)) (declarations : List (Declaration P N))
-    (bound_index published_index : List (N × Import P N)) (latest : List (Option N × ℕ)) (earlier : List (Option ℕ)) : Type 0 where
-  pub bound : Indexes Binds imports bound_index
-  pub published : Indexes Publishes imports published_index
-  pub chains : Chains declarations (length declarations) latest earlier
+    (latest : List (Option N × ℕ)) (earlier : List (Option ℕ)) (latest_import : List (N × ℕ)) (earlier_import : List (Option ℕ)) : Type 0 where
+  pub declarations : Chains name_of declarations (length declarations) latest earlier
+  pub imports : Chains bound_of imports (length imports) latest_import earlier_import

@@ -8,10 +8,10 @@ use Rattle.wesl_symbols.specs.Tables.{Import, Declaration}
 
 -- nothing is indexed
 pub record IsBlank (x : Indexed) : Type 0 where
-  pub bound : x.bound.entries ≡ []
-  pub published : x.published.entries ≡ []
   pub latest : x.latest.entries ≡ []
   pub earlier : x.earlier.items ≡ []
+  pub latest_import : x.latest_import.entries ≡ []
+  pub earlier_import : x.earlier_import.items ≡ []
 
 abbrev pub AreIndexes : List (Import PathId NameId) → List (Declaration PathId NameId) → Indexed → Type 0
-AreIndexes imports declarations x = IsIndexed imports declarations x.bound.entries x.published.entries x.latest.entries x.earlier.items
+AreIndexes imports declarations x = IsIndexed imports declarations x.latest.entries x.earlier.items x.latest_import.entries x.earlier_import.items

@@ -2,6 +2,7 @@
 ghost use Rattle.std.specs.Prelude.{◌≡◌, ⊤};
 
 use std::alloc::AllocError;
+use wesl_choices::place::Place;
 
 /// An import with a target, as a module binds it (WESL, "Imports").
 #[derive(Copy, Drop)]
@@ -14,6 +15,12 @@ pub struct Import<P, N> {
     pub item: N,
     /// Whether other modules see it (WESL, "Visibility": `@publish`).
     pub published: bool,
+    /// Where it stands, and `Always` where its name has one target.
+    pub place: Place,
+    /// Where it asks from: `Always` unless it aims at a name of its own module that has several targets.
+    pub from: Place,
+    /// What it finds there: 0 nothing, 1 two targets, 2 one, or it aims elsewhere.
+    pub order: usize,
 }
 
 // By hand, since a derived copy asks each part for one, which may be refused.
@@ -27,11 +34,13 @@ impl<P: Copy, N: Copy> Clone for Import<P, N> {
     }
 }
 
-/// A use of a name: with a path it asks the module there, and without one its own module.
+/// What a name that is used asks for: a name in the module at a path.
 #[derive(Copy, Drop)]
 pub struct Reference<P, N> {
-    pub path: Option<P>,
+    pub path: P,
     pub name: N,
+    /// The place that it asks from, and `Always` unless the name has several targets in its own module.
+    pub from: Place,
 }
 
 impl<P: Copy, N: Copy> Clone for Reference<P, N> {
@@ -67,6 +76,8 @@ pub struct LookUp<P, N> {
     pub asker: Option<P>,
     pub path: P,
     pub name: N,
+    /// The place of its own module that it is asked from, and `Always` from outside.
+    pub from: Place,
 }
 
 impl<P: Copy, N: Copy> Clone for LookUp<P, N> {
@@ -77,4 +88,19 @@ impl<P: Copy, N: Copy> Clone for LookUp<P, N> {
     fn clone(&self) -> Result<LookUp<P, N>, AllocError> {
         Ok(*self)
     }
+}
+
+/// What a module answers to a look-up (WESL, "Imports", "Visibility" and "ConditionalTranslation").
+#[derive(Drop)]
+pub enum Answer<P, N> {
+    /// It declares the name.
+    Declared,
+    /// It imports the name, and asks this further.
+    Next(LookUp<P, N>),
+    /// It has no such name.
+    Missing,
+    /// It has unpublished imports of the name alone.
+    Private,
+    /// The name stands for two things there.
+    Ambiguous,
 }

@@ -1,11 +1,8 @@
-//! The symbol table of a module: its imports, its declarations, and indexes of both by name.
-ghost use Rattle.std.specs.Prelude.{◌≡◌, ◌↔◌, ◌<◌, [], length, IsTrue, IfSome, IfNone, IfOk, OnOk, Contains};
-ghost use Rattle.wesl_symbols.specs.declared.ids.PathId.{PathId};
-ghost use Rattle.wesl_symbols.specs.declared.ids.NameId.{NameId};
-ghost use Rattle.wesl_symbols.specs.Index.{HasAt, IsLast, IsNamed, Indexes, Binds, Publishes, Chains};
+//! The symbol table of a module: its imports, its declarations, what some choice of flags keeps together, and indexes by name.
+ghost use Rattle.std.specs.Prelude.{◌≡◌, ◌↔◌, ◌<◌, [], length, IsTrue, IfOk, OnOk};
+ghost use Rattle.wesl_symbols.specs.Index.{HasAt, IsLast, IsNamed, Binds, Chains, bound_of, name_of};
 ghost use Rattle.wesl_symbols.specs.Indexed.{IsBlank, AreIndexes};
-ghost use Rattle.wesl_symbols.specs.Names.{Declares, Imports, Shows};
-ghost use Rattle.wesl_symbols.specs.Tables.{Import};
+ghost use Rattle.wesl_symbols.specs.Names.{Declares, Sees};
 
 use crate::ids::{NameId, PathId};
 use crate::keyed;
@@ -13,11 +10,15 @@ use crate::symbols::{Import, Reference};
 use std::alloc::{AllocError, Global};
 use std::collections::HashMap;
 use std::marker::Model;
+use wesl_choices::alive::Alive;
+use wesl_choices::place::Place;
 
 /// A declaration, and the names that it uses.
 pub struct Declaration {
     name: Option<NameId>,
+    place: Place,
     references: Vec<Reference<PathId, NameId>>,
+    unclear: Vec<NameId>,
 }
 
 // By hand, so that it is proved once: a derived one is proved in each crate that lets go of a value.
@@ -25,7 +26,9 @@ impl Drop for Declaration {
     fn drop(self) {
         let Declaration {
             name: _,
+            place: _,
             references: _,
+            unclear: _,
         } = self;
     }
 }
@@ -37,15 +40,28 @@ impl Model for Declaration {
 
     ghost Value = { tables.Declaration PathId NameId };
 
-    ghost view = { λ d. record { name = d.name; references = d.references.items } };
+    ghost view = { λ d. record { name = d.name; place = d.place; references = d.references.items; unclear = d.unclear.items } };
 }
 
 impl Declaration {
-    /// A declaration of that name, or with none a const_assert, and the names that it uses in document order.
-    pub fn new(name: Option<NameId>, references: Vec<Reference<PathId, NameId>>) -> Declaration
-        ensures { result ≡ record { name = name; references = references.items } }
+    /// A declaration of that name, or with none a const_assert.
+    ///
+    /// It stands at `place`, which is `Always` where its name has one target. `references` is what the names used in it ask
+    /// for, and `unclear` the names used in it that stand for two things, both in document order.
+    pub fn new(
+        name: Option<NameId>,
+        place: Place,
+        references: Vec<Reference<PathId, NameId>>,
+        unclear: Vec<NameId>,
+    ) -> Declaration
+        ensures { result ≡ record { name = name; place = place; references = references.items; unclear = unclear.items } }
     {
-        Declaration { name, references }
+        Declaration {
+            name,
+            place,
+            references,
+            unclear,
+        }
     }
 
     /// Its name, and none for a const_assert.
@@ -55,11 +71,25 @@ impl Declaration {
         self.name
     }
 
-    /// The names that it uses, in document order.
+    /// Where it stands.
+    pub fn place(&self) -> Place
+        ensures { result ≡ self.now.place }
+    {
+        self.place
+    }
+
+    /// What the names that it uses ask for, in document order.
     pub fn references(&self) -> &[Reference<PathId, NameId>]
         ensures { result.now ≡ self.now.references }
     {
         &self.references
+    }
+
+    /// The names used in it that stand for two things, in document order.
+    pub fn unclear(&self) -> &[NameId]
+        ensures { result.now ≡ self.now.unclear }
+    {
+        &self.unclear
     }
 }
 
@@ -68,12 +98,14 @@ pub struct Table {
     path: PathId,
     imports: Vec<Import<PathId, NameId>>,
     declarations: Vec<Declaration>,
-    // Of each name an import that binds it, and one that publishes it.
-    bound: HashMap<NameId, Import<PathId, NameId>>,
-    published: HashMap<NameId, Import<PathId, NameId>>,
+    alive: Alive,
+    is_crowded: bool,
     // Of each name its last declaration, and of each declaration the one of its name before it.
     latest: HashMap<Option<NameId>, usize>,
     earlier: Vec<Option<usize>>,
+    // The same of imports, by the name that they bind.
+    latest_import: HashMap<NameId, usize>,
+    earlier_import: Vec<Option<usize>>,
 }
 
 impl Drop for Table {
@@ -82,10 +114,12 @@ impl Drop for Table {
             path: _,
             imports: _,
             declarations: _,
-            bound: _,
-            published: _,
+            alive: _,
+            is_crowded: _,
             latest: _,
             earlier: _,
+            latest_import: _,
+            earlier_import: _,
         } = self;
     }
 }
@@ -98,39 +132,9 @@ impl Model for Table {
 
     ghost Value = { tables.Table PathId NameId };
 
-    ghost view = { λ t. record { path = t.path; imports = t.imports.items; declarations = t.declarations.items } };
+    ghost view = { λ t. record { path = t.path; imports = t.imports.items; declarations = t.declarations.items; alive = t.alive; is_crowded = t.is_crowded } };
 
-    ghost invariant = { λ t. IsIndexed t.imports.items t.declarations.items t.bound.entries t.published.entries t.latest.entries t.earlier.items };
-}
-
-/// Puts at each bound name an import that binds it.
-fn index_bound(
-    index: &mut HashMap<NameId, Import<PathId, NameId>>,
-    imports: &[Import<PathId, NameId>],
-) -> Result<(), AllocError>
-    requires { index.old.entries ≡ [] }
-    ensures { OnOk result (Indexes Binds imports.now index.new.entries) }
-{
-    for import in imports {
-        keyed::put(index, import.bound, *import)?;
-    }
-    Ok(())
-}
-
-/// Puts at each published name an import that publishes it.
-fn index_published(
-    index: &mut HashMap<NameId, Import<PathId, NameId>>,
-    imports: &[Import<PathId, NameId>],
-) -> Result<(), AllocError>
-    requires { index.old.entries ≡ [] }
-    ensures { OnOk result (Indexes Publishes imports.now index.new.entries) }
-{
-    for import in imports {
-        if import.published {
-            keyed::put(index, import.bound, *import)?;
-        }
-    }
-    Ok(())
+    ghost invariant = { λ t. IsIndexed t.imports.items t.declarations.items t.latest.entries t.earlier.items t.latest_import.entries t.earlier_import.items };
 }
 
 /// Ties each declaration to the one of its name before it.
@@ -141,7 +145,7 @@ fn tie(
 ) -> Result<(), AllocError>
     requires first { latest.old.entries ≡ [] }
     requires none { earlier.old.items ≡ [] }
-    ensures { OnOk result (Chains declarations.now (length declarations.now) latest.new.entries earlier.new.items) }
+    ensures { OnOk result (Chains name_of declarations.now (length declarations.now) latest.new.entries earlier.new.items) }
 {
     for (index, declaration) in declarations.iter().enumerate() {
         let name = declaration.name();
@@ -151,13 +155,30 @@ fn tie(
     Ok(())
 }
 
+/// Ties each import to the one before it that binds its name.
+fn tie_imports(
+    latest: &mut HashMap<NameId, usize>,
+    earlier: &mut Vec<Option<usize>>,
+    imports: &[Import<PathId, NameId>],
+) -> Result<(), AllocError>
+    requires first { latest.old.entries ≡ [] }
+    requires none { earlier.old.items ≡ [] }
+    ensures { OnOk result (Chains bound_of imports.now (length imports.now) latest.new.entries earlier.new.items) }
+{
+    for (index, import) in imports.iter().enumerate() {
+        earlier.push(keyed::value_at(latest, import.bound))?;
+        keyed::put(latest, import.bound, index)?;
+    }
+    Ok(())
+}
+
 /// The indexes of a module, as its table has them.
 #[derive(Drop)]
 struct Indexed {
-    bound: HashMap<NameId, Import<PathId, NameId>>,
-    published: HashMap<NameId, Import<PathId, NameId>>,
     latest: HashMap<Option<NameId>, usize>,
     earlier: Vec<Option<usize>>,
+    latest_import: HashMap<NameId, usize>,
+    earlier_import: Vec<Option<usize>>,
 }
 
 impl Indexed {
@@ -166,10 +187,10 @@ impl Indexed {
         ensures { IsBlank result }
     {
         Indexed {
-            bound: HashMap::new(alloc),
-            published: HashMap::new(alloc),
             latest: HashMap::new(alloc),
             earlier: Vec::new(alloc),
+            latest_import: HashMap::new(alloc),
+            earlier_import: Vec::new(alloc),
         }
     }
 
@@ -197,31 +218,37 @@ impl Indexed {
         requires { IsBlank self.old }
         ensures { OnOk result (AreIndexes imports.now declarations.now self.new) }
     {
-        index_bound(&mut self.bound, imports)?;
-        index_published(&mut self.published, imports)?;
-        tie(&mut self.latest, &mut self.earlier, declarations)
+        tie(&mut self.latest, &mut self.earlier, declarations)?;
+        tie_imports(&mut self.latest_import, &mut self.earlier_import, imports)
     }
 }
 
 impl Table {
     /// The table of the module at a path, with its imports and its declarations in document order.
+    ///
+    /// `alive` says which of their places some choice of feature flags keeps together, and `is_crowded` that a name of the
+    /// module has several targets and that its conditions name more than 16 flags.
     pub fn new(
         alloc: Global,
         path: PathId,
         imports: Vec<Import<PathId, NameId>>,
         declarations: Vec<Declaration>,
+        alive: Alive,
+        is_crowded: bool,
     ) -> Result<Table, AllocError>
-        ensures { IfOk result (λ t. t ≡ record { path = path; imports = imports.items; declarations = declarations.items }) }
+        ensures { IfOk result (λ t. t ≡ record { path = path; imports = imports.items; declarations = declarations.items; alive = alive; is_crowded = is_crowded }) }
     {
         let indexed = Indexed::of(alloc, &imports, &declarations)?;
         Ok(Table {
             path,
             imports,
             declarations,
-            bound: indexed.bound,
-            published: indexed.published,
+            alive,
+            is_crowded,
             latest: indexed.latest,
             earlier: indexed.earlier,
+            latest_import: indexed.latest_import,
+            earlier_import: indexed.earlier_import,
         })
     }
 
@@ -246,6 +273,20 @@ impl Table {
         &self.declarations
     }
 
+    /// Whether a name of it has several targets, and its conditions name more than 16 flags.
+    pub fn is_crowded(&self) -> bool
+        ensures { result ≡ self.now.is_crowded }
+    {
+        self.is_crowded
+    }
+
+    /// Whether what stands at a place is seen from there.
+    pub fn sees(&self, from: Place, place: Place) -> bool
+        ensures { IsTrue result ↔ Sees self.now from place }
+    {
+        place == Place::Always || self.alive.together(from, place)
+    }
+
     /// The index of the last declaration of that name.
     pub fn latest_of(&self, name: Option<NameId>) -> Option<usize>
         ensures { IsLast (IsNamed name) self.now.declarations (length self.now.declarations) result }
@@ -261,33 +302,25 @@ impl Table {
         self.earlier[index]
     }
 
+    /// The index of the last import that binds that name.
+    pub fn latest_import_of(&self, name: NameId) -> Option<usize>
+        ensures { IsLast (Binds name) self.now.imports (length self.now.imports) result }
+    {
+        keyed::value_at(&self.latest_import, name)
+    }
+
+    /// The index of the import before that binds the name of this one.
+    pub fn earlier_import_of(&self, index: usize, name: NameId) -> Option<usize>
+        requires { HasAt (Binds name) self.now.imports index }
+        ensures { IsLast (Binds name) self.now.imports index result }
+    {
+        self.earlier_import[index]
+    }
+
     /// Whether it declares the name.
     pub fn declares(&self, name: NameId) -> bool
         ensures { IsTrue result ↔ Declares self.now name }
     {
         self.latest_of(Some(name)).is_some()
-    }
-
-    /// An import of the name.
-    pub fn import_of(&self, name: NameId) -> Option<Import<PathId, NameId>>
-        ensures found { IfSome result (λ i. Imports self.now name i) }
-        ensures none { IfNone result ((i : Import PathId NameId) → Imports self.now name i → ⊥) }
-    {
-        keyed::value_at(&self.bound, name)
-    }
-
-    /// An import of the name that the asker sees: its own module sees all, another the published ones.
-    pub fn shown_import(
-        &self,
-        asker: Option<PathId>,
-        name: NameId,
-    ) -> Option<Import<PathId, NameId>>
-        ensures found { IfSome result (λ i. Imports self.now name i × Shows asker self.now.path i) }
-        ensures none { IfNone result ((i : Import PathId NameId) → Imports self.now name i → Shows asker self.now.path i → ⊥) }
-    {
-        if asker == Some(self.path) {
-            return self.import_of(name);
-        }
-        keyed::value_at(&self.published, name)
     }
 }

@@ -2,15 +2,16 @@
 use Rattle.std.proofs.Common.{◌≡◌, ◌⊎◌, inl, inr, ℕ, List, Contains, subst, sym, refl, ap, ◌∙◌}
 use Rattle.wesl_symbols.specs.declared.symbols.LookUp.{LookUp}
 use Rattle.wesl_symbols.specs.declared.symbols.Symbol.{Symbol}
+use Rattle.wesl_symbols.specs.declared.symbols.Answer.{Answer}
+use Rattle.wesl_symbols.specs.declared.symbols.Answer.TheVariants.{Missing, Private as Hidden, Ambiguous}
 use Rattle.wesl_symbols.specs.Tables.{Table}
-use Rattle.wesl_world.specs.World.{Task, IsAt, IsWorld, Hops, LeadsTo, ComesTo, Walk, IsMissingAt, IsPrivateAt, Entered, Reached, Followed}
-use Rattle.wesl_world.specs.World.LeadsTo.{here, through}
+use Rattle.wesl_world.specs.World.{Task, IsAt, IsWorld, Hops, Reaches, EndsWith, LeadsTo, ComesTo, Walk, IsMissingAt, IsPrivateAt, IsAmbiguousAt, Entered, Reached, Followed}
 use Rattle.wesl_world.specs.World.ComesTo.{stays, hops}
 use Rattle.wesl_world.specs.World.Walk.{begin, step}
 use Rattle.wesl_world.specs.World.Entered.{root, asked, imported}
 use Rattle.wesl_world.specs.World.Reached.{led_to, declared}
 use Rattle.wesl_world.specs.World.Followed.{kept, by_assert, by_symbol}
-use Rattle.wesl_world.specs.Faults.{Fault, duplicate, refused, missing, private, too_many, Stands}
+use Rattle.wesl_world.specs.Faults.{Fault, duplicate, refused, missing, private, too_many, ambiguous, too_many_flags, Stands}
 use Rattle.wesl_world.specs.Linking.{Linking, IsLinked}
 use Rattle.wesl_world.specs.Laws.{AreExclusive}
 use Rattle.wesl_world.proofs.Lists.{all_into}
@@ -29,7 +30,7 @@ module _ {P N : Type 0} where
     pub held : (p : P) (t : (Table P N)) → Entered w task p → IsAt v p t → IsAt w p t
 
   hop_into : {w v : List (Table P N)} {task : (Task P N)} → Shares w v task → (a b : (LookUp P N)) → Entered w task a.path → Hops v a b → Hops w a b
-  hop_into shares a b h (t, i, at, undeclared, imp, shows, e) = (t, i, shares.held a.path t h at, undeclared, imp, shows, e)
+  hop_into shares a b h (t, at, answers) = (t, shares.held a.path t h at, answers)
 
   enters : {w : List (Table P N)} {task : (Task P N)} → (l a : (LookUp P N)) → Followed w task l → ComesTo w l a → Entered w task a.path
   enters l a f c = asked l a a.path f c refl
@@ -38,22 +39,28 @@ module _ {P N : Type 0} where
   comes_into shares l b a f c (stays _) = c
   comes_into shares l b a f c (hops _ n _ h r) = comes_into shares l n a f (comes_on l b n c (hop_into shares b n (enters l b f c) h)) r
 
-  leads_into : {w v : List (Table P N)} {task : (Task P N)} → Shares w v task → (l b : (LookUp P N)) (s : (Symbol P N)) → Followed w task l → ComesTo w l b → LeadsTo v b s → LeadsTo w b s
-  leads_into shares l b s f c (here _ _ (t, at, d, e)) = here b s (t, shares.held b.path t (enters l b f c) at, d, e)
-  leads_into shares l b s f c (through _ n _ h r) =
-      let g = hop_into shares b n (enters l b f c) h in through b n s g (leads_into shares l n s f (comes_on l b n c g) r)
-
   walk_into : {w v : List (Table P N)} {task : (Task P N)} → Shares w v task → (l : (LookUp P N)) (met : List (LookUp P N)) (a : (LookUp P N)) → Followed w task l → Walk v l met a → Walk w l met a
   walk_into shares l met a f (begin _ e) = begin a e
   walk_into shares l met a f (step before b _ r new h) =
       let r2 = walk_into shares l before b f r in step before b a r2 new (hop_into shares b a (enters l b f (walk_comes l before b r2)) h)
 
-  reached_enters_by : {w : List (Table P N)} {task : (Task P N)} → (l : (LookUp P N)) (b : (LookUp P N)) (s : (Symbol P N)) → Followed w task l → ComesTo w l b → LeadsTo w b s → Entered w task s.path
-  reached_enters_by {w} {task} l b s f c (here _ _ (t, at, d, e)) = asked l b s.path f c (sym (ap (λ (x : (Symbol P N)). x.path) e))
-  reached_enters_by l b s f c (through _ n _ h r) = reached_enters_by l n s f (comes_on l b n c h) r
+  -- what a look-up reaches is entered
+  reach_enters : {w : List (Table P N)} {task : (Task P N)} → (l a : (LookUp P N)) → Followed w task l → Reaches w l a → Entered w task a.path
+  reach_enters l a f (met, walk, new) = enters l a f (walk_comes l met a walk)
+
+  reaches_into : {w v : List (Table P N)} {task : (Task P N)} → Shares w v task → (l a : (LookUp P N)) → Followed w task l → Reaches v l a → Reaches w l a
+  reaches_into shares l a f (met, walk, new) = (met, walk_into shares l met a f walk, new)
+
+  leads_into : {w v : List (Table P N)} {task : (Task P N)} → Shares w v task → (l : (LookUp P N)) (s : (Symbol P N)) → Followed w task l → LeadsTo v l s → LeadsTo w l s
+  leads_into shares l s f (a, reaches, (t, at, d, e)) =
+      let r = reaches_into shares l a f reaches in (a, r, (t, shares.held a.path t (reach_enters l a f r) at, d, e))
+
+  ends_into : {w v : List (Table P N)} {task : (Task P N)} → Shares w v task → (l a : (LookUp P N)) (x : Answer P N) → Followed w task l → EndsWith v l a x → EndsWith w l a x
+  ends_into shares l a x f (reaches, (t, at, answers)) =
+      let r = reaches_into shares l a f reaches in (r, (t, shares.held a.path t (reach_enters l a f r) at, answers))
 
   reached_enters : {w : List (Table P N)} {task : (Task P N)} → {s : (Symbol P N)} → Reached w task s → Entered w task s.path
-  reached_enters {s = s} (led_to l _ f r) = reached_enters_by l l s f (stays l) r
+  reached_enters {s = s} (led_to l _ f (a, (met, walk, new), (t, at, d, e))) = asked l a s.path f (walk_comes l met a walk) (sym (ap (λ (x : (Symbol P N)). x.path) e))
   reached_enters {s = s} (declared _ t eager h at d) = h
 
   mutual
@@ -63,7 +70,7 @@ module _ {P N : Type 0} where
     entered_into shares p (imported q _ t i eager h at held e) = let g = entered_into shares q h in imported q p t i eager g (shares.held q t g at) held e
 
     reached_into : {w v : List (Table P N)} {task : (Task P N)} → Shares w v task → (s : (Symbol P N)) → Reached v task s → Reached w task s
-    reached_into shares s (led_to l _ f r) = let g = followed_into shares l f in led_to l s g (leads_into shares l l s g (stays l) r)
+    reached_into shares s (led_to l _ f r) = let g = followed_into shares l f in led_to l s g (leads_into shares l s g r)
     reached_into shares s (declared _ t eager h at d) = let g = entered_into shares s.path h in declared s t eager g (shares.held s.path t g at) d
 
     followed_into : {w v : List (Table P N)} {task : (Task P N)} → Shares w v task → (l : (LookUp P N)) → Followed v task l → Followed w task l
@@ -104,15 +111,14 @@ module _ {P N : Type 0} where
   handed_not_refused hands refuses start v p e never in_v absent is m at (inr h) = never p m e (subst (λ (q : P). hands q m) at h) is
 
   missing_into : {w v : List (Table P N)} {task : Task P N} → Shares w v task → (l : LookUp P N) (p : P) (n : N) → Followed w task l → IsMissingAt v l p n → IsMissingAt w l p n
-  missing_into shares l p n f (met, a, walk, ep, en, inr again) = (met, a, walk_into shares l met a f walk, ep, en, inr again)
-  missing_into shares l p n f (met, a, walk, ep, en, inl (t, at, undeclared, not_imported)) =
-      let walk2 = walk_into shares l met a f walk in
-      (met, a, walk2, ep, en, inl (t, shares.held p t (asked l a p f (walk_comes l met a walk2) ep) at, undeclared, not_imported))
+  missing_into shares l p n f (a, ep, en, inl ends) = (a, ep, en, inl (ends_into shares l a Missing f ends))
+  missing_into shares l p n f (a, ep, en, inr (met, walk, again)) = (a, ep, en, inr (met, walk_into shares l met a f walk, again))
 
   private_into : {w v : List (Table P N)} {task : Task P N} → Shares w v task → (l : LookUp P N) (n : N) (p : P) → Followed w task l → IsPrivateAt v l n p → IsPrivateAt w l n p
-  private_into shares l n p f (met, a, t, walk, ep, en, at, undeclared, held, hidden) =
-      let walk2 = walk_into shares l met a f walk in
-      (met, a, t, walk2, ep, en, shares.held p t (asked l a p f (walk_comes l met a walk2) ep) at, undeclared, held, hidden)
+  private_into shares l n p f (a, ep, en, ends) = (a, ep, en, ends_into shares l a Hidden f ends)
+
+  ambiguous_into : {w v : List (Table P N)} {task : Task P N} → Shares w v task → (l : LookUp P N) (n : N) → Followed w task l → IsAmbiguousAt v l n → IsAmbiguousAt w l n
+  ambiguous_into shares l n f (a, en, ends) = (a, en, ends_into shares l a Ambiguous f ends)
 
   stands_into : {E : Type 0} (hands : P → Table P N → Type 0) (refuses : P → E → Type 0) (start : Table P N) (task : Task P N) (limit : ℕ) (k : Linking P N) (v : List (Table P N))
       → ((p : P) (t : Table P N) (e : E) → hands p t → refuses p e → ⊥)
@@ -127,6 +133,14 @@ module _ {P N : Type 0} where
       let g = followed_into shares l f in (l, g, missing_into shares l p n g rest)
   stands_into hands refuses start task limit k v never linked in_v shares (private n p) (l, f, rest) =
       let g = followed_into shares l f in (l, g, private_into shares l n p g rest)
+  stands_into hands refuses start task limit k v never linked in_v shares (ambiguous n) (inl (t, held, h, unclear)) =
+      let g = entered_into shares t.path h in inl (t, (shares.held t.path t g (held, refl)).0, g, unclear)
+  stands_into hands refuses start task limit k v never linked in_v shares (ambiguous n) (inr (inl (s, t, h, at, unclear))) =
+      let g = reached_into shares s h in inr (inl (s, t, g, shares.held s.path t (reached_enters g) at, unclear))
+  stands_into hands refuses start task limit k v never linked in_v shares (ambiguous n) (inr (inr (l, f, rest))) =
+      let g = followed_into shares l f in inr (inr (l, g, ambiguous_into shares l n g rest))
+  stands_into hands refuses start task limit k v never linked in_v shares (too_many_flags p) (t, at, h, crowded) =
+      let g = entered_into shares p h in (t, shares.held p t g at, g, crowded)
   stands_into hands refuses start task limit k v never linked in_v shares (too_many j) (e, ps, distinct, all, many) =
       (e, ps, distinct, all_into (entered_into shares) ps all, many)
 

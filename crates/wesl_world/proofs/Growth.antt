@@ -3,8 +3,7 @@ use Rattle.std.proofs.Common.{List}
 use Rattle.wesl_symbols.specs.declared.symbols.LookUp.{LookUp}
 use Rattle.wesl_symbols.specs.declared.symbols.Symbol.{Symbol}
 use Rattle.wesl_symbols.specs.Tables.{Table}
-use Rattle.wesl_world.specs.World.{Task, IsAt, Finds, Hops, LeadsTo, ComesTo, Walk, Entered, Reached, Followed}
-use Rattle.wesl_world.specs.World.LeadsTo.{here, through}
+use Rattle.wesl_world.specs.World.{Task, IsAt, Finds, Hops, Reaches, LeadsTo, ComesTo, Walk, Entered, Reached, Followed}
 use Rattle.wesl_world.specs.World.ComesTo.{stays, hops}
 use Rattle.wesl_world.specs.World.Walk.{begin, step}
 use Rattle.wesl_world.specs.World.Entered.{root, asked, imported}
@@ -20,11 +19,7 @@ module _ {P N : Type 0} where
   finds_more more l s (t, at, d, e) = (t, at_more more l.path t at, d, e)
 
   pub hops_more : {w v : List (Table P N)} → Within w v → (a b : (LookUp P N)) → Hops w a b → Hops v a b
-  hops_more more a b (t, i, at, undeclared, imp, shows, e) = (t, i, at_more more a.path t at, undeclared, imp, shows, e)
-
-  pub leads_more : {w v : List (Table P N)} → Within w v → (l : (LookUp P N)) (s : (Symbol P N)) → LeadsTo w l s → LeadsTo v l s
-  leads_more more l s (here _ _ f) = here l s (finds_more more l s f)
-  leads_more more l s (through _ n _ h r) = through l n s (hops_more more l n h) (leads_more more n s r)
+  hops_more more a b (t, at, answers) = (t, at_more more a.path t at, answers)
 
   pub comes_more : {w v : List (Table P N)} → Within w v → (l a : (LookUp P N)) → ComesTo w l a → ComesTo v l a
   comes_more more l a (stays _) = stays l
@@ -33,6 +28,12 @@ module _ {P N : Type 0} where
   pub walk_more : {w v : List (Table P N)} → Within w v → (l : (LookUp P N)) (met : List (LookUp P N)) (a : (LookUp P N)) → Walk w l met a → Walk v l met a
   walk_more more l met a (begin _ e) = begin a e
   walk_more more l met a (step before b _ r new h) = step before b a (walk_more more l before b r) new (hops_more more b a h)
+
+  pub reaches_more : {w v : List (Table P N)} → Within w v → (l a : (LookUp P N)) → Reaches w l a → Reaches v l a
+  reaches_more more l a (met, walk, new) = (met, walk_more more l met a walk, new)
+
+  pub leads_more : {w v : List (Table P N)} → Within w v → (l : (LookUp P N)) (s : (Symbol P N)) → LeadsTo w l s → LeadsTo v l s
+  leads_more more l s (a, reaches, finds) = (a, reaches_more more l a reaches, finds_more more a s finds)
 
   mutual
     pub entered_more : {w v : List (Table P N)} {task : (Task P N)} → Within w v → (p : P) → Entered w task p → Entered v task p

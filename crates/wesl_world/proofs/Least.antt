@@ -1,16 +1,13 @@
 -- The entered paths and the reached symbols are least sets.
-use Rattle.std.proofs.Common.{◌≡◌, inl, inr, Some, None, List, Contains, subst, sym, ap, ◌∙◌}
+use Rattle.std.proofs.Common.{inl, inr, List, Contains}
 use Rattle.wesl_symbols.specs.declared.symbols.LookUp.{LookUp}
 use Rattle.wesl_symbols.specs.declared.symbols.Symbol.{Symbol}
 use Rattle.wesl_symbols.specs.Tables.{Table}
-use Rattle.wesl_symbols.specs.Names.{Declares, Imports}
-use Rattle.wesl_world.specs.World.{Task, IsAt, Finds, Hops, LeadsTo, Entered, Reached, Followed}
-use Rattle.wesl_world.specs.World.LeadsTo.{here, through}
+use Rattle.wesl_world.specs.World.{Task, Entered, Reached, Followed}
 use Rattle.wesl_world.specs.World.Entered.{root, asked, imported}
 use Rattle.wesl_world.specs.World.Reached.{led_to, declared}
 use Rattle.wesl_world.specs.World.Followed.{kept, by_assert, by_symbol}
-use Rattle.wesl_world.specs.Faults.{SameTarget}
-use Rattle.wesl_world.specs.Laws.{OnlyGrows, IsClear, LeadsToOne, AsksForOne, IsAskedBy, IsClosed, AreLeast}
+use Rattle.wesl_world.specs.Laws.{OnlyGrows, IsAskedBy, IsClosed, AreLeast}
 use Rattle.wesl_world.proofs.Growth.{leads_more, entered_more, reached_more, followed_more}
 
 module _ {P N : Type 0} where
@@ -54,41 +51,3 @@ module _ {P N : Type 0} where
     entered = λ w task ps ss c p h. entered_in (Contains ps) (Contains ss) c p h;
     reached = λ w task ps ss c s h. reached_in (Contains ps) (Contains ss) c s h;
   }
-
-  -- ---- one answer
-
-  same_table : {w : List (Table P N)} → IsClear w → (p : P) (t u : (Table P N)) → IsAt w p t → IsAt w p u → t ≡ u
-  same_table c p t u at at2 = c.one_table t u at.0 at2.0 (at.1 ∙ sym at2.1)
-
-  abbrev next_by : (LookUp P N) → P → N → (LookUp P N)
-  next_by a p n = record { asker = Some a.path; path = p; name = n }
-
-  pub hops_agree : {w : List (Table P N)} → IsClear w → (a b c : (LookUp P N)) → Hops w a b → Hops w a c → b ≡ c
-  hops_agree {w} clear a b c (t, i, at, not_own, imp, shows, is) (t2, i2, at2, not_own2, imp2, shows2, is2) =
-      let same : t2 ≡ t = same_table clear a.path t2 t at2 at in
-      let imp3 : Imports t a.name i2 = subst (λ (x : (Table P N)). Imports x a.name i2) same imp2 in
-      let target : SameTarget i i2 = (clear.agrees t at.0).imports a.name i i2 imp imp3 in
-      let u : next_by a i.path i.item ≡ next_by a i2.path i2.item = ap (λ (p : P). next_by a p i.item) target.0 ∙ ap (λ (n : N). next_by a i2.path n) target.1 in
-      is ∙ (u ∙ sym is2)
-
-  pub found_no_hop : {w : List (Table P N)} → IsClear w → (a b : (LookUp P N)) (s : (Symbol P N)) → Finds w a s → Hops w a b → ⊥
-  found_no_hop clear a b s (t, at, d, is) (t2, i, at2, not_own, imp, shows, is2) =
-      not_own (subst (λ (z : (Table P N)). Declares z a.name) (same_table clear a.path t t2 at at2) d)
-
-  pub leads_to_one : LeadsToOne P N
-  leads_to_one w l s u clear (here _ _ (t, at, d, is)) (here _ _ (t2, at2, d2, is2)) = is ∙ sym is2
-  leads_to_one w l s u clear (here _ _ f) (through _ n _ h r) = absurd (found_no_hop clear l n s f h)
-  leads_to_one w l s u clear (through _ n _ h r) (here _ _ f) = absurd (found_no_hop clear l n u f h)
-  leads_to_one w l s u clear (through _ n _ h r) (through _ n2 _ h2 r2) =
-      let same : n2 ≡ n = hops_agree clear l n2 n h2 h in
-      leads_to_one w n s u clear r (subst (λ (x : (LookUp P N)). LeadsTo w x u) same r2)
-
-  pub asks_for_one : AsksForOne P N
-  asks_for_one t n l m a (inl (d, e)) (inl (d2, e2)) = e ∙ sym e2
-  asks_for_one t n l m a (inl (d, e)) (inr (undeclared, i, imp, e2)) = absurd (undeclared d)
-  asks_for_one t n l m a (inr (undeclared, i, imp, e)) (inl (d, e2)) = absurd (undeclared d)
-  asks_for_one t n l m a (inr (undeclared, i, imp, e)) (inr (_, i2, imp2, e2)) =
-      let target : SameTarget i i2 = a.imports n i i2 imp imp2 in
-      let own : (LookUp P N) = record { asker = None; path = t.path; name = n } in
-      let u : next_by own i.path i.item ≡ next_by own i2.path i2.item = ap (λ (p : P). next_by own p i.item) target.0 ∙ ap (λ (x : N). next_by own i2.path x) target.1 in
-      e ∙ (u ∙ sym e2)

@@ -1,10 +1,11 @@
 pub mod Lists
 pub mod Growth
 pub mod Least
+pub mod Walks
 pub mod Exclusive
 pub mod Settled
 pub mod Asking
-pub mod Agreeing
+pub mod Clashing
 pub mod Growing
 pub mod Steps
 pub mod Placing

@@ -1,10 +1,9 @@
 -- The faults that stand in a world.
-use Rattle.std.specs.Prelude.{◌≡◌, ◌⊎◌, ℕ, ◌<◌, length, List, [], ◌∷◌, Contains, All}
-use Rattle.wesl_symbols.specs.declared.symbols.Import.{Import}
-use Rattle.wesl_symbols.specs.declared.symbols.LookUp.{LookUp}
-use Rattle.wesl_symbols.specs.Tables.{Table}
-use Rattle.wesl_symbols.specs.Names.{Declares, Imports}
-use Rattle.wesl_world.specs.World.{IsAt, IsWorld, IsMissingAt, IsPrivateAt, Task, Entered, Followed}
+use Rattle.std.specs.Prelude.{◌≡◌, ◌⊎◌, ℕ, ◌<◌, length, true, false, Some, None, List, [], ◌∷◌, Contains, All}
+use Rattle.wesl_choices.specs.declared.place.Place.TheVariants.{Always}
+use Rattle.wesl_symbols.specs.Tables.{Place, Import, Symbol, LookUp, Declaration, Table}
+use Rattle.wesl_symbols.specs.Names.{Imports, IsUnclearFrom, SameTarget, IsOwn, Sees}
+use Rattle.wesl_world.specs.World.{IsAt, IsWorld, IsMissingAt, IsPrivateAt, IsAmbiguousAt, Task, Entered, Reached, Followed}
 
 -- why a link is refused, where a loader refuses with an `E`
 pub data Fault (P N E : Type 0) : Type 0 where
@@ -13,25 +12,24 @@ pub data Fault (P N E : Type 0) : Type 0 where
   missing : P → N → Fault P N E
   private : N → P → Fault P N E
   too_many : ℕ → Fault P N E
+  ambiguous : N → Fault P N E
+  too_many_flags : P → Fault P N E
 
 module _ {P N : Type 0} where
-  abbrev pub SameTarget : Import P N → Import P N → Type 0
-  SameTarget i j = (i.path ≡ j.path) × (i.item ≡ j.item)
+  -- what stands at the two places is there at once for some choice of flags, or one of them always
+  abbrev pub Meet : Table P N → Place → Place → Type 0
+  Meet t a b = (a ≡ Always) ⊎ Sees t a b
 
-  -- the import aims at the module's own declaration of the name that it binds
-  abbrev pub IsOwn : P → Import P N → Type 0
-  IsOwn p i = (i.path ≡ p) × (i.item ≡ i.bound)
-
-  -- Two binders of the name have different targets. A declaration's target is itself.
+  -- Two binders of the name that are there at once have different targets. A declaration's target is itself.
   abbrev pub Clashes : Table P N → N → Type 0
   Clashes t n =
-      ((i : Import P N) × (j : Import P N) × Imports t n i × Imports t n j × (SameTarget i j → ⊥))
-      ⊎ (Declares t n × (i : Import P N) × Imports t n i × (IsOwn t.path i → ⊥))
+      ((i : Import P N) × (j : Import P N) × Imports t n i × Imports t n j × Meet t i.place j.place × (SameTarget i j → ⊥))
+      ⊎ ((d : Declaration P N) × (i : Import P N) × Contains t.declarations d × (d.name ≡ Some n) × Imports t n i × Meet t d.place i.place × (IsOwn t.path i → ⊥))
 
--- the binders of each name have one target
-pub record Agrees {P N : Type 0} (t : Table P N) : Type 0 where
-  pub imports : (n : N) (i j : Import P N) → Imports t n i → Imports t n j → SameTarget i j
-  pub own : (n : N) (i : Import P N) → Declares t n → Imports t n i → IsOwn t.path i
+-- no name of it clashes, and it has few flags or no split name
+pub record IsAdmitted {P N : Type 0} (t : Table P N) : Type 0 where
+  pub clear : (n : N) → Clashes t n → ⊥
+  pub roomy : t.is_crowded ≡ false
 
 -- each stands once
 pub data AreDistinct {X : Type 0} : List X → Type 0 where
@@ -45,6 +43,11 @@ module _ {P N E : Type 0} (refuses : P → E → Type 0) (task : Task P N) (limi
   Stands (refused e) = (p : P) × Entered w task p × ((t : Table P N) → IsAt w p t → ⊥) × refuses p e
   Stands (missing p n) = (l : LookUp P N) × Followed w task l × IsMissingAt w l p n
   Stands (private n p) = (l : LookUp P N) × Followed w task l × IsPrivateAt w l n p
+  Stands (ambiguous n) =
+      ((t : Table P N) × Contains w t × Entered w task t.path × IsUnclearFrom t None n)
+      ⊎ (((s : Symbol P N) × (t : Table P N) × Reached w task s × IsAt w s.path t × IsUnclearFrom t (Some s.name) n)
+      ⊎ ((l : LookUp P N) × Followed w task l × IsAmbiguousAt w l n))
+  Stands (too_many_flags p) = (t : Table P N) × IsAt w p t × Entered w task p × (t.is_crowded ≡ true)
   Stands (too_many k) = (k ≡ limit) × (ps : List P) × AreDistinct ps × All (Entered w task) ps × (limit < length ps)
 
 -- the fault stands in some world

@@ -4,9 +4,9 @@ use Rattle.wesl_symbols.specs.declared.symbols.Import.{Import}
 use Rattle.wesl_symbols.specs.declared.symbols.LookUp.{LookUp}
 use Rattle.wesl_symbols.specs.declared.symbols.Symbol.{Symbol}
 use Rattle.wesl_symbols.specs.Tables.{Table}
-use Rattle.wesl_symbols.specs.Names.{Declares, Asks, AsksFrom}
+use Rattle.wesl_symbols.specs.Names.{Declares, AsksFrom, IsUnclearFrom}
 use Rattle.wesl_world.specs.World.{Task, IsAt, IsKept, LeadsTo, ComesTo, Entered, Reached, Followed}
-use Rattle.wesl_world.specs.Faults.{Agrees, Fault, Stands, Explained}
+use Rattle.wesl_world.specs.Faults.{IsAdmitted, Fault, Stands, Explained}
 use Rattle.wesl_world.specs.Linking.{Linking, IsLinked}
 
 -- all of the first is in the second
@@ -20,18 +20,13 @@ pub record OnlyGrows (P N : Type 0) : Type 0 where
   pub reached : (w v : List (Table P N)) (task : Task P N) (s : Symbol P N) → Within w v → Reached w task s → Reached v task s
   pub followed : (w v : List (Table P N)) (task : Task P N) (l : LookUp P N) → Within w v → Followed w task l → Followed v task l
 
--- one table a path, and one target a name
+-- one table a path
 pub record IsClear {P N : Type 0} (w : List (Table P N)) : Type 0 where
   pub one_table : (t u : Table P N) → Contains w t → Contains w u → t.path ≡ u.path → t ≡ u
-  pub agrees : (t : Table P N) → Contains w t → Agrees t
 
--- where no name has two targets, a look-up leads to one symbol at most
+-- where a path has one table, a look-up leads to one symbol at most
 abbrev pub LeadsToOne : (P N : Type 0) → Type 0
 LeadsToOne P N = (w : List (Table P N)) (l : LookUp P N) (s u : Symbol P N) → IsClear w → LeadsTo w l s → LeadsTo w l u → s ≡ u
-
--- and so a reference without a path asks for one look-up at most
-abbrev pub AsksForOne : (P N : Type 0) → Type 0
-AsksForOne P N = (t : Table P N) (n : N) (l m : LookUp P N) → Agrees t → Asks t (record { path = None; name = n }) l → Asks t (record { path = None; name = n }) m → l ≡ m
 
 -- what these sets ask for
 abbrev pub IsAskedBy : {P N : Type 0} → List (Table P N) → Task P N → (P → Type 0) → (Symbol P N → Type 0) → LookUp P N → Type 0
@@ -69,9 +64,12 @@ AreExclusive {P} {N} {E} hands refuses =
 abbrev pub Settles : {P N : Type 0} → List (Table P N) → List (Symbol P N) → LookUp P N → Type 0
 Settles {P} {N} w ss l = (s : Symbol P N) × LeadsTo w l s × Contains ss s
 
--- all that the modules and the symbols of the lists ask for leads to symbols of the list
+-- the modules are admitted, and all that they and the symbols of the lists ask for is clear and leads to symbols of the list
 pub record IsSettled {P N : Type 0} (w : List (Table P N)) (task : Task P N) (ss : List (Symbol P N)) : Type 0 where
   pub clear : IsClear w
+  pub admitted : (t : Table P N) → Contains w t → IsAdmitted t
+  pub clear_asserts : (t : Table P N) (n : N) → Contains w t → IsUnclearFrom t None n → ⊥
+  pub clear_symbols : (s : Symbol P N) (t : Table P N) (n : N) → Contains ss s → IsAt w s.path t → IsUnclearFrom t (Some s.name) n → ⊥
   pub root_at : (t : Table P N) × IsAt w task.root t
   pub kept : (l : LookUp P N) → IsKept task l → Settles w ss l
   pub asserts : (t : Table P N) (l : LookUp P N) → Contains w t → AsksFrom t None l → Settles w ss l

@@ -1,12 +1,12 @@
 pub mod World
 pub mod Asked
-pub mod Answers
 pub mod Loader
 pub mod Refusal
 pub mod Loading
 pub mod Keeping
 pub mod Eager
 pub mod Faults
+pub mod Clashing
 pub mod Linking
 pub mod Laws
 pub mod Reached

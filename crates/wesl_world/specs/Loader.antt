@@ -1,5 +1,5 @@
 -- What a loader answers.
-use Rattle.std.specs.Prelude.{◌≡◌, Some, Contains}
+use Rattle.std.specs.Prelude.{Contains}
 use Rattle.wesl_world.specs.declared.loader.LoadError.{LoadError}
 use Rattle.wesl_world.specs.declared.loader.LoadError.TheVariants.{Refused, Memory}
 use Rattle.wesl_symbols.specs.declared.symbols.Import.{Import}
@@ -14,7 +14,7 @@ Explains refuses Memory = Unit {0}
 -- the loader may be asked for each path that the module imports from or refers to
 pub record IsReady {P N : Type 0} (ready : P → Type 0) (t : Table P N) : Type 0 where
   pub imports : (i : Import P N) → Contains t.imports i → ready i.path
-  pub references : (d : Declaration P N) (r : Reference P N) (p : P) → Contains t.declarations d → Contains d.references r → r.path ≡ Some p → ready p
+  pub references : (d : Declaration P N) (r : Reference P N) → Contains t.declarations d → Contains d.references r → ready r.path
 
 -- what was handed out, refused and ready still is
 pub record OnlyAdds {P N E : Type 0} (old_hands : P → Table P N → Type 0) (old_refuses : P → E → Type 0) (old_ready : P → Type 0)

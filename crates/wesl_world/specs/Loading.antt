@@ -1,5 +1,6 @@
 -- What stands while modules are loaded.
 use Rattle.std.specs.Prelude.{◌≡◌, ◌⊎◌, ℕ, ◌≤◌, length, take, slice_get, true, Some, None, List, ◌∷◌, ◌++◌, Contains}
+use Rattle.wesl_choices.specs.declared.place.Place.TheVariants.{Always}
 use Rattle.wesl_symbols.specs.declared.ids.PathId.{PathId}
 use Rattle.wesl_symbols.specs.declared.ids.NameId.{NameId}
 use Rattle.wesl_world.specs.declared.request.Request.{Request}
@@ -8,9 +9,9 @@ use Rattle.wesl_symbols.specs.declared.symbols.Import.{Import}
 use Rattle.wesl_symbols.specs.declared.symbols.LookUp.{LookUp}
 use Rattle.wesl_symbols.specs.declared.symbols.Symbol.{Symbol}
 use Rattle.wesl_symbols.specs.Tables.{Table}
-use Rattle.wesl_symbols.specs.Names.{Declares, AsksFrom}
-use Rattle.wesl_world.specs.World.{IsAt, IsWorld, Finds, LeadsTo, Walk, Task, Entered, Reached, Followed}
-use Rattle.wesl_world.specs.Faults.{Agrees, AreDistinct}
+use Rattle.wesl_symbols.specs.Names.{Declares, AsksFrom, IsUnclearFrom}
+use Rattle.wesl_world.specs.World.{IsAt, IsWorld, Finds, LeadsTo, Reaches, Task, Entered, Reached, Followed}
+use Rattle.wesl_world.specs.Faults.{IsAdmitted, AreDistinct}
 use Rattle.wesl_world.specs.Linking.{task_of, paths}
 use Rattle.wesl_world.specs.Loader.{IsReady}
 
@@ -28,7 +29,7 @@ pub record IsSoundIn {P N : Type 0} (hands : P → Table P N → Type 0) (ready 
     (others : List (Table P N)) (ss : List (Symbol P N)) (places : List (P × ℕ)) (answers : List (LookUp P N × Symbol P N)) : Type 0 where
   pub root_is : task.root ≡ root.path
   pub world : IsWorld hands root (root ∷ others)
-  pub agrees : (t : Table P N) → Contains (root ∷ others) t → Agrees t
+  pub admitted : (t : Table P N) → Contains (root ∷ others) t → IsAdmitted t
   pub distinct : AreDistinct (paths (root ∷ others))
   pub asks_ready : (t : Table P N) → Contains (root ∷ others) t → IsReady ready t
   pub entered : (t : Table P N) → Contains (root ∷ others) t → Entered (root ∷ others) task t.path
@@ -48,9 +49,9 @@ module _ {P N : Type 0} where
   abbrev pub CanEnter : (P → Type 0) → List (Table P N) → P → Type 0
   CanEnter ready w p = ready p ⊎ ((t : Table P N) × IsAt w p t)
 
-  -- a walk of a followed look-up comes to it
+  -- a walk of a followed look-up comes to it for the first time
   abbrev pub IsWalked : List (Table P N) → Task P N → LookUp P N → Type 0
-  IsWalked w task l = (start : LookUp P N) × (met : List (LookUp P N)) × Followed w task start × Walk w start met l
+  IsWalked w task l = (start : LookUp P N) × Followed w task start × Reaches w start l
 
   abbrev pub symbol_of : LookUp P N → Symbol P N
   symbol_of l = record { path = l.path; name = l.name }
@@ -59,20 +60,26 @@ module _ {P N : Type 0} where
   abbrev pub HasFound : List (Table P N) → List (Symbol P N) → LookUp P N → Type 0
   HasFound w ss l = Finds w l (symbol_of l) × Contains ss (symbol_of l)
 
--- all that the module's const_asserts ask for is answered; an eager link holds its symbols and has the modules that it imports from
+-- all that the module's const_asserts ask for is clear and answered; an eager link holds its symbols and has the modules that it imports from
 pub record IsModuleDone {P N : Type 0} (w : List (Table P N)) (task : Task P N) (ss : List (Symbol P N)) (answers : List (LookUp P N × Symbol P N)) (t : Table P N) : Type 0 where
+  pub clear : (n : N) → IsUnclearFrom t None n → ⊥
   pub asserts : (l : LookUp P N) → AsksFrom t None l → IsAnswered answers l
   pub imports : task.is_eager ≡ true → (i : Import P N) → Contains t.imports i → (u : Table P N) × IsAt w i.path u
   pub declares : task.is_eager ≡ true → (n : N) → Declares t n → Contains ss (record { path = t.path; name = n })
 
--- all that the symbol's declarations ask for is answered
+-- all that the symbol's declarations ask for is clear and answered
 pub record IsSymbolDone {P N : Type 0} (w : List (Table P N)) (answers : List (LookUp P N × Symbol P N)) (s : Symbol P N) : Type 0 where
+  pub clear : (t : Table P N) (n : N) → IsAt w s.path t → IsUnclearFrom t (Some s.name) n → ⊥
   pub asks : (t : Table P N) (l : LookUp P N) → IsAt w s.path t → AsksFrom t (Some s.name) l → IsAnswered answers l
 
 module _ {P N : Type 0} where
   -- Q holds of the module at the place
   abbrev pub OfModuleAt : List (Table P N) → ℕ → (Table P N → Type 0) → Type 0
   OfModuleAt w place Q = (t : Table P N) → slice_get w place ≡ Some t → Q t
+
+  -- no name used in the module's const_asserts stands for two things
+  abbrev pub HasClearAsserts : Table P N → Type 0
+  HasClearAsserts t = (n : N) → IsUnclearFrom t None n → ⊥
 
   -- all that the module's const_asserts ask for is answered
   abbrev pub AnswersAsserts : List (LookUp P N × Symbol P N) → Table P N → Type 0
@@ -106,7 +113,7 @@ pub record Grows (from to : Loaded) : Type 0 where
 
 -- a kept name is asked for from outside
 abbrev pub kept_look_up : PathId → NameId → LookUp PathId NameId
-kept_look_up root n = record { asker = None; path = root; name = n }
+kept_look_up root n = record { asker = None; path = root; name = n; from = Always }
 
 -- each kept name is answered
 abbrev pub AnswersKept : Request → Loaded → Type 0

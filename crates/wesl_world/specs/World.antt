@@ -1,10 +1,9 @@
 -- Look-ups between modules, and what they reach (WESL, "Imports" and "Visibility").
 use Rattle.std.specs.Prelude.{◌≡◌, ◌⊎◌, Bool, true, Some, None, List, [], ◌∷◌, Contains}
-use Rattle.wesl_symbols.specs.declared.symbols.Import.{Import}
-use Rattle.wesl_symbols.specs.declared.symbols.Symbol.{Symbol}
-use Rattle.wesl_symbols.specs.declared.symbols.LookUp.{LookUp}
-use Rattle.wesl_symbols.specs.Tables.{Table}
-use Rattle.wesl_symbols.specs.Names.{Declares, Imports, AsksFrom, Shows}
+use Rattle.wesl_choices.specs.declared.place.Place.TheVariants.{Always}
+use Rattle.wesl_symbols.specs.declared.symbols.Answer.TheVariants.{Declared, Next, Missing, Private, Ambiguous}
+use Rattle.wesl_symbols.specs.Tables.{Import, Symbol, LookUp, Answer, Table}
+use Rattle.wesl_symbols.specs.Names.{Declares, AsksFrom, Answers}
 
 -- ---- between modules: a world is a list of modules
 
@@ -20,18 +19,11 @@ pub record IsWorld {P N : Type 0} (hands : P → Table P N → Type 0) (root : T
 
 module _ {P N : Type 0} where
   abbrev pub Finds : List (Table P N) → LookUp P N → Symbol P N → Type 0
-  Finds w l s = (t : Table P N) × IsAt w l.path t × Declares t l.name × (s ≡ record { path = l.path; name = l.name })
+  Finds w l s = (t : Table P N) × IsAt w l.path t × Answers t l Declared × (s ≡ record { path = l.path; name = l.name })
 
-  -- the module asked declares no such name, and asks further by an import that it shows
+  -- the module asked asks further
   abbrev pub Hops : List (Table P N) → LookUp P N → LookUp P N → Type 0
-  Hops w a b =
-      (t : Table P N) × (i : Import P N) × IsAt w a.path t × (Declares t a.name → ⊥) × Imports t a.name i × Shows a.asker a.path i
-      × (b ≡ record { asker = Some a.path; path = i.path; name = i.item })
-
--- by a finite chain of imports
-pub data LeadsTo {P N : Type 0} (w : List (Table P N)) : LookUp P N → Symbol P N → Type 0 where
-  here : (l : LookUp P N) (s : Symbol P N) → Finds w l s → LeadsTo w l s
-  through : (l next : LookUp P N) (s : Symbol P N) → Hops w l next → LeadsTo w next s → LeadsTo w l s
+  Hops w a b = (t : Table P N) × IsAt w a.path t × Answers t a (Next b)
 
 -- no hop or more
 pub data ComesTo {P N : Type 0} (w : List (Table P N)) : LookUp P N → LookUp P N → Type 0 where
@@ -51,17 +43,29 @@ pub data Walk {P N : Type 0} (w : List (Table P N)) (start : LookUp P N) : List 
   step : (met : List (LookUp P N)) (a b : LookUp P N) → Walk w start met a → (HasMet met a → ⊥) → Hops w a b → Walk w start (a ∷ met) b
 
 module _ {P N : Type 0} where
+  -- a walk comes there for the first time
+  abbrev pub Reaches : List (Table P N) → LookUp P N → LookUp P N → Type 0
+  Reaches w l a = (met : List (LookUp P N)) × Walk w l met a × (HasMet met a → ⊥)
+
+  -- and the module answers so
+  abbrev pub EndsWith : List (Table P N) → LookUp P N → LookUp P N → Answer P N → Type 0
+  EndsWith w l a x = Reaches w l a × ((t : Table P N) × IsAt w a.path t × Answers t a x)
+
+  -- a walk comes to the symbol's own module
+  abbrev pub LeadsTo : List (Table P N) → LookUp P N → Symbol P N → Type 0
+  LeadsTo w l s = (a : LookUp P N) × Reaches w l a × Finds w a s
+
   -- a walk comes to a module without that name, or comes to a question for the second time
   abbrev pub IsMissingAt : List (Table P N) → LookUp P N → P → N → Type 0
-  IsMissingAt w l p n =
-      (met : List (LookUp P N)) × (a : LookUp P N) × Walk w l met a × (a.path ≡ p) × (a.name ≡ n)
-      × (((t : Table P N) × IsAt w p t × (Declares t n → ⊥) × ((i : Import P N) → Imports t n i → ⊥)) ⊎ HasMet met a)
+  IsMissingAt w l p n = (a : LookUp P N) × (a.path ≡ p) × (a.name ≡ n) × (EndsWith w l a Missing ⊎ ((met : List (LookUp P N)) × Walk w l met a × HasMet met a))
 
-  -- a walk comes to another module that imports the name, and shows none of these imports
+  -- a walk comes to a module that has unpublished imports of the name alone
   abbrev pub IsPrivateAt : List (Table P N) → LookUp P N → N → P → Type 0
-  IsPrivateAt w l n p =
-      (met : List (LookUp P N)) × (a : LookUp P N) × (t : Table P N) × Walk w l met a × (a.path ≡ p) × (a.name ≡ n)
-      × IsAt w p t × (Declares t n → ⊥) × ((i : Import P N) × Imports t n i) × ((i : Import P N) → Imports t n i → Shows a.asker p i → ⊥)
+  IsPrivateAt w l n p = (a : LookUp P N) × (a.path ≡ p) × (a.name ≡ n) × EndsWith w l a Private
+
+  -- a walk comes to a module in which the name stands for two things
+  abbrev pub IsAmbiguousAt : List (Table P N) → LookUp P N → N → Type 0
+  IsAmbiguousAt w l n = (a : LookUp P N) × (a.name ≡ n) × EndsWith w l a Ambiguous
 
 -- ---- what is reached
 
@@ -74,7 +78,7 @@ pub record Task (P N : Type 0) : Type 0 where
 module _ {P N : Type 0} where
   -- a kept name is asked for from outside
   abbrev pub IsKept : Task P N → LookUp P N → Type 0
-  IsKept task l = (n : N) × Contains task.kept n × (l ≡ record { asker = None; path = task.root; name = n })
+  IsKept task l = (n : N) × Contains task.kept n × (l ≡ record { asker = None; path = task.root; name = n; from = Always })
 
 -- The least sets of entered paths, reached symbols and followed look-ups. The eager link, besides, reaches all
 -- that an entered module declares, and enters the path of each of its imports.

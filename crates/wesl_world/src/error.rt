@@ -5,8 +5,8 @@ use wesl_symbols::ids::{NameId, PathId};
 /// Why a link is refused, where the loader refuses with an `E`.
 #[derive(Drop)]
 pub enum LinkError<E> {
-    /// Two binders of the name in one module have different targets.
-    DuplicateSymbol(NameId),
+    /// Two binders of the name in the module at the path have different targets, and are there at once.
+    DuplicateSymbol(PathId, NameId),
     /// The loader refuses a path that is entered.
     Refused(E),
     /// A look-up ends at a module without the name, or comes to it a second time.
@@ -15,6 +15,10 @@ pub enum LinkError<E> {
     Private(NameId, PathId),
     /// There are more modules than may be.
     ModuleLimit(usize),
+    /// Two targets of the name may be meant where it is used, or where a look-up comes to it.
+    AmbiguousSymbol(NameId),
+    /// A name of the module at the path has several targets, and its conditions name more than 16 flags.
+    TooManyFlags(PathId),
     /// Memory was short.
     Memory,
 }

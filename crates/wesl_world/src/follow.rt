@@ -5,7 +5,7 @@ ghost use Rattle.wesl_symbols.specs.declared.ids.NameId.{NameId};
 ghost use Rattle.wesl_symbols.specs.Tables as tables;
 ghost use Rattle.wesl_symbols.specs.declared.symbols.LookUp.{LookUp};
 ghost use Rattle.wesl_world.specs.World.{IsAt, Hops, HasMet, Followed};
-ghost use Rattle.wesl_world.specs.Answers.{IsAnswer};
+ghost use Rattle.wesl_symbols.specs.Names.{Answers};
 ghost use Rattle.wesl_world.specs.Loader.{OnlyAdds};
 ghost use Rattle.wesl_world.specs.Refusal.{IsExplained};
 ghost use Rattle.wesl_world.specs.Loading.{IsSound, Grows, ArePlaced, CanEnter, IsAnswered, IsWalked, HasFound, world_of, task_at};
@@ -13,21 +13,24 @@ ghost use Rattle.wesl_world.specs.Loading.{IsSound, Grows, ArePlaced, CanEnter, 
 use crate::error::LinkError;
 use crate::load::load;
 use crate::loader::Loader;
-use crate::names::{self, Answer};
 use crate::request::{Loaded, Request, loaded_table};
 use std::alloc::Global;
 use wesl_symbols::ids::{NameId, PathId};
 use wesl_symbols::keyed;
-use wesl_symbols::symbols::{LookUp, Symbol};
+use wesl_symbols::symbols::{Answer, LookUp, Symbol};
 
 /// The answer of the loaded module that is asked.
-fn answer_at(request: &Request, loaded: &Loaded, look_up: LookUp<PathId, NameId>) -> Answer
+fn answer_at(
+    request: &Request,
+    loaded: &Loaded,
+    look_up: LookUp<PathId, NameId>,
+) -> Answer<PathId, NameId>
     requires placed { ArePlaced loaded.now.others.items loaded.now.places.entries }
     requires there { (t : tables.Table PathId NameId) × IsAt (world_of request.now loaded.now) look_up.path t }
-    ensures { (t : tables.Table PathId NameId) × IsAt (world_of request.now loaded.now) look_up.path t × IsAnswer t look_up result }
+    ensures { (t : tables.Table PathId NameId) × IsAt (world_of request.now loaded.now) look_up.path t × Answers t look_up result }
 {
     match loaded_table(request, loaded, look_up.path) {
-        Some(table) => names::answer_of(table, look_up),
+        Some(table) => table.answer(look_up),
         None => unreachable!(),
     }
 }
@@ -64,6 +67,7 @@ fn hop<E, L: Loader<E>>(
         Answer::Next(next) => Ok(Some(next)),
         Answer::Missing => Err(LinkError::MissingDecl(look_up.path, look_up.name)),
         Answer::Private => Err(LinkError::Private(look_up.name, look_up.path)),
+        Answer::Ambiguous => Err(LinkError::AmbiguousSymbol(look_up.name)),
     }
 }
 

@@ -1,6 +1,6 @@
 //! Laws of worlds, of any kind of paths and names.
 ghost use Rattle.wesl_symbols.specs.declared.ids.NameId.{NameId};
-ghost use Rattle.wesl_world.specs.Laws.{OnlyGrows, LeadsToOne, AsksForOne, AreLeast, AreExclusive, WorklistIsEnough};
+ghost use Rattle.wesl_world.specs.Laws.{OnlyGrows, LeadsToOne, AreLeast, AreExclusive, WorklistIsEnough};
 
 use crate::loader::Loader;
 
@@ -9,14 +9,9 @@ pub fn law_of_growth<P, N>()
     ensures { OnlyGrows P N }
 {}
 
-/// A look-up leads to one symbol at most where no name has two targets.
+/// A look-up leads to one symbol at most where a path has one table.
 pub fn law_of_look_ups<P, N>()
     ensures { LeadsToOne P N }
-{}
-
-/// A name without a path asks for one look-up at most where no name has two targets.
-pub fn law_of_names<P, N>()
-    ensures { AsksForOne P N }
 {}
 
 /// What is entered and reached are the least sets that hold their consequences.

@@ -1,12 +1,11 @@
 //! Linking: what a root module reaches.
-ghost use Rattle.std.specs.Prelude.{◌≡◌, ◌↔◌, ◌<◌, ◌∷◌, Some, None, [], true, false, IsTrue, IfSome, IfNone, IfOk, IfErr, Contains};
+ghost use Rattle.std.specs.Prelude.{◌≡◌, ◌↔◌, ◌<◌, ◌∷◌, [], true, false, IsTrue, IfOk, IfErr, Contains};
 ghost use Rattle.wesl_symbols.specs.declared.ids.PathId.{PathId};
 ghost use Rattle.wesl_symbols.specs.declared.ids.NameId.{NameId};
 ghost use Rattle.wesl_symbols.specs.declared.symbols.Symbol.{Symbol};
-ghost use Rattle.wesl_symbols.specs.declared.symbols.LookUp.{LookUp};
-ghost use Rattle.wesl_symbols.specs.Names.{Asks};
+ghost use Rattle.wesl_symbols.specs.Names.{asked_for};
 ghost use Rattle.wesl_world.specs.World.{LeadsTo};
-ghost use Rattle.wesl_world.specs.Faults.{Agrees};
+ghost use Rattle.wesl_world.specs.Faults.{IsAdmitted};
 ghost use Rattle.wesl_world.specs.Linking.{IsLinked, task_of};
 ghost use Rattle.wesl_world.specs.Loader.{IsReady, OnlyAdds};
 ghost use Rattle.wesl_world.specs.Refusal.{IsExplained};
@@ -88,23 +87,20 @@ impl Linked {
         self.symbols.has(Symbol { path, name })
     }
 
-    /// The symbol that a name used in a held declaration of a module stands for (WESL, "Imports"); none where the module
-    /// does not bind it.
+    /// The symbol that what a held declaration of a module asks for stands for (WESL, "Imports").
     pub fn denotes(
         &self,
         table: &Table,
         reference: &Reference<PathId, NameId>,
-    ) -> Option<Symbol<PathId, NameId>>
+    ) -> Symbol<PathId, NameId>
         requires loaded { Contains self.now.tables table.now }
         requires held { StandsHeld self.now table.now reference.now }
-        ensures found { IfSome result (λ s. (l : LookUp PathId NameId) × Asks table.now reference.now l × LeadsTo self.now.tables l s) }
-        ensures every { (l : LookUp PathId NameId) (s : Symbol PathId NameId) → Asks table.now reference.now l → LeadsTo self.now.tables l s → result ≡ Some s }
-        ensures free { IfNone result ((l : LookUp PathId NameId) → Asks table.now reference.now l → ⊥) }
+        ensures found { LeadsTo self.now.tables (asked_for table.now reference.now) result }
+        ensures alone { (s : Symbol PathId NameId) → LeadsTo self.now.tables (asked_for table.now reference.now) s → result ≡ s }
     {
-        let answers = &self.answers;
-        match names::ask(table, reference) {
-            Some(look_up) => keyed::value_at(answers, look_up),
-            None => None,
+        match keyed::value_at(&self.answers, names::ask(table, reference)) {
+            Some(symbol) => symbol,
+            None => unreachable!(),
         }
     }
 }
@@ -119,13 +115,13 @@ fn all_tables(alloc: Global, root: Table, others: &mut Vec<Table>) -> Result<Vec
     Ok(tables)
 }
 
-/// Links a root whose binders agree.
+/// Links a root that is admitted.
 fn link<E, L: Loader<E>>(
     alloc: Global,
     request: Request,
     loader: &mut L,
 ) -> Result<Linked, LinkError<E>>
-    requires agrees { Agrees request.root }
+    requires admitted { IsAdmitted request.root }
     requires ready_paths { IsReady (L.ready loader.old) request.root }
     requires room { 0 < request.max_modules }
     ensures linked { IfOk result (IsLinked (L.hands loader.new) (L.refuses loader.new) request.root (task_of request.root request.kept.items request.is_eager) request.max_modules) }
@@ -172,8 +168,11 @@ fn resolve<E, L: Loader<E>>(
     if max_modules == 0 {
         return Err(LinkError::ModuleLimit(0));
     }
-    if let Some(name) = names::clash(alloc, &root)? {
-        return Err(LinkError::DuplicateSymbol(name));
+    if root.is_crowded() {
+        return Err(LinkError::TooManyFlags(root.path()));
+    }
+    if let Some(name) = names::clash(&root) {
+        return Err(LinkError::DuplicateSymbol(root.path(), name));
     }
     let request = Request {
         root,
@@ -187,8 +186,10 @@ fn resolve<E, L: Loader<E>>(
 /// Loads the modules that the kept names of the root and the const_asserts reach, and no others.
 ///
 /// `loader` hands out each module but the root, once a path at most; no more than `max_modules` are loaded, the root counted.
-/// It is refused where a name has two targets, where the loader refuses a path, where a look-up finds nothing or nothing
-/// that it may see, and where there are more modules than may be (WESL, "Imports" and "Visibility").
+/// It is refused where binders of one name with different targets are there at once, where a name stands for two things
+/// where it is used or where a look-up comes to it, where a module with such a name has more than 16 flags, where the loader
+/// refuses a path, where a look-up finds nothing or nothing that it may see, and where there are more modules than may be
+/// (WESL, "Imports", "Visibility" and "ConditionalTranslation").
 pub fn link_lazily<E, L: Loader<E>>(
     alloc: Global,
     root: Table,

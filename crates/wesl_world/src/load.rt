@@ -19,7 +19,6 @@ use wesl_symbols::table::Table;
 
 /// Adds a module that was handed out at an entered path where none is.
 fn add<E, L: Loader<E>>(
-    alloc: Global,
     request: &Request,
     loaded: &mut Loaded,
     loader: &L,
@@ -36,8 +35,11 @@ fn add<E, L: Loader<E>>(
     ensures there { OnOk result ((t : tables.Table PathId NameId) × IsAt (world_of request.now loaded.new) table.path t) }
     ensures refused { IfErr result (IsExplained (L.hands loader.now) (L.refuses loader.now) request.now.root (task_at request.now) request.now.max_modules) }
 {
-    if let Some(name) = names::clash(alloc, &table)? {
-        return Err(LinkError::DuplicateSymbol(name));
+    if table.is_crowded() {
+        return Err(LinkError::TooManyFlags(table.path()));
+    }
+    if let Some(name) = names::clash(&table) {
+        return Err(LinkError::DuplicateSymbol(table.path(), name));
     }
     keyed::put(&mut loaded.places, table.path(), loaded.others.len())?;
     loaded.others.push(table)?;
@@ -66,7 +68,7 @@ fn fetch<E, L: Loader<E>>(
         return Err(LinkError::ModuleLimit(request.max_modules));
     }
     match loader.load(alloc, path) {
-        Ok(table) => add(alloc, request, loaded, loader, table),
+        Ok(table) => add(request, loaded, loader, table),
         Err(LoadError::Refused(error)) => Err(LinkError::Refused(error)),
         Err(LoadError::Memory) => Err(LinkError::Memory),
     }

@@ -1,130 +1,105 @@
 //! What a name means inside one module.
-ghost use Rattle.std.specs.Prelude.{◌≡◌, ◌↔◌, Some, None, IsTrue, IsFalse, IfSome, IfNone, IfOk, OnOk, Contains};
+ghost use Rattle.std.specs.Prelude.{◌≡◌, ◌↔◌, Some, IsTrue, IsFalse, IfSome, IfNone, IfOk, OnOk, Contains};
 ghost use Rattle.wesl_symbols.specs.declared.ids.PathId.{PathId};
 ghost use Rattle.wesl_symbols.specs.declared.ids.NameId.{NameId};
-ghost use Rattle.wesl_symbols.specs.declared.symbols.Import.{Import};
 ghost use Rattle.wesl_symbols.specs.declared.symbols.LookUp.{LookUp};
-ghost use Rattle.wesl_symbols.specs.Names.{Declares, Asks, AsksUnder, AsksFrom};
-ghost use Rattle.wesl_world.specs.Faults.{Agrees, Clashes, SameTarget, IsOwn};
-ghost use Rattle.wesl_world.specs.Asked.{Gains, AsksIn};
-ghost use Rattle.wesl_world.specs.Answers.{IsAnswer};
+ghost use Rattle.wesl_symbols.specs.Names.{AsksFrom, asked_for};
+ghost use Rattle.wesl_world.specs.Clashing.{IsAlone, IsLikeLast, MeetsDeclaration, MeetsNoDeclaration, MeetsOther, MeetsNoOther};
+ghost use Rattle.wesl_world.specs.Faults.{Clashes, Meet};
+ghost use Rattle.wesl_world.specs.Asked.{Gains, AsksIn, IsUnclearName};
 
 use std::alloc::{AllocError, Global};
-use std::collections::HashMap;
+use wesl_choices::place::Place;
+use wesl_symbols::answer::{is_own, same_target};
 use wesl_symbols::ids::{NameId, PathId};
-use wesl_symbols::keyed;
 use wesl_symbols::symbols::{Import, LookUp, Reference};
 use wesl_symbols::table::{Declaration, Table};
 
-/// What a module answers to a look-up.
-#[derive(Clone, Copy, Drop)]
-pub enum Answer {
-    /// It declares the name.
-    Declared,
-    /// It imports the name, and asks this further.
-    Next(LookUp<PathId, NameId>),
-    /// It has no such name.
-    Missing,
-    /// It imports the name, and does not show that to the asker.
-    Private,
+/// Whether what stands at the two places is there at once for some choice of flags, or one of them always.
+fn meet(table: &Table, first: Place, second: Place) -> bool
+    ensures { IsTrue result ↔ Meet table.now first second }
+{
+    first == Place::Always || table.sees(first, second)
 }
 
-/// Whether the imports are of one item.
-fn same_target(first: &Import<PathId, NameId>, second: &Import<PathId, NameId>) -> bool
-    ensures yes { IsTrue result → SameTarget first.now second.now }
-    ensures no { IsFalse result → SameTarget first.now second.now → ⊥ }
+/// Whether a declaration of the import's name is there at once with it, where the import aims elsewhere.
+fn meets_declaration(table: &Table, import: &Import<PathId, NameId>) -> bool
+    ensures yes { IsTrue result → MeetsDeclaration table.now import.now }
+    ensures no { IsFalse result → MeetsNoDeclaration table.now import.now }
 {
-    first.path == second.path && first.item == second.item
+    let name = Some(import.bound);
+    let mut at = table.latest_of(name);
+    'declarations: while let Some(index) = at {
+        if meet(table, table.declarations()[index].place(), import.place) {
+            return true;
+        }
+        at = table.earlier_of(index, name);
+    }
+    false
 }
 
-/// Whether the import aims at the module's own declaration of its name, where there is one.
-fn keeps_own(table: &Table, import: &Import<PathId, NameId>) -> bool
-    ensures yes { IsTrue result → Declares table.now import.now.bound → IsOwn table.now.path import.now }
-    ensures no { IsFalse result → Declares table.now import.now.bound × (IsOwn table.now.path import.now → ⊥) }
+/// Whether an import of the same name that is there at once has another target.
+fn meets_import(table: &Table, import: &Import<PathId, NameId>) -> bool
+    ensures yes { IsTrue result → MeetsOther table.now import.now }
+    ensures no { IsFalse result → MeetsNoOther table.now import.now }
 {
-    if !table.declares(import.bound) {
+    let mut at = table.latest_import_of(import.bound);
+    'imports: while let Some(index) = at {
+        let other = &table.imports()[index];
+        if meet(table, import.place, other.place) && !same_target(import, other) {
+            return true;
+        }
+        at = table.earlier_import_of(index, import.bound);
+    }
+    false
+}
+
+/// Whether the last import of the name has the target of this one.
+fn agrees_with_last(table: &Table, import: &Import<PathId, NameId>) -> bool
+    ensures { IsTrue result → IsLikeLast table.now import.now }
+{
+    match table.latest_import_of(import.bound) {
+        Some(index) => same_target(import, &table.imports()[index]),
+        None => false,
+    }
+}
+
+/// Whether an import has another target than a binder of its name that is there at once. Only where a name has two targets
+/// are its binders gone over.
+fn clashes(table: &Table, import: &Import<PathId, NameId>) -> bool
+    requires { Contains table.now.imports import.now }
+    ensures yes { IsTrue result → Clashes table.now import.now.bound }
+    ensures no { IsFalse result → IsAlone table.now import.now }
+{
+    if !is_own(table.path(), import) && meets_declaration(table, import) {
         return true;
     }
-    import.path == table.path() && import.item == import.bound
+    !agrees_with_last(table, import) && meets_import(table, import)
 }
 
-/// A name whose binders have different targets (WGSL, "Declaration and Scope").
-pub fn clash(alloc: Global, table: &Table) -> Result<Option<NameId>, AllocError>
-    ensures clash { IfOk result (λ o. IfSome o (λ n. Clashes table.now n)) }
-    ensures none { IfOk result (λ o. IfNone o (Agrees table.now)) }
+/// A name that has binders with different targets that are there at once (WGSL, "Declaration and Scope", and WESL,
+/// "ConditionalTranslation").
+pub fn clash(table: &Table) -> Option<NameId>
+    ensures clash { IfSome result (λ n. Clashes table.now n) }
+    ensures none { IfNone result ((n : NameId) → Clashes table.now n → ⊥) }
 {
-    let mut targets = HashMap::new(alloc);
     for import in table.imports() {
-        if !keeps_own(table, import) {
-            return Ok(Some(import.bound));
-        }
-        match keyed::value_at(&targets, import.bound) {
-            Some(known) => {
-                if !same_target(import, &known) {
-                    return Ok(Some(import.bound));
-                }
-            }
-            None => keyed::put(&mut targets, import.bound, *import)?,
+        if clashes(table, import) {
+            return Some(import.bound);
         }
     }
-    Ok(None)
+    None
 }
 
-/// What a name without a path asks for.
-fn ask_own(table: &Table, name: NameId) -> Option<LookUp<PathId, NameId>>
-    ensures asked { IfSome result (λ l. AsksUnder table.now None name l) }
-    ensures none { IfNone result ((l : LookUp PathId NameId) → AsksUnder table.now None name l → ⊥) }
+/// What a reference asks for.
+pub fn ask(table: &Table, reference: &Reference<PathId, NameId>) -> LookUp<PathId, NameId>
+    ensures { result ≡ asked_for table.now reference.now }
 {
-    let asker = Some(table.path());
-    if table.declares(name) {
-        return Some(LookUp {
-            asker,
-            path: table.path(),
-            name,
-        });
-    }
-    match table.import_of(name) {
-        Some(import) => Some(LookUp {
-            asker,
-            path: import.path,
-            name: import.item,
-        }),
-        None => None,
-    }
-}
-
-/// What a reference asks for; a name that the module does not bind asks for nothing.
-pub fn ask(table: &Table, reference: &Reference<PathId, NameId>) -> Option<LookUp<PathId, NameId>>
-    ensures asked { IfSome result (λ l. Asks table.now reference.now l) }
-    ensures none { IfNone result ((l : LookUp PathId NameId) → Asks table.now reference.now l → ⊥) }
-{
-    match reference.path {
-        Some(path) => Some(LookUp {
-            asker: Some(table.path()),
-            path,
-            name: reference.name,
-        }),
-        None => ask_own(table, reference.name),
-    }
-}
-
-/// The module's answer to a look-up.
-pub fn answer_of(table: &Table, look_up: LookUp<PathId, NameId>) -> Answer
-    ensures { IsAnswer table.now look_up result }
-{
-    if table.declares(look_up.name) {
-        return Answer::Declared;
-    }
-    match table.shown_import(look_up.asker, look_up.name) {
-        Some(import) => Answer::Next(LookUp {
-            asker: Some(table.path()),
-            path: import.path,
-            name: import.item,
-        }),
-        None => match table.import_of(look_up.name) {
-            Some(_) => Answer::Private,
-            None => Answer::Missing,
-        },
+    LookUp {
+        asker: Some(table.path()),
+        path: reference.path,
+        name: reference.name,
+        from: reference.from,
     }
 }
 
@@ -134,14 +109,10 @@ fn add_asked(
     declaration: &Declaration,
     asked: &mut Vec<LookUp<PathId, NameId>>,
 ) -> Result<(), AllocError>
-    requires { Agrees table.now }
     ensures { OnOk result (Gains asked.old.items asked.new.items (AsksIn table.now declaration.now.references)) }
 {
     for reference in declaration.references() {
-        match ask(table, reference) {
-            Some(look_up) => asked.push(look_up)?,
-            None => {}
-        }
+        asked.push(ask(table, reference))?;
     }
     Ok(())
 }
@@ -152,7 +123,6 @@ pub fn asked_from(
     table: &Table,
     name: Option<NameId>,
 ) -> Result<Vec<LookUp<PathId, NameId>>, AllocError>
-    requires { Agrees table.now }
     ensures { IfOk result (λ v. (l : LookUp PathId NameId) → Contains v.items l ↔ AsksFrom table.now name l) }
 {
     let mut asked = Vec::new(alloc);
@@ -162,4 +132,18 @@ pub fn asked_from(
         at = table.earlier_of(index, name);
     }
     Ok(asked)
+}
+
+/// A name used in the declarations of that name that stands for two things, or where there is none, in the const_asserts.
+pub fn unclear_from(table: &Table, name: Option<NameId>) -> Option<NameId>
+    ensures { IsUnclearName table.now name result }
+{
+    let mut at = table.latest_of(name);
+    'declarations: while let Some(index) = at {
+        if let Some(unclear) = table.declarations()[index].unclear().first() {
+            return Some(*unclear);
+        }
+        at = table.earlier_of(index, name);
+    }
+    None
 }

@@ -5,11 +5,11 @@ ghost use Rattle.wesl_symbols.specs.declared.ids.NameId.{NameId};
 ghost use Rattle.wesl_symbols.specs.Tables as tables;
 ghost use Rattle.wesl_symbols.specs.declared.symbols.LookUp.{LookUp};
 ghost use Rattle.wesl_world.specs.World.{IsAt};
-ghost use Rattle.wesl_world.specs.Asked.{AreAsked};
-ghost use Rattle.wesl_world.specs.Faults.{Agrees};
+ghost use Rattle.wesl_world.specs.Asked.{AreAsked, IsUnclearName};
+ghost use Rattle.wesl_world.specs.Faults.{IsAdmitted};
 ghost use Rattle.wesl_world.specs.Loader.{IsReady, OnlyAdds};
 ghost use Rattle.wesl_world.specs.Refusal.{IsExplained};
-ghost use Rattle.wesl_world.specs.Loading.{IsSound, Grows, ArePlaced, AnswersAsserts, AnswersKept, IsDoneIn, IsSymbolDone, ModulesDone, OfModuleAt, SymbolsDone, world_of, task_at};
+ghost use Rattle.wesl_world.specs.Loading.{IsSound, Grows, ArePlaced, HasClearAsserts, AnswersAsserts, AnswersKept, IsDoneIn, IsSymbolDone, ModulesDone, OfModuleAt, SymbolsDone, world_of, task_at};
 
 use crate::eager::{enter_imports, hold_declared};
 use crate::error::LinkError;
@@ -18,6 +18,7 @@ use crate::loader::Loader;
 use crate::names;
 use crate::request::{self, Loaded, Request, loaded_table, table_at};
 use std::alloc::{AllocError, Global};
+use wesl_choices::place::Place;
 use wesl_symbols::ids::{NameId, PathId};
 use wesl_symbols::symbols::{LookUp, Symbol};
 
@@ -28,8 +29,7 @@ fn asked_by_module(
     loaded: &Loaded,
     place: usize,
 ) -> Result<Vec<LookUp<PathId, NameId>>, AllocError>
-    requires within { place < length (world_of request.now loaded.now) }
-    requires agrees { (t : tables.Table PathId NameId) → Contains (world_of request.now loaded.now) t → Agrees t }
+    requires { place < length (world_of request.now loaded.now) }
     ensures { IfOk result (λ v. (t : tables.Table PathId NameId) × (slice_get (world_of request.now loaded.now) place ≡ Some t) × AreAsked t None v.items) }
 {
     let table = table_at(request, loaded, place);
@@ -37,7 +37,15 @@ fn asked_by_module(
     Ok(asked)
 }
 
-/// Answers all that the const_asserts of the module at a place ask for.
+/// A name used in the const_asserts of the module at a place that stands for two things.
+fn unclear_in_module(request: &Request, loaded: &Loaded, place: usize) -> Option<NameId>
+    requires { place < length (world_of request.now loaded.now) }
+    ensures { (t : tables.Table PathId NameId) × (slice_get (world_of request.now loaded.now) place ≡ Some t) × IsUnclearName t None result }
+{
+    names::unclear_from(table_at(request, loaded, place), None)
+}
+
+/// Answers all that the const_asserts of the module at a place ask for, where each name used in them stands for one thing.
 fn answer_asserts<E, L: Loader<E>>(
     alloc: Global,
     request: &Request,
@@ -49,10 +57,14 @@ fn answer_asserts<E, L: Loader<E>>(
     requires within { place < length (world_of request.now loaded.old) }
     ensures sound { OnOk result (IsSound (L.hands loader.new) (L.ready loader.new) request.now loaded.new) }
     ensures grows { OnOk result (Grows loaded.old loaded.new) }
+    ensures clear { OnOk result (OfModuleAt (world_of request.now loaded.old) place HasClearAsserts) }
     ensures answered { OnOk result (OfModuleAt (world_of request.now loaded.old) place (AnswersAsserts loaded.new.answers.entries)) }
     ensures refused { IfErr result (IsExplained (L.hands loader.new) (L.refuses loader.new) request.now.root (task_at request.now) request.now.max_modules) }
     ensures adds { OnlyAdds (L.hands loader.old) (L.refuses loader.old) (L.ready loader.old) (L.hands loader.new) (L.refuses loader.new) (L.ready loader.new) }
 {
+    if let Some(name) = unclear_in_module(request, loaded, place) {
+        return Err(LinkError::AmbiguousSymbol(name));
+    }
     let asked = asked_by_module(alloc, request, loaded, place)?;
     follow_all(alloc, request, loaded, loader, &asked)?;
     Ok(())
@@ -119,7 +131,6 @@ fn asked_by_symbol(
 ) -> Result<Vec<LookUp<PathId, NameId>>, AllocError>
     requires placed { ArePlaced loaded.now.others.items loaded.now.places.entries }
     requires there { (t : tables.Table PathId NameId) × IsAt (world_of request.now loaded.now) symbol.path t }
-    requires agrees { (t : tables.Table PathId NameId) → Contains (world_of request.now loaded.now) t → Agrees t }
     ensures { IfOk result (λ v. (t : tables.Table PathId NameId) × IsAt (world_of request.now loaded.now) symbol.path t × AreAsked t (Some symbol.name) v.items) }
 {
     match loaded_table(request, loaded, symbol.path) {
@@ -131,7 +142,23 @@ fn asked_by_symbol(
     }
 }
 
-/// Takes a reached symbol: all that its declarations ask for is answered.
+/// A name used in the declarations of a symbol that stands for two things.
+fn unclear_in_symbol(
+    request: &Request,
+    loaded: &Loaded,
+    symbol: Symbol<PathId, NameId>,
+) -> Option<NameId>
+    requires placed { ArePlaced loaded.now.others.items loaded.now.places.entries }
+    requires there { (t : tables.Table PathId NameId) × IsAt (world_of request.now loaded.now) symbol.path t }
+    ensures { (t : tables.Table PathId NameId) × IsAt (world_of request.now loaded.now) symbol.path t × IsUnclearName t (Some symbol.name) result }
+{
+    match loaded_table(request, loaded, symbol.path) {
+        Some(table) => names::unclear_from(table, Some(symbol.name)),
+        None => unreachable!(),
+    }
+}
+
+/// Takes a reached symbol: each name used in its declarations stands for one thing, and all that they ask for is answered.
 fn take_symbol<E, L: Loader<E>>(
     alloc: Global,
     request: &Request,
@@ -147,6 +174,9 @@ fn take_symbol<E, L: Loader<E>>(
     ensures refused { IfErr result (IsExplained (L.hands loader.new) (L.refuses loader.new) request.now.root (task_at request.now) request.now.max_modules) }
     ensures adds { OnlyAdds (L.hands loader.old) (L.refuses loader.old) (L.ready loader.old) (L.hands loader.new) (L.refuses loader.new) (L.ready loader.new) }
 {
+    if let Some(name) = unclear_in_symbol(request, loaded, symbol) {
+        return Err(LinkError::AmbiguousSymbol(name));
+    }
     let asked = asked_by_symbol(alloc, request, loaded, symbol)?;
     follow_all(alloc, request, loaded, loader, &asked)?;
     Ok(())
@@ -200,6 +230,7 @@ fn follow_kept<E, L: Loader<E>>(
             asker: None,
             path: request.root.path(),
             name: *name,
+            from: Place::Always,
         };
         follow(alloc, request, loaded, loader, look_up)?;
     }
@@ -219,7 +250,7 @@ pub fn reach_all<E, L: Loader<E>>(
     request: &Request,
     loader: &mut L,
 ) -> Result<Reach, LinkError<E>>
-    requires agrees { Agrees request.now.root }
+    requires admitted { IsAdmitted request.now.root }
     requires ready_paths { IsReady (L.ready loader.old) request.now.root }
     requires room { 0 < request.now.max_modules }
     ensures sound { IfOk result (λ r. IsSound (L.hands loader.new) (L.ready loader.new) request.now r.loaded) }

@@ -1,0 +1,5 @@
+//! Sets of choices of feature flags, and which places of a module some choice keeps together.
+#![tactic(auto)]
+
+pub mod alive;
+pub mod place;
