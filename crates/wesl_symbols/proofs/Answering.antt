@@ -1,11 +1,11 @@
 -- What a module answers, by what its imports were searched for.
-use Rattle.std.proofs.Common.{◌≡◌, inl, inr, ℕ, ◌≤◌, Option, Some, None, IfSome, IfNone, arith, sym, ap, ◌∙◌}
+use Rattle.std.proofs.Common.{◌≡◌, ◌⊎◌, inl, inr, ℕ, ◌≤◌, length, slice_index_or, List, Option, Some, None, IfSome, IfNone, arith, subst, sym, refl, ap, ◌∙◌}
 use Rattle.wesl_symbols.specs.declared.symbols.Answer.TheVariants.{Declared, Next, Missing, Private, Ambiguous}
 use Rattle.wesl_symbols.specs.Tables.{Place, Import, LookUp, Table}
 use Rattle.wesl_symbols.specs.Names.{Imports, SameTarget, IsOwn, Shows, DeclaresTo, IsOpenTo, IsAskedTo, asked_by, Answers}
-use Rattle.wesl_symbols.specs.Index.{Binds}
+use Rattle.wesl_symbols.specs.Index.{Binds, IsLast}
 use Rattle.wesl_symbols.specs.Searching.{IsShownAndSeen, IsRival, IsNoRival, IsNoHigher}
-use Rattle.wesl_symbols.proofs.Indexing.{IsGoneOver, over_all}
+use Rattle.wesl_symbols.proofs.Indexing.{IsGoneOver, over_start, over_index, over_found, over_next, over_all, over_with}
 
 module _ {P N : Type 0} (t : Table P N) (l : LookUp P N) where
   -- ---- the lowest of the imports that were gone over
@@ -15,14 +15,43 @@ module _ {P N : Type 0} (t : Table P N) (l : LookUp P N) where
     pub one : IfSome o (λ i. IsOpenTo t l i)
     pub over : IsGoneOver (Binds l.name) (λ i. IsShownAndSeen t l i → IsNoHigher o i) t.imports at
 
-  pub lowest_asked : (o : Option (Import P N)) → IsLowest None o → IfSome o (λ i. IsAskedTo t l i)
-  lowest_asked None low = tt
-  lowest_asked (Some i) low =
-      (low.one, λ j seen. over_all (Binds l.name) (λ x. IsShownAndSeen t l x → i.order ≤ x.order) t.imports low.over j seen.0.0 seen.0.1 (seen.1, seen.2))
+  pub lowest_asked : (at : Option ℕ) (o : Option (Import P N)) → at ≡ None → IsLowest at o → IfSome o (λ i. IsAskedTo t l i)
+  lowest_asked at None is low = tt
+  lowest_asked at (Some i) is low =
+      (low.one, λ j seen. over_all (Binds l.name) (λ x. IsShownAndSeen t l x → i.order ≤ x.order) t.imports at is low.over j seen.0.0 seen.0.1 (seen.1, seen.2))
 
-  pub lowest_none : (o : Option (Import P N)) → IsLowest None o → IfNone o ((i : Import P N) → IsOpenTo t l i → ⊥)
-  lowest_none None low = λ j seen. over_all (Binds l.name) (λ x. IsShownAndSeen t l x → ⊥) t.imports low.over j seen.0.0 seen.0.1 (seen.1, seen.2)
-  lowest_none (Some i) low = tt
+  pub lowest_none : (at : Option ℕ) (o : Option (Import P N)) → at ≡ None → IsLowest at o → IfNone o ((i : Import P N) → IsOpenTo t l i → ⊥)
+  lowest_none at None is low = λ j seen. over_all (Binds l.name) (λ x. IsShownAndSeen t l x → ⊥) t.imports at is low.over j seen.0.0 seen.0.1 (seen.1, seen.2)
+  lowest_none at (Some i) is low = tt
+
+  pub lowest_start : (at : Option ℕ) (o : Option (Import P N)) → o ≡ None → IsLast (Binds l.name) t.imports (length t.imports) at → IsLowest at o
+  lowest_start at o e last = record {
+    one = subst (λ (q : Option (Import P N)). IfSome q (λ i. IsOpenTo t l i)) (sym e) tt;
+    over = over_start (Binds l.name) (λ i. IsShownAndSeen t l i → IsNoHigher o i) t.imports at last;
+  }
+
+  lower_one : (before o : Option (Import P N)) (x : Import P N) → IfSome before (λ i. IsOpenTo t l i) → Imports t l.name x → IfSome o (λ i. (before ≡ Some i) ⊎ ((i ≡ x) × IsShownAndSeen t l i)) → IfSome o (λ i. IsOpenTo t l i)
+  lower_one before None x one held from = tt
+  lower_one before (Some i) x one held (inl e) = subst (λ (q : Option (Import P N)). IfSome q (λ j. IsOpenTo t l j)) e one
+  lower_one before (Some i) x one held (inr (e, seen)) = (subst (λ (y : Import P N). Imports t l.name y) (sym e) held, seen.0, seen.1)
+
+  no_higher : (before o : Option (Import P N)) → ((i : Import P N) → before ≡ Some i → IsNoHigher o i) → (i : Import P N) → IsNoHigher before i → IsNoHigher o i
+  no_higher None o below i h = absurd h
+  no_higher (Some x) None below i h = absurd (below x refl)
+  no_higher (Some x) (Some y) below i h = let g : y.order ≤ x.order = below x refl in omega arith
+
+  pub lowest_next : (at : Option ℕ) (k : ℕ) (x : Import P N) (next : Option ℕ) (before o : Option (Import P N)) (ys : List (Import P N)) → at ≡ Some k → IsLowest at before → ys ≡ t.imports
+      → IfSome o (λ i. (before ≡ Some i) ⊎ ((i ≡ slice_index_or ys k x) × IsShownAndSeen t l i)) → ((i : Import P N) → before ≡ Some i → IsNoHigher o i)
+      → (IsShownAndSeen t l (slice_index_or ys k x) → IsNoHigher o (slice_index_or ys k x)) → IsLast (Binds l.name) t.imports k next → IsLowest next o
+  lowest_next at k x next before o ys is low e from below here last =
+      let named : Import P N → Type 0 = Binds l.name in
+      let old : Import P N → Type 0 = λ i. IsShownAndSeen t l i → IsNoHigher before i in
+      let new : Import P N → Type 0 = λ i. IsShownAndSeen t l i → IsNoHigher o i in
+      let there = over_index named old t.imports at k ys x is low.over e in
+      record {
+        one = lower_one before o (slice_index_or ys k x) low.one (over_found named old t.imports at k (slice_index_or ys k x) is low.over there) from;
+        over = over_next named new t.imports at k (slice_index_or ys k x) next is (over_with named old new t.imports at (λ i h seen. no_higher before o below i (h seen)) low.over) there here last;
+      }
 
   -- ---- answers
 

@@ -1,13 +1,13 @@
 -- How the indexes of a module are kept as its lists are gone over.
-use Rattle.std.proofs.Common.{◌≡◌, ◌↔◌, ◌⊎◌, inl, inr, ℕ, ◌<◌, ◌≤◌, ◌+◌, Bool, true, false, List, [], ◌∷◌, ◌++◌, length, length-append, below_more, slice_get, Option, Some, None, IfSome, IfNone, IsTrue, is_some, Contains, arith, subst, sym, refl, ap, ◌∙◌}
+use Rattle.std.proofs.Common.{◌≡◌, ◌↔◌, ◌⊎◌, inl, inr, ℕ, ◌<◌, ◌≤◌, ◌+◌, Bool, true, false, List, [], ◌∷◌, ◌++◌, length, length-append, below_more, slice_get, slice_index_or, Option, Some, None, IfSome, IfNone, IsTrue, is_some, Contains, arith, subst, sym, refl, ap, ◌∙◌}
 use Rattle.std.proofs.lemmas.Bool.{cases_lt}
-use Rattle.std.proofs.lemmas.Option.{slice_get_within}
+use Rattle.std.proofs.lemmas.Option.{slice_get_within, slice_get-get_or}
 use Rattle.std.proofs.Math.Nat.{eq-or-lt_of_le}
 use Rattle.wesl_symbols.specs.Keyed.{Puts}
 use Rattle.wesl_symbols.specs.Tables.{Table}
 use Rattle.wesl_symbols.specs.Names.{Declares}
 use Rattle.wesl_symbols.specs.Index.{IsNamed, IsKeyed, HasAt, IsLast, Chains}
-use Rattle.wesl_symbols.proofs.Lists.{contains_nil, one_at, at_push, at_contains, contains_at}
+use Rattle.wesl_symbols.proofs.Lists.{contains_nil, one_at, at_push, at_contains, contains_at, read_at}
 
 module _ {X K : Type 0} (key : X → K) where
   pub chains_start : (ds : List X) (latest : List (K × ℕ)) (earlier : List (Option ℕ)) → latest ≡ [] → earlier ≡ [] → Chains key ds 0 latest earlier
@@ -65,11 +65,23 @@ module _ {X K : Type 0} (key : X → K) where
         let l : length earlier ≡ n = chains.earlier_len in omega arith;
   }
 
+  pub chains_next : (ds : List X) (n : ℕ) (d : X) (o : Option ℕ) (latest fresh : List (K × ℕ)) (earlier longer : List (Option ℕ))
+      → n < length ds → Chains key ds n latest earlier → IsLast (IsKeyed key (key (slice_index_or ds n d))) ds n o → Puts latest (key (slice_index_or ds n d)) n fresh → longer ≡ earlier ++ o ∷ []
+      → Chains key ds (n + 1) fresh longer
+  chains_next ds n d o latest fresh earlier longer b = chains_more ds n (slice_index_or ds n d) o latest fresh earlier longer (slice_get-get_or ds n d b)
+
   -- what a look-up among the last elements tells
   pub last_of : (ds : List X) (n : ℕ) (latest : List (K × ℕ)) (earlier : List (Option ℕ)) (name : K) (o : Option ℕ) → Chains key ds n latest earlier
       → IfSome o (λ i. Contains latest (name, i)) → IfNone o ((i : ℕ) → Contains latest (name, i) → ⊥) → IsLast (IsKeyed key name) ds n o
   last_of ds n latest earlier name None chains some none = λ j b has. let (k, held) = chains.latest_all name j b has in none k held
   last_of ds n latest earlier name (Some i) chains some none = chains.latest_only name i some
+
+  -- what is read at an element of a key
+  pub earlier_at : (ds : List X) (latest : List (K × ℕ)) (earlier : List (Option ℕ)) (name : K) (i : ℕ) (o : Option ℕ) → Chains key ds (length ds) latest earlier → HasAt (IsKeyed key name) ds i
+      → o ≡ slice_index_or earlier i o → IsLast (IsKeyed key name) ds i o
+  earlier_at ds latest earlier name i o chains (x, at, named) is =
+      let b : i < length ds = slice_get_within ds i x at in
+      let l : length earlier ≡ length ds = chains.earlier_len in chains.earlier_is name i o (read_at earlier earlier i o refl (omega arith) is) (x, at, named)
 
   pub chains_all : (xs ys : List X) (i : ℕ) (latest : List (K × ℕ)) (earlier : List (Option ℕ)) → xs ≡ ys → i ≡ length xs → Chains key xs i latest earlier
       → Chains key ys (length ys) latest earlier
@@ -104,32 +116,43 @@ module _ {X : Type 0} (Q R : X → Type 0) (xs : List X) where
   pub over_start : (o : Option ℕ) → IsLast Q xs (length xs) o → IsGoneOver Q R xs o
   over_start o last = (length xs, last, omega arith, λ j x above at q. absurd (let b = slice_get_within xs j x at in omega arith))
 
-  -- the element at the index is there
-  pub over_at : (i : ℕ) → IsGoneOver Q R xs (Some i) → (i < length xs) × HasAt Q xs i
-  over_at i (n, (below, has, none), room, over) = (omega arith, has)
+  pub over_within : (at : Option ℕ) (i : ℕ) → at ≡ Some i → IsGoneOver Q R xs at → i < length xs
+  over_within at i is (n, last, room, over) = let here : IsLast Q xs n (Some i) = subst (λ (q : Option ℕ). IsLast Q xs n q) is last in let b : i < n = here.0 in omega arith
 
-  pub over_smaller : (i : ℕ) (o : Option ℕ) → IsLast Q xs i o → steps o ≤ i
-  over_smaller i None last = omega arith
-  over_smaller i (Some j) last = omega (arith, last.0)
+  -- the element at the index, as it is read in a list that is equal
+  pub over_read : (at : Option ℕ) (i : ℕ) (ys : List X) (x : X) → at ≡ Some i → IsGoneOver Q R xs at → ys ≡ xs → x ≡ slice_index_or ys i x → slice_get xs i ≡ Some x
+  over_read at i ys x is over e read = read_at ys xs i x e (over_within at i is over) read
+
+  pub over_index : (at : Option ℕ) (i : ℕ) (ys : List X) (d : X) → at ≡ Some i → IsGoneOver Q R xs at → ys ≡ xs → slice_get xs i ≡ Some (slice_index_or ys i d)
+  over_index at i ys d is over e = slice_get-get_or xs i d (over_within at i is over) ∙ ap (λ (zs : List X). Some (slice_index_or zs i d)) (sym e)
+
+  -- Q holds of it
+  pub over_found : (at : Option ℕ) (i : ℕ) (x : X) → at ≡ Some i → IsGoneOver Q R xs at → slice_get xs i ≡ Some x → Contains xs x × Q x
+  over_found at i x is (n, last, room, over) there =
+      let here : IsLast Q xs n (Some i) = subst (λ (q : Option ℕ). IsLast Q xs n q) is last in
+      let (y, there2, q) = here.1 in (at_contains xs i x there, subst Q (one_at xs i y x there2 there) q)
 
   -- one more
-  pub over_next : (i : ℕ) (x : X) (o : Option ℕ) → IsGoneOver Q R xs (Some i) → slice_get xs i ≡ Some x → R x → IsLast Q xs i o → IsGoneOver Q R xs o
-  over_next i x o (n, (below, has, none), room, over) at here last = (i, last, omega arith, λ j y above there q. by j y there q (eq-or-lt_of_le above))
+  pub over_next : (at : Option ℕ) (i : ℕ) (x : X) (o : Option ℕ) → at ≡ Some i → IsGoneOver Q R xs at → slice_get xs i ≡ Some x → R x → IsLast Q xs i o → IsGoneOver Q R xs o
+  over_next at i x o is (n, last0, room, over) there here last = by (subst (λ (q : Option ℕ). IsLast Q xs n q) is last0)
     where
-      by : (j : ℕ) (y : X) → slice_get xs j ≡ Some y → Q y → (i ≡ j) ⊎ (i < j) → R y
-      by j y there q (inl same) = subst R (one_at xs i x y at (ap (λ (k : ℕ). slice_get xs k) same ∙ there)) here
-      by j y there q (inr beyond) = elim (cases_lt j n) [
-        | inl within ↦ absurd (none j beyond within (y, there, q))
-        | inr past ↦ over j y past there q
+      from : IsLast Q xs n (Some i) → (j : ℕ) (y : X) → slice_get xs j ≡ Some y → Q y → (i ≡ j) ⊎ (i < j) → R y
+      from last1 j y at2 q (inl same) = subst R (one_at xs i x y there (ap (λ (k : ℕ). slice_get xs k) same ∙ at2)) here
+      from (below, has, none) j y at2 q (inr beyond) = elim (cases_lt j n) [
+        | inl within ↦ absurd (none j beyond within (y, at2, q))
+        | inr past ↦ over j y past at2 q
       ]
 
+      by : IsLast Q xs n (Some i) → IsGoneOver Q R xs o
+      by last1 = (i, last, (let b : i < n = last1.0 in omega arith), λ j y above at2 q. from last1 j y at2 q (eq-or-lt_of_le above))
+
   -- all are gone over
-  pub over_all : IsGoneOver Q R xs None → (x : X) → Contains xs x → Q x → R x
-  over_all (n, none, room, over) x held q = let (j, b, at) = contains_at xs x held in by j at (cases_lt j n)
+  pub over_all : (at : Option ℕ) → at ≡ None → IsGoneOver Q R xs at → (x : X) → Contains xs x → Q x → R x
+  over_all at is (n, last, room, over) x held q = let (j, b, there) = contains_at xs x held in by j there (cases_lt j n)
     where
       by : (j : ℕ) → slice_get xs j ≡ Some x → (j < n) ⊎ (n ≤ j) → R x
-      by j at (inl within) = absurd (none j within (x, at, q))
-      by j at (inr past) = over j x past at q
+      by j there (inl within) = let none : IsLast Q xs n None = subst (λ (o : Option ℕ). IsLast Q xs n o) is last in absurd (none j within (x, there, q))
+      by j there (inr past) = over j x past there q
 
 pub over_with : {X : Type 0} (Q R S : X → Type 0) (xs : List X) (o : Option ℕ) → ((x : X) → R x → S x) → IsGoneOver Q R xs o → IsGoneOver Q S xs o
 over_with Q R S xs o more (n, last, room, over) = (n, last, room, λ j x above at q. more x (over j x above at q))

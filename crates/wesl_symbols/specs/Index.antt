@@ -36,5 +36,5 @@ bound_of i = i.bound
 -- the indexes of a whole module
 pub record IsIndexed {P N : Type 0} (imports : List (Import P N)) (declarations : List (Declaration P N))
     (latest : List (Option N × ℕ)) (earlier : List (Option ℕ)) (latest_import : List (N × ℕ)) (earlier_import : List (Option ℕ)) : Type 0 where
-  pub declarations : Chains name_of declarations (length declarations) latest earlier
-  pub imports : Chains bound_of imports (length imports) latest_import earlier_import
+  pub named : Chains name_of declarations (length declarations) latest earlier
+  pub bound : Chains bound_of imports (length imports) latest_import earlier_import

@@ -1,47 +1,23 @@
 -- What the names used in a module ask for.
-use Rattle.std.proofs.Common.{◌≡◌, ◌↔◌, inl, inr, ℕ, ◌<◌, ◌≤◌, ◌+◌, List, [], ◌∷◌, ◌++◌, length, take, slice_get, slice_index_or, Option, Some, None, IfNone, Contains, arith, subst, sym, ap, ◌∙◌}
+use Rattle.std.proofs.Common.{◌≡◌, ◌↔◌, inl, inr, ℕ, ◌<◌, ◌≤◌, ◌+◌, List, [], ◌∷◌, ◌++◌, length, take, slice_get, slice_index_or, Option, Some, None, Contains, arith, subst, sym, ap, ◌∙◌}
 use Rattle.std.proofs.lemmas.List.Elements.{Contains-push_cases, Contains-append_left, Contains-push}
 use Rattle.std.proofs.lemmas.List.{take_more, take_all}
 use Rattle.std.proofs.lemmas.Option.{slice_get_within}
 use Rattle.std.proofs.lemmas.Bool.{cases_lt}
 use Rattle.std.proofs.Math.Nat.{eq-or-lt_of_le}
-use Rattle.wesl_symbols.specs.declared.symbols.Import.{Import}
 use Rattle.wesl_symbols.specs.declared.symbols.LookUp.{LookUp}
 use Rattle.wesl_symbols.specs.declared.symbols.Reference.{Reference}
 use Rattle.wesl_symbols.specs.Tables.{Declaration, Table}
-use Rattle.wesl_symbols.specs.Names.{Declares, Imports, Asks, AsksUnder, AsksFrom}
-use Rattle.wesl_world.specs.Faults.{Agrees}
+use Rattle.wesl_symbols.specs.Names.{AsksFrom, asked_for}
 use Rattle.wesl_symbols.specs.Index.{IsLast, IsNamed}
 use Rattle.wesl_world.specs.Asked.{Gains, AsksIn}
 use Rattle.wesl_symbols.proofs.Lists.{contains_nil, one_at, at_contains, contains_at}
-use Rattle.wesl_world.proofs.Least.{asks_for_one}
 
 -- some reference in a declaration of that name at n or behind asks for it
 abbrev pub AsksBehind : {P N : Type 0} → Table P N → Option N → ℕ → LookUp P N → Type 0
 AsksBehind {P} {N} t name n l = (i : ℕ) × (n ≤ i) × (d : Declaration P N) × (slice_get t.declarations i ≡ Some d) × (d.name ≡ name) × AsksIn t d.references l
 
--- how many declarations at most are still to be gone over
-abbrev pub steps : Option ℕ → ℕ
-steps None = 0
-steps (Some i) = i + 1
-
 module _ {P N : Type 0} where
-  pub free_name : (t : Table P N) (n : N) → (Declares t n → ⊥) → ((i : Import P N) → Imports t n i → ⊥) → (l : LookUp P N) → AsksUnder t None n l → ⊥
-  free_name t n undeclared unimported l (inl (d, e)) = undeclared d
-  free_name t n undeclared unimported l (inr (_, i, imp, e)) = unimported i imp
-
-  pub free_reference : (t : Table P N) (r : Reference P N) (o : Option (LookUp P N)) → r.path ≡ None → IfNone o ((l : LookUp P N) → AsksUnder t None r.name l → ⊥) → IfNone o ((l : LookUp P N) → Asks t r l → ⊥)
-  free_reference t r None e h = λ l asks. h l (subst (λ (p : Option P). AsksUnder t p r.name l) e asks)
-  free_reference t r (Some l) e h = h
-
-  one_under : (t : Table P N) (p : Option P) (n : N) (l m : LookUp P N) → Agrees t → AsksUnder t p n l → AsksUnder t p n m → l ≡ m
-  one_under t (Some q) n l m a e f = e ∙ sym f
-  one_under t None n l m a e f = asks_for_one t n l m a e f
-
-  -- a reference asks for one look-up at most
-  pub asks_one : (t : Table P N) (r : Reference P N) (l m : LookUp P N) → Agrees t → Asks t r l → Asks t r m → l ≡ m
-  asks_one t r l m a e f = one_under t r.path r.name l m a e f
-
   -- ---- the look-ups of a list of references
 
   pub asked_start : (t : Table P N) (rs : List (Reference P N)) (from : List (LookUp P N)) → Gains from from (AsksIn t (take 0 rs))
@@ -51,46 +27,28 @@ module _ {P N : Type 0} where
     all = λ l (r, held, asks). absurd (contains_nil r held);
   }
 
-  asked_some_by : (t : Table P N) (seen more : List (Reference P N)) (r : Reference P N) (from mid to : List (LookUp P N)) (l : LookUp P N) → Agrees t → more ≡ seen ++ r ∷ []
-      → Gains from mid (AsksIn t seen) → Asks t r l → to ≡ mid ++ l ∷ [] → Gains from to (AsksIn t more)
-  asked_some_by t seen more r from mid to l a e g asks f = record {
+  asked_by_one : (t : Table P N) (seen more : List (Reference P N)) (r : Reference P N) (from mid to : List (LookUp P N)) (l : LookUp P N) → more ≡ seen ++ r ∷ []
+      → Gains from mid (AsksIn t seen) → l ≡ asked_for t r → to ≡ mid ++ l ∷ [] → Gains from to (AsksIn t more)
+  asked_by_one t seen more r from mid to l e g is f = record {
     kept = λ m h. subst (λ (xs : List (LookUp P N)). Contains xs m) (sym f) (Contains-append_left mid (l ∷ []) m (g.kept m h));
     only = λ m h. elim (Contains-push_cases mid l m (subst (λ (xs : List (LookUp P N)). Contains xs m) f h)) [
       | inl old ↦ elim (g.only m old) [
         | inl before ↦ inl before
-        | inr (q, held, asks2) ↦ inr (q, subst (λ (xs : List (Reference P N)). Contains xs q) (sym e) (Contains-append_left seen (r ∷ []) q held), asks2)
+        | inr (q, held, is2) ↦ inr (q, subst (λ (xs : List (Reference P N)). Contains xs q) (sym e) (Contains-append_left seen (r ∷ []) q held), is2)
       ]
-      | inr same ↦ inr (r, subst (λ (xs : List (Reference P N)). Contains xs r) (sym e) (Contains-push seen r), subst (λ (x : LookUp P N). Asks t r x) same asks)
+      | inr same ↦ inr (r, subst (λ (xs : List (Reference P N)). Contains xs r) (sym e) (Contains-push seen r), sym same ∙ is)
     ];
-    all = λ m (q, held, asks2). elim (Contains-push_cases seen r q (subst (λ (xs : List (Reference P N)). Contains xs q) e held)) [
-      | inl old ↦ subst (λ (xs : List (LookUp P N)). Contains xs m) (sym f) (Contains-append_left mid (l ∷ []) m (g.all m (q, old, asks2)))
+    all = λ m (q, held, is2). elim (Contains-push_cases seen r q (subst (λ (xs : List (Reference P N)). Contains xs q) e held)) [
+      | inl old ↦ subst (λ (xs : List (LookUp P N)). Contains xs m) (sym f) (Contains-append_left mid (l ∷ []) m (g.all m (q, old, is2)))
       | inr same ↦
-          (let is : l ≡ m = asks_one t r l m a asks (subst (λ (x : Reference P N). Asks t x m) (sym same) asks2) in
-          subst (λ (xs : List (LookUp P N)). Contains xs m) (sym f) (subst (λ (x : LookUp P N). Contains (mid ++ l ∷ []) x) is (Contains-push mid l)))
+          (let one : l ≡ m = is ∙ (ap (λ (x : Reference P N). asked_for t x) same ∙ sym is2) in
+          subst (λ (xs : List (LookUp P N)). Contains xs m) (sym f) (subst (λ (x : LookUp P N). Contains (mid ++ l ∷ []) x) one (Contains-push mid l)))
     ];
   }
 
-  asked_none_by : (t : Table P N) (seen more : List (Reference P N)) (r : Reference P N) (from to : List (LookUp P N)) → more ≡ seen ++ r ∷ []
-      → Gains from to (AsksIn t seen) → ((l : LookUp P N) → Asks t r l → ⊥) → Gains from to (AsksIn t more)
-  asked_none_by t seen more r from to e g free = record {
-    kept = g.kept;
-    only = λ m h. elim (g.only m h) [
-      | inl before ↦ inl before
-      | inr (q, held, asks) ↦ inr (q, subst (λ (xs : List (Reference P N)). Contains xs q) (sym e) (Contains-append_left seen (r ∷ []) q held), asks)
-    ];
-    all = λ m (q, held, asks). elim (Contains-push_cases seen r q (subst (λ (xs : List (Reference P N)). Contains xs q) e held)) [
-      | inl old ↦ g.all m (q, old, asks)
-      | inr same ↦ absurd (free m (subst (λ (x : Reference P N). Asks t x m) (sym same) asks))
-    ];
-  }
-
-  pub asked_some : (t : Table P N) (rs : List (Reference P N)) (i : ℕ) (d : Reference P N) (from mid to : List (LookUp P N)) (l : LookUp P N) → Agrees t → i < length rs
-      → Gains from mid (AsksIn t (take i rs)) → Asks t (slice_index_or rs i d) l → to ≡ mid ++ l ∷ [] → Gains from to (AsksIn t (take (i + 1) rs))
-  asked_some t rs i d from mid to l a b g asks f = asked_some_by t (take i rs) (take (i + 1) rs) (slice_index_or rs i d) from mid to l a (take_more rs i d b) g asks f
-
-  pub asked_none : (t : Table P N) (rs : List (Reference P N)) (i : ℕ) (d : Reference P N) (from to : List (LookUp P N)) → i < length rs
-      → Gains from to (AsksIn t (take i rs)) → ((l : LookUp P N) → Asks t (slice_index_or rs i d) l → ⊥) → Gains from to (AsksIn t (take (i + 1) rs))
-  asked_none t rs i d from to b g free = asked_none_by t (take i rs) (take (i + 1) rs) (slice_index_or rs i d) from to (take_more rs i d b) g free
+  pub asked_more : (t : Table P N) (rs : List (Reference P N)) (i : ℕ) (d : Reference P N) (from mid to : List (LookUp P N)) (l : LookUp P N) → i < length rs
+      → Gains from mid (AsksIn t (take i rs)) → l ≡ asked_for t (slice_index_or rs i d) → to ≡ mid ++ l ∷ [] → Gains from to (AsksIn t (take (i + 1) rs))
+  asked_more t rs i d from mid to l b g is f = asked_by_one t (take i rs) (take (i + 1) rs) (slice_index_or rs i d) from mid to l (take_more rs i d b) g is f
 
   pub asked_all : (t : Table P N) (rs qs : List (Reference P N)) (i : ℕ) (from to : List (LookUp P N)) → rs ≡ qs → length rs ≤ i → Gains from to (AsksIn t (take i rs)) → Gains from to (AsksIn t qs)
   asked_all t rs qs i from to e b g = subst (λ (xs : List (Reference P N)). Gains from to (AsksIn t xs)) (take_all i rs b ∙ e) g

@@ -3,27 +3,25 @@ use Rattle.std.proofs.Common.{◌≡◌, ◌↔◌, ◌⊎◌, inl, inr, ℕ, tr
 use Rattle.std.proofs.lemmas.List.Elements.{Contains-push_cases, Contains-append_left, Contains-push}
 use Rattle.wesl_symbols.specs.declared.ids.PathId.{PathId}
 use Rattle.wesl_symbols.specs.declared.ids.NameId.{NameId}
-use Rattle.wesl_world.specs.declared.names.Answer.TheVariants.{Next, Missing, Private as Hidden}
+use Rattle.wesl_symbols.specs.declared.symbols.Answer.TheVariants.{Declared, Next, Missing, Private as Hidden, Ambiguous}
 use Rattle.wesl_world.specs.declared.request.Request.{Request}
 use Rattle.wesl_world.specs.declared.request.Loaded.{Loaded}
 use Rattle.wesl_symbols.specs.Keyed.{Puts, PutsKey}
 use Rattle.wesl_symbols.specs.declared.symbols.LookUp.{LookUp}
 use Rattle.wesl_symbols.specs.declared.symbols.Symbol.{Symbol}
 use Rattle.wesl_symbols.specs.Tables.{Table}
-use Rattle.wesl_symbols.specs.Names.{Declares}
-use Rattle.wesl_world.specs.World.{IsAt, Hops, HasMet, Finds, LeadsTo, Walk, Task, Entered, Reached, Followed}
-use Rattle.wesl_world.specs.World.LeadsTo.{here, through}
+use Rattle.wesl_symbols.specs.Names.{Answers}
+use Rattle.wesl_world.specs.World.{IsAt, Hops, HasMet, Finds, LeadsTo, Reaches, Walk, Task, Entered, Reached, Followed}
 use Rattle.wesl_world.specs.World.Walk.{begin, step}
 use Rattle.wesl_world.specs.World.Entered.{asked}
 use Rattle.wesl_world.specs.World.Reached.{led_to}
-use Rattle.wesl_world.specs.Faults.{missing, private, Explained}
-use Rattle.wesl_world.specs.Answers.{IsAnswer}
+use Rattle.wesl_world.specs.Faults.{missing, private, ambiguous, Explained}
 use Rattle.wesl_world.specs.Loader.{OnlyAdds}
 use Rattle.wesl_world.specs.Laws.{Within}
 use Rattle.std.proofs.lemmas.List.{append-nil}
 use Rattle.wesl_world.specs.Loading.{GoesOn, IsSoundIn, CanEnter, IsAnswered, IsWalked, HasFound, symbol_of, Grows, world_of}
 use Rattle.wesl_symbols.proofs.Lists.{contains_first, contains_later, contains_cases}
-use Rattle.wesl_world.proofs.Growth.{walk_more, followed_more, at_more}
+use Rattle.wesl_world.proofs.Growth.{walk_more, reaches_more, followed_more, at_more}
 use Rattle.wesl_world.proofs.Exclusive.{walk_comes}
 use Rattle.wesl_world.proofs.Growing.{within_on, within_cons, goes_on_itself, goes_on_trans}
 
@@ -42,24 +40,20 @@ puts_on old new k (inr (fresh, e)) = (k ∷ [], e)
 
 module _ {P N : Type 0} where
   pub walked_more : {w v : List (Table P N)} (task : Task P N) (l : LookUp P N) → Within w v → IsWalked w task l → IsWalked v task l
-  walked_more task l more (start, met, f, walk) = (start, met, followed_more more start f, walk_more more start met l walk)
+  walked_more task l more (start, f, reaches) = (start, followed_more more start f, reaches_more more start l reaches)
 
   pub walked_enters : {w : List (Table P N)} {task : Task P N} (l : LookUp P N) → IsWalked w task l → Entered w task l.path
-  walked_enters l (start, met, f, walk) = asked start l l.path f (walk_comes start met l walk) refl
+  walked_enters l (start, f, (met, walk, new)) = asked start l l.path f (walk_comes start met l walk) refl
 
-  pub leads_back : {w : List (Table P N)} (start : LookUp P N) (met : List (LookUp P N)) (l : LookUp P N) (s : Symbol P N) → Walk w start met l → LeadsTo w l s → LeadsTo w start s
-  leads_back {w} start met l s (begin _ e) r = subst (λ (x : LookUp P N). LeadsTo w x s) e r
-  leads_back start met l s (step before b _ walk new h) r = leads_back start before b s walk (through b l s h r)
+  pub walked_reaches : {w : List (Table P N)} {task : Task P N} (l : LookUp P N) (t : Table P N) → IsWalked w task l → IsAt w l.path t → Answers t l Declared → Reached w task (symbol_of l)
+  walked_reaches l t (start, f, reaches) at d = led_to start (symbol_of l) f (l, reaches, (t, at, d, refl))
 
-  pub walked_reaches : {w : List (Table P N)} {task : Task P N} (l : LookUp P N) (t : Table P N) → IsWalked w task l → IsAt w l.path t → Declares t l.name → Reached w task (symbol_of l)
-  walked_reaches l t (start, met, f, walk) at d = led_to start (symbol_of l) f (leads_back start met l (symbol_of l) walk (here l (symbol_of l) (t, at, d, refl)))
-
-  pub found_by : (w : List (Table P N)) (ss : List (Symbol P N)) (l : LookUp P N) (t : Table P N) → IsAt w l.path t → Declares t l.name → Contains ss (symbol_of l) → HasFound w ss l
+  pub found_by : (w : List (Table P N)) (ss : List (Symbol P N)) (l : LookUp P N) (t : Table P N) → IsAt w l.path t → Answers t l Declared → Contains ss (symbol_of l) → HasFound w ss l
   found_by w ss l t at d held = ((t, at, d, refl), held)
 
   pub next_can : {hands : P → Table P N → Type 0} {ready : P → Type 0} {root : Table P N} {task : Task P N} {limit : ℕ} {others : List (Table P N)} {ss : List (Symbol P N)} {places : List (P × ℕ)}
       {answers : List (LookUp P N × Symbol P N)} → IsSoundIn hands ready root task limit others ss places answers → (l n : LookUp P N) → Hops (root ∷ others) l n → CanEnter ready (root ∷ others) n.path
-  next_can {ready = ready} s l n (t, i, at, undeclared, imp, shows, e) = inl (subst (λ (x : LookUp P N). ready x.path) (sym e) ((s.asks_ready t at.0).imports i imp.0))
+  next_can {ready = ready} s l n (t, at, (none, alike, (i, asked, is), all)) = inl (subst (λ (x : LookUp P N). ready x.path) (sym is) ((s.asks_ready t at.0).imports i asked.0.0.0))
 
   -- ---- the trail of a look-up
 
@@ -69,8 +63,8 @@ module _ {P N : Type 0} where
     walk = ([], begin l refl, λ b. (λ h. h, λ h. h));
   }
 
-  pub trail_walked : {w : List (Table P N)} {task : Task P N} {start current : LookUp P N} {trail : List (LookUp P N)} → IsTrail w task start trail current → IsWalked w task current
-  trail_walked {start = start} t = let (met, walk, same) = t.walk in (start, met, t.followed, walk)
+  pub trail_walked : {w : List (Table P N)} {task : Task P N} {start current : LookUp P N} {trail : List (LookUp P N)} → IsTrail w task start trail current → (HasMet trail current → ⊥) → IsWalked w task current
+  trail_walked {start = start} t new = let (met, walk, same) = t.walk in (start, t.followed, (met, walk, λ (b, held, q). new (b, (same b).0 held, q)))
 
   pub trail_more : {w v : List (Table P N)} {task : Task P N} {start current : LookUp P N} {trail : List (LookUp P N)} → Within w v → IsTrail w task start trail current → IsTrail v task start trail current
   trail_more {start = start} {current} more t = record {
@@ -102,10 +96,10 @@ module _ {P N : Type 0} where
       }
 
   -- where its end is found, the start leads there
-  pub trail_leads : {w v : List (Table P N)} {task : Task P N} {start current : LookUp P N} {trail : List (LookUp P N)} → Within w v → IsTrail w task start trail current
+  pub trail_leads : {w v : List (Table P N)} {task : Task P N} {start current : LookUp P N} {trail : List (LookUp P N)} → Within w v → IsTrail w task start trail current → (HasMet trail current → ⊥)
       → Finds v current (symbol_of current) → LeadsTo v start (symbol_of current)
-  trail_leads {start = start} {current} more t finds =
-      let (met, walk, same) = t.walk in leads_back start met current (symbol_of current) (walk_more more start met current walk) (here current (symbol_of current) finds)
+  trail_leads {start = start} {current} more t new finds =
+      let (met, walk, same) = t.walk in (current, (met, walk_more more start met current walk, λ (b, held, q). new (b, (same b).0 held, q)), finds)
 
   -- the trail comes to a question that stands in it
   pub ring_refused : {E : Type 0} {hands : P → Table P N → Type 0} {ready : P → Type 0} {root : Table P N} {task : Task P N} {limit : ℕ} {others : List (Table P N)} {ss : List (Symbol P N)} {places : List (P × ℕ)}
@@ -114,48 +108,21 @@ module _ {P N : Type 0} where
       → Explained hands refuses root task limit (missing current.path current.name)
   ring_refused {root = root} {others = others} {start = start} {current} refuses s t (b, held, q) =
       let (met, walk, same) = t.walk in
-      (root ∷ others, s.world, (start, t.followed, (met, current, walk, refl, refl, inr (b, (same b).1 held, q))))
+      (root ∷ others, s.world, (start, t.followed, (current, refl, refl, inr (met, walk, (b, (same b).1 held, q)))))
 
 module _ {E : Type 0} {hands : PathId → Table PathId NameId → Type 0} {ready : PathId → Type 0} {root : Table PathId NameId} {task : Task PathId NameId} {limit : ℕ} {others : List (Table PathId NameId)}
     {ss : List (Symbol PathId NameId)} {places : List (PathId × ℕ)} {answers : List (LookUp PathId NameId × Symbol PathId NameId)} (refuses : PathId → E → Type 0) (l : LookUp PathId NameId) (t : Table PathId NameId) where
-  pub missing_refused : IsSoundIn hands ready root task limit others ss places answers → IsWalked (root ∷ others) task l → IsAt (root ∷ others) l.path t → IsAnswer t l Missing
+  pub missing_refused : IsSoundIn hands ready root task limit others ss places answers → IsWalked (root ∷ others) task l → IsAt (root ∷ others) l.path t → Answers t l Missing
       → Explained hands refuses root task limit (missing l.path l.name)
-  missing_refused s (start, met, f, walk) at (undeclared, unimported) =
-      (root ∷ others, s.world, (start, f, (met, l, walk, refl, refl, inl (t, at, undeclared, unimported))))
+  missing_refused s (start, f, reaches) at answer = (root ∷ others, s.world, (start, f, (l, refl, refl, inl (reaches, (t, at, answer)))))
 
-  pub private_refused : IsSoundIn hands ready root task limit others ss places answers → IsWalked (root ∷ others) task l → IsAt (root ∷ others) l.path t → IsAnswer t l Hidden
+  pub private_refused : IsSoundIn hands ready root task limit others ss places answers → IsWalked (root ∷ others) task l → IsAt (root ∷ others) l.path t → Answers t l Hidden
       → Explained hands refuses root task limit (private l.name l.path)
-  private_refused s (start, met, f, walk) at (undeclared, imported, hidden) = (
-    root ∷ others,
-    s.world,
-    (
-      start,
-      f,
-      (
-        met,
-        l,
-        t,
-        walk,
-        refl,
-        refl,
-        at,
-        undeclared,
-        imported,
-        λ i imp shows. hidden i imp (subst (λ (p : PathId). (i.published ≡ true) ⊎ (l.asker ≡ Some p)) (sym at.1) shows),
-      ),
-    ),
-  )
+  private_refused s (start, f, reaches) at answer = (root ∷ others, s.world, (start, f, (l, refl, refl, (reaches, (t, at, answer)))))
 
-pub hops_by : (w : List (Table PathId NameId)) (l n : LookUp PathId NameId) (t : Table PathId NameId) → IsAt w l.path t → IsAnswer t l (Next n) → Hops w l n
-hops_by w l n t at (undeclared, i, imp, shows, is) = (
-  t,
-  i,
-  at,
-  undeclared,
-  imp,
-  subst (λ (p : PathId). (i.published ≡ true) ⊎ (l.asker ≡ Some p)) at.1 shows,
-  subst (λ (p : PathId). n ≡ record { asker = Some p; path = i.path; name = i.item }) at.1 is,
-)
+  pub ambiguous_refused : IsSoundIn hands ready root task limit others ss places answers → IsWalked (root ∷ others) task l → IsAt (root ∷ others) l.path t → Answers t l Ambiguous
+      → Explained hands refuses root task limit (ambiguous l.name)
+  ambiguous_refused s (start, f, reaches) at answer = (root ∷ others, s.world, inr (inr (start, f, (l, refl, (reaches, (t, at, answer))))))
 
 pub can_more : {P N E : Type 0} {a b : P → Table P N → Type 0} {d e : P → E → Type 0} {i j : P → Type 0} {w v : List (Table P N)} (p : P) → OnlyAdds a d i b e j → Within w v → CanEnter i w p → CanEnter j v p
 can_more p adds more (inl can) = inl (adds.ready p can)

@@ -1,10 +1,16 @@
 -- Lemmas on lists and their places.
 use Rattle.std.proofs.Common.{◌≡◌, ◌⊎◌, inl, inr, ℕ, zero, suc, ◌<◌, ◌≤◌, ◌+◌, Some, List, [], ◌∷◌, ◌++◌, length, map, slice_get, slice_index_or, length-append, Contains, All, arith, refl, subst, sym, ap, ◌∙◌}
 use Rattle.std.proofs.lemmas.List.Elements.{Contains-append_cases, Contains-append_left, Contains-append_right}
-use Rattle.std.proofs.lemmas.Option.{slice_get_read}
 use Rattle.wesl_symbols.proofs.Lists.{contains_nil, contains_first, contains_later, contains_cases}
 use Rattle.wesl_world.specs.Faults.{AreDistinct}
 use Rattle.wesl_world.specs.Faults.AreDistinct.{one_more as one_distinct}
+
+-- two numbers are the same, or one is below the other
+pub order : (x y : ℕ) → (x ≡ y) ⊎ ((x < y) ⊎ (y < x))
+order zero zero = inl refl
+order zero (suc y) = inr (inl (omega arith))
+order (suc x) zero = inr (inr (omega arith))
+order (suc x) (suc y) = elim (order x y) [ inl e ↦ inl (ap suc e) | inr e ↦ elim e [ inl f ↦ inr (inl (omega arith)) | inr f ↦ inr (inr (omega arith)) ] ]
 
 pub contains_one : {X : Type 0} (x y : X) → Contains (x ∷ []) y → x ≡ y
 contains_one x y h = elim (contains_cases x y [] h) [ inl e ↦ e | inr t ↦ absurd (contains_nil y t) ]
@@ -64,9 +70,6 @@ pub contains_at_place : {X : Type 0} (xs : List X) (i : ℕ) → i < length xs �
 contains_at_place [] i b = absurd (omega arith)
 contains_at_place (x ∷ xs) zero b = (x, b, refl)
 contains_at_place (x ∷ xs) (suc i) b = let (y, c, at) = contains_at_place xs i (omega arith) in (y, b, at)
-
-pub read_at : {X : Type 0} (xs ys : List X) (i : ℕ) (x : X) → xs ≡ ys → i < length ys → x ≡ slice_index_or xs i x → slice_get ys i ≡ Some x
-read_at {X} xs ys i x e b is = slice_get_read ys (length ys) i x refl b (is ∙ ap (λ (zs : List X). slice_index_or zs i x) e)
 
 pub last_place : {X : Type 0} (xs : List X) (x : X) → slice_get (xs ++ x ∷ []) (length xs) ≡ Some x
 last_place [] x = refl

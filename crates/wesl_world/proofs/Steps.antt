@@ -1,5 +1,5 @@
 -- What each step of the loading keeps, and what its refusals mean.
-use Rattle.std.proofs.Common.{◌≡◌, ◌⊎◌, inl, inr, ℕ, ◌<◌, ◌≤◌, ◌+◌, List, [], ◌∷◌, ◌++◌, length, length-append, map, slice_get, Some, Contains, arith, subst, sym, refl, ap, ◌∙◌}
+use Rattle.std.proofs.Common.{◌≡◌, ◌⊎◌, inl, inr, ℕ, ◌<◌, ◌≤◌, ◌+◌, true, List, [], ◌∷◌, ◌++◌, length, length-append, map, slice_get, Some, Contains, arith, subst, sym, refl, ap, ◌∙◌}
 use Rattle.std.proofs.lemmas.List.Elements.{Contains-append_left, Contains-push, Contains-push_cases}
 use Rattle.wesl_symbols.specs.Keyed.{Puts, PutsKey}
 use Rattle.wesl_symbols.specs.declared.symbols.LookUp.{LookUp}
@@ -7,7 +7,7 @@ use Rattle.wesl_symbols.specs.declared.symbols.Symbol.{Symbol}
 use Rattle.wesl_symbols.specs.Tables.{Table}
 use Rattle.wesl_world.specs.World.{IsAt, IsWorld, LeadsTo, Task, Entered, Reached}
 use Rattle.wesl_world.specs.World.Entered.{root as root_entered}
-use Rattle.wesl_world.specs.Faults.{AreDistinct, Agrees, Clashes, duplicate, refused, too_many, Explained}
+use Rattle.wesl_world.specs.Faults.{AreDistinct, IsAdmitted, Clashes, duplicate, refused, too_many, too_many_flags, Explained}
 use Rattle.wesl_world.specs.Faults.AreDistinct.{none, one_more as one_distinct}
 use Rattle.wesl_world.specs.Linking.{paths}
 use Rattle.wesl_world.specs.Loader.{IsReady, OnlyAdds}
@@ -57,15 +57,15 @@ module _ {P N : Type 0} where
   -- a link begins with the root alone
   pub sound_start : (hands : P → Table P N → Type 0) (ready : P → Type 0) (root : Table P N) (task : Task P N) (limit : ℕ) (others : List (Table P N)) (ss : List (Symbol P N))
       (places : List (P × ℕ)) (answers : List (LookUp P N × Symbol P N)) → others ≡ [] → ss ≡ [] → places ≡ [] → answers ≡ []
-      → task.root ≡ root.path → Agrees root → IsReady ready root → 0 < limit → IsSoundIn hands ready root task limit others ss places answers
-  sound_start hands ready root task limit others ss places answers e f g h root_is agrees can room =
+      → task.root ≡ root.path → IsAdmitted root → IsReady ready root → 0 < limit → IsSoundIn hands ready root task limit others ss places answers
+  sound_start hands ready root task limit others ss places answers e f g h root_is admitted can room =
       subst (λ (xs : List (Table P N)). IsSoundIn hands ready root task limit xs ss places answers) (sym e)
       (subst (λ (xs : List (Symbol P N)). IsSoundIn hands ready root task limit [] xs places answers) (sym f)
       (subst (λ (xs : List (P × ℕ)). IsSoundIn hands ready root task limit [] [] xs answers) (sym g)
       (subst (λ (xs : List (LookUp P N × Symbol P N)). IsSoundIn hands ready root task limit [] [] [] xs) (sym h) record {
         root_is = root_is;
         world = world_alone hands root;
-        agrees = λ t h. subst Agrees (contains_one root t h) agrees;
+        admitted = λ t h. subst (λ (x : Table P N). IsAdmitted x) (contains_one root t h) admitted;
         distinct = one_distinct root.path [] (λ h. contains_nil root.path h) none;
         asks_ready = λ t h. subst (λ (x : Table P N). IsReady ready x) (contains_one root t h) can;
         entered = λ t h. root_entered t.path (sym (ap (λ (x : Table P N). x.path) (contains_one root t h)) ∙ sym root_is);
@@ -105,11 +105,11 @@ module _ {P N : Type 0} {hands : P → Table P N → Type 0} {ready : P → Type
       handed = λ t h. elim (s.world.handed t h) [ inl e ↦ inl e | inr given ↦ inr (adds.hands t.path t given) ];
       one_table = s.world.one_table;
     };
-    agrees = s.agrees;
+    admitted = s.admitted;
     distinct = s.distinct;
     asks_ready = λ t h. record {
       imports = λ i held. adds.ready i.path ((s.asks_ready t h).imports i held);
-      references = λ d r p in_t in_d e. adds.ready p ((s.asks_ready t h).references d r p in_t in_d e);
+      references = λ d r in_t in_d. adds.ready r.path ((s.asks_ready t h).references d r in_t in_d);
     };
     entered = s.entered;
     room = s.room;
@@ -123,14 +123,14 @@ module _ {P N : Type 0} {hands : P → Table P N → Type 0} {ready : P → Type
   -- one more module
   pub sound_table : (places2 : List (P × ℕ)) (added : Table P N) (n : ℕ) → n ≡ length others → IsSoundIn hands ready root task limit others ss places answers
       → hands added.path added → IsReady ready added → Entered (root ∷ others) task added.path → ((x : Table P N) → IsAt (root ∷ others) added.path x → ⊥)
-      → length (root ∷ others) < limit → Agrees added → Puts places added.path n places2
+      → length (root ∷ others) < limit → IsAdmitted added → Puts places added.path n places2
       → IsSoundIn hands ready root task limit (others ++ added ∷ []) ss places2 answers
-  sound_table places2 added n is s given can entered absent room agrees put =
+  sound_table places2 added n is s given can entered absent room admitted put =
       let more : Within (root ∷ others) (root ∷ others ++ added ∷ []) = within_push (root ∷ others) added in
       record {
         root_is = s.root_is;
         world = world_more hands root (root ∷ others) added s.world given absent;
-        agrees = λ t h. elim (Contains-push_cases (root ∷ others) added t h) [ inl k ↦ s.agrees t k | inr e ↦ subst Agrees e agrees ];
+        admitted = λ t h. elim (Contains-push_cases (root ∷ others) added t h) [ inl k ↦ s.admitted t k | inr e ↦ subst (λ (x : Table P N). IsAdmitted x) e admitted ];
         distinct = subst AreDistinct (sym (map_append (λ (t : Table P N). t.path) (root ∷ others) (added ∷ [])))
             (distinct_push (paths (root ∷ others)) added.path s.distinct (λ h. (let (t, at) = table_of_path (root ∷ others) added.path h in absent t at)));
         asks_ready = λ t h. elim (Contains-push_cases (root ∷ others) added t h) [ inl k ↦ s.asks_ready t k | inr e ↦ subst (λ (x : Table P N). IsReady ready x) e can ];
@@ -153,7 +153,7 @@ module _ {P N : Type 0} {hands : P → Table P N → Type 0} {ready : P → Type
   sound_symbol ss2 added s reached place (inr (new, e)) = subst (λ (xs : List (Symbol P N)). IsSoundIn hands ready root task limit others xs places answers) (sym e) record {
     root_is = s.root_is;
     world = s.world;
-    agrees = s.agrees;
+    admitted = s.admitted;
     distinct = s.distinct;
     asks_ready = s.asks_ready;
     entered = s.entered;
@@ -171,7 +171,7 @@ module _ {P N : Type 0} {hands : P → Table P N → Type 0} {ready : P → Type
   sound_answer answers2 l x s leads held put = record {
     root_is = s.root_is;
     world = s.world;
-    agrees = s.agrees;
+    admitted = s.admitted;
     distinct = s.distinct;
     asks_ready = s.asks_ready;
     entered = s.entered;
@@ -194,6 +194,15 @@ module _ {P N : Type 0} {hands : P → Table P N → Type 0} {ready : P → Type
     root ∷ others ++ added ∷ [],
     world_more hands root (root ∷ others) added s.world given absent,
     (added, Contains-push (root ∷ others) added, entered_more (within_push (root ∷ others) added) added.path entered, clash),
+  )
+
+  -- a module with a split name and many flags stands as a fault
+  pub crowd_refused : {E : Type 0} (refuses : P → E → Type 0) (added : Table P N) → IsSoundIn hands ready root task limit others ss places answers → hands added.path added
+      → Entered (root ∷ others) task added.path → ((x : Table P N) → IsAt (root ∷ others) added.path x → ⊥) → added.is_crowded ≡ true → Explained hands refuses root task limit (too_many_flags added.path)
+  crowd_refused refuses added s given entered absent crowded = (
+    root ∷ others ++ added ∷ [],
+    world_more hands root (root ∷ others) added s.world given absent,
+    (added, (Contains-push (root ∷ others) added, refl), entered_more (within_push (root ∷ others) added) added.path entered, crowded),
   )
 
   -- the modules and one more entered path are more than may be loaded

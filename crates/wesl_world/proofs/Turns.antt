@@ -1,5 +1,5 @@
 -- What the worklist keeps as it goes on, and what it has when it ends.
-use Rattle.std.proofs.Common.{◌≡◌, ◌↔◌, inl, inr, ℕ, false, true≢false, ◌≤◌, ◌+◌, Option, Some, None, List, ◌∷◌, length, take, slice_get, Contains, arith, subst, sym, refl, ap, ◌∙◌}
+use Rattle.std.proofs.Common.{◌≡◌, ◌↔◌, inl, inr, ℕ, ◌≤◌, ◌+◌, Option, Some, None, List, ◌∷◌, length, take, slice_get, Contains, arith, subst, sym, refl, ap, ◌∙◌}
 use Rattle.std.proofs.lemmas.List.{take_all}
 use Rattle.wesl_symbols.specs.declared.ids.PathId.{PathId}
 use Rattle.wesl_symbols.specs.declared.ids.NameId.{NameId}
@@ -8,9 +8,10 @@ use Rattle.wesl_world.specs.declared.request.Loaded.{Loaded}
 use Rattle.wesl_symbols.specs.declared.symbols.LookUp.{LookUp}
 use Rattle.wesl_symbols.specs.declared.symbols.Symbol.{Symbol}
 use Rattle.wesl_symbols.specs.Tables.{Table}
-use Rattle.wesl_symbols.specs.Names.{AsksUnder, AsksFrom}
+use Rattle.wesl_symbols.specs.Names.{AsksFrom, IsUnclearFrom}
 use Rattle.wesl_world.specs.World.{IsAt, Task, Entered, Followed}
 use Rattle.wesl_world.specs.World.Followed.{by_assert, by_symbol}
+use Rattle.wesl_world.specs.Faults.{ambiguous, Explained}
 use Rattle.wesl_world.specs.Laws.{Within, IsSettled, Settles}
 use Rattle.wesl_world.specs.Linking.{Linking, IsLinked}
 use Rattle.wesl_world.specs.Loading.{IsSoundIn, IsSound, IsAnswered, CanEnter, IsModuleDone, IsSymbolDone, ModulesDone, SymbolsDone, Grows, kept_look_up, world_of, task_at}
@@ -24,17 +25,11 @@ use Rattle.wesl_world.proofs.Settled.{entered_at, reached_held, no_fault}
 
 module _ {P N : Type 0} {hands : P → Table P N → Type 0} {ready : P → Type 0} {root : Table P N} {task : Task P N} {limit : ℕ} {others : List (Table P N)} {ss : List (Symbol P N)} {places : List (P × ℕ)}
     {answers : List (LookUp P N × Symbol P N)} where
-  can_under : (t : Table P N) (p : Option P) (n : N) (l : LookUp P N) → IsSoundIn hands ready root task limit others ss places answers → Contains (root ∷ others) t
-      → ((q : P) → p ≡ Some q → ready q) → AsksUnder t p n l → CanEnter ready (root ∷ others) l.path
-  can_under t (Some q) n l s held is_ready e = inl (subst (λ (x : LookUp P N). ready x.path) (sym e) (is_ready q refl))
-  can_under t None n l s held is_ready (inl (d, e)) = inr (t, (held, sym (ap (λ (x : LookUp P N). x.path) e)))
-  can_under t None n l s held is_ready (inr (undeclared, i, imp, e)) = inl (subst (λ (x : LookUp P N). ready x.path) (sym e) ((s.asks_ready t held).imports i imp.0))
-
   -- what a loaded module asks for may be asked
   pub asked_can : (t : Table P N) (name : Option N) (l : LookUp P N) → IsSoundIn hands ready root task limit others ss places answers → Contains (root ∷ others) t → AsksFrom t name l
       → CanEnter ready (root ∷ others) l.path
-  asked_can t name l s held (r, (d, in_table, named, in_d), asks) =
-      can_under t r.path r.name l s held (λ q e. (s.asks_ready t held).references d r q in_table in_d e) asks
+  asked_can t name l s held (r, (d, in_table, named, in_d), is) =
+      inl (subst (λ (x : LookUp P N). ready x.path) (sym is) ((s.asks_ready t held).references d r in_table in_d))
 
   pub module_followed : (t : Table P N) (l : LookUp P N) → IsSoundIn hands ready root task limit others ss places answers → Contains (root ∷ others) t → AsksFrom t None l → Followed (root ∷ others) task l
   module_followed t l s held asks = by_assert t.path t l (s.entered t held) (held, refl) asks
@@ -43,18 +38,30 @@ module _ {P N : Type 0} {hands : P → Table P N → Type 0} {ready : P → Type
       → AsksFrom t (Some x.name) l → Followed (root ∷ others) task l
   symbol_followed x t l s held at asks = by_symbol x t l (s.reached x held) at asks
 
-pub module_done : {P N : Type 0} (w : List (Table P N)) (task : Task P N) (ss : List (Symbol P N)) (answers : List (LookUp P N × Symbol P N)) (t : Table P N) (asked : List (LookUp P N)) → task.is_eager ≡ false
-    → ((l : LookUp P N) → Contains asked l ↔ AsksFrom t None l) → ((l : LookUp P N) → Contains asked l → IsAnswered answers l) → IsModuleDone w task ss answers t
-module_done w task ss answers t asked lazy is answered = record {
-  asserts = λ l asks. answered l ((is l).1 asks);
-  imports = λ eager. absurd (true≢false (sym eager ∙ lazy));
-  declares = λ eager. absurd (true≢false (sym eager ∙ lazy));
-}
+module _ {P N E : Type 0} {hands : P → Table P N → Type 0} {ready : P → Type 0} {root : Table P N} {task : Task P N} {limit : ℕ} {others : List (Table P N)} {ss : List (Symbol P N)} {places : List (P × ℕ)}
+    {answers : List (LookUp P N × Symbol P N)} (refuses : P → E → Type 0) where
+  -- a name that stands for two things where it is used stands as a fault
+  pub module_unclear : (t : Table P N) (n : N) → IsSoundIn hands ready root task limit others ss places answers → Contains (root ∷ others) t → IsUnclearFrom t None n
+      → Explained hands refuses root task limit (ambiguous n)
+  module_unclear t n s held unclear = (root ∷ others, s.world, inl (t, held, s.entered t held, unclear))
+
+  pub symbol_unclear : (x : Symbol P N) (t : Table P N) (n : N) → IsSoundIn hands ready root task limit others ss places answers → Contains ss x → IsAt (root ∷ others) x.path t
+      → IsUnclearFrom t (Some x.name) n → Explained hands refuses root task limit (ambiguous n)
+  symbol_unclear x t n s held at unclear = (root ∷ others, s.world, inr (inl (x, t, s.reached x held, at, unclear)))
+
+-- two modules of one path are one
+pub clear_in : {P N : Type 0} (w : List (Table P N)) (x : Symbol P N) (t u : Table P N) → ((a b : Table P N) → Contains w a → Contains w b → a.path ≡ b.path → a ≡ b) → IsAt w x.path t → IsAt w x.path u
+    → ((n : N) → IsUnclearFrom u (Some x.name) n → ⊥) → (n : N) → IsUnclearFrom t (Some x.name) n → ⊥
+clear_in {P} {N} w x t u one at at2 clear n unclear = clear n (subst (λ (y : Table P N). IsUnclearFrom y (Some x.name) n) (one t u at.0 at2.0 (at.1 ∙ sym at2.1)) unclear)
 
 pub symbol_done : {P N : Type 0} (w v : List (Table P N)) (answers : List (LookUp P N × Symbol P N)) (x : Symbol P N) (t : Table P N) (asked : List (LookUp P N))
     → ((a b : Table P N) → Contains v a → Contains v b → a.path ≡ b.path → a ≡ b) → Within w v → IsAt w x.path t
-    → ((l : LookUp P N) → Contains asked l ↔ AsksFrom t (Some x.name) l) → ((l : LookUp P N) → Contains asked l → IsAnswered answers l) → IsSymbolDone v answers x
-symbol_done {P} {N} w v answers x t asked one more at is answered = record {
+    → ((n : N) → IsUnclearFrom t (Some x.name) n → ⊥) → ((l : LookUp P N) → Contains asked l ↔ AsksFrom t (Some x.name) l) → ((l : LookUp P N) → Contains asked l → IsAnswered answers l) → IsSymbolDone v answers x
+symbol_done {P} {N} w v answers x t asked one more at clear is answered = record {
+  clear = λ u n at2 unclear.
+      (let at3 : IsAt v x.path t = at_more more x.path t at in
+      let same : u ≡ t = one u t at2.0 at3.0 (at2.1 ∙ sym at3.1) in
+      clear n (subst (λ (y : Table P N). IsUnclearFrom y (Some x.name) n) same unclear));
   asks = λ u l at2 asks.
       (let at3 : IsAt v x.path t = at_more more x.path t at in
       let same : u ≡ t = one u t at2.0 at3.0 (at2.1 ∙ sym at3.1) in
@@ -66,6 +73,7 @@ symbol_done {P} {N} w v answers x t asked one more at is answered = record {
 module_on : (r : Request) (a b : Loaded) (t : Table PathId NameId) → Grows a b → IsModuleDone (world_of r a) (task_at r) a.symbols.keys a.answers.entries t
     → IsModuleDone (world_of r b) (task_at r) b.symbols.keys b.answers.entries t
 module_on r a b t g done = record {
+  clear = done.clear;
   asserts = λ l asks. g.answers l (done.asserts l asks);
   imports = λ eager i held. (let (u, at) = done.imports eager i held in (u, at_more (world_on r a b g) i.path u at));
   declares = λ eager n d. (within_on a.symbols.keys b.symbols.keys g.symbols).held (record { path = t.path; name = n }) (done.declares eager n d);
@@ -84,6 +92,10 @@ modules_next r a b n t g at done here =
 symbol_on : {hands : PathId → Table PathId NameId → Type 0} {ready : PathId → Type 0} (r : Request) (a b : Loaded) (x : Symbol PathId NameId) → IsSound hands ready r b → Grows a b
     → ((t : Table PathId NameId) × IsAt (world_of r a) x.path t) → IsSymbolDone (world_of r a) a.answers.entries x → IsSymbolDone (world_of r b) b.answers.entries x
 symbol_on r a b x s g (t, at) done = record {
+  clear = λ u n at2 unclear.
+      (let at3 : IsAt (world_of r b) x.path t = at_more (world_on r a b g) x.path t at in
+      let same : u ≡ t = s.world.one_table u t at2.0 at3.0 (at2.1 ∙ sym at3.1) in
+      done.clear t n at (subst (λ (y : Table PathId NameId). IsUnclearFrom y (Some x.name) n) same unclear));
   asks = λ u l at2 asks.
       (let at3 : IsAt (world_of r b) x.path t = at_more (world_on r a b g) x.path t at in
       let same : u ≡ t = s.world.one_table u t at2.0 at3.0 (at2.1 ∙ sym at3.1) in
@@ -110,7 +122,7 @@ all_done {X} Q xs done x h = done x (subst (λ (ys : List X). Contains ys x) (sy
 pub kept_by : {hands : PathId → Table PathId NameId → Type 0} {ready : PathId → Type 0} (r : Request) (s : Loaded) → IsSound hands ready r s → ModulesDone r s (length (world_of r s))
     → SymbolsDone r s (length s.symbols.keys) → IsKept (world_of r s) s.symbols.keys s.answers.entries
 kept_by r s sound modules symbols = record {
-  clear = record { one_table = sound.world.one_table; agrees = sound.agrees };
+  clear = record { one_table = sound.world.one_table };
   answered = λ l x h. (sound.answered l x h).0;
   asserts = λ t l h asks. (all_done (λ (u : Table PathId NameId). IsModuleDone (world_of r s) (task_at r) s.symbols.keys s.answers.entries u) (world_of r s) modules t h).asserts l asks;
   symbols = λ x t l h at asks. (all_done (λ (y : Symbol PathId NameId). IsSymbolDone (world_of r s) s.answers.entries y) s.symbols.keys symbols x h).asks t l at asks;
@@ -128,6 +140,9 @@ settled_by r s sound kept modules symbols =
     let done = all_done (λ (u : Table PathId NameId). IsModuleDone (world_of r s) (task_at r) s.symbols.keys s.answers.entries u) (world_of r s) modules in
     record {
       clear = k.clear;
+      admitted = sound.admitted;
+      clear_asserts = λ t n h unclear. (done t h).clear n unclear;
+      clear_symbols = λ x t n h at unclear. (all_done (λ (y : Symbol PathId NameId). IsSymbolDone (world_of r s) s.answers.entries y) s.symbols.keys symbols x h).clear t n at unclear;
       root_at = (r.root, (sound.world.root_in, refl));
       kept = λ l (n, held, e). subst (λ (m : LookUp PathId NameId). Settles (world_of r s) s.symbols.keys m) (sym e) (settles r s sound (kept_look_up r.root.path n) (kept n held));
       asserts = λ t l h asks. settles r s sound l (k.asserts t l h asks);

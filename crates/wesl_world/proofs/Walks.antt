@@ -8,18 +8,13 @@ use Rattle.wesl_world.specs.World.ComesTo.{stays, hops}
 use Rattle.wesl_world.specs.World.Walk.{begin, step}
 use Rattle.wesl_world.specs.Laws.{IsClear, LeadsToOne}
 use Rattle.wesl_symbols.proofs.Once.{once}
+use Rattle.wesl_world.proofs.Lists.{order}
 
 split : (x y : ℕ) → x ≤ y → (x ≡ y) ⊎ (x < y)
 split zero zero e = inl refl
 split zero (suc y) e = inr (omega arith)
 split (suc x) zero e = absurd (omega arith)
 split (suc x) (suc y) e = elim (split x y (omega arith)) [ inl f ↦ inl (ap suc f) | inr f ↦ inr (omega arith) ]
-
-order : (x y : ℕ) → (x ≡ y) ⊎ ((x < y) ⊎ (y < x))
-order zero zero = inl refl
-order zero (suc y) = inr (inl (omega arith))
-order (suc x) zero = inr (inr (omega arith))
-order (suc x) (suc y) = elim (order x y) [ inl e ↦ inl (ap suc e) | inr e ↦ elim e [ inl f ↦ inr (inl (omega arith)) | inr f ↦ inr (inr (omega arith)) ] ]
 
 module _ {P N : Type 0} (w : List (Table P N)) (clear : IsClear w) where
   same_at : (p : P) (t u : Table P N) → IsAt w p t → IsAt w p u → u ≡ t

@@ -10,9 +10,13 @@ module _ {P N : Type 0} where
   abbrev pub IsLikeLast : Table P N → Import P N → Type 0
   IsLikeLast t i = (k : ℕ) × (j : Import P N) × IsLast (Binds i.bound) t.imports (length t.imports) (Some k) × (slice_get t.imports k ≡ Some j) × SameTarget i j
 
+  -- they are there at once, and have different targets
+  abbrev pub AreApart : Table P N → Import P N → Import P N → Type 0
+  AreApart t i j = Meet t i.place j.place × (SameTarget i j → ⊥)
+
   -- an import of its name that is there at once has another target
   abbrev pub MeetsOther : Table P N → Import P N → Type 0
-  MeetsOther t i = (j : Import P N) × Imports t i.bound j × Meet t i.place j.place × (SameTarget i j → ⊥)
+  MeetsOther t i = (j : Import P N) × Imports t i.bound j × AreApart t i j
 
   -- each import of its name that is there at once has its target
   abbrev pub MeetsNoOther : Table P N → Import P N → Type 0

@@ -1,10 +1,10 @@
 //! What a name means inside one module.
-ghost use Rattle.std.specs.Prelude.{◌≡◌, ◌↔◌, Some, IsTrue, IsFalse, IfSome, IfNone, IfOk, OnOk, Contains};
+ghost use Rattle.std.specs.Prelude.{◌≡◌, ◌⊎◌, ◌↔◌, Some, IsTrue, IsFalse, IfSome, IfNone, IfOk, OnOk, Contains};
 ghost use Rattle.wesl_symbols.specs.declared.ids.PathId.{PathId};
 ghost use Rattle.wesl_symbols.specs.declared.ids.NameId.{NameId};
 ghost use Rattle.wesl_symbols.specs.declared.symbols.LookUp.{LookUp};
-ghost use Rattle.wesl_symbols.specs.Names.{AsksFrom, asked_for};
-ghost use Rattle.wesl_world.specs.Clashing.{IsAlone, IsLikeLast, MeetsDeclaration, MeetsNoDeclaration, MeetsOther, MeetsNoOther};
+ghost use Rattle.wesl_symbols.specs.Names.{SameTarget, IsOwn, AsksFrom, asked_for};
+ghost use Rattle.wesl_world.specs.Clashing.{AreApart, IsAlone, IsLikeLast, MeetsDeclaration, MeetsNoDeclaration, MeetsOther, MeetsNoOther};
 ghost use Rattle.wesl_world.specs.Faults.{Clashes, Meet};
 ghost use Rattle.wesl_world.specs.Asked.{Gains, AsksIn, IsUnclearName};
 
@@ -22,20 +22,31 @@ fn meet(table: &Table, first: Place, second: Place) -> bool
     first == Place::Always || table.sees(first, second)
 }
 
-/// Whether a declaration of the import's name is there at once with it, where the import aims elsewhere.
+/// Whether a declaration of the import's name is there at once with it.
 fn meets_declaration(table: &Table, import: &Import<PathId, NameId>) -> bool
     ensures yes { IsTrue result → MeetsDeclaration table.now import.now }
     ensures no { IsFalse result → MeetsNoDeclaration table.now import.now }
 {
-    let name = Some(import.bound);
-    let mut at = table.latest_of(name);
+    let mut at = table.latest_of(Some(import.bound));
     'declarations: while let Some(index) = at {
         if meet(table, table.declarations()[index].place(), import.place) {
             return true;
         }
-        at = table.earlier_of(index, name);
+        at = table.earlier_of(index, Some(import.bound));
     }
     false
+}
+
+/// Whether two imports are there at once and have different targets.
+fn are_apart(
+    table: &Table,
+    first: &Import<PathId, NameId>,
+    second: &Import<PathId, NameId>,
+) -> bool
+    ensures yes { IsTrue result → AreApart table.now first.now second.now }
+    ensures no { IsFalse result → Meet table.now first.now.place second.now.place → SameTarget first.now second.now }
+{
+    meet(table, first.place, second.place) && !same_target(first, second)
 }
 
 /// Whether an import of the same name that is there at once has another target.
@@ -45,8 +56,7 @@ fn meets_import(table: &Table, import: &Import<PathId, NameId>) -> bool
 {
     let mut at = table.latest_import_of(import.bound);
     'imports: while let Some(index) = at {
-        let other = &table.imports()[index];
-        if meet(table, import.place, other.place) && !same_target(import, other) {
+        if are_apart(table, import, &table.imports()[index]) {
             return true;
         }
         at = table.earlier_import_of(index, import.bound);
@@ -64,17 +74,32 @@ fn agrees_with_last(table: &Table, import: &Import<PathId, NameId>) -> bool
     }
 }
 
-/// Whether an import has another target than a binder of its name that is there at once. Only where a name has two targets
-/// are its binders gone over.
+/// Whether a declaration of the import's name is there at once with it, and the import aims elsewhere. Only where the import
+/// aims elsewhere are the declarations gone over.
+fn clashes_with_declaration(table: &Table, import: &Import<PathId, NameId>) -> bool
+    ensures yes { IsTrue result → (IsOwn table.now.path import.now → ⊥) × MeetsDeclaration table.now import.now }
+    ensures no { IsFalse result → IsOwn table.now.path import.now ⊎ MeetsNoDeclaration table.now import.now }
+{
+    !is_own(table.path(), import) && meets_declaration(table, import)
+}
+
+/// Whether another import of the name is there at once with it, and has another target. Only where the name has imports with
+/// two targets are they gone over.
+fn clashes_with_import(table: &Table, import: &Import<PathId, NameId>) -> bool
+    ensures yes { IsTrue result → MeetsOther table.now import.now }
+    ensures no { IsFalse result → IsLikeLast table.now import.now ⊎ MeetsNoOther table.now import.now }
+{
+    !agrees_with_last(table, import) && meets_import(table, import)
+}
+
+/// Whether an import has another target than a binder of its name that is there at once.
+#[tactic(auto, using(crate::proofs::Clashing::clash_declared, crate::proofs::Clashing::clash_imported))]
 fn clashes(table: &Table, import: &Import<PathId, NameId>) -> bool
     requires { Contains table.now.imports import.now }
     ensures yes { IsTrue result → Clashes table.now import.now.bound }
     ensures no { IsFalse result → IsAlone table.now import.now }
 {
-    if !is_own(table.path(), import) && meets_declaration(table, import) {
-        return true;
-    }
-    !agrees_with_last(table, import) && meets_import(table, import)
+    clashes_with_declaration(table, import) || clashes_with_import(table, import)
 }
 
 /// A name that has binders with different targets that are there at once (WGSL, "Declaration and Scope", and WESL,
@@ -134,14 +159,26 @@ pub fn asked_from(
     Ok(asked)
 }
 
+/// The first name used in a declaration that stands for two things.
+fn first_unclear(declaration: &Declaration) -> Option<NameId>
+    ensures found { IfSome result (λ n. Contains declaration.now.unclear n) }
+    ensures none { IfNone result ((n : NameId) → Contains declaration.now.unclear n → ⊥) }
+{
+    let unclear = declaration.unclear();
+    if unclear.is_empty() {
+        return None;
+    }
+    Some(unclear[0])
+}
+
 /// A name used in the declarations of that name that stands for two things, or where there is none, in the const_asserts.
 pub fn unclear_from(table: &Table, name: Option<NameId>) -> Option<NameId>
     ensures { IsUnclearName table.now name result }
 {
     let mut at = table.latest_of(name);
     'declarations: while let Some(index) = at {
-        if let Some(unclear) = table.declarations()[index].unclear().first() {
-            return Some(*unclear);
+        if let Some(unclear) = first_unclear(&table.declarations()[index]) {
+            return Some(unclear);
         }
         at = table.earlier_of(index, name);
     }

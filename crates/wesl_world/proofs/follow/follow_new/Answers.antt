@@ -14,7 +14,7 @@ hops-init g c = record {
 }
 
 pub hop-requires-clause-walked : goal.hop-requires-clause-walked
-hop-requires-clause-walked g c = trail_walked c.hops.invariant.trail
+hop-requires-clause-walked g c = trail_walked c.hops.invariant.trail (λ (b, held, q). true≢false (sym (c.met.ensures.1 (b, rw c.deref.ensures.value held, q)) ∙ c.if-met.false))
 
 pub hops-preserved : goal.hops-preserved
 hops-preserved g c = record {
@@ -34,7 +34,8 @@ returns-then-met-clause-refused g c =
 pub returns-in-None-clause-sound : goal.returns-in-None-clause-sound
 returns-in-None-clause-sound g c =
     let (finds, held) = rw c.in-None.is at c.in_ok-next.ensures.found in
-    sound_answer _ c.args.start _ c.in_ok-next.ensures.sound (trail_leads (world_on c.args.request.now _ _ c.in_ok-next.ensures.grows) c.hops.invariant.trail finds) held c.in_ok-put-in-None.ensures
+    sound_answer _ c.args.start _ c.in_ok-next.ensures.sound (trail_leads (world_on c.args.request.now _ _ c.in_ok-next.ensures.grows) c.hops.invariant.trail
+    (λ (b, held, q). true≢false (sym (c.met.ensures.1 (b, rw c.deref.ensures.value held, q)) ∙ c.if-met.false)) finds) held c.in_ok-put-in-None.ensures
 
 pub returns-in-None-clause-grows : goal.returns-in-None-clause-grows
 returns-in-None-clause-grows g c =

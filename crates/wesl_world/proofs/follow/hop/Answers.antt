@@ -1,6 +1,6 @@
 use Rattle.wesl_world.specs.Loading.{world_of, task_at}
 use Rattle.wesl_world.proofs.Steps.{sound_symbol}
-use Rattle.wesl_world.proofs.Following.{world_on, walked_more, walked_enters, walked_reaches, found_by, puts_has, next_can, hops_by, missing_refused, private_refused}
+use Rattle.wesl_world.proofs.Following.{world_on, walked_more, walked_enters, walked_reaches, found_by, puts_has, next_can, missing_refused, private_refused, ambiguous_refused}
 use Rattle.wesl_world.proofs.follow.hop.Goals as goal
 
 pub load-requires-clause-entered : goal.load-requires-clause-entered
@@ -21,7 +21,7 @@ returns-in_ok-put-in-Declared-clause-found g c =
 pub returns-in-Next-clause-can : goal.returns-in-Next-clause-can
 returns-in-Next-clause-can g c =
     let (t, at, answer) = c.in-Next.ensures in
-    next_can c.in_ok-load.ensures.sound c.args.look_up c.in-Next.next (hops_by (world_of c.args.request.now c.load.new.loaded) c.args.look_up c.in-Next.next t at answer)
+    next_can c.in_ok-load.ensures.sound c.args.look_up c.in-Next.next (t, at, answer)
 
 pub returns-in-Missing-clause-refused : goal.returns-in-Missing-clause-refused
 returns-in-Missing-clause-refused g c =
@@ -33,4 +33,10 @@ pub returns-in-Private-clause-refused : goal.returns-in-Private-clause-refused
 returns-in-Private-clause-refused g c =
     let (t, at, answer) = c.in-Private.ensures in
     private_refused (g.L.Loader.refuses c.load.new.loader) c.args.look_up t c.in_ok-load.ensures.sound
+    (walked_more (task_at c.args.request.now) c.args.look_up (world_on c.args.request.now _ _ c.in_ok-load.ensures.grows) c.requires.walked) at answer
+
+pub returns-in-Ambiguous-clause-refused : goal.returns-in-Ambiguous-clause-refused
+returns-in-Ambiguous-clause-refused g c =
+    let (t, at, answer) = c.in-Ambiguous.ensures in
+    ambiguous_refused (g.L.Loader.refuses c.load.new.loader) c.args.look_up t c.in_ok-load.ensures.sound
     (walked_more (task_at c.args.request.now) c.args.look_up (world_on c.args.request.now _ _ c.in_ok-load.ensures.grows) c.requires.walked) at answer

@@ -1,5 +1,5 @@
 use Rattle.std.proofs.Common.{◌≡◌, Some, slice_get, subst, Option, ℕ, arith}
-use Rattle.wesl_world.proofs.Lists.{read_at}
+use Rattle.wesl_symbols.proofs.Lists.{read_at}
 use Rattle.wesl_symbols.specs.Index.{IsLast, IsNamed}
 use Rattle.wesl_world.proofs.Asking.{behind_start, behind_next, behind_all}
 use Rattle.wesl_world.proofs.names.asked_from.Goals as goal

@@ -1,7 +1,8 @@
 use Rattle.std.proofs.Common.{◌≤◌, ℕ, length, []}
 use Rattle.wesl_symbols.specs.Index.{IsLast, IsNamed}
 use Rattle.wesl_world.specs.Asked.{Gains}
-use Rattle.wesl_world.proofs.Asking.{AsksBehind, steps}
+use Rattle.wesl_symbols.proofs.Indexing.{steps}
+use Rattle.wesl_world.proofs.Asking.{AsksBehind}
 use Rattle.wesl_world.proofs.names.asked_from.Given as goal
 
 abbrev pub invariant-declarations : goal.invariant-declarations

@@ -1,6 +1,6 @@
 use Rattle.std.proofs.Common.{◌≡◌, length, ◌<◌, refl, true, sym, ◌∙◌, true≢false, rules}
 use Rattle.std.proofs.lemmas.Option.{slice_get_within}
-use Rattle.wesl_world.proofs.Lists.{read_at}
+use Rattle.wesl_symbols.proofs.Lists.{read_at}
 use Rattle.wesl_world.proofs.Placing.{placed_at, unplaced}
 use Rattle.wesl_world.proofs.request.loaded_table.Goals as goal
 

@@ -1,6 +1,6 @@
 use Rattle.wesl_world.specs.Loading.{world_of}
 use Rattle.wesl_world.proofs.Following.{world_on}
-use Rattle.wesl_world.proofs.Turns.{asked_can, symbol_followed, symbol_done}
+use Rattle.wesl_world.proofs.Turns.{asked_can, symbol_followed, symbol_unclear, clear_in, symbol_done}
 use Rattle.wesl_world.proofs.run.take_symbol.Goals as goal
 
 pub asked_by_symbol-requires-clause-there : goal.asked_by_symbol-requires-clause-there
@@ -18,6 +18,15 @@ follow_all-requires-clause-can g c =
 
 pub returns-clause-done : goal.returns-clause-done
 returns-clause-done g c =
+    let (u, at2, clear) = c.in_default.ensures in
     let (t, at, is) = c.in_ok-asked.ensures in
     symbol_done (world_of c.args.request.now c.args.loaded.now) _ _ c.args.symbol t c.in_ok-asked.asked.items c.in_ok-follow_all.ensures.sound.world.one_table
-    (world_on c.args.request.now _ _ c.in_ok-follow_all.ensures.grows) at is (λ l h. c.in_ok-follow_all.ensures.answered l (rw c.deref.ensures.value h))
+    (world_on c.args.request.now _ _ c.in_ok-follow_all.ensures.grows) at
+    (clear_in (world_of c.args.request.now c.args.loaded.now) c.args.symbol t u c.requires.sound.world.one_table at at2 clear) is (λ l h. c.in_ok-follow_all.ensures.answered l (rw c.deref.ensures.value h))
+
+pub unclear_in_symbol-requires-clause-there : goal.unclear_in_symbol-requires-clause-there
+unclear_in_symbol-requires-clause-there g c = c.requires.sound.at c.args.symbol c.requires.held
+
+pub returns-in-Some-clause-refused : goal.returns-in-Some-clause-refused
+returns-in-Some-clause-refused g c =
+    let (t, at, unclear) = c.in-Some.ensures in symbol_unclear (g.L.Loader.refuses c.args.loader.now) c.args.symbol t c.in-Some.name c.requires.sound c.requires.held at unclear

@@ -1,12 +1,16 @@
-use Rattle.wesl_world.proofs.Ends.{denoted_every, denoted_free, kept_in}
+use Rattle.wesl_symbols.specs.Names.{asked_for}
+use Rattle.wesl_world.proofs.Ends.{has_answer, answer_is, kept_in}
 use Rattle.wesl_world.proofs.link.Linked.denotes.Goals as goal
 
-pub returns-in-Some-clause-every : goal.returns-in-Some-clause-every
-returns-in-Some-clause-every c =
-    denoted_every c.args.self.now _ c.args.table.now c.args.reference.now c.in-Some.look_up c.value_at.result (kept_in c.args.self.now _ _ _ _ c.self.view_is c.self.invariant) c.requires.loaded c.requires.held
-    c.in-Some.ensures.asked c.value_at.ensures.found c.value_at.ensures.none
+pub unreachable-requires : goal.unreachable-requires
+unreachable-requires c =
+    let (s, held) = has_answer c.args.self.now _ c.args.table.now c.args.reference.now (kept_in c.args.self.now _ _ _ _ c.self.view_is c.self.invariant) c.requires.loaded c.requires.held in
+    c.in-None.ensures.none s (rw c.ask.ensures held)
 
-pub returns-in-Some-clause-free : goal.returns-in-Some-clause-free
-returns-in-Some-clause-free c =
-    denoted_free c.args.self.now _ c.args.table.now c.args.reference.now c.in-Some.look_up c.value_at.result (kept_in c.args.self.now _ _ _ _ c.self.view_is c.self.invariant) c.requires.loaded c.requires.held
-    c.in-Some.ensures.asked c.value_at.ensures.none
+pub returns-in-Some-clause-found : goal.returns-in-Some-clause-found
+returns-in-Some-clause-found c =
+    let kept = kept_in c.args.self.now _ _ _ _ c.self.view_is c.self.invariant in kept.answered (asked_for c.args.table.now c.args.reference.now) c.in-Some.symbol (rw c.ask.ensures at c.in-Some.ensures.found)
+
+pub returns-in-Some-clause-alone : goal.returns-in-Some-clause-alone
+returns-in-Some-clause-alone c =
+    answer_is c.args.self.now _ (asked_for c.args.table.now c.args.reference.now) c.in-Some.symbol (kept_in c.args.self.now _ _ _ _ c.self.view_is c.self.invariant) (rw c.ask.ensures at c.in-Some.ensures.found)

@@ -1,11 +1,11 @@
 use Rattle.std.proofs.Common.{Some}
 use Rattle.wesl_symbols.specs.Index.{IsNamed}
-use Rattle.wesl_symbols.specs.Names.{Sees}
 use Rattle.wesl_symbols.proofs.Indexing.{IsGoneOver, steps}
-use Rattle.wesl_symbols.proofs.answer.Table.declares_to.Given as goal
+use Rattle.wesl_world.specs.Faults.{Meet}
+use Rattle.wesl_world.proofs.names.meets_declaration.Given as goal
 
 abbrev pub invariant-declarations : goal.invariant-declarations
-invariant-declarations l = IsGoneOver (IsNamed (Some l.look_up.name)) (λ d. Sees l.self l.look_up.from d.place → ⊥) l.self.declarations l.at
+invariant-declarations l = IsGoneOver (IsNamed (Some l.import.bound)) (λ d. Meet l.table d.place l.import.place → ⊥) l.table.declarations l.at
 
 abbrev pub decreases-declarations : goal.decreases-declarations
 decreases-declarations l = steps l.at
