@@ -1,7 +1,10 @@
 -- A look-up goes one way at most.
 use Rattle.std.proofs.Common.{◌≡◌, ◌⊎◌, inl, inr, ℕ, ◌<◌, ◌≤◌, suc, zero, List, [], ◌∷◌, length, Contains, arith, subst, sym, refl, ap, ◌∙◌}
 use Rattle.wesl_symbols.specs.declared.symbols.Answer.TheVariants.{Declared, Next, Missing, Private, Ambiguous}
-use Rattle.wesl_symbols.specs.Tables.{LookUp, Symbol, Answer, Table}
+use Rattle.wesl_symbols.specs.declared.symbols.LookUp.{LookUp}
+use Rattle.wesl_symbols.specs.declared.symbols.Symbol.{Symbol}
+use Rattle.wesl_symbols.specs.declared.symbols.Answer.{Answer}
+use Rattle.wesl_symbols.specs.Tables.{Table}
 use Rattle.wesl_symbols.specs.Names.{Answers}
 use Rattle.wesl_world.specs.World.{IsAt, Hops, Finds, HasMet, EndsWith, ComesTo, Walk, LeadsTo, IsMissingAt, IsPrivateAt, IsAmbiguousAt}
 use Rattle.wesl_world.specs.World.ComesTo.{stays, hops}

@@ -1,7 +1,8 @@
 -- How the binders of a name are told to clash.
 use Rattle.std.specs.Prelude.{◌≡◌, ◌⊎◌, ℕ, length, slice_get, Some, Contains}
 use Rattle.wesl_symbols.specs.Index.{Binds, IsLast}
-use Rattle.wesl_symbols.specs.Tables.{Import, Declaration, Table}
+use Rattle.wesl_symbols.specs.declared.symbols.Import.{Import}
+use Rattle.wesl_symbols.specs.Tables.{Declaration, Table}
 use Rattle.wesl_symbols.specs.Names.{Imports, SameTarget, IsOwn}
 use Rattle.wesl_world.specs.Faults.{Meet}
 

@@ -1,7 +1,11 @@
 -- The faults that stand in a world.
 use Rattle.std.specs.Prelude.{◌≡◌, ◌⊎◌, ℕ, ◌<◌, length, true, false, Some, None, List, [], ◌∷◌, Contains, All}
 use Rattle.wesl_choices.specs.declared.place.Place.TheVariants.{Always}
-use Rattle.wesl_symbols.specs.Tables.{Place, Import, Symbol, LookUp, Declaration, Table}
+use Rattle.wesl_choices.specs.declared.place.Place.{Place}
+use Rattle.wesl_symbols.specs.declared.symbols.Import.{Import}
+use Rattle.wesl_symbols.specs.declared.symbols.Symbol.{Symbol}
+use Rattle.wesl_symbols.specs.declared.symbols.LookUp.{LookUp}
+use Rattle.wesl_symbols.specs.Tables.{Declaration, Table}
 use Rattle.wesl_symbols.specs.Names.{Imports, IsUnclearFrom, SameTarget, IsOwn, Sees}
 use Rattle.wesl_world.specs.World.{IsAt, IsWorld, IsMissingAt, IsPrivateAt, IsAmbiguousAt, Task, Entered, Reached, Followed}
 

@@ -2,7 +2,11 @@
 use Rattle.std.specs.Prelude.{◌≡◌, ◌⊎◌, Bool, true, Some, None, List, [], ◌∷◌, Contains}
 use Rattle.wesl_choices.specs.declared.place.Place.TheVariants.{Always}
 use Rattle.wesl_symbols.specs.declared.symbols.Answer.TheVariants.{Declared, Next, Missing, Private, Ambiguous}
-use Rattle.wesl_symbols.specs.Tables.{Import, Symbol, LookUp, Answer, Table}
+use Rattle.wesl_symbols.specs.declared.symbols.Import.{Import}
+use Rattle.wesl_symbols.specs.declared.symbols.Symbol.{Symbol}
+use Rattle.wesl_symbols.specs.declared.symbols.LookUp.{LookUp}
+use Rattle.wesl_symbols.specs.declared.symbols.Answer.{Answer}
+use Rattle.wesl_symbols.specs.Tables.{Table}
 use Rattle.wesl_symbols.specs.Names.{Declares, AsksFrom, Answers}
 
 -- ---- between modules: a world is a list of modules

@@ -1,7 +1,7 @@
 use Rattle.std.proofs.Common.{take, Contains}
 use Rattle.wesl_symbols.specs.declared.ids.PathId.{PathId}
 use Rattle.wesl_symbols.specs.declared.ids.NameId.{NameId}
-use Rattle.wesl_symbols.specs.Tables.{Import}
+use Rattle.wesl_symbols.specs.declared.symbols.Import.{Import}
 use Rattle.wesl_world.specs.Clashing.{IsAlone}
 use Rattle.wesl_world.proofs.names.clash.Given as goal
 
