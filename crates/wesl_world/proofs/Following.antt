@@ -53,7 +53,7 @@ module _ {P N : Type 0} where
 
   pub next_can : {hands : P → Table P N → Type 0} {ready : P → Type 0} {root : Table P N} {task : Task P N} {limit : ℕ} {others : List (Table P N)} {ss : List (Symbol P N)} {places : List (P × ℕ)}
       {answers : List (LookUp P N × Symbol P N)} → IsSoundIn hands ready root task limit others ss places answers → (l n : LookUp P N) → Hops (root ∷ others) l n → CanEnter ready (root ∷ others) n.path
-  next_can {ready = ready} s l n (t, at, (none, alike, (i, asked, is), all)) = inl (subst (λ (x : LookUp P N). ready x.path) (sym is) ((s.asks_ready t at.0).imports i asked.0.0.0))
+  next_can {ready = ready} s l n (t, at, (none, alike, (i, opened, is), all)) = inl (subst (λ (x : LookUp P N). ready x.path) (sym is) ((s.asks_ready t at.0).imports i opened.0.0.0))
 
   -- ---- the trail of a look-up
 

@@ -1,23 +1,17 @@
 use Rattle.std.proofs.Common.{Contains, refl}
 use Rattle.wesl_symbols.specs.declared.ids.NameId.{NameId}
 use Rattle.wesl_symbols.specs.Index.{IsNamed}
-use Rattle.wesl_symbols.proofs.Indexing.{over_start, over_read, over_found, over_next, over_all}
+use Rattle.wesl_symbols.proofs.Indexing.{over_start, over_read, over_next, over_all}
 use Rattle.wesl_world.proofs.names.unclear_from.Goals as goal
 
 pub declarations-init : goal.declarations-init
 declarations-init c = over_start (IsNamed c.args.name) (λ d. (n : NameId) → Contains d.unclear n → ⊥) c.args.table.now.declarations c.latest_of-at.result c.latest_of-at.ensures
 
-pub returns-in-Some-2 : goal.returns-in-Some-2
-returns-in-Some-2 c =
-    let there = over_read (IsNamed c.args.name) (λ d. (n : NameId) → Contains d.unclear n → ⊥) c.args.table.now.declarations c.declarations.at c.in-Some.index _ c.index-declarations-index.result c.in-Some.is c.declarations.invariant c.declarations-in-Some.ensures c.index-declarations-index.is in
-    let (held, named) = over_found (IsNamed c.args.name) (λ d. (n : NameId) → Contains d.unclear n → ⊥) c.args.table.now.declarations c.declarations.at c.in-Some.index c.index-declarations-index.result c.in-Some.is c.declarations.invariant there in
-    (c.index-declarations-index.result, held, named, c.in-Some-2.ensures.found)
-
 pub declarations-preserved : goal.declarations-preserved
 declarations-preserved c =
     let there = over_read (IsNamed c.args.name) (λ d. (n : NameId) → Contains d.unclear n → ⊥) c.args.table.now.declarations c.declarations.at c.in-Some.index _ c.index-declarations-index.result c.in-Some.is c.declarations.invariant c.declarations-in-Some.ensures c.index-declarations-index.is in
     over_next (IsNamed c.args.name) (λ d. (n : NameId) → Contains d.unclear n → ⊥) c.args.table.now.declarations c.declarations.at c.in-Some.index c.index-declarations-index.result c.earlier_of-at.result c.in-Some.is
-    c.declarations.invariant there c.in_default.ensures.none c.earlier_of-at.ensures
+    c.declarations.invariant there c.in_default-first_unclear.ensures.none c.earlier_of-at.ensures
 
 pub returns : goal.returns
 returns c = λ n (d, held, named, unclear). over_all (IsNamed c.args.name) (λ d. (n : NameId) → Contains d.unclear n → ⊥) c.args.table.now.declarations c.declarations.at c.in_default.is c.declarations.invariant d held named n unclear

@@ -7,10 +7,10 @@ unreachable-requires c =
     let (s, held) = has_answer c.args.self.now _ c.args.table.now c.args.reference.now (kept_in c.args.self.now _ _ _ _ c.self.view_is c.self.invariant) c.requires.loaded c.requires.held in
     c.in-None.ensures.none s (rw c.ask.ensures held)
 
-pub returns-in-Some-clause-found : goal.returns-in-Some-clause-found
-returns-in-Some-clause-found c =
+pub returns-clause-found : goal.returns-clause-found
+returns-clause-found c =
     let kept = kept_in c.args.self.now _ _ _ _ c.self.view_is c.self.invariant in kept.answered (asked_for c.args.table.now c.args.reference.now) c.in-Some.symbol (rw c.ask.ensures at c.in-Some.ensures.found)
 
-pub returns-in-Some-clause-alone : goal.returns-in-Some-clause-alone
-returns-in-Some-clause-alone c =
+pub returns-clause-alone : goal.returns-clause-alone
+returns-clause-alone c =
     answer_is c.args.self.now _ (asked_for c.args.table.now c.args.reference.now) c.in-Some.symbol (kept_in c.args.self.now _ _ _ _ c.self.view_is c.self.invariant) (rw c.ask.ensures at c.in-Some.ensures.found)
