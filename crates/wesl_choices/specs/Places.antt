@@ -1,5 +1,5 @@
 -- Places that a choice of flags keeps.
-use Rattle.std.specs.Prelude.{ℕ, nat_eq, Bool, true, false, ◌&&◌, ◌||◌, List}
+use Rattle.std.specs.Prelude.{nat_eq, Bool, true, false, ◌&&◌, ◌||◌, List}
 use Rattle.std.specs.List.{list_any}
 use Rattle.wesl_choices.specs.declared.place.Place.{Place}
 use Rattle.wesl_choices.specs.declared.place.Place.TheVariants.{Always, Import, Declaration, Name}

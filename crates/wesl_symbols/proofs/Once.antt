@@ -1,9 +1,8 @@
 -- A table answers a look-up one way at most, and names with one target as before.
-use Rattle.std.proofs.Common.{◌≡◌, ◌⊎◌, inl, inr, ℕ, ◌≤◌, Some, Contains, arith, subst, sym, refl, ap, ◌∙◌}
-use Rattle.wesl_choices.specs.declared.place.Place.TheVariants.{Always}
+use Rattle.std.proofs.Common.{◌≡◌, inl, inr, ℕ, ◌≤◌, Some, arith, sym, refl, ap, ◌∙◌}
 use Rattle.wesl_symbols.specs.declared.symbols.Answer.TheVariants.{Declared, Next, Missing, Private, Ambiguous}
-use Rattle.wesl_symbols.specs.Tables.{Place, Import, LookUp, Answer, Declaration, Table}
-use Rattle.wesl_symbols.specs.Names.{Declares, Imports, SameTarget, IsOwn, Shows, Sees, DeclaresTo, IsOpenTo, IsHiddenFrom, IsAskedTo, asked_by, Answers}
+use Rattle.wesl_symbols.specs.Tables.{Place, Import, LookUp, Answer, Table}
+use Rattle.wesl_symbols.specs.Names.{Declares, Imports, Shows, DeclaresTo, IsOpenTo, IsAskedTo, asked_by, Answers}
 use Rattle.wesl_symbols.specs.Laws.{AnswersOnce, AnswersOfOne, HasOneTarget, IsAsBefore}
 
 module _ {P N : Type 0} where

@@ -3,8 +3,8 @@ use Rattle.std.proofs.Common.{◌≡◌, ◌⊎◌, inl, inr, ℕ, zero, suc, �
 use Rattle.wesl_choices.specs.declared.place.Place.TheVariants as at
 use Rattle.wesl_symbols.specs.declared.symbols.Answer.TheVariants.{Declared, Next, Missing, Private, Ambiguous}
 use Rattle.wesl_choices.specs.Places.{together}
-use Rattle.wesl_symbols.specs.Tables.{Place, Import, LookUp, Answer, Declaration, Table}
-use Rattle.wesl_symbols.specs.Names.{Imports, SameTarget, IsOwn, Shows, Sees, DeclaresTo, IsOpenTo, IsHiddenFrom, IsAskedTo, asked_by, Answers}
+use Rattle.wesl_symbols.specs.Tables.{Place, Import, LookUp, Answer, Table}
+use Rattle.wesl_symbols.specs.Names.{SameTarget, IsOwn, Shows, Sees, DeclaresTo, IsOpenTo, IsHiddenFrom, IsAskedTo, asked_by, Answers}
 use Rattle.wesl_symbols.specs.Laws.{IsDecided, HasAnswers}
 use Rattle.wesl_symbols.proofs.Lists.{contains_nil, contains_later, contains_first, contains_cases}
 

@@ -2,7 +2,7 @@
 use Rattle.std.specs.Prelude.{◌≡◌, ◌⊎◌, ◌↔◌, Some, Contains}
 use Rattle.wesl_choices.specs.declared.place.Place.TheVariants.{Always}
 use Rattle.wesl_symbols.specs.declared.symbols.Answer.TheVariants.{Declared, Next, Missing, Private, Ambiguous}
-use Rattle.wesl_symbols.specs.Tables.{Place, Import, LookUp, Answer, Declaration, Table}
+use Rattle.wesl_symbols.specs.Tables.{Import, LookUp, Answer, Declaration, Table}
 use Rattle.wesl_symbols.specs.Names.{Declares, Imports, SameTarget, IsOwn, Shows, asked_by, Answers}
 
 -- one answer a look-up

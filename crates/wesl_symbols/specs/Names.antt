@@ -1,5 +1,5 @@
 -- What a name means inside one module (WESL, "Imports", "Visibility" and "ConditionalTranslation").
-use Rattle.std.specs.Prelude.{◌≡◌, ◌⊎◌, ◌≤◌, true, Option, Some, None, Contains}
+use Rattle.std.specs.Prelude.{◌≡◌, ◌⊎◌, ◌≤◌, true, Option, Some, Contains}
 use Rattle.wesl_choices.specs.declared.place.Place.TheVariants.{Always}
 use Rattle.wesl_symbols.specs.declared.symbols.Answer.TheVariants.{Declared, Next, Missing, Private, Ambiguous}
 use Rattle.wesl_choices.specs.Places.{together}
