@@ -1,1 +1,4 @@
 pub mod Places
+pub mod Choices
+pub mod Alive
+pub mod Rows

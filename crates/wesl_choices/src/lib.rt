@@ -2,4 +2,6 @@
 #![tactic(auto)]
 
 pub mod alive;
+pub mod choices;
+pub mod laws;
 pub mod place;
