@@ -15,6 +15,7 @@ use Rattle.wesl_chains.specs.Evaluation.{Refuses}
 use Rattle.wesl_chains.specs.FormulaFaults.{Fault}
 use Rattle.wesl_features.specs.Features.{Replies}
 use Rattle.wesl_names.specs.Path.{Text}
+use Rattle.wesl_names.specs.declared.errors.Diagnostic.{Diagnostic, out-Diagnostic}
 use Rattle.wesl_names.specs.declared.errors.Error as error
 use Rattle.wesl_syntax.specs.Tree.{Tree, before, end, forest_of}
 use Rattle.wesl_syntax.specs.declared.attribute.Attribute.{Attribute}
@@ -75,9 +76,9 @@ module _ (reply : Replies ℕ) where
         → ((closes : Bool) → ListBegins names reply opened (as_element closes (view x) ∷ []) (Ok after)) → IsBegun xs (i + 1) after
     begun_next xs i opened after x lt is so_far begins = λ closes rest. begun_here xs i opened x lt is so_far closes rest ∙ begins closes (nodes_of closes (drop (i + 1) xs) ++ rest)
 
-    pub begun_refused : (xs : List A) (i : ℕ) (opened : Bool) (x : A) (e : error.Error) → i < length xs → x ≡ get_or xs i x → IsBegun xs i opened
+    pub begun_refused : (xs : List A) (i : ℕ) (opened : Bool) (x : A) (e : Diagnostic) → i < length xs → x ≡ get_or xs i x → IsBegun xs i opened
         → ((closes : Bool) → ListBegins names reply opened (as_element closes (view x) ∷ []) (Err e)) → (closes : Bool) → ListBegins names reply false (nodes_of closes xs) (Err e)
-    begun_refused xs i opened x e lt is so_far begins = λ closes rest. subst (λ fs. Refuses names fs e) (sym (begun_here xs i opened x lt is so_far closes rest)) (begins closes (nodes_of closes (drop (i + 1) xs) ++ rest))
+    begun_refused xs i opened x e lt is so_far begins = λ closes rest. subst (λ fs. Refuses names fs (out-Diagnostic e).error) (sym (begun_here xs i opened x lt is so_far closes rest)) (begins closes (nodes_of closes (drop (i + 1) xs) ++ rest))
 
     pub begun_all : (xs : List A) (i : ℕ) (opened : Bool) → length xs ≤ i → IsBegun xs i opened → (closes : Bool) → ListBegins names reply false (nodes_of closes xs) (Ok opened)
     begun_all xs i opened le so_far = λ closes rest. so_far closes rest ∙ ap (λ ys. list_faults reply opened (nodes_of closes ys ++ rest)) (none_left xs i le)
@@ -86,12 +87,12 @@ module _ (reply : Replies ℕ) where
     pub list_clear : (xs : List A) (after : Bool) → ListBegins names reply false (nodes_of false xs) (Ok after) → list_faults reply false (elements false (forest_of (map view xs))) ≡ []
     list_clear xs after begins = ap (list_faults reply false) (sym (elements_as false view xs) ∙ sym (append-nil (nodes_of false xs))) ∙ begins []
 
-    pub list_told : (xs : List A) (e : error.Error) → ListBegins names reply false (nodes_of false xs) (Err e) → Refuses names (list_faults reply false (elements false (forest_of (map view xs)))) e
-    list_told xs e begins = subst (λ ys. Refuses names (list_faults reply false ys) e) (append-nil (nodes_of false xs) ∙ elements_as false view xs) (begins [])
+    pub list_told : (xs : List A) (e : Diagnostic) → ListBegins names reply false (nodes_of false xs) (Err e) → Refuses names (list_faults reply false (elements false (forest_of (map view xs)))) (out-Diagnostic e).error
+    list_told xs e begins = subst (λ ys. Refuses names (list_faults reply false ys) (out-Diagnostic e).error) (append-nil (nodes_of false xs) ∙ elements_as false view xs) (begins [])
 
     -- A list with more nodes after it.
-    pub both_told : (xs : List A) (e : error.Error) (more : List (Element ℕ)) → ListBegins names reply false (nodes_of false xs) (Err e) → Refuses names (list_faults reply false (elements false (forest_of (map view xs)) ++ more)) e
-    both_told xs e more begins = subst (λ ys. Refuses names (list_faults reply false (ys ++ more)) e) (elements_as false view xs) (begins more)
+    pub both_told : (xs : List A) (e : Diagnostic) (more : List (Element ℕ)) → ListBegins names reply false (nodes_of false xs) (Err e) → Refuses names (list_faults reply false (elements false (forest_of (map view xs)) ++ more)) (out-Diagnostic e).error
+    both_told xs e more begins = subst (λ ys. Refuses names (list_faults reply false (ys ++ more)) (out-Diagnostic e).error) (elements_as false view xs) (begins more)
 
     both_are : (xs : List A) (after : Bool) (more : List (Element ℕ)) → ListBegins names reply false (nodes_of false xs) (Ok after) → list_faults reply false (elements false (forest_of (map view xs)) ++ more) ≡ list_faults reply after more
     both_are xs after more begins = ap (λ ys. list_faults reply false (ys ++ more)) (sym (elements_as false view xs)) ∙ begins more
@@ -103,9 +104,9 @@ module _ (reply : Replies ℕ) where
         → list_faults reply false (elements false (forest_of (map view xs)) ++ elements true (before t end)) ≡ []
     with_last xs after end_open t begins last = both_are xs after (as_element true t ∷ []) begins ∙ last []
 
-    pub last_told : (xs : List A) (after : Bool) (t : Tree) (e : error.Error) → ListBegins names reply false (nodes_of false xs) (Ok after) → ListBegins names reply after (as_element true t ∷ []) (Err e)
-        → Refuses names (list_faults reply false (elements false (forest_of (map view xs)) ++ elements true (before t end))) e
-    last_told xs after t e begins last = subst (λ fs. Refuses names fs e) (sym (both_are xs after (as_element true t ∷ []) begins)) (last [])
+    pub last_told : (xs : List A) (after : Bool) (t : Tree) (e : Diagnostic) → ListBegins names reply false (nodes_of false xs) (Ok after) → ListBegins names reply after (as_element true t ∷ []) (Err e)
+        → Refuses names (list_faults reply false (elements false (forest_of (map view xs)) ++ elements true (before t end))) (out-Diagnostic e).error
+    last_told xs after t e begins last = subst (λ fs. Refuses names fs (out-Diagnostic e).error) (sym (both_are xs after (as_element true t ∷ []) begins)) (last [])
 
 -- Turns that leave a list as it is.
 module _ {I N : Type 0} (J : Judged I N) (known : Answers I) where

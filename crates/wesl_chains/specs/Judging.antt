@@ -8,6 +8,7 @@ use Rattle.wesl_chains.specs.Evaluation.{Refuses}
 use Rattle.wesl_chains.specs.FormulaFaults.{Fault, Tells}
 use Rattle.wesl_features.specs.Features.{Replies}
 use Rattle.wesl_names.specs.Path.{Text}
+use Rattle.wesl_names.specs.declared.errors.Diagnostic.{Diagnostic, out-Diagnostic}
 use Rattle.wesl_names.specs.declared.errors.Error as error
 use Rattle.wesl_syntax.specs.Tree.{Forest}
 
@@ -20,14 +21,14 @@ abbrev pub RefusesIn : List Text → Replies ℕ → Forest → error.Error → 
 RefusesIn names reply trees e = ((e ≡ error.Memory) × (IsClear reply trees → ⊥)) ⊎ ((f : Fault ℕ) × Stands reply false trees f × Tells names e f)
 
 -- a success where no fault stands, a refusal where one does
-abbrev pub Checks : {A : Type 0} → List Text → Replies ℕ → Forest → Result A error.Error → Type 0
+abbrev pub Checks : {A : Type 0} → List Text → Replies ℕ → Forest → Result A Diagnostic → Type 0
 Checks names reply trees (Ok x) = IsClear reply trees
-Checks names reply trees (Err e) = RefusesIn names reply trees e
+Checks names reply trees (Err told) = RefusesIn names reply trees (out-Diagnostic told).error
 
 -- a beginning of a list judged: it has no fault and leaves a chain open or not, or one of its faults is told
-abbrev pub ListBegins : List Text → Replies ℕ → Bool → List (Element ℕ) → Result Bool error.Error → Type 0
+abbrev pub ListBegins : List Text → Replies ℕ → Bool → List (Element ℕ) → Result Bool Diagnostic → Type 0
 ListBegins names reply opened xs (Ok after) = (rest : List (Element ℕ)) → list_faults reply opened (xs ++ rest) ≡ list_faults reply after rest
-ListBegins names reply opened xs (Err e) = (rest : List (Element ℕ)) → Refuses names (list_faults reply opened (xs ++ rest)) e
+ListBegins names reply opened xs (Err told) = (rest : List (Element ℕ)) → Refuses names (list_faults reply opened (xs ++ rest)) (out-Diagnostic told).error
 
 -- what closes a list, if it stays
 abbrev pub closing : Answers ℕ → Forest → Forest → Forest

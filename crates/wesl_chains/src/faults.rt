@@ -14,7 +14,7 @@ use crate::judge::check_formula;
 use crate::lists::Conditional;
 use std::alloc::Global;
 use wesl_features::Features;
-use wesl_names::{CondCompError, Error, Names};
+use wesl_names::{CondCompError, Diagnostic, Error, Names, Span};
 use wesl_syntax::{Attribute, AttributeNode};
 
 /// Whether several of the attributes are conditions.
@@ -54,12 +54,12 @@ fn check_attribute(
     attribute: &Attribute,
     names: &Names,
     features: &Features,
-) -> Result<(), Error>
+) -> Result<(), Diagnostic>
     ensures { Judges names.now (condition_faults (replies names.now features.now) (condition_of_attribute attribute.now)) result }
 {
     match condition_of(attribute) {
         Some(Condition::If(formula) | Condition::Elif(formula)) => {
-            check_formula(alloc, &formula.node, names, features)
+            check_formula(alloc, formula, names, features)
         }
         Some(Condition::Else) | None => Ok(()),
     }
@@ -71,7 +71,7 @@ fn check_formulas(
     attributes: &[AttributeNode],
     names: &Names,
     features: &Features,
-) -> Result<(), Error>
+) -> Result<(), Diagnostic>
     ensures { Judges names.now (flat_map (condition_faults (replies names.now features.now)) (conditions (attributes_forest attributes.now))) result }
 {
     for attribute in attributes {
@@ -84,16 +84,16 @@ fn check_formulas(
 }
 
 /// Judges where the conditions among the attributes stand: there is one at most, and an `@elif` or an `@else` goes on
-/// with a chain that is open.
+/// with a chain that is open. `span` is the place of their node.
 #[tactic(auto, using(crate::proofs::Places::place_is))]
-fn check_place(attributes: &[AttributeNode], opened: bool) -> Result<(), Error>
+fn check_place(attributes: &[AttributeNode], opened: bool, span: Span) -> Result<(), Diagnostic>
     ensures { (names : List Text) → Judges names (place_faults opened (conditions (attributes_forest attributes.now))) result }
 {
     if has_several(attributes) {
-        return Err(Error::CondComp(CondCompError::DuplicateIf));
+        return Err(Diagnostic::at(Error::CondComp(CondCompError::DuplicateIf), span));
     }
     if !opened && follows_on(attributes) {
-        return Err(Error::CondComp(CondCompError::NoPrecedingIf));
+        return Err(Diagnostic::at(Error::CondComp(CondCompError::NoPrecedingIf), span));
     }
     Ok(())
 }
@@ -105,14 +105,14 @@ fn check_node<T: Conditional>(
     opened: bool,
     names: &Names,
     features: &Features,
-) -> Result<bool, Error>
+) -> Result<bool, Diagnostic>
     ensures { (closes : Bool) → ListBegins names.now (replies names.now features.now) opened (as_element closes (T.tree node.now) ∷ []) result }
 {
     if node.is_void() {
         return Ok(opened);
     }
     let attributes = node.attributes();
-    match check_place(attributes, opened) {
+    match check_place(attributes, opened, node.span()) {
         Ok(()) => match check_formulas(alloc, attributes, names, features) {
             Ok(()) => Ok(opens(attributes)),
             Err(fault) => Err(fault),
@@ -127,7 +127,7 @@ fn check_nodes<T: Conditional>(
     nodes: &Vec<T>,
     names: &Names,
     features: &Features,
-) -> Result<bool, Error>
+) -> Result<bool, Diagnostic>
     ensures { (closes : Bool) → ListBegins names.now (replies names.now features.now) false (map (λ x. as_element closes (T.tree x)) nodes.now.items) result }
 {
     let mut opened = false;
@@ -146,7 +146,7 @@ pub fn check_list<T: Conditional>(
     nodes: &Vec<T>,
     names: &Names,
     features: &Features,
-) -> Result<(), Error>
+) -> Result<(), Diagnostic>
     ensures { Judges names.now (list_faults (replies names.now features.now) false (elements false (forest_of (map T.tree nodes.now.items)))) result }
 {
     match check_nodes(alloc, nodes, names, features) {
@@ -162,7 +162,7 @@ pub fn check_both<T: Conditional, L: Conditional>(
     last: &Option<L>,
     names: &Names,
     features: &Features,
-) -> Result<(), Error>
+) -> Result<(), Diagnostic>
     ensures { Judges names.now (list_faults (replies names.now features.now) false (elements false (forest_of (map T.tree nodes.now.items)) ++ elements true (optional_forest L.tree last.now))) result }
 {
     match check_nodes(alloc, nodes, names, features) {

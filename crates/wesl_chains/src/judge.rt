@@ -12,8 +12,10 @@ ghost use Rattle.wesl_syntax.specs.View.{expression_view, type_view};
 use crate::formula::name_of;
 use std::alloc::Global;
 use wesl_features::{Feature, Features};
-use wesl_names::{CondCompError, Error, Names};
-use wesl_syntax::{BinaryOperator, Expression, Literal, TypeExpression, UnaryOperator};
+use wesl_names::{CondCompError, Diagnostic, Error, Names, Span};
+use wesl_syntax::{
+    BinaryOperator, Expression, ExpressionNode, Literal, TypeExpression, UnaryOperator,
+};
 
 /// The refusal of a flag with template arguments.
 fn invalid_flag(alloc: Global, name: &str) -> Error
@@ -35,54 +37,55 @@ fn unexpected_flag(alloc: Global, name: &str) -> Error
     }
 }
 
-/// Judges a name that stands for a flag.
+/// Judges a name that stands for a flag, with the place of its expression.
 fn check_flag(
     alloc: Global,
     ty: &TypeExpression,
+    span: Span,
     names: &Names,
     features: &Features,
-) -> Result<(), Error>
+) -> Result<(), Diagnostic>
     ensures { Judges names.now (formula_faults (by_number names.now (answer_to features.now)) (form (branch type_or_identifier (type_view ty.now ∷ [])))) result }
 {
     let name = name_of(names, ty.ident);
     if ty.template_args.is_some() {
-        return Err(invalid_flag(alloc, name));
+        return Err(Diagnostic::at(invalid_flag(alloc, name), span));
     }
     match features.answer(name) {
-        Feature::Error => Err(unexpected_flag(alloc, name)),
+        Feature::Error => Err(Diagnostic::at(unexpected_flag(alloc, name), span)),
         Feature::Enable | Feature::Disable | Feature::Keep => Ok(()),
     }
 }
 
-/// Judges a formula, both sides of `&&` and `||`, and refuses one of its faults where it has one. Memory is taken to
-/// tell a fault alone.
+/// Judges a formula, both sides of `&&` and `||`, and refuses one of its faults where it has one, at the place of the
+/// expression at fault. Memory is taken to tell a fault alone.
 #[cycle(judging)]
 pub fn check_formula(
     alloc: Global,
-    formula: &Expression,
+    formula: &ExpressionNode,
     names: &Names,
     features: &Features,
-) -> Result<(), Error>
-    ensures { Judges names.now (formula_faults (by_number names.now (answer_to features.now)) (form (expression_view formula.now))) result }
+) -> Result<(), Diagnostic>
+    ensures { Judges names.now (formula_faults (by_number names.now (answer_to features.now)) (form (expression_view formula.now.node))) result }
 {
-    match formula {
+    match &formula.node {
         Expression::Literal(Literal::Bool(true)) => Ok(()),
         Expression::Literal(Literal::Bool(false)) => Ok(()),
         Expression::Parenthesized { expression } => {
-            check_formula(alloc, &expression.node, names, features)
+            check_formula(alloc, expression, names, features)
         }
         Expression::Unary {
             operator: UnaryOperator::LogicalNegation,
             operand,
-        } => check_formula(alloc, &operand.node, names, features),
+        } => check_formula(alloc, operand, names, features),
         Expression::Binary {
             operator,
             left,
             right,
         } => match operator {
             BinaryOperator::ShortCircuitAnd | BinaryOperator::ShortCircuitOr => {
-                match check_formula(alloc, &left.node, names, features) {
-                    Ok(()) => check_formula(alloc, &right.node, names, features),
+                match check_formula(alloc, left, names, features) {
+                    Ok(()) => check_formula(alloc, right, names, features),
                     Err(fault) => Err(fault),
                 }
             }
@@ -102,14 +105,22 @@ pub fn check_formula(
             | BinaryOperator::BitwiseXor
             | BinaryOperator::ShiftLeft
             | BinaryOperator::ShiftRight => {
-                Err(Error::CondComp(CondCompError::InvalidExpression))
+                Err(Diagnostic::at(
+                    Error::CondComp(CondCompError::InvalidExpression),
+                    formula.span,
+                ))
             }
         },
-        Expression::TypeOrIdentifier(ty) => check_flag(alloc, ty, names, features),
+        Expression::TypeOrIdentifier(ty) => check_flag(alloc, ty, formula.span, names, features),
         Expression::Literal(Literal::Text(_))
         | Expression::NamedComponent { .. }
         | Expression::Indexing { .. }
         | Expression::Unary { .. }
-        | Expression::FunctionCall(_) => { Err(Error::CondComp(CondCompError::InvalidExpression)) }
+        | Expression::FunctionCall(_) => {
+            Err(Diagnostic::at(
+                Error::CondComp(CondCompError::InvalidExpression),
+                formula.span,
+            ))
+        }
     }
 }

@@ -10,7 +10,7 @@ ghost use Rattle.wesl_syntax.specs.Tree.{Tree, before, end, forest_of};
 
 use crate::conditions::{follows_on, holds};
 use wesl_features::{Chain, Features, Role};
-use wesl_names::Names;
+use wesl_names::{Names, Span};
 use wesl_syntax::AttributeNode;
 
 /// A node whose attributes may hold a condition.
@@ -20,6 +20,9 @@ pub trait Conditional {
     /// Whether it is nothing but a `;`.
     fn is_void(&self) -> bool
         ensures { result ≡ is_void (tree self.now).label (tree self.now).children };
+
+    /// The place of the node, `0..0` where its kind has none.
+    fn span(&self) -> Span;
 
     /// Its attributes.
     fn attributes(&self) -> &[AttributeNode]

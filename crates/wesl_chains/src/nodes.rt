@@ -5,7 +5,7 @@ ghost use Rattle.wesl_syntax.specs.View.{break_if_view, clause_view, continuing_
 use crate::conditions::recast;
 use crate::lists::Conditional;
 use wesl_features::{Features, Role};
-use wesl_names::Names;
+use wesl_names::{Names, Span};
 use wesl_syntax::{
     AttributeNode, BreakIfStatement, CompoundStatement, ContinuingStatement, FormalParameter,
     GlobalDeclaration, GlobalDirective, ImportStatement, Spanned, Statement, StructMember,
@@ -17,6 +17,10 @@ impl Conditional for Spanned<ImportStatement> {
 
     fn is_void(&self) -> bool {
         false
+    }
+
+    fn span(&self) -> Span {
+        self.span
     }
 
     fn attributes(&self) -> &[AttributeNode] {
@@ -35,6 +39,10 @@ impl Conditional for Spanned<StructMember> {
         false
     }
 
+    fn span(&self) -> Span {
+        self.span
+    }
+
     fn attributes(&self) -> &[AttributeNode] {
         &self.node.attributes
     }
@@ -49,6 +57,10 @@ impl Conditional for FormalParameter {
 
     fn is_void(&self) -> bool {
         false
+    }
+
+    fn span(&self) -> Span {
+        Span { start: 0, end: 0 }
     }
 
     fn attributes(&self) -> &[AttributeNode] {
@@ -67,6 +79,10 @@ impl Conditional for SwitchClause {
         false
     }
 
+    fn span(&self) -> Span {
+        Span { start: 0, end: 0 }
+    }
+
     fn attributes(&self) -> &[AttributeNode] {
         &self.attributes
     }
@@ -81,6 +97,10 @@ impl Conditional for ContinuingStatement {
 
     fn is_void(&self) -> bool {
         false
+    }
+
+    fn span(&self) -> Span {
+        Span { start: 0, end: 0 }
     }
 
     fn attributes(&self) -> &[AttributeNode] {
@@ -99,6 +119,10 @@ impl Conditional for BreakIfStatement {
         false
     }
 
+    fn span(&self) -> Span {
+        Span { start: 0, end: 0 }
+    }
+
     fn attributes(&self) -> &[AttributeNode] {
         &self.attributes
     }
@@ -113,6 +137,10 @@ impl Conditional for Spanned<GlobalDirective> {
 
     fn is_void(&self) -> bool {
         false
+    }
+
+    fn span(&self) -> Span {
+        self.span
     }
 
     fn attributes(&self) -> &[AttributeNode] {
@@ -148,6 +176,10 @@ impl Conditional for Spanned<GlobalDeclaration> {
             | GlobalDeclaration::Function(_)
             | GlobalDeclaration::ConstAssert(_) => false,
         }
+    }
+
+    fn span(&self) -> Span {
+        self.span
     }
 
     fn attributes(&self) -> &[AttributeNode] {
@@ -191,6 +223,10 @@ impl Conditional for Spanned<Statement> {
             Statement::Void => true,
             _ => false,
         }
+    }
+
+    fn span(&self) -> Span {
+        self.span
     }
 
     #[tactic(auto, using(crate::proofs::Views::view_compound))]

@@ -4,6 +4,7 @@ use Rattle.wesl_chains.specs.Lists.{elements}
 use Rattle.wesl_chains.specs.Nodes.{optional_forest, replies}
 use Rattle.wesl_chains.specs.Evaluation.{Refuses}
 use Rattle.wesl_syntax.specs.Tree.{forest_of}
+use Rattle.wesl_names.specs.declared.errors.Diagnostic.{out-Diagnostic}
 use Rattle.wesl_chains.proofs.Begun.{both_told, without_last, with_last, last_told}
 use Rattle.wesl_chains.proofs.faults.check_both.Goals as goal
 
@@ -24,7 +25,7 @@ returns-in-Err-check_node g c =
     let view = g.T.Conditional.tree in
     let last = g.L.Conditional.tree in
     let xs = c.args.nodes.now.items in
-    subst (λ o. Refuses names (list_faults reply false (elements false (forest_of (map view xs)) ++ elements true (optional_forest last o))) c.in-Err-check_node.fault) (sym c.in-Some.is)
+    subst (λ o. Refuses names (list_faults reply false (elements false (forest_of (map view xs)) ++ elements true (optional_forest last o))) (out-Diagnostic c.in-Err-check_node.fault).error) (sym c.in-Some.is)
     (last_told reply view names xs c.in-Ok.opened (last c.in-Some.last) c.in-Err-check_node.fault (c.in-Ok.ensures false) (c.in-Err-check_node.ensures true))
 
 pub returns-in-None : goal.returns-in-None

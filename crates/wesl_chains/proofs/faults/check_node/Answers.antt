@@ -3,6 +3,7 @@ use Rattle.std.specs.List.{flat_map}
 use Rattle.wesl_chains.specs.Faults.{condition_faults, conditions, list_faults, opens, place_faults}
 use Rattle.wesl_chains.specs.Nodes.{replies}
 use Rattle.wesl_chains.specs.Evaluation.{Refuses}
+use Rattle.wesl_names.specs.declared.errors.Diagnostic.{out-Diagnostic}
 use Rattle.wesl_chains.proofs.Places.{node_begins, place_refused, formula_refused}
 use Rattle.wesl_chains.proofs.faults.check_node.Goals as goal
 
@@ -23,9 +24,9 @@ returns-in-Err-check_formulas g c = λ closes.
     let reply = replies names c.args.features.now in
     let t = g.T.Conditional.tree c.args.node.now in
     let at = c.attributes-attributes.ensures in
-    formula_refused names reply c.args.opened closes t c.in-Err-check_formulas.fault (sym c.is_void.ensures ∙ c.if-is_void.false)
+    formula_refused names reply c.args.opened closes t (out-Diagnostic c.in-Err-check_formulas.fault).error (sym c.is_void.ensures ∙ c.if-is_void.false)
     (ap (λ a. place_faults c.args.opened (conditions a)) (sym at) ∙ c.in-Ok.ensures names)
-    (subst (λ a. Refuses names (flat_map (condition_faults reply) (conditions a)) c.in-Err-check_formulas.fault) at c.in-Err-check_formulas.ensures)
+    (subst (λ a. Refuses names (flat_map (condition_faults reply) (conditions a)) (out-Diagnostic c.in-Err-check_formulas.fault).error) at c.in-Err-check_formulas.ensures)
 
 pub returns-in-Err : goal.returns-in-Err
 returns-in-Err g c = λ closes.
@@ -33,5 +34,5 @@ returns-in-Err g c = λ closes.
     let reply = replies names c.args.features.now in
     let t = g.T.Conditional.tree c.args.node.now in
     let at = c.attributes-attributes.ensures in
-    place_refused names reply c.args.opened closes t c.in-Err.fault (sym c.is_void.ensures ∙ c.if-is_void.false)
-    (subst (λ a. Refuses names (place_faults c.args.opened (conditions a)) c.in-Err.fault) at (c.in-Err.ensures names))
+    place_refused names reply c.args.opened closes t (out-Diagnostic c.in-Err.fault).error (sym c.is_void.ensures ∙ c.if-is_void.false)
+    (subst (λ a. Refuses names (place_faults c.args.opened (conditions a)) (out-Diagnostic c.in-Err.fault).error) at (c.in-Err.ensures names))
