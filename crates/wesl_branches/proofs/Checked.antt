@@ -3,16 +3,16 @@ use Rattle.std.proofs.Common.{◌≡◌, ℕ, false, List, [], ◌∷◌, map, i
 use Rattle.std.specs.Box.{box_value}
 use Rattle.std.specs.Prelude.{MatchResult}
 use Rattle.wesl_chains.specs.Faults.{beside, list_faults}
-use Rattle.wesl_chains.specs.Judging.{IsClear, RefusesIn, Checks}
+use Rattle.wesl_chains.specs.Judging.{IsClear, Checks}
 use Rattle.wesl_chains.specs.Lists.{elements, alone, is_entered}
 use Rattle.wesl_branches.proofs.Closed.{body_refused, body_checked}
 use Rattle.wesl_branches.proofs.Settled.{view_clause, view_loop}
 use Rattle.wesl_branches.proofs.Standing.{stay, split, in_first, nothing, clear_leaf, passed_by, checks_same, list_checked, first_refused, next_checked, skip}
 use Rattle.wesl_branches.proofs.Views.{view_block, view_compound, view_else, view_else_if, view_for, view_if, view_if_clause, view_switch, view_while}
-use Rattle.wesl_chains.specs.Evaluation.{Refuses}
 use Rattle.wesl_features.specs.Features.{Replies}
+use Rattle.wesl_branches.proofs.Told.{TellsIn, TellsOf}
 use Rattle.wesl_names.specs.Path.{Text}
-use Rattle.wesl_names.specs.declared.errors.Error as error
+use Rattle.wesl_names.specs.declared.errors.Diagnostic.{Diagnostic}
 use Rattle.wesl_syntax.specs.Tree.{Tree, Forest, end, kind, at, before, branch, forest_of, list, present, absent, statement_node, compound_statement, if_statement, if_clause, else_if_clause, else_clause, switch, clauses, switch_clause, loop, for_loop, while_loop}
 use Rattle.wesl_syntax.specs.View.{attributes_tree, clause_view, compound_view, continuing_view, else_if_view, else_view, expression_tree, if_view, listed, optional, selector_view, statement_tree, statement_view}
 use Rattle.wesl_syntax.specs.declared.attribute.Attribute.{Attribute}
@@ -30,13 +30,13 @@ use Rattle.wesl_syntax.specs.declared.statement.Statement.{Statement}
 use Rattle.wesl_syntax.specs.declared.statement.Statement.TheViews as made
 
 -- the first refusal of three, if there is one
-abbrev pub in_turn : {A : Type 0} → Result A error.Error → Result A error.Error → Result A error.Error → Result A error.Error
+abbrev pub in_turn : {A : Type 0} → Result A Diagnostic → Result A Diagnostic → Result A Diagnostic → Result A Diagnostic
 in_turn (Err e) second third = Err e
 in_turn (Ok x) (Err e) third = Err e
 in_turn (Ok x) (Ok y) third = third
 
 -- the same told by cases
-pub first_of_three : {A : Type 0} (r s w all : Result A error.Error) → MatchResult r (λ _. MatchResult s (λ _. all ≡ w) (λ e. all ≡ Err e)) (λ e. all ≡ Err e) → all ≡ in_turn r s w
+pub first_of_three : {A : Type 0} (r s w all : Result A Diagnostic) → MatchResult r (λ _. MatchResult s (λ _. all ≡ w) (λ e. all ≡ Err e)) (λ e. all ≡ Err e) → all ≡ in_turn r s w
 first_of_three (Err e) s w all h = h
 first_of_three (Ok x) (Err e) w all h = h
 first_of_three (Ok x) (Ok y) w all h = h
@@ -58,7 +58,7 @@ module _ (reply : Replies ℕ) (names : List Text) where
   leaf_selector selectors.Default = refl
   leaf_selector (selectors.Expression e) = refl
 
-  module _ {A : Type 0} (r : Result A error.Error) where
+  module _ {A : Type 0} (r : Result A Diagnostic) where
     abbrev pub Good : Tree → Type 0
     Good t = Checks names reply (before t end) r
 
@@ -168,25 +168,25 @@ module _ (reply : Replies ℕ) (names : List Text) where
         → Checks names reply (alone (stay reply) (forest_of (map statement_tree (out-CompoundStatement b).statements.items))) r → Good (compound_view b)
     compound_body b clear h = as_view (compound_view b) _ (view_compound b) (body_checked reply names (out-CompoundStatement b).attributes (map statement_tree (out-CompoundStatement b).statements.items) r clear h)
 
-  pub compound_refused : (b : CompoundStatement) (e : error.Error) → Refuses names (list_faults reply false (elements false (forest_of (map statement_tree (out-CompoundStatement b).statements.items)))) e → RefusesIn names reply (before (compound_view b) end) e
-  compound_refused b e h = subst (λ t. RefusesIn names reply (before t end) e) (sym (view_compound b)) (body_refused reply names (out-CompoundStatement b).attributes (map statement_tree (out-CompoundStatement b).statements.items) e h)
+  pub compound_refused : (b : CompoundStatement) (e : Diagnostic) → TellsOf names (list_faults reply false (elements false (forest_of (map statement_tree (out-CompoundStatement b).statements.items)))) e → TellsIn names reply (before (compound_view b) end) e
+  compound_refused b e h = subst (λ t. TellsIn names reply (before t end) e) (sym (view_compound b)) (body_refused reply names (out-CompoundStatement b).attributes (map statement_tree (out-CompoundStatement b).statements.items) e h)
 
   -- three trees
   module _ (t u v : Tree) where
-    pub three_last : {R : Type 0} (r : Result R error.Error) → IsClear reply (before t end) → IsClear reply (before u end) → Checks names reply (before v end) r → Checks names reply (forest_of (t ∷ u ∷ v ∷ [])) r
+    pub three_last : {R : Type 0} (r : Result R Diagnostic) → IsClear reply (before t end) → IsClear reply (before u end) → Checks names reply (before v end) r → Checks names reply (forest_of (t ∷ u ∷ v ∷ [])) r
     three_last r p q h = next_checked reply names t (forest_of (u ∷ v ∷ [])) r p (next_checked reply names u (before v end) r q h)
 
-    pub three_second : (f : error.Error) → IsClear reply (before t end) → RefusesIn names reply (before u end) f → RefusesIn names reply (forest_of (t ∷ u ∷ v ∷ [])) f
+    pub three_second : (f : Diagnostic) → IsClear reply (before t end) → TellsIn names reply (before u end) f → TellsIn names reply (forest_of (t ∷ u ∷ v ∷ [])) f
     three_second f p h = next_checked reply names {A = ℕ} t (forest_of (u ∷ v ∷ [])) (Err f) p (first_refused reply names u (before v end) f h)
 
-    pub three_first : (f : error.Error) → RefusesIn names reply (before t end) f → RefusesIn names reply (forest_of (t ∷ u ∷ v ∷ [])) f
+    pub three_first : (f : Diagnostic) → TellsIn names reply (before t end) f → TellsIn names reply (forest_of (t ∷ u ∷ v ∷ [])) f
     three_first f h = first_refused reply names t (forest_of (u ∷ v ∷ [])) f h
 
-    pub three_in_turn : {R : Type 0} (r s w : Result R error.Error) → Checks names reply (before t end) r → Checks names reply (before u end) s → Checks names reply (before v end) w → Checks names reply (forest_of (t ∷ u ∷ v ∷ [])) (in_turn r s w)
+    pub three_in_turn : {R : Type 0} (r s w : Result R Diagnostic) → Checks names reply (before t end) r → Checks names reply (before u end) s → Checks names reply (before v end) w → Checks names reply (forest_of (t ∷ u ∷ v ∷ [])) (in_turn r s w)
     three_in_turn (Err e) s w p q h = three_first e p
     three_in_turn (Ok x) (Err e) w p q h = three_second e p q
     three_in_turn (Ok x) (Ok y) w p q h = three_last w p q h
 
   -- the `else if`s of an `if`
-  pub listed_checked : {R : Type 0} (es : Vec ElseIfClause Global) (r : Result R error.Error) → Checks names reply (forest_of (map else_if_view es.items)) r → Checks names reply (before (listed else_if_view list es) end) r
+  pub listed_checked : {R : Type 0} (es : Vec ElseIfClause Global) (r : Result R Diagnostic) → Checks names reply (forest_of (map else_if_view es.items)) r → Checks names reply (before (listed else_if_view list es) end) r
   listed_checked es r h = list_checked reply names (kind list) (forest_of (map else_if_view es.items)) r refl refl refl h

@@ -1,16 +1,16 @@
 -- Bodies, and loops with what closes their lists.
 use Rattle.std.proofs.Common.{◌≡◌, ℕ, true, false, List, [], ◌∷◌, ◌++◌, ◌⊎◌, inl, inr, Option, Some, None, Result, Err, Vec, Global, refl, sym, ap, ◌∙◌, subst}
 use Rattle.wesl_chains.specs.Faults.{Stands, inside, beside, list_faults, list_at}
-use Rattle.wesl_chains.specs.Judging.{IsClear, RefusesIn, Checks, closing}
+use Rattle.wesl_chains.specs.Judging.{IsClear, Checks, closing}
 use Rattle.wesl_chains.specs.Lists.{Element, elements, back, option_of, alone, judged, is_entered, is_closed, holds_body}
 use Rattle.wesl_chains.specs.Nodes.{optional_forest}
 use Rattle.wesl_branches.proofs.Standing.{stay, below, held_body, in_held_body, held_option, in_held_option, passed_by, refuses_more, checks_same, list_refused, list_checked, skip}
 use Rattle.wesl_branches.proofs.Walked.{open_front}
-use Rattle.wesl_chains.specs.Evaluation.{Refuses}
 use Rattle.wesl_chains.specs.FormulaFaults.{Fault}
 use Rattle.wesl_features.specs.Features.{Replies, known}
+use Rattle.wesl_branches.proofs.Told.{TellsIn, TellsOf}
 use Rattle.wesl_names.specs.Path.{Text}
-use Rattle.wesl_names.specs.declared.errors.Error as error
+use Rattle.wesl_names.specs.declared.errors.Diagnostic.{Diagnostic}
 use Rattle.wesl_syntax.specs.Tree.{Label, Forest, Tree, end, tree, kind, before, forest_of, branch, compound, statements}
 use Rattle.wesl_syntax.specs.View.{attributes_tree, optional}
 use Rattle.wesl_syntax.specs.declared.attribute.Attribute.{Attribute}
@@ -21,12 +21,12 @@ module _ (reply : Replies ℕ) (names : List Text) where
   abbrev pub body : Vec (Spanned Attribute) Global → List Tree → Tree
   body a ts = branch compound (attributes_tree a ∷ branch statements ts ∷ [])
 
-  pub body_refused : (a : Vec (Spanned Attribute) Global) (ts : List Tree) (e : error.Error) → Refuses names (list_faults reply false (elements false (forest_of ts))) e → RefusesIn names reply (before (body a ts) end) e
+  pub body_refused : (a : Vec (Spanned Attribute) Global) (ts : List Tree) (e : Diagnostic) → TellsOf names (list_faults reply false (elements false (forest_of ts))) e → TellsIn names reply (before (body a ts) end) e
   body_refused a ts e h =
       list_checked reply names {A = ℕ} (kind compound) (forest_of (attributes_tree a ∷ branch statements ts ∷ [])) (Err e) refl refl refl
       (skip reply names {A = ℕ} (attributes_tree a) (before (branch statements ts) end) (Err e) refl (list_refused reply names (kind statements) (forest_of ts) e refl h))
 
-  pub body_checked : {A : Type 0} (a : Vec (Spanned Attribute) Global) (ts : List Tree) (r : Result A error.Error) → list_faults reply false (elements false (forest_of ts)) ≡ [] → Checks names reply (alone (stay reply) (forest_of ts)) r → Checks names reply (before (body a ts) end) r
+  pub body_checked : {A : Type 0} (a : Vec (Spanned Attribute) Global) (ts : List Tree) (r : Result A Diagnostic) → list_faults reply false (elements false (forest_of ts)) ≡ [] → Checks names reply (alone (stay reply) (forest_of ts)) r → Checks names reply (before (body a ts) end) r
   body_checked a ts r none h =
       list_checked reply names (kind compound) (forest_of (attributes_tree a ∷ branch statements ts ∷ [])) r refl refl refl
       (skip reply names (attributes_tree a) (before (branch statements ts) end) r refl (list_checked reply names (kind statements) (forest_of ts) r refl none refl h))
@@ -76,13 +76,13 @@ module _ (reply : Replies ℕ) (names : List Text) where
     of_last : (o : Option B) → list_faults reply false (all o) ≡ [] → (f : Fault ℕ) → Stands reply false (closing (known reply) (forest_of ts) (optional_forest last o)) f → Stands reply false (tree l (held o) end) f
     of_last o none f s = from_inside o none f (beside (beside (in_held_option reply (back true (stay reply (all o))) f s)))
 
-    pub closed_refused : (o : Option B) (e : error.Error) → Refuses names (list_faults reply false (all o)) e → RefusesIn names reply (tree l (held o) end) e
-    closed_refused o e h = list_refused reply names l (held o) e entered (subst (λ xs. Refuses names (list_faults reply false xs) e) (sym (its_list o)) h)
+    pub closed_refused : (o : Option B) (e : Diagnostic) → TellsOf names (list_faults reply false (all o)) e → TellsIn names reply (tree l (held o) end) e
+    closed_refused o e h = list_refused reply names l (held o) e entered (subst (λ xs. TellsOf names (list_faults reply false xs) e) (sym (its_list o)) h)
 
-    pub front_refused : (o : Option B) (e : error.Error) → list_faults reply false (all o) ≡ [] → RefusesIn names reply (alone (stay reply) (forest_of ts)) e → RefusesIn names reply (tree l (held o) end) e
+    pub front_refused : (o : Option B) (e : Diagnostic) → list_faults reply false (all o) ≡ [] → TellsIn names reply (alone (stay reply) (forest_of ts)) e → TellsIn names reply (tree l (held o) end) e
     front_refused o e none h = refuses_more reply names (alone (stay reply) (forest_of ts)) (tree l (held o) end) e (of_front o none) h
 
-    pub closed_checked : {A : Type 0} (o : Option B) (r : Result A error.Error) → list_faults reply false (all o) ≡ [] → IsClear reply (alone (stay reply) (forest_of ts)) → Checks names reply (closing (known reply) (forest_of ts) (optional_forest last o)) r → Checks names reply (tree l (held o) end) r
+    pub closed_checked : {A : Type 0} (o : Option B) (r : Result A Diagnostic) → list_faults reply false (all o) ≡ [] → IsClear reply (alone (stay reply) (forest_of ts)) → Checks names reply (closing (known reply) (forest_of ts) (optional_forest last o)) r → Checks names reply (tree l (held o) end) r
     closed_checked o r none clear h = checks_same reply names (closing (known reply) (forest_of ts) (optional_forest last o)) (tree l (held o) end) r
         (λ f s. elim (parts_of o none f s) [
           | inl s ↦ absurd (clear f s)
@@ -90,7 +90,7 @@ module _ (reply : Replies ℕ) (names : List Text) where
         ])
         (of_last o none) h
 
-    pub closed_front : {A : Type 0} (o : Option B) (r : Result A error.Error) → list_faults reply false (all o) ≡ [] → IsClear reply (closing (known reply) (forest_of ts) (optional_forest last o)) → Checks names reply (alone (stay reply) (forest_of ts)) r → Checks names reply (tree l (held o) end) r
+    pub closed_front : {A : Type 0} (o : Option B) (r : Result A Diagnostic) → list_faults reply false (all o) ≡ [] → IsClear reply (closing (known reply) (forest_of ts) (optional_forest last o)) → Checks names reply (alone (stay reply) (forest_of ts)) r → Checks names reply (tree l (held o) end) r
     closed_front o r none clear h = checks_same reply names (alone (stay reply) (forest_of ts)) (tree l (held o) end) r
         (λ f s. elim (parts_of o none f s) [
           | inl s ↦ s

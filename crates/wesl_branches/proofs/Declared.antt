@@ -1,16 +1,17 @@
 -- Faults in imports, directives and declarations, from the faults in their parts.
 use Rattle.std.proofs.Common.{◌≡◌, ℕ, false, true, List, [], ◌∷◌, map, Option, Result, Ok, Err, refl, sym, ap, ◌∙◌, subst}
 use Rattle.wesl_chains.specs.Faults.{list_faults, list_at}
-use Rattle.wesl_chains.specs.Judging.{IsClear, RefusesIn, Checks}
+use Rattle.wesl_chains.specs.Judging.{IsClear, Checks}
 use Rattle.wesl_chains.specs.Lists.{elements, alone, judged, is_entered, holds_body}
 use Rattle.wesl_branches.proofs.Checked.{clear_optional}
 use Rattle.wesl_branches.proofs.Levels.{type_label}
 use Rattle.wesl_branches.proofs.Standing.{stay, list_checked, list_refused, first_refused, next_checked, skip}
 use Rattle.wesl_branches.proofs.Walked.{clear_nodes}
-use Rattle.wesl_chains.specs.Evaluation.{Judges, Refuses}
+use Rattle.wesl_chains.specs.Evaluation.{Judges}
 use Rattle.wesl_features.specs.Features.{Replies, known}
+use Rattle.wesl_branches.proofs.Told.{TellsIn, TellsOf}
 use Rattle.wesl_names.specs.Path.{Text}
-use Rattle.wesl_names.specs.declared.errors.Error as error
+use Rattle.wesl_names.specs.declared.errors.Diagnostic.{Diagnostic}
 use Rattle.wesl_syntax.specs.Tree.{Tree, Label, Forest, end, tree, kind, at, before, branch, binder, forest_of, imports, import_node, directive_list, directive_node, declarations, declaration_node, struct, members, member_node, function, parameters}
 use Rattle.wesl_syntax.specs.View.{attributes_tree, compound_view, directive_view, function_view, global_view, ident_tree, import_view, listed, member_view, optional, parameter_view, placed, struct_view, type_view}
 use Rattle.wesl_syntax.specs.declared.declaration.Function.{Function}
@@ -27,13 +28,13 @@ module _ (reply : Replies ℕ) (names : List Text) where
   -- a list of nodes that hold no list
   module _ {A R : Type 0} (view : A → Tree) (leaf : (x : A) → is_entered (view x).label ≡ false) (l : Label) (xs : List A) where
     leaves_judged : is_entered l ≡ true → list_at false l (forest_of (map view xs)) ≡ elements false (forest_of (map view xs)) → holds_body false l ≡ false → judged (stay reply) false l (forest_of (map view xs)) ≡ alone (stay reply) (forest_of (map view xs))
-        → (r : Result R error.Error) → Judges names (list_faults reply false (elements false (forest_of (map view xs)))) r → Checks names reply (tree l (forest_of (map view xs)) end) r
+        → (r : Result R Diagnostic) → Judges names (list_faults reply false (elements false (forest_of (map view xs)))) r → Checks names reply (tree l (forest_of (map view xs)) end) r
     leaves_judged en its apart all (Ok x) h =
         list_checked reply names l (forest_of (map view xs)) (Ok x) en (ap (list_faults reply false) its ∙ h) apart
         (subst (IsClear reply) (sym all) (clear_nodes reply view leaf xs))
-    leaves_judged en its apart all (Err e) h = list_refused reply names l (forest_of (map view xs)) e en (subst (λ ys. Refuses names (list_faults reply false ys) e) (sym its) h)
+    leaves_judged en its apart all (Err e) h = list_refused reply names l (forest_of (map view xs)) e en (subst (λ ys. TellsOf names (list_faults reply false ys) e) (sym its) h)
 
-  module _ {R : Type 0} (r : Result R error.Error) where
+  module _ {R : Type 0} (r : Result R Diagnostic) where
     abbrev Good : Tree → Type 0
     Good t = Checks names reply (before t end) r
 
@@ -70,7 +71,7 @@ module _ (reply : Replies ℕ) (names : List Text) where
     abbrev after : Forest
     after = forest_of (attributes_tree f.return_attributes ∷ optional type_view f.return_type ∷ compound_view f.body ∷ [])
 
-    around : {R : Type 0} (r : Result R error.Error) → Checks names reply (before its_parameters after) r → Checks names reply (before (function_view f) end) r
+    around : {R : Type 0} (r : Result R Diagnostic) → Checks names reply (before its_parameters after) r → Checks names reply (before (function_view f) end) r
     around r h =
         list_checked reply names (kind function) (before (attributes_tree f.attributes) (before (ident_tree binder f.ident) (before its_parameters after))) r refl refl refl
         (skip reply names (attributes_tree f.attributes) (before (ident_tree binder f.ident) (before its_parameters after)) r refl (skip reply names (ident_tree binder f.ident) (before its_parameters after) r refl h))
@@ -78,10 +79,10 @@ module _ (reply : Replies ℕ) (names : List Text) where
     clear_type : (o : Option TypeExpression) → IsClear reply (before (optional type_view o) end)
     clear_type o = clear_optional reply names type_view (λ t. ap is_entered (type_label (known reply) t)) o
 
-    pub function_refused : (e : error.Error) → Refuses names (list_faults reply false (elements false (forest_of (map parameter_view f.parameters.items)))) e → RefusesIn names reply (before (function_view f) end) e
+    pub function_refused : (e : Diagnostic) → TellsOf names (list_faults reply false (elements false (forest_of (map parameter_view f.parameters.items)))) e → TellsIn names reply (before (function_view f) end) e
     function_refused e h = around {R = ℕ} (Err e) (first_refused reply names its_parameters after e (parameters_judged {R = ℕ} (Err e) f.parameters.items h))
 
-    pub function_checked : {R : Type 0} (r : Result R error.Error) → list_faults reply false (elements false (forest_of (map parameter_view f.parameters.items))) ≡ [] → Checks names reply (before (compound_view f.body) end) r → Checks names reply (before (function_view f) end) r
+    pub function_checked : {R : Type 0} (r : Result R Diagnostic) → list_faults reply false (elements false (forest_of (map parameter_view f.parameters.items))) ≡ [] → Checks names reply (before (compound_view f.body) end) r → Checks names reply (before (function_view f) end) r
     function_checked r clear h =
         around r (next_checked reply names its_parameters after r (parameters_judged {R = ℕ} (Ok 0) f.parameters.items clear)
         (skip reply names (attributes_tree f.return_attributes) (forest_of (optional type_view f.return_type ∷ compound_view f.body ∷ [])) r refl

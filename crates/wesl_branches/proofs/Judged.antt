@@ -4,11 +4,11 @@ use Rattle.wesl_chains.specs.Judging.{Checks}
 use Rattle.wesl_chains.specs.Nodes.{replies}
 use Rattle.wesl_features.specs.declared.features.Features.{Features}
 use Rattle.wesl_names.specs.Path.{Text}
-use Rattle.wesl_names.specs.declared.errors.Error as error
+use Rattle.wesl_names.specs.declared.errors.Diagnostic.{Diagnostic}
 use Rattle.wesl_syntax.specs.Tree.{Tree, forest_of}
 use Rattle.wesl_syntax.specs.Unit.{UnitView, forest_of_unit, trees_of}
 
-module _ {R : Type 0} (r : Result R error.Error) (features : Features) where
+module _ {R : Type 0} (r : Result R Diagnostic) (features : Features) where
   abbrev parts_checked : List Text → Tree → Tree → Tree → Type 0
   parts_checked n i d g = Checks n (replies n features) (forest_of (i ∷ d ∷ g ∷ [])) r
 

@@ -1,3 +1,4 @@
+pub mod Told
 pub mod Walk
 pub mod Fronts
 pub mod Views

@@ -2,13 +2,13 @@
 use Rattle.std.proofs.Common.{◌≡◌, ℕ, Bool, true, false, List, [], ◌∷◌, ◌⊎◌, inl, inr, Result, Ok, Err, Vec, Global, refl, sym, subst}
 use Rattle.wesl_chains.specs.Chains.{staying}
 use Rattle.wesl_chains.specs.Faults.{Stands, here, inside, beside, list_faults, list_at}
-use Rattle.wesl_chains.specs.Judging.{IsClear, RefusesIn, Checks}
+use Rattle.wesl_chains.specs.Judging.{IsClear, Checks}
 use Rattle.wesl_chains.specs.Lists.{Element, element, back, option_of, judged, is_entered, holds_body}
-use Rattle.wesl_chains.specs.Evaluation.{Refuses}
 use Rattle.wesl_chains.specs.FormulaFaults.{Fault, IsAmong}
 use Rattle.wesl_features.specs.Features.{Replies, known}
+use Rattle.wesl_branches.proofs.Told.{TellsIn, TellsOf}
 use Rattle.wesl_names.specs.Path.{Text}
-use Rattle.wesl_names.specs.declared.errors.Error as error
+use Rattle.wesl_names.specs.declared.errors.Diagnostic.{Diagnostic}
 use Rattle.wesl_syntax.specs.Tree.{Label, Forest, Tree, end, tree, kind, before, compound, statements, present, absent}
 use Rattle.wesl_syntax.specs.View.{attributes_tree}
 use Rattle.wesl_syntax.specs.declared.attribute.Attribute.{Attribute}
@@ -73,11 +73,11 @@ module _ (reply : Replies ℕ) where
   ]
 
   module _ (names : List Text) where
-    pub refuses_more : (a b : Forest) (e : error.Error) → ((f : Fault ℕ) → Stands reply false a f → Stands reply false b f) → RefusesIn names reply a e → RefusesIn names reply b e
+    pub refuses_more : (a b : Forest) (e : Diagnostic) → ((f : Fault ℕ) → Stands reply false a f → Stands reply false b f) → TellsIn names reply a e → TellsIn names reply b e
     refuses_more a b e more (inl h) = inl (h.0, λ clear. h.1 (λ f s. clear f (more f s)))
     refuses_more a b e more (inr h) = inr (h.0, more h.0 h.1, h.2)
 
-    pub checks_same : {A : Type 0} (a b : Forest) (r : Result A error.Error) → ((f : Fault ℕ) → Stands reply false b f → Stands reply false a f) → ((f : Fault ℕ) → Stands reply false a f → Stands reply false b f) → Checks names reply a r → Checks names reply b r
+    pub checks_same : {A : Type 0} (a b : Forest) (r : Result A Diagnostic) → ((f : Fault ℕ) → Stands reply false b f → Stands reply false a f) → ((f : Fault ℕ) → Stands reply false a f → Stands reply false b f) → Checks names reply a r → Checks names reply b r
     checks_same a b (Ok x) back more h = λ f s. h f (back f s)
     checks_same a b (Err e) back more h = refuses_more a b e more h
 
@@ -86,22 +86,22 @@ module _ (reply : Replies ℕ) where
     none_if_clear (f ∷ fs) h = absurd (h f (inl refl))
 
     -- a fault of the node's own list
-    pub list_refused : (l : Label) (c : Forest) (e : error.Error) → is_entered l ≡ true → Refuses names (list_faults reply false (list_at false l c)) e → RefusesIn names reply (tree l c end) e
+    pub list_refused : (l : Label) (c : Forest) (e : Diagnostic) → is_entered l ≡ true → TellsOf names (list_faults reply false (list_at false l c)) e → TellsIn names reply (tree l c end) e
     list_refused l c e en (inl h) = inl (h.0, λ clear. h.1 (none_if_clear (list_faults reply false (list_at false l c)) (λ f among. clear f (here en among))))
     list_refused l c e en (inr h) = inr (h.0, here en h.1, h.2)
 
     -- what is inside
-    pub list_checked : {A : Type 0} (l : Label) (c : Forest) (r : Result A error.Error) → is_entered l ≡ true → list_faults reply false (list_at false l c) ≡ [] → holds_body false l ≡ false
+    pub list_checked : {A : Type 0} (l : Label) (c : Forest) (r : Result A Diagnostic) → is_entered l ≡ true → list_faults reply false (list_at false l c) ≡ [] → holds_body false l ≡ false
         → Checks names reply (judged stay false l c) r → Checks names reply (tree l c end) r
     list_checked l c r en none h checked = checks_same (judged stay false l c) (tree l c end) r
         (λ f s. subst (λ b. Stands reply b (judged stay false l c) f) h (below false l c none f s))
         (λ f s. inside en none (subst (λ b. Stands reply b (judged stay false l c) f) (sym h) s)) checked
 
     -- the first of some trees, and the others
-    pub first_refused : (t : Tree) (o : Forest) (e : error.Error) → RefusesIn names reply (before t end) e → RefusesIn names reply (before t o) e
+    pub first_refused : (t : Tree) (o : Forest) (e : Diagnostic) → TellsIn names reply (before t end) e → TellsIn names reply (before t o) e
     first_refused t o e = refuses_more (before t end) (before t o) e (in_first false t.label t.children o)
 
-    pub next_checked : {A : Type 0} (t : Tree) (o : Forest) (r : Result A error.Error) → IsClear reply (before t end) → Checks names reply o r → Checks names reply (before t o) r
+    pub next_checked : {A : Type 0} (t : Tree) (o : Forest) (r : Result A Diagnostic) → IsClear reply (before t end) → Checks names reply o r → Checks names reply (before t o) r
     next_checked t o r clear = checks_same o (before t o) r
         (λ f s. elim (split false t.label t.children o f s) [
           | inl first ↦ absurd (clear f first)
@@ -109,7 +109,7 @@ module _ (reply : Replies ℕ) where
         ])
         (λ f s. beside s)
 
-    pub skip : {A : Type 0} (t : Tree) (o : Forest) (r : Result A error.Error) → is_entered t.label ≡ false → Checks names reply o r → Checks names reply (before t o) r
+    pub skip : {A : Type 0} (t : Tree) (o : Forest) (r : Result A Diagnostic) → is_entered t.label ≡ false → Checks names reply o r → Checks names reply (before t o) r
     skip t o r e = next_checked t o r (clear_leaf t.label t.children e)
 
   -- A list judged by the node above.

@@ -6,7 +6,7 @@ use Rattle.wesl_features.specs.declared.chain.Role.{Role}
 use Rattle.wesl_chains.specs.Chains.{staying, residual_chain, residual_after, headed, later, live, chains, is_node, is_branch, branch}
 use Rattle.wesl_chains.specs.Conditions.{is_void}
 use Rattle.wesl_chains.specs.Faults.{Stands, beside}
-use Rattle.wesl_chains.specs.Judging.{IsClear, RefusesIn, Checks, closing}
+use Rattle.wesl_chains.specs.Judging.{IsClear, Checks, closing}
 use Rattle.wesl_chains.specs.Lists.{Element, element, still, elements, back, alone, is_entered}
 use Rattle.wesl_chains.specs.Nodes.{as_element}
 use Rattle.wesl_chains.specs.Following.{IsTurn}
@@ -16,8 +16,9 @@ use Rattle.wesl_branches.proofs.Standing.{stay, split, nothing, clear_leaf, pass
 use Rattle.wesl_features.specs.Answers.{Answers}
 use Rattle.wesl_chains.specs.FormulaFaults.{Fault}
 use Rattle.wesl_features.specs.Features.{Replies, known}
+use Rattle.wesl_branches.proofs.Told.{TellsIn}
 use Rattle.wesl_names.specs.Path.{Text}
-use Rattle.wesl_names.specs.declared.errors.Error as error
+use Rattle.wesl_names.specs.declared.errors.Diagnostic.{Diagnostic}
 use Rattle.wesl_syntax.specs.Tree.{Label, Forest, Tree, end, tree, before, forest_of}
 
 -- the nodes of the rest of a list that stay, where a branch of the chain before is kept, one was true
@@ -25,11 +26,11 @@ abbrev pub on_from : Replies ℕ → Bool → Bool → List (Element ℕ) → Fo
 on_from reply kept decided xs = back false (residual_after still (known reply) kept decided xs)
 
 -- the next node of a list judged inside if it stays: the faults in what stays are those in what stays of the rest, or one is told
-abbrev pub Walks : {A : Type 0} → List Text → Replies ℕ → Bool → Bool → Element ℕ → Bool → Bool → Result A error.Error → Type 0
+abbrev pub Walks : {A : Type 0} → List Text → Replies ℕ → Bool → Bool → Element ℕ → Bool → Bool → Result A Diagnostic → Type 0
 Walks names reply kept decided x kept' decided' (Ok done) = (rest : List (Element ℕ)) (f : Fault ℕ)
     → (Stands reply false (on_from reply kept decided (x ∷ rest)) f → Stands reply false (on_from reply kept' decided' rest) f)
     × (Stands reply false (on_from reply kept' decided' rest) f → Stands reply false (on_from reply kept decided (x ∷ rest)) f)
-Walks names reply kept decided x kept' decided' (Err e) = (rest : List (Element ℕ)) → RefusesIn names reply (on_from reply kept decided (x ∷ rest)) e
+Walks names reply kept decided x kept' decided' (Err e) = (rest : List (Element ℕ)) → TellsIn names reply (on_from reply kept decided (x ∷ rest)) e
 
 -- A list as elements.
 elements_of : (closes : Bool) (ts : List Tree) → elements closes (forest_of ts) ≡ map (as_element closes) ts
@@ -147,7 +148,7 @@ module _ (reply : Replies ℕ) where
   pub walks_past : {A : Type 0} (names : List Text) (k d k' d' b : Bool) (t : Tree) (x : A) → b ≡ false → IsTurn still (known reply) k d (as_element false t) k' d' (as_element false t) b → Walks names reply k d (as_element false t) k' d' (Ok x)
   walks_past names k d k' d' b t x e turn = λ rest. alike_equal (on_from reply k d (as_element false t ∷ rest)) (on_from reply k' d' rest) (goes k d k' d' b t e turn rest)
 
-  pub walks_in : {A : Type 0} (names : List Text) (k d k' d' b : Bool) (t : Tree) (r : Result A error.Error) → b ≡ true → IsTurn still (known reply) k d (as_element false t) k' d' (as_element false t) b → Checks names reply (before t end) r → Walks names reply k d (as_element false t) k' d' r
+  pub walks_in : {A : Type 0} (names : List Text) (k d k' d' b : Bool) (t : Tree) (r : Result A Diagnostic) → b ≡ true → IsTurn still (known reply) k d (as_element false t) k' d' (as_element false t) b → Checks names reply (before t end) r → Walks names reply k d (as_element false t) k' d' r
   walks_in names k d k' d' b t (Ok x) e turn clear = λ rest.
       let more = on_from reply k' d' rest in
       alike_then (on_from reply k d (as_element false t ∷ rest)) (before t more) more
@@ -160,7 +161,7 @@ module _ (reply : Replies ℕ) where
         λ s. beside s,
       ))
   walks_in names k d k' d' b t (Err e) is turn refused = λ rest.
-      subst (λ a. RefusesIn names reply a e) (sym (goes_in k d k' d' b t is turn rest)) (first_refused reply names t (on_from reply k' d' rest) e refused)
+      subst (λ a. TellsIn names reply a e) (sym (goes_in k d k' d' b t is turn rest)) (first_refused reply names t (on_from reply k' d' rest) e refused)
 
   -- The loop over a list.
   module _ {A : Type 0} (view : A → Tree) where
@@ -184,7 +185,7 @@ module _ (reply : Replies ℕ) where
         (subst (λ v. Alike a (on_from reply k d (as_element false (view v) ∷ rest))) (sym is) (subst (λ l. Alike a (on_from reply k d (nodes l))) (drop_more xs i x lt) so_far))
         (walked rest)
 
-    pub left_refused : (B : Type 0) (names : List Text) (xs : List A) (i : ℕ) (k d k' d' : Bool) (x : A) (e : error.Error) → i < length xs → x ≡ get_or xs i x → IsLeft xs i k d → Walks {A = B} names reply k d (as_element false (view x)) k' d' (Err e) → RefusesIn names reply (alone (stay reply) (forest_of (map view xs))) e
+    pub left_refused : (B : Type 0) (names : List Text) (xs : List A) (i : ℕ) (k d k' d' : Bool) (x : A) (e : Diagnostic) → i < length xs → x ≡ get_or xs i x → IsLeft xs i k d → Walks {A = B} names reply k d (as_element false (view x)) k' d' (Err e) → TellsIn names reply (alone (stay reply) (forest_of (map view xs))) e
     left_refused B names xs i k d k' d' x e lt is so_far walked =
         let a = alone (stay reply) (forest_of (map view xs)) in
         let rest = nodes (drop (i + 1) xs) in
@@ -222,7 +223,7 @@ module _ (reply : Replies ℕ) where
           λ s. beside s,
         ))
 
-    pub listed_refused : (names : List Text) (xs : List A) (i : ℕ) (x : A) (e : error.Error) → i < length xs → x ≡ get_or xs i x → IsListed xs i → RefusesIn names reply (before (view x) end) e → RefusesIn names reply (forest_of (map view xs)) e
+    pub listed_refused : (names : List Text) (xs : List A) (i : ℕ) (x : A) (e : Diagnostic) → i < length xs → x ≡ get_or xs i x → IsListed xs i → TellsIn names reply (before (view x) end) e → TellsIn names reply (forest_of (map view xs)) e
     listed_refused names xs i x e lt is so_far refused =
         let rest = forest_of (map view (drop (i + 1) xs)) in
         refuses_more reply names (before (view x) rest) (forest_of (map view xs)) e (λ f s. (listed_here xs i x lt is so_far f).1 s) (first_refused reply names (view x) rest e refused)

@@ -11,7 +11,7 @@ ghost use Rattle.wesl_syntax.specs.View.{clause_view, compound_view, continuing_
 use std::alloc::Global;
 use wesl_chains::{check_both, check_list, closes, stays};
 use wesl_features::{Chain, Features};
-use wesl_names::{Error, Names};
+use wesl_names::{Diagnostic, Names};
 use wesl_syntax::{
     CompoundStatement, ContinuingStatement, ElseClause, ElseIfClause, Statement, StatementNode,
     SwitchClause,
@@ -24,7 +24,7 @@ fn check_statement(
     statement: &Statement,
     names: &Names,
     features: &Features,
-) -> Result<(), Error>
+) -> Result<(), Diagnostic>
     ensures { Checks names.now (replies names.now features.now) (before (statement_view statement.now) end) result }
 {
     match statement {
@@ -76,7 +76,7 @@ fn check_statements(
     nodes: &Vec<StatementNode>,
     names: &Names,
     features: &Features,
-) -> Result<(), Error>
+) -> Result<(), Diagnostic>
     ensures { Checks names.now (replies names.now features.now) (alone (staying element (answers names.now features.now)) (forest_of (map statement_tree nodes.now.items))) result }
 {
     let mut chain = Chain::new();
@@ -98,7 +98,7 @@ pub fn check_body(
     body: &CompoundStatement,
     names: &Names,
     features: &Features,
-) -> Result<(), Error>
+) -> Result<(), Diagnostic>
     ensures { Checks names.now (replies names.now features.now) (before (compound_view body.now) end) result }
 {
     match check_list(alloc, &body.statements, names, features) {
@@ -114,7 +114,7 @@ fn check_else_ifs(
     clauses: &Vec<ElseIfClause>,
     names: &Names,
     features: &Features,
-) -> Result<(), Error>
+) -> Result<(), Diagnostic>
     ensures { Checks names.now (replies names.now features.now) (forest_of (map else_if_view clauses.now.items)) result }
 {
     for clause in clauses {
@@ -133,7 +133,7 @@ fn check_else(
     clause: &Option<ElseClause>,
     names: &Names,
     features: &Features,
-) -> Result<(), Error>
+) -> Result<(), Diagnostic>
     ensures { Checks names.now (replies names.now features.now) (before (optional else_view clause.now) end) result }
 {
     match clause {
@@ -149,7 +149,7 @@ fn check_clauses(
     clauses: &Vec<SwitchClause>,
     names: &Names,
     features: &Features,
-) -> Result<(), Error>
+) -> Result<(), Diagnostic>
     ensures { Checks names.now (replies names.now features.now) (before (branch clauses_kind (map clause_view clauses.now.items)) end) result }
 {
     match check_list(alloc, clauses, names, features) {
@@ -175,7 +175,7 @@ fn check_optional(
     node: &Option<Box<StatementNode>>,
     names: &Names,
     features: &Features,
-) -> Result<(), Error>
+) -> Result<(), Diagnostic>
     ensures { Checks names.now (replies names.now features.now) (before (optional (λ s. statement_tree (box_value s)) node.now) end) result }
 {
     match node {
@@ -192,7 +192,7 @@ fn check_last(
     continuing: &Option<ContinuingStatement>,
     names: &Names,
     features: &Features,
-) -> Result<(), Error>
+) -> Result<(), Diagnostic>
     ensures { Checks names.now (replies names.now features.now) (cond stays (optional_forest continuing_view continuing.now) end) result }
 {
     match continuing {

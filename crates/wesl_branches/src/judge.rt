@@ -8,7 +8,7 @@ use crate::checks::check_body;
 use std::alloc::Global;
 use wesl_chains::{check_list, stays};
 use wesl_features::{Chain, Features};
-use wesl_names::{Error, Names};
+use wesl_names::{Diagnostic, Names};
 use wesl_syntax::{GlobalDeclaration, GlobalDeclarationNode};
 
 /// Judges the conditions of declarations, and in those that stay.
@@ -17,7 +17,7 @@ pub fn check_declarations(
     declarations: &Vec<GlobalDeclarationNode>,
     names: &Names,
     features: &Features,
-) -> Result<(), Error>
+) -> Result<(), Diagnostic>
     ensures { Checks names.now (replies names.now features.now) (before (declarations_tree declarations.now) end) result }
 {
     match check_list(alloc, declarations, names, features) {
@@ -42,7 +42,7 @@ fn check_global(
     declaration: &GlobalDeclaration,
     names: &Names,
     features: &Features,
-) -> Result<(), Error>
+) -> Result<(), Diagnostic>
     ensures { Checks names.now (replies names.now features.now) (before (global_view declaration.now) end) result }
 {
     match declaration {

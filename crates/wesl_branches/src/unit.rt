@@ -13,11 +13,11 @@ use std::alloc::Global;
 use std::mem;
 use wesl_chains::{check_list, law_of_bounds, settle_list};
 use wesl_features::Features;
-use wesl_names::Error;
+use wesl_names::Diagnostic;
 use wesl_tree::TranslationUnit;
 
 /// Judges the conditions of a unit.
-pub fn check(alloc: Global, unit: &TranslationUnit, features: &Features) -> Result<(), Error>
+pub fn check(alloc: Global, unit: &TranslationUnit, features: &Features) -> Result<(), Diagnostic>
     ensures { Checks (unit_view unit.now).names (replies (unit_view unit.now).names features.now) (forest_of_unit (trees_of (unit_view unit.now))) result }
 {
     let names = unit.names();
