@@ -1,2 +1,3 @@
+mod HandedOn
 mod Stages
 mod Spelled

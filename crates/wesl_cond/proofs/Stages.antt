@@ -8,6 +8,7 @@ use Rattle.wesl_chains.specs.Residual.{residual_unit}
 use Rattle.wesl_cond.specs.Units.{left_of, GoesOn, IsFaultlessUnit, IsLeftOver, AreTwoStages, Picks}
 use Rattle.wesl_features.specs.Features.{Replies, known, by_number, HoldsNoError, then_replies}
 use Rattle.wesl_names.specs.Path.{Text}
+use Rattle.wesl_names.specs.declared.errors.Diagnostic.{Diagnostic, out-Diagnostic}
 use Rattle.wesl_names.specs.declared.errors.Error as error
 use Rattle.wesl_syntax.specs.Tree.{Forest}
 use Rattle.wesl_syntax.specs.Unit.{UnitView, UnitOf, trees_of, name_in}
@@ -39,8 +40,8 @@ not_clear : (names : List Text) (reply : Replies ℕ) (trees : Forest) (e : erro
 not_clear names reply trees e (inl h) clear = h.1 clear
 not_clear names reply trees e (inr h) clear = clear h.0 h.1
 
-pub err_not_clear : {A : Type 0} (names : List Text) (reply : Replies ℕ) (trees : Forest) (r : Result A error.Error) (e : error.Error) → r ≡ Err e → Checks names reply trees r → IsClear reply trees → ⊥
-err_not_clear names reply trees r e is h clear = not_clear names reply trees e (subst (Checks names reply trees) is h) clear
+pub err_not_clear : {A : Type 0} (names : List Text) (reply : Replies ℕ) (trees : Forest) (r : Result A Diagnostic) (e : Diagnostic) → r ≡ Err e → Checks names reply trees r → IsClear reply trees → ⊥
+err_not_clear names reply trees r e is h clear = not_clear names reply trees (out-Diagnostic e).error (subst (Checks names reply trees) is h) clear
 
 pub left_over_faultless : LaterStagesAreFaultless → (second : Replies Text) (before : UnitView) → HoldsNoError second → IsLeftOver before → IsFaultlessUnit second before
 left_over_faultless later second before h left =

@@ -1,14 +1,19 @@
 //! What features leave of a unit.
-ghost use Rattle.wesl_cond.specs.Conditioned.{IsConditioned};
+ghost use Rattle.std.specs.Prelude.{◌≡◌};
+ghost use Rattle.wesl_cond.specs.Conditioned.{IsConditioned, IsHandedOn};
+ghost use Rattle.wesl_names.specs.declared.errors.Diagnostic.{out-Diagnostic};
 
 use crate::unit::run;
 use std::alloc::Global;
 use wesl_features::Features;
-use wesl_names::Error;
+use wesl_names::{Diagnostic, Error, ResolveError};
 use wesl_tree::TranslationUnit;
 
 /// What the features leave of a unit (WESL, "ConditionalTranslation"). Without features no condition is judged, and the
-/// unit stays as it is. Refused where a fault of a condition stands.
+/// unit stays as it is.
+///
+/// It is refused where a fault of a condition stands. The diagnostic of the fault, which tells its place, is handed on as
+/// a resolver's refusal holds it; want of memory stays [`Error::Memory`], also where none is left for the box.
 pub fn condition(
     alloc: Global,
     unit: TranslationUnit,
@@ -22,6 +27,19 @@ pub fn condition(
     let mut unit = unit;
     match run(alloc, &mut unit, features) {
         Ok(()) => Ok(unit),
-        Err(told) => Err(told.into_error()),
+        Err(told) => Err(handed_on(alloc, told)),
+    }
+}
+
+/// What refuses a unit for a diagnostic: that in a box, or want of memory.
+fn handed_on(alloc: Global, told: Diagnostic) -> Error
+    ensures { IsHandedOn (λ fault. fault ≡ (out-Diagnostic told).error) result }
+{
+    match &told.error {
+        Error::Memory => Error::Memory,
+        _ => match Box::new(alloc, told) {
+            Ok(told) => Error::Resolve(ResolveError::Error(told)),
+            Err(_) => Error::Memory,
+        },
     }
 }

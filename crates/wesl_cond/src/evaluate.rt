@@ -18,7 +18,8 @@ use wesl_syntax::{Expression, ExpressionNode};
 /// What the features leave of a formula over the names of this table (WESL, "ConditionalTranslation").
 ///
 /// It is refused where a flag has template arguments or is answered by a refusal, and where an expression is none of
-/// `true`, `false`, a flag, parentheses, `!`, `&&` and `||`, in any part of the formula; and for want of memory.
+/// `true`, `false`, a flag, parentheses, `!`, `&&` and `||`, in any part of the formula; and for want of memory. The
+/// diagnostic of a fault tells the span of the expression at fault.
 pub fn eval_attr(
     alloc: Global,
     names: &Names,
@@ -29,7 +30,7 @@ pub fn eval_attr(
     ensures faultless { IfOk result (λ _. formula_faults (by_number names.now (answer_to features.now)) (form (expression_view expression.now.node)) ≡ []) }
     ensures refused { IfErr result (λ told. IsRefused names.now (formula_faults (by_number names.now (answer_to features.now)) (form (expression_view expression.now.node))) (out-Diagnostic told).error) }
 {
-    check_formula(alloc, &expression.node, names, features)?;
+    check_formula(alloc, expression, names, features)?;
     let mut copying = Copying::of(alloc);
     let copy = copying.expression(&expression.node);
     let mut left = copying.end(copy)?;

@@ -22,8 +22,9 @@ use wesl_tree::TranslationUnit;
 /// not looked into.
 ///
 /// It is refused, and the unit stays as it was, where a flag has template arguments or is answered by a refusal, where a
-/// formula is none, where an `@elif` or an `@else` goes on with no chain, and where a node has two conditions. Memory is
-/// taken to tell such a fault alone, so a unit without one is never refused.
+/// formula is none, where an `@elif` or an `@else` goes on with no chain, and where a node has two conditions. The
+/// diagnostic tells the span of the expression at fault, or of the node in the last two cases. Memory is taken to tell such
+/// a fault alone, so a unit without one is never refused.
 ///
 /// Runs may come in stages: what one run left is taken by the next, and the two leave what one run with
 /// [`Features::then`] of their features leaves. Where neither refuses a flag and the first met no fault, the next meets

@@ -20,7 +20,7 @@ use Rattle.wesl_resolver.specs.Packages.{IsRefusedIn}
 use Rattle.wesl_resolver.specs.declared.packages.CodegenPkg.{CodegenPkg}
 use Rattle.wesl_json.specs.UnitTexts.{IsTreeFault}
 use Rattle.wesl_reading.specs.Faults.{place_of}
-use Rattle.wesl_cond.specs.Conditioned.{IsRefusedBy}
+use Rattle.wesl_cond.specs.Conditioned.{IsHandedOn, IsRefusedBy}
 use Rattle.wesl_link.specs.Conditions.{RefusesLeft}
 use Rattle.wesl_link.specs.Linking.{RefusesLink, hands_left, refuses_left}
 use Rattle.wesl_program.specs.Fault as told
@@ -114,8 +114,14 @@ refused-by None given e h other = absurd h
 refused-by (Some features) given e (inl h) other = absurd (other h.0)
 refused-by (Some features) given e (inr h) other = tells-condition _ e h.0 h.2
 
+-- one refusal deeper, as a fault of a condition is handed on
+handed-on : (features : Option Features) (given : TranslationUnit) (e : error.Error) → IsHandedOn (IsRefusedBy features (unit_view given)) e → (e ≡ error.Memory → ⊥) → IsOfModules (fault_of e)
+handed-on features given e (fault, by, inl memory) other = absurd (other memory)
+handed-on features given e (fault, by, inr held) other =
+    subst (λ x. IsOfModules (fault_of x)) (sym held.1) (refused-with _ (λ inner f. refused-by features given inner (subst (IsRefusedBy features (unit_view given)) (sym f.0) by) f.1) held.0 held.2)
+
 left : (features : Option Features) (hands : UnitOf Text → Type 0) (e : resolve_error.ResolveError) → RefusesLeft features hands e → IsOfModules (fault_of_resolver e)
-left features hands e h = refused-with _ (λ fault f. refused-by features h.0 fault f.0 f.1) e h.2
+left features hands e h = refused-with _ (λ fault f. handed-on features h.0 fault f.0 f.1) e h.2
 
 at-origin : (o : Origin) (P Q R : Type 0) → (P → R) → (Q → R) → AtOrigin o P Q → R
 at-origin (from_package name) P Q R f g h = f h
