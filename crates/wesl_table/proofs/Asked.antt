@@ -97,8 +97,8 @@ items_asked : {I : Type 0} (published : Bool) (b : imports.Base) (is : List I) �
 items_asked published imports.unset is h = All-nil Imported
 items_asked published imports.nowhere is h = All-nil Imported
 items_asked published (imports.to p) [] h = All-nil Imported
-items_asked published (imports.to p) (i ∷ []) h = all_one Imported (record { bound = i; path = p; item = i; published = published }) h
-items_asked published (imports.to p) (i ∷ j ∷ is) h = all_one Imported (record { bound = j; path = p; item = i; published = published }) h
+items_asked published (imports.to p) (i ∷ []) h = all_one Imported (imports.import_of published p i i) h
+items_asked published (imports.to p) (i ∷ j ∷ is) h = all_one Imported (imports.import_of published p i j) h
 
 choose : {X : Type 0} (P : List X → Type 0) (a b : Bool) (xs ys zs : List X) → P xs → P ys → P zs → P (if a then xs else if b then ys else zs)
 choose P true b xs ys zs h i j = h

@@ -7,8 +7,8 @@ use Rattle.wesl_syntax.specs.Unit.{UnitOf, UnitView, name_in, spelled, trees_of}
 use Rattle.wesl_occurrences.specs.Occurrences.{occurrences}
 use Rattle.wesl_occurrences.specs.Pieces.{size, cut, declarations_in, starts_from, starts}
 use Rattle.wesl_occurrences.proofs.Cutting.{total, map_drop, cut_map}
-use Rattle.wesl_table.specs.Reading.{span, all_uses, own_path, unit_in, imports_in}
-use Rattle.wesl_table.specs.Tables.{uses, names_declared}
+use Rattle.wesl_table.specs.Reading.{span, all_uses, own_path, unit_in, scope_in}
+use Rattle.wesl_table.specs.Tables.{uses}
 use Rattle.wesl_table.specs.Uses.{use_of}
 use Rattle.wesl_table.specs.declared.reading.Reading.{Reading}
 use Rattle.wesl_table.proofs.Declared.{identifiers_respelled, trees_respelled}
@@ -103,7 +103,7 @@ first_in r = size (unit_in r).imports + size (unit_in r).directives
 pub uses_cut : (r : Reading) → uses (own_path r) (unit_in r) ≡ cut (declarations_in (unit_in r)) (drop (first_in r) (all_uses r))
 uses_cut r =
     let u : UnitOf Text = unit_in r in
-    let g = use_of (own_path r) (names_declared u) (imports_in r) (occurrences u) in
+    let g = use_of (scope_in r) (occurrences u) in
     let i : ℕ = size u.imports in
     let d : ℕ = size u.directives in
     cut_map g (declarations_in u) (drop d (drop i (occurrences u)))

@@ -5,14 +5,14 @@ use Rattle.std.specs.List.{list_any, cons_option}
 use Rattle.std.proofs.lemmas.Bool.Decides.{Decides-eqb}
 use Rattle.std.proofs.lemmas.Slice.Eq.{bytes_eq-Decides}
 use Rattle.wesl_names.specs.Path.{Text, Path}
+use Rattle.wesl_choices.specs.declared.place.Place.{Place}
 use Rattle.wesl_symbols.specs.declared.ids.PathId.{PathId}
 use Rattle.wesl_symbols.specs.declared.ids.NameId.{NameId}
 use Rattle.wesl_symbols.specs.declared.symbols.Import.{Import}
 use Rattle.wesl_symbols.specs.declared.symbols.Reference.{Reference}
-use Rattle.wesl_symbols.specs.declared.symbols.Symbol.{Symbol}
-use Rattle.wesl_table.specs.Numbering.{Numbering, AreRelated, IsRelatedOption, AreDifferent, AreNumberedImports, AreNumberedReferences, NameAt, PathAt}
+use Rattle.wesl_table.specs.Numbering.{Numbering, AreRelated, IsRelatedOption, AreDifferent, IsNumberedImport, AreNumberedImports, AreNumberedReferences, NameAt, PathAt}
 use Rattle.wesl_table.specs.Reading.{same_id, reference_by, imported_as, plain}
-use Rattle.wesl_table.specs.Tables.{reference_to}
+use Rattle.wesl_table.specs.Split.{Scope}
 use Rattle.wesl_table.specs.Uses.{under, in_place_of, asked_plain}
 
 same_bool : (a b : Bool) → (a ≡ true → b ≡ true) → (b ≡ true → a ≡ true) → a ≡ b
@@ -56,31 +56,33 @@ module _ (nb : Numbering) (different : AreDifferent nb.names) where
       (λ h. let (m, c, e) = any_there (same_id n) ns h in let (y, d, to) = holds m c in there_any (bytes_eq x) xs y d (sym (same_test n m x y at to) ∙ e))
       (λ h. let (y, d, e) = any_there (bytes_eq x) xs h in let (m, c, to) = has y d in there_any (same_id n) ns m c (same_test n m x y at to ∙ e))
 
-  one_import : (a b : Bool) → a ≡ b → (i : Import PathId NameId) (j : Import Path Text) → PathAt nb i.path j.path → NameAt nb i.item j.item → (rs : List (Reference PathId NameId)) (ss : List (Symbol Path Text))
-      → AreNumberedReferences nb rs (map reference_to ss) → AreNumberedReferences nb ((if a then reference_by i.item i.path ∷ [] else []) ++ rs) (map reference_to ((if b then under j.item j.path ∷ [] else []) ++ ss))
-  one_import true true e i j p n rs ss h = (record { path = p; name = n }, h)
-  one_import false false e i j p n rs ss h = h
-  one_import true false e i j p n rs ss h = absurd (let y : ⊥ = cc in y)
-  one_import false true e i j p n rs ss h = absurd (let y : ⊥ = cc in y)
+  one_import : (a b : Bool) → a ≡ b → (i : Import PathId NameId) (j : Import Path Text) → IsNumberedImport nb i j → (rs : List (Reference PathId NameId)) (ss : List (Reference Path Text))
+      → AreNumberedReferences nb rs ss
+      → AreNumberedReferences nb ((if a then record { path = i.path; name = i.item; from = i.from } ∷ [] else []) ++ rs) ((if b then record { path = j.path; name = j.item; from = j.from } ∷ [] else []) ++ ss)
+  one_import true true e i j same rs ss h = (record { path = same.path; name = same.item; from = same.from }, h)
+  one_import false false e i j same rs ss h = h
+  one_import true false e i j same rs ss h = absurd (let y : ⊥ = cc in y)
+  one_import false true e i j same rs ss h = absurd (let y : ⊥ = cc in y)
 
-  imports_ask : (n : NameId) (x : Text) → NameAt nb n x → (is : List (Import PathId NameId)) (js : List (Import Path Text)) → AreNumberedImports nb is js
-      → AreNumberedReferences nb (flat_map (imported_as n) is) (map reference_to (flat_map (in_place_of x) js))
-  imports_ask n x at [] [] h = tt
-  imports_ask n x at (i ∷ is) (j ∷ js) h =
-      one_import (same_id i.bound n) (bytes_eq j.bound x) (same_test i.bound n j.bound x h.0.bound at) i j h.0.path h.0.item (flat_map (imported_as n) is) (flat_map (in_place_of x) js) (imports_ask n x at is js h.1)
-  imports_ask n x at [] (j ∷ js) h = absurd h
-  imports_ask n x at (i ∷ is) [] h = absurd h
+  module _ (s : Scope) (here : Place) where
+    imports_ask : (n : NameId) (x : Text) → NameAt nb n x → (is : List (Import PathId NameId)) (js : List (Import Path Text)) → AreNumberedImports nb is js
+        → AreNumberedReferences nb (flat_map (imported_as n) is) (flat_map (in_place_of s here x) js)
+    imports_ask n x at [] [] h = tt
+    imports_ask n x at (i ∷ is) (j ∷ js) h =
+        one_import (same_id i.bound n) (bytes_eq j.bound x) (same_test i.bound n j.bound x h.0.bound at) i j h.0 (flat_map (imported_as n) is) (flat_map (in_place_of s here x) js) (imports_ask n x at is js h.1)
+    imports_ask n x at [] (j ∷ js) h = absurd h
+    imports_ask n x at (i ∷ is) [] h = absurd h
 
-  pub plain_ask : (p : PathId) (own : Path) (ns : List NameId) (xs : List Text) (is : List (Import PathId NameId)) (js : List (Import Path Text)) → PathAt nb p own
-      → ((n : NameId) → Contains ns n → (x : Text) × Contains xs x × NameAt nb n x) → ((x : Text) → Contains xs x → (n : NameId) × Contains ns n × NameAt nb n x) → AreNumberedImports nb is js
-      → (n : NameId) (x : Text) → NameAt nb n x → AreNumberedReferences nb (plain p ns is n) (map reference_to (asked_plain own xs js x))
-  plain_ask p own ns xs is js at holds has related n x named = by (list_any (same_id n) ns) (list_any (bytes_eq x) xs) (declared_test ns xs holds has n x named)
-    where
-      by : (a b : Bool) → a ≡ b → AreNumberedReferences nb (if a then reference_by n p ∷ [] else flat_map (imported_as n) is) (map reference_to (if b then under x own ∷ [] else flat_map (in_place_of x) js))
-      by true true e = (record { path = at; name = named }, tt)
-      by false false e = imports_ask n x named is js related
-      by true false e = absurd (let y : ⊥ = cc in y)
-      by false true e = absurd (let y : ⊥ = cc in y)
+    pub plain_ask : (p : PathId) (ns : List NameId) (is : List (Import PathId NameId)) → PathAt nb p s.own → ((n : NameId) → Contains ns n → (x : Text) × Contains s.declared x × NameAt nb n x)
+        → ((x : Text) → Contains s.declared x → (n : NameId) × Contains ns n × NameAt nb n x) → AreNumberedImports nb is s.imports
+        → (n : NameId) (x : Text) → NameAt nb n x → AreNumberedReferences nb (plain p ns is n) (asked_plain s here x)
+    plain_ask p ns is at holds has related n x named = by (list_any (same_id n) ns) (list_any (bytes_eq x) s.declared) (declared_test ns s.declared holds has n x named)
+      where
+        by : (a b : Bool) → a ≡ b → AreNumberedReferences nb (if a then reference_by n p ∷ [] else flat_map (imported_as n) is) (if b then under s here x s.own ∷ [] else flat_map (in_place_of s here x) s.imports)
+        by true true e = (record { path = at; name = named; from = refl }, tt)
+        by false false e = imports_ask n x named is s.imports related
+        by true false e = absurd (let y : ⊥ = cc in y)
+        by false true e = absurd (let y : ⊥ = cc in y)
 
 -- ---- the names that declarations bind
 

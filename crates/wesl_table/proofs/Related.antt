@@ -1,5 +1,5 @@
 -- What has numbers keeps them as names and paths are added.
-use Rattle.std.proofs.Common.{◌≡◌, ℕ, Option, Some, None, List, [], ◌∷◌, ◌++◌, map, take, length, get_or, sym, subst, ap, ◌∙◌, ◌<◌, ◌+◌}
+use Rattle.std.proofs.Common.{◌≡◌, ℕ, Option, Some, None, List, [], ◌∷◌, ◌++◌, map, take, length, get_or, false, refl, sym, subst, ap, ◌∙◌, ◌<◌, ◌+◌}
 use Rattle.std.proofs.lemmas.List.{map-append}
 use Rattle.wesl_names.specs.Path.{Text, Path}
 use Rattle.wesl_symbols.specs.declared.ids.PathId.{PathId}
@@ -29,29 +29,38 @@ module _ (a b : Numbering) (g : Grows a b) where
   name_option_later None (Some x) h = h
   name_option_later (Some n) None h = h
 
-  pub path_option_later : (o : Option PathId) (p : Option Path) → IsRelatedOption (PathAt a) o p → IsRelatedOption (PathAt b) o p
-  path_option_later None None h = h
-  path_option_later (Some n) (Some x) h = path_later n x h
-  path_option_later None (Some x) h = h
-  path_option_later (Some n) None h = h
-
   pub import_later : (i : Import PathId NameId) (j : Import Path Text) → SameImport (PathAt a) (NameAt a) i j → SameImport (PathAt b) (NameAt b) i j
-  import_later i j s = record { bound = name_later i.bound j.bound s.bound; path = path_later i.path j.path s.path; item = name_later i.item j.item s.item; published = s.published }
+  import_later i j s = record {
+    bound = name_later i.bound j.bound s.bound;
+    path = path_later i.path j.path s.path;
+    item = name_later i.item j.item s.item;
+    published = s.published;
+    place = s.place;
+    from = s.from;
+    order = s.order;
+  }
 
   pub reference_later : (r : Reference PathId NameId) (s : Reference Path Text) → SameReference (PathAt a) (NameAt a) r s → SameReference (PathAt b) (NameAt b) r s
-  reference_later r s h = record { path = path_option_later r.path s.path h.path; name = name_later r.name s.name h.name }
+  reference_later r s h = record { path = path_later r.path s.path h.path; name = name_later r.name s.name h.name; from = h.from }
 
   pub references_later : (rs : List (Reference PathId NameId)) (ss : List (Reference Path Text)) → AreRelated (SameReference (PathAt a) (NameAt a)) rs ss → AreRelated (SameReference (PathAt b) (NameAt b)) rs ss
   references_later rs ss h = related_more (SameReference (PathAt a) (NameAt a)) (SameReference (PathAt b) (NameAt b)) reference_later rs ss h
 
   pub declaration_later : (d : Declaration PathId NameId) (e : Declaration Path Text) → SameDeclaration (PathAt a) (NameAt a) d e → SameDeclaration (PathAt b) (NameAt b) d e
-  declaration_later d e h = record { name = name_option_later d.name e.name h.name; references = references_later d.references e.references h.references }
+  declaration_later d e h = record {
+    name = name_option_later d.name e.name h.name;
+    place = h.place;
+    references = references_later d.references e.references h.references;
+    unclear = related_more (NameAt a) (NameAt b) name_later d.unclear e.unclear h.unclear;
+  }
 
   pub table_later : (t : Table PathId NameId) (u : Table Path Text) → SameTable (PathAt a) (NameAt a) t u → SameTable (PathAt b) (NameAt b) t u
   table_later t u h = record {
     path = path_later t.path u.path h.path;
     imports = related_more (SameImport (PathAt a) (NameAt a)) (SameImport (PathAt b) (NameAt b)) import_later t.imports u.imports h.imports;
     declarations = related_more (SameDeclaration (PathAt a) (NameAt a)) (SameDeclaration (PathAt b) (NameAt b)) declaration_later t.declarations u.declarations h.declarations;
+    together = h.together;
+    crowded = h.crowded;
   }
 
   pub imports_later : (is : List (Import PathId NameId)) (js : List (Import Path Text)) → AreRelated (SameImport (PathAt a) (NameAt a)) is js → AreRelated (SameImport (PathAt b) (NameAt b)) is js
@@ -77,14 +86,17 @@ module _ (a b : Numbering) (g : Grows a b) where
 pub map_next : {X Y : Type 0} (f : X → Y) (xs : List X) (i : ℕ) (x : X) → i < length xs → x ≡ get_or xs i x → map f (take (i + 1) xs) ≡ map f (take i xs) ++ f x ∷ []
 map_next f xs i x b e = ap (map f) (take_next xs i x b e) ∙ map-append f (take i xs) (x ∷ [])
 
--- a table made of parts with numbers
+-- a table made of parts with numbers, in which conditions play no part
 pub table_made : (a b c : Numbering) → Grows a b → Grows b c → (id : PathId) (own : Path) (is : List (Import PathId NameId)) (js : List (Import Path Text)) (ds : List (Declaration PathId NameId)) (es : List (Declaration Path Text))
-    (t : Table PathId NameId) → t ≡ record { path = id; imports = is; declarations = ds } → PathAt a id own → AreRelated (SameImport (PathAt b) (NameAt b)) is js → AreNumberedDeclarations c ds es
-    → SameTable (PathAt c) (NameAt c) t (record { path = own; imports = js; declarations = es })
+    (t : Table PathId NameId) → t ≡ record { path = id; imports = is; declarations = ds; alive = []; is_crowded = false } → PathAt a id own → AreRelated (SameImport (PathAt b) (NameAt b)) is js → AreNumberedDeclarations c ds es
+    → SameTable (PathAt c) (NameAt c) t (record { path = own; imports = js; declarations = es; alive = []; is_crowded = false })
 table_made a b c g h id own is js ds es t e at imports declarations =
-    let same : SameTable (PathAt c) (NameAt c) (record { path = id; imports = is; declarations = ds }) (record { path = own; imports = js; declarations = es }) = record {
+    let made : Table Path Text = record { path = own; imports = js; declarations = es; alive = []; is_crowded = false } in
+    let same : SameTable (PathAt c) (NameAt c) (record { path = id; imports = is; declarations = ds; alive = []; is_crowded = false }) made = record {
       path = path_later b c h id own (path_later a b g id own at);
       imports = related_more (SameImport (PathAt b) (NameAt b)) (SameImport (PathAt c) (NameAt c)) (import_later b c h) is js imports;
       declarations = declarations;
+      together = λ x y. refl;
+      crowded = refl;
     } in
-    subst (λ (u : Table PathId NameId). SameTable (PathAt c) (NameAt c) u (record { path = own; imports = js; declarations = es })) (sym e) same
+    subst (λ (u : Table PathId NameId). SameTable (PathAt c) (NameAt c) u made) (sym e) same

@@ -1,12 +1,12 @@
 -- What an identifier is among all of its module, as the code sees it.
-use Rattle.std.proofs.Common.{◌≡◌, ℕ, zero, suc, ◌<◌, ◌≤◌, List, [], ◌∷◌, map, length, get_or, arith, refl, sym, subst, ap, ◌∙◌}
+use Rattle.std.proofs.Common.{◌≡◌, ℕ, zero, suc, ◌+◌, ◌<◌, ◌≤◌, List, [], ◌∷◌, map, length, get_or, arith, refl, sym, subst, ap, ◌∙◌}
 use Rattle.std.proofs.lemmas.List.{length-map}
 use denote.Ref.{Bor}
 use Rattle.wesl_names.specs.Path.{Text, Path, path_view}
 use Rattle.wesl_names.specs.declared.path.ModulePath.{ModulePath}
 use Rattle.wesl_syntax.specs.Unit.{name_in}
-use Rattle.wesl_symbols.specs.declared.symbols.Reference.{Reference}
-use Rattle.wesl_symbols.specs.declared.ids.PathId.{PathId}
+use Rattle.wesl_choices.specs.declared.place.Place.{Place}
+use Rattle.wesl_choices.specs.declared.place.Place.TheVariants.{Always, Name}
 use Rattle.wesl_symbols.specs.declared.ids.NameId.{NameId}
 use Rattle.wesl_occurrences.specs.Laws.{renamed, SpellingKeepsOccurrences}
 use Rattle.wesl_occurrences.specs.Occurrences as spec
@@ -22,9 +22,13 @@ use Rattle.wesl_meanings.specs.Scopes.{key_of}
 use Rattle.wesl_meanings.specs.declared.keys.Key.{Key}
 use Rattle.wesl_meanings.specs.declared.keys.Key.TheVariants as made
 use Rattle.wesl_table.specs.Numbering.{Numbering, NameAt}
-use Rattle.wesl_table.specs.Reading.{IsRead, IsNumberedBy, Marks, view_in, unit_in, own_path, imports_in, all_uses, use_at, plain_in, meant_in}
-use Rattle.wesl_table.specs.Tables.{paired, names_declared}
-use Rattle.wesl_table.specs.Uses.{Use, refers, local, under, aims, use_as}
+use Rattle.wesl_table.specs.Reading.{IsRead, IsNumberedBy, Marks, view_in, unit_in, scope_in, all_uses, use_at, plain_in, aimed_in, meant_by}
+use Rattle.wesl_syntax.specs.Tree.{TreeOf}
+use Rattle.wesl_symbols.specs.Tables.{Declaration}
+use Rattle.wesl_table.specs.Split.{Scope}
+use Rattle.wesl_table.specs.Tables.{paired, declaration_of, declarations_from}
+use Rattle.wesl_table.specs.Uses.{Use, local, meant, use_as}
+use Rattle.wesl_table.specs.declared.marks.Asked.{Asked}
 use Rattle.wesl_table.specs.declared.marks.Mark.{Mark}
 use Rattle.wesl_table.specs.declared.reading.Reading.{Reading}
 use Rattle.wesl_table.proofs.Naming.{related_length, related_at}
@@ -47,19 +51,36 @@ module _ {X Y Z : Type 0} where
   paired_right g f (x ∷ xs) [] = refl
   paired_right g f (x ∷ xs) (v ∷ vs) = ap (λ zs. g x (f v) ∷ zs) (paired_right g f xs vs)
 
-  pub paired_length : (g : X → Y → Z) (xs : List X) (ys : List Y) → length xs ≡ length ys → length (paired g xs ys) ≡ length xs
-  paired_length g [] [] e = refl
-  paired_length g [] (y ∷ ys) e = refl
-  paired_length g (x ∷ xs) [] e = absurd (omega (arith, e))
-  paired_length g (x ∷ xs) (y ∷ ys) e = ap suc (paired_length g xs ys (omega (arith, e)))
-
-  pub paired_at : (g : X → Y → Z) (xs : List X) (ys : List Y) (i : ℕ) (x : X) (y : Y) (z : Z) → i < length xs → i < length ys → x ≡ get_or xs i x → y ≡ get_or ys i y → get_or (paired g xs ys) i z ≡ g x y
+  paired_at : (g : X → Y → Z) (xs : List X) (ys : List Y) (i : ℕ) (x : X) (y : Y) (z : Z) → i < length xs → i < length ys → x ≡ get_or xs i x → y ≡ get_or ys i y → get_or (paired g xs ys) i z ≡ g x y
   paired_at g [] ys i x y z h k e f = absurd (omega (arith, h))
   paired_at g (a ∷ xs) [] i x y z h k e f = absurd (omega (arith, k))
   paired_at g (a ∷ xs) (b ∷ ys) zero x y z h k e f = ap (λ u. g u b) (sym e) ∙ ap (g x) (sym f)
   paired_at g (a ∷ xs) (b ∷ ys) (suc i) x y z h k e f = paired_at g xs ys i x y z (omega (arith, h)) (omega (arith, k)) e f
 
+-- ---- the declarations of a table
+
+module _ (s : Scope) where
+  pub declarations_length : (n : ℕ) (ts : List (TreeOf Text)) (us : List (List (Use Path Text))) → length ts ≡ length us → length (declarations_from s n ts us) ≡ length ts
+  declarations_length n [] [] e = refl
+  declarations_length n [] (u ∷ us) e = refl
+  declarations_length n (t ∷ ts) [] e = absurd (omega (arith, e))
+  declarations_length n (t ∷ ts) (u ∷ us) e = ap suc (declarations_length (suc n) ts us (omega (arith, e)))
+
+  pub declarations_at : (n : ℕ) (ts : List (TreeOf Text)) (us : List (List (Use Path Text))) (i : ℕ) (t : TreeOf Text) (u : List (Use Path Text)) (z : Declaration Path Text) → i < length ts → i < length us → t ≡ get_or ts i t → u ≡ get_or us i u
+      → get_or (declarations_from s n ts us) i z ≡ declaration_of s (n + i) t u
+  declarations_at n [] us i t u z h k e f = absurd (omega (arith, h))
+  declarations_at n (a ∷ ts) [] i t u z h k e f = absurd (omega (arith, k))
+  declarations_at n (a ∷ ts) (b ∷ us) zero t u z h k e f = let m : n + zero ≡ n = omega arith in ap (λ x. declaration_of s n x b) (sym e) ∙ (ap (declaration_of s n t) (sym f) ∙ ap (λ j. declaration_of s j t u) (sym m))
+  declarations_at n (a ∷ ts) (b ∷ us) (suc i) t u z h k e f = let m : suc n + i ≡ n + suc i = omega arith in declarations_at (suc n) ts us i t u z (omega (arith, h)) (omega (arith, k)) e f ∙ ap (λ j. declaration_of s j t u) m
+
 -- ---- the identifiers of a module that is read
+
+-- it plays no part where an identifier stands
+anywhere : (s : Scope) (a b : Place) (x : Text) (k : scopes.Key) → meant s a x k ≡ meant s b x k
+anywhere s a b x (scopes.bound [] m) = refl
+anywhere s a b x (scopes.bound (j ∷ outer) m) = refl
+anywhere s a b x (scopes.free m) = refl
+anywhere s a b x (scopes.qualified p m) = refl
 
 module _ (r : Reading) (read : IsRead r) (law : SpellingKeepsOccurrences) where
   abbrev all : List Occurrence
@@ -71,17 +92,17 @@ module _ (r : Reading) (read : IsRead r) (law : SpellingKeepsOccurrences) where
   abbrev block_way : ℕ → spec.Block
   block_way = way r.meanings.now.found.outer.items
 
-  abbrev used : spec.Standing → Text → scopes.Key → Use Path Text
-  used s x k = use_as (own_path r) (names_declared (unit_in r)) (imports_in r) s x k
+  abbrev used : Place → spec.Standing → Text → scopes.Key → Use Path Text
+  used here s x k = use_as (scope_in r) here s x k
 
   abbrev pub use_seen : Occurrence → Key → Use Path Text
-  use_seen o k = used (standing_view o.standing) (name_in (view_in r).names o.ident.0) (key_view block_way k)
+  use_seen o k = used (Name o.place) (standing_view o.standing) (name_in (view_in r).names o.ident.0) (key_view block_way k)
 
   occurrences_are : occurrences (unit_in r) ≡ map (renamed (name_in (view_in r).names)) (map (told block_way) (map occurrence_view all))
   occurrences_are = law (view_in r) ∙ ap (map (renamed (name_in (view_in r).names))) (sym read.found)
 
   abbrev by_key : spec.Occurrence Text → scopes.Key → Use Path Text
-  by_key o k = used o.role o.name k
+  by_key o k = used (Name o.place) o.role o.name k
 
   uses_seen : all_uses r ≡ paired use_seen all all_keys
   uses_seen =
@@ -109,16 +130,22 @@ module _ (r : Reading) (read : IsRead r) (law : SpellingKeepsOccurrences) where
       ap (λ us. get_or us i (local 0 [])) uses_seen ∙ paired_at use_seen all all_keys i o k (local 0 []) h (omega (arith, h, keys_length)) e f
 
   -- the mark of an identifier that stands so is its mark among all
-  pub mark_there : (nb : Numbering) (m : Mark) (old new : List (Reference PathId NameId)) (i : ℕ) (o : Occurrence) (k : Key) (s : Standing) → i < length all → o ≡ get_or all i o → k ≡ get_or all_keys i k → o.standing ≡ s
-      → Marks nb m old new (used (standing_view s) (name_in (view_in r).names o.ident.0) (key_view block_way k)) → Marks nb m old new (use_at r i)
+  pub mark_there : (nb : Numbering) (m : Mark) (old new : Asked) (i : ℕ) (o : Occurrence) (k : Key) (s : Standing) → i < length all → o ≡ get_or all i o → k ≡ get_or all_keys i k → o.standing ≡ s
+      → Marks nb m old new (used (Name o.place) (standing_view s) (name_in (view_in r).names o.ident.0) (key_view block_way k)) → Marks nb m old new (use_at r i)
   mark_there nb m old new i o k s h e f at marked =
-      subst (Marks nb m old new) (sym (use_there i o k h e f ∙ ap (λ t. used (standing_view t) (name_in (view_in r).names o.ident.0) (key_view block_way k)) at)) marked
+      subst (Marks nb m old new) (sym (use_there i o k h e f ∙ ap (λ t. used (Name o.place) (standing_view t) (name_in (view_in r).names o.ident.0) (key_view block_way k)) at)) marked
 
   -- and so is that of a parameter, a local declaration or a reference, which is what the name means
-  pub mark_meant : (nb : Numbering) (m : Mark) (old new : List (Reference PathId NameId)) (i : ℕ) (o : Occurrence) (k : Key) → i < length all → o ≡ get_or all i o → k ≡ get_or all_keys i k → (o.standing ≡ standings.ModuleName → ⊥)
-      → (o.standing ≡ standings.Word → ⊥) → Marks nb m old new (meant_in r (name_in (view_in r).names o.ident.0) (key_view block_way k)) → Marks nb m old new (use_at r i)
-  mark_meant nb m old new i o k h e f no_name no_word marked = by o.standing refl
+  pub mark_meant : (nb : Numbering) (m : Mark) (old new : Asked) (i : ℕ) (o : Occurrence) (k : Key) → i < length all → o ≡ get_or all i o → k ≡ get_or all_keys i k → (o.standing ≡ standings.ModuleName → ⊥)
+      → (o.standing ≡ standings.Word → ⊥) → Marks nb m old new (meant_by r k (name_in (view_in r).names o.ident.0)) → Marks nb m old new (use_at r i)
+  mark_meant nb m old new i o k h e f no_name no_word marked_anywhere = by o.standing refl
     where
+      x : Text
+      x = name_in (view_in r).names o.ident.0
+
+      marked : Marks nb m old new (meant (scope_in r) (Name o.place) x (key_view block_way k))
+      marked = subst (Marks nb m old new) (anywhere (scope_in r) Always (Name o.place) x (key_view block_way k)) marked_anywhere
+
       by : (s : Standing) → o.standing ≡ s → Marks nb m old new (use_at r i)
       by standings.ModuleName at = absurd (no_name at)
       by standings.Word at = absurd (no_word at)
@@ -141,20 +168,17 @@ module _ (r : Reading) (read : IsRead r) (law : SpellingKeepsOccurrences) where
 -- ---- what names ask for, by what they mean
 
 module _ (r : Reading) (x : Text) (k : Key) where
-  abbrev meant_here : Use Path Text
-  meant_here = meant_in r x (key_view (way r.meanings.now.found.outer.items) k)
-
-  pub meant_module : (b : ℕ) (y : Bor (List ℕ)) → k ≡ made.Bound b y → b ≤ 0 → IsKeyBelow (length r.meanings.now.found.outer.items) k → meant_here ≡ refers x (plain_in r x)
+  pub meant_module : (b : ℕ) (y : Bor (List ℕ)) → k ≡ made.Bound b y → b ≤ 0 → IsKeyBelow (length r.meanings.now.found.outer.items) k → meant_by r k x ≡ plain_in r x
   meant_module b y e h below =
       let w : ℕ → spec.Block = way r.meanings.now.found.outer.items in
       let z : b ≡ 0 = omega (arith, h) in
       let some : b < length r.meanings.now.found.outer.items = subst (IsKeyBelow (length r.meanings.now.found.outer.items)) e below in
-      ap (λ k. meant_in r x (key_view w k)) e
-      ∙ (ap (λ b. meant_in r x (scopes.bound (w b) y.now)) z
-      ∙ ap (λ ws. meant_in r x (scopes.bound ws y.now)) (way_module r.meanings.now.found.outer.items (omega (arith, some))))
+      ap (λ k. meant_by r k x) e
+      ∙ (ap (λ b. meant (scope_in r) Always x (scopes.bound (w b) y.now)) z
+      ∙ ap (λ ws. meant (scope_in r) Always x (scopes.bound ws y.now)) (way_module r.meanings.now.found.outer.items (omega (arith, some))))
 
-  pub meant_free : (y : Bor (List ℕ)) → k ≡ made.Free y → meant_here ≡ refers x (plain_in r x)
-  meant_free y e = ap (λ k. meant_in r x (key_view (way r.meanings.now.found.outer.items) k)) e
+  pub meant_free : (y : Bor (List ℕ)) → k ≡ made.Free y → meant_by r k x ≡ plain_in r x
+  meant_free y e = ap (λ k. meant_by r k x) e
 
-  pub meant_aimed : (p : Bor ModulePath) (y : Bor (List ℕ)) → k ≡ made.Qualified p y → meant_here ≡ refers x (map (under x) (aims (own_path r) (imports_in r) (path_view p.now)))
-  meant_aimed p y e = ap (λ k. meant_in r x (key_view (way r.meanings.now.found.outer.items) k)) e
+  pub meant_aimed : (p : Bor ModulePath) (y : Bor (List ℕ)) → k ≡ made.Qualified p y → meant_by r k x ≡ aimed_in r p.now x
+  meant_aimed p y e = ap (λ k. meant_by r k x) e

@@ -6,19 +6,21 @@ use Rattle.std.proofs.lemmas.List.{length-map}
 use Rattle.wesl_names.specs.Path.{Text, Path}
 use Rattle.wesl_syntax.specs.Tree.{TreeOf, end, kind, void, declarations, respell_label}
 use Rattle.wesl_syntax.specs.Unit.{name_in}
+use Rattle.wesl_choices.specs.declared.place.Place.TheVariants.{Always}
 use Rattle.wesl_symbols.specs.declared.ids.PathId.{PathId}
 use Rattle.wesl_symbols.specs.declared.ids.NameId.{NameId}
-use Rattle.wesl_symbols.specs.declared.symbols.Reference.{Reference}
 use Rattle.wesl_symbols.specs.Tables.{Declaration}
 use Rattle.wesl_occurrences.specs.Laws.{SpellingKeepsOccurrences}
 use Rattle.wesl_occurrences.specs.Occurrences.{occurrences}
 use Rattle.wesl_occurrences.specs.Pieces.{declarations_in, starts_from}
 use Rattle.wesl_occurrences.proofs.Cutting.{total, whole_length}
 use Rattle.wesl_table.specs.Marks.{IsMark, AreMarked}
-use Rattle.wesl_table.specs.Numbering.{Numbering, AreRelated, IsRelatedOption, SameDeclaration, Grows, NameAt, PathAt, AreNumberedReferences, AreNumberedDeclarations}
-use Rattle.wesl_table.specs.Reading.{IsRead, view_in, unit_in, own_path, all_uses, span}
-use Rattle.wesl_table.specs.Tables.{name_of, paired, uses, reference_to, declaration_of}
-use Rattle.wesl_table.specs.Uses.{Use, asked}
+use Rattle.wesl_table.specs.Numbering.{Numbering, AreRelated, IsRelatedOption, SameDeclaration, Grows, NameAt, PathAt, AreNumberedNames, AreNumberedReferences, AreNumberedDeclarations}
+use Rattle.wesl_table.specs.Reading.{IsRead, view_in, unit_in, own_path, scope_in, all_uses, span, references_in, unclear_names}
+use Rattle.wesl_table.specs.Split.{Scope}
+use Rattle.wesl_table.specs.Tables.{name_of, uses, declaration_of, declarations_from}
+use Rattle.wesl_table.specs.Uses.{Use, asked, unclear_in}
+use Rattle.wesl_table.specs.declared.marks.Asked.{Asked}
 use Rattle.wesl_table.specs.declared.marks.Mark.{Mark}
 use Rattle.wesl_table.specs.declared.reading.Reading.{Reading}
 use Rattle.wesl_table.proofs.Added.{mark_later}
@@ -27,7 +29,7 @@ use Rattle.wesl_table.proofs.Lists.{related_more, related_append}
 use Rattle.wesl_table.proofs.Naming.{related_length, related_at}
 use Rattle.wesl_table.proofs.Pieced.{first_in, take_one, cut_length, starts_length, piece_at, piece_inside, starts_spelled, uses_cut}
 use Rattle.wesl_table.proofs.Related.{declarations_more, name_option_later}
-use Rattle.wesl_table.proofs.Seen.{paired_at, paired_length, uses_length}
+use Rattle.wesl_table.proofs.Seen.{declarations_at, declarations_length, uses_length}
 
 -- marks stay right as names and paths are added
 pub marks_more : (a b : Numbering) → Grows a b → (ms vs : List (Vec Mark)) (us ws : List (List (Use Path Text))) → AreMarked a ms us → AreMarked b vs ws → AreMarked b (ms ++ vs) (us ++ ws)
@@ -49,8 +51,12 @@ label_kept r read = ap (respell_label (name_in (view_in r).names)) read.label
 pub pieces_length : (r : Reading) → length (uses (own_path r) (unit_in r)) ≡ length (declarations_in (unit_in r))
 pieces_length r = ap length (uses_cut r) ∙ cut_length (declarations_in (unit_in r)) _
 
-pub made_length : (r : Reading) → length (paired declaration_of (declarations_in (unit_in r)) (uses (own_path r) (unit_in r))) ≡ length (declarations_in (unit_in r))
-made_length r = paired_length declaration_of (declarations_in (unit_in r)) (uses (own_path r) (unit_in r)) (sym (pieces_length r))
+-- the declarations of the table
+abbrev pub made_in : Reading → List (Declaration Path Text)
+made_in r = declarations_from (scope_in r) 0 (declarations_in (unit_in r)) (uses (own_path r) (unit_in r))
+
+pub made_length : (r : Reading) → length (made_in r) ≡ length (declarations_in (unit_in r))
+made_length r = declarations_length (scope_in r) 0 (declarations_in (unit_in r)) (uses (own_path r) (unit_in r)) (sym (pieces_length r))
 
 pub names_length : (r : Reading) (nb : Numbering) (names : List (Option NameId)) → AreRelated (IsRelatedOption (NameAt nb)) names (map name_of (declarations_in (unit_in r))) → length names ≡ length (declarations_in (unit_in r))
 names_length r nb names h = related_length (IsRelatedOption (NameAt nb)) names (map name_of (declarations_in (unit_in r))) h ∙ length-map (declarations_in (unit_in r)) name_of
@@ -99,27 +105,30 @@ module _ (r : Reading) (read : IsRead r) (law : SpellingKeepsOccurrences) where
     module _ (a b : Numbering) (g : Grows a b) where
       -- one declaration more
       pub declared_next : (names : List (Option NameId)) (name : Option NameId) → AreRelated (IsRelatedOption (NameAt b)) names (map name_of nodes) → name ≡ get_or names k name
-          → (rs : List (Reference PathId NameId)) → AreNumberedReferences b rs (map reference_to (flat_map asked (span from to (all_uses r)))) → (d : Declaration PathId NameId) → d ≡ record { name = name; references = rs }
-          → (ds : List (Declaration PathId NameId)) → AreNumberedDeclarations a ds (take k (paired declaration_of nodes pieces_used))
-          → AreNumberedDeclarations b (ds ++ d ∷ []) (take (k + 1) (paired declaration_of nodes pieces_used))
-      declared_next names name named is rs refs d d_is ds h =
+          → (found : Asked) → AreNumberedReferences b found.references.items (references_in r from to) → AreNumberedNames b found.unclear.items (unclear_names r from to) → (d : Declaration PathId NameId)
+          → d ≡ record { name = name; place = Always; references = found.references.items; unclear = found.unclear.items }
+          → (ds : List (Declaration PathId NameId)) → AreNumberedDeclarations a ds (take k (made_in r)) → AreNumberedDeclarations b (ds ++ d ∷ []) (take (k + 1) (made_in r))
+      declared_next names name named is found refs doubts d d_is ds h =
+          let s : Scope = scope_in r in
           let t : TreeOf Text = get_or nodes k any_tree in
           let us : List (Use Path Text) = get_or pieces_used k [] in
-          let made : List (Declaration Path Text) = paired declaration_of nodes pieces_used in
-          let e : Declaration Path Text = declaration_of t us in
+          let made : List (Declaration Path Text) = made_in r in
+          let e : Declaration Path Text = declaration_of s k t us in
           let longer : k < length names = omega (arith, bound, related_length (IsRelatedOption (NameAt b)) names (map name_of nodes) named, length-map nodes name_of) in
           let same_name : IsRelatedOption (NameAt b) name (name_of t) =
           subst (λ o. IsRelatedOption (NameAt b) name o) (get_mapped name_of nodes k any_tree bound None) (related_at (IsRelatedOption (NameAt b)) names (map name_of nodes) k name None named longer is) in
-          let same_refs : AreNumberedReferences b rs (map reference_to (flat_map asked us)) =
-          subst (λ l. AreNumberedReferences b rs (map reference_to (flat_map asked l))) (sym piece_is) refs in
-          let same : SameDeclaration (PathAt b) (NameAt b) (record { name = name; references = rs }) e = record { name = same_name; references = same_refs } in
+          let same_refs : AreNumberedReferences b found.references.items (flat_map asked us) = subst (λ l. AreNumberedReferences b found.references.items (flat_map asked l)) (sym piece_is) refs in
+          let same_doubts : AreNumberedNames b found.unclear.items (flat_map unclear_in us) = subst (λ l. AreNumberedNames b found.unclear.items (flat_map unclear_in l)) (sym piece_is) doubts in
+          let by_number : Declaration PathId NameId = record { name = name; place = Always; references = found.references.items; unclear = found.unclear.items } in
+          let same : SameDeclaration (PathAt b) (NameAt b) by_number e = record { name = same_name; place = refl; references = same_refs; unclear = same_doubts } in
+          let number : 0 + k ≡ k = omega arith in
           let at_k : get_or made k e ≡ e =
-          paired_at declaration_of nodes pieces_used k t us e bound (omega (arith, bound, pieces_length r)) (get_itself nodes k any_tree bound) (get_itself pieces_used k [] (omega (arith, bound, pieces_length r))) in
-          let more : take (k + 1) made ≡ take k made ++ e ∷ [] =
-          take_one made k e (omega (arith, bound, paired_length declaration_of nodes pieces_used (sym (pieces_length r)))) ∙ ap (λ x. take k made ++ x ∷ []) at_k in
+          declarations_at s 0 nodes pieces_used k t us e bound (omega (arith, bound, pieces_length r)) (get_itself nodes k any_tree bound) (get_itself pieces_used k [] (omega (arith, bound, pieces_length r)))
+          ∙ ap (λ j. declaration_of s j t us) number in
+          let more : take (k + 1) made ≡ take k made ++ e ∷ [] = take_one made k e (omega (arith, bound, made_length r)) ∙ ap (λ x. take k made ++ x ∷ []) at_k in
           subst (λ es. AreNumberedDeclarations b (ds ++ d ∷ []) es) (sym more)
           (subst (λ x. AreNumberedDeclarations b (ds ++ x ∷ []) (take k made ++ e ∷ [])) (sym d_is)
-          (declarations_more a b g ds (take k made) (record { name = name; references = rs } ∷ []) (e ∷ []) h (same, tt)))
+          (declarations_more a b g ds (take k made) (by_number ∷ []) (e ∷ []) h (same, tt)))
 
       pub marked_next : (m : Vec Mark) → AreRelated (IsMark b) m.items (span from to (all_uses r)) → (ms : List (Vec Mark)) → AreMarked a ms (take k pieces_used) → AreMarked b (ms ++ m ∷ []) (take (k + 1) pieces_used)
       marked_next m marked ms h =

@@ -1,4 +1,5 @@
 pub mod Imports
+pub mod Split
 pub mod Uses
 pub mod Tables
 pub mod Marks

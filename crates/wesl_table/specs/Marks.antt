@@ -2,9 +2,9 @@
 use Rattle.std.specs.Prelude.{◌≡◌, List, [], Contains}
 use Rattle.std.specs.Global.{Vec}
 use Rattle.wesl_names.specs.Path.{Text, Path}
-use Rattle.wesl_symbols.specs.declared.symbols.Symbol.{Symbol}
-use Rattle.wesl_table.specs.Numbering.{Numbering, AreRelated, NameAt, PathAt}
-use Rattle.wesl_table.specs.Uses.{Use, declares, refers, local}
+use Rattle.wesl_symbols.specs.declared.symbols.Reference.{Reference}
+use Rattle.wesl_table.specs.Numbering.{Numbering, AreRelated, IsNumberedReference, NameAt}
+use Rattle.wesl_table.specs.Uses.{Use, declares, refers, unclear, local}
 use Rattle.wesl_table.specs.declared.marks.Mark.{Mark}
 use Rattle.wesl_table.specs.declared.marks.Mark.TheVariants as marks
 
@@ -14,7 +14,8 @@ module _ (nb : Numbering) where
   IsMark (marks.Declares i) (declares x) = NameAt nb i x
   IsMark (marks.Local b i) (local k x) = (b ≡ k) × NameAt nb i x
   IsMark (marks.Free i) (refers x []) = NameAt nb i x
-  IsMark (marks.Asks s) (refers x asked) = (a : Symbol Path Text) × Contains asked a × PathAt nb s.path a.path × NameAt nb s.name a.name
+  IsMark (marks.Asks r) (refers x asked) = (a : Reference Path Text) × Contains asked a × IsNumberedReference nb r a
+  IsMark (marks.Unclear i) (unclear x y) = NameAt nb i x
   IsMark _ _ = ⊥
 
   -- of each declaration the marks of its identifiers

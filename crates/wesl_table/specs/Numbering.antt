@@ -5,6 +5,8 @@ use Rattle.wesl_names.specs.Path.{Text, Path}
 pub use Rattle.wesl_table.specs.Different.{AreDifferent}
 use Rattle.wesl_symbols.specs.declared.ids.PathId.{PathId}
 use Rattle.wesl_symbols.specs.declared.ids.NameId.{NameId}
+use Rattle.wesl_choices.specs.declared.place.Place.{Place}
+use Rattle.wesl_choices.specs.Places.{together}
 use Rattle.wesl_symbols.specs.declared.symbols.Import.{Import}
 use Rattle.wesl_symbols.specs.declared.symbols.Reference.{Reference}
 use Rattle.wesl_symbols.specs.Tables.{Declaration, Table}
@@ -28,19 +30,27 @@ module _ {P N Q M : Type 0} (R : P → Q → Type 0) (S : N → M → Type 0) wh
     pub path : R i.path j.path
     pub item : S i.item j.item
     pub published : i.published ≡ j.published
+    pub place : i.place ≡ j.place
+    pub from : i.from ≡ j.from
+    pub order : i.order ≡ j.order
 
   pub record SameReference (r : Reference P N) (s : Reference Q M) : Type 0 where
-    pub path : IsRelatedOption R r.path s.path
+    pub path : R r.path s.path
     pub name : S r.name s.name
+    pub from : r.from ≡ s.from
 
   pub record SameDeclaration (d : Declaration P N) (e : Declaration Q M) : Type 0 where
     pub name : IsRelatedOption S d.name e.name
+    pub place : d.place ≡ e.place
     pub references : AreRelated SameReference d.references e.references
+    pub unclear : AreRelated S d.unclear e.unclear
 
   pub record SameTable (t : Table P N) (u : Table Q M) : Type 0 where
     pub path : R t.path u.path
     pub imports : AreRelated SameImport t.imports u.imports
     pub declarations : AreRelated SameDeclaration t.declarations u.declarations
+    pub together : (a b : Place) → together t.alive a b ≡ together u.alive a b
+    pub crowded : t.is_crowded ≡ u.is_crowded
 
 -- ---- numbers
 
@@ -80,8 +90,14 @@ module _ (numbering : Numbering) where
   abbrev pub AreNumberedImports : List (Import PathId NameId) → List (Import Path Text) → Type 0
   AreNumberedImports is js = AreRelated (SameImport (PathAt numbering) (NameAt numbering)) is js
 
+  abbrev pub IsNumberedReference : Reference PathId NameId → Reference Path Text → Type 0
+  IsNumberedReference r s = SameReference (PathAt numbering) (NameAt numbering) r s
+
   abbrev pub AreNumberedReferences : List (Reference PathId NameId) → List (Reference Path Text) → Type 0
   AreNumberedReferences rs ss = AreRelated (SameReference (PathAt numbering) (NameAt numbering)) rs ss
+
+  abbrev pub AreNumberedNames : List NameId → List Text → Type 0
+  AreNumberedNames ns xs = AreRelated (NameAt numbering) ns xs
 
   abbrev pub AreNumberedDeclarations : List (Declaration PathId NameId) → List (Declaration Path Text) → Type 0
   AreNumberedDeclarations ds es = AreRelated (SameDeclaration (PathAt numbering) (NameAt numbering)) ds es

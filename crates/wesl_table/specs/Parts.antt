@@ -3,6 +3,7 @@ use Rattle.std.specs.Prelude.{◌≡◌, ◌↔◌, Option, Some, List, [], Cont
 use Rattle.wesl_names.specs.Path.{Text, Path}
 use Rattle.wesl_syntax.specs.Unit.{UnitOf, UnitView, spelled}
 use Rattle.wesl_occurrences.specs.Pieces.{declarations_in}
+use Rattle.wesl_choices.specs.declared.place.Place.TheVariants.{Always}
 use Rattle.wesl_symbols.specs.declared.ids.NameId.{NameId}
 use Rattle.wesl_symbols.specs.declared.ids.PathId.{PathId}
 use Rattle.wesl_symbols.specs.Tables.{Declaration}
@@ -31,7 +32,7 @@ pub record IsNumberedUnit (nb : Numbering) (js : List (Import Path Text)) (u : U
 
 -- the declaration that binds this name, if it binds one, with what its identifiers ask for
 abbrev pub declared_as : Option NameId → Marked → Declaration PathId NameId
-declared_as name marked = record { name = name; references = marked.references.items }
+declared_as name marked = record { name = name; place = Always; references = marked.asked.references.items; unclear = marked.asked.unclear.items }
 
 -- nothing is declared
 pub record IsUndeclared (d : Declared) : Type 0 where

@@ -10,25 +10,27 @@ use Rattle.wesl_syntax.specs.View.{declarations_tree}
 use Rattle.wesl_syntax.specs.declared.declaration.GlobalDeclaration.{GlobalDeclaration}
 use Rattle.wesl_syntax.specs.declared.span.Spanned.{Spanned}
 use Rattle.wesl_tree.specs.Translation.{unit_view}
+use Rattle.wesl_choices.specs.declared.place.Place.TheVariants.{Always}
 use Rattle.wesl_symbols.specs.declared.ids.PathId.{PathId}
 use Rattle.wesl_symbols.specs.declared.ids.NameId.{NameId}
 use Rattle.wesl_symbols.specs.declared.symbols.Import.{Import}
 use Rattle.wesl_symbols.specs.declared.symbols.Reference.{Reference}
-use Rattle.wesl_symbols.specs.declared.symbols.Symbol.{Symbol}
 use Rattle.wesl_occurrences.specs.Occurrences.{occurrences}
 use Rattle.wesl_occurrences.specs.Identified.{identified}
 use Rattle.wesl_occurrences.specs.Pieces.{starts}
 use Rattle.wesl_occurrences.specs.Ways.{AreNested, way}
-use Rattle.wesl_meanings.specs.Scopes.{Key, keys}
+use Rattle.wesl_meanings.specs.Scopes.{keys}
 use Rattle.wesl_meanings.specs.Keys.{key_view, IsKeyBelow}
 use Rattle.wesl_meanings.specs.declared.keys.Key as keyed
 use Rattle.wesl_table.specs.Imports.{imports}
 use Rattle.wesl_table.specs.Marks.{IsMark}
-use Rattle.wesl_table.specs.Numbering.{Numbering, AreRelated, IsRelatedOption, AreNumberedImports, AreNumberedReferences, NameAt, PathAt}
+use Rattle.wesl_table.specs.Numbering.{Numbering, AreRelated, IsRelatedOption, AreNumberedImports, AreNumberedNames, AreNumberedReferences, NameAt, PathAt}
 use Rattle.wesl_table.specs.NumbersView.{numbering}
 use Rattle.wesl_table.specs.Spelling.{spelled_imports}
-use Rattle.wesl_table.specs.Tables.{name_of, names_declared, reference_to}
-use Rattle.wesl_table.specs.Uses.{Use, refers, local, asked, asked_plain, under, aims, meant, use_of}
+use Rattle.wesl_table.specs.Split.{Scope}
+use Rattle.wesl_table.specs.Tables.{name_of, names_declared, scope_of}
+use Rattle.wesl_table.specs.Uses.{Use, local, asked, unclear_in, plain_use, path_use, meant, use_of}
+use Rattle.wesl_table.specs.declared.marks.Asked.{Asked}
 use Rattle.wesl_table.specs.declared.marks.Mark.{Mark}
 use Rattle.wesl_table.specs.declared.marks.Mark.TheVariants as marks
 use Rattle.wesl_table.specs.declared.numbers.Numbers.{Numbers}
@@ -48,23 +50,23 @@ own_path r = path_view r.path.now
 abbrev pub imports_in : Reading → List (Import Path Text)
 imports_in r = imports (own_path r) (unit_in r)
 
--- what a name without a path asks for in it, and what a name with this meaning is
-abbrev pub plain_in : Reading → Text → List (Symbol Path Text)
-plain_in r x = asked_plain (own_path r) (names_declared (unit_in r)) (imports_in r) x
+abbrev pub scope_in : Reading → Scope
+scope_in r = scope_of (own_path r) (unit_in r)
 
-abbrev pub meant_in : Reading → Text → Key → Use Path Text
-meant_in r x k = meant (own_path r) (names_declared (unit_in r)) (imports_in r) x k
-
--- what a name is in it that means this by plain scoping, and what a name under a path is
+-- what a name is in it that means this by plain scoping, where no condition plays a part
 abbrev pub meant_by : Reading → keyed.Key → Text → Use Path Text
-meant_by r key x = meant_in r x (key_view (way r.meanings.now.found.outer.items) key)
+meant_by r key x = meant (scope_in r) Always x (key_view (way r.meanings.now.found.outer.items) key)
+
+-- a name without a path, and a name under a path
+abbrev pub plain_in : Reading → Text → Use Path Text
+plain_in r x = plain_use (scope_in r) Always x
 
 abbrev pub aimed_in : Reading → ModulePath → Text → Use Path Text
-aimed_in r p x = refers x (map (under x) (aims (own_path r) (imports_in r) (path_view p)))
+aimed_in r p x = path_use (scope_in r) Always (path_view p) x
 
 -- what all its identifiers are, and the one at a place
 abbrev pub all_uses : Reading → List (Use Path Text)
-all_uses r = map (use_of (own_path r) (names_declared (unit_in r)) (imports_in r) (occurrences (unit_in r))) (occurrences (unit_in r))
+all_uses r = map (use_of (scope_in r) (occurrences (unit_in r))) (occurrences (unit_in r))
 
 abbrev pub use_at : Reading → ℕ → Use Path Text
 use_at r i = get_or (all_uses r) i (local 0 [])
@@ -73,13 +75,12 @@ use_at r i = get_or (all_uses r) i (local 0 [])
 abbrev pub span : {X : Type 0} → ℕ → ℕ → List X → List X
 span from to xs = drop from (take to xs)
 
--- what the identifiers from one place to another ask for
+-- what the identifiers from one place to another ask for, and the names that stand for two things there
 abbrev pub references_in : Reading → ℕ → ℕ → List (Reference Path Text)
-references_in r from to = map reference_to (flat_map asked (span from to (all_uses r)))
+references_in r from to = flat_map asked (span from to (all_uses r))
 
--- a name without a path as a reference
-abbrev pub plain_use : Reading → Text → Use Path Text
-plain_use r x = refers x (plain_in r x)
+abbrev pub unclear_names : Reading → ℕ → ℕ → List Text
+unclear_names r from to = flat_map unclear_in (span from to (all_uses r))
 
 -- what was read of it
 pub record IsRead (r : Reading) : Type 0 where
@@ -112,18 +113,14 @@ abbrev pub same_id : NameId → NameId → Bool
 same_id m n = m.0 == n.0
 
 abbrev pub reference_by : NameId → PathId → Reference PathId NameId
-reference_by n p = record { path = Some p; name = n }
+reference_by n p = record { path = p; name = n; from = Always }
 
 abbrev pub imported_as : NameId → Import PathId NameId → List (Reference PathId NameId)
-imported_as n i = if same_id i.bound n then reference_by i.item i.path ∷ [] else []
+imported_as n i = if same_id i.bound n then record { path = i.path; name = i.item; from = i.from } ∷ [] else []
 
 -- of a name without a path, where the module declares these names and has these imports
 abbrev pub plain : PathId → List NameId → List (Import PathId NameId) → NameId → List (Reference PathId NameId)
 plain own declared imports n = if list_any (same_id n) declared then reference_by n own ∷ [] else flat_map (imported_as n) imports
-
-abbrev pub mark_by : NameId → NameId → Option PathId → Mark
-mark_by n m (Some p) = marks.Asks (record { path = p; name = m })
-mark_by n m None = marks.Free n
 
 -- of a name without a path in the module that is read
 abbrev pub plain_of : Reading → NameId → List (Reference PathId NameId)
@@ -132,24 +129,32 @@ plain_of r name = plain r.own r.declared.now.keys r.numbered.now name
 -- the mark of a name that asks for these
 abbrev pub mark_of : NameId → List (Reference PathId NameId) → Mark
 mark_of n [] = marks.Free n
-mark_of n (r ∷ rs) = mark_by n r.name r.path
+mark_of n (r ∷ rs) = marks.Asks r
 
--- references are added that say this by numbers
-abbrev pub Adds : Numbering → List (Reference PathId NameId) → List (Reference PathId NameId) → List (Symbol Path Text) → Type 0
-Adds nb old new more = (added : List (Reference PathId NameId)) × (new ≡ old ++ added) × AreNumberedReferences nb added (map reference_to more)
+-- references are added that say this by numbers, and names
+abbrev pub Adds : Numbering → List (Reference PathId NameId) → List (Reference PathId NameId) → List (Reference Path Text) → Type 0
+Adds nb old new more = (added : List (Reference PathId NameId)) × (new ≡ old ++ added) × AreNumberedReferences nb added more
 
--- the mark says what an identifier is, and what it asks for is added
-pub record Marks (nb : Numbering) (m : Mark) (old new : List (Reference PathId NameId)) (u : Use Path Text) : Type 0 where
+abbrev pub AddsNames : Numbering → List NameId → List NameId → List Text → Type 0
+AddsNames nb old new more = (added : List NameId) × (new ≡ old ++ added) × AreNumberedNames nb added more
+
+-- the mark says what an identifier is, and what it asks for is added, or the name that stands for two things
+pub record Marks (nb : Numbering) (m : Mark) (old new : Asked) (u : Use Path Text) : Type 0 where
   pub mark : IsMark nb m u
-  pub added : Adds nb old new (asked u)
+  pub added : Adds nb old.references.items new.references.items (asked u)
+  pub unclear : AddsNames nb old.unclear.items new.unclear.items (unclear_in u)
 
 -- the mark says what the name of that number is, in these texts, and what it asks for is added
-abbrev pub MarksName : Numbers → Numbers → NameId → (Text → Use Path Text) → Mark → List (Reference PathId NameId) → List (Reference PathId NameId) → Type 0
+abbrev pub MarksName : Numbers → Numbers → NameId → (Text → Use Path Text) → Mark → Asked → Asked → Type 0
 MarksName before after name as_use m old new = (x : Text) → NameAt (numbering before) name x → Marks (numbering after) m old new (as_use x)
+
+-- a reference to the name under a module, from where no condition plays a part
+abbrev pub under_path : Text → ModulePath → Reference Path Text
+under_path x p = record { path = path_view p; name = x; from = Always }
 
 -- the name of that number is asked for under each of these modules
 abbrev pub AddsUnder : Numbers → Numbers → NameId → List ModulePath → List (Reference PathId NameId) → List (Reference PathId NameId) → Type 0
-AddsUnder before after name modules old new = (x : Text) → NameAt (numbering before) name x → Adds (numbering after) old new (map (under x) (map path_view modules))
+AddsUnder before after name modules old new = (x : Text) → NameAt (numbering before) name x → Adds (numbering after) old new (map (under_path x) modules)
 
 -- of each of these declarations the number of the name that it binds by a table of names, if it binds one
 abbrev pub NumbersNames : Numbering → List Text → Vec (Spanned GlobalDeclaration) Global → List (Option NameId) → Type 0

@@ -8,7 +8,7 @@ use Rattle.wesl_symbols.specs.declared.symbols.Import.{Import}
 use Rattle.wesl_table.specs.Walks.{import_view}
 
 abbrev pub respell_import : {I J : Type 0} → (I → J) → Import Path I → Import Path J
-respell_import f i = record { bound = f i.bound; path = i.path; item = f i.item; published = i.published }
+respell_import f i = record { bound = f i.bound; path = i.path; item = f i.item; published = i.published; place = i.place; from = i.from; order = i.order }
 
 -- an import of the code, spelled by a table of names
 abbrev pub spelled_import : List Text → Import ModulePath Ident → Import Path Text

@@ -1,15 +1,15 @@
 -- The symbol table of a module: its imports with a target, its declarations, and what each of these asks for.
-use Rattle.std.specs.Prelude.{Option, Some, None, List, [], ◌∷◌, map, flat_map, filter_map}
+use Rattle.std.specs.Prelude.{ℕ, suc, false, Option, Some, None, List, [], ◌∷◌, map, flat_map, filter_map}
 use Rattle.wesl_names.specs.Path.{Text, Path}
 use Rattle.wesl_syntax.specs.Tree.{LabelOf, ForestOf, end, tree, TreeOf, ident, binder}
 use Rattle.wesl_syntax.specs.Unit.{UnitOf}
-use Rattle.wesl_symbols.specs.declared.symbols.Reference.{Reference}
-use Rattle.wesl_symbols.specs.declared.symbols.Symbol.{Symbol}
+use Rattle.wesl_choices.specs.declared.place.Place.TheVariants as places
 use Rattle.wesl_symbols.specs.Tables.{Declaration, Table}
 use Rattle.wesl_occurrences.specs.Occurrences.{occurrences}
 use Rattle.wesl_occurrences.specs.Pieces.{declarations_in, pieces}
 use Rattle.wesl_table.specs.Imports.{below, imports}
-use Rattle.wesl_table.specs.Uses.{Use, asked, use_of}
+use Rattle.wesl_table.specs.Split.{Scope, place_of}
+use Rattle.wesl_table.specs.Uses.{Use, asked, unclear_in, use_of}
 
 module _ {I : Type 0} where
   abbrev pub bound_name : LabelOf I → Option I
@@ -38,18 +38,30 @@ paired f _ _ = []
 abbrev pub names_declared : UnitOf Text → List Text
 names_declared u = filter_map name_of (declarations_in u)
 
+-- what the names of a unit stand for that stands at a path
+abbrev pub scope_of : Path → UnitOf Text → Scope
+scope_of own u = record { own = own; declared = names_declared u; imports = imports own u }
+
 -- of each global declaration what its identifiers are, in document order
 abbrev pub uses : Path → UnitOf Text → List (List (Use Path Text))
-uses own u = map (map (use_of own (names_declared u) (imports own u) (occurrences u))) (pieces u)
+uses own u = map (map (use_of (scope_of own u) (occurrences u))) (pieces u)
 
--- a reference by what it asks for, which always has a path
-abbrev pub reference_to : {P I : Type 0} → Symbol P I → Reference P I
-reference_to a = record { path = Some a.path; name = a.name }
+-- The declaration with this number, what its identifiers ask for, and which of them are unclear. A const_assert has no name,
+-- nor has a void, which asks for nothing.
+abbrev pub declaration_of : Scope → ℕ → TreeOf Text → List (Use Path Text) → Declaration Path Text
+declaration_of s k t us = record { name = name_of t; place = place_of s (name_of t) (places.Declaration k); references = flat_map asked us; unclear = flat_map unclear_in us }
 
--- a declaration, and what its identifiers ask for; a const_assert has no name, nor has a void, which asks for nothing
-abbrev pub declaration_of : TreeOf Text → List (Use Path Text) → Declaration Path Text
-declaration_of t us = record { name = name_of t; references = map reference_to (flat_map asked us) }
+-- the declarations from this number on
+abbrev pub declarations_from : Scope → ℕ → List (TreeOf Text) → List (List (Use Path Text)) → List (Declaration Path Text)
+declarations_from s k (t ∷ ts) (us ∷ uss) = declaration_of s k t us ∷ declarations_from s (suc k) ts uss
+declarations_from s k _ _ = []
 
 -- the symbol table of a unit that stands at a path
 abbrev pub table_at : Path → UnitOf Text → Table Path Text
-table_at own u = record { path = own; imports = imports own u; declarations = paired declaration_of (declarations_in u) (uses own u) }
+table_at own u = record {
+  path = own;
+  imports = imports own u;
+  declarations = declarations_from (scope_of own u) 0 (declarations_in u) (uses own u);
+  alive = [];
+  is_crowded = false;
+}

@@ -14,7 +14,7 @@ use Rattle.wesl_table.specs.declared.imports.Base.{Base}
 
 -- an import, as the code keeps it before it is numbered
 abbrev pub import_view : Import ModulePath Ident → Import Path ℕ
-import_view i = record { bound = i.bound.0; path = path_view i.path; item = i.item.0; published = i.published }
+import_view i = record { bound = i.bound.0; path = path_view i.path; item = i.item.0; published = i.published; place = i.place; from = i.from; order = i.order }
 
 -- the imports that the code has found
 abbrev pub imports_of : Vec (Import ModulePath Ident) Global → List (Import Path ℕ)

@@ -9,6 +9,7 @@ ghost use Rattle.wesl_table.specs.Walks.{HasImported, imports_of, statement_impo
 
 use crate::memory::{copied, memory};
 use std::alloc::{AllocError, Global};
+use wesl_choices::place::Place;
 use wesl_names::{Ident, ModulePath, PathOrigin};
 use wesl_symbols::symbols::Import;
 use wesl_syntax::{
@@ -158,6 +159,9 @@ fn add_item(
         path: copied(alloc, path)?,
         item: item.ident,
         published,
+        place: Place::Always,
+        from: Place::Always,
+        order: 2,
     };
     found.push(import)?;
     Ok(())

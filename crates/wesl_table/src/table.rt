@@ -19,6 +19,8 @@ use crate::numbers::{Numbers, spelling};
 use crate::reading::{Reading, add_ids, add_names, add_set};
 use indexmap::IndexSet;
 use std::alloc::{AllocError, Global};
+use wesl_choices::alive::Alive;
+use wesl_choices::place::Place;
 use wesl_meanings::meanings_of;
 use wesl_names::{Ident, ModulePath, Names};
 use wesl_symbols::ids::{NameId, PathId};
@@ -51,6 +53,9 @@ fn number_import(
         path,
         item,
         published: import.published,
+        place: import.place,
+        from: import.from,
+        order: import.order,
     })
 }
 
@@ -109,9 +114,10 @@ impl Declared {
         ensures declarations { OnOk result (self.new.declarations.items ≡ self.old.declarations.items ++ declared_as name marked ∷ []) }
         ensures marks { OnOk result (self.new.marks.items ≡ self.old.marks.items ++ marked.marks ∷ []) }
     {
-        let declaration = Declaration::new(name, marked.references);
+        let Marked { marks, asked } = marked;
+        let declaration = Declaration::new(name, Place::Always, asked.references, asked.unclear);
         self.declarations.push(declaration)?;
-        self.marks.push(marked.marks)?;
+        self.marks.push(marks)?;
         Ok(())
     }
 }
@@ -278,10 +284,11 @@ fn make_tabled(
     imports: Vec<Import<PathId, NameId>>,
     declared: Declared,
 ) -> Result<Tabled, AllocError>
-    ensures table { IfOk result (λ t. t.table ≡ record { path = id; imports = imports.items; declarations = declared.declarations.items }) }
+    ensures table { IfOk result (λ t. t.table ≡ record { path = id; imports = imports.items; declarations = declared.declarations.items; alive = []; is_crowded = false }) }
     ensures marks { IfOk result (λ t. t.marks ≡ declared.marks) }
 {
-    let table = Table::new(alloc, id, imports, declared.declarations)?;
+    let alive = Alive::none();
+    let table = Table::new(alloc, id, imports, declared.declarations, alive, false)?;
     Ok(Tabled {
         table,
         marks: declared.marks,

@@ -1,8 +1,7 @@
 use Rattle.std.proofs.Common.{◌≡◌, false, map, subst, sym}
 use Rattle.wesl_names.specs.Path.{path_view, is_relative}
 use Rattle.wesl_table.specs.NumbersView.{numbering}
-use Rattle.wesl_table.specs.Reading.{Adds}
-use Rattle.wesl_table.specs.Uses.{under}
+use Rattle.wesl_table.specs.Reading.{Adds, under_path}
 use Rattle.wesl_table.proofs.Lists.{taken_all}
 use Rattle.wesl_table.proofs.Added.{adds_none, under_next}
 use Rattle.wesl_table.proofs.Related.{grows_itself, grows_trans}
@@ -33,5 +32,5 @@ returns-clause-grows c = c.loop-module.invariant.grows
 
 pub returns-clause-added : goal.returns-clause-added
 returns-clause-added c = λ x n.
-    subst (λ ms. Adds (numbering c.loop-module.numbers) c.args.found.now.items c.loop-module.found.items (map (under x) (map path_view ms)))
+    subst (λ ms. Adds (numbering c.loop-module.numbers) c.args.found.now.items c.loop-module.found.items (map (under_path x) ms))
     (taken_all c.args.modules.now c.loop-module.module-index c.loop-module-test.false) (c.loop-module.invariant.added x n)

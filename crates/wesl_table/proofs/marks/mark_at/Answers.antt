@@ -25,8 +25,8 @@ returns-in-ModuleName-clause-marked c =
     let o = c.index-occurrence.result.now in
     let x = name_in (view_in r).names o.ident.0 in
     let at = name_there r c.requires.read spelled_occurrences a c.requires.numbered c.args.index o c.id_of-name.result c.requires.inside c.index-occurrence.ensures c.id_of-name.ensures in
-    mark_there r c.requires.read spelled_occurrences a _ c.args.found.now.items c.args.found.now.items c.args.index o c.index-key.result.now standings.ModuleName c.requires.inside c.index-occurrence.ensures c.index-key.ensures c.in-ModuleName.is
-    (marks_declared a c.id_of-name.result x c.args.found.now.items at)
+    mark_there r c.requires.read spelled_occurrences a _ c.args.found.now c.args.found.now c.args.index o c.index-key.result.now standings.ModuleName c.requires.inside c.index-occurrence.ensures c.index-key.ensures c.in-ModuleName.is
+    (marks_declared a c.id_of-name.result x c.args.found.now at)
 
 pub returns-in-Word-clause-marked : goal.returns-in-Word-clause-marked
 returns-in-Word-clause-marked c =
@@ -35,8 +35,8 @@ returns-in-Word-clause-marked c =
     let o = c.index-occurrence.result.now in
     let x = name_in (view_in r).names o.ident.0 in
     let at = name_there r c.requires.read spelled_occurrences a c.requires.numbered c.args.index o c.id_of-name.result c.requires.inside c.index-occurrence.ensures c.id_of-name.ensures in
-    mark_there r c.requires.read spelled_occurrences a _ c.args.found.now.items c.args.found.now.items c.args.index o c.index-key.result.now standings.Word c.requires.inside c.index-occurrence.ensures c.index-key.ensures c.in-Word.is
-    (marks_word a c.id_of-name.result x c.args.found.now.items at)
+    mark_there r c.requires.read spelled_occurrences a _ c.args.found.now c.args.found.now c.args.index o c.index-key.result.now standings.Word c.requires.inside c.index-occurrence.ensures c.index-key.ensures c.in-Word.is
+    (marks_word a c.id_of-name.result x c.args.found.now at)
 
 pub returns-in_default-clause-marked : goal.returns-in_default-clause-marked
 returns-in_default-clause-marked c =
@@ -46,5 +46,5 @@ returns-in_default-clause-marked c =
     let x = name_in (view_in r).names o.ident.0 in
     let at = name_there r c.requires.read spelled_occurrences a c.requires.numbered c.args.index o c.id_of-name.result c.requires.inside c.index-occurrence.ensures c.id_of-name.ensures in
     if_ok c.mark_reference.result
-    (λ m f. mark_meant r c.requires.read spelled_occurrences (numbering c.mark_reference.new.numbers) m c.args.found.now.items c.mark_reference.new.found.items c.args.index o c.index-key.result.now c.requires.inside c.index-occurrence.ensures c.index-key.ensures c.in_default.not-ModuleName c.in_default.not-Word (f x at))
+    (λ m f. mark_meant r c.requires.read spelled_occurrences (numbering c.mark_reference.new.numbers) m c.args.found.now c.mark_reference.new.found c.args.index o c.index-key.result.now c.requires.inside c.index-occurrence.ensures c.index-key.ensures c.in_default.not-ModuleName c.in_default.not-Word (f x at))
     c.mark_reference.ensures.marked

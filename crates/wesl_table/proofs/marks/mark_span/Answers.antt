@@ -1,13 +1,12 @@
-use Rattle.std.proofs.Common.{◌∙◌, ◌≡◌, ◌+◌, ◌<◌, ◌≤◌, ◌++◌, ◌∷◌, [], sym, subst, arith, length, map}
+use Rattle.std.proofs.Common.{◌∙◌, ◌≡◌, ◌+◌, ◌<◌, ◌≤◌, ◌++◌, ◌∷◌, [], sym, subst, arith, length}
 use Rattle.std.specs.Prelude.{flat_map}
 use Rattle.wesl_occurrences.proofs.Respelled.{spelled_occurrences}
 use Rattle.wesl_table.specs.Marks.{IsMark}
-use Rattle.wesl_table.specs.Numbering.{AreRelated, AreNumberedReferences}
+use Rattle.wesl_table.specs.Numbering.{AreRelated, AreNumberedNames, AreNumberedReferences}
 use Rattle.wesl_table.specs.NumbersView.{numbering}
 use Rattle.wesl_table.specs.Reading.{all_uses, use_at, span}
-use Rattle.wesl_table.specs.Tables.{reference_to}
-use Rattle.wesl_table.specs.Uses.{asked, local}
-use Rattle.wesl_table.proofs.Added.{marks_one, asked_next, numbered_later}
+use Rattle.wesl_table.specs.Uses.{asked, unclear_in, local}
+use Rattle.wesl_table.proofs.Added.{marks_one, asked_next, unclear_next, numbered_later}
 use Rattle.wesl_table.proofs.Pieced.{span_none, span_next}
 use Rattle.wesl_table.proofs.Related.{grows_itself, grows_trans}
 use Rattle.wesl_table.proofs.Seen.{uses_length}
@@ -19,8 +18,10 @@ loop-index-init c =
     let none = span_none c.args.from (all_uses c.args.reading.now) in
     record {
       marks = subst (λ ms. AreRelated (IsMark a) ms (span c.args.from c.args.from (all_uses c.args.reading.now))) (sym (c.reserve_exact.ensures.items ∙ c.requires.unmarked)) (subst (λ us. AreRelated (IsMark a) [] us) (sym none) tt);
-      references = subst (λ rs. AreNumberedReferences a rs (map reference_to (flat_map asked (span c.args.from c.args.from (all_uses c.args.reading.now))))) (sym c.requires.unasked)
-          (subst (λ us. AreNumberedReferences a [] (map reference_to (flat_map asked us))) (sym none) tt);
+      references = subst (λ rs. AreNumberedReferences a rs (flat_map asked (span c.args.from c.args.from (all_uses c.args.reading.now)))) (sym c.requires.unasked)
+          (subst (λ us. AreNumberedReferences a [] (flat_map asked us)) (sym none) tt);
+      unclear = subst (λ ns. AreNumberedNames a ns (flat_map unclear_in (span c.args.from c.args.from (all_uses c.args.reading.now)))) (sym c.requires.clear)
+          (subst (λ us. AreNumberedNames a [] (flat_map unclear_in us)) (sym none) tt);
       grows = grows_itself a;
     }
 
@@ -44,8 +45,10 @@ loop-index-preserved c =
     record {
       marks = subst (λ ms. AreRelated (IsMark b) ms (span c.args.from (i + 1) uses)) (sym c.in_ok-push.ensures.items)
           (subst (λ us. AreRelated (IsMark b) (c.loop-index.marked.marks.items ++ m ∷ []) us) (sym next) (marks_one a b g c.loop-index.marked.marks.items so_far m (use_at r i) c.loop-index.invariant.marks marked.mark));
-      references = subst (λ us. AreNumberedReferences b c.mark_at.new.found.items (map reference_to (flat_map asked us))) (sym next)
-          (asked_next a b g c.loop-index.marked.references.items c.mark_at.new.found.items so_far (use_at r i) c.loop-index.invariant.references marked.added);
+      references = subst (λ us. AreNumberedReferences b c.mark_at.new.found.references.items (flat_map asked us)) (sym next)
+          (asked_next a b g so_far (use_at r i) c.loop-index.marked.asked.references.items c.mark_at.new.found.references.items c.loop-index.invariant.references marked.added);
+      unclear = subst (λ us. AreNumberedNames b c.mark_at.new.found.unclear.items (flat_map unclear_in us)) (sym next)
+          (unclear_next a b g so_far (use_at r i) c.loop-index.marked.asked.unclear.items c.mark_at.new.found.unclear.items c.loop-index.invariant.unclear marked.unclear);
       grows = grows_trans (numbering c.args.numbers.now) a b c.loop-index.invariant.grows g;
     }
 
@@ -57,7 +60,12 @@ returns-clause-marks c =
 pub returns-clause-references : goal.returns-clause-references
 returns-clause-references c =
     let e : c.loop-index.index ≡ c.args.to = omega (arith, c.loop-index-test.false, c.loop-index.auto.index-end, c.requires.ordered) in
-    subst (λ i. AreNumberedReferences (numbering c.loop-index.numbers) c.loop-index.marked.references.items (map reference_to (flat_map asked (span c.args.from i (all_uses c.args.reading.now))))) e c.loop-index.invariant.references
+    subst (λ i. AreNumberedReferences (numbering c.loop-index.numbers) c.loop-index.marked.asked.references.items (flat_map asked (span c.args.from i (all_uses c.args.reading.now)))) e c.loop-index.invariant.references
+
+pub returns-clause-unclear : goal.returns-clause-unclear
+returns-clause-unclear c =
+    let e : c.loop-index.index ≡ c.args.to = omega (arith, c.loop-index-test.false, c.loop-index.auto.index-end, c.requires.ordered) in
+    subst (λ i. AreNumberedNames (numbering c.loop-index.numbers) c.loop-index.marked.asked.unclear.items (flat_map unclear_in (span c.args.from i (all_uses c.args.reading.now)))) e c.loop-index.invariant.unclear
 
 pub returns-in_err-reserve_exact-clause-grows : goal.returns-in_err-reserve_exact-clause-grows
 returns-in_err-reserve_exact-clause-grows c = grows_itself (numbering c.args.numbers.now)

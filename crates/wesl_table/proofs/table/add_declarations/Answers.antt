@@ -5,11 +5,11 @@ use Rattle.wesl_table.specs.Marks.{AreMarked}
 use Rattle.wesl_table.specs.Numbering.{AreNumberedDeclarations}
 use Rattle.wesl_table.specs.NumbersView.{numbering}
 use Rattle.wesl_table.specs.Reading.{unit_in, own_path}
-use Rattle.wesl_table.specs.Tables.{declaration_of, paired, uses}
+use Rattle.wesl_table.specs.Tables.{uses}
 use Rattle.wesl_table.proofs.Added.{numbered_later}
 use Rattle.wesl_table.proofs.Holding.{get_itself}
 use Rattle.wesl_table.proofs.Lists.{taken_all}
-use Rattle.wesl_table.proofs.Tabling.{places_length, pieces_length, made_length, names_length, piece_bounds, declared_next, marked_next, names_more}
+use Rattle.wesl_table.proofs.Tabling.{places_length, pieces_length, made_in, made_length, names_length, piece_bounds, declared_next, marked_next, names_more}
 use Rattle.wesl_table.proofs.Related.{grows_itself, grows_trans}
 use Rattle.wesl_table.proofs.table.add_declarations.Goals as goal
 
@@ -65,10 +65,10 @@ loop-i-preserved c =
     c.end_of-end.ensures ∙ (ap (λ l. get_or l (suc k) c.len.result) c.deref.ensures.value ∙ ap (get_or r.meanings.now.found.starts.items (suc k)) (c.len.ensures ∙ r.meanings.now.found.all.ok.0)) in
     let one = c.in_ok-one.one in
     record {
-      declared = subst (λ ds. AreNumberedDeclarations b ds (take (k + 1) (paired declaration_of (declarations_in (unit_in r)) (uses (own_path r) (unit_in r))))) (sym c.in_ok-add.ensures.declarations)
+      declared = subst (λ ds. AreNumberedDeclarations b ds (take (k + 1) (made_in r))) (sym c.in_ok-add.ensures.declarations)
           (declared_next r c.requires.read spelled_occurrences k c.index.result.now c.end_of-end.result bound c.index.ensures until a b g c.args.names.now (get_or c.args.names.now k None)
           (names_more (numbering c.args.numbers.now) b all c.args.names.now _ c.requires.named) (get_itself c.args.names.now k None c.loop-i-test.true)
-          one.references.items c.in_ok-one.ensures.references _ refl c.loop-i.declared.declarations.items c.loop-i.invariant.declared);
+          one.asked c.in_ok-one.ensures.references c.in_ok-one.ensures.unclear _ refl c.loop-i.declared.declarations.items c.loop-i.invariant.declared);
       marked = subst (λ ms. AreMarked b ms (take (k + 1) (uses (own_path r) (unit_in r)))) (sym c.in_ok-add.ensures.marks)
           (marked_next r c.requires.read spelled_occurrences k c.index.result.now c.end_of-end.result bound c.index.ensures until a b g one.marks c.in_ok-one.ensures.marks c.loop-i.declared.marks.items c.loop-i.invariant.marked);
       grows = all;
@@ -78,7 +78,7 @@ pub returns-clause-declared : goal.returns-clause-declared
 returns-clause-declared c =
     let r = c.args.reading.now in
     let b = numbering c.loop-i.numbers in
-    let made = paired declaration_of (declarations_in (unit_in r)) (uses (own_path r) (unit_in r)) in
+    let made = made_in r in
     let us = uses (own_path r) (unit_in r) in
     let long = names_length r (numbering c.args.numbers.now) c.args.names.now c.requires.named in
     let end : length made ≤ c.loop-i.i = omega (arith, c.loop-i-test.false, made_length r, long) in

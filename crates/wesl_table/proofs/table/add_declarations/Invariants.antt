@@ -1,15 +1,15 @@
 use Rattle.std.proofs.Common.{take}
-use Rattle.wesl_occurrences.specs.Pieces.{declarations_in}
 use Rattle.wesl_table.specs.Marks.{AreMarked}
 use Rattle.wesl_table.specs.Numbering.{AreNumberedDeclarations, Grows}
 use Rattle.wesl_table.specs.NumbersView.{numbering}
 use Rattle.wesl_table.specs.Reading.{own_path, unit_in}
-use Rattle.wesl_table.specs.Tables.{declaration_of, paired, uses}
+use Rattle.wesl_table.specs.Tables.{uses}
+use Rattle.wesl_table.proofs.Tabling.{made_in}
 use Rattle.wesl_table.proofs.table.add_declarations.Given as goal
 
 abbrev pub invariant-loop-i : goal.invariant-loop-i
 invariant-loop-i l = record {
-  declared : AreNumberedDeclarations (numbering l.numbers) l.declared.declarations.items (take l.i (paired declaration_of (declarations_in (unit_in l.reading)) (uses (own_path l.reading) (unit_in l.reading))));
+  declared : AreNumberedDeclarations (numbering l.numbers) l.declared.declarations.items (take l.i (made_in l.reading));
   marked : AreMarked (numbering l.numbers) l.declared.marks.items (take l.i (uses (own_path l.reading) (unit_in l.reading)));
   grows : Grows (numbering l.initial.numbers) (numbering l.numbers);
 }

@@ -29,4 +29,7 @@ returns-clause-numbered c =
       path = path_later path_there there c.name-2.ensures.grows c.in_ok-path.path (path_view c.args.import.now.path) c.in_ok-path.ensures.numbered;
       item = subst (NameAt there c.in_ok-item.item) c.spelling-2.ensures c.in_ok-item.ensures.numbered;
       published = refl;
+      place = refl;
+      from = refl;
+      order = refl;
     }
