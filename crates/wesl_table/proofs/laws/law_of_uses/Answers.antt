@@ -8,7 +8,7 @@ use Rattle.wesl_occurrences.proofs.Cutting.{pieces_are}
 use Rattle.wesl_meanings.specs.Scopes.{Key, bound, free, qualified}
 use Rattle.wesl_table.specs.Split.{Scope, is_unclear_plain, is_unclear_path}
 use Rattle.wesl_table.specs.Tables.{scope_of}
-use Rattle.wesl_table.specs.Uses.{use_name, said, meant, use_as, use_of}
+use Rattle.wesl_table.specs.Uses.{use_name, said, package_name, under, asked_plain, aims, meant, use_as, use_of}
 use Rattle.wesl_table.proofs.laws.law_of_uses.Goals as goal
 
 said_name : (n x : Text) (b : Bool) (rs : List (Reference Path Text)) → use_name (said n x b rs) ≡ n
@@ -17,10 +17,10 @@ said_name n x false rs = refl
 
 module _ (s : Scope) where
   meant_name : (here : Place) (n : Text) (k : Key) → use_name (meant s here n k) ≡ n
-  meant_name here n (bound [] m) = said_name n n (is_unclear_plain s here n) _
+  meant_name here n (bound [] m) = said_name n n (is_unclear_plain s here n) (asked_plain s here n)
   meant_name here n (bound (b ∷ outer) m) = refl
-  meant_name here n (free m) = said_name n n (is_unclear_plain s here n) _
-  meant_name here n (qualified p m) = said_name n _ (is_unclear_path s here p) _
+  meant_name here n (free m) = said_name n n (is_unclear_plain s here n) (asked_plain s here n)
+  meant_name here n (qualified p m) = said_name n (package_name p.origin) (is_unclear_path s here p) (map (under s here n) (aims s.own s.imports p))
 
   use_as_name : (here : Place) (r : Standing) (n : Text) (k : Key) → use_name (use_as s here r n k) ≡ n
   use_as_name here module_name n k = refl

@@ -13,7 +13,7 @@ loop-module-init c = record { added = λ x n. adds_none (numbering c.args.number
 pub loop-module-preserved : goal.loop-module-preserved
 loop-module-preserved c = record {
   added = λ x n. rw c.in_ok-push.ensures.items
-      (under_next (numbering c.args.numbers.now) (numbering c.loop-module.numbers) (numbering c.path.new.self) c.loop-module.invariant.grows c.path.ensures.grows c.args.name c.in_ok-path.field-0 c.args.modules.now c.loop-module.module-index
+      (under_next (numbering c.args.numbers.now) (numbering c.loop-module.numbers) (numbering c.path.new.self) c.loop-module.invariant.grows c.path.ensures.grows c.args.name c.in_ok-path.path c.args.modules.now c.loop-module.module-index
       c.module-item.result c.args.found.now.items c.loop-module.found.items x n (c.loop-module.invariant.added x n) c.in_ok-path.ensures.numbered c.loop-module-test.true c.module-item.is);
   grows = grows_trans (numbering c.args.numbers.now) (numbering c.loop-module.numbers) (numbering c.path.new.self) c.loop-module.invariant.grows c.path.ensures.grows;
 }
