@@ -1,5 +1,5 @@
 -- What is known of a module while its identifiers are marked.
-use Rattle.std.specs.Prelude.{◌≡◌, ℕ, ◌<◌, ◌==◌, Bool, false, Option, Some, None, List, [], ◌∷◌, ◌++◌, length, map, flat_map, take, drop, get_or, Contains, if◌then◌else◌, Vec}
+use Rattle.std.specs.Prelude.{◌≡◌, ℕ, ◌<◌, ◌==◌, Bool, false, Option, List, [], ◌∷◌, ◌++◌, length, map, flat_map, take, drop, get_or, Contains, if◌then◌else◌, Vec}
 use Rattle.std.specs.declared.alloc.Global.{Global}
 use Rattle.std.specs.List.{All, list_any}
 use Rattle.wesl_names.specs.Path.{Text, Path, path_view, is_relative}

@@ -1,11 +1,12 @@
 use Rattle.std.proofs.Common.{◌≡◌, Bool, true, false, List, [], ◌∷◌, map, refl, ap, ◌∙◌}
 use Rattle.wesl_names.specs.Path.{Text, Path}
 use Rattle.wesl_choices.specs.declared.place.Place.{Place}
+use Rattle.wesl_choices.specs.declared.place.Place.TheVariants.{Name}
 use Rattle.wesl_symbols.specs.declared.symbols.Reference.{Reference}
 use Rattle.wesl_occurrences.specs.Occurrences.{Standing, module_name, parameter, local as local_name, reference, word, Occurrence, occurrences}
 use Rattle.wesl_occurrences.specs.Pieces.{pieces}
 use Rattle.wesl_occurrences.proofs.Cutting.{pieces_are}
-use Rattle.wesl_meanings.specs.Scopes.{Key, bound, free, qualified}
+use Rattle.wesl_meanings.specs.Scopes.{Key, bound, free, qualified, key_of}
 use Rattle.wesl_table.specs.Split.{Scope, is_unclear_plain, is_unclear_path}
 use Rattle.wesl_table.specs.Tables.{scope_of}
 use Rattle.wesl_table.specs.Uses.{use_name, said, package_name, under, asked_plain, aims, meant, use_as, use_of}
@@ -31,7 +32,7 @@ module _ (s : Scope) where
 
   piece_names : (all os : List (Occurrence Text)) → map use_name (map (use_of s all) os) ≡ map (λ o. o.name) os
   piece_names all [] = refl
-  piece_names all (o ∷ os) = ap (λ n. n ∷ map use_name (map (use_of s all) os)) (use_as_name _ o.role o.name _) ∙ ap (λ ns. o.name ∷ ns) (piece_names all os)
+  piece_names all (o ∷ os) = ap (λ n. n ∷ map use_name (map (use_of s all) os)) (use_as_name (Name o.place) o.role o.name (key_of all o)) ∙ ap (λ ns. o.name ∷ ns) (piece_names all os)
 
   all_names : (all : List (Occurrence Text)) (ps : List (List (Occurrence Text))) → map (map use_name) (map (map (use_of s all)) ps) ≡ map (map (λ o. o.name)) ps
   all_names all [] = refl
