@@ -10,6 +10,7 @@ mod laws;
 mod lists;
 mod nodes;
 
+pub use conditions::{Condition, condition_of};
 pub use faults::{check_both, check_list};
 pub use formula::{decided, name_of, simplify};
 pub use judge::check_formula;
