@@ -5,7 +5,7 @@ use Rattle.wesl_choices.specs.declared.place.Place.{Place}
 use Rattle.wesl_choices.specs.Places.{keeps, together}
 use Rattle.wesl_symbols.specs.Index.{Binds, IsLast}
 use Rattle.wesl_symbols.specs.declared.symbols.Import.{Import}
-use Rattle.wesl_symbols.specs.Tables.{Declaration, Table}
+use Rattle.wesl_symbols.specs.Tables.{Table}
 use Rattle.wesl_symbols.specs.Names.{Imports, SameTarget, IsOwn}
 use Rattle.wesl_symbols.proofs.Lists.{one_at}
 use Rattle.wesl_world.proofs.Lists.{order}

@@ -1,9 +1,9 @@
 -- What following a look-up keeps, and what its refusals mean.
-use Rattle.std.proofs.Common.{◌≡◌, ◌↔◌, ◌⊎◌, inl, inr, ℕ, true, Some, List, [], ◌∷◌, ◌++◌, Contains, subst, sym, refl, ◌∙◌}
+use Rattle.std.proofs.Common.{◌≡◌, ◌↔◌, inl, inr, ℕ, List, [], ◌∷◌, ◌++◌, Contains, subst, sym, refl, ◌∙◌}
 use Rattle.std.proofs.lemmas.List.Elements.{Contains-push_cases, Contains-append_left, Contains-push}
 use Rattle.wesl_symbols.specs.declared.ids.PathId.{PathId}
 use Rattle.wesl_symbols.specs.declared.ids.NameId.{NameId}
-use Rattle.wesl_symbols.specs.declared.symbols.Answer.TheVariants.{Declared, Next, Missing, Private as Hidden, Ambiguous}
+use Rattle.wesl_symbols.specs.declared.symbols.Answer.TheVariants.{Declared, Missing, Private as Hidden, Ambiguous}
 use Rattle.wesl_world.specs.declared.request.Request.{Request}
 use Rattle.wesl_world.specs.declared.request.Loaded.{Loaded}
 use Rattle.wesl_symbols.specs.Keyed.{Puts, PutsKey}
@@ -11,7 +11,7 @@ use Rattle.wesl_symbols.specs.declared.symbols.LookUp.{LookUp}
 use Rattle.wesl_symbols.specs.declared.symbols.Symbol.{Symbol}
 use Rattle.wesl_symbols.specs.Tables.{Table}
 use Rattle.wesl_symbols.specs.Names.{Answers}
-use Rattle.wesl_world.specs.World.{IsAt, Hops, HasMet, Finds, LeadsTo, Reaches, Walk, Task, Entered, Reached, Followed}
+use Rattle.wesl_world.specs.World.{IsAt, Hops, HasMet, Finds, LeadsTo, Walk, Task, Entered, Reached, Followed}
 use Rattle.wesl_world.specs.World.Walk.{begin, step}
 use Rattle.wesl_world.specs.World.Entered.{asked}
 use Rattle.wesl_world.specs.World.Reached.{led_to}

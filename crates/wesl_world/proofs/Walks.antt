@@ -1,5 +1,5 @@
 -- A look-up goes one way at most.
-use Rattle.std.proofs.Common.{◌≡◌, ◌⊎◌, inl, inr, ℕ, ◌<◌, ◌≤◌, suc, zero, List, [], ◌∷◌, length, Contains, arith, subst, sym, refl, ap, ◌∙◌}
+use Rattle.std.proofs.Common.{◌≡◌, ◌⊎◌, inl, inr, ℕ, ◌<◌, ◌≤◌, suc, zero, List, ◌∷◌, length, arith, subst, sym, refl, ap, ◌∙◌}
 use Rattle.wesl_symbols.specs.declared.symbols.Answer.TheVariants.{Declared, Next, Missing, Private, Ambiguous}
 use Rattle.wesl_symbols.specs.declared.symbols.LookUp.{LookUp}
 use Rattle.wesl_symbols.specs.declared.symbols.Symbol.{Symbol}

@@ -38,11 +38,7 @@ fn meets_declaration(table: &Table, import: &Import<PathId, NameId>) -> bool
 }
 
 /// Whether two imports are there at once and have different targets.
-fn are_apart(
-    table: &Table,
-    first: &Import<PathId, NameId>,
-    second: &Import<PathId, NameId>,
-) -> bool
+fn are_apart(table: &Table, first: &Import<PathId, NameId>, second: &Import<PathId, NameId>) -> bool
     ensures yes { IsTrue result → AreApart table.now first.now second.now }
     ensures no { IsFalse result → Meet table.now first.now.place second.now.place → SameTarget first.now second.now }
 {

@@ -1,4 +1,4 @@
-use Rattle.std.proofs.Common.{Contains, refl}
+use Rattle.std.proofs.Common.{Contains}
 use Rattle.wesl_symbols.specs.declared.ids.NameId.{NameId}
 use Rattle.wesl_symbols.specs.Index.{IsNamed}
 use Rattle.wesl_symbols.proofs.Indexing.{over_start, over_read, over_next, over_all}
