@@ -3,6 +3,8 @@ ghost use Rattle.std.specs.Prelude.{◌≡◌, IfOk};
 
 use serde_json::Value;
 use std::alloc::Global;
+use wesl_choices::alive::Alive;
+use wesl_choices::place::Place;
 use wesl_row::{List, Object, Row, numbers_value};
 use wesl_symbols::ids::{NameId, PathId};
 use wesl_symbols::symbols::{Import, Reference, Symbol};
@@ -44,6 +46,9 @@ fn imports(module: Row<'_>) -> Vec<Import<PathId, NameId>> {
             path: PathId(row.number("path", 0)),
             item: NameId(row.number("item", 0)),
             published: matches!(row.value.get("published"), Some(Value::Bool(true))),
+            place: Place::Always,
+            from: Place::Always,
+            order: 2,
         };
         module.push(&mut imports, import);
     }
@@ -59,30 +64,80 @@ fn path(row: Row<'_>, key: &str) -> Option<PathId> {
     }
 }
 
+/// Whether a module declares a name.
+fn declares(module: Row<'_>, name: NameId) -> bool {
+    for value in module.list("declarations") {
+        let row = module.of(value);
+        if row.has("name") && NameId(row.number("name", 0)) == name {
+            return true;
+        }
+    }
+    false
+}
+
+/// A name of the module at a path, asked for from where no condition plays a part.
+fn asked(path: PathId, name: NameId) -> Reference<PathId, NameId> {
+    Reference {
+        path,
+        name,
+        from: Place::Always,
+    }
+}
+
+/// What a name without a path asks for in the module at a path with these imports: its own declaration, else what its
+/// imports of the name aim at.
+fn add_plain(
+    module: Row<'_>,
+    at: PathId,
+    imports: &[Import<PathId, NameId>],
+    name: NameId,
+    references: &mut Vec<Reference<PathId, NameId>>,
+) {
+    if declares(module, name) {
+        module.push(references, asked(at, name));
+        return;
+    }
+    for import in imports {
+        if import.bound == name {
+            module.push(references, asked(import.path, import.item));
+        }
+    }
+}
+
 /// A declaration with the names that it uses, each with its path, if it has one. One without a name is a const_assert.
-fn declaration(row: Row<'_>) -> Declaration {
+fn declaration(
+    module: Row<'_>,
+    at: PathId,
+    imports: &[Import<PathId, NameId>],
+    row: Row<'_>,
+) -> Declaration {
     let mut references = Vec::new(row.alloc);
     for value in row.list("uses") {
         let used = row.of(value);
-        let reference = Reference {
-            path: path(used, "path"),
-            name: NameId(used.number("name", 0)),
-        };
-        row.push(&mut references, reference);
+        let name = NameId(used.number("name", 0));
+        match path(used, "path") {
+            Some(path) => row.push(&mut references, asked(path, name)),
+            None => add_plain(module, at, imports, name, &mut references),
+        }
     }
     let name = if row.has("name") {
         Some(NameId(row.number("name", 0)))
     } else {
         None
     };
-    Declaration::new(name, references)
+    Declaration::new(name, Place::Always, references, Vec::new(row.alloc))
 }
 
 /// The declarations of a module.
-fn declarations(module: Row<'_>) -> Vec<Declaration> {
+fn declarations(
+    module: Row<'_>,
+    at: PathId,
+    imports: &[Import<PathId, NameId>],
+) -> Vec<Declaration> {
     let mut declarations = Vec::new(module.alloc);
     for value in module.list("declarations") {
-        module.push(&mut declarations, declaration(module.of(value)));
+        let declaration = declaration(module, at, imports, module.of(value));
+        module.push(&mut declarations, declaration);
     }
     declarations
 }
@@ -91,7 +146,9 @@ fn declarations(module: Row<'_>) -> Vec<Declaration> {
 fn table(alloc: Global, at: PathId, module: Row<'_>) -> Result<Table, LoadError<usize>>
     ensures { IfOk result (λ t. t.path ≡ at) }
 {
-    match Table::new(alloc, at, imports(module), declarations(module)) {
+    let imports = imports(module);
+    let declarations = declarations(module, at, &imports);
+    match Table::new(alloc, at, imports, declarations, Alive::none(), false) {
         Ok(table) => Ok(table),
         Err(_) => Err(LoadError::Memory),
     }
@@ -152,7 +209,7 @@ fn first_meaning(linked: &Linked) -> Option<Symbol<PathId, NameId>> {
     }
     match declaration.name() {
         Some(_) => None,
-        None => linked.denotes(table, &references[0]),
+        None => Some(linked.denotes(table, &references[0])),
     }
 }
 
@@ -165,12 +222,14 @@ fn put_fault(row: Row<'_>, answer: &mut Object, fault: &str, numbers: &[usize]) 
 /// Puts the fault of a refused link.
 fn put_refused(row: Row<'_>, answer: &mut Object, error: &LinkError<usize>) {
     match error {
-        LinkError::DuplicateSymbol(name) => put_fault(row, answer, "DuplicateSymbol", &[name.0]),
+        LinkError::DuplicateSymbol(_, name) => put_fault(row, answer, "DuplicateSymbol", &[name.0]),
         LinkError::Refused(path) => put_fault(row, answer, "Refused", &[*path]),
         LinkError::MissingDecl(path, name) => {
             put_fault(row, answer, "MissingDecl", &[path.0, name.0]);
         }
         LinkError::Private(name, path) => put_fault(row, answer, "Private", &[name.0, path.0]),
+        LinkError::AmbiguousSymbol(name) => put_fault(row, answer, "AmbiguousSymbol", &[name.0]),
+        LinkError::TooManyFlags(path) => put_fault(row, answer, "TooManyFlags", &[path.0]),
         LinkError::ModuleLimit(limit) => put_fault(row, answer, "ModuleLimit", &[*limit]),
         LinkError::Memory => put_fault(row, answer, "Memory", &[]),
     }

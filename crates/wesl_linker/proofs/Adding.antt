@@ -19,9 +19,9 @@ use Rattle.wesl_world.specs.Linking.{Linking}
 use Rattle.wesl_world.proofs.Lists.{map_contains}
 use Rattle.wesl_occurrences.specs.Occurrences.{occurrences}
 use Rattle.wesl_occurrences.specs.Pieces.{size, declarations_in, pieces}
-use Rattle.wesl_table.specs.Imports.{first_label, imports}
+use Rattle.wesl_table.specs.Imports.{first_label}
 use Rattle.wesl_table.specs.Marks.{IsMark}
-use Rattle.wesl_table.specs.Tables.{declaration_of, name_of, names_declared, uses}
+use Rattle.wesl_table.specs.Tables.{declaration_of, name_of, scope_of, uses}
 use Rattle.wesl_table.specs.Uses.{Use, use_of}
 use Rattle.wesl_table.specs.Numbering.{Numbering, NameAt, PathAt, AreRelated, IsRelatedOption, IsNumbered, SameDeclaration}
 use Rattle.wesl_table.specs.TextsView.{numbering_of_texts as numbering}
@@ -34,13 +34,13 @@ use Rattle.wesl_linker.specs.Linked.{Placed, placed, is_assert, IsHeldAs}
 use Rattle.wesl_linker.specs.Worlds.{table, tables}
 use Rattle.wesl_linker.specs.Tabled.{IsMarked}
 use Rattle.wesl_linker.specs.Keeping.{module_of, all_loaded, modules_in, task_in, IsLinkOf}
-use Rattle.wesl_linker.specs.Holding.{IsMeant, IsHeldHere, AddsOne, is_added, is_not_held, Adds}
+use Rattle.wesl_linker.specs.Holding.{IsMeant, IsHeldHere, RefersToAll, AreClear, AddsOne, is_added, is_not_held, Adds}
 use Rattle.wesl_linker.specs.declared.loaded.LoadedModule.{LoadedModule}
 use Rattle.wesl_linker.specs.declared.link.Link.{Link}
 use Rattle.wesl_linker.specs.declared.assemble.Parts.{Parts}
 use Rattle.wesl_linker.proofs.Carried.{Covers}
-use Rattle.wesl_linker.proofs.Lists.{item_held, read_at, take_at, map_at, paired_at, related_at, same_length, related_length, paired_length, cut_length, trees_of}
-use Rattle.wesl_linker.proofs.Meant.{meanings_told}
+use Rattle.wesl_linker.proofs.Lists.{item_held, read_at, take_at, map_at, paired_at, declarations_at, related_at, same_length, related_length, paired_length, declarations_length, cut_length, trees_of}
+use Rattle.wesl_linker.proofs.Meant.{refers_to_all, all_clear, is_held, meanings_told}
 use Rattle.wesl_linker.proofs.Parted.{shape_replaced, adds_not, adds_one}
 
 abbrev pub Node : Type 0
@@ -91,13 +91,14 @@ all_trees m gs e =
 
 uses_length : (own : Path) (u : UnitOf Text) → length (uses own u) ≡ length (declarations_in u)
 uses_length own u =
-    same_length (map (use_of own (names_declared u) (imports own u) (occurrences u))) (pieces u) ∙ cut_length (declarations_in u) (drop (size u.directives) (drop (size u.imports) (occurrences u)))
+    same_length (map (use_of (scope_of own u) (occurrences u))) (pieces u) ∙ cut_length (declarations_in u) (drop (size u.directives) (drop (size u.imports) (occurrences u)))
 
 -- what stands at a place of a module's declarations, with its row in the table and its marks
 pub record OneAt (nb : Numbering) (m : LoadedModule) (i : ℕ) (g : Node) (row : Declaration PathId NameId) (ms : List Mark) : Type 0 where
   pub uses : List (Use Path Text)
+  pub number : ℕ
   pub stands : slice_get (placed (module_of m)) i ≡ Some (record { home = module_of m; declaration = spelled_in m g; uses = uses })
-  pub same : SameDeclaration (PathAt nb) (NameAt nb) row (declaration_of (spelled_in m g) uses)
+  pub same : SameDeclaration (PathAt nb) (NameAt nb) row (declaration_of (scope_of (module_of m).path (module_of m).unit) number (spelled_in m g) uses)
   pub marked : AreRelated (IsMark nb) ms uses
 
 module _ (nb : Numbering) (m : LoadedModule) (t : Table PathId NameId) (same : IsNumbered nb t (table (module_of m))) (marked : IsMarked nb m) (gs : List Node) (all : HasNodes m gs) where
@@ -114,7 +115,7 @@ module _ (nb : Numbering) (m : LoadedModule) (t : Table PathId NameId) (same : I
   pub rows_many : length t.declarations ≡ length gs
   rows_many =
       sym (related_length (SameDeclaration (PathAt nb) (NameAt nb)) t.declarations (table (module_of m)).declarations same.declarations)
-      ∙ (paired_length declaration_of (declarations_in unit) (uses own unit) (uses_length own unit) ∙ trees_many)
+      ∙ (declarations_length (scope_of own unit) 0 (declarations_in unit) (uses own unit) (uses_length own unit) ∙ trees_many)
 
   pub marks_many : length m.marks.items ≡ length gs
   marks_many = sym (related_length (λ (v : Vec Mark Global) us. AreRelated (IsMark nb) v.items us) m.marks.items (uses own unit) marked) ∙ (uses_length own unit ∙ trees_many)
@@ -127,10 +128,12 @@ module _ (nb : Numbering) (m : LoadedModule) (t : Table PathId NameId) (same : I
       let (us, us_at, is_marked) = related_at (λ (v : Vec Mark Global) us. AreRelated (IsMark nb) v.items us) m.marks.items (uses own unit) marked i ms ms_at in
       let tree_at : slice_get (declarations_in unit) i ≡ Some (spelled_in m g) = ap (λ ts. slice_get ts i) (all_trees m gs all) ∙ map_at (spelled_in m) gs i g g_at in
       let (d, d_at, is_d) = related_at (SameDeclaration (PathAt nb) (NameAt nb)) t.declarations (table (module_of m)).declarations same.declarations i row row_at in
-      let both : Some d ≡ Some (declaration_of (spelled_in m g) us) = sym d_at ∙ paired_at declaration_of (declarations_in unit) (uses own unit) i (spelled_in m g) us tree_at us_at in
-      let is : d ≡ declaration_of (spelled_in m g) us = cc in
+      let (n, there) = declarations_at (scope_of own unit) 0 (declarations_in unit) (uses own unit) i (spelled_in m g) us tree_at us_at in
+      let both : Some d ≡ Some (declaration_of (scope_of own unit) n (spelled_in m g) us) = sym d_at ∙ there in
+      let is : d ≡ declaration_of (scope_of own unit) n (spelled_in m g) us = cc in
       record {
         uses = us;
+        number = n;
         stands = paired_at (λ x vs. record { home = module_of m; declaration = x; uses = vs }) (declarations_in unit) (uses own unit) i (spelled_in m g) us tree_at us_at;
         same = subst (λ (e : Declaration Path Text). SameDeclaration (PathAt nb) (NameAt nb) row e) is is_d;
         marked = is_marked;
@@ -156,6 +159,17 @@ module _ (l : Link) (sound : IsLinkOf (task_in l) l) where
         let (m, d, f) = sound.covered t c in
         (table (module_of m), map_contains table (modules_in l) (module_of m) (map_contains module_of (all_loaded l) m d), f);
   }
+
+  module _ (m : LoadedModule) (i : ℕ) (g : Node) (row : Declaration PathId NameId) (ms : List Mark) (one : OneAt (numbering l.numbers) m i g row ms) where
+    -- what the marks ask for, the declaration refers to
+    pub marks_refer : RefersToAll row ms
+    marks_refer = refers_to_all (numbering l.numbers) l.numbers.paths.different l.numbers.names.different row (scope_of (module_of m).path (module_of m).unit) one.number (spelled_in m g) ms one.uses one.same one.marked
+
+    -- and where it is held, none of them is unclear
+    pub marks_clear : (t : Table PathId NameId) (h : GlobalDeclaration) → Contains l.linked.tables t → Contains t.declarations row → IsHeldHere l.linked t.path h row.name → AreClear ms
+    marks_clear t h t_in row_in held =
+        all_clear (numbering l.numbers) l.numbers.paths.different l.numbers.names.different row (scope_of (module_of m).path (module_of m).unit) one.number (spelled_in m g) ms one.uses one.same one.marked
+        (λ n c. sound.clear t row.name n t_in (is_held l.linked t.path h row.name held) (row, row_in, refl, c))
 
   module _ (m : LoadedModule) (t : Table PathId NameId) (same : IsNumbered (numbering l.numbers) t (table (module_of m))) (p q r : Parts) (i : ℕ) (g : Bor Node) (row : Declaration PathId NameId) (ms : List Mark)
       (one : OneAt (numbering l.numbers) m i g.now row ms) where

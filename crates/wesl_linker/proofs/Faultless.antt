@@ -13,6 +13,8 @@ module _ (P : Fault Path Text ResolveError → Type 0) (none : (f : Fault Path T
   no_import (import_error.ResolveError e) (unwrapped, h) = none _ h
   no_import (import_error.MissingDecl p n) h = none _ h
   no_import (import_error.Private n p) h = none _ h
+  no_import (import_error.AmbiguousSymbol n) h = none _ h
+  no_import (import_error.TooManyFlags p) h = none _ h
 
   pub only_memory : (e : error.Error) → TellsOf P e → e ≡ error.Memory
   only_memory (error.Import e) h = absurd (no_import e h)

@@ -5,18 +5,19 @@ use Rattle.std.specs.declared.alloc.Global.{Global}
 use Rattle.wesl_names.specs.Path.{Text, Path}
 use Rattle.wesl_table.specs.Marks.{IsMark, AreMarked}
 use Rattle.wesl_table.specs.Numbering.{Numbering, Grows, AreRelated}
-use Rattle.wesl_table.specs.Uses.{Use, declares, refers, local}
+use Rattle.wesl_table.specs.Uses.{Use, declares, refers, unclear, local}
 use Rattle.wesl_table.specs.declared.marks.Mark.{Mark}
 use Rattle.wesl_table.specs.declared.marks.Mark.TheVariants as marks
 use Rattle.wesl_table.proofs.Lists.{related_more}
-use Rattle.wesl_table.proofs.Related.{name_later, path_later}
+use Rattle.wesl_table.proofs.Related.{name_later, reference_later}
 
 module _ (a b : Numbering) (g : Grows a b) where
   mark_later : (m : Mark) (u : Use Path Text) → IsMark a m u → IsMark b m u
   mark_later (marks.Declares i) (declares x) h = name_later a b g i x h
   mark_later (marks.Local c i) (local k x) (e, h) = (e, name_later a b g i x h)
   mark_later (marks.Free i) (refers x []) h = name_later a b g i x h
-  mark_later (marks.Asks s) (refers x asked) (t, c, at, named) = (t, c, path_later a b g s.path t.path at, name_later a b g s.name t.name named)
+  mark_later (marks.Asks r) (refers x asked) (t, c, h) = (t, c, reference_later a b g r t h)
+  mark_later (marks.Unclear i) (unclear x y) h = name_later a b g i x h
   mark_later (marks.Declares i) (refers x asked) h = absurd h
   mark_later (marks.Declares i) (local k x) h = absurd h
   mark_later (marks.Local c i) (declares x) h = absurd h
@@ -24,8 +25,15 @@ module _ (a b : Numbering) (g : Grows a b) where
   mark_later (marks.Free i) (declares x) h = absurd h
   mark_later (marks.Free i) (refers x (t ∷ asked)) h = absurd h
   mark_later (marks.Free i) (local k x) h = absurd h
-  mark_later (marks.Asks s) (declares x) h = absurd h
-  mark_later (marks.Asks s) (local k x) h = absurd h
+  mark_later (marks.Asks r) (declares x) h = absurd h
+  mark_later (marks.Asks r) (local k x) h = absurd h
+  mark_later (marks.Asks r) (unclear x y) h = absurd h
+  mark_later (marks.Declares i) (unclear x y) h = absurd h
+  mark_later (marks.Local c i) (unclear x y) h = absurd h
+  mark_later (marks.Free i) (unclear x y) h = absurd h
+  mark_later (marks.Unclear i) (declares x) h = absurd h
+  mark_later (marks.Unclear i) (refers x asked) h = absurd h
+  mark_later (marks.Unclear i) (local k x) h = absurd h
 
   pub marks_later : (ms : List (Vec Mark Global)) (us : List (List (Use Path Text))) → AreMarked a ms us → AreMarked b ms us
   marks_later =

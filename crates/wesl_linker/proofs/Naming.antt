@@ -51,7 +51,7 @@ module _ (nb : Numbering) (different_paths : AreDifferent nb.paths) (different_n
   here p n x d at named =
       let is : t.path ≡ p = P.other t.path p (path_view m.path) same.path at in
       let none : old (record { path = t.path; name = n }) ≡ None = s.none t.path n (λ k c there. fresh k c (P.one t.path (path_view k.path) (path_view m.path) there same.path)) in
-      let got : new (record { path = t.path; name = n }) ≡ Some (now (path_view m.path) x) = gives n x (declares_from (PathAt nb) (NameAt nb) P (names_one nb different_names) t (table (module_of m)) n x same named d) named none in
+      let got : new (record { path = t.path; name = n }) ≡ Some (now (path_view m.path) x) = gives n x (declares_from (PathAt nb) (NameAt nb) P (names_one nb different_names) t (table (module_of m)) same n x named d) named none in
       ap (λ q. new (record { path = q; name = n })) (sym is) ∙ (got ∙ ap Some (same_names (path_view m.path) x))
 
   pub gives_more : GivesTo nb (ms ++ m ∷ []) name_of new

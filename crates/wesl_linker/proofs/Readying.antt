@@ -17,16 +17,16 @@ use Rattle.wesl_table.specs.Numbering.{Numbering, Grows, NameAt, PathAt, IsNumbe
 use Rattle.wesl_table.proofs.Related.{path_later, table_later, grows_itself, grows_trans}
 use Rattle.wesl_linker.specs.Handing.{Follows, StaysOne, HaveOne, AreHanded, Keeps, IsReadyPath, IsHandedTable, IsMarkedAt, IsRefusedPath, PutsUnit, KeepsUnit}
 use Rattle.wesl_linker.specs.declared.loaded.Held.{Held}
-use Rattle.wesl_linker.proofs.Carried.{related_in, option_of}
+use Rattle.wesl_linker.proofs.Carried.{related_in}
 use Rattle.wesl_linker.proofs.Marked.{marks_later}
 
 pub ready_table : (K : Type 0) → K → (nb : Numbering) (t : Table PathId NameId) (u : Table Path Text) → IsNumbered nb t u → IsReady (λ p. IsReadyPath nb p × K) t
 ready_table K keeps nb t u same = record {
   imports = λ i held. let (j, c, k) = related_in (SameImport (PathAt nb) (NameAt nb)) t.imports u.imports i same.imports held in ((j.path, k.path), keeps);
-  references = λ d r p in_t in_d e.
+  references = λ d r in_t in_d.
       let (f, c, k) = related_in (SameDeclaration (PathAt nb) (NameAt nb)) t.declarations u.declarations d same.declarations in_t in
       let (s, x, l) = related_in (SameReference (PathAt nb) (NameAt nb)) d.references f.references r k.references in_d in
-      let (q, is, at) = option_of (PathAt nb) r.path s.path p l.path e in ((q, at), keeps);
+      ((s.path, l.path), keeps);
 }
 
 -- more names, more paths and more units

@@ -34,13 +34,13 @@ names_are nb (d ∷ ds) (e ∷ es) h = by d.name e.name refl refl h.0.name (name
   where
     by : (o : Option NameId) (q : Option Text) → d.name ≡ o → e.name ≡ q → IsRelatedOption (NameAt nb) d.name e.name → declared_texts nb ds ≡ filter_map (λ (k : Declaration Path Text). k.name) es → declared_texts nb (d ∷ ds) ≡ filter_map (λ (k : Declaration Path Text). k.name) (e ∷ es)
     by None None f k s rest =
-        ap (λ (o : Option NameId). declared_texts nb (record { name = o; references = d.references } ∷ ds)) f ∙ (rest
-        ∙ sym (ap (λ (q : Option Text). filter_map (λ (k : Declaration Path Text). k.name) (record { name = q; references = e.references } ∷ es)) k))
+        ap (λ (o : Option NameId). declared_texts nb (record { name = o; place = d.place; references = d.references; unclear = d.unclear } ∷ ds)) f ∙ (rest
+        ∙ sym (ap (λ (q : Option Text). filter_map (λ (k : Declaration Path Text). k.name) (record { name = q; place = e.place; references = e.references; unclear = e.unclear } ∷ es)) k))
     by (Some n) (Some x) f k s rest =
         let t : IsRelatedOption (NameAt nb) (Some n) (Some x) = related_as nb d.name (Some n) e.name (Some x) f k s in
-        ap (λ (o : Option NameId). declared_texts nb (record { name = o; references = d.references } ∷ ds)) f
+        ap (λ (o : Option NameId). declared_texts nb (record { name = o; place = d.place; references = d.references; unclear = d.unclear } ∷ ds)) f
         ∙ (ap (λ (y : Text). y ∷ declared_texts nb ds) (text_is nb n x t) ∙ (ap (λ (ys : List Text). x ∷ ys) rest
-        ∙ sym (ap (λ (q : Option Text). filter_map (λ (k : Declaration Path Text). k.name) (record { name = q; references = e.references } ∷ es)) k)))
+        ∙ sym (ap (λ (q : Option Text). filter_map (λ (k : Declaration Path Text). k.name) (record { name = q; place = e.place; references = e.references; unclear = e.unclear } ∷ es)) k)))
     by None (Some x) f k s rest = absurd (related_as nb d.name None e.name (Some x) f k s)
     by (Some n) None f k s rest = absurd (related_as nb d.name (Some n) e.name None f k s)
 names_are nb [] (e ∷ es) h = absurd h

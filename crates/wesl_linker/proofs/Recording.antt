@@ -77,8 +77,8 @@ named_in : (ds : List (Declaration PathId NameId)) (n : NameId) → Contains (fi
 named_in [] n h = absurd (contains_nil n h)
 named_in (d ∷ ds) n h = by d.name refl (λ c. named_in ds n c)
   where
-    here : (o : Option NameId) → d.name ≡ o → filter_map (λ (e : Declaration PathId NameId). e.name) (d ∷ ds) ≡ filter_map (λ (e : Declaration PathId NameId). e.name) (record { name = o; references = d.references } ∷ ds)
-    here o e = ap (λ (p : Option NameId). filter_map (λ (e : Declaration PathId NameId). e.name) (record { name = p; references = d.references } ∷ ds)) e
+    here : (o : Option NameId) → d.name ≡ o → filter_map (λ (e : Declaration PathId NameId). e.name) (d ∷ ds) ≡ filter_map (λ (e : Declaration PathId NameId). e.name) (record { name = o; place = d.place; references = d.references; unclear = d.unclear } ∷ ds)
+    here o e = ap (λ (p : Option NameId). filter_map (λ (e : Declaration PathId NameId). e.name) (record { name = p; place = d.place; references = d.references; unclear = d.unclear } ∷ ds)) e
 
     later : (Contains (filter_map (λ (e : Declaration PathId NameId). e.name) ds) n → (k : Declaration PathId NameId) × Contains ds k × (k.name ≡ Some n)) → Contains (filter_map (λ (e : Declaration PathId NameId). e.name) ds) n → (k : Declaration PathId NameId) × Contains (d ∷ ds) k × (k.name ≡ Some n)
     later again c = let (k, held, is) = again c in (k, contains_later d k ds held, is)
@@ -94,8 +94,8 @@ name_among : (ds : List (Declaration PathId NameId)) (d : Declaration PathId Nam
 name_among [] d n h e = absurd (contains_nil d h)
 name_among (k ∷ ds) d n h e = by k.name refl (λ c. name_among ds d n c e) (contains_cases k d ds h)
   where
-    here : (o : Option NameId) → k.name ≡ o → filter_map (λ (e : Declaration PathId NameId). e.name) (record { name = o; references = k.references } ∷ ds) ≡ filter_map (λ (e : Declaration PathId NameId). e.name) (k ∷ ds)
-    here o e = sym (ap (λ (p : Option NameId). filter_map (λ (e : Declaration PathId NameId). e.name) (record { name = p; references = k.references } ∷ ds)) e)
+    here : (o : Option NameId) → k.name ≡ o → filter_map (λ (e : Declaration PathId NameId). e.name) (record { name = o; place = k.place; references = k.references; unclear = k.unclear } ∷ ds) ≡ filter_map (λ (e : Declaration PathId NameId). e.name) (k ∷ ds)
+    here o e = sym (ap (λ (p : Option NameId). filter_map (λ (e : Declaration PathId NameId). e.name) (record { name = p; place = k.place; references = k.references; unclear = k.unclear } ∷ ds)) e)
 
     by : (o : Option NameId) → k.name ≡ o → (Contains ds d → Contains (filter_map (λ (e : Declaration PathId NameId). e.name) ds) n) → (k ≡ d) ⊎ Contains ds d → Contains (filter_map (λ (e : Declaration PathId NameId). e.name) (k ∷ ds)) n
     by None f again (inl s) = let g : None ≡ Some n = sym f ∙ (ap (λ (z : Declaration PathId NameId). z.name) s ∙ e) in cc
@@ -141,8 +141,8 @@ module _ (nb : Numbering) (different : AreDifferent nb.names) (name_of : Path �
   texts_more : (ds : List (Declaration PathId NameId)) (d : Declaration PathId NameId) → declared_texts nb (ds ++ d ∷ []) ≡ declared_texts nb ds ++ declared_texts nb (d ∷ [])
   texts_more ds d = ap (map (text_of nb)) (filter_map-append (λ (e : Declaration PathId NameId). e.name) ds (d ∷ [])) ∙ map-append (text_of nb) (filter_map (λ (e : Declaration PathId NameId). e.name) ds) (filter_map (λ (e : Declaration PathId NameId). e.name) (d ∷ []))
 
-  texts_one : (d : Declaration PathId NameId) (o : Option NameId) → d.name ≡ o → declared_texts nb (d ∷ []) ≡ declared_texts nb (record { name = o; references = d.references } ∷ [])
-  texts_one d o e = ap (λ (p : Option NameId). declared_texts nb (record { name = p; references = d.references } ∷ [])) e
+  texts_one : (d : Declaration PathId NameId) (o : Option NameId) → d.name ≡ o → declared_texts nb (d ∷ []) ≡ declared_texts nb (record { name = o; place = d.place; references = d.references; unclear = d.unclear } ∷ [])
+  texts_one d o e = ap (λ (p : Option NameId). declared_texts nb (record { name = p; place = d.place; references = d.references; unclear = d.unclear } ∷ [])) e
 
   pub recorded_unnamed : (ds : List (Declaration PathId NameId)) (d : Declaration PathId NameId) (items : Record) → d.name ≡ None → Recorded ds items → Recorded (ds ++ d ∷ []) items
   recorded_unnamed ds d items e h x =

@@ -96,12 +96,16 @@ module _ {X : Type 0} (R : X → X → Type 0) (itself : (x : X) → R x x) wher
 table_itself : (t : Table Path Text) → SameTable Is Named t t
 table_itself t = record {
   path = refl;
-  imports = list_itself (SameImport Is Named) (λ i. record { bound = refl; path = refl; item = refl; published = refl }) t.imports;
+  imports = list_itself (SameImport Is Named) (λ i. record { bound = refl; path = refl; item = refl; published = refl; place = refl; from = refl; order = refl }) t.imports;
   declarations = list_itself (SameDeclaration Is Named)
       (λ d. record {
         name = option_itself Named (λ n. refl) d.name;
-        references = list_itself (SameReference Is Named) (λ r. record { path = option_itself Is (λ p. refl) r.path; name = refl }) d.references;
+        place = refl;
+        references = list_itself (SameReference Is Named) (λ r. record { path = refl; name = refl; from = refl }) d.references;
+        unclear = list_itself Named (λ n. refl) d.unclear;
       }) t.declarations;
+  together = λ a b. refl;
+  crowded = refl;
 }
 
 -- ---- worlds
@@ -119,12 +123,16 @@ back_all w v from = record {
     back_itself : (t : Table Path Text) → SameTable (Back Is) (Back Named) t t
     back_itself t = record {
       path = refl;
-      imports = list_itself (SameImport (Back Is) (Back Named)) (λ i. record { bound = refl; path = refl; item = refl; published = refl }) t.imports;
+      imports = list_itself (SameImport (Back Is) (Back Named)) (λ i. record { bound = refl; path = refl; item = refl; published = refl; place = refl; from = refl; order = refl }) t.imports;
       declarations = list_itself (SameDeclaration (Back Is) (Back Named))
           (λ d. record {
             name = option_itself (Back Named) (λ n. refl) d.name;
-            references = list_itself (SameReference (Back Is) (Back Named)) (λ r. record { path = option_itself (Back Is) (λ p. refl) r.path; name = refl }) d.references;
+            place = refl;
+            references = list_itself (SameReference (Back Is) (Back Named)) (λ r. record { path = refl; name = refl; from = refl }) d.references;
+            unclear = list_itself (Back Named) (λ n. refl) d.unclear;
           }) t.declarations;
+      together = λ a b. refl;
+      crowded = refl;
     }
 
 module _ (task : Task Path Text) where

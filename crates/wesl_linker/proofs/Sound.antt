@@ -1,5 +1,5 @@
 -- What a link keeps is what the engine found: its tables are those of the modules, and its symbols those that are reached.
-use Rattle.std.proofs.Common.{◌≡◌, ◌⊎◌, inl, inr, ◌↔◌, ℕ, suc, Bool, true, false, List, [], ◌∷◌, map, Contains, refl, sym, subst, ap, ◌∙◌}
+use Rattle.std.proofs.Common.{◌≡◌, ◌⊎◌, inl, inr, ◌↔◌, ℕ, suc, Bool, true, false, Option, Some, None, List, [], ◌∷◌, map, Contains, refl, sym, subst, ap, ◌∙◌}
 use Rattle.std.specs.Prelude.{slice_get, Vec}
 use Rattle.std.specs.declared.alloc.Global.{Global}
 use Rattle.std.specs.List.Sorted.{IsPermutation}
@@ -14,7 +14,10 @@ use Rattle.wesl_symbols.specs.declared.ids.PathId.{PathId}
 use Rattle.wesl_symbols.specs.declared.ids.NameId.{NameId}
 use Rattle.wesl_symbols.specs.declared.symbols.Symbol.{Symbol}
 use Rattle.wesl_symbols.specs.Tables.{Table}
+use Rattle.wesl_symbols.specs.Names.{IsUnclearFrom}
 use Rattle.wesl_world.specs.World.{Task, Reached}
+use Rattle.wesl_world.specs.Faults.{ambiguous}
+use Rattle.wesl_world.specs.Keeping.{IsHeld}
 use Rattle.wesl_world.specs.Linking as linking
 use Rattle.wesl_symbols.proofs.Entries.{found_at}
 use Rattle.wesl_symbols.proofs.Lists.{contains_cases, contains_first, contains_later}
@@ -163,6 +166,11 @@ module _ (numbers : NumberTexts) (first : Numbering) (g : Grows first (numbering
         subst (λ (z : Symbol PathId NameId). Contains k.symbols z) (symbol_other nb numbers.paths.different numbers.names.different u s x (record { path = same_u.path; name = same_u.name }) (record { path = at; name = named })) ((linked.symbols u).1 q)),
   )
 
+  -- nothing is ambiguous in a declaration that is held
+  clear : (t : Table PathId NameId) (name : Option NameId) (n : NameId) → Contains k.tables t → IsHeld k t.path name → IsUnclearFrom t name n → ⊥
+  clear t None n c held unclear = linked.no_fault (ambiguous n) (inl (t, c, (linked.paths t.path).0 (t, (c, refl)), unclear))
+  clear t (Some m) n c held unclear = let s : Symbol PathId NameId = record { path = t.path; name = m } in linked.no_fault (ambiguous n) (inr (inl (s, t, (linked.symbols s).0 held, (c, refl), unclear)))
+
   pub sound : IsLinkOf (task_in link) link
   sound = subst (λ (xs : List Text). IsLinkOf (task_of rm xs is_eager) link) (sym (texts_are nb kept.items keep kept_now)) (record {
     tabled = tabled;
@@ -170,6 +178,7 @@ module _ (numbers : NumberTexts) (first : Numbering) (g : Grows first (numbering
     once = found_now.once;
     asked = λ m c. is_false (is_relative (path_view m.path)) (found_now.world.no_relative (module_of m) (map_contains module_of (first_loaded ∷ others.items) m c));
     reached = reached;
+    clear = clear;
   })
 
   -- what is told of a link

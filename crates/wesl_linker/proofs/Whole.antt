@@ -16,9 +16,8 @@ use Rattle.wesl_world.proofs.Lists.{contains_map}
 use Rattle.wesl_occurrences.specs.Laws.{PiecesAreDeclarations}
 use Rattle.wesl_occurrences.specs.Occurrences.{Occurrence, occurrences}
 use Rattle.wesl_occurrences.specs.Pieces.{declarations_in, pieces}
-use Rattle.wesl_table.specs.Imports.{imports}
 use Rattle.wesl_table.specs.Numbering.{PathAt, NameAt}
-use Rattle.wesl_table.specs.Tables.{names_declared, paired}
+use Rattle.wesl_table.specs.Tables.{scope_of, paired}
 use Rattle.wesl_table.specs.Uses.{Use, use_of}
 use Rattle.wesl_table.specs.TextsView.{numbering_of_texts as numbering}
 use Rattle.wesl_linker.specs.Given.{Given}
@@ -79,7 +78,7 @@ sized : PiecesAreDeclarations → (m : LoadedModule) (d : Placed) → Contains (
 sized law m d c =
     let u = (module_of m).unit in
     let own = (module_of m).path in
-    sized_each (module_of m) (use_of own (names_declared u) (imports own u) (occurrences u)) (declarations_in u) (pieces u) (law u refl) d c
+    sized_each (module_of m) (use_of (scope_of own u) (occurrences u)) (declarations_in u) (pieces u) (law u refl) d c
 
 many_meanings : (w : List (Table Path Text)) (held : List Placed) (ms : List Denotation) → Joins (AreMeanings w) held ms → ((d : Placed) → Contains held d → IsSized d)
     → length ms ≡ length (identifiers (forest_of (map (λ d. d.declaration) held)))

@@ -8,15 +8,13 @@ use Rattle.wesl_syntax.specs.declared.span.Spanned.{Spanned}
 use Rattle.wesl_syntax.specs.declared.declaration.GlobalDeclaration.{GlobalDeclaration}
 use Rattle.wesl_symbols.specs.declared.ids.PathId.{PathId}
 use Rattle.wesl_symbols.specs.declared.ids.NameId.{NameId}
-use Rattle.wesl_symbols.specs.declared.symbols.LookUp.{LookUp}
-use Rattle.wesl_symbols.specs.declared.symbols.Symbol.{Symbol}
+use Rattle.wesl_symbols.specs.declared.symbols.Reference.{Reference}
 use Rattle.wesl_symbols.specs.Tables.{Declaration, Table}
-use Rattle.wesl_symbols.specs.Names.{Declares}
+use Rattle.wesl_symbols.specs.Names.{Declares, asked_for}
 use Rattle.wesl_world.specs.World.{LeadsTo}
 use Rattle.wesl_world.specs.Linking.{Linking}
 use Rattle.wesl_world.specs.Keeping.{StandsHeld}
 use Rattle.wesl_table.specs.Imports.{first_label}
-use Rattle.wesl_table.specs.Tables.{reference_to}
 use Rattle.wesl_table.specs.Numbering.{Numbering, NameAt, PathAt, AreRelated}
 use Rattle.wesl_table.specs.TextsView.{numbering_of_texts as numbering}
 use Rattle.wesl_table.specs.declared.marks.Mark.{Mark}
@@ -52,21 +50,19 @@ IsGivenAll l mangle_root name_of given = (m : LoadedModule) → Contains (all_lo
 
 -- ---- identifiers
 
--- the module of the table asks for the symbol
-abbrev pub look_up : Table PathId NameId → Symbol PathId NameId → LookUp PathId NameId
-look_up t s = record { asker = Some t.path; path = s.path; name = s.name }
-
--- what the mark asks for, a declaration of the module that is held refers to
+-- what the mark asks for, a declaration of the module that is held refers to; in such a one nothing is unclear
 abbrev pub IsAskable : Linking PathId NameId → Table PathId NameId → Mark → Type 0
-IsAskable k t (marks.Asks s) = StandsHeld k t (reference_to s)
+IsAskable k t (marks.Asks r) = StandsHeld k t r
+IsAskable k t (marks.Unclear n) = ⊥
 IsAskable k t _ = Unit {0}
 
 module _ (nb : Numbering) (k : Linking PathId NameId) (t : Table PathId NameId) where
   -- what an identifier with the mark stands for
   abbrev pub IsMeant : Mark → Meaning → Type 0
   IsMeant (marks.Declares n) d = d ≡ symbol t.path n
-  IsMeant (marks.Asks s) (symbol p n) = LeadsTo k.tables (look_up t s) (record { path = p; name = n })
-  IsMeant (marks.Asks s) _ = ⊥
+  IsMeant (marks.Asks r) (symbol p n) = LeadsTo k.tables (asked_for t r) (record { path = p; name = n })
+  IsMeant (marks.Asks r) _ = ⊥
+  IsMeant (marks.Unclear n) d = ⊥
   IsMeant (marks.Local b n) d = d ≡ local t.path b (name_text nb n)
   IsMeant (marks.Free n) d = d ≡ free_name (name_text nb n)
 
@@ -89,7 +85,11 @@ IsHeldHere k p g None = first_label false is_assert (before (global_view g) end)
 
 -- the declaration refers to all that the marks ask for
 abbrev pub RefersToAll : Declaration PathId NameId → List Mark → Type 0
-RefersToAll d ms = (s : Symbol PathId NameId) → Contains ms (marks.Asks s) → Contains d.references (reference_to s)
+RefersToAll d ms = (r : Reference PathId NameId) → Contains ms (marks.Asks r) → Contains d.references r
+
+-- no mark is unclear
+abbrev pub AreClear : List Mark → Type 0
+AreClear ms = (n : NameId) → Contains ms (marks.Unclear n) → ⊥
 
 module _ (nb : Numbering) (k : Linking PathId NameId) (t : Table PathId NameId) where
   -- the declaration is added with what its identifiers stand for, where it is held

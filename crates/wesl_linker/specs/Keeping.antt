@@ -6,8 +6,10 @@ use Rattle.wesl_symbols.specs.declared.ids.PathId.{PathId}
 use Rattle.wesl_symbols.specs.declared.ids.NameId.{NameId}
 use Rattle.wesl_symbols.specs.declared.symbols.Symbol.{Symbol}
 use Rattle.wesl_symbols.specs.Tables.{Table}
+use Rattle.wesl_symbols.specs.Names.{IsUnclearFrom}
 use Rattle.wesl_world.specs.World.{Task, Reached}
 use Rattle.wesl_world.specs.Faults.{AreDistinct}
+use Rattle.wesl_world.specs.Keeping.{IsHeld}
 use Rattle.wesl_table.specs.Numbering.{Numbering, NameAt, PathAt, IsNumbered}
 use Rattle.wesl_table.specs.TextsView.{numbering_of_texts as numbering}
 use Rattle.wesl_assembly.specs.Denotations.{symbol, local, free_name}
@@ -69,7 +71,8 @@ modules_in l = loaded_modules (all_loaded l)
 abbrev pub IsCovered : Numbering → List LoadedModule → Table PathId NameId → Type 0
 IsCovered nb ms t = (m : LoadedModule) × Contains ms m × IsNumbered nb t (table (module_of m))
 
--- the tables are those of the modules, each path once, and the symbols are the reached ones
+-- the tables are those of the modules, each path once, the symbols are the reached ones, and no name that a held declaration
+-- uses stands for two things
 pub record IsLinkOf (task : Task Path Text) (l : Link) : Type 0 where
   pub tabled : (m : LoadedModule) → Contains (all_loaded l) m → IsTabled (numbering l.numbers) l.linked.tables m
   pub covered : (t : Table PathId NameId) → Contains l.linked.tables t → IsCovered (numbering l.numbers) (all_loaded l) t
@@ -77,6 +80,7 @@ pub record IsLinkOf (task : Task Path Text) (l : Link) : Type 0 where
   pub asked : (m : LoadedModule) → Contains (all_loaded l) m → is_relative (path_view m.path) ≡ false
   pub reached : (s : Symbol PathId NameId) (x : Symbol Path Text) → PathAt (numbering l.numbers) s.path x.path → NameAt (numbering l.numbers) s.name x.name
       → Contains l.linked.symbols s ↔ Reached (tables (modules_in l)) task x
+  pub clear : (t : Table PathId NameId) (name : Option NameId) (n : NameId) → Contains l.linked.tables t → IsHeld l.linked t.path name → IsUnclearFrom t name n → ⊥
 
 abbrev pub kept_texts : Link → List Text
 kept_texts l = map (name_text (numbering l.numbers)) l.kept.items

@@ -3,6 +3,7 @@ use Rattle.std.specs.Prelude.{◌≡◌, ◌++◌, ℕ, Bool, true, false, Optio
 use Rattle.wesl_names.specs.Path.{Text, Path}
 use Rattle.wesl_syntax.specs.Tree.{LabelOf, kind, const_assert, TreeOf, trees, branch, forest_of, identifiers, imports as imports_kind, directive_list, declarations as declarations_kind}
 use Rattle.wesl_syntax.specs.Unit.{UnitOf, UnitView}
+use Rattle.wesl_symbols.specs.declared.symbols.Reference.{Reference}
 use Rattle.wesl_symbols.specs.declared.symbols.Symbol.{Symbol}
 use Rattle.wesl_symbols.specs.Tables.{Table}
 use Rattle.wesl_world.specs.World.{Task, LeadsTo, Reached}
@@ -10,7 +11,7 @@ use Rattle.wesl_occurrences.specs.Pieces.{declarations_in}
 use Rattle.wesl_table.specs.Imports.{first_label}
 use Rattle.wesl_table.specs.Numbering.{AreRelated}
 use Rattle.wesl_table.specs.Tables.{name_of, paired, uses}
-use Rattle.wesl_table.specs.Uses.{Use, declares, refers, local as in_block}
+use Rattle.wesl_table.specs.Uses.{Use, declares, refers, unclear, local as in_block}
 use Rattle.wesl_assembly.specs.Denotations.{DenotationOf, symbol, local, free_name, printed_as}
 use Rattle.wesl_assembly.specs.Directives.{Thins}
 use Rattle.wesl_assembly.specs.Linked.{IsLinkedAs}
@@ -22,17 +23,19 @@ abbrev pub Denotation : Type 0
 Denotation = DenotationOf Path Text ℕ
 
 -- what the module at `own` asks for leads to the symbol
-abbrev pub AskedLeadsTo : List (Table Path Text) → Path → Symbol Path Text → Symbol Path Text → Type 0
-AskedLeadsTo w own asked s = LeadsTo w (record { asker = Some own; path = asked.path; name = asked.name }) s
+abbrev pub AskedLeadsTo : List (Table Path Text) → Path → Reference Path Text → Symbol Path Text → Type 0
+AskedLeadsTo w own asked s = LeadsTo w (record { asker = Some own; path = asked.path; name = asked.name; from = asked.from }) s
 
 -- What an identifier of the module at `own` stands for: a declared name for its symbol, a name of a block for itself there,
--- a reference for what one of those that it asks for leads to, and where it asks for nothing, for its name.
+-- a reference for what one of those that it asks for leads to, and where it asks for nothing, for its name. A name that is
+-- unclear stands for nothing.
 abbrev pub StandsFor : List (Table Path Text) → Path → Use Path Text → Denotation → Type 0
 StandsFor w own (declares n) d = d ≡ symbol own n
 StandsFor w own (in_block b n) d = d ≡ local own b n
-StandsFor w own (refers n asked) (symbol p m) = (a : Symbol Path Text) × Contains asked a × AskedLeadsTo w own a (record { path = p; name = m })
+StandsFor w own (refers n asked) (symbol p m) = (a : Reference Path Text) × Contains asked a × AskedLeadsTo w own a (record { path = p; name = m })
 StandsFor w own (refers n asked) (free_name m) = (m ≡ n) × (asked ≡ [])
 StandsFor w own (refers n asked) (local p b m) = ⊥
+StandsFor w own (unclear n x) d = ⊥
 
 -- ---- what is held
 

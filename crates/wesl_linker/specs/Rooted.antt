@@ -1,7 +1,7 @@
 -- A root whose kept names are numbers, and what a link of it finds.
 use Rattle.std.specs.Prelude.{◌≡◌, ℕ, Some, None, List, Result, IfErr, drop}
 use Rattle.wesl_names.specs.Path.{Text, Path}
-use Rattle.wesl_names.specs.declared.errors.Error as error
+use Rattle.wesl_names.specs.declared.errors.Diagnostic.{Diagnostic}
 use Rattle.wesl_names.specs.declared.errors.ResolveError.{ResolveError}
 use Rattle.wesl_syntax.specs.Unit.{UnitOf}
 use Rattle.wesl_symbols.specs.declared.ids.PathId.{PathId}
@@ -16,7 +16,7 @@ use Rattle.wesl_linker.specs.Taking.{AreTaken}
 use Rattle.wesl_linker.specs.Resolved.{module_at}
 use Rattle.wesl_linker.specs.Worlds.{IsModuleOrder}
 use Rattle.wesl_linker.specs.Keeping.{IsSound, resolved, modules_of}
-use Rattle.wesl_linker.specs.Linking.{LinksRoot, TellsFault}
+use Rattle.wesl_linker.specs.Linking.{LinksRoot, RefusesRoot}
 use Rattle.wesl_linker.specs.declared.link.Link.{Link}
 use Rattle.wesl_linker.specs.declared.loaded.Held.{Held}
 use Rattle.wesl_linker.specs.declared.resolutions.Resolutions.{Resolutions}
@@ -37,10 +37,10 @@ module _ (hands : Path → UnitOf Text → Type 0) (refuses : Path → ResolveEr
     pub sound : IsSound found
     pub names : (p : Path) (n : Text) → (resolved found).names p n ≡ n
 
-  -- an error tells a fault that stands in a world of the root, or want of memory
-  abbrev pub RefusesNumbered : Result Resolutions error.Error → Type 0
+  -- a diagnostic tells a fault that stands in a world of the root, or want of memory
+  abbrev pub RefusesNumbered : Result Resolutions Diagnostic → Type 0
   RefusesNumbered result =
-      (keep : List Text) → AreKeptTexts nb root keep → IfErr result (TellsFault hands refuses root.path root.unit keep root.is_eager limit)
+      (keep : List Text) → AreKeptTexts nb root keep → IfErr result (RefusesRoot hands refuses root.path root.unit keep root.is_eager limit)
 
 -- the link holds the root, whose table is the first, and what was linked
 abbrev pub IsLinkFrom : Root → NumberTexts → links.Linking PathId NameId → Link → Type 0

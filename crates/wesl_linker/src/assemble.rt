@@ -2,10 +2,7 @@
 ghost use Rattle.std.specs.Prelude.{◌≡◌, ◌↔◌, ◌∷◌, [], List, Contains, IsTrue, IfOk, IfErr, map};
 ghost use Rattle.wesl_names.specs.declared.errors.Error as error;
 ghost use Rattle.wesl_tree.specs.Translation.{unit_view};
-ghost use Rattle.wesl_world.specs.World.{LeadsTo};
-ghost use Rattle.wesl_world.specs.Keeping.{StandsHeld};
 ghost use Rattle.wesl_table.specs.TextsView.{numbering_of_texts as numbering};
-ghost use Rattle.wesl_table.specs.Tables.{reference_to};
 ghost use Rattle.wesl_table.specs.declared.marks.Mark as marked;
 ghost use Rattle.wesl_assembly.specs.Views.{Meaning, denotation_view};
 ghost use Rattle.wesl_linker.specs.GivenView.{given as given_names};
@@ -23,7 +20,7 @@ use wesl_assembly::{
 use wesl_names::Error;
 use wesl_occurrences::law_of_pieces;
 use wesl_symbols::ids::{NameId, PathId};
-use wesl_symbols::symbols::{Reference, Symbol};
+use wesl_symbols::symbols::Symbol;
 use wesl_symbols::table::{Declaration, Table};
 use wesl_syntax::{GlobalDeclaration, GlobalDeclarationNode};
 use wesl_table::marks::Mark;
@@ -66,26 +63,6 @@ fn text_of(numbers: &NumberTexts, name: NameId) -> &str
     }
 }
 
-/// The symbol that a held declaration of a module refers to.
-fn symbol_asked(
-    linked: &Linked,
-    table: &Table,
-    asked: Symbol<PathId, NameId>,
-) -> Symbol<PathId, NameId>
-    requires loaded { Contains linked.now.tables table.now }
-    requires held { StandsHeld linked.now table.now (reference_to asked) }
-    ensures { LeadsTo linked.now.tables (holding.look_up table.now asked) result }
-{
-    let reference = Reference {
-        path: Some(asked.path),
-        name: asked.name,
-    };
-    let Some(symbol) = linked.denotes(table, &reference) else {
-        unreachable!()
-    };
-    symbol
-}
-
 /// What an identifier of a held declaration stands for, by its mark.
 fn denotation<'a>(
     numbers: &'a NumberTexts,
@@ -100,7 +77,8 @@ fn denotation<'a>(
     let path = table.path();
     match mark {
         Mark::Declares(name) => Denotation::Symbol(Symbol { path, name }),
-        Mark::Asks(asked) => Denotation::Symbol(symbol_asked(linked, table, asked)),
+        Mark::Asks(asked) => Denotation::Symbol(linked.denotes(table, &asked)),
+        Mark::Unclear(_) => unreachable!(),
         Mark::Local(block, name) => Denotation::Local(path, block, text_of(numbers, name)),
         Mark::Free(name) => Denotation::Free(text_of(numbers, name)),
     }
@@ -157,6 +135,7 @@ fn add_declaration<'a>(
     requires loaded { Contains link.now.linked.tables table.now }
     requires inside { Contains table.now.declarations row.now }
     requires refers { holding.RefersToAll row.now marks.now }
+    requires clear { holding.IsHeldHere link.now.linked table.now.path declaration.now.node row.now.name → holding.AreClear marks.now }
     ensures { IsTrue result → holding.AddsOne (numbering link.now.numbers) link.now.linked table.now declaration.entry row.now.name marks.now parts.old parts.new }
 {
     if !is_held(&link.linked, table, row, &declaration.node) {

@@ -1,13 +1,15 @@
 //! Why a link was refused, with the paths and names of its numbers.
 ghost use Rattle.std.specs.Prelude.{◌≡◌, ◌⊎◌, IfOk, string_bytes};
-ghost use Rattle.wesl_names.specs.declared.errors.Error as error;
+ghost use Rattle.wesl_names.specs.declared.errors.Error as memory;
+ghost use Rattle.wesl_names.specs.declared.errors.Diagnostic.{out-Diagnostic};
 ghost use Rattle.wesl_names.specs.Path.{Text, Path, path_view};
 ghost use Rattle.wesl_table.specs.Numbering.{NameAt, PathAt};
 ghost use Rattle.wesl_table.specs.NumbersView.{numbering};
-ghost use Rattle.wesl_linker.specs.Refusal.{HasNumbers, Tells};
+ghost use Rattle.wesl_linker.specs.Refusal.{HasNumbers, Tells, IsModuleAt, IsToldBy};
+ghost use Rattle.wesl_linker.specs.Refusal as refusal;
 
 use std::alloc::{AllocError, Global};
-use wesl_names::{Error, ImportError, ModulePath, ResolveError};
+use wesl_names::{Diagnostic, Error, ImportError, ModulePath, ResolveError};
 use wesl_symbols::ids::{NameId, PathId};
 use wesl_table::numbers::Numbers;
 use wesl_world::error::LinkError;
@@ -44,7 +46,7 @@ fn told(
     ensures { IfOk result (Tells (numbering numbers.now) fault) }
 {
     match fault {
-        LinkError::DuplicateSymbol(name) => {
+        LinkError::DuplicateSymbol(_, name) => {
             let name = name_of(alloc, numbers, name)?;
             Ok(Error::Import(ImportError::DuplicateSymbol(name)))
         }
@@ -59,18 +61,80 @@ fn told(
             let path = path_of(alloc, numbers, path)?;
             Ok(Error::Import(ImportError::Private(name, path)))
         }
+        LinkError::AmbiguousSymbol(name) => {
+            let name = name_of(alloc, numbers, name)?;
+            Ok(Error::Import(ImportError::AmbiguousSymbol(name)))
+        }
+        LinkError::TooManyFlags(path) => {
+            let path = path_of(alloc, numbers, path)?;
+            Ok(Error::Import(ImportError::TooManyFlags(path)))
+        }
         LinkError::ModuleLimit(limit) => Ok(Error::ModuleLimit(limit)),
         LinkError::Memory => Ok(Error::Memory),
     }
 }
 
-/// The error of a refused link: it tells why, unless there is no memory to tell it.
-pub fn error_of(alloc: Global, numbers: &Numbers, fault: LinkError<ResolveError>) -> Error
-    requires { HasNumbers (numbering numbers.now) fault }
-    ensures { (result ≡ error.Memory) ⊎ Tells (numbering numbers.now) fault result }
+/// The module that holds a fault, if one does.
+fn holder_of(fault: &LinkError<ResolveError>) -> Option<PathId>
+    ensures { result ≡ refusal.holder_of fault.now }
 {
+    match fault {
+        LinkError::DuplicateSymbol(path, _)
+        | LinkError::MissingDecl(path, _)
+        | LinkError::Private(_, path) => Some(*path),
+        _ => None,
+    }
+}
+
+/// The path of a number, if it has one.
+fn module_at(
+    alloc: Global,
+    numbers: &Numbers,
+    id: Option<PathId>,
+) -> Result<Option<ModulePath>, AllocError>
+    ensures { IfOk result (IsModuleAt (numbering numbers.now) id) }
+{
+    let Some(id) = id else {
+        return Ok(None);
+    };
+    match numbers.paths.path(id) {
+        Some(path) => {
+            let path = path.try_clone(alloc).ok().ok_or(AllocError)?;
+            Ok(Some(path))
+        }
+        None => Ok(None),
+    }
+}
+
+/// The diagnostic of an error in the module of a number, unless there is no memory to tell it.
+fn in_module(alloc: Global, numbers: &Numbers, error: Error, id: Option<PathId>) -> Diagnostic
+    ensures { ((out-Diagnostic result).error ≡ memory.Memory) ⊎ (((out-Diagnostic result).error ≡ error) × IsModuleAt (numbering numbers.now) id (out-Diagnostic result).«module») }
+{
+    match module_at(alloc, numbers, id) {
+        Ok(module) => Diagnostic {
+            error,
+            declaration: None,
+            module,
+            display: None,
+            span: None,
+            source: None,
+        },
+        Err(_) => Diagnostic::of(Error::Memory),
+    }
+}
+
+/// The diagnostic of a refused link: it tells why and in which module, unless there is no memory to tell it.
+pub fn diagnostic_of(
+    alloc: Global,
+    numbers: &Numbers,
+    fault: LinkError<ResolveError>,
+) -> Diagnostic
+    requires { HasNumbers (numbering numbers.now) fault }
+    ensures { IsToldBy (numbering numbers.now) fault result }
+{
+    let holder = holder_of(&fault);
     match told(alloc, numbers, fault) {
-        Ok(error) => error,
-        Err(_) => Error::Memory,
+        Ok(error) => in_module(alloc, numbers, error, holder),
+        Err(_) => Diagnostic::of(Error::Memory),
     }
 }

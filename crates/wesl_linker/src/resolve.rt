@@ -27,7 +27,7 @@ use crate::given::GivenNames;
 use crate::link::Link;
 use crate::loaded::{Held, LoadedModule, take_modules};
 use crate::modules::{ModuleLoader, Source};
-use crate::refusals::error_of;
+use crate::refusals::diagnostic_of;
 use crate::resolutions::Resolutions;
 use indexmap::IndexMap;
 use std::alloc::{AllocError, Global};
@@ -176,14 +176,15 @@ fn linked_by<E, L: Loader<E>>(
     }
 }
 
-/// Links a root with the modules of a resolver, whose relations are held fixed.
+/// Links a root with the modules of a resolver, whose relations are held fixed. The diagnostic of a refusal tells the module
+/// that holds the fault.
 fn reach_modules<R: Resolver, S: Source<R>>(
     alloc: Global,
     modules: &mut ModuleLoader<'_, '_, R, S>,
     table: Table,
     root: Root,
     max_modules: usize,
-) -> Result<Resolutions, Error>
+) -> Result<Resolutions, Diagnostic>
     requires ready { R.ready modules.old.resolver.now }
     requires stays { StaysOne R.hands R.refuses R.source R.lacks R.shown S.these S.loan modules.old.resolver.now modules.old.resolver.ghost_name }
     requires follows { Follows (R.hands modules.old.resolver.now) (R.refuses modules.old.resolver.now) S.hands S.refuses }
@@ -210,9 +211,12 @@ fn reach_modules<R: Resolver, S: Source<R>>(
     ) {
         Ok(linked) => {
             let numbers = replace(modules.numbers, Numbers::new(alloc));
-            found_of(alloc, numbers, modules.units, root, linked)
+            match found_of(alloc, numbers, modules.units, root, linked) {
+                Ok(found) => Ok(found),
+                Err(error) => Err(Diagnostic::of(error)),
+            }
         }
-        Err(fault) => Err(error_of(alloc, modules.numbers, fault)),
+        Err(fault) => Err(diagnostic_of(alloc, modules.numbers, fault)),
     }
 }
 
@@ -252,18 +256,17 @@ fn resolutions_of<R: Resolver>(
         source: PhantomData,
     };
     let TabledRoot { root, table } = tabled;
-    match reach_modules::<R, Brand>(alloc, &mut modules, table, root, max_modules) {
-        Ok(resolutions) => Ok(resolutions),
-        Err(error) => Err(Diagnostic::of(error)),
-    }
+    reach_modules::<R, Brand>(alloc, &mut modules, table, root, max_modules)
 }
 
 /// Links the root `unit`, which stands at `path`, with the modules that the names in `keep` and the const_asserts
 /// reach, and no others (WESL, "Imports").
 ///
 /// `resolver` hands out every module but the root, and means afterwards what it meant; no more than `max_modules` are
-/// loaded, the root counted. Refused where a name has two targets, where the resolver refuses a path, where a look-up
-/// finds nothing or nothing that it may see, where there are more modules than may be, and for want of memory.
+/// loaded, the root counted. Refused where binders of one name with different targets are alive together, where a name stands
+/// for two things where it is used, where a module with such a name has more than 16 flags, where the resolver refuses a
+/// path, where a look-up finds nothing or nothing that it may see, where there are more modules than may be, and for want
+/// of memory. The diagnostic tells the module that has the two targets, or that lacks the name or hides it.
 pub fn resolve_lazy<R: Resolver>(
     alloc: Global,
     keep: &[&str],

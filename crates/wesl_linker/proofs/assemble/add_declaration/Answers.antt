@@ -7,7 +7,7 @@ use Rattle.wesl_linker.proofs.assemble.add_declaration.Goals as goal
 pub add_denotations-requires-clause-held : goal.add_denotations-requires-clause-held
 add_denotations-requires-clause-held c =
     let reached : IsTrue c.is_held.result = search rules in
-    askable c.args.link.now.linked c.args.table.now c.args.row.now c.args.declaration.now.node c.args.marks.now c.requires.inside c.requires.refers (c.is_held.ensures.0 reached)
+    askable c.args.link.now.linked c.args.table.now c.args.row.now c.args.declaration.now.node c.args.marks.now c.requires.inside c.requires.refers (c.requires.clear (c.is_held.ensures.0 reached)) (c.is_held.ensures.0 reached)
 
 pub returns-then-add_denotations : goal.returns-then-add_denotations
 returns-then-add_denotations c = λ h.

@@ -5,9 +5,9 @@ use Rattle.wesl_linker.specs.Linked.{Placed, placed}
 use Rattle.wesl_linker.specs.Keeping.{module_of}
 use Rattle.wesl_linker.specs.Holding.{Adds}
 use Rattle.wesl_linker.proofs.Tabled.{stands, numbered_there, marked_there}
-use Rattle.wesl_linker.proofs.Meant.{refers_to_all}
+use Rattle.wesl_linker.proofs.Lists.{at_has}
 use Rattle.wesl_linker.proofs.Parted.{adds_none}
-use Rattle.wesl_linker.proofs.Adding.{OneAt, spelled_in, declarations_are, rows_many, marks_many, placed_many, told_at, row_held, adds_next}
+use Rattle.wesl_linker.proofs.Adding.{OneAt, declarations_are, marks_refer, marks_clear, rows_many, marks_many, placed_many, told_at, row_held, adds_next}
 use Rattle.wesl_linker.proofs.assemble.add_module.Goals as goal
 
 pub table_at-table-requires : goal.table_at-table-requires
@@ -52,7 +52,22 @@ add_declaration-requires-clause-refers c =
     let one : OneAt nb m c.loop-index.index c.declaration-item.result row ms =
     told_at nb m t (numbered_there c.args.link.now c.requires.sound c.args.module.now c.requires.inside c.table_at-table.result.now c.table_at-table.ensures) (marked_there c.args.link.now c.requires.sound c.args.module.now c.requires.inside) xs all c.loop-index.index c.declaration-item.result c.declarations-rows.result.now row c.index-marks.result.now ms
     c.loop-index-test.true c.declarations-rows.ensures c.declaration-item.is c.index-rows-index.is c.index-marks.ensures c.deref.ensures.value in
-    refers_to_all nb c.args.link.now.numbers.paths.different c.args.link.now.numbers.names.different row (spelled_in m c.declaration-item.result) ms one.uses one.same one.marked
+    marks_refer c.args.link.now c.requires.sound m c.loop-index.index c.declaration-item.result row ms one
+
+pub add_declaration-requires-clause-clear : goal.add_declaration-requires-clause-clear
+add_declaration-requires-clause-clear c =
+    let m = c.args.module.now in
+    let t = c.table_at-table.result.now in
+    let nb = numbering c.args.link.now.numbers in
+    let xs = c.deref-declaration-items.result.now in
+    let all = declarations_are m c.global_declarations-nodes.result.now xs c.global_declarations-nodes.ensures.declarations c.deref-declaration-items.ensures.value in
+    let row = c.index-rows-index.result in
+    let ms = c.deref.result.now in
+    let one : OneAt nb m c.loop-index.index c.declaration-item.result row ms =
+    told_at nb m t (numbered_there c.args.link.now c.requires.sound c.args.module.now c.requires.inside c.table_at-table.result.now c.table_at-table.ensures) (marked_there c.args.link.now c.requires.sound c.args.module.now c.requires.inside) xs all c.loop-index.index c.declaration-item.result c.declarations-rows.result.now row c.index-marks.result.now ms
+    c.loop-index-test.true c.declarations-rows.ensures c.declaration-item.is c.index-rows-index.is c.index-marks.ensures c.deref.ensures.value in
+    let inside = row_held nb m t (numbered_there c.args.link.now c.requires.sound c.args.module.now c.requires.inside c.table_at-table.result.now c.table_at-table.ensures) (marked_there c.args.link.now c.requires.sound c.args.module.now c.requires.inside) xs all c.loop-index.index c.declarations-rows.result.now row c.loop-index-test.true c.declarations-rows.ensures c.index-rows-index.is in
+    marks_clear c.args.link.now c.requires.sound m c.loop-index.index c.declaration-item.result row ms one t c.declaration-item.result.node (at_has c.args.link.now.linked.tables m.place t c.table_at-table.ensures) inside
 
 pub loop-index-preserved : goal.loop-index-preserved
 loop-index-preserved c =

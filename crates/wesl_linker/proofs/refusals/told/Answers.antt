@@ -24,3 +24,15 @@ returns-in_ok-path-in-Private c =
     let e = error.Import (import_error.Private c.in_ok-name-in-Private.name c.in_ok-path-in-Private.path) in
     subst (λ (f : LinkError resolve_error.ResolveError). Tells (numbering c.args.numbers.now) f e) (sym c.in-Private.is)
     (c.in_ok-name-in-Private.name, c.in_ok-path-in-Private.path, refl, c.in_ok-name-in-Private.ensures, c.in_ok-path-in-Private.ensures)
+
+pub returns-in_ok-name-in-AmbiguousSymbol : goal.returns-in_ok-name-in-AmbiguousSymbol
+returns-in_ok-name-in-AmbiguousSymbol c =
+    let e = error.Import (import_error.AmbiguousSymbol c.in_ok-name-in-AmbiguousSymbol.name) in
+    subst (λ (f : LinkError resolve_error.ResolveError). Tells (numbering c.args.numbers.now) f e) (sym c.in-AmbiguousSymbol.is)
+    (c.in_ok-name-in-AmbiguousSymbol.name, refl, c.in_ok-name-in-AmbiguousSymbol.ensures)
+
+pub returns-in_ok-path-in-TooManyFlags : goal.returns-in_ok-path-in-TooManyFlags
+returns-in_ok-path-in-TooManyFlags c =
+    let e = error.Import (import_error.TooManyFlags c.in_ok-path-in-TooManyFlags.path) in
+    subst (λ (f : LinkError resolve_error.ResolveError). Tells (numbering c.args.numbers.now) f e) (sym c.in-TooManyFlags.is)
+    (c.in_ok-path-in-TooManyFlags.path, refl, c.in_ok-path-in-TooManyFlags.ensures)

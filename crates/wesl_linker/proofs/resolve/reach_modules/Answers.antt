@@ -15,7 +15,6 @@ use Rattle.wesl_linker.specs.Handing.{Keeps, StaysOne, IsHandedTable, IsRefusedP
 use Rattle.wesl_linker.specs.Resolved.{module_at}
 use Rattle.wesl_linker.specs.Keeping.{resolved, IsLinkOf, task_in}
 use Rattle.wesl_linker.specs.declared.link.Link.{Link}
-use Rattle.wesl_linker.specs.Refusal.{Tells}
 use Rattle.wesl_linker.specs.Taking.{IsTaken}
 use Rattle.wesl_linker.specs.Worlds as worlds
 use Rattle.wesl_linker.specs.Worlds.{IsRefused}
@@ -24,7 +23,7 @@ use Rattle.wesl_linker.proofs.Sound as sound
 use Rattle.wesl_linker.proofs.Reaching.{reach_numbers, reach_refused}
 use Rattle.std.proofs.lemmas.Result.{IfOk-weaker, IfErr-weaker}
 use Rattle.wesl_linker.proofs.Holding.{IsFoundBy, found_by, sound_by}
-use Rattle.wesl_linker.proofs.Refusing.{told_or_short, memory_told}
+use Rattle.wesl_linker.proofs.Refusing.{told_by, memory_told}
 use Rattle.wesl_linker.proofs.Readying.{keeps_nothing, ready_table}
 use Rattle.wesl_linker.proofs.resolve.reach_modules.Goals as goal
 
@@ -96,8 +95,8 @@ found_of-requires-clause-once g c =
     let is = linked.root_first.1 in
     once_left first nb grown g.S.Source.hands g.S.Source.refuses end.units.now.entries kept.one_unit c.args.table rm c.requires.root numbers.paths.different numbers.names.different numbers.paths.asked c.args.root.kept.items c.requires.kept.0 c.requires.kept.1 c.args.root.is_eager c.args.max_modules c.in-Ok.linked linked ts is
 
-pub error_of-requires : goal.error_of-requires
-error_of-requires g c =
+pub diagnostic_of-requires : goal.diagnostic_of-requires
+diagnostic_of-requires g c =
     let first = numbering c.args.modules.now.numbers.now in
     let start : Keeps (g.R.Resolver.hands c.args.modules.now.resolver.now) (g.R.Resolver.refuses c.args.modules.now.resolver.now) g.S.Source.hands g.S.Source.refuses g.S.Source.first first c.args.modules.now.units.now.entries =
     keeps_nothing (g.R.Resolver.hands c.args.modules.now.resolver.now) g.S.Source.hands (g.R.Resolver.refuses c.args.modules.now.resolver.now) g.S.Source.refuses g.S.Source.first first c.args.modules.now.units.now.entries c.requires.follows c.requires.first c.requires.nothing in
@@ -109,8 +108,10 @@ error_of-requires g c =
     let rm = module_at c.args.root.path c.args.root.unit in
     reach_numbers first nb grown g.S.Source.hands g.S.Source.refuses end.units.now.entries kept.one_unit c.args.table rm c.requires.root end.numbers.now.paths.different end.numbers.now.names.different end.numbers.now.paths.asked c.args.root.kept.items c.requires.kept.0 c.requires.kept.1 c.args.root.is_eager c.args.max_modules c.in-Err.fault c.in-Err.ensures.refused
 
-pub returns-in-Ok-clause-reached : goal.returns-in-Ok-clause-reached
-returns-in-Ok-clause-reached g c = IfOk-weaker c.found_of.result _ _ (λ r h.
+pub returns-in-Ok-found_of-clause-reached : goal.returns-in-Ok-found_of-clause-reached
+returns-in-Ok-found_of-clause-reached g c =
+    let r = c.in-Ok-found_of.found in
+    let h = c.in-Ok-found_of.ensures.found in
     let first = numbering c.args.modules.now.numbers.now in
     let start : Keeps (g.R.Resolver.hands c.args.modules.now.resolver.now) (g.R.Resolver.refuses c.args.modules.now.resolver.now) g.S.Source.hands g.S.Source.refuses g.S.Source.first first c.args.modules.now.units.now.entries =
     keeps_nothing (g.R.Resolver.hands c.args.modules.now.resolver.now) g.S.Source.hands (g.R.Resolver.refuses c.args.modules.now.resolver.now) g.S.Source.refuses g.S.Source.first first c.args.modules.now.units.now.entries c.requires.follows c.requires.first c.requires.nothing in
@@ -139,10 +140,10 @@ returns-in-Ok-clause-reached g c = IfOk-weaker c.found_of.result _ _ (λ r h.
       eager = by_link.eager ∙ ap (λ (x : Link). x.is_eager) h.rest;
       sound = sound_by r l h.holds (subst (λ (x : Link). IsLinkOf (task_in x) x) (sym h.rest) (sound.sound numbers first grown g.S.Source.hands g.S.Source.refuses end.units.now.entries kept.one_unit kept.handed_out c.args.table c.args.root.path c.args.root.unit c.args.root.marks c.requires.root c.requires.marked c.args.root.kept c.requires.kept.0 c.requires.kept.1 c.args.root.is_eager c.args.max_modules c.in-Ok.linked linked ts is ms l.others taken same));
       names = by_link.names;
-    }) c.found_of.ensures.found
+    }
 
-pub returns-in-Ok-clause-refused : goal.returns-in-Ok-clause-refused
-returns-in-Ok-clause-refused g c = λ keep same. IfErr-weaker c.found_of.result _ _ (λ e h. memory_told (IsRefused g.S.Source.hands g.S.Source.refuses (module_at c.args.root.path c.args.root.unit) (worlds.task_of (module_at c.args.root.path c.args.root.unit) keep c.args.root.is_eager) c.args.max_modules) e h) c.found_of.ensures.refused
+pub returns-in-Err-found_of-clause-refused : goal.returns-in-Err-found_of-clause-refused
+returns-in-Err-found_of-clause-refused g c = λ keep same. memory_told (IsRefused g.S.Source.hands g.S.Source.refuses (module_at c.args.root.path c.args.root.unit) (worlds.task_of (module_at c.args.root.path c.args.root.unit) keep c.args.root.is_eager) c.args.max_modules) c.in-Err-found_of.error c.of.result c.of.ensures c.in-Err-found_of.ensures.refused
 
 pub returns-in-Err-clause-refused : goal.returns-in-Err-clause-refused
 returns-in-Err-clause-refused g c =
@@ -155,10 +156,10 @@ returns-in-Err-clause-refused g c =
     let kept : Keeps (g.R.Resolver.hands end.resolver.now) (g.R.Resolver.refuses end.resolver.now) g.S.Source.hands g.S.Source.refuses g.S.Source.first nb end.units.now.entries = there.1 in
     let grown : Grows first nb = subst (λ (x : Numbering). Grows x nb) c.requires.first kept.grows in
     let rm = module_at c.args.root.path c.args.root.unit in
-    λ keep same. told_or_short (IsRefused g.S.Source.hands g.S.Source.refuses rm (worlds.task_of rm keep c.args.root.is_eager) c.args.max_modules) c.error_of.result (Tells nb c.in-Err.fault c.error_of.result) c.error_of.ensures (reach_refused first nb grown g.S.Source.hands g.S.Source.refuses end.units.now.entries kept.one_unit c.args.table rm c.requires.root end.numbers.now.paths.different end.numbers.now.names.different end.numbers.now.paths.asked c.args.root.kept.items keep same c.args.root.is_eager c.args.max_modules c.in-Err.fault c.error_of.result c.in-Err.ensures.refused)
+    λ keep same. told_by (IsRefused g.S.Source.hands g.S.Source.refuses rm (worlds.task_of rm keep c.args.root.is_eager) c.args.max_modules) nb c.in-Err.fault c.diagnostic_of.result c.diagnostic_of.ensures (reach_refused first nb grown g.S.Source.hands g.S.Source.refuses end.units.now.entries kept.one_unit c.args.table rm c.requires.root end.numbers.now.paths.different end.numbers.now.names.different end.numbers.now.paths.asked c.args.root.kept.items keep same c.args.root.is_eager c.args.max_modules c.in-Err.fault c.diagnostic_of.result.error c.in-Err.ensures.refused)
 
-pub returns-in-Ok-clause-these : goal.returns-in-Ok-clause-these
-returns-in-Ok-clause-these g c =
+pub returns-in-Ok-found_of-clause-these : goal.returns-in-Ok-found_of-clause-these
+returns-in-Ok-found_of-clause-these g c =
     let first = numbering c.args.modules.now.numbers.now in
     let start : Keeps (g.R.Resolver.hands c.args.modules.now.resolver.now) (g.R.Resolver.refuses c.args.modules.now.resolver.now) g.S.Source.hands g.S.Source.refuses g.S.Source.first first c.args.modules.now.units.now.entries =
     keeps_nothing (g.R.Resolver.hands c.args.modules.now.resolver.now) g.S.Source.hands (g.R.Resolver.refuses c.args.modules.now.resolver.now) g.S.Source.refuses g.S.Source.first first c.args.modules.now.units.now.entries c.requires.follows c.requires.first c.requires.nothing in
@@ -166,8 +167,17 @@ returns-in-Ok-clause-these g c =
     let there = (c.linked_by.ensures.adds.ready c.args.table.path ((path_view c.args.root.path, c.requires.root.path), ((c.requires.ready, c.requires.stays), start))).1 in
     there.0.1.here
 
-pub returns-in-Ok-clause-stays_ready : goal.returns-in-Ok-clause-stays_ready
-returns-in-Ok-clause-stays_ready g c =
+pub returns-in-Err-found_of-clause-these : goal.returns-in-Err-found_of-clause-these
+returns-in-Err-found_of-clause-these g c =
+    let first = numbering c.args.modules.now.numbers.now in
+    let start : Keeps (g.R.Resolver.hands c.args.modules.now.resolver.now) (g.R.Resolver.refuses c.args.modules.now.resolver.now) g.S.Source.hands g.S.Source.refuses g.S.Source.first first c.args.modules.now.units.now.entries =
+    keeps_nothing (g.R.Resolver.hands c.args.modules.now.resolver.now) g.S.Source.hands (g.R.Resolver.refuses c.args.modules.now.resolver.now) g.S.Source.refuses g.S.Source.first first c.args.modules.now.units.now.entries c.requires.follows c.requires.first c.requires.nothing in
+    let end = c.linked_by.new.loader in
+    let there = (c.linked_by.ensures.adds.ready c.args.table.path ((path_view c.args.root.path, c.requires.root.path), ((c.requires.ready, c.requires.stays), start))).1 in
+    there.0.1.here
+
+pub returns-in-Ok-found_of-clause-stays_ready : goal.returns-in-Ok-found_of-clause-stays_ready
+returns-in-Ok-found_of-clause-stays_ready g c =
     let first = numbering c.args.modules.now.numbers.now in
     let start : Keeps (g.R.Resolver.hands c.args.modules.now.resolver.now) (g.R.Resolver.refuses c.args.modules.now.resolver.now) g.S.Source.hands g.S.Source.refuses g.S.Source.first first c.args.modules.now.units.now.entries =
     keeps_nothing (g.R.Resolver.hands c.args.modules.now.resolver.now) g.S.Source.hands (g.R.Resolver.refuses c.args.modules.now.resolver.now) g.S.Source.refuses g.S.Source.first first c.args.modules.now.units.now.entries c.requires.follows c.requires.first c.requires.nothing in
@@ -175,8 +185,26 @@ returns-in-Ok-clause-stays_ready g c =
     let there = (c.linked_by.ensures.adds.ready c.args.table.path ((path_view c.args.root.path, c.requires.root.path), ((c.requires.ready, c.requires.stays), start))).1 in
     there.0.0
 
-pub returns-in-Ok-clause-loan : goal.returns-in-Ok-clause-loan
-returns-in-Ok-clause-loan g c =
+pub returns-in-Err-found_of-clause-stays_ready : goal.returns-in-Err-found_of-clause-stays_ready
+returns-in-Err-found_of-clause-stays_ready g c =
+    let first = numbering c.args.modules.now.numbers.now in
+    let start : Keeps (g.R.Resolver.hands c.args.modules.now.resolver.now) (g.R.Resolver.refuses c.args.modules.now.resolver.now) g.S.Source.hands g.S.Source.refuses g.S.Source.first first c.args.modules.now.units.now.entries =
+    keeps_nothing (g.R.Resolver.hands c.args.modules.now.resolver.now) g.S.Source.hands (g.R.Resolver.refuses c.args.modules.now.resolver.now) g.S.Source.refuses g.S.Source.first first c.args.modules.now.units.now.entries c.requires.follows c.requires.first c.requires.nothing in
+    let end = c.linked_by.new.loader in
+    let there = (c.linked_by.ensures.adds.ready c.args.table.path ((path_view c.args.root.path, c.requires.root.path), ((c.requires.ready, c.requires.stays), start))).1 in
+    there.0.0
+
+pub returns-in-Ok-found_of-clause-loan : goal.returns-in-Ok-found_of-clause-loan
+returns-in-Ok-found_of-clause-loan g c =
+    let first = numbering c.args.modules.now.numbers.now in
+    let start : Keeps (g.R.Resolver.hands c.args.modules.now.resolver.now) (g.R.Resolver.refuses c.args.modules.now.resolver.now) g.S.Source.hands g.S.Source.refuses g.S.Source.first first c.args.modules.now.units.now.entries =
+    keeps_nothing (g.R.Resolver.hands c.args.modules.now.resolver.now) g.S.Source.hands (g.R.Resolver.refuses c.args.modules.now.resolver.now) g.S.Source.refuses g.S.Source.first first c.args.modules.now.units.now.entries c.requires.follows c.requires.first c.requires.nothing in
+    let end = c.linked_by.new.loader in
+    let there = (c.linked_by.ensures.adds.ready c.args.table.path ((path_view c.args.root.path, c.requires.root.path), ((c.requires.ready, c.requires.stays), start))).1 in
+    there.0.1.held ∙ sym c.requires.stays.held
+
+pub returns-in-Err-found_of-clause-loan : goal.returns-in-Err-found_of-clause-loan
+returns-in-Err-found_of-clause-loan g c =
     let first = numbering c.args.modules.now.numbers.now in
     let start : Keeps (g.R.Resolver.hands c.args.modules.now.resolver.now) (g.R.Resolver.refuses c.args.modules.now.resolver.now) g.S.Source.hands g.S.Source.refuses g.S.Source.first first c.args.modules.now.units.now.entries =
     keeps_nothing (g.R.Resolver.hands c.args.modules.now.resolver.now) g.S.Source.hands (g.R.Resolver.refuses c.args.modules.now.resolver.now) g.S.Source.refuses g.S.Source.first first c.args.modules.now.units.now.entries c.requires.follows c.requires.first c.requires.nothing in
