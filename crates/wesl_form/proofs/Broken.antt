@@ -8,19 +8,19 @@ use Rattle.std.specs.Str.{bytes_eq}
 use Rattle.std.specs.List.{list_any}
 use Rattle.std.proofs.lemmas.Slice.Eq.{bytes_eq-Decides}
 use Rattle.std.proofs.lemmas.Map.Text.{is_eq-slice_cmp}
-use Rattle.serde_json.specs.Data.{Data, null, boolean, number, string, array, object, Items, no_items, item, Members, no_members, member}
-use Rattle.serde_json.specs.Find.{get, at, get_item, get_member, as_str, as_object, is_float}
+use Rattle.serde_json.specs.Data.{Data, null, boolean, number, string, array, object, unsigned, negative, float, Items, no_items, item, Members, no_members, member}
+use Rattle.serde_json.specs.Find.{get, at, get_item, get_member, as_object, is_float}
 use Rattle.serde_json.specs.Written.{has_float, items_have_float, members_have_float}
 use Rattle.wesl_names.specs.Path.{Text}
 use Rattle.wesl_syntax.specs.Tree.{kind, list, texts, text, present, tree, before}
-use Rattle.wesl_form.specs.Schema.{Spelled, SpelledForest, SpelledLabel, leaf_of, Form, leaf, list_of, node, Leaf, an_ident, a_name, a_text, a_literal, some_names, a_path, one_of, a_fixed_path, a_truth, a_limit, some_texts, a_map_to, anything, Name, Node, Row, nothing, marked, needs, may, many, given, inner, inner_where, Head, fixed, chosen, Table}
+use Rattle.wesl_form.specs.Schema.{Spelled, SpelledForest, SpelledLabel, leaf_of, Form, leaf, list_of, node, Leaf, an_ident, a_name, a_text, a_literal, some_names, a_path, one_of, anything, Name, Node, Row, nothing, marked, needs, may, many, given, inner, inner_where, Head, fixed, chosen, placed, beside, Extra, a_span, second_form, extra, Table}
 use Rattle.wesl_form.specs.Schema.{a_type, an_expression, a_template_argument, a_case, an_attribute}
 use Rattle.wesl_form.specs.Nodes.{shorts_of, whole_form}
-use Rattle.wesl_form.specs.Reading.{reading, leaf_label, any_leaf, name_in, texts_in, all_members, children_in, items_in, head_keys, known_keys, label_in, needed, optional, or_empty, empty_of, where_there, present_tree, word_in}
+use Rattle.wesl_form.specs.Reading.{reading, leaf_label, any_leaf, name_in, texts_in, children_in, items_in, head_keys, known_keys, label_in, needed, optional, or_empty, empty_of, where_there, present_tree, word_in, is_extra, has_extra, extra_key, span_of_items, whole_number, ordered}
 use Rattle.wesl_form.specs.Keys.{all_known, has_only}
-use Rattle.wesl_form.specs.Place.{Field, field, fields, head_fields, find_field, member_form, item_form, IsWrongLeaf, IsWrongNode, IsWrongValue, IsWrongObject, IsWrong, HasUnknownWord, BreaksAt}
+use Rattle.wesl_form.specs.Place.{Field, field, fields, head_fields, find_field, member_form, item_form, IsWrongLeaf, IsWrongNode, IsWrongValue, IsWrongObject, IsWrong, HasUnknownWord, BreaksAt, is_needed}
 use Rattle.wesl_form.specs.Pointer.{Part, key, index}
-use Rattle.wesl_form.specs.Laws.{BrokenIsRefused}
+use Rattle.wesl_form.specs.Laws.{BrokenIsRefused, WholeFormRefuses}
 
 abbrev Holds : Field → List Field → Type 0
 Holds f [] = ⊥
@@ -100,6 +100,10 @@ in_node : (known : Bool) (l : Option SpelledLabel) (a : Option SpelledForest) �
 in_node false l a h = refl
 in_node true l a h = second_none l a node_tree h
 
+not-any : (b : Bool) → option_map leaf_of (any_leaf b) ≡ None → b ≡ false
+not-any true h = absurd (no_value (leaf_of (kind list)) h)
+not-any false h = refl
+
 module _ (table : Table) where
   -- the member lacks, or no number of levels reads it
   abbrev Fails : Field → Data → Type 0
@@ -108,6 +112,7 @@ module _ (table : Table) where
   head_fails : (h : Head) (d : Data) (f : Field) → Holds f (head_fields h) → Fails f d → label_in h d ≡ None
   head_fails (fixed l) d f h bad = absurd h
   head_fails (chosen k words) d f (inr h) bad = absurd h
+  head_fails (placed b k) d f h bad = absurd h
   head_fails (chosen k words) d f (inl same) bad = chosen_fails (subst (λ g. Fails g d) (sym same) bad)
     where
       chosen_fails : Fails (field k true (leaf (one_of words))) d → label_in (chosen k words) d ≡ None
@@ -138,6 +143,18 @@ module _ (table : Table) where
   where_fails n k head ins d f false is inside (inl same) bad = absurd (absent_fails k d is (subst (λ x. Fails x d) (sym same) bad))
   where_fails n k head ins d f false is inside (inr h) bad = absurd h
 
+  -- what stands beside, of which the member lacks or is no such one
+  extra_fails : (x : Extra) (d : Data) → Fails (field (extra_key x) (is_needed x) (leaf (extra x))) d → has_extra x (get (extra_key x) d) ≡ false
+  extra_fails a_span d (inl lacks) = absurd (no_truth lacks.0)
+  extra_fails a_span d (inr (e, there, bad)) = rw there (not-any (is_extra a_span e) (bad 1))
+  extra_fails second_form d (inl lacks) = rw lacks.1 refl
+  extra_fails second_form d (inr (e, there, bad)) = rw there (not-any (is_extra second_form e) (bad 1))
+
+  beside_fails : (b : Bool) (o : Option SpelledForest) → (b ≡ false) ⊎ (o ≡ None) → (if b then o else None) ≡ None
+  beside_fails true o (inl h) = absurd (no_truth (sym h))
+  beside_fails true o (inr h) = h
+  beside_fails false o h = refl
+
   row_fails : (n : ℕ) (row : Row) (d : Data) (f : Field) → Holds f (fields row d) → Fails f d → children_in (reading table n) row d ≡ None
   row_fails n nothing d f h bad = absurd h
   row_fails n (marked k w row) d f h bad = elim (holds_append f (head_fields (chosen k ((w, kind present) ∷ []))) (fields row d) h) [
@@ -164,6 +181,9 @@ module _ (table : Table) where
             (where_fails n k head ins d f (is_some (get k d)) refl (row_fails n ins d f) first bad)
         | inr rest ↦ second_none (where_there (is_some (get k d)) (label_in head d) (children_in (reading table n) ins d)) (children_in (reading table n) row d) before (row_fails n row d f rest bad)
       ]
+  row_fails n (beside false x row) d f h bad = row_fails n row d f h bad
+  row_fails n (beside true x row) d f (inl same) bad = beside_fails (has_extra x (get (extra_key x) d)) (children_in (reading table n) row d) (inl (extra_fails x d (subst (λ g. Fails g d) (sym same) bad)))
+  row_fails n (beside true x row) d f (inr h) bad = beside_fails (has_extra x (get (extra_key x) d)) (children_in (reading table n) row d) (inr (row_fails n row d f h bad))
 
   items_fail : (n : ℕ) (f : Form) (ds : Items) (i : ℕ) (e : Data) → get_item i ds ≡ Some e → reading table n f e ≡ None → items_in (reading table n f) ds ≡ None
   items_fail n f no_items i e there bad = refl_none
@@ -241,6 +261,7 @@ found-append k (f ∷ fs) gs (inl h) = found-either (bytes_eq k f.named) f (find
 
 head-found : (k : Text) (h : Head) → has k (head_keys h) ≡ true → found k (head_fields h) ≡ true
 head-found k (fixed l) h = absurd (no_truth h)
+head-found k (placed b l) h = absurd (no_truth h)
 head-found k (chosen x words) h = found-cons k (field x true (leaf (one_of words))) [] (elim (or-case (bytes_eq x k) false h) [ inl here ↦ inl here | inr later ↦ absurd (no_truth later) ])
 
 -- a key that an object may have is that of a field
@@ -258,6 +279,8 @@ known-found k (needs x f row) d h = one-known k x true f row d h (known-found k 
 known-found k (may x f row) d h = one-known k x false f row d h (known-found k row d)
 known-found k (many x f row) d h = one-known k x false f row d h (known-found k row d)
 known-found k (given l row) d h = known-found k row d h
+known-found k (beside false x row) d h = known-found k row d h
+known-found k (beside true x row) d h = one-known k (extra_key x) (is_needed x) (leaf (extra x)) row d h (known-found k row d)
 known-found k (inner head ins row) d h = elim (has-append k (head_keys head ++ known_keys ins d) (known_keys row d) h) [
   | inl first ↦ found-append k (head_fields head ++ fields ins d) (fields row d) (inl (found-append k (head_fields head) (fields ins d) (elim (has-append k (head_keys head) (known_keys ins d) first) [ inl here ↦ inl (head-found k head here) | inr rest ↦ inr (known-found k ins d rest) ])))
   | inr rest ↦ found-append k (head_fields head ++ fields ins d) (fields row d) (inr (known-found k row d rest))
@@ -285,9 +308,6 @@ member-fails test all step k e bad (member l x ms) there = step l x ms ∙ by-or
 unknown-fails : (ks : List Text) (k : Text) (e : Data) (ms : Members) → get_member k ms ≡ Some e → has k ks ≡ false → all_known ks ms ≡ false
 unknown-fails ks k e ms there none = member-fails (λ l x. has l ks) (all_known ks) (λ l x ms. refl) k e none ms there
 
-tested-fails : (test : Data → Bool) (k : Text) (e : Data) (ms : Members) → get_member k ms ≡ Some e → test e ≡ false → all_members test ms ≡ false
-tested-fails test k e ms there bad = member-fails (λ l x. test x) (all_members test) (λ l x ms. refl) k e bad ms there
-
 float-by-order : (x e : Data) (o : Ordering) (rest : Option Data) (others : Bool) → has_float e ≡ true → (rest ≡ Some e → others ≡ true) → match_ordering o rest (Some x) rest ≡ Some e → (has_float x || others) ≡ true
 float-by-order x e Less rest others h later is = ap (λ b. has_float x || b) (later is) ∙ or-true (has_float x)
 float-by-order x e Equal rest others h later is = ap (λ b. b || others) (ap has_float (some_same is) ∙ h)
@@ -306,10 +326,6 @@ texts-fail : (read : Data → Option Text) (ds : Items) (i : ℕ) (e : Data) →
 texts-fail read no_items i e there bad = absurd (no_value e (sym there))
 texts-fail read (item d ds) zero e there bad = first_none (read d) (texts_in read ds) (λ x xs. x ∷ xs) (ap read (some_same there) ∙ bad)
 texts-fail read (item d ds) (suc i) e there bad = second_none (read d) (texts_in read ds) (λ x xs. x ∷ xs) (texts-fail read ds i e there bad)
-
-not-any : (b : Bool) → option_map leaf_of (any_leaf b) ≡ None → b ≡ false
-not-any true h = absurd (no_value (leaf_of (kind list)) h)
-not-any false h = refl
 
 not-false : (b : Bool) → not b ≡ false → b ≡ true
 not-false true h = refl
@@ -331,17 +347,45 @@ leaf-wrong table a_literal d h = ap (option_map leaf_of) h
 leaf-wrong table some_names d h = ap (λ o. option_map leaf_of (option_map texts (option_and_then (texts_in name_in) o))) h
 leaf-wrong table a_path d h = ap (option_map leaf_of) h
 leaf-wrong table (one_of words) d h = ap (option_map leaf_of) h
-leaf-wrong table a_fixed_path d h = ap (option_map leaf_of) h
-leaf-wrong table a_truth d h = ap (option_map leaf_of) h
-leaf-wrong table a_limit d h = ap (option_map leaf_of) h
-leaf-wrong table some_texts d h = ap (λ o. option_map leaf_of (option_map texts (option_and_then (texts_in as_str) o))) h
-leaf-wrong table (a_map_to words) d h = ap (λ o. option_map leaf_of (elim o as (λ _. Option SpelledLabel) [ None ↦ None | Some ms ↦ any_leaf (all_members (λ e. is_some (word_in words e)) ms) ])) h
+leaf-wrong table (extra x) d h = ap (option_map leaf_of) h
 leaf-wrong table anything null h = absurd (no_value true (sym h))
 leaf-wrong table anything (boolean b) h = absurd (no_value true (sym h))
 leaf-wrong table anything (number n) h = float-refused (is_float n) (some_same h)
 leaf-wrong table anything (string s) h = absurd (no_value true (sym h))
 leaf-wrong table anything (array ds) h = absurd (no_value true (sym h))
 leaf-wrong table anything (object ms) h = absurd (no_value true (sym h))
+
+-- ---- spans
+
+-- a value with a float is no whole number
+no-whole : (d : Data) → has_float d ≡ true → whole_number d ≡ None
+no-whole null h = absurd (no_truth h)
+no-whole (boolean b) h = absurd (no_truth h)
+no-whole (number (unsigned n)) h = absurd (no_truth h)
+no-whole (number (negative z)) h = absurd (no_truth h)
+no-whole (number (float x)) h = refl
+no-whole (string s) h = absurd (no_truth h)
+no-whole (array ds) h = refl
+no-whole (object ms) h = refl
+
+span-first : (a b : Option ℕ) → a ≡ None → option_and_then (λ s. option_and_then (λ e. ordered s e) b) a ≡ None
+span-first a b h = rw h refl
+
+span-second : (a b : Option ℕ) → b ≡ None → option_and_then (λ s. option_and_then (λ e. ordered s e) b) a ≡ None
+span-second None b h = refl
+span-second (Some s) b h = rw h refl
+
+span-float : (i : ℕ) (ds : Items) (e : Data) → get_item i ds ≡ Some e → has_float e ≡ true → span_of_items ds ≡ None
+span-float i no_items e there h = refl
+span-float i (item a no_items) e there h = refl
+span-float zero (item a (item b no_items)) e there h = span-first (whole_number a) (whole_number b) (no-whole a (ap has_float (some_same there) ∙ h))
+span-float (suc zero) (item a (item b no_items)) e there h = span-second (whole_number a) (whole_number b) (no-whole b (ap has_float (some_same there) ∙ h))
+span-float (suc (suc i)) (item a (item b no_items)) e there h = absurd (no_value e (sym there))
+span-float i (item a (item b (item c ds))) e there h = refl
+
+extra-float : (x : Extra) (i : ℕ) (ds : Items) (e : Data) → get_item i ds ≡ Some e → has_float e ≡ true → is_extra x (array ds) ≡ false
+extra-float a_span i ds e there h = ap is_some (span-float i ds e there h)
+extra-float second_form i ds e there h = refl
 
 -- a list is no short form of a node
 abbrev pub ListsAreNoNodes : Table → Type 0
@@ -386,13 +430,8 @@ module _ (table : Table) (flat : ListsAreNoNodes table) where
     key-object n (leaf some_names) k ms e there h = refl
     key-object n (leaf a_path) k ms e there h = refl
     key-object n (leaf (one_of words)) k ms e there h = refl
-    key-object n (leaf a_fixed_path) k ms e there h = refl
-    key-object n (leaf a_truth) k ms e there h = refl
-    key-object n (leaf a_limit) k ms e there h = refl
-    key-object n (leaf some_texts) k ms e there h = refl
-    key-object n (leaf (a_map_to words)) k ms e there h =
-        let none : word_in words e ≡ None = map_none leaf_of (word_in words e) (below (leaf (one_of words)) e h 1) in
-        ap (λ b. option_map leaf_of (any_leaf b)) (tested-fails (λ x. is_some (word_in words x)) k e ms there (ap is_some none))
+    key-object n (leaf (extra a_span)) k ms e there h = refl
+    key-object n (leaf (extra second_form)) k ms e there h = refl
     key-object n (leaf anything) k ms e there h =
         let float : has_float e ≡ true = not-false (has_float e) (not-any (not (has_float e)) (below (leaf anything) e h 1)) in
         float-refused (members_have_float ms) (members-float k e ms there float)
@@ -417,13 +456,9 @@ module _ (table : Table) (flat : ListsAreNoNodes table) where
         ap (λ o. option_map leaf_of (option_map texts o)) (texts-fail name_in ds i e there none)
     index-array n (leaf a_path) i ds e there h = refl
     index-array n (leaf (one_of words)) i ds e there h = refl
-    index-array n (leaf a_fixed_path) i ds e there h = refl
-    index-array n (leaf a_truth) i ds e there h = refl
-    index-array n (leaf a_limit) i ds e there h = refl
-    index-array n (leaf some_texts) i ds e there h =
-        let none : as_str e ≡ None = map_none text (as_str e) (map_none leaf_of (option_map text (as_str e)) (below (leaf a_text) e h 1)) in
-        ap (λ o. option_map leaf_of (option_map texts o)) (texts-fail as_str ds i e there none)
-    index-array n (leaf (a_map_to words)) i ds e there h = refl
+    index-array n (leaf (extra x)) i ds e there h =
+        let float : has_float e ≡ true = not-false (has_float e) (not-any (not (has_float e)) (below (leaf anything) e h 1)) in
+        ap (λ b. option_map leaf_of (any_leaf b)) (extra-float x i ds e there float)
     index-array n (leaf anything) i ds e there h =
         let float : has_float e ≡ true = not-false (has_float e) (not-any (not (has_float e)) (below (leaf anything) e h 1)) in
         float-refused (items_have_float ds) (items-float i e ds there float)
@@ -481,8 +516,8 @@ whole-lists-case a_case ds = refl
 whole-lists-case an_attribute ds = refl
 whole-lists-case _ ds = refl
 
-pub whole-lists : ListsAreNoNodes whole_form
-whole-lists m ds = whole-lists-case m ds
+pub whole-lists : (spans : Bool) → ListsAreNoNodes (whole_form spans)
+whole-lists spans m ds = whole-lists-case m ds
 
-pub whole_form_refuses : BrokenIsRefused whole_form
-whole_form_refuses = broken-is-refused whole_form whole-lists
+pub whole_form_refuses : WholeFormRefuses
+whole_form_refuses spans = broken-is-refused (whole_form spans) (whole-lists spans)

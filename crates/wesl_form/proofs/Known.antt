@@ -10,7 +10,7 @@ use Rattle.serde_json.specs.Data.{Data, Members, no_members, member, put}
 use Rattle.wesl_names.specs.Path.{Text}
 use Rattle.wesl_form.specs.View.{borrowed_view, members_view, put_all}
 use Rattle.wesl_form.specs.declared.value.BorrowedValue.{BorrowedValue}
-use Rattle.wesl_form.specs.Keys.{all_known}
+use Rattle.wesl_form.specs.Keys.{all_known, keys_beside}
 
 abbrev pub Entry : Type 0
 Entry = Bor (List ℕ) × BorrowedValue
@@ -22,9 +22,14 @@ abbrev pub keys_known : List Text → List Entry → Bool
 keys_known known [] = true
 keys_known known (e ∷ es) = is_known known e.0.now && keys_known known es
 
-pub among : (known : List (Bor (List ℕ))) (k : List ℕ) → list_any (λ x. bytes_eq x.now k) known ≡ is_known (map (λ x. x.now) known) k
-among [] k = refl
-among (x ∷ known) k = rw (among known k)
+among-known : (known : List (Bor (List ℕ))) (k : List ℕ) → list_any (λ x. bytes_eq x.now k) known ≡ is_known (map (λ x. x.now) known) k
+among-known [] k = refl
+among-known (x ∷ known) k = rw (among-known known k)
+
+-- a key that is not the one beside
+pub among : (beside : Bool) (extra k : Text) (known : List (Bor (List ℕ))) → (beside && bytes_eq extra k) ≡ false → list_any (λ x. bytes_eq x.now k) known ≡ is_known (keys_beside beside extra (map (λ x. x.now) known)) k
+among true extra k known other = rw (other, among-known known k) refl
+among false extra k known other = among-known known k
 
 twice : (a b : Bool) → (a && b) ≡ (a && (a && b))
 twice true b = refl

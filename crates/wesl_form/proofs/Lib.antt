@@ -1,5 +1,6 @@
 pub mod Broken
-pub mod Back
+pub mod WorkedRows
+pub mod Shown
 pub mod Lists
 pub mod Known
 pub mod Turns

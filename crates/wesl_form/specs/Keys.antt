@@ -1,5 +1,5 @@
 -- The keys of an object.
-use Rattle.std.specs.Prelude.{◌≡◌, ◌⊎◌, List, Bool, true, false, ◌&&◌, None, Some}
+use Rattle.std.specs.Prelude.{◌≡◌, ◌⊎◌, List, [], ◌∷◌, ◌++◌, Bool, true, false, ◌&&◌, if◌then◌else◌, None, Some}
 use Rattle.std.specs.List.{list_any}
 use Rattle.std.specs.Str.{bytes_eq}
 use Rattle.serde_json.specs.Data.{Data, Members, no_members, member}
@@ -13,6 +13,10 @@ all_known known (member k d ms) = list_any (λ x. bytes_eq x k) known && all_kno
 -- an object with no other keys
 abbrev pub has_only : List Text → Data → Bool
 has_only known d = elim (as_object d) as (λ _. Bool) [ None ↦ false | Some ms ↦ all_known known ms ]
+
+-- keys, and where so an extra one beside them
+abbrev pub keys_beside : Bool → Text → List Text → List Text
+keys_beside beside extra known = (if beside then extra ∷ [] else []) ++ known
 
 -- the object has this value at this key
 abbrev pub HasMember : Text → Data → Members → Type 0

@@ -6,7 +6,7 @@ pub mod Place
 pub mod Writing
 pub mod Units
 pub mod Laws
-pub mod Writable
+pub mod Rows
 pub mod Number
 pub mod View
 pub mod Pointer

@@ -5,8 +5,8 @@ use Rattle.serde_json.specs.Data.{Data, Members}
 use Rattle.serde_json.specs.Find.{get, at, as_number, as_array, as_object, is_float}
 use Rattle.wesl_names.specs.Path.{Text}
 use Rattle.wesl_syntax.specs.Tree.{kind, present}
-use Rattle.wesl_form.specs.Schema.{Leaf, a_name, a_text, some_names, one_of, some_texts, a_map_to, anything, Name, Form, leaf, list_of, node, Head, fixed, chosen, Row, nothing, marked, needs, may, many, given, inner, inner_where, Node, Table}
-use Rattle.wesl_form.specs.Reading.{leaf_label, known_keys}
+use Rattle.wesl_form.specs.Schema.{Leaf, a_name, a_text, some_names, one_of, anything, Name, Form, leaf, list_of, node, Head, fixed, chosen, Row, nothing, marked, needs, may, many, given, inner, inner_where, Node, Table, Extra, a_span, second_form, extra, placed, beside}
+use Rattle.wesl_form.specs.Reading.{leaf_label, known_keys, extra_key}
 use Rattle.wesl_form.specs.Keys.{has_only}
 use Rattle.wesl_form.specs.Pointer.{Part, key, index, pointer_text}
 
@@ -23,6 +23,14 @@ field k required f = record { named = k; is_required = required; form = f }
 abbrev pub head_fields : Head → List Field
 head_fields (fixed l) = []
 head_fields (chosen k words) = field k true (leaf (one_of words)) ∷ []
+head_fields (placed spans k) = []
+
+abbrev pub is_needed : Extra → Bool
+is_needed second_form = true
+is_needed a_span = false
+
+abbrev pub extra_fields : Bool → Extra → List Field
+extra_fields b x = if b then field (extra_key x) (is_needed x) (leaf (extra x)) ∷ [] else []
 
 abbrev pub fields : Row → Data → List Field
 fields nothing d = []
@@ -33,6 +41,7 @@ fields (many k f row) d = field k false f ∷ fields row d
 fields (given l row) d = fields row d
 fields (inner h ins row) d = head_fields h ++ fields ins d ++ fields row d
 fields (inner_where k h ins row) d = (if is_some (get k d) then head_fields h ++ fields ins d else field k false (leaf a_text) ∷ []) ++ fields row d
+fields (beside b x row) d = extra_fields b x ++ fields row d
 
 abbrev pub find_field : Text → List Field → Option Field
 find_field k [] = None
@@ -49,7 +58,6 @@ module _ (table : Table) where
 
   -- the form of a member
   abbrev pub member_form : Form → Text → Data → Option Form
-  member_form (leaf (a_map_to words)) k d = Some (leaf (one_of words))
   member_form (leaf anything) k d = Some (leaf anything)
   member_form (leaf _) k d = None
   member_form (list_of which m) k d = None
@@ -58,8 +66,8 @@ module _ (table : Table) where
   -- the form of an item
   abbrev pub item_form : Form → Option Form
   item_form (leaf some_names) = Some (leaf a_name)
-  item_form (leaf some_texts) = Some (leaf a_text)
   item_form (leaf anything) = Some (leaf anything)
+  item_form (leaf (extra x)) = Some (leaf anything)
   item_form (leaf _) = None
   item_form (list_of which m) = Some (node m)
   item_form (node m) = None
@@ -67,8 +75,6 @@ module _ (table : Table) where
   -- itself no value of this form, whatever its members and items
   abbrev pub IsWrongLeaf : Leaf → Data → Type 0
   IsWrongLeaf some_names d = as_array d ≡ None
-  IsWrongLeaf some_texts d = as_array d ≡ None
-  IsWrongLeaf (a_map_to words) d = as_object d ≡ None
   IsWrongLeaf anything d = option_map is_float (as_number d) ≡ Some true
   IsWrongLeaf l d = leaf_label l d ≡ None
 

@@ -1,14 +1,14 @@
 -- The tree that a value is read as, by a table of nodes.
-use Rattle.std.specs.Prelude.{ℕ, zero, suc, List, [], ◌∷◌, ◌++◌, Bool, true, false, not, ◌&&◌, if◌then◌else◌, nat_le, is_some, Option, Some, None, option_map, option_and_then, codes}
+use Rattle.std.specs.Prelude.{ℕ, zero, suc, List, [], ◌∷◌, ◌++◌, Bool, true, false, not, ◌&&◌, if◌then◌else◌, nat_le, is_some, Option, Some, None, option_map, option_and_then, codes, ◌==◌}
 use Rattle.std.specs.Str.{bytes_eq}
-use Rattle.serde_json.specs.Data.{Data, Items, no_items, item, Members, no_members, member}
-use Rattle.serde_json.specs.Find.{get, as_str, as_bool, as_number, as_array, as_object, as_u64}
+use Rattle.serde_json.specs.Data.{Data, Items, no_items, item}
+use Rattle.serde_json.specs.Find.{get, as_str, as_number, as_array, as_object, as_u64}
 use Rattle.serde_json.specs.Written.{has_float}
-use Rattle.wesl_syntax.specs.Tree.{before, kind, ident, text, texts, truth, path, end, tree, absent, present, list}
-use Rattle.wesl_names.specs.Path.{Text, Path, is_relative}
+use Rattle.wesl_syntax.specs.Tree.{before, kind, ident, text, texts, path, end, tree, absent, present, list, at}
+use Rattle.wesl_names.specs.Path.{Text, Path}
 use Rattle.wesl_names.specs.PathText.{parse}
 use Rattle.wesl_form.specs.Keys.{has_only}
-use Rattle.wesl_form.specs.Schema.{Spelled, SpelledForest, SpelledLabel, leaf_of, look, nonempty, Words, Leaf, an_ident, a_name, a_text, a_literal, some_names, a_path, one_of, a_fixed_path, a_truth, a_limit, some_texts, a_map_to, anything, Name, Form, leaf, list_of, node, Head, fixed, chosen, Row, nothing, marked, needs, may, many, given, inner, inner_where, Node, Table}
+use Rattle.wesl_form.specs.Schema.{Spelled, SpelledForest, SpelledLabel, leaf_of, look, nonempty, Words, Leaf, an_ident, a_name, a_text, a_literal, some_names, a_path, one_of, anything, Name, Form, leaf, list_of, node, Head, fixed, chosen, Row, nothing, marked, needs, may, many, given, inner, inner_where, Node, Table, Extra, a_span, second_form, extra, placed, beside}
 
 infixl 10 ◌>>=◌
 abbrev pub ◌>>=◌ : {A B : Type 0} → Option A → (A → Option B) → Option B
@@ -34,12 +34,6 @@ word_in words d = option_and_then (look words) (as_str d)
 abbrev pub path_in : Data → Option Path
 path_in d = option_and_then parse (as_str d)
 
-abbrev pub fixed_path : Path → Option Path
-fixed_path p = if is_relative p then None else Some p
-
-abbrev pub fixed_path_in : Data → Option Path
-fixed_path_in d = option_and_then fixed_path (path_in d)
-
 -- each item of a list
 abbrev pub texts_in : (Data → Option Text) → Items → Option (List Text)
 texts_in read no_items = Some []
@@ -54,17 +48,43 @@ list_in read d = option_and_then (texts_in read) (as_array d)
 abbrev pub whole_number : Data → Option ℕ
 whole_number d = option_and_then as_u64 (as_number d)
 
-abbrev pub limit : ℕ → Option ℕ
-limit n = if nat_le n 4294967295 then Some n else None
+abbrev pub ordered : ℕ → ℕ → Option (ℕ × ℕ)
+ordered s e = if nat_le s e && nat_le e 4294967295 then Some (s, e) else None
 
-abbrev pub limit_in : Data → Option ℕ
-limit_in d = option_and_then limit (whole_number d)
+-- two whole numbers
+abbrev pub span_of_items : Items → Option (ℕ × ℕ)
+span_of_items (item a (item b no_items)) = do
+  s ← whole_number a
+  e ← whole_number b
+  ordered s e
+span_of_items _ = None
 
-abbrev pub all_members : (Data → Bool) → Members → Bool
-all_members test no_members = true
-all_members test (member k d ms) = test d && all_members test ms
+abbrev pub span_of : Data → Option (ℕ × ℕ)
+span_of d = option_and_then span_of_items (as_array d)
 
--- for a bundle, in which only the members count
+-- the span of an object: [0,0] where it has none, and where none is read
+abbrev pub span_in : Bool → Data → Option (ℕ × ℕ)
+span_in false d = Some (0, 0)
+span_in true d = elim (get (codes "span") d) as (λ _. Option (ℕ × ℕ)) [ None ↦ Some (0, 0) | Some v ↦ span_of v ]
+
+abbrev pub is_extra : Extra → Data → Bool
+is_extra a_span v = is_some (span_of v)
+is_extra second_form v = elim (whole_number v) as (λ _. Bool) [ None ↦ false | Some n ↦ n == 2 ]
+
+-- it has what it must have there
+abbrev pub has_extra : Extra → Option Data → Bool
+has_extra a_span None = true
+has_extra second_form None = false
+has_extra x (Some v) = is_extra x v
+
+abbrev pub extra_key : Extra → Text
+extra_key a_span = codes "span"
+extra_key second_form = codes "form"
+
+abbrev pub extra_keys : Bool → Extra → List Text
+extra_keys b x = if b then extra_key x ∷ [] else []
+
+-- a leaf that is looked at, and gives nothing of its own
 abbrev pub any_leaf : Bool → Option SpelledLabel
 any_leaf b = if b then Some (kind list) else None
 
@@ -76,18 +96,15 @@ leaf_label a_literal d = option_map text (literal_in d)
 leaf_label some_names d = option_map texts (list_in name_in d)
 leaf_label a_path d = option_map path (path_in d)
 leaf_label (one_of words) d = word_in words d
-leaf_label a_fixed_path d = option_map path (fixed_path_in d)
-leaf_label a_truth d = option_map truth (as_bool d)
-leaf_label a_limit d = any_leaf (is_some (limit_in d))
-leaf_label some_texts d = option_map texts (list_in as_str d)
-leaf_label (a_map_to words) d = elim (as_object d) as (λ _. Option SpelledLabel) [ None ↦ None | Some ms ↦ any_leaf (all_members (λ e. is_some (word_in words e)) ms) ]
 leaf_label anything d = any_leaf (not (has_float d))
+leaf_label (extra x) d = any_leaf (is_extra x d)
 
 -- ---- objects
 
 abbrev pub label_in : Head → Data → Option SpelledLabel
 label_in (fixed l) d = Some l
 label_in (chosen k words) d = option_and_then (word_in words) (get k d)
+label_in (placed spans k) d = option_map (λ p. at k p.0 p.1) (span_in spans d)
 
 -- what an absent list is
 abbrev pub empty_of : Form → SpelledLabel
@@ -99,6 +116,7 @@ empty_of (node m) = kind list
 abbrev pub head_keys : Head → List Text
 head_keys (fixed l) = []
 head_keys (chosen k words) = k ∷ []
+head_keys (placed spans k) = []
 
 abbrev pub known_keys : Row → Data → List Text
 known_keys nothing d = []
@@ -109,6 +127,7 @@ known_keys (many k f row) d = k ∷ known_keys row d
 known_keys (given l row) d = known_keys row d
 known_keys (inner h ins row) d = head_keys h ++ known_keys ins d ++ known_keys row d
 known_keys (inner_where k h ins row) d = (if is_some (get k d) then head_keys h ++ known_keys ins d else []) ++ known_keys row d
+known_keys (beside b x row) d = extra_keys b x ++ known_keys row d
 
 abbrev pub Reader : Type 0
 Reader = Form → Data → Option Spelled
@@ -167,6 +186,7 @@ children_in read (inner_where k h ins row) d = do
   t ← where_there (is_some (get k d)) (label_in h d) (children_in read ins d)
   ts ← children_in read row d
   Some (before t ts)
+children_in read (beside b x row) d = if (if b then has_extra x (get (extra_key x) d) else true) then children_in read row d else None
 
 abbrev pub node_in : Reader → Data → Node → Option Spelled
 node_in read d n = if has_only (known_keys n.row d) d then (do

@@ -1,9 +1,9 @@
 -- What a schema is: which members an object has, and the tree that each gives.
-use Rattle.std.specs.Prelude.{List, [], ◌∷◌, if◌then◌else◌, Option, Some, None}
+use Rattle.std.specs.Prelude.{Bool, List, [], ◌∷◌, if◌then◌else◌, Option, Some, None}
 use Rattle.std.specs.Str.{bytes_eq}
 use Rattle.serde_json.specs.Data.{Data}
 use Rattle.wesl_names.specs.Path.{Text}
-use Rattle.wesl_syntax.specs.Tree.{forest_of, Kind, Role, LabelOf, kind, at, ForestOf, end, TreeOf}
+use Rattle.wesl_syntax.specs.Tree.{forest_of, Kind, Role, LabelOf, kind, ForestOf, end, TreeOf}
 
 -- a tree whose identifiers are names
 abbrev pub Spelled : Type 0
@@ -33,6 +33,13 @@ nonempty (x ∷ xs) = Some (x ∷ xs)
 abbrev pub Words : Type 0
 Words = List (Text × SpelledLabel)
 
+-- a member that gives no child
+pub data Extra : Type 0 where
+  -- `span`, which may be there
+  a_span : Extra
+  -- `form`, which must be 2
+  second_form : Extra
+
 -- values that are no objects
 pub data Leaf : Type 0 where
   -- a nonempty text, an identifier
@@ -49,18 +56,10 @@ pub data Leaf : Type 0 where
   a_path : Leaf
   -- one of these words
   one_of : Words → Leaf
-  -- the text of a path that is not relative
-  a_fixed_path : Leaf
-  -- true or false
-  a_truth : Leaf
-  -- a whole number from 0 to 4294967295
-  a_limit : Leaf
-  -- a list of texts
-  some_texts : Leaf
-  -- an object with any keys, and one of these words at each
-  a_map_to : Words → Leaf
   -- any value without a number that is not whole
   anything : Leaf
+  -- a member that gives no child
+  extra : Extra → Leaf
 
 -- values that are objects, or stand for them
 pub data Name : Type 0 where
@@ -85,13 +84,6 @@ pub data Name : Type 0 where
   a_template_argument : Name
   an_expression : Name
   an_attribute : Name
-  -- of a bundle
-  a_bundle : Name
-  a_module : Name
-  a_package : Name
-  a_package_module : Name
-  some_features : Name
-  some_builtins : Name
 
 pub data Form : Type 0 where
   leaf : Leaf → Form
@@ -102,6 +94,8 @@ pub data Form : Type 0 where
 pub data Head : Type 0 where
   fixed : SpelledLabel → Head
   chosen : Text → Words → Head
+  -- a kind, with the span that the object has where spans are read
+  placed : Bool → Kind → Head
 
 -- the children of a node, in document order, by the members of an object
 pub data Row : Type 0 where
@@ -120,6 +114,8 @@ pub data Row : Type 0 where
   inner : Head → Row → Row → Row
   -- the same, an option that is there where the key is
   inner_where : Text → Head → Row → Row → Row
+  -- where so, a member that gives no child
+  beside : Bool → Extra → Row → Row
 
 pub record Node : Type 0 where
   pub head : Head
@@ -129,20 +125,26 @@ abbrev pub node_of_kind : Kind → Row → Node
 node_of_kind k row = record { head = fixed (kind k); row = row }
 
 -- a node with a span, and the node in it
-abbrev pub spanned : Kind → Head → Row → Node
-spanned k head row = record { head = fixed (at k 0 0); row = inner head row nothing }
+abbrev pub spanned : Bool → Kind → Head → Row → Node
+spanned spans k head row = record { head = placed spans k; row = beside spans a_span (inner head row nothing) }
 
 -- the row of a node in another: its word stays a member of the object
 abbrev pub under : Head → Row → Row
 under h (marked k w row) = marked k w (under h row)
+under h (beside b x row) = beside b x (under h row)
 under h row = inner h row nothing
 
 abbrev pub within : Kind → Node → Node
 within k n = node_of_kind k (under n.head n.row)
 
+-- the word goes behind what stands beside, so that keys are `span`, `k`, then the others
+abbrev pub mark : Text → Text → Row → Row
+mark k w (beside b x row) = beside b x (mark k w row)
+mark k w row = marked k w row
+
 -- an object that has the word w at `k`
 abbrev pub worded : Text → Text → Node → Text × Node
-worded k w n = (w, record { head = n.head; row = marked k w n.row })
+worded k w n = (w, record { head = n.head; row = mark k w n.row })
 
 -- which node an object is, and what a value is that is no object
 pub record Table : Type 0 where

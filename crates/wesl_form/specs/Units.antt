@@ -1,10 +1,13 @@
 -- Which unit a value stands for, and which value a unit is written as.
-use Rattle.std.specs.Prelude.{◌≡◌, ◌⊎◌, ℕ, ◌+◌, ◌<◌, List, [], ◌∷◌, length, Some, None, slice_get}
+use Rattle.std.specs.Prelude.{◌≡◌, ◌⊎◌, ℕ, ◌+◌, ◌<◌, List, [], ◌∷◌, length, Bool, true, false, is_some, Some, None, codes, slice_get}
 use Rattle.serde_json.specs.Data.{Data, depth}
+use Rattle.serde_json.specs.Find.{get}
 use Rattle.wesl_names.specs.Path.{Text}
-use Rattle.wesl_syntax.specs.Tree.{Tree, kind, unit, respell}
-use Rattle.wesl_syntax.specs.Unit.{UnitView, UnitOf, forest_of_unit, spelled as spelled_unit, numbers}
+use Rattle.wesl_syntax.specs.Tree.{kind, unit}
+use Rattle.wesl_syntax.specs.Unit.{UnitView, UnitOf, forest_of_unit, spelled, numbers}
+use Rattle.wesl_syntax.specs.Shown.{placed}
 use Rattle.wesl_form.specs.Schema.{Spelled, node, a_unit, Table}
+use Rattle.wesl_form.specs.Nodes.{whole_form}
 use Rattle.wesl_form.specs.Reading.{reading}
 use Rattle.wesl_form.specs.Place.{IsBroken}
 use Rattle.wesl_form.specs.Writing.{written}
@@ -22,31 +25,40 @@ NumberedFrom n (i ∷ is) m = (i < n) × NumberedFrom n is m ⊎ (i ≡ n) × Nu
 abbrev pub AreDistinct : List Text → Type 0
 AreDistinct names = (i j : ℕ) (s : Text) → slice_get names i ≡ Some s → slice_get names j ≡ Some s → i ≡ j
 
-abbrev pub same_number : ℕ → ℕ
-same_number i = i
+-- a value with the key `form` is of form 2, which has spans; another is of form 1
+abbrev pub says_form : Data → Bool
+says_form d = is_some (get (codes "form") d)
 
--- no node has a span
-abbrev pub HasNoSpan : Tree → Type 0
-HasNoSpan t = respell same_number t ≡ t
+abbrev pub form_of : Data → Table
+form_of d = whole_form (says_form d)
 
-module _ (table : Table) where
-  -- the unit that a value stands for
-  pub record IsUnitOf (d : Data) (u : UnitView) : Type 0 where
-    -- its reading, at each number of levels above the depth
-    pub spelled : (n : ℕ) → depth d < n → reading table n (node a_unit) d ≡ Some (unit_tree (spelled_unit u))
-    -- one number a name, by first occurrence in document order
-    pub numbered : NumberedFrom 0 (numbers u) (length u.names)
-    pub distinct : AreDistinct u.names
-    pub spanless : HasNoSpan u.imports × HasNoSpan u.directives × HasNoSpan u.declarations
+-- the unit that a value stands for
+pub record IsUnitOf (d : Data) (u : UnitView) : Type 0 where
+  -- its reading, at each number of levels above the depth: names for identifiers, and spans
+  pub read : (n : ℕ) → depth d < n → reading (form_of d) n (node a_unit) d ≡ Some (unit_tree (placed u))
+  -- one number a name, by first occurrence in document order
+  pub numbered : NumberedFrom 0 (numbers u) (length u.names)
+  pub distinct : AreDistinct u.names
 
-  -- a place of a value that stands for none
-  abbrev pub IsBrokenUnit : Data → Text → Type 0
-  IsBrokenUnit d place = IsBroken table (node a_unit) d place
+-- a place of a value that stands for none
+abbrev pub IsBrokenUnit : Data → Text → Type 0
+IsBrokenUnit d place = IsBroken (form_of d) (node a_unit) d place
 
-  -- no number of levels reads the value
-  abbrev pub IsNoUnit : Data → Type 0
-  IsNoUnit d = (n : ℕ) → reading table n (node a_unit) d ≡ None
+-- no number of levels reads the value
+abbrev pub IsNoUnit : Data → Type 0
+IsNoUnit d = (n : ℕ) → reading (form_of d) n (node a_unit) d ≡ None
 
--- the value that a unit is written as
+-- what a form shows of a unit: its spelling, and in form 2 its spans too
+abbrev pub shown_unit : Bool → UnitView → UnitOf Text
+shown_unit false u = spelled u
+shown_unit true u = placed u
+
+-- the value that a unit is written as, in form 2 where spans are written
+abbrev pub written_as : Bool → UnitView → Data
+written_as spans u = written spans (node a_unit) (unit_tree (shown_unit spans u))
+
 abbrev pub unit_value : UnitView → Data
-unit_value u = written (node a_unit) (unit_tree (spelled_unit u))
+unit_value u = written_as false u
+
+abbrev pub unit_value_2 : UnitView → Data
+unit_value_2 u = written_as true u

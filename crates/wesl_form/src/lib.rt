@@ -12,12 +12,14 @@ mod number;
 mod number_text;
 mod pointer;
 mod read;
+mod rows;
 mod value;
 
 pub use fault::ReadFault;
-pub use keys::has_only;
-pub use laws::{law_of_expressions, law_of_places, law_of_types};
+pub use keys::{has_only, has_only_beside};
+pub use laws::law_of_places;
 pub use number::{Number, NumberKind};
 pub use pointer::{under_index, under_key};
 pub use read::read_borrowed;
+pub use rows::{row_of_a_constant, rows_of_nodes};
 pub use value::{BorrowedValue, Members};

@@ -1,19 +1,20 @@
--- What holds of texts, truths and `null`, and of lists and objects of what it holds of, holds of all that is written.
-use Rattle.std.proofs.Common.{List, [], ◌∷◌, Bool, true, false, ◌&&◌, if◌then◌else◌, Option, Some, None, option_map, option_and_then}
-use Rattle.serde_json.specs.Data.{Data, null, string, boolean, array, object, Items, no_items, item, Members, no_members, put}
+-- What holds of texts, truths, whole numbers and `null`, and of lists and objects of what it holds of, holds of all that is written.
+use Rattle.std.proofs.Common.{◌≡◌, ℕ, List, [], ◌∷◌, Bool, true, false, ◌&&◌, if◌then◌else◌, Option, Some, None, option_map, option_and_then, codes}
+use Rattle.serde_json.specs.Data.{Data, null, string, boolean, number, unsigned, array, object, Items, no_items, item, Members, no_members, put}
 use Rattle.wesl_names.specs.Path.{Text}
 use Rattle.wesl_names.specs.PathText.{to_text}
 use Rattle.wesl_syntax.specs.Tree.{kind, at, ident, text, texts, truth, unary, binary, assignment, space, access, path, end, tree, before, literal, type_or_identifier}
-use Rattle.wesl_syntax.specs.Unit.{UnitView, spelled}
-use Rattle.wesl_form.specs.Schema.{Spelled, SpelledForest, SpelledLabel, Leaf, an_ident, a_name, a_text, a_literal, some_names, a_path, one_of, a_fixed_path, a_truth, a_limit, some_texts, a_map_to, anything, Name, Form, leaf, list_of, node, Head, fixed, chosen, Row, nothing, marked, needs, may, many, given, inner, inner_where, Node, a_unit, an_import, a_content, an_entry, a_directive, a_declaration, a_member, a_parameter, a_body, a_statement, an_elif, an_else, a_clause, a_case, a_continuing, a_break_if, a_call, a_type, a_template_argument, an_expression, an_attribute, a_bundle, a_module, a_package, a_package_module, some_features, some_builtins}
-use Rattle.wesl_form.specs.Units.{unit_tree, unit_value}
-use Rattle.wesl_form.specs.Writing.{texts_value, label_value, leaf_value, text_or_null, word_of, Writes, written, written_forest, value_at, short_value, short_type_value, short_expression_value, object_value, first_fit, candidates, marks, unmarked, put_head, is_absent, is_empty_array, is_absent_at, ident_in, truth_in, label_at, has_label, children_of_first}
+use Rattle.wesl_syntax.specs.Unit.{UnitView}
+use Rattle.wesl_form.specs.Schema.{Spelled, SpelledForest, SpelledLabel, Leaf, an_ident, a_name, a_text, a_literal, some_names, a_path, one_of, anything, extra, Extra, a_span, second_form, Name, Form, leaf, list_of, node, Head, fixed, chosen, placed, Row, nothing, marked, needs, may, many, given, inner, inner_where, beside, Node, a_unit, an_import, a_content, an_entry, a_directive, a_declaration, a_member, a_parameter, a_body, a_statement, an_elif, an_else, a_clause, a_case, a_continuing, a_break_if, a_call, a_type, a_template_argument, an_expression, an_attribute}
+use Rattle.wesl_form.specs.Units.{unit_tree, shown_unit, written_as}
+use Rattle.wesl_form.specs.Writing.{texts_value, label_value, leaf_value, text_or_null, word_of, Writes, written, written_forest, value_at, short_value, short_type_value, short_expression_value, object_value, first_fit, candidates, marks, unmarked, put_head, put_span, put_extra, span_value, is_nowhere, is_placed, unless_placed, short_inside, is_absent, is_empty_array, is_absent_at, ident_in, truth_in, label_at, has_label, children_of_first}
 use Rattle.wesl_form.specs.Words.{attribute_words}
 
 pub record IsKept (P : Data → Type 0) (PI : Items → Type 0) (PM : Members → Type 0) : Type 0 where
   pub of_null : P null
   pub of_truth : (b : Bool) → P (boolean b)
   pub of_text : (s : Text) → P (string s)
+  pub of_whole : (n : ℕ) → P (number (unsigned n))
   pub of_list : (ds : Items) → PI ds → P (array ds)
   pub of_object : (ms : Members) → PM ms → P (object ms)
   pub of_no_items : PI no_items
@@ -52,11 +53,7 @@ module _ (P : Data → Type 0) (PI : Items → Type 0) (PM : Members → Type 0)
   leaf_kept a_literal l = label_kept l
   leaf_kept some_names l = label_kept l
   leaf_kept a_path l = label_kept l
-  leaf_kept a_fixed_path l = label_kept l
-  leaf_kept a_truth l = label_kept l
-  leaf_kept a_limit l = label_kept l
-  leaf_kept some_texts l = label_kept l
-  leaf_kept (a_map_to words) l = label_kept l
+  leaf_kept (extra x) l = label_kept l
   leaf_kept anything l = label_kept l
 
   -- ---- short forms
@@ -86,39 +83,78 @@ module _ (P : Data → Type 0) (PI : Items → Type 0) (PM : Members → Type 0)
       let types = short_type_value (children_of_first (children_of_first ts)) in
       either_kept (has_label literal ts) (option_map boolean truths) (if has_label type_or_identifier ts then types else None) (booleans_kept truths) (either_kept (has_label type_or_identifier ts) types None (type_kept (children_of_first (children_of_first ts))) tt)
 
-  short_kept : (m : Name) (ts : SpelledForest) → HoldsOfOption (short_value m ts)
-  short_kept a_unit ts = tt
-  short_kept an_import ts = tt
-  short_kept a_content ts = tt
-  short_kept an_entry ts = tt
-  short_kept a_directive ts = tt
-  short_kept a_declaration ts = tt
-  short_kept a_member ts = tt
-  short_kept a_parameter ts = tt
-  short_kept a_body ts = tt
-  short_kept a_statement ts = tt
-  short_kept an_elif ts = tt
-  short_kept an_else ts = tt
-  short_kept a_clause ts = tt
-  short_kept a_case ts = expression_kept (children_of_first ts)
-  short_kept a_continuing ts = tt
-  short_kept a_break_if ts = tt
-  short_kept a_call ts = tt
-  short_kept a_type ts = type_kept ts
-  short_kept a_template_argument ts = expression_kept (children_of_first ts)
-  short_kept an_expression ts = expression_kept ts
-  short_kept an_attribute ts = strings_kept (option_and_then (word_of attribute_words) (label_at 0 ts))
-  short_kept a_bundle ts = tt
-  short_kept a_module ts = tt
-  short_kept a_package ts = tt
-  short_kept a_package_module ts = tt
-  short_kept some_features ts = tt
-  short_kept some_builtins ts = tt
+  unless_kept : (b : Bool) (o : Option Data) → HoldsOfOption o → HoldsOfOption (option_and_then (λ d. if b then None else Some d) o)
+  unless_kept true None h = tt
+  unless_kept true (Some d) h = tt
+  unless_kept false None h = tt
+  unless_kept false (Some d) h = h
+
+  inside_kept : (spans : Bool) (ts : SpelledForest) → HoldsOfOption (short_inside spans ts)
+  inside_kept spans end = tt
+  inside_kept spans (tree l c o) = unless_kept (is_placed spans l) (short_expression_value c) (expression_kept c)
+
+  short_kept : (spans : Bool) (m : Name) (l : SpelledLabel) (ts : SpelledForest) → HoldsOfOption (short_value spans m l ts)
+  short_kept spans a_unit l ts = tt
+  short_kept spans an_import l ts = tt
+  short_kept spans a_content l ts = tt
+  short_kept spans an_entry l ts = tt
+  short_kept spans a_directive l ts = tt
+  short_kept spans a_declaration l ts = tt
+  short_kept spans a_member l ts = tt
+  short_kept spans a_parameter l ts = tt
+  short_kept spans a_body l ts = tt
+  short_kept spans a_statement l ts = tt
+  short_kept spans an_elif l ts = tt
+  short_kept spans an_else l ts = tt
+  short_kept spans a_clause l ts = tt
+  short_kept spans a_case l ts = inside_kept spans ts
+  short_kept spans a_continuing l ts = tt
+  short_kept spans a_break_if l ts = tt
+  short_kept spans a_call l ts = tt
+  short_kept spans a_type l ts = type_kept ts
+  short_kept spans a_template_argument l ts = inside_kept spans ts
+  short_kept spans an_expression l ts = unless_kept (is_placed spans l) (short_expression_value ts) (expression_kept ts)
+  short_kept spans an_attribute l ts = let o = option_map string (option_and_then (word_of attribute_words) (label_at 0 ts)) in unless_kept (is_placed spans l) o (strings_kept (option_and_then (word_of attribute_words) (label_at 0 ts)))
 
   -- ---- trees
 
+  unless : (b : Bool) (ms ns : Members) → PM ms → PM ns → PM (if b then ms else ns)
+  unless true ms ns h k = h
+  unless false ms ns h k = k
+
+  span_value_kept : (s e : ℕ) → P (span_value s e)
+  span_value_kept s e =
+      let last = kept.of_item (number (unsigned e)) no_items (kept.of_whole e) kept.of_no_items in
+      kept.of_list (item (number (unsigned s)) (item (number (unsigned e)) no_items)) (kept.of_item (number (unsigned s)) (item (number (unsigned e)) no_items) (kept.of_whole s) last)
+
+  span_kept : (spans : Bool) (l : SpelledLabel) (ms : Members) → PM ms → PM (put_span spans l ms)
+  span_kept false l ms w = w
+  span_kept true (at k s e) ms w = unless (is_nowhere s e) ms (put (codes "span") (span_value s e) ms) w (kept.of_put (codes "span") (span_value s e) ms (span_value_kept s e) w)
+  span_kept true (kind k) ms w = w
+  span_kept true (ident r i) ms w = w
+  span_kept true (text x) ms w = w
+  span_kept true (texts xs) ms w = w
+  span_kept true (truth b) ms w = w
+  span_kept true (unary o) ms w = w
+  span_kept true (binary o) ms w = w
+  span_kept true (assignment o) ms w = w
+  span_kept true (space o) ms w = w
+  span_kept true (access o) ms w = w
+  span_kept true (path p) ms w = w
+
+  extra_kept : (b : Bool) (x : Extra) (ms : Members) → PM ms → PM (put_extra b x ms)
+  extra_kept b a_span ms w = w
+  extra_kept true second_form ms w = kept.of_put (codes "form") (number (unsigned 2)) ms (kept.of_whole 2) w
+  extra_kept false second_form ms w = w
+
+  head_kept : (h : Head) (l : SpelledLabel) (ms : Members) → PM ms → PM (put_head h l ms)
+  head_kept (fixed m) l ms w = w
+  head_kept (chosen k words) l ms w = kept.of_put k (text_or_null (word_of words l)) ms (word_kept (word_of words l)) w
+  head_kept (placed spans k) l ms w = span_kept spans l ms w
+
   marks_kept : (row : Row) (ms : Members) → PM ms → PM (marks row ms)
   marks_kept (marked k w row) ms h = kept.of_put k (string w) (marks row ms) (kept.of_text w) (marks_kept row ms h)
+  marks_kept (beside b x row) ms h = extra_kept b x (marks row ms) (marks_kept row ms h)
   marks_kept nothing ms h = h
   marks_kept (needs k f row) ms h = h
   marks_kept (may k f row) ms h = h
@@ -130,21 +166,15 @@ module _ (P : Data → Type 0) (PI : Items → Type 0) (PM : Members → Type 0)
   abbrev KeepsRows : Writes → Type 0
   KeepsRows inside = (row : Row) (ms : Members) → PM ms → PM (inside.row row ms)
 
-  by_node : (f : Option Node) (inside : Writes) → KeepsRows inside → P (object_value f inside)
-  by_node None inside h = kept.of_null
-  by_node (Some n) inside h = kept.of_object (marks n.row (inside.row (unmarked n.row) no_members)) (marks_kept n.row (inside.row (unmarked n.row) no_members) (h (unmarked n.row) no_members kept.of_no_members))
+  by_node : (f : Option Node) (l : SpelledLabel) (inside : Writes) → KeepsRows inside → P (object_value f l inside)
+  by_node None l inside h = kept.of_null
+  by_node (Some n) l inside h =
+      let others = inside.row (unmarked n.row) no_members in
+      kept.of_object (put_head n.head l (marks n.row others)) (head_kept n.head l (marks n.row others) (marks_kept n.row others (h (unmarked n.row) no_members kept.of_no_members)))
 
-  by_short : (o : Option Data) (f : Option Node) (inside : Writes) → HoldsOfOption o → KeepsRows inside → P (elim o as (λ _. Data) [ Some d ↦ d | None ↦ object_value f inside ])
-  by_short None f inside h k = by_node f inside k
-  by_short (Some d) f inside h k = h
-
-  head_kept : (h : Head) (l : SpelledLabel) (ms : Members) → PM ms → PM (put_head h l ms)
-  head_kept (fixed m) l ms w = w
-  head_kept (chosen k words) l ms w = kept.of_put k (text_or_null (word_of words l)) ms (word_kept (word_of words l)) w
-
-  unless : (b : Bool) (ms ns : Members) → PM ms → PM ns → PM (if b then ms else ns)
-  unless true ms ns h k = h
-  unless false ms ns h k = k
+  by_short : (o : Option Data) (f : Option Node) (l : SpelledLabel) (inside : Writes) → HoldsOfOption o → KeepsRows inside → P (elim o as (λ _. Data) [ Some d ↦ d | None ↦ object_value f l inside ])
+  by_short None f l inside h k = by_node f l inside k
+  by_short (Some d) f l inside h k = h
 
   -- what trees after one another are written as
   record AreKept (w : Writes) : Type 0 where
@@ -153,43 +183,44 @@ module _ (P : Data → Type 0) (PI : Items → Type 0) (PM : Members → Type 0)
     pub items : (m : Name) → PI (w.items m)
     pub row : KeepsRows w
 
-  value_kept : (l : SpelledLabel) (c : SpelledForest) → AreKept (written_forest c) → (f : Form) → P (value_at l c (written_forest c) f)
-  value_kept l c inside (leaf f) = leaf_kept f l
-  value_kept l c inside (list_of k m) = kept.of_list ((written_forest c).items m) (inside.items m)
-  value_kept l c inside (node m) = by_short (short_value m c) (first_fit (candidates m) l c) (written_forest c) (short_kept m c) inside.row
+  value_kept : (spans : Bool) (l : SpelledLabel) (c : SpelledForest) → AreKept (written_forest spans c) → (f : Form) → P (value_at spans l c (written_forest spans c) f)
+  value_kept spans l c inside (leaf f) = leaf_kept f l
+  value_kept spans l c inside (list_of k m) = kept.of_list ((written_forest spans c).items m) (inside.items m)
+  value_kept spans l c inside (node m) = by_short (short_value spans m l c) (first_fit (candidates spans m) l c) l (written_forest spans c) (short_kept spans m l c) inside.row
 
-  row_kept : (l : SpelledLabel) (c o : SpelledForest) → AreKept (written_forest c) → AreKept (written_forest o) → KeepsRows (written_forest (tree l c o))
-  row_kept l c o inside later nothing ms h = h
-  row_kept l c o inside later (marked k w row) ms h = h
-  row_kept l c o inside later (needs k f row) ms h = kept.of_put k (value_at l c (written_forest c) f) ((written_forest o).row row ms) (value_kept l c inside f) (later.row row ms h)
-  row_kept l c o inside later (may k f row) ms h =
-      let rest = (written_forest o).row row ms in
-      unless (is_absent l) rest (put k ((written_forest c).value f) rest) (later.row row ms h) (kept.of_put k ((written_forest c).value f) rest (inside.value f) (later.row row ms h))
-  row_kept l c o inside later (many k f row) ms h =
-      let rest = (written_forest o).row row ms in
-      let v = value_at l c (written_forest c) f in
-      unless (is_empty_array v) rest (put k v rest) (later.row row ms h) (kept.of_put k v rest (value_kept l c inside f) (later.row row ms h))
-  row_kept l c o inside later (given m row) ms h = later.row row ms h
-  row_kept l c o inside later (inner i ins row) ms h = head_kept i l ((written_forest c).row ins ((written_forest o).row row ms)) (inside.row ins ((written_forest o).row row ms) (later.row row ms h))
-  row_kept l c o inside later (inner_where k i ins row) ms h =
-      let rest = (written_forest o).row row ms in
-      unless (is_absent l) rest ((written_forest c).members i ins rest) (later.row row ms h) (inside.members i ins rest (later.row row ms h))
+  row_kept : (spans : Bool) (l : SpelledLabel) (c o : SpelledForest) → AreKept (written_forest spans c) → AreKept (written_forest spans o) → KeepsRows (written_forest spans (tree l c o))
+  row_kept spans l c o inside later nothing ms h = h
+  row_kept spans l c o inside later (marked k w row) ms h = h
+  row_kept spans l c o inside later (beside b x row) ms h = h
+  row_kept spans l c o inside later (needs k f row) ms h = kept.of_put k (value_at spans l c (written_forest spans c) f) ((written_forest spans o).row row ms) (value_kept spans l c inside f) (later.row row ms h)
+  row_kept spans l c o inside later (may k f row) ms h =
+      let rest = (written_forest spans o).row row ms in
+      unless (is_absent l) rest (put k ((written_forest spans c).value f) rest) (later.row row ms h) (kept.of_put k ((written_forest spans c).value f) rest (inside.value f) (later.row row ms h))
+  row_kept spans l c o inside later (many k f row) ms h =
+      let rest = (written_forest spans o).row row ms in
+      let v = value_at spans l c (written_forest spans c) f in
+      unless (is_empty_array v) rest (put k v rest) (later.row row ms h) (kept.of_put k v rest (value_kept spans l c inside f) (later.row row ms h))
+  row_kept spans l c o inside later (given m row) ms h = later.row row ms h
+  row_kept spans l c o inside later (inner i ins row) ms h = head_kept i l ((written_forest spans c).row ins ((written_forest spans o).row row ms)) (inside.row ins ((written_forest spans o).row row ms) (later.row row ms h))
+  row_kept spans l c o inside later (inner_where k i ins row) ms h =
+      let rest = (written_forest spans o).row row ms in
+      unless (is_absent l) rest ((written_forest spans c).members i ins rest) (later.row row ms h) (inside.members i ins rest (later.row row ms h))
 
-  all_kept : (ts : SpelledForest) → AreKept (written_forest ts)
-  all_kept end = record { value = λ f. kept.of_null; members = λ h row ms w. w; items = λ m. kept.of_no_items; row = λ row ms w. w }
-  all_kept (tree l c o) =
-      let inside = all_kept c in
-      let later = all_kept o in
+  all_kept : (spans : Bool) (ts : SpelledForest) → AreKept (written_forest spans ts)
+  all_kept spans end = record { value = λ f. kept.of_null; members = λ h row ms w. w; items = λ m. kept.of_no_items; row = λ row ms w. w }
+  all_kept spans (tree l c o) =
+      let inside = all_kept spans c in
+      let later = all_kept spans o in
       record {
-        value = value_kept l c inside;
-        members = λ h ins ms w. head_kept h l ((written_forest c).row ins ms) (inside.row ins ms w);
-        items = λ m. kept.of_item (value_at l c (written_forest c) (node m)) ((written_forest o).items m) (value_kept l c inside (node m)) (later.items m);
-        row = row_kept l c o inside later;
+        value = value_kept spans l c inside;
+        members = λ h ins ms w. head_kept h l ((written_forest spans c).row ins ms) (inside.row ins ms w);
+        items = λ m. kept.of_item (value_at spans l c (written_forest spans c) (node m)) ((written_forest spans o).items m) (value_kept spans l c inside (node m)) (later.items m);
+        row = row_kept spans l c o inside later;
       }
 
   -- each tree is written so
-  pub written_kept : (f : Form) (t : Spelled) → P (written f t)
-  written_kept f t = (all_kept (before t end)).value f
+  pub written_kept : (spans : Bool) (f : Form) (t : Spelled) → P (written spans f t)
+  written_kept spans f t = (all_kept spans (before t end)).value f
 
-  pub unit_kept : (u : UnitView) → P (unit_value u)
-  unit_kept u = written_kept (node a_unit) (unit_tree (spelled u))
+  pub unit_kept : (spans : Bool) (u : UnitView) → P (written_as spans u)
+  unit_kept spans u = written_kept spans (node a_unit) (unit_tree (shown_unit spans u))

@@ -6,6 +6,7 @@ pub mod Rows
 pub mod Keys
 pub mod Paths
 pub mod Fitting
+mod Spans
 pub mod Back
 pub mod Worded
 pub mod Expressions

@@ -57,6 +57,7 @@ sorted_kept = record {
   of_null = tt;
   of_truth = λ b. tt;
   of_text = λ s. tt;
+  of_whole = λ n. tt;
   of_list = λ ds h. h;
   of_object = λ ms h. h;
   of_no_items = tt;
@@ -89,4 +90,4 @@ mutual
   members_same (member k d ms) h = ap₂ (put k) (same d h.0) (members_same ms h.2) ∙ first_place k d ms h.1
 
 pub are_sorted : AreSorted
-are_sorted u = same _ (unit_kept IsSorted AreItemsSorted AreMembersSorted sorted_kept u)
+are_sorted spans u = same _ (unit_kept IsSorted AreItemsSorted AreMembersSorted sorted_kept spans u)

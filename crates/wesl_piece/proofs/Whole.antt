@@ -1,4 +1,4 @@
--- What is written has no number.
+-- What is written has no number that is not whole.
 use Rattle.std.proofs.Common.{◌≡◌, Bool, true, false, ◌||◌, refl, Ordering, Less, Equal, Greater}
 use Rattle.std.specs.Ordering.{nat_cmp, match_ordering}
 use Rattle.std.specs.Cmp.Lexicographic.{slice_cmp}
@@ -45,6 +45,7 @@ whole_kept = record {
   of_null = refl;
   of_truth = λ b. refl;
   of_text = λ s. refl;
+  of_whole = λ n. refl;
   of_list = λ ds h. h;
   of_object = λ ms h. h;
   of_no_items = refl;

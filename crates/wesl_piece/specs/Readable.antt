@@ -4,14 +4,13 @@ use Rattle.serde_json.specs.Data.{depth}
 use Rattle.serde_json.specs.Written.{has_float}
 use Rattle.wesl_names.specs.Path.{Text, Path}
 use Rattle.wesl_names.specs.PathText.{parse, to_text}
-use Rattle.wesl_syntax.specs.Tree.{ForestOf, end, tree, kind, ident, text, texts, path, literal, diagnostic, diagnostic_directive, unit}
+use Rattle.wesl_syntax.specs.Tree.{ForestOf, end, tree, kind, at, ident, text, texts, path, literal, diagnostic, diagnostic_directive, unit}
 use Rattle.wesl_syntax.specs.Unit.{UnitOf, UnitView, forest_of_unit, spelled}
 use Rattle.wesl_tree.specs.Translation.{unit_view}
 use Rattle.wesl_tree.specs.declared.unit.TranslationUnit.{TranslationUnit}
 use Rattle.wesl_form.specs.Schema.{SpelledLabel, SpelledForest, node, a_unit, nonempty}
-use Rattle.wesl_form.specs.Reading.{reading, is_literal}
-use Rattle.wesl_form.specs.Nodes.{whole_form}
-use Rattle.wesl_form.specs.Units.{unit_tree, unit_value}
+use Rattle.wesl_form.specs.Reading.{reading, is_literal, ordered}
+use Rattle.wesl_form.specs.Units.{unit_tree, shown_unit, written_as, form_of}
 use Rattle.wesl_piece.specs.Order.{sorted}
 
 -- the text of a literal is one that the format has, those of a diagnostic are any, each other one is a name
@@ -25,12 +24,13 @@ abbrev pub are_names : List Text → Bool
 are_names [] = true
 are_names (s ∷ ss) = is_some (nonempty s) && are_names ss
 
--- a label below another: names are nonempty, and the text of a path says one
+-- a label below another: names are nonempty, the text of a path says one, and a place does not end before it starts
 abbrev pub is_readable : SpelledLabel → SpelledLabel → Bool
 is_readable p (ident r s) = is_some (nonempty s)
 is_readable p (text s) = is_text_of p s
 is_readable p (texts ss) = are_names ss
 is_readable p (path q) = is_some (parse (to_text q))
+is_readable p (at k s e) = is_some (ordered s e)
 is_readable p _ = true
 
 -- trees that stand below a label
@@ -38,7 +38,7 @@ abbrev pub are_readable : SpelledLabel → SpelledForest → Bool
 are_readable p end = true
 are_readable p (tree l children others) = is_readable p l && (are_readable l children && are_readable p others)
 
--- a unit whose names are nonempty, whose literal texts are as the format says, and whose path texts say paths
+-- a unit whose names are nonempty, whose literal texts are as the format says, whose path texts say paths, and whose spans do not fall
 abbrev pub IsReadable : UnitOf Text → Type 0
 IsReadable u = are_readable (kind unit) (forest_of_unit u) ≡ true
 
@@ -52,17 +52,18 @@ paths end = []
 paths (tree (path p) children others) = p ∷ (paths children ++ paths others)
 paths (tree l children others) = paths children ++ paths others
 
--- A unit whose path texts each say the same path or none: what it is written as is read as it was, where all its texts
--- are as the format says, and not at all where one is not.
+-- A unit whose path texts each say the same path or none: what it is written as in a form is read, in the form that it
+-- says, as what the form shows of it, where all its texts and spans are as the format says, and not at all where one is not.
 abbrev pub UnitsReadBack : Type 0
-UnitsReadBack = (u : TranslationUnit) → All HasText (paths (forest_of_unit (spelled (unit_view u))))
-    → (n : ℕ) → depth (unit_value (unit_view u)) < n
-    → reading whole_form n (node a_unit) (unit_value (unit_view u)) ≡ (if are_readable (kind unit) (forest_of_unit (spelled (unit_view u))) then Some (unit_tree (spelled (unit_view u))) else None)
+UnitsReadBack = (spans : Bool) (u : TranslationUnit) → All HasText (paths (forest_of_unit (spelled (unit_view u))))
+    → (n : ℕ) → depth (written_as spans (unit_view u)) < n
+    → reading (form_of (written_as spans (unit_view u))) n (node a_unit) (written_as spans (unit_view u))
+        ≡ (if are_readable (kind unit) (forest_of_unit (shown_unit spans (unit_view u))) then Some (unit_tree (shown_unit spans (unit_view u))) else None)
 
 -- what a unit is written as has no number that is not whole
 abbrev pub HaveNoFloat : Type 0
-HaveNoFloat = (u : UnitView) → has_float (unit_value u) ≡ false
+HaveNoFloat = (spans : Bool) (u : UnitView) → has_float (written_as spans u) ≡ false
 
 -- what a unit is written as has the members of each object in the order of their keys
 abbrev pub AreSorted : Type 0
-AreSorted = (u : UnitView) → sorted (unit_value u) ≡ unit_value u
+AreSorted = (spans : Bool) (u : UnitView) → sorted (written_as spans u) ≡ written_as spans u
