@@ -10,7 +10,7 @@ use Rattle.wesl_names.specs.PathText.{parse, to_text}
 use Rattle.wesl_syntax.specs.Tree.{Kind, kind, ident, text, texts, path, absent, present, end, tree, before}
 use Rattle.wesl_form.specs.Schema.{Spelled, SpelledForest, SpelledLabel, leaf_of, nonempty, Leaf, some_names, Name, Form, leaf, list_of, node, Head, fixed, chosen, placed, Row, nothing, marked, inner, beside, a_span, second_form, Node}
 use Rattle.wesl_form.specs.Nodes.{whole_form, nodes_of, shorts_of}
-use Rattle.wesl_form.specs.Reading.{reading, leaf_label, label_in, children_in, present_tree, where_there, known_keys, head_keys, name_in, texts_in, items_in, is_literal, word_in, has_extra, extra_keys}
+use Rattle.wesl_form.specs.Reading.{reading, leaf_label, label_in, children_in, present_tree, where_there, known_keys, head_keys, name_in, texts_in, items_in, is_literal, has_extra, extra_keys}
 use Rattle.wesl_form.specs.Keys.{all_known}
 use Rattle.wesl_form.specs.Writing.{written, written_forest, leaf_value, texts_value, put_head, text_or_null, word_of, short_value, first_fit, candidates, Writes, object_value, marks, unmarked, put_span, put_extra}
 use Rattle.wesl_piece.specs.Readable.{HasText, is_readable, are_readable, are_names}
@@ -260,7 +260,7 @@ module _ (spans : Bool) (n : ℕ) (later_back : (p : SpelledLabel) (f : Form) (t
       let v = written spans (leaf some_names) (leaf_of (texts (s ∷ ss))) in
       known_put ks k v (members_of spans row ts ms) (among k (here k (known_keys row (object M))))
       (row_known hs ms (others_apart k (keys row) apart) (agrees_after k v row ts ms apart same) (fresh_after k row ms fresh) ks (λ q x. among q (later q k (known_keys row (object M)) x)) known)
-  row_known (told hs) ms apart same fresh ks among known = row_known hs ms apart same fresh ks among known
+  row_known (told fine hs) ms apart same fresh ks among known = row_known hs ms apart same fresh ks among known
   row_known (within {l = l} {h = h} {ins = ins} {row = row} {is = is} {ts = ts} head fine his hs) ms apart same fresh ks among known =
       let d = object M in
       let rest = row_known hs ms (row_apart h ins row apart) (agrees_outer h l ins row is ts ms apart same) (fresh_outer h ins row ms fresh) ks (λ q x. among q (in_right q (head_keys h ++ known_keys ins d) (known_keys row d) x)) known in
@@ -280,13 +280,16 @@ module _ (spans : Bool) (n : ℕ) (later_back : (p : SpelledLabel) (f : Form) (t
       let inside = row_known his (members_of spans row ts ms) (ins_apart h ins row apart) (agrees_inner h l ins row is ts ms apart same) (fresh_inner h ins row ts ms apart fresh) ks (λ q x. among_all q (in_left q ((k ∷ []) ++ known_keys ins d) (known_keys row d) (in_right q (k ∷ []) (known_keys ins d) x))) rest in
       head_known h l ks inner_members head (λ q x. among_all q (in_left q ((k ∷ []) ++ known_keys ins d) (known_keys row d) (in_left q (k ∷ []) (known_keys ins d) x))) inside
 
+abbrev AreKeysAmong : List Text → List Text → Type 0
+AreKeysAmong some ks = (q : Text) → is_in q some ≡ true → is_in q ks ≡ true
+
 -- ---- words
 
 abbrev word_keys : Option Text → List Text
 word_keys None = []
 word_keys (Some w) = word_key ∷ []
 
-known_word : (ks : List Text) (w : Option Text) (ms : Members) → ((q : Text) → is_in q (word_keys w) ≡ true → is_in q ks ≡ true) → all_known ks ms ≡ true → all_known ks (put_word w ms) ≡ true
+known_word : (ks : List Text) (w : Option Text) (ms : Members) → AreKeysAmong (word_keys w) ks → all_known ks ms ≡ true → all_known ks (put_word w ms) ≡ true
 known_word ks None ms among known = known
 known_word ks (Some w) ms among known = known_put ks word_key (string w) ms (among word_key (here word_key [])) known
 
@@ -320,7 +323,7 @@ form_out : (q : Text) (spans : Bool) (ms : Members) → bytes_eq form_key q ≡ 
 form_out q true ms out = get_member-put_other q form_key (number (unsigned 2)) ms (apart_keys form_key q out)
 form_out q false ms out = refl
 
-form_known : (ks : List Text) (spans : Bool) (ms : Members) → ((q : Text) → is_in q (extra_keys spans second_form) ≡ true → is_in q ks ≡ true) → all_known ks ms ≡ true → all_known ks (put_extra spans second_form ms) ≡ true
+form_known : (ks : List Text) (spans : Bool) (ms : Members) → AreKeysAmong (extra_keys spans second_form) ks → all_known ks ms ≡ true → all_known ks (put_extra spans second_form ms) ≡ true
 form_known ks true ms among known = known_put ks form_key (number (unsigned 2)) ms (among form_key (here form_key [])) known
 form_known ks false ms among known = known
 
@@ -441,7 +444,7 @@ module _ (spans : Bool) where
     pub bare : get_member span_key others ≡ None
     pub word : get_member word_key M ≡ option_map string w
     pub agrees : (q : Text) → is_in q (keys row) ≡ true → get_member q M ≡ get_member q (members_of spans row ts no_members)
-    pub known : (ks : List Text) → ((q : Text) → is_in q (extra_keys spans a_span) ≡ true → is_in q ks ≡ true) → ((q : Text) → is_in q (word_keys w) ≡ true → is_in q ks ≡ true) → all_known ks (members_of spans row ts no_members) ≡ true → all_known ks M ≡ true
+    pub known : (ks : List Text) → AreKeysAmong (extra_keys spans a_span) ks → AreKeysAmong (word_keys w) ks → all_known ks (members_of spans row ts no_members) ≡ true → all_known ks M ≡ true
 
   abbrev no_word : (row : Row) (ts : SpelledForest) → distinct (placed_keys row) ≡ true → get_member word_key (members_of spans row ts no_members) ≡ None
   no_word row ts apart = out_of spans word_key row ts no_members (first_apart word_key (keys row) (others_apart span_key (word_key ∷ keys row) apart))
@@ -483,7 +486,7 @@ module _ (spans : Bool) where
 
   -- all members of such an object are known
   placed_known : (n : ℕ) → BackAt n → (l : SpelledLabel) (k : Kind) (o : ℕ × ℕ) (w : Option Text) (row : Row) (ts : SpelledForest) (M : Members) → Places k o w row ts M → distinct (placed_keys row) ≡ true → FitsRow spans l row ts → members_depth M < n
-      → (ks : List Text) → ((q : Text) → is_in q (extra_keys spans a_span) ≡ true → is_in q ks ≡ true) → ((q : Text) → is_in q (word_keys w) ≡ true → is_in q ks ≡ true) → ((q : Text) → is_in q (known_keys row (object M)) ≡ true → is_in q ks ≡ true) → all_known ks M ≡ true
+      → (ks : List Text) → AreKeysAmong (extra_keys spans a_span) ks → AreKeysAmong (word_keys w) ks → AreKeysAmong (known_keys row (object M)) ks → all_known ks M ≡ true
   placed_known n back l k o w row ts M places apart hs small ks span word among =
       let alone = others_apart word_key (keys row) (others_apart span_key (word_key ∷ keys row) apart) in
       places.known ks span word (row_known spans n back M small hs no_members alone places.agrees (λ q x. refl) ks among refl)
@@ -504,8 +507,8 @@ module _ (spans : Bool) where
       let small : members_depth M < n = omega arith in
       let read = reading (whole_form spans) n in
       let ks = known_keys (beside spans a_span (with_word w row)) d in
-      let span = λ q x. in_left q (extra_keys spans a_span) (known_keys (with_word w row) d) x in
-      let after = λ q x. in_right q (extra_keys spans a_span) (known_keys (with_word w row) d) x in
+      let span : AreKeysAmong (extra_keys spans a_span) ks = λ q x. in_left q (extra_keys spans a_span) (known_keys (with_word w row) d) x in
+      let after : AreKeysAmong (known_keys (with_word w row) d) ks = λ q x. in_right q (extra_keys spans a_span) (known_keys (with_word w row) d) x in
       let known = placed_known n back l k o w row ts M places apart hs small ks span (λ q x. after q (word_among w row d q x)) (λ q x. after q (row_among w row d q x)) in
       let children = children_word read w row M places.word ∙ placed_row n back l k o w row ts M places apart hs ok small in
       let label = placed_label_back spans k o M places.others places.spot places.bare in
@@ -521,10 +524,10 @@ module _ (spans : Bool) where
       let d = object M in
       let small : members_depth M < n = omega arith in
       let read = reading (whole_form spans) n in
-      let inside = inner (placed spans k) row nothing in
+      let inside : Row = inner (placed spans k) row nothing in
       let ks = known_keys (beside spans a_span (with_word w inside)) d in
-      let span = λ q x. in_left q (extra_keys spans a_span) (known_keys (with_word w inside) d) x in
-      let after = λ q x. in_right q (extra_keys spans a_span) (known_keys (with_word w inside) d) x in
+      let span : AreKeysAmong (extra_keys spans a_span) ks = λ q x. in_left q (extra_keys spans a_span) (known_keys (with_word w inside) d) x in
+      let after : AreKeysAmong (known_keys (with_word w inside) d) ks = λ q x. in_right q (extra_keys spans a_span) (known_keys (with_word w inside) d) x in
       let known = placed_known n back l k o w row ts M places apart hs small ks span (λ q x. after q (word_among w inside d q x)) (λ q x. after q (row_among w inside d q (in_left q (known_keys row d) [] x))) in
       let label = placed_label_back spans k o M places.others places.spot places.bare in
       let there = span_beside spans k o M places.others places.spot places.bare in
@@ -542,7 +545,7 @@ module _ (spans : Bool) where
       let d = object M in
       let small : members_depth M < n = omega arith in
       let alone = others_apart form_key (keys row) apart in
-      let same = λ q x. form_out q spans R (differ q form_key (keys row) (first_apart form_key (keys row) apart) x) in
+      let same : (q : Text) → is_in q (keys row) ≡ true → get_member q M ≡ get_member q R = λ q x. form_out q spans R (differ q form_key (keys row) (first_apart form_key (keys row) apart) x) in
       let ks = known_keys (beside spans second_form row) d in
       let rest = row_known spans n back M small hs no_members alone same (λ q x. refl) ks (λ q x. in_right q (extra_keys spans second_form) (known_keys row d) x) refl in
       let known = form_known ks spans R (λ q x. in_left q (extra_keys spans second_form) (known_keys row d) x) rest in
@@ -601,7 +604,7 @@ module _ (spans : Bool) where
       let r = parts l ts end q.below in
       rw same (holding_back n (back n) p m outer k o w row ts _ (places_around k o w row ts picked.apart) nodes picked.apart hs r.below (subst (λ d. depth d < suc n) same low))
   back (suc n) p f t (unit_node {m = m} {ts = ts} k row picked plain nodes hs) ok low =
-      let n_ = record { head = fixed (kind k); row = beside spans second_form row } in
+      let n_ : Node = record { head = fixed (kind k); row = beside spans second_form row } in
       let same = long_value m n_ (form_key ∷ keys row) (kind k) ts picked ∙ ap (λ x. object (put_extra spans second_form x)) (plain_members row ts plain) in
       let q = parts (kind k) ts end ok in
       rw same (unit_back n (back n) p m k row ts nodes picked.apart hs q.below (subst (λ d. depth d < suc n) same low))

@@ -1,5 +1,5 @@
 -- Trees that a form can hold.
-use Rattle.std.proofs.Common.{◌≡◌, ℕ, List, [], ◌∷◌, Bool, true, ◌&&◌, if◌then◌else◌, Option, Some, None, option_map, codes}
+use Rattle.std.proofs.Common.{◌≡◌, ℕ, List, ◌∷◌, Bool, true, ◌&&◌, if◌then◌else◌, Option, Some, None, option_map, codes}
 use Rattle.std.specs.Option.{is_some}
 use Rattle.serde_json.specs.Data.{Data, object, string, Members, no_members, put}
 use Rattle.serde_json.specs.Find.{as_object, get_member}
@@ -7,7 +7,7 @@ use Rattle.wesl_names.specs.Path.{Text, Path}
 use Rattle.wesl_syntax.specs.Tree.{Kind, Role, kind, at, ident, text, texts, path, literal, absent, present, end, tree, before}
 use Rattle.wesl_form.specs.Schema.{Spelled, SpelledForest, SpelledLabel, Words, leaf_of, look, nonempty, Leaf, an_ident, a_name, a_text, a_literal, some_names, a_path, one_of, Name, Form, leaf, list_of, node, Head, fixed, chosen, placed, Row, nothing, marked, needs, may, many, given, inner, inner_where, beside, a_span, second_form, Node}
 use Rattle.wesl_form.specs.Nodes.{nodes_of, shorts_of}
-use Rattle.wesl_form.specs.Writing.{word_of, short_value, first_fit, candidates, unmarked, marks, written_forest, put_span, put_extra}
+use Rattle.wesl_form.specs.Writing.{word_of, short_value, first_fit, candidates, unmarked, marks, written_forest}
 use Rattle.wesl_piece.specs.Readable.{is_text_of, is_readable, are_readable}
 use Rattle.wesl_piece.proofs.Guards.{guard}
 use Rattle.wesl_piece.proofs.Rows.{keys, members_of, span_key}

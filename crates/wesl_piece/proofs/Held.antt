@@ -1,5 +1,5 @@
 -- What holds of texts, truths, whole numbers and `null`, and of lists and objects of what it holds of, holds of all that is written.
-use Rattle.std.proofs.Common.{◌≡◌, ℕ, List, [], ◌∷◌, Bool, true, false, ◌&&◌, if◌then◌else◌, Option, Some, None, option_map, option_and_then, codes}
+use Rattle.std.proofs.Common.{ℕ, List, [], ◌∷◌, Bool, true, false, ◌&&◌, if◌then◌else◌, Option, Some, None, option_map, option_and_then, codes}
 use Rattle.serde_json.specs.Data.{Data, null, string, boolean, number, unsigned, array, object, Items, no_items, item, Members, no_members, put}
 use Rattle.wesl_names.specs.Path.{Text}
 use Rattle.wesl_names.specs.PathText.{to_text}
@@ -7,7 +7,7 @@ use Rattle.wesl_syntax.specs.Tree.{kind, at, ident, text, texts, truth, unary, b
 use Rattle.wesl_syntax.specs.Unit.{UnitView}
 use Rattle.wesl_form.specs.Schema.{Spelled, SpelledForest, SpelledLabel, Leaf, an_ident, a_name, a_text, a_literal, some_names, a_path, one_of, anything, extra, Extra, a_span, second_form, Name, Form, leaf, list_of, node, Head, fixed, chosen, placed, Row, nothing, marked, needs, may, many, given, inner, inner_where, beside, Node, a_unit, an_import, a_content, an_entry, a_directive, a_declaration, a_member, a_parameter, a_body, a_statement, an_elif, an_else, a_clause, a_case, a_continuing, a_break_if, a_call, a_type, a_template_argument, an_expression, an_attribute}
 use Rattle.wesl_form.specs.Units.{unit_tree, shown_unit, written_as}
-use Rattle.wesl_form.specs.Writing.{texts_value, label_value, leaf_value, text_or_null, word_of, Writes, written, written_forest, value_at, short_value, short_type_value, short_expression_value, object_value, first_fit, candidates, marks, unmarked, put_head, put_span, put_extra, span_value, is_nowhere, is_placed, unless_placed, short_inside, is_absent, is_empty_array, is_absent_at, ident_in, truth_in, label_at, has_label, children_of_first}
+use Rattle.wesl_form.specs.Writing.{texts_value, label_value, leaf_value, text_or_null, word_of, Writes, written, written_forest, value_at, short_value, short_type_value, short_expression_value, object_value, first_fit, candidates, marks, unmarked, put_head, put_span, put_extra, span_value, is_nowhere, is_placed, short_inside, is_absent, is_empty_array, is_absent_at, ident_in, truth_in, label_at, has_label, children_of_first}
 use Rattle.wesl_form.specs.Words.{attribute_words}
 
 pub record IsKept (P : Data → Type 0) (PI : Items → Type 0) (PM : Members → Type 0) : Type 0 where

@@ -1,7 +1,8 @@
 -- The paths of trees, in parts.
-use Rattle.std.proofs.Common.{◌≡◌, List, [], ◌∷◌, ◌++◌, All, suc, arith, refl, sym, subst}
+use Rattle.std.proofs.Common.{◌≡◌, Bool, List, [], ◌∷◌, ◌++◌, All, suc, arith, refl, sym, subst}
 use Rattle.wesl_names.specs.Path.{Path}
-use Rattle.wesl_syntax.specs.Tree.{end, tree, kind, at, ident, text, texts, truth, unary, binary, assignment, space, access, path}
+use Rattle.wesl_syntax.specs.Tree.{ForestOf, end, tree, kind, at, ident, text, texts, truth, unary, binary, assignment, space, access, path}
+use Rattle.wesl_syntax.specs.Shown.{shown_forest}
 use Rattle.wesl_form.specs.Schema.{SpelledLabel, SpelledForest}
 use Rattle.wesl_piece.specs.Readable.{HasText, paths}
 
@@ -48,3 +49,20 @@ parts (binary x) c o h = plain (binary x) c o (λ y. refl) h
 parts (assignment x) c o h = plain (assignment x) c o (λ y. refl) h
 parts (space x) c o h = plain (space x) c o (λ y. refl) h
 parts (access x) c o h = plain (access x) c o (λ y. refl) h
+
+module _ {I J : Type 0} (spans : Bool) (f : I → J) where
+  -- showing spans or leaving them out changes no path
+  pub paths_shown : (ts : ForestOf I) → paths ts ≡ paths (shown_forest spans f ts)
+  paths_shown end = refl
+  paths_shown (tree (path p) children others) = rw (paths_shown children, paths_shown others) refl
+  paths_shown (tree (kind k) children others) = rw (paths_shown children, paths_shown others) refl
+  paths_shown (tree (at k s e) children others) = rw (paths_shown children, paths_shown others) refl
+  paths_shown (tree (ident r i) children others) = rw (paths_shown children, paths_shown others) refl
+  paths_shown (tree (text x) children others) = rw (paths_shown children, paths_shown others) refl
+  paths_shown (tree (texts xs) children others) = rw (paths_shown children, paths_shown others) refl
+  paths_shown (tree (truth b) children others) = rw (paths_shown children, paths_shown others) refl
+  paths_shown (tree (unary o) children others) = rw (paths_shown children, paths_shown others) refl
+  paths_shown (tree (binary o) children others) = rw (paths_shown children, paths_shown others) refl
+  paths_shown (tree (assignment o) children others) = rw (paths_shown children, paths_shown others) refl
+  paths_shown (tree (space s) children others) = rw (paths_shown children, paths_shown others) refl
+  paths_shown (tree (access a) children others) = rw (paths_shown children, paths_shown others) refl

@@ -7,7 +7,7 @@ use Rattle.serde_json.specs.Data.{Data, Members, put}
 use Rattle.serde_json.specs.Find.{get_member}
 use Rattle.serde_json.proofs.Views.{get_member-put_other}
 use Rattle.wesl_names.specs.Path.{Text}
-use Rattle.wesl_syntax.specs.Tree.{Kind, kind, at, ident, text, texts, truth, unary, binary, assignment, space, access, path, end, tree}
+use Rattle.wesl_syntax.specs.Tree.{kind, at, ident, text, texts, truth, unary, binary, assignment, space, access, path, end, tree}
 use Rattle.wesl_form.specs.Schema.{SpelledForest, SpelledLabel, Row, nothing, marked, needs, may, many, given, inner, inner_where, Head, fixed, chosen, placed, beside}
 use Rattle.wesl_form.specs.Reading.{extra_key}
 use Rattle.wesl_form.specs.Writing.{written_forest, put_head, put_span, span_value, is_nowhere, is_absent, is_empty_array, text_or_null, word_of}

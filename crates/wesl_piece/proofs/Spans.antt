@@ -1,5 +1,5 @@
 -- Spans that are written and read again.
-use Rattle.std.proofs.Common.{◌≡◌, ◌⊎◌, ℕ, List, [], Bool, true, false, ◌&&◌, if◌then◌else◌, Option, Some, None, option_map, refl, ap, ◌∙◌, inl, inr}
+use Rattle.std.proofs.Common.{◌≡◌, ◌⊎◌, ℕ, List, [], Bool, true, false, not, ◌&&◌, if◌then◌else◌, Option, Some, None, option_map, refl, ap, ◌∙◌, inl, inr}
 use Rattle.std.specs.Prelude.{nat_le, ◌==◌}
 use Rattle.std.specs.Option.{is_some}
 use Rattle.std.proofs.lemmas.Bool.{eqb-true}
@@ -11,7 +11,7 @@ use Rattle.wesl_syntax.specs.Tree.{Kind, kind, at}
 use Rattle.wesl_form.specs.Schema.{SpelledLabel, a_span, placed}
 use Rattle.wesl_form.specs.Reading.{ordered, span_of, span_in, label_in, has_extra, extra_keys}
 use Rattle.wesl_form.specs.Keys.{all_known}
-use Rattle.wesl_form.specs.Writing.{span_value, is_nowhere, put_span}
+use Rattle.wesl_form.specs.Writing.{span_value, is_nowhere, put_span, is_placed, unless_placed}
 use Rattle.wesl_piece.specs.Readable.{is_readable}
 use Rattle.wesl_piece.proofs.Guards.{guard}
 use Rattle.wesl_piece.proofs.Rows.{span_key, is_in}
@@ -27,7 +27,7 @@ nowhere_zeros : (s e : ℕ) → is_nowhere s e ≡ true → (s ≡ 0) × (e ≡ 
 nowhere_zeros s e is = let h = both_true (s == 0) (e == 0) is in (eqb-true s 0 h.0, eqb-true e 0 h.1)
 
 -- a span is no place, or is written
-pub nowhere_or_placed : (s e : ℕ) → ((s ≡ 0) × (e ≡ 0)) ⊎ (is_nowhere s e ≡ false)
+nowhere_or_placed : (s e : ℕ) → ((s ≡ 0) × (e ≡ 0)) ⊎ (is_nowhere s e ≡ false)
 nowhere_or_placed s e = at_test (is_nowhere s e) refl
   where
     at_test : (b : Bool) → is_nowhere s e ≡ b → ((s ≡ 0) × (e ≡ 0)) ⊎ (is_nowhere s e ≡ false)
@@ -53,7 +53,10 @@ span_back true k o M others same none = ap from_member same ∙ span_if (is_nowh
 ordered_label : (k : Kind) (s e : ℕ) → option_map (λ q. place_label k q.0 q.1) (ordered s e) ≡ guard (is_some (ordered s e)) (place_label k s e)
 ordered_label k s e = at_test (nat_le s e && nat_le e 4294967295)
   where
-    at_test : (b : Bool) → option_map (λ (q : ℕ × ℕ). place_label k q.0 q.1) (if b then Some (s, e) else None) ≡ guard (is_some (if b then Some (s, e) else None)) (place_label k s e)
+    pair_if : Bool → Option (ℕ × ℕ)
+    pair_if b = if b then Some (s, e) else None
+
+    at_test : (b : Bool) → option_map (λ q. place_label k q.0 q.1) (pair_if b) ≡ guard (is_some (pair_if b)) (place_label k s e)
     at_test true = refl
     at_test false = refl
 
@@ -81,3 +84,26 @@ known_span ks true k o ms among known = at_test (is_nowhere o.0 o.1)
     at_test : (b : Bool) → all_known ks (if b then ms else put span_key (span_value o.0 o.1) ms) ≡ true
     at_test true = known
     at_test false = known_put ks span_key (span_value o.0 o.1) ms (among span_key (here span_key [])) known
+
+-- ---- short forms, which show no span
+
+pub nowhere_or_shown : (spans : Bool) (k : Kind) (place : ℕ × ℕ) → (label_shown spans k place ≡ place_label k 0 0) ⊎ (is_placed spans (label_shown spans k place) ≡ true)
+nowhere_or_shown false k place = inl refl
+nowhere_or_shown true k place = at_test (nowhere_or_placed place.0 place.1)
+  where
+    at_test : ((place.0 ≡ 0) × (place.1 ≡ 0)) ⊎ (is_nowhere place.0 place.1 ≡ false) → (place_label k place.0 place.1 ≡ place_label k 0 0) ⊎ (not (is_nowhere place.0 place.1) ≡ true)
+    at_test (inl zeros) = inl (rw (zeros.0, zeros.1) refl)
+    at_test (inr is) = inr (rw is refl)
+
+pub unless_nowhere : (spans : Bool) (k : Kind) (d : Data) → unless_placed spans (place_label k 0 0) (Some d) ≡ Some d
+unless_nowhere false k d = refl
+unless_nowhere true k d = refl
+
+-- no short form where a span is shown
+pub long_where_placed : (spans : Bool) (l : SpelledLabel) (o : Option Data) → is_placed spans l ≡ true → unless_placed spans l o ≡ None
+long_where_placed spans l None is = refl
+long_where_placed spans l (Some d) is = rw is refl
+
+pub shown_where_placed : (spans : Bool) (l : SpelledLabel) → is_placed spans l ≡ true → spans ≡ true
+shown_where_placed true l is = refl
+shown_where_placed false l is = is

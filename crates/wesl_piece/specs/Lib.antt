@@ -1,4 +1,5 @@
 pub mod View
 pub mod Place
 pub mod Order
+pub mod Numbers
 pub mod Readable

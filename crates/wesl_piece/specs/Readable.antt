@@ -58,7 +58,7 @@ abbrev pub UnitsReadBack : Type 0
 UnitsReadBack = (spans : Bool) (u : TranslationUnit) → All HasText (paths (forest_of_unit (spelled (unit_view u))))
     → (n : ℕ) → depth (written_as spans (unit_view u)) < n
     → reading (form_of (written_as spans (unit_view u))) n (node a_unit) (written_as spans (unit_view u))
-        ≡ (if are_readable (kind unit) (forest_of_unit (shown_unit spans (unit_view u))) then Some (unit_tree (shown_unit spans (unit_view u))) else None)
+    ≡ (if are_readable (kind unit) (forest_of_unit (shown_unit spans (unit_view u))) then Some (unit_tree (shown_unit spans (unit_view u))) else None)
 
 -- what a unit is written as has no number that is not whole
 abbrev pub HaveNoFloat : Type 0

@@ -1,7 +1,7 @@
 -- The data that a piece stands for.
 use Rattle.std.specs.Prelude.{ℕ, List, [], ◌∷◌, map, string_bytes}
 use Rattle.std.specs.Borrow.{Bor}
-use Rattle.serde_json.specs.Data.{Data, boolean, string, array, object, Items, Members, no_members, member}
+use Rattle.serde_json.specs.Data.{Data, boolean, number, unsigned, string, array, object, Items, Members, no_members, member}
 use Rattle.serde_json.specs.View.{items_of}
 use Rattle.wesl_piece.specs.declared.piece.Piece.{Piece, fold-Piece}
 use Rattle.wesl_piece.specs.declared.piece.Piece.TheOpen.{Piece-F}
@@ -13,6 +13,7 @@ members_of (m ∷ ms) = member m.0.now m.1 (members_of ms)
 -- one level, with each piece inside already seen as its data
 abbrev pub piece_step : Piece-F Data → Data
 piece_step (Piece-F.Truth b) = boolean b
+piece_step (Piece-F.Whole n) = number (unsigned n)
 piece_step (Piece-F.Text s) = string s.now
 piece_step (Piece-F.Owned s) = string (string_bytes s)
 piece_step (Piece-F.List v) = array (items_of v.items)

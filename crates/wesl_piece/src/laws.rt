@@ -1,8 +1,9 @@
 //! Laws of whole units.
 ghost use Rattle.wesl_piece.specs.Readable.{AreSorted, HaveNoFloat, UnitsReadBack};
 
-/// A unit whose path texts each say the same path or none is read, once it is written, as it was, and exactly where its
-/// names are nonempty, its literals are as the format says and its path texts say paths.
+/// A unit whose path texts each say the same path or none is read, once it is written in either form, as what the form
+/// shows of it, and exactly where its names are nonempty, its literals are as the format says, its path texts say paths and
+/// its spans do not fall.
 pub fn law_of_units()
     ensures { UnitsReadBack }
 {}

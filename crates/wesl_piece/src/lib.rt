@@ -5,6 +5,7 @@
 
 mod laws;
 mod members;
+mod numbers;
 mod of_value;
 mod piece;
 mod printing;
@@ -13,6 +14,7 @@ mod value;
 
 pub use laws::{law_of_order, law_of_units, law_of_whole_values};
 pub use members::put;
+pub use numbers::has_number;
 pub use of_value::borrowed_of_value;
 pub use piece::{Members, Piece};
 pub use printing::{write_items, write_piece};

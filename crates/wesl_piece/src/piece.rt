@@ -1,10 +1,12 @@
 //! The light form of a value.
 
-/// A JSON value without numbers. Its texts are borrowed where they stand somewhere already.
+/// A JSON value whose numbers are whole and of 32 bits. Its texts are borrowed where they stand somewhere already.
 #[cycle(piece)]
 pub enum Piece<'a> {
     /// `true` or `false`
     Truth(bool),
+    /// a whole number
+    Whole(u32),
     /// a text that stands elsewhere
     Text(&'a str),
     /// a text of its own
@@ -23,6 +25,7 @@ impl<'a> Drop for Piece<'a> {
     fn drop(self) {
         match self {
             Piece::Truth(_) => {}
+            Piece::Whole(_) => {}
             Piece::Text(_) => {}
             Piece::Owned(_) => {}
             Piece::List(_) => {}

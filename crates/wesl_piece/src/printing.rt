@@ -16,6 +16,7 @@ pub fn write_piece(out: &mut Writer, piece: &Piece<'_>) -> Result<(), AllocError
 {
     match piece {
         Piece::Truth(truth) => out.boolean(*truth),
+        Piece::Whole(whole) => out.u64(u64::from(*whole)),
         Piece::Text(text) => out.string(*text),
         Piece::Owned(text) => out.string(text.as_str()),
         Piece::List(items) => {

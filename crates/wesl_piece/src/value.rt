@@ -5,7 +5,7 @@ ghost use Rattle.wesl_piece.specs.Order.{sorted, sorted_items, sorted_members};
 ghost use Rattle.wesl_piece.specs.View.{items_view, members_view, piece_view};
 
 use crate::piece::{Members, Piece};
-use serde_json::{Map, Value};
+use serde_json::{Map, Number, Value};
 use std::alloc::{AllocError, Global};
 
 /// The value that a piece is, with the members of each object in the order of their keys. Refused for want of memory
@@ -16,6 +16,7 @@ pub fn value_of_piece(alloc: Global, piece: &Piece<'_>) -> Result<Value, AllocEr
 {
     match piece {
         Piece::Truth(truth) => Ok(Value::Bool(*truth)),
+        Piece::Whole(whole) => Ok(Value::Number(Number::from(u64::from(*whole)))),
         Piece::Text(text) => Ok(Value::String(String::from_str(alloc, *text)?)),
         Piece::Owned(text) => Ok(Value::String(String::from_str(alloc, text.as_str())?)),
         Piece::List(items) => Ok(Value::Array(values_of(alloc, items)?)),

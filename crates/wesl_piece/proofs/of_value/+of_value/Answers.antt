@@ -3,7 +3,6 @@ use Rattle.std.specs.List.Sorted.{IsStrictlySortedBy}
 use Rattle.std.specs.Map.{keys_of}
 use Rattle.std.specs.String.{string_cmp}
 use Rattle.serde_json.proofs.Views.{Entry, put_last}
-use Rattle.wesl_form.specs.View.{members_view}
 use Rattle.wesl_form.proofs.Lists.{members_view-then}
 use Rattle.wesl_piece.proofs.Light.{items-turn}
 use Rattle.wesl_piece.proofs.of_value.+of_value.Goals as goal
