@@ -1,5 +1,5 @@
 -- What is made of a statement's parts.
-use Rattle.std.proofs.Common.{◌≡◌, List, [], ◌∷◌, Option, Vec, Global, codes, sym, ap, ◌∙◌, rules, map}
+use Rattle.std.proofs.Common.{◌≡◌, Bool, List, [], ◌∷◌, Option, Vec, Global, codes, sym, ap, ◌∙◌, rules, map}
 use mathlib.Core.List.{map-map}
 use Rattle.std.specs.Box.{box_value}
 use Rattle.std.specs.Global.{Box}
@@ -24,7 +24,7 @@ use Rattle.wesl_syntax.specs.declared.statement.IfClause.{IfClause, out-IfClause
 use Rattle.wesl_syntax.specs.declared.statement.SwitchClause.{SwitchClause, out-SwitchClause}
 use Rattle.wesl_form.specs.Schema.{node, an_expression, an_attribute, a_body, a_statement, an_elif, an_else, a_clause, a_case, a_continuing, a_break_if}
 use Rattle.wesl_form.specs.Words.{assignment_words}
-use Rattle.wesl_writing.specs.Values.{value_in, items_in, expression_in, statement_in, with_member, with_list, with_option, with_clause, body_members, call_members, bare, worded, word_value}
+use Rattle.wesl_writing.specs.Values.{expression_at, statement_at, value_in, items_in, expression_in, statement_in, with_member, with_list, with_option, with_clause, body_members, call_members, bare, worded, word_value}
 use Rattle.wesl_writing.proofs.Declarations.{attributes_with}
 use Rattle.wesl_writing.proofs.Expressions.{call-parts}
 use Rattle.wesl_writing.proofs.Lists.{placed-value}
@@ -113,94 +113,94 @@ module _ (x : Statement) where
 
 -- ---- written forms
 
-module _ (names : List Text) where
+module _ (spans : Bool) (names : List Text) where
   abbrev within_attributes : Attributes → Members → Members
-  within_attributes a ms = attributes_with names (children_of a) ms
+  within_attributes a ms = attributes_with spans names (children_of a) ms
 
   abbrev body_in : CompoundStatement → Data
-  body_in b = value_in names (node a_body) (compound_view b)
+  body_in b = value_in spans names (node a_body) (compound_view b)
 
   abbrev expression_of : Spanned Expression → Data
-  expression_of e = expression_in names (expression_view e.node)
+  expression_of e = expression_at spans names e.span (expression_view e.node)
 
-  pub as-body : (b : CompoundStatement) (ms : Members) → ms ≡ within_attributes (out-CompoundStatement b).attributes (with_list (codes "stmts") (items_in names a_statement (listed statement_tree statements (out-CompoundStatement b).statements).children) no_members) → ms ≡ body_members names (compound_view b)
-  as-body b ms h = h ∙ sym (ap (body_members names) (compound-parts b) ∙ written-body names (children_of (out-CompoundStatement b).attributes) (listed statement_tree statements (out-CompoundStatement b).statements).children)
+  pub as-body : (b : CompoundStatement) (ms : Members) → ms ≡ within_attributes (out-CompoundStatement b).attributes (with_list (codes "stmts") (items_in spans names a_statement (listed statement_tree statements (out-CompoundStatement b).statements).children) no_members) → ms ≡ body_members spans names (compound_view b)
+  as-body b ms h = h ∙ sym (ap (body_members spans names) (compound-parts b) ∙ written-body spans names (children_of (out-CompoundStatement b).attributes) (listed statement_tree statements (out-CompoundStatement b).statements).children)
 
-  pub as-body-value : (b : CompoundStatement) (ms : Members) (v : Data) → ms ≡ body_members names (compound_view b) → v ≡ bare ms → v ≡ body_in b
+  pub as-body-value : (b : CompoundStatement) (ms : Members) (v : Data) → ms ≡ body_members spans names (compound_view b) → v ≡ bare ms → v ≡ body_in b
   as-body-value b ms v inside h =
-      h ∙ ap bare (inside ∙ ap (body_members names) (compound-parts b)) ∙ sym (ap (value_in names (node a_body)) (compound-parts b) ∙ written-body-value names (children_of (out-CompoundStatement b).attributes) (listed statement_tree statements (out-CompoundStatement b).statements).children)
+      h ∙ ap bare (inside ∙ ap (body_members spans names) (compound-parts b)) ∙ sym (ap (value_in spans names (node a_body)) (compound-parts b) ∙ written-body-value spans names (children_of (out-CompoundStatement b).attributes) (listed statement_tree statements (out-CompoundStatement b).statements).children)
 
-  pub as-continuing : (x : ContinuingStatement) (v : Data) → v ≡ bare (within_attributes (out-ContinuingStatement x).attributes (with_member (codes "body") (body_in (out-ContinuingStatement x).body) (with_option (codes "break_if") names (node a_break_if) (optional break_if_view (out-ContinuingStatement x).break_if) no_members))) → v ≡ value_in names (node a_continuing) (continuing_view x)
-  as-continuing x v h = h ∙ sym (ap (value_in names (node a_continuing)) (continuing-parts x) ∙ written-continuing names (children_of (out-ContinuingStatement x).attributes) (compound_view (out-ContinuingStatement x).body) (optional break_if_view (out-ContinuingStatement x).break_if))
+  pub as-continuing : (x : ContinuingStatement) (v : Data) → v ≡ bare (within_attributes (out-ContinuingStatement x).attributes (with_member (codes "body") (body_in (out-ContinuingStatement x).body) (with_option (codes "break_if") spans names (node a_break_if) (optional break_if_view (out-ContinuingStatement x).break_if) no_members))) → v ≡ value_in spans names (node a_continuing) (continuing_view x)
+  as-continuing x v h = h ∙ sym (ap (value_in spans names (node a_continuing)) (continuing-parts x) ∙ written-continuing spans names (children_of (out-ContinuingStatement x).attributes) (compound_view (out-ContinuingStatement x).body) (optional break_if_view (out-ContinuingStatement x).break_if))
 
-  pub as-else : (x : ElseClause) (v : Data) → v ≡ bare (within_attributes (out-ElseClause x).attributes (with_member (codes "body") (body_in (out-ElseClause x).body) no_members)) → v ≡ value_in names (node an_else) (else_view x)
-  as-else x v h = h ∙ sym (ap (value_in names (node an_else)) (else-parts x) ∙ written-else names (children_of (out-ElseClause x).attributes) (compound_view (out-ElseClause x).body))
+  pub as-else : (x : ElseClause) (v : Data) → v ≡ bare (within_attributes (out-ElseClause x).attributes (with_member (codes "body") (body_in (out-ElseClause x).body) no_members)) → v ≡ value_in spans names (node an_else) (else_view x)
+  as-else x v h = h ∙ sym (ap (value_in spans names (node an_else)) (else-parts x) ∙ written-else spans names (children_of (out-ElseClause x).attributes) (compound_view (out-ElseClause x).body))
 
-  pub as-elif : (x : ElseIfClause) (v : Data) → v ≡ bare (within_attributes (out-ElseIfClause x).attributes (with_member (codes "cond") (expression_of (out-ElseIfClause x).expression) (with_member (codes "body") (body_in (out-ElseIfClause x).body) no_members))) → v ≡ value_in names (node an_elif) (else_if_view x)
-  as-elif x v h = h ∙ sym (ap (value_in names (node an_elif)) (elif-parts x) ∙ written-elif names (children_of (out-ElseIfClause x).attributes) (out-ElseIfClause x).expression (compound_view (out-ElseIfClause x).body))
+  pub as-elif : (x : ElseIfClause) (v : Data) → v ≡ bare (within_attributes (out-ElseIfClause x).attributes (with_member (codes "cond") (expression_of (out-ElseIfClause x).expression) (with_member (codes "body") (body_in (out-ElseIfClause x).body) no_members))) → v ≡ value_in spans names (node an_elif) (else_if_view x)
+  as-elif x v h = h ∙ sym (ap (value_in spans names (node an_elif)) (elif-parts x) ∙ written-elif spans names (children_of (out-ElseIfClause x).attributes) (out-ElseIfClause x).expression (compound_view (out-ElseIfClause x).body))
 
-  pub as-if-clause : (x : IfClause) (ms new : Members) → new ≡ with_member (codes "cond") (expression_of (out-IfClause x).expression) (with_member (codes "body") (body_in (out-IfClause x).body) ms) → new ≡ with_clause names (if_view x) ms
-  as-if-clause x ms new h = h ∙ sym (ap (λ t. with_clause names t ms) (if-parts x) ∙ written-clause names (out-IfClause x).expression (compound_view (out-IfClause x).body) ms)
+  pub as-if-clause : (x : IfClause) (ms new : Members) → new ≡ with_member (codes "cond") (expression_of (out-IfClause x).expression) (with_member (codes "body") (body_in (out-IfClause x).body) ms) → new ≡ with_clause spans names (if_view x) ms
+  as-if-clause x ms new h = h ∙ sym (ap (λ t. with_clause spans names t ms) (if-parts x) ∙ written-clause spans names (out-IfClause x).expression (compound_view (out-IfClause x).body) ms)
 
-  pub as-clause : (x : SwitchClause) (v : Data) → v ≡ bare (within_attributes (out-SwitchClause x).attributes (with_list (codes "cases") (items_in names a_case (listed selector_view list (out-SwitchClause x).case_selectors).children) (with_member (codes "body") (body_in (out-SwitchClause x).body) no_members))) → v ≡ value_in names (node a_clause) (clause_view x)
-  as-clause x v h = h ∙ sym (ap (value_in names (node a_clause)) (clause-parts x) ∙ written-switch-clause names (children_of (out-SwitchClause x).attributes) (listed selector_view list (out-SwitchClause x).case_selectors).children (compound_view (out-SwitchClause x).body))
+  pub as-clause : (x : SwitchClause) (v : Data) → v ≡ bare (within_attributes (out-SwitchClause x).attributes (with_list (codes "cases") (items_in spans names a_case (listed selector_view list (out-SwitchClause x).case_selectors).children) (with_member (codes "body") (body_in (out-SwitchClause x).body) no_members))) → v ≡ value_in spans names (node a_clause) (clause_view x)
+  as-clause x v h = h ∙ sym (ap (value_in spans names (node a_clause)) (clause-parts x) ∙ written-switch-clause spans names (children_of (out-SwitchClause x).attributes) (listed selector_view list (out-SwitchClause x).case_selectors).children (compound_view (out-SwitchClause x).body))
 
   module _ (x : Statement) (v : Data) where
     abbrev Written : Type 0
-    Written = v ≡ statement_in names (statement_view x)
+    Written = v ≡ statement_in spans names (statement_view x)
 
-    by-view : (t : Tree) (d : Data) → statement_view x ≡ t → statement_in names t ≡ d → v ≡ d → Written
-    by-view t d shown is h = h ∙ sym (ap (λ u. statement_in names u) shown ∙ is)
+    by-view : (t : Tree) (d : Data) → statement_view x ≡ t → statement_in spans names t ≡ d → v ≡ d → Written
+    by-view t d shown is h = h ∙ sym (ap (λ u. statement_in spans names u) shown ∙ is)
 
-    pub as-block : (b : CompoundStatement) (ms : Members) → x ≡ made.Compound b → ms ≡ body_members names (compound_view b) → v ≡ worded (codes "block") ms → Written
+    pub as-block : (b : CompoundStatement) (ms : Members) → x ≡ made.Compound b → ms ≡ body_members spans names (compound_view b) → v ≡ worded (codes "block") ms → Written
     as-block b ms is inside h =
-        by-view _ _ (view-block x b is ∙ ap (λ t. branch compound_statement (t ∷ [])) (compound-parts b)) (written-block names (children_of (out-CompoundStatement b).attributes) (listed statement_tree statements (out-CompoundStatement b).statements).children)
-        (h ∙ ap (worded (codes "block")) (inside ∙ ap (body_members names) (compound-parts b)))
+        by-view _ _ (view-block x b is ∙ ap (λ t. branch compound_statement (t ∷ [])) (compound-parts b)) (written-block spans names (children_of (out-CompoundStatement b).attributes) (listed statement_tree statements (out-CompoundStatement b).statements).children)
+        (h ∙ ap (worded (codes "block")) (inside ∙ ap (body_members spans names) (compound-parts b)))
 
     pub as-assignment : (a : Attributes) (o : AssignmentOperator) (l r : Spanned Expression) → x ≡ stated.Assignment a o l r → v ≡ worded (codes "assign") (with_member (codes "op") (word_value assignment_words (assignment o)) (within_attributes a (with_member (codes "lhs") (expression_of l) (with_member (codes "rhs") (expression_of r) no_members)))) → Written
-    as-assignment a o l r is h = by-view _ _ (view-assignment x a o l r is) (written-assignment names (children_of a) o l r) h
+    as-assignment a o l r is h = by-view _ _ (view-assignment x a o l r is) (written-assignment spans names (children_of a) o l r) h
 
-    pub as-increment : (a : Attributes) (e : Spanned Expression) → x ≡ stated.Increment a e → v ≡ worded (codes "inc") (stepped names (children_of a) e) → Written
-    as-increment a e is h = by-view _ _ (view-increment x a e is) (written-increment names (children_of a) e) h
+    pub as-increment : (a : Attributes) (e : Spanned Expression) → x ≡ stated.Increment a e → v ≡ worded (codes "inc") (stepped spans names (children_of a) e) → Written
+    as-increment a e is h = by-view _ _ (view-increment x a e is) (written-increment spans names (children_of a) e) h
 
-    pub as-decrement : (a : Attributes) (e : Spanned Expression) → x ≡ stated.Decrement a e → v ≡ worded (codes "dec") (stepped names (children_of a) e) → Written
-    as-decrement a e is h = by-view _ _ (view-decrement x a e is) (written-decrement names (children_of a) e) h
+    pub as-decrement : (a : Attributes) (e : Spanned Expression) → x ≡ stated.Decrement a e → v ≡ worded (codes "dec") (stepped spans names (children_of a) e) → Written
+    as-decrement a e is h = by-view _ _ (view-decrement x a e is) (written-decrement spans names (children_of a) e) h
 
-    pub as-if : (a : Attributes) (i : IfClause) (es : Vec ElseIfClause Global) (e : Option ElseClause) → x ≡ made.If a i es e → v ≡ worded (codes "if") (within_attributes a (with_clause names (if_view i) (with_list (codes "elifs") (items_in names an_elif (listed else_if_view list es).children) (with_option (codes "else") names (node an_else) (optional else_view e) no_members)))) → Written
+    pub as-if : (a : Attributes) (i : IfClause) (es : Vec ElseIfClause Global) (e : Option ElseClause) → x ≡ made.If a i es e → v ≡ worded (codes "if") (within_attributes a (with_clause spans names (if_view i) (with_list (codes "elifs") (items_in spans names an_elif (listed else_if_view list es).children) (with_option (codes "else") spans names (node an_else) (optional else_view e) no_members)))) → Written
     as-if a i es e is h =
         let c = expression_tree (out-IfClause i).expression in
         let b = compound_view (out-IfClause i).body in
-        by-view _ _ (view-if x a i es e is ∙ ap (λ t. branch if_statement (attributes_tree a ∷ t ∷ listed else_if_view list es ∷ optional else_view e ∷ [])) (if-parts i)) (written-if names (children_of a) c b (listed else_if_view list es).children (optional else_view e))
-        (h ∙ ap (λ t. worded (codes "if") (within_attributes a (with_clause names t (with_list (codes "elifs") (items_in names an_elif (listed else_if_view list es).children) (with_option (codes "else") names (node an_else) (optional else_view e) no_members))))) (if-parts i))
+        by-view _ _ (view-if x a i es e is ∙ ap (λ t. branch if_statement (attributes_tree a ∷ t ∷ listed else_if_view list es ∷ optional else_view e ∷ [])) (if-parts i)) (written-if spans names (children_of a) c b (listed else_if_view list es).children (optional else_view e))
+        (h ∙ ap (λ t. worded (codes "if") (within_attributes a (with_clause spans names t (with_list (codes "elifs") (items_in spans names an_elif (listed else_if_view list es).children) (with_option (codes "else") spans names (node an_else) (optional else_view e) no_members))))) (if-parts i))
 
-    pub as-switch : (a : Attributes) (e : Spanned Expression) (b : Attributes) (cs : Vec SwitchClause Global) → x ≡ made.Switch a e b cs → v ≡ worded (codes "switch") (within_attributes a (with_member (codes "expr") (expression_of e) (with_list (codes "body_attrs") (items_in names an_attribute (children_of b)) (with_list (codes "clauses") (items_in names a_clause (listed clause_view clauses cs).children) no_members)))) → Written
-    as-switch a e b cs is h = by-view _ _ (view-switch x a e b cs is) (written-switch names (children_of a) e (children_of b) (listed clause_view clauses cs).children) h
+    pub as-switch : (a : Attributes) (e : Spanned Expression) (b : Attributes) (cs : Vec SwitchClause Global) → x ≡ made.Switch a e b cs → v ≡ worded (codes "switch") (within_attributes a (with_member (codes "expr") (expression_of e) (with_list (codes "body_attrs") (items_in spans names an_attribute (children_of b)) (with_list (codes "clauses") (items_in spans names a_clause (listed clause_view clauses cs).children) no_members)))) → Written
+    as-switch a e b cs is h = by-view _ _ (view-switch x a e b cs is) (written-switch spans names (children_of a) e (children_of b) (listed clause_view clauses cs).children) h
 
-    pub as-loop : (a : Attributes) (b : CompoundStatement) (o : Option ContinuingStatement) → x ≡ made.Loop a b o → v ≡ worded (codes "loop") (within_attributes a (with_member (codes "body") (body_in b) (with_option (codes "continuing") names (node a_continuing) (optional continuing_view o) no_members))) → Written
-    as-loop a b o is h = by-view _ _ (view-loop x a b o is) (written-loop names (children_of a) (compound_view b) (optional continuing_view o)) h
+    pub as-loop : (a : Attributes) (b : CompoundStatement) (o : Option ContinuingStatement) → x ≡ made.Loop a b o → v ≡ worded (codes "loop") (within_attributes a (with_member (codes "body") (body_in b) (with_option (codes "continuing") spans names (node a_continuing) (optional continuing_view o) no_members))) → Written
+    as-loop a b o is h = by-view _ _ (view-loop x a b o is) (written-loop spans names (children_of a) (compound_view b) (optional continuing_view o)) h
 
-    pub as-for : (a : Attributes) (i : Option (Box (Spanned Statement))) (e : Option (Spanned Expression)) (u : Option (Box (Spanned Statement))) (b : CompoundStatement) → x ≡ made.For a i e u b → v ≡ worded (codes "for") (within_attributes a (with_option (codes "init") names (node a_statement) (optional (λ s. statement_tree (box_value s)) i) (with_option (codes "cond") names (node an_expression) (optional expression_tree e) (with_option (codes "update") names (node a_statement) (optional (λ s. statement_tree (box_value s)) u) (with_member (codes "body") (body_in b) no_members))))) → Written
-    as-for a i e u b is h = by-view _ _ (view-for x a i e u b is) (written-for names (children_of a) (optional (λ s. statement_tree (box_value s)) i) (optional expression_tree e) (optional (λ s. statement_tree (box_value s)) u) (compound_view b)) h
+    pub as-for : (a : Attributes) (i : Option (Box (Spanned Statement))) (e : Option (Spanned Expression)) (u : Option (Box (Spanned Statement))) (b : CompoundStatement) → x ≡ made.For a i e u b → v ≡ worded (codes "for") (within_attributes a (with_option (codes "init") spans names (node a_statement) (optional (λ s. statement_tree (box_value s)) i) (with_option (codes "cond") spans names (node an_expression) (optional expression_tree e) (with_option (codes "update") spans names (node a_statement) (optional (λ s. statement_tree (box_value s)) u) (with_member (codes "body") (body_in b) no_members))))) → Written
+    as-for a i e u b is h = by-view _ _ (view-for x a i e u b is) (written-for spans names (children_of a) (optional (λ s. statement_tree (box_value s)) i) (optional expression_tree e) (optional (λ s. statement_tree (box_value s)) u) (compound_view b)) h
 
     pub as-while : (a : Attributes) (e : Spanned Expression) (b : CompoundStatement) → x ≡ made.While a e b → v ≡ worded (codes "while") (within_attributes a (with_member (codes "cond") (expression_of e) (with_member (codes "body") (body_in b) no_members))) → Written
-    as-while a e b is h = by-view _ _ (view-while x a e b is) (written-while names (children_of a) e (compound_view b)) h
+    as-while a e b is h = by-view _ _ (view-while x a e b is) (written-while spans names (children_of a) e (compound_view b)) h
 
     pub as-break : (a : Attributes) → x ≡ stated.Break a → v ≡ worded (codes "break") (within_attributes a no_members) → Written
-    as-break a is h = by-view _ _ (view-break x a is) (written-break names (children_of a)) h
+    as-break a is h = by-view _ _ (view-break x a is) (written-break spans names (children_of a)) h
 
     pub as-continue : (a : Attributes) → x ≡ stated.Continue a → v ≡ worded (codes "continue") (within_attributes a no_members) → Written
-    as-continue a is h = by-view _ _ (view-continue x a is) (written-continue names (children_of a)) h
+    as-continue a is h = by-view _ _ (view-continue x a is) (written-continue spans names (children_of a)) h
 
     pub as-discard : (a : Attributes) → x ≡ stated.Discard a → v ≡ worded (codes "discard") (within_attributes a no_members) → Written
-    as-discard a is h = by-view _ _ (view-discard x a is) (written-discard names (children_of a)) h
+    as-discard a is h = by-view _ _ (view-discard x a is) (written-discard spans names (children_of a)) h
 
-    pub as-return : (a : Attributes) (e : Option (Spanned Expression)) → x ≡ stated.Return a e → v ≡ worded (codes "return") (within_attributes a (with_option (codes "expr") names (node an_expression) (optional expression_tree e) no_members)) → Written
-    as-return a e is h = by-view _ _ (view-return x a e is) (written-return names (children_of a) (optional expression_tree e)) h
+    pub as-return : (a : Attributes) (e : Option (Spanned Expression)) → x ≡ stated.Return a e → v ≡ worded (codes "return") (within_attributes a (with_option (codes "expr") spans names (node an_expression) (optional expression_tree e) no_members)) → Written
+    as-return a e is h = by-view _ _ (view-return x a e is) (written-return spans names (children_of a) (optional expression_tree e)) h
 
-    pub as-call : (a : Attributes) (c : FunctionCall) → x ≡ stated.FunctionCall a c → v ≡ worded (codes "call") (within_attributes a (with_member (codes "call") (bare (call_members names (call_view c))) no_members)) → Written
+    pub as-call : (a : Attributes) (c : FunctionCall) → x ≡ stated.FunctionCall a c → v ≡ worded (codes "call") (within_attributes a (with_member (codes "call") (bare (call_members spans names (call_view c))) no_members)) → Written
     as-call a c is h =
-        by-view _ _ (view-call x a c is ∙ ap (λ t. branch call_statement (attributes_tree a ∷ t ∷ [])) (call-parts c)) (written-call-statement names (children_of a) (type_view (out-FunctionCall c).ty) (listed expression_tree list (out-FunctionCall c).arguments))
-        (h ∙ ap (λ t. worded (codes "call") (within_attributes a (with_member (codes "call") (bare (call_members names t)) no_members))) (call-parts c))
+        by-view _ _ (view-call x a c is ∙ ap (λ t. branch call_statement (attributes_tree a ∷ t ∷ [])) (call-parts c)) (written-call-statement spans names (children_of a) (type_view (out-FunctionCall c).ty) (listed expression_tree list (out-FunctionCall c).arguments))
+        (h ∙ ap (λ t. worded (codes "call") (within_attributes a (with_member (codes "call") (bare (call_members spans names t)) no_members))) (call-parts c))
 
-  pub boxed-statement : (s : Box (Spanned Statement)) (d : Data) → d ≡ statement_in names (statement_view (box_value s).node) → d ≡ value_in names (node a_statement) (statement_tree (box_value s))
-  boxed-statement s d h = h ∙ sym (placed-value names a_statement statement_view statement_node (box_value s))
+  pub boxed-statement : (s : Box (Spanned Statement)) (d : Data) → d ≡ statement_at spans names (box_value s).span (statement_view (box_value s).node) → d ≡ value_in spans names (node a_statement) (statement_tree (box_value s))
+  boxed-statement s d h = h ∙ sym (placed-value spans names a_statement statement_view statement_node (box_value s))

@@ -1,5 +1,5 @@
 -- Lists that are written, item by item.
-use Rattle.std.proofs.Common.{◌≡◌, ℕ, ◌+◌, ◌<◌, ◌≤◌, List, [], ◌∷◌, ◌++◌, length, get_or, map, take, String, Vec, Global, string_bytes, Result, refl, sym, ap, ◌∙◌, arith, rules}
+use Rattle.std.proofs.Common.{◌≡◌, Bool, ℕ, ◌+◌, ◌<◌, ◌≤◌, List, [], ◌∷◌, ◌++◌, length, get_or, map, take, String, Vec, Global, string_bytes, Result, refl, sym, ap, ◌∙◌, arith, rules}
 use Rattle.std.specs.Prelude.{IfOk}
 use Rattle.std.proofs.lemmas.Result.{IfOk-weaker}
 use Rattle.std.proofs.lemmas.List.{take_more, take_all}
@@ -9,19 +9,20 @@ use Rattle.wesl_piece.specs.View.{items_view, piece_view}
 use Rattle.wesl_piece.specs.declared.piece.Piece.{Piece, the_lemmas}
 use Rattle.wesl_piece.specs.declared.piece.Piece as pieces
 use Rattle.wesl_names.specs.Path.{Text}
-use Rattle.wesl_syntax.specs.Tree.{Tree, forest_of, Kind, respell}
+use Rattle.wesl_syntax.specs.Tree.{Tree, forest_of, Kind}
+use Rattle.wesl_syntax.specs.Shown.{shown}
 use Rattle.wesl_syntax.specs.Unit.{name_in}
 use Rattle.wesl_syntax.specs.View.{placed}
 use Rattle.wesl_syntax.specs.declared.span.Spanned.{Spanned}
 use Rattle.wesl_form.specs.Schema.{Name, node}
 use Rattle.wesl_form.specs.Writing.{written, texts_value}
-use Rattle.wesl_writing.specs.Values.{value_in, placed_in, items_in, items_then, with_list, with_member}
+use Rattle.wesl_writing.specs.Values.{placed_at, value_in, placed_in, items_in, items_then, with_list, with_member}
 
 pub with_none : (k : Text) (vs : List Piece) (ms : Members) → vs ≡ [] → with_list k (items_view vs) ms ≡ ms
 unfolding with_list
 with_none k vs ms is = rw is refl
 
-view-list : (v : Vec Piece Global) → piece_view (pieces.List v) ≡ array (items_view v.items)
+pub view-list : (v : Vec Piece Global) → piece_view (pieces.List v) ≡ array (items_view v.items)
 view-list v = search (rules, the_lemmas)
 
 pub with_some : (k : Text) (v : Vec Piece Global) (ms : Members) → 0 < length v.items → with_list k (items_view v.items) ms ≡ with_member k (piece_view (pieces.List v)) ms
@@ -69,37 +70,37 @@ module _ {E : Type 0} (xs : List (String Global)) where
   pub texts-whole : (ys : List (String Global)) (i : ℕ) (list : Result (Vec Piece Global) E) → xs ≡ ys → length xs ≤ i → AreTexts i list → IfOk list (λ vs. items_view vs.items ≡ texts_value (map string_bytes ys))
   texts-whole ys i list same all h = IfOk-weaker list _ _ (λ vs is. is ∙ ap (λ zs. texts_value (map string_bytes zs)) (take_all i xs all ∙ same)) h
 
-module _ (names : List Text) (m : Name) where
-  pub items_in-then : (ts : List Tree) (t : Tree) → items_in names m (forest_of (ts ++ t ∷ [])) ≡ items_then (items_in names m (forest_of ts)) (value_in names (node m) t)
+module _ (spans : Bool) (names : List Text) (m : Name) where
+  pub items_in-then : (ts : List Tree) (t : Tree) → items_in spans names m (forest_of (ts ++ t ∷ [])) ≡ items_then (items_in spans names m (forest_of ts)) (value_in spans names (node m) t)
   unfolding items_in value_in
   items_in-then [] t = refl
-  items_in-then (u ∷ ts) t = ap (item (written (node m) (respell (name_in names) u))) (items_in-then ts t)
+  items_in-then (u ∷ ts) t = ap (item (written spans (node m) (shown spans (name_in names) u))) (items_in-then ts t)
 
-  no-items : (vs : List Piece) → vs ≡ [] → items_view vs ≡ items_in names m (forest_of [])
+  no-items : (vs : List Piece) → vs ≡ [] → items_view vs ≡ items_in spans names m (forest_of [])
   unfolding items_in
   no-items vs is = ap items_view is
 
   -- the values of nodes that are written so far
   module _ {A E : Type 0} (f : A → Tree) (xs : List A) where
     abbrev pub AreItems : ℕ → Result (Vec Piece Global) E → Type 0
-    AreItems i list = IfOk list (λ vs. items_view vs.items ≡ items_in names m (forest_of (map f (take i xs))))
+    AreItems i list = IfOk list (λ vs. items_view vs.items ≡ items_in spans names m (forest_of (map f (take i xs))))
 
     pub items-none : (list : Result (Vec Piece Global) E) → IfOk list (λ vs. vs.items ≡ []) → AreItems 0 list
     items-none list empty = IfOk-weaker list _ _ (λ vs is. no-items vs.items is) empty
 
     -- a turn of the loop over nodes
-    pub items-turn : (i : ℕ) (x : A) (d : Data) (more : Result (Vec Piece Global) E) → i < length xs → x ≡ get_or xs i x → d ≡ value_in names (node m) (f x) → IfOk more (λ vs. items_view vs.items ≡ items_then (items_in names m (forest_of (map f (take i xs)))) d) → AreItems (i + 1) more
+    pub items-turn : (i : ℕ) (x : A) (d : Data) (more : Result (Vec Piece Global) E) → i < length xs → x ≡ get_or xs i x → d ≡ value_in spans names (node m) (f x) → IfOk more (λ vs. items_view vs.items ≡ items_then (items_in spans names m (forest_of (map f (take i xs)))) d) → AreItems (i + 1) more
     items-turn i x d more within here this grown =
-        let same = ap (items_then (items_in names m (forest_of (map f (take i xs))))) this ∙ sym (items_in-then (map f (take i xs)) (f x)) ∙ ap (λ ts. items_in names m (forest_of ts)) (sym (map-then f (take i xs) x)) ∙ ap (λ ys. items_in names m (forest_of (map f ys))) (sym (take-then xs i x within here)) in
+        let same = ap (items_then (items_in spans names m (forest_of (map f (take i xs))))) this ∙ sym (items_in-then (map f (take i xs)) (f x)) ∙ ap (λ ts. items_in spans names m (forest_of ts)) (sym (map-then f (take i xs) x)) ∙ ap (λ ys. items_in spans names m (forest_of (map f ys))) (sym (take-then xs i x within here)) in
         IfOk-weaker more _ _ (λ vs is. is ∙ same) grown
 
     -- after the last turn
-    pub items-whole : (ys : List A) (i : ℕ) (list : Result (Vec Piece Global) E) → xs ≡ ys → length xs ≤ i → AreItems i list → IfOk list (λ vs. items_view vs.items ≡ items_in names m (forest_of (map f ys)))
-    items-whole ys i list same all h = IfOk-weaker list _ _ (λ vs is. is ∙ ap (λ zs. items_in names m (forest_of (map f zs))) (take_all i xs all ∙ same)) h
+    pub items-whole : (ys : List A) (i : ℕ) (list : Result (Vec Piece Global) E) → xs ≡ ys → length xs ≤ i → AreItems i list → IfOk list (λ vs. items_view vs.items ≡ items_in spans names m (forest_of (map f ys)))
+    items-whole ys i list same all h = IfOk-weaker list _ _ (λ vs is. is ∙ ap (λ zs. items_in spans names m (forest_of (map f zs))) (take_all i xs all ∙ same)) h
 
   -- a node that has a span, by the node in it
-  pub placed-value : {A : Type 0} (f : A → Tree) (k : Kind) (x : Spanned A) → value_in names (node m) (placed f k x) ≡ placed_in names m k (f x.node)
-  unfolding value_in placed_in
+  pub placed-value : {A : Type 0} (f : A → Tree) (k : Kind) (x : Spanned A) → value_in spans names (node m) (placed f k x) ≡ placed_at spans names m k x.span (f x.node)
+  unfolding value_in placed_at placed_in
   placed-value f k x = refl
 
 -- a piece of data that is sorted, made a value

@@ -1,13 +1,16 @@
 //! Objects that are written.
-ghost use Rattle.std.specs.Prelude.{◌≡◌, IfOk};
+ghost use Rattle.std.specs.Prelude.{◌≡◌, IfOk, codes};
 ghost use Rattle.serde_json.specs.Data.{Data, Items, Members, array, no_members, object, string};
-ghost use Rattle.wesl_piece.specs.View.{items_view, piece_view};
+ghost use Rattle.wesl_piece.specs.View.{items_view, members_view, piece_view};
 ghost use Rattle.wesl_names.specs.Path.{Text};
+ghost use Rattle.wesl_form.specs.Writing.{is_placed, span_value};
+ghost use Rattle.wesl_syntax.specs.Tree.{Kind};
 ghost use Rattle.wesl_syntax.specs.Unit.{name_in};
-ghost use Rattle.wesl_writing.specs.Values.{items_then, with_list, with_member, worded};
+ghost use Rattle.wesl_writing.specs.Values.{items_then, place_label, placed_data, truth_text, with_list, with_member, with_place, worded};
 
 use std::alloc::{AllocError, Global};
-use wesl_names::{Ident, Names};
+use std::mem;
+use wesl_names::{Ident, Names, Span};
 use wesl_piece::{Members, Piece};
 
 /// What is written, unless there is no memory for it.
@@ -36,6 +39,17 @@ impl<'a> Object<'a> {
         Object {
             alloc,
             members: Some(Vec::new(alloc)),
+        }
+    }
+
+    /// The object with these members.
+    #[tactic(auto, unfolding(crate::specs::Objects::Holds))]
+    fn of(alloc: Global, members: Members<'a>) -> Object<'a>
+        ensures { Holds result (members_view members.entry.items) }
+    {
+        Object {
+            alloc,
+            members: Some(members),
         }
     }
 
@@ -94,6 +108,14 @@ impl<'a> Object<'a> {
         }
     }
 
+    /// The object with a span.
+    pub(crate) fn place(self, span: Span) -> Object<'a>
+        ensures { (ms : Members) → Holds self.entry ms → Holds result (with_member (codes "span") (span_value span.start span.end) ms) }
+    {
+        let alloc = self.alloc;
+        self.value("span", span_piece(alloc, span))
+    }
+
     /// The object as a piece.
     #[tactic(auto, unfolding(crate::specs::Objects::Holds))]
     pub(crate) fn finish(self) -> Written<'a>
@@ -113,6 +135,64 @@ impl<'a> Object<'a> {
     }
 }
 
+/// Whether a span is to be written: where spans are, and where it is some place.
+pub(crate) fn is_shown(spans: bool, span: Span) -> bool
+    ensures { (k : Kind) → result ≡ is_placed spans (place_label spans k span) }
+{
+    spans && !(span.start == 0 && span.end == 0)
+}
+
+/// The piece of a node with its span, where that is to be written. A short form becomes an object, a text in it at `key`.
+pub(crate) fn with_span<'a>(
+    alloc: Global,
+    spans: bool,
+    value: Written<'a>,
+    span: Span,
+    key: &'a str,
+) -> Written<'a>
+    ensures { (k : Kind) (d : Data) → IfOk value.entry (λ v. piece_view v ≡ d) → IfOk result (λ v. piece_view v ≡ with_place spans (place_label spans k span) key.now d) }
+{
+    if is_shown(spans, span) {
+        match value {
+            Ok(piece) => placed_piece(alloc, piece, span, key),
+            Err(error) => Err(error),
+        }
+    } else {
+        value
+    }
+}
+
+// The piece as an object with a span.
+fn placed_piece<'a>(alloc: Global, piece: Piece<'a>, span: Span, key: &'a str) -> Written<'a>
+    ensures { IfOk result (λ v. piece_view v ≡ placed_data span.start span.end key.now (piece_view piece.entry)) }
+{
+    let mut piece = piece;
+    match &mut piece {
+        Piece::Object(members) => {
+            let members = mem::replace(members, Vec::new(alloc));
+            Object::of(alloc, members).place(span).finish()
+        }
+        Piece::Truth(truth) => {
+            let object = Object::new(alloc).text("k", truth_word(*truth));
+            object.place(span).finish()
+        }
+        Piece::Text(text) => Object::new(alloc).text(key, *text).place(span).finish(),
+        Piece::Owned(text) => {
+            let copy = String::from_str(alloc, text.as_str())?;
+            let object = Object::new(alloc).value(key, Ok(Piece::Owned(copy)));
+            object.place(span).finish()
+        }
+        Piece::List(_) => Ok(piece),
+        Piece::Whole(_) => Ok(piece),
+    }
+}
+
+fn truth_word(truth: bool) -> &'static str
+    ensures { result.now ≡ truth_text truth }
+{
+    if truth { "true" } else { "false" }
+}
+
 /// The name of an identifier, and the empty text of one that has none in the table.
 pub(crate) fn spelling<'a>(names: &'a Names, ident: Ident) -> &'a str
     ensures { result.now ≡ name_in names.now ident.0 }
@@ -121,6 +201,17 @@ pub(crate) fn spelling<'a>(names: &'a Names, ident: Ident) -> &'a str
         names.name(ident)
     } else {
         ""
+    }
+}
+
+// A span as a piece.
+fn span_piece<'a>(alloc: Global, span: Span) -> Written<'a>
+    ensures { IfOk result (λ v. piece_view v ≡ span_value span.start span.end) }
+{
+    let list = with_item(Vec::with_capacity(alloc, 2), Ok(Piece::Whole(span.start)));
+    match with_item(list, Ok(Piece::Whole(span.end))) {
+        Ok(list) => Ok(Piece::List(list)),
+        Err(error) => Err(error),
     }
 }
 

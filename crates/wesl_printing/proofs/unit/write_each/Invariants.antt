@@ -7,5 +7,5 @@ use Rattle.wesl_printing.proofs.unit.write_each.Given as goal
 
 abbrev pub invariant-loop-declaration : goal.invariant-loop-declaration
 invariant-loop-declaration l =
-    let all = left l.names a_declaration (placed global_view declaration_node) 0 l.declaration-items in
-    (l.out.tokens ++ left l.names a_declaration (placed global_view declaration_node) l.declaration-index l.declaration-items ≡ l.initial.out.tokens ++ all) × (l.out.before ≡ l.initial.out.before)
+    let all = left l.spans l.names a_declaration (placed global_view declaration_node) 0 l.declaration-items in
+    (l.out.tokens ++ left l.spans l.names a_declaration (placed global_view declaration_node) l.declaration-index l.declaration-items ≡ l.initial.out.tokens ++ all) × (l.out.before ≡ l.initial.out.before)

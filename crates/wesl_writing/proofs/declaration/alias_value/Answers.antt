@@ -5,4 +5,4 @@ use Rattle.wesl_writing.proofs.Declarations.{as-alias}
 use Rattle.wesl_writing.proofs.declaration.alias_value.Goals as goal
 
 pub returns : goal.returns
-returns c = IfOk-weaker c.worded.result _ _ (λ v h. as-alias c.args.names.now c.args.alias.now (piece_view v) h) (search rules)
+returns c = IfOk-weaker c.worded.result _ _ (λ v h. as-alias c.args.spans c.args.names.now c.args.alias.now (piece_view v) h) (search rules)

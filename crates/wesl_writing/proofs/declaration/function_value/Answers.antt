@@ -5,4 +5,4 @@ use Rattle.wesl_writing.proofs.Declarations.{as-function}
 use Rattle.wesl_writing.proofs.declaration.function_value.Goals as goal
 
 pub returns : goal.returns
-returns c = IfOk-weaker c.worded.result _ _ (λ v h. as-function c.args.names.now c.args.function.now (piece_view v) h) (search rules)
+returns c = IfOk-weaker c.worded.result _ _ (λ v h. as-function c.args.spans c.args.names.now c.args.function.now (piece_view v) h) (search rules)

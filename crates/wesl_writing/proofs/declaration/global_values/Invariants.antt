@@ -5,4 +5,4 @@ use Rattle.wesl_writing.proofs.Lists.{AreItems}
 use Rattle.wesl_writing.proofs.declaration.global_values.Given as goal
 
 abbrev pub invariant-loop-declaration : goal.invariant-loop-declaration
-invariant-loop-declaration l = AreItems l.names a_declaration (placed global_view declaration_node) l.declaration-items l.declaration-index l.values
+invariant-loop-declaration l = AreItems l.spans l.names a_declaration (placed global_view declaration_node) l.declaration-items l.declaration-index l.values

@@ -5,4 +5,4 @@ use Rattle.wesl_writing.proofs.Lists.{AreItems}
 use Rattle.wesl_writing.proofs.declaration.member_values.Given as goal
 
 abbrev pub invariant-loop-member : goal.invariant-loop-member
-invariant-loop-member l = AreItems l.names a_member (placed member_view member_node) l.member-items l.member-index l.values
+invariant-loop-member l = AreItems l.spans l.names a_member (placed member_view member_node) l.member-items l.member-index l.values

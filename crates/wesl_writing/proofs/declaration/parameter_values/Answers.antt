@@ -6,12 +6,12 @@ use Rattle.wesl_writing.proofs.declaration.parameter_values.Goals as goal
 
 pub loop-parameter-preserved : goal.loop-parameter-preserved
 loop-parameter-preserved c =
-    items-turn c.args.names.now a_parameter parameter_view c.deref-parameter-items.result.now c.loop-parameter.parameter-index c.parameter-item.result _ c.with_item-values.result c.loop-parameter-test.true c.parameter-item.is refl (c.with_item-values.ensures _ _ c.loop-parameter.invariant c.parameter_value.ensures)
+    items-turn c.args.spans c.args.names.now a_parameter parameter_view c.deref-parameter-items.result.now c.loop-parameter.parameter-index c.parameter-item.result _ c.with_item-values.result c.loop-parameter-test.true c.parameter-item.is refl (c.with_item-values.ensures _ _ c.loop-parameter.invariant c.parameter_value.ensures)
 
 pub returns : goal.returns
 returns c =
-    items-whole c.args.names.now a_parameter parameter_view c.deref-parameter-items.result.now c.args.parameters.now.items c.loop-parameter.parameter-index c.loop-parameter.values c.deref-parameter-items.ensures.value c.loop-parameter-test.false c.loop-parameter.invariant
+    items-whole c.args.spans c.args.names.now a_parameter parameter_view c.deref-parameter-items.result.now c.args.parameters.now.items c.loop-parameter.parameter-index c.loop-parameter.values c.deref-parameter-items.ensures.value c.loop-parameter-test.false c.loop-parameter.invariant
 
 pub loop-parameter-init : goal.loop-parameter-init
 loop-parameter-init c =
-    items-none c.args.names.now a_parameter parameter_view c.deref-parameter-items.result.now c.with_capacity-values.result c.with_capacity-values.ensures.items
+    items-none c.args.spans c.args.names.now a_parameter parameter_view c.deref-parameter-items.result.now c.with_capacity-values.result c.with_capacity-values.ensures.items

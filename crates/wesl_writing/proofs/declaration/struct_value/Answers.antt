@@ -5,4 +5,4 @@ use Rattle.wesl_writing.proofs.Declarations.{as-struct}
 use Rattle.wesl_writing.proofs.declaration.struct_value.Goals as goal
 
 pub returns : goal.returns
-returns c = IfOk-weaker c.worded.result _ _ (λ v h. as-struct c.args.names.now c.args.structure.now (piece_view v) h) (search rules)
+returns c = IfOk-weaker c.worded.result _ _ (λ v h. as-struct c.args.spans c.args.names.now c.args.structure.now (piece_view v) h) (search rules)

@@ -4,7 +4,7 @@ use Rattle.wesl_writing.proofs.Lists.{AreItems}
 use Rattle.wesl_writing.proofs.expression.+writing.Given as goal
 
 abbrev pub invariant-argument_values-loop-argument : goal.invariant-argument_values-loop-argument
-invariant-argument_values-loop-argument l = AreItems l.names a_template_argument argument_view l.argument-items l.argument-index l.values
+invariant-argument_values-loop-argument l = AreItems l.spans l.names a_template_argument argument_view l.argument-items l.argument-index l.values
 
 abbrev pub invariant-expression_values-loop-node : goal.invariant-expression_values-loop-node
-invariant-expression_values-loop-node l = AreItems l.names an_expression expression_tree l.node-items l.node-index l.values
+invariant-expression_values-loop-node l = AreItems l.spans l.names an_expression expression_tree l.node-items l.node-index l.values

@@ -6,8 +6,8 @@ use Rattle.wesl_writing.proofs.Expressions.{as-truth, as-literal}
 use Rattle.wesl_writing.proofs.expression.literal_value.Goals as goal
 
 pub returns-in-Bool : goal.returns-in-Bool
-returns-in-Bool c = search (rules, the_lemmas) ∙ as-truth c.args.names.now c.args.literal.now c.in-Bool.truth c.in-Bool.is
+returns-in-Bool c = search (rules, the_lemmas) ∙ as-truth c.args.spans c.args.names.now c.args.literal.now c.in-Bool.truth c.in-Bool.is
 
 pub returns-in-Text : goal.returns-in-Text
 returns-in-Text c =
-    IfOk-weaker c.worded.result _ _ (λ v h. as-literal c.args.names.now c.args.literal.now c.in-Text.text (piece_view v) c.in-Text.is h) (search rules)
+    IfOk-weaker c.worded.result _ _ (λ v h. as-literal c.args.spans c.args.names.now c.args.literal.now c.in-Text.text (piece_view v) c.in-Text.is h) (search rules)

@@ -7,8 +7,8 @@ use Rattle.wesl_writing.proofs.expression.plain_type_value.Goals as goal
 
 pub returns-in-None : goal.returns-in-None
 returns-in-None c =
-    IfOk-weaker c.text_value.result _ _ (λ v h. as-plain-name c.args.names.now c.args.path.now c.args.ident (piece_view v) (search rules) (h ∙ ap string c.spelling-name.ensures)) c.text_value.ensures
+    IfOk-weaker c.text_value.result _ _ (λ v h. as-plain-name c.args.spans c.args.names.now c.args.path.now c.args.ident (piece_view v) (search rules) (h ∙ ap string c.spelling-name.ensures)) c.text_value.ensures
 
 pub returns-in-Some : goal.returns-in-Some
 returns-in-Some c =
-    IfOk-weaker c.finish.result _ _ (λ v h. as-pathed-name c.args.names.now c.args.path.now c.in-Some.path c.args.ident (piece_view v) (search rules) h) (search rules)
+    IfOk-weaker c.finish.result _ _ (λ v h. as-pathed-name c.args.spans c.args.names.now c.args.path.now c.in-Some.path c.args.ident (piece_view v) (search rules) h) (search rules)

@@ -8,8 +8,8 @@ use Rattle.wesl_writing.proofs.expression.with_optional_expression.Goals as goal
 
 pub returns-in-None : goal.returns-in-None
 returns-in-None c = λ ms held.
-    holds-none c.args.names.now c.args.key.now (node an_expression) expression_tree c.args.expression.now c.args.object ms (search rules) held
+    holds-none c.args.spans c.args.names.now c.args.key.now (node an_expression) expression_tree c.args.expression.now c.args.object ms (search rules) held
 
 pub returns-in-Some : goal.returns-in-Some
 returns-in-Some c = λ ms held.
-    holds-some c.args.names.now c.args.key.now (node an_expression) expression_tree c.args.expression.now c.value.result ms c.in-Some.expression _ (search rules) (sym (placed-value c.args.names.now an_expression expression_view expression_node c.in-Some.expression)) (search rules)
+    holds-some c.args.spans c.args.names.now c.args.key.now (node an_expression) expression_tree c.args.expression.now c.value.result ms c.in-Some.expression _ (search rules) (sym (placed-value c.args.spans c.args.names.now an_expression expression_view expression_node c.in-Some.expression)) (search rules)

@@ -10,8 +10,8 @@ use Rattle.wesl_writing.proofs.expression.with_optional_path.Goals as goal
 
 pub returns-in-None : goal.returns-in-None
 returns-in-None c = λ ms held.
-    holds-none c.args.names.now (codes "path") (leaf a_path) path_tree c.args.path.now c.args.object ms (search rules) held
+    holds-none c.args.spans c.args.names.now (codes "path") (leaf a_path) path_tree c.args.path.now c.args.object ms (search rules) held
 
 pub returns-in-Some : goal.returns-in-Some
 returns-in-Some c = λ ms held.
-    holds-some c.args.names.now (codes "path") (leaf a_path) path_tree c.args.path.now c.value.result ms c.in-Some.path (string (to_text (path_view c.in-Some.path))) (search rules) (path-value c.args.names.now c.in-Some.path) (search rules)
+    holds-some c.args.spans c.args.names.now (codes "path") (leaf a_path) path_tree c.args.path.now c.value.result ms c.in-Some.path (string (to_text (path_view c.in-Some.path))) (search rules) (path-value c.args.spans c.args.names.now c.in-Some.path) (search rules)

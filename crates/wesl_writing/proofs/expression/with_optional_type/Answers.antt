@@ -6,8 +6,8 @@ use Rattle.wesl_writing.proofs.expression.with_optional_type.Goals as goal
 
 pub returns-in-None : goal.returns-in-None
 returns-in-None c = λ ms held.
-    holds-none c.args.names.now c.args.key.now (node a_type) type_view c.args.ty.now c.args.object ms (search rules) held
+    holds-none c.args.spans c.args.names.now c.args.key.now (node a_type) type_view c.args.ty.now c.args.object ms (search rules) held
 
 pub returns-in-Some : goal.returns-in-Some
 returns-in-Some c = λ ms held.
-    holds-some c.args.names.now c.args.key.now (node a_type) type_view c.args.ty.now c.value.result ms c.in-Some.ty _ (search rules) refl (search rules)
+    holds-some c.args.spans c.args.names.now c.args.key.now (node a_type) type_view c.args.ty.now c.value.result ms c.in-Some.ty _ (search rules) refl (search rules)

@@ -9,19 +9,19 @@ use Rattle.wesl_writing.proofs.import.+writing.Goals as goal
 
 pub content_value-returns-in-Collection : goal.content_value-returns-in-Collection
 content_value-returns-in-Collection t c =
-    IfOk-weaker c.finish.result _ _ (λ v h. as-collection c.args.names.now c.args.content.now c.in-Collection.entries _ (piece_view v) (search rules) refl h) (search rules)
+    IfOk-weaker c.finish.result _ _ (λ v h. as-collection c.args.spans c.args.names.now c.args.content.now c.in-Collection.entries _ (piece_view v) (search rules) refl h) (search rules)
 
 pub entry_value-returns : goal.entry_value-returns
-entry_value-returns t c = IfOk-weaker c.finish.result _ _ (λ v h. as-entry c.args.names.now c.args.entry.now (piece_view v) h) (search rules)
+entry_value-returns t c = IfOk-weaker c.finish.result _ _ (λ v h. as-entry c.args.spans c.args.names.now c.args.entry.now (piece_view v) h) (search rules)
 
 pub entry_values-loop-entry-preserved : goal.entry_values-loop-entry-preserved
 entry_values-loop-entry-preserved t c =
-    items-turn c.args.names.now an_entry entry_view c.deref-entry-items.result.now c.loop-entry.entry-index c.entry-item.result _ c.with_item-values.result c.loop-entry-test.true c.entry-item.is refl (c.with_item-values.ensures _ _ c.loop-entry.invariant c.entry_value.ensures)
+    items-turn c.args.spans c.args.names.now an_entry entry_view c.deref-entry-items.result.now c.loop-entry.entry-index c.entry-item.result _ c.with_item-values.result c.loop-entry-test.true c.entry-item.is refl (c.with_item-values.ensures _ _ c.loop-entry.invariant c.entry_value.ensures)
 
 pub entry_values-returns : goal.entry_values-returns
 entry_values-returns t c =
-    items-whole c.args.names.now an_entry entry_view c.deref-entry-items.result.now c.args.entries.now.items c.loop-entry.entry-index c.loop-entry.values c.deref-entry-items.ensures.value c.loop-entry-test.false c.loop-entry.invariant
+    items-whole c.args.spans c.args.names.now an_entry entry_view c.deref-entry-items.result.now c.args.entries.now.items c.loop-entry.entry-index c.loop-entry.values c.deref-entry-items.ensures.value c.loop-entry-test.false c.loop-entry.invariant
 
 pub entry_values-loop-entry-init : goal.entry_values-loop-entry-init
 entry_values-loop-entry-init t c =
-    items-none c.args.names.now an_entry entry_view c.deref-entry-items.result.now c.with_capacity-values.result c.with_capacity-values.ensures.items
+    items-none c.args.spans c.args.names.now an_entry entry_view c.deref-entry-items.result.now c.with_capacity-values.result c.with_capacity-values.ensures.items

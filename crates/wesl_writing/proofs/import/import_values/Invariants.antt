@@ -5,4 +5,4 @@ use Rattle.wesl_writing.proofs.Lists.{AreItems}
 use Rattle.wesl_writing.proofs.import.import_values.Given as goal
 
 abbrev pub invariant-loop-import : goal.invariant-loop-import
-invariant-loop-import l = AreItems l.names an_import (placed import_view import_node) l.import-items l.import-index l.values
+invariant-loop-import l = AreItems l.spans l.names an_import (placed import_view import_node) l.import-items l.import-index l.values

@@ -5,7 +5,7 @@ use Rattle.wesl_writing.proofs.Imports.{as-item, as-renamed}
 use Rattle.wesl_writing.proofs.import.item_value.Goals as goal
 
 pub returns-in-None : goal.returns-in-None
-returns-in-None c = IfOk-weaker c.finish.result _ _ (λ v h. as-item c.args.names.now c.args.item.now (piece_view v) (search rules) h) (search rules)
+returns-in-None c = IfOk-weaker c.finish.result _ _ (λ v h. as-item c.args.spans c.args.names.now c.args.item.now (piece_view v) (search rules) h) (search rules)
 
 pub returns-in-Some : goal.returns-in-Some
-returns-in-Some c = IfOk-weaker c.finish-in-Some.result _ _ (λ v h. as-renamed c.args.names.now c.args.item.now c.in-Some.rename (piece_view v) (search rules) h) (search rules)
+returns-in-Some c = IfOk-weaker c.finish-in-Some.result _ _ (λ v h. as-renamed c.args.spans c.args.names.now c.args.item.now c.in-Some.rename (piece_view v) (search rules) h) (search rules)

@@ -5,4 +5,4 @@ use Rattle.wesl_writing.proofs.Imports.{as-break-if}
 use Rattle.wesl_writing.proofs.statement.break_if_value.Goals as goal
 
 pub returns : goal.returns
-returns c = IfOk-weaker c.finish.result _ _ (λ v h. as-break-if c.args.names.now c.args.break_if.now (piece_view v) h) (search rules)
+returns c = IfOk-weaker c.finish.result _ _ (λ v h. as-break-if c.args.spans c.args.names.now c.args.break_if.now (piece_view v) h) (search rules)

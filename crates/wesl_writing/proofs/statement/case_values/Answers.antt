@@ -6,12 +6,12 @@ use Rattle.wesl_writing.proofs.statement.case_values.Goals as goal
 
 pub loop-selector-preserved : goal.loop-selector-preserved
 loop-selector-preserved c =
-    items-turn c.args.names.now a_case selector_view c.deref-selector-items.result.now c.loop-selector.selector-index c.selector-item.result _ c.with_item-values.result c.loop-selector-test.true c.selector-item.is refl (c.with_item-values.ensures _ _ c.loop-selector.invariant c.case_value.ensures)
+    items-turn c.args.spans c.args.names.now a_case selector_view c.deref-selector-items.result.now c.loop-selector.selector-index c.selector-item.result _ c.with_item-values.result c.loop-selector-test.true c.selector-item.is refl (c.with_item-values.ensures _ _ c.loop-selector.invariant c.case_value.ensures)
 
 pub returns : goal.returns
 returns c =
-    items-whole c.args.names.now a_case selector_view c.deref-selector-items.result.now c.args.selectors.now.items c.loop-selector.selector-index c.loop-selector.values c.deref-selector-items.ensures.value c.loop-selector-test.false c.loop-selector.invariant
+    items-whole c.args.spans c.args.names.now a_case selector_view c.deref-selector-items.result.now c.args.selectors.now.items c.loop-selector.selector-index c.loop-selector.values c.deref-selector-items.ensures.value c.loop-selector-test.false c.loop-selector.invariant
 
 pub loop-selector-init : goal.loop-selector-init
 loop-selector-init c =
-    items-none c.args.names.now a_case selector_view c.deref-selector-items.result.now c.with_capacity-values.result c.with_capacity-values.ensures.items
+    items-none c.args.spans c.args.names.now a_case selector_view c.deref-selector-items.result.now c.with_capacity-values.result c.with_capacity-values.ensures.items

@@ -16,5 +16,6 @@ returns c =
     let g = (declarations_tree c.global_declarations.result.now).children in
     let declared = c.list.ensures _ _ c.new.ensures c.global_values-declarations.ensures in
     let directed = c.list-2.ensures _ _ declared c.directive_values-directives.ensures in
-    let imported = c.list-3.ensures _ _ directed c.import_values-imports.ensures in
-    IfOk-weaker c.finish.result _ _ (λ v h. as-unit (unit_view c.args.unit.now) i d g (items_in names an_import i) (items_in names a_directive d) (items_in names a_declaration g) (piece_view v) (search rules) (search rules) (search rules) (search rules) (search rules) (search rules) h) (c.finish.ensures _ imported)
+    let imported = c.list-object.ensures _ _ directed c.import_values-imports.ensures in
+    let formed = c.with_form.ensures _ imported in
+    IfOk-weaker c.finish.result _ _ (λ v h. as-unit c.args.spans (unit_view c.args.unit.now) i d g (items_in c.args.spans names an_import i) (items_in c.args.spans names a_directive d) (items_in c.args.spans names a_declaration g) (piece_view v) (search rules) (search rules) (search rules) (search rules) (search rules) (search rules) h) (c.finish.ensures _ formed)
