@@ -1,5 +1,5 @@
 -- What is left to show where a list is not there, and where a function of the cycle calls another.
-use Rattle.std.proofs.Common.{◌≡◌, ℕ, ◌+◌, ◌*◌, ◌<◌, List, [], Vec, Global, map, sym, subst, refl, arith}
+use Rattle.std.proofs.Common.{Bool, ◌≡◌, ℕ, ◌+◌, ◌*◌, ◌<◌, List, [], Vec, Global, map, sym, subst, refl, arith}
 use Rattle.std.specs.Prelude.{ltb, true, None}
 use borrow.Author.Tests.{ltb-true}
 use Rattle.serde_json.specs.Data.{Data}
@@ -23,10 +23,12 @@ to_next n k j t is low = omega (arith, ltb-true k j low)
 pub to_member : (a b k j t : ℕ) → 10 * b + j ≡ t → a < b → ltb k 10 ≡ true → 10 * a + k < t
 to_member a b k j t is below low = omega (arith, ltb-true k 10 low)
 
--- a list that is not there, and one that is no list
-module _ {A : Type 0} (f : A → Tree) (kd : Kind) (m : Name) (d : Data) (a : List Text) where
-  pub none_listed : (k : Text) (v : Vec A Global) → get k d ≡ None → v.items ≡ [] → ReadsMany k (list_of kd m) d (listed f kd v) a a
-  none_listed k v none empty = subst (λ l. ReadsMany k (list_of kd m) d (branch kd (map f l)) a a) (sym empty) (many-absent k kd m d a none)
+module _ {spans : Bool} where
+  -- a list that is not there, and one that is no list
+  module _ {A : Type 0} (f : A → Tree) (kd : Kind) (m : Name) (d : Data) (a : List Text) where
+    pub none_listed : (k : Text) (v : Vec A Global) → get k d ≡ None → v.items ≡ [] → ReadsMany spans k (list_of kd m) d (listed f kd v) a a
+    none_listed k v none empty = subst (λ l. ReadsMany spans k (list_of kd m) d (branch kd (map f l)) a a) (sym empty) (many-absent k kd m d a none)
 
-pub no_list : (kd : Kind) (m : Name) (d : Data) (e : error.Error) → as_array d ≡ None → IsAtRoot e → Locates (list_of kd m) d e
-no_list kd m d e none is = root (IsBroken whole_form (list_of kd m) d) e is ([], refl, none)
+module _ (spans : Bool) where
+  pub no_list : (kd : Kind) (m : Name) (d : Data) (e : error.Error) → as_array d ≡ None → IsAtRoot e → Locates spans (list_of kd m) d e
+  no_list kd m d e none is = root (IsBroken (whole_form spans) (list_of kd m) d) e is ([], refl, none)

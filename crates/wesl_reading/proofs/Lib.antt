@@ -5,14 +5,17 @@ pub mod Spellings
 pub mod Lists
 pub mod Members
 pub mod Steps
+pub mod Worded
 pub mod Exits
 pub mod Wholes
 pub mod Within
 pub mod ReadLists
 pub mod Expressions
+pub mod Wraps
 pub mod Arguments
 pub mod Trees
 pub mod Wheres
 pub mod NameLists
 pub mod Attributes
 pub mod Keyed
+pub mod Pairs

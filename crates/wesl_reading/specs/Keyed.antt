@@ -1,5 +1,5 @@
 -- What an error tells of an object whose keys are judged before a member of it is read.
-use Rattle.std.specs.Prelude.{◌≡◌, ◌⊎◌, List, true, false}
+use Rattle.std.specs.Prelude.{◌≡◌, ◌⊎◌, List, Bool, true, false}
 use Rattle.serde_json.specs.Data.{Data}
 use Rattle.wesl_names.specs.Path.{Text}
 use Rattle.wesl_names.specs.declared.errors.Error as error
@@ -8,5 +8,5 @@ use Rattle.wesl_form.specs.Keys.{has_only}
 use Rattle.wesl_reading.specs.Faults.{IsAtRoot, LocatesInside}
 
 -- the object has a key that is none of these, or it has none and the member k has the form somewhere broken
-abbrev pub LocatesKeyed : List Text → Text → Form → Data → error.Error → Type 0
-LocatesKeyed ks k f d e = (has_only ks d ≡ false) × IsAtRoot e ⊎ (has_only ks d ≡ true) × LocatesInside k f d e
+abbrev pub LocatesKeyed : Bool → List Text → Text → Form → Data → error.Error → Type 0
+LocatesKeyed spans ks k f d e = (has_only ks d ≡ false) × IsAtRoot e ⊎ (has_only ks d ≡ true) × LocatesInside spans k f d e

@@ -1,24 +1,27 @@
 //! Reading expressions and types.
 ghost use Rattle.std.specs.Box.{box_value};
-ghost use Rattle.std.specs.Prelude.{◌≡◌, ◌∷◌, List, [], ℕ, Some, None, Ok, Err, IfOk, IfErr, codes, is_some, true};
-ghost use Rattle.serde_json.specs.Find.{as_object, get};
+ghost use Rattle.std.specs.Prelude.{◌≡◌, Bool, ◌∷◌, List, [], ℕ, Some, None, Ok, Err, IfOk, IfErr, codes, is_some, true};
+ghost use Rattle.serde_json.specs.Find.{as_object};
 ghost use Rattle.wesl_form.specs.View.{borrowed_view};
 ghost use Rattle.wesl_syntax.specs.Tree.{branch, ident, leaf as leaf_tree, list, reference, template_argument};
 ghost use Rattle.wesl_form.specs.Nodes.{type_row};
 ghost use Rattle.wesl_form.specs.Reading.{name_in};
 ghost use Rattle.wesl_syntax.specs.declared.span.Spanned.{Spanned};
 ghost use Rattle.wesl_syntax.specs.declared.expression.Expression.{Expression as ExpressionValue};
-ghost use Rattle.wesl_syntax.specs.View.{argument_view, call_view, expression_tree, listed, optional as option_view, path_tree, type_view};
-ghost use Rattle.wesl_form.specs.Schema.{a_call, a_path, a_template_argument, a_type, an_expression, an_ident, leaf, list_of, node as node_form};
+ghost use Rattle.wesl_syntax.specs.View.{argument_view, call_view, expression_tree, expression_view, listed, optional as option_view, path_tree, type_view};
+ghost use Rattle.wesl_form.specs.Schema.{a_call, a_path, a_span, a_template_argument, a_type, an_expression, an_ident, beside, leaf, list_of, node as node_form};
 ghost use Rattle.wesl_reading.specs.Faults.{Locates, LocatesHere, LocatesInside, LocatesMember, LocatesPlain, LocatesRow, LocatesText};
-ghost use Rattle.wesl_reading.specs.Forms.{HasExpressionWord, HasWord};
+ghost use Rattle.wesl_reading.specs.Forms.{HasExpressionWord, ReadsExpression, ReadsExpressionOf, expression_worded, row_of_expression};
+ghost use Rattle.wesl_reading.specs.declared.words.ExpressionWord.TheVariants as words;
 ghost use Rattle.wesl_reading.specs.Numbers.{IsNumbered, Reads, ReadsMany, ReadsMay, ReadsNeeded, ReadsPlain, ReadsType};
 
-use crate::fields::{name_member, name_of, own_literal, own_name, path_of, under, wrong};
+use crate::fields::{
+    name_member, name_of, own_literal, own_name, path_of, read_span, under, wrong,
+};
 use crate::joined::{boxed, inside, inside_option, room, with_item};
 use crate::numbering::Numbering;
 use crate::words::{
-    ExpressionWord, binary_operator_member, expression_word, unary_operator_member,
+    ExpressionWord, binary_operator_member, expression_word_in, unary_operator_member,
 };
 use std::alloc::Global;
 use wesl_form::BorrowedValue;
@@ -28,7 +31,7 @@ use wesl_syntax::{
 };
 
 /// A node that stands in no source text.
-pub fn unplaced<T>(node: T) -> Spanned<T>
+pub(crate) fn unplaced<T>(node: T) -> Spanned<T>
     ensures { result ≡ record { node = node; span = record { start = 0; end = 0 } } }
 {
     Spanned {
@@ -37,35 +40,25 @@ pub fn unplaced<T>(node: T) -> Spanned<T>
     }
 }
 
-// An expression that stands in no source text.
-fn placed_nowhere(expression: Expression) -> ExpressionNode
-    ensures { result ≡ record { node = expression; span = record { start = 0; end = 0 } } }
-{
-    let span = Span { start: 0, end: 0 };
-    Spanned {
-        node: expression,
-        span,
-    }
-}
-
 /// The expression that a value is: a truth value, an object, or the name of a type or an identifier.
 #[cycle(expressions)]
 pub fn read_expression(
     alloc: Global,
+    spans: bool,
     numbering: &mut Numbering,
     value: &BorrowedValue<'_>,
 ) -> Result<ExpressionNode, Error>
-    ensures ok { IfOk result (λ e. Reads (node_form an_expression) (borrowed_view value.now) (expression_tree e) numbering.old numbering.new) }
-    ensures place { IfErr result (Locates (node_form an_expression) (borrowed_view value.now)) }
+    ensures ok { IfOk result (λ e. Reads spans (node_form an_expression) (borrowed_view value.now) (expression_tree e) numbering.old numbering.new) }
+    ensures place { IfErr result (Locates spans (node_form an_expression) (borrowed_view value.now)) }
 {
     if let Some(truth) = value.as_bool() {
-        return Ok(placed_nowhere(Expression::Literal(Literal::Bool(truth))));
+        return Ok(unplaced(Expression::Literal(Literal::Bool(truth))));
     }
     if value.is_object() {
-        return read_expression_object(alloc, numbering, value);
+        return read_expression_object(alloc, spans, numbering, value);
     }
     match read_plain_type(alloc, numbering, value) {
-        Ok(ty) => Ok(placed_nowhere(Expression::TypeOrIdentifier(ty))),
+        Ok(ty) => Ok(unplaced(Expression::TypeOrIdentifier(ty))),
         Err(error) => Err(error),
     }
 }
@@ -73,22 +66,22 @@ pub fn read_expression(
 #[cycle(expressions)]
 fn read_expression_object(
     alloc: Global,
+    spans: bool,
     numbering: &mut Numbering,
     value: &BorrowedValue<'_>,
 ) -> Result<ExpressionNode, Error>
     requires { is_some (as_object (borrowed_view value.now)) ≡ true }
-    ensures ok { IfOk result (λ e. Reads (node_form an_expression) (borrowed_view value.now) (expression_tree e) numbering.old numbering.new) }
-    ensures place { IfErr result (Locates (node_form an_expression) (borrowed_view value.now)) }
+    ensures ok { IfOk result (λ e. Reads spans (node_form an_expression) (borrowed_view value.now) (expression_tree e) numbering.old numbering.new) }
+    ensures place { IfErr result (Locates spans (node_form an_expression) (borrowed_view value.now)) }
 {
-    match expression_word_of(alloc, value) {
-        Ok(Some(ExpressionWord::Literal)) => read_literal(alloc, value),
-        Ok(Some(ExpressionWord::Parenthesized)) => read_parenthesized(alloc, numbering, value),
-        Ok(Some(ExpressionWord::NamedComponent)) => read_component(alloc, numbering, value),
-        Ok(Some(ExpressionWord::Indexing)) => read_indexing(alloc, numbering, value),
-        Ok(Some(ExpressionWord::Unary)) => read_unary(alloc, numbering, value),
-        Ok(Some(ExpressionWord::Binary)) => read_binary(alloc, numbering, value),
-        Ok(Some(ExpressionWord::FunctionCall)) => read_call_expression(alloc, numbering, value),
-        Ok(None) => read_type_or_identifier(alloc, numbering, value),
+    match expression_word_of(alloc, spans, value) {
+        Ok(word) => match read_span(alloc, spans, value) {
+            Ok(span) => match read_worded_expression(alloc, spans, numbering, value, word) {
+                Ok(node) => Ok(Spanned { node, span }),
+                Err(error) => Err(error),
+            },
+            Err(error) => Err(error),
+        },
         Err(error) => Err(error),
     }
 }
@@ -96,50 +89,91 @@ fn read_expression_object(
 // The word at `k`; without one the object is a type or an identifier.
 fn expression_word_of(
     alloc: Global,
+    spans: bool,
     value: &BorrowedValue<'_>,
 ) -> Result<Option<ExpressionWord>, Error>
     requires { is_some (as_object (borrowed_view value.now)) ≡ true }
-    ensures word { IfOk result (λ w. HasExpressionWord w (borrowed_view value.now)) }
-    ensures place { IfErr result (Locates (node_form an_expression) (borrowed_view value.now)) }
+    ensures word { IfOk result (λ w. HasExpressionWord spans w (borrowed_view value.now)) }
+    ensures place { IfErr result (Locates spans (node_form an_expression) (borrowed_view value.now)) }
 {
     let Some(word) = value.get("k") else {
         return Ok(None);
     };
-    match word.as_str().and_then(expression_word) {
+    match expression_word_in(spans, word) {
         Some(word) => Ok(Some(word)),
         None => Err(under(alloc, wrong(alloc), "k")),
     }
 }
 
-fn read_literal(alloc: Global, value: &BorrowedValue<'_>) -> Result<ExpressionNode, Error>
-    requires { HasWord (codes "lit") (borrowed_view value.now) }
-    ensures ok { IfOk result (λ e. (names : List (List ℕ)) → Reads (node_form an_expression) (borrowed_view value.now) (expression_tree e) names names) }
-    ensures place { IfErr result (Locates (node_form an_expression) (borrowed_view value.now)) }
+// The expression that an object with this word is, but for its span.
+#[cycle(expressions)]
+fn read_worded_expression(
+    alloc: Global,
+    spans: bool,
+    numbering: &mut Numbering,
+    value: &BorrowedValue<'_>,
+    word: Option<ExpressionWord>,
+) -> Result<Expression, Error>
+    ensures ok { IfOk result (λ e. ReadsExpressionOf spans word (borrowed_view value.now) (expression_view e) numbering.old numbering.new) }
+    ensures place { IfErr result (LocatesRow spans (row_of_expression spans word) (borrowed_view value.now)) }
 {
-    if !wesl_form::has_only(value, &["k", "text"]) {
+    match word {
+        Some(ExpressionWord::Literal) => read_literal(alloc, spans, value),
+        Some(ExpressionWord::Truth(truth)) => read_truth(alloc, spans, value, truth),
+        Some(ExpressionWord::Parenthesized) => read_parenthesized(alloc, spans, numbering, value),
+        Some(ExpressionWord::NamedComponent) => read_component(alloc, spans, numbering, value),
+        Some(ExpressionWord::Indexing) => read_indexing(alloc, spans, numbering, value),
+        Some(ExpressionWord::Unary) => read_unary(alloc, spans, numbering, value),
+        Some(ExpressionWord::Binary) => read_binary(alloc, spans, numbering, value),
+        Some(ExpressionWord::FunctionCall) => read_call_expression(alloc, spans, numbering, value),
+        None => read_type_or_identifier(alloc, spans, numbering, value),
+    }
+}
+
+fn read_literal(alloc: Global, spans: bool, value: &BorrowedValue<'_>) -> Result<Expression, Error>
+    ensures ok { IfOk result (λ e. (names : List (List ℕ)) → ReadsExpression spans words.Literal (borrowed_view value.now) (expression_view e) names names) }
+    ensures place { IfErr result (LocatesRow spans (expression_worded spans words.Literal) (borrowed_view value.now)) }
+{
+    if !wesl_form::has_only_beside(value, spans, "span", &["k", "text"]) {
         return Err(wrong(alloc));
     }
     match own_literal(alloc, value, "text") {
-        Ok(text) => Ok(placed_nowhere(Expression::Literal(Literal::Text(text)))),
+        Ok(text) => Ok(Expression::Literal(Literal::Text(text))),
         Err(error) => Err(error),
     }
+}
+
+// A truth value that is an object.
+fn read_truth(
+    alloc: Global,
+    spans: bool,
+    value: &BorrowedValue<'_>,
+    truth: bool,
+) -> Result<Expression, Error>
+    ensures ok { IfOk result (λ e. (names : List (List ℕ)) → ReadsExpression spans (words.Truth truth) (borrowed_view value.now) (expression_view e) names names) }
+    ensures place { IfErr result (LocatesRow spans (expression_worded spans (words.Truth truth)) (borrowed_view value.now)) }
+{
+    if !wesl_form::has_only_beside(value, spans, "span", &["k"]) {
+        return Err(wrong(alloc));
+    }
+    Ok(Expression::Literal(Literal::Bool(truth)))
 }
 
 #[cycle(expressions)]
 fn read_parenthesized(
     alloc: Global,
+    spans: bool,
     numbering: &mut Numbering,
     value: &BorrowedValue<'_>,
-) -> Result<ExpressionNode, Error>
-    requires { HasWord (codes "paren") (borrowed_view value.now) }
-    ensures ok { IfOk result (λ e. Reads (node_form an_expression) (borrowed_view value.now) (expression_tree e) numbering.old numbering.new) }
-    ensures place { IfErr result (Locates (node_form an_expression) (borrowed_view value.now)) }
+) -> Result<Expression, Error>
+    ensures ok { IfOk result (λ e. ReadsExpression spans words.Parenthesized (borrowed_view value.now) (expression_view e) numbering.old numbering.new) }
+    ensures place { IfErr result (LocatesRow spans (expression_worded spans words.Parenthesized) (borrowed_view value.now)) }
 {
-    if !wesl_form::has_only(value, &["k", "expr"]) {
+    if !wesl_form::has_only_beside(value, spans, "span", &["k", "expr"]) {
         return Err(wrong(alloc));
     }
-    match boxed_member(alloc, numbering, value, "expr") {
-        Ok(expression) => Ok(placed_nowhere(Expression::Parenthesized { expression })),
+    match boxed_member(alloc, spans, numbering, value, "expr") {
+        Ok(expression) => Ok(Expression::Parenthesized { expression }),
         Err(error) => Err(error),
     }
 }
@@ -147,19 +181,19 @@ fn read_parenthesized(
 #[cycle(expressions)]
 fn read_component(
     alloc: Global,
+    spans: bool,
     numbering: &mut Numbering,
     value: &BorrowedValue<'_>,
-) -> Result<ExpressionNode, Error>
-    requires { HasWord (codes "field") (borrowed_view value.now) }
-    ensures ok { IfOk result (λ e. Reads (node_form an_expression) (borrowed_view value.now) (expression_tree e) numbering.old numbering.new) }
-    ensures place { IfErr result (Locates (node_form an_expression) (borrowed_view value.now)) }
+) -> Result<Expression, Error>
+    ensures ok { IfOk result (λ e. ReadsExpression spans words.NamedComponent (borrowed_view value.now) (expression_view e) numbering.old numbering.new) }
+    ensures place { IfErr result (LocatesRow spans (expression_worded spans words.NamedComponent) (borrowed_view value.now)) }
 {
-    if !wesl_form::has_only(value, &["k", "base", "name"]) {
+    if !wesl_form::has_only_beside(value, spans, "span", &["k", "base", "name"]) {
         return Err(wrong(alloc));
     }
-    match boxed_member(alloc, numbering, value, "base") {
+    match boxed_member(alloc, spans, numbering, value, "base") {
         Ok(base) => match own_name(alloc, value, "name") {
-            Ok(component) => Ok(placed_nowhere(Expression::NamedComponent { base, component })),
+            Ok(component) => Ok(Expression::NamedComponent { base, component }),
             Err(error) => Err(error),
         },
         Err(error) => Err(error),
@@ -169,19 +203,19 @@ fn read_component(
 #[cycle(expressions)]
 fn read_indexing(
     alloc: Global,
+    spans: bool,
     numbering: &mut Numbering,
     value: &BorrowedValue<'_>,
-) -> Result<ExpressionNode, Error>
-    requires { HasWord (codes "index") (borrowed_view value.now) }
-    ensures ok { IfOk result (λ e. Reads (node_form an_expression) (borrowed_view value.now) (expression_tree e) numbering.old numbering.new) }
-    ensures place { IfErr result (Locates (node_form an_expression) (borrowed_view value.now)) }
+) -> Result<Expression, Error>
+    ensures ok { IfOk result (λ e. ReadsExpression spans words.Indexing (borrowed_view value.now) (expression_view e) numbering.old numbering.new) }
+    ensures place { IfErr result (LocatesRow spans (expression_worded spans words.Indexing) (borrowed_view value.now)) }
 {
-    if !wesl_form::has_only(value, &["k", "base", "index"]) {
+    if !wesl_form::has_only_beside(value, spans, "span", &["k", "base", "index"]) {
         return Err(wrong(alloc));
     }
-    match boxed_member(alloc, numbering, value, "base") {
-        Ok(base) => match boxed_member(alloc, numbering, value, "index") {
-            Ok(index) => Ok(placed_nowhere(Expression::Indexing { base, index })),
+    match boxed_member(alloc, spans, numbering, value, "base") {
+        Ok(base) => match boxed_member(alloc, spans, numbering, value, "index") {
+            Ok(index) => Ok(Expression::Indexing { base, index }),
             Err(error) => Err(error),
         },
         Err(error) => Err(error),
@@ -191,19 +225,19 @@ fn read_indexing(
 #[cycle(expressions)]
 fn read_unary(
     alloc: Global,
+    spans: bool,
     numbering: &mut Numbering,
     value: &BorrowedValue<'_>,
-) -> Result<ExpressionNode, Error>
-    requires { HasWord (codes "unary") (borrowed_view value.now) }
-    ensures ok { IfOk result (λ e. Reads (node_form an_expression) (borrowed_view value.now) (expression_tree e) numbering.old numbering.new) }
-    ensures place { IfErr result (Locates (node_form an_expression) (borrowed_view value.now)) }
+) -> Result<Expression, Error>
+    ensures ok { IfOk result (λ e. ReadsExpression spans words.Unary (borrowed_view value.now) (expression_view e) numbering.old numbering.new) }
+    ensures place { IfErr result (LocatesRow spans (expression_worded spans words.Unary) (borrowed_view value.now)) }
 {
-    if !wesl_form::has_only(value, &["k", "op", "expr"]) {
+    if !wesl_form::has_only_beside(value, spans, "span", &["k", "op", "expr"]) {
         return Err(wrong(alloc));
     }
     match unary_operator_member(alloc, value) {
-        Ok(operator) => match boxed_member(alloc, numbering, value, "expr") {
-            Ok(operand) => Ok(placed_nowhere(Expression::Unary { operator, operand })),
+        Ok(operator) => match boxed_member(alloc, spans, numbering, value, "expr") {
+            Ok(operand) => Ok(Expression::Unary { operator, operand }),
             Err(error) => Err(error),
         },
         Err(error) => Err(error),
@@ -213,24 +247,24 @@ fn read_unary(
 #[cycle(expressions)]
 fn read_binary(
     alloc: Global,
+    spans: bool,
     numbering: &mut Numbering,
     value: &BorrowedValue<'_>,
-) -> Result<ExpressionNode, Error>
-    requires { HasWord (codes "binary") (borrowed_view value.now) }
-    ensures ok { IfOk result (λ e. Reads (node_form an_expression) (borrowed_view value.now) (expression_tree e) numbering.old numbering.new) }
-    ensures place { IfErr result (Locates (node_form an_expression) (borrowed_view value.now)) }
+) -> Result<Expression, Error>
+    ensures ok { IfOk result (λ e. ReadsExpression spans words.Binary (borrowed_view value.now) (expression_view e) numbering.old numbering.new) }
+    ensures place { IfErr result (LocatesRow spans (expression_worded spans words.Binary) (borrowed_view value.now)) }
 {
-    if !wesl_form::has_only(value, &["k", "op", "left", "right"]) {
+    if !wesl_form::has_only_beside(value, spans, "span", &["k", "op", "left", "right"]) {
         return Err(wrong(alloc));
     }
     match binary_operator_member(alloc, value) {
-        Ok(operator) => match boxed_member(alloc, numbering, value, "left") {
-            Ok(left) => match boxed_member(alloc, numbering, value, "right") {
-                Ok(right) => Ok(placed_nowhere(Expression::Binary {
+        Ok(operator) => match boxed_member(alloc, spans, numbering, value, "left") {
+            Ok(left) => match boxed_member(alloc, spans, numbering, value, "right") {
+                Ok(right) => Ok(Expression::Binary {
                     operator,
                     left,
                     right,
-                })),
+                }),
                 Err(error) => Err(error),
             },
             Err(error) => Err(error),
@@ -242,22 +276,19 @@ fn read_binary(
 #[cycle(expressions)]
 fn read_call_expression(
     alloc: Global,
+    spans: bool,
     numbering: &mut Numbering,
     value: &BorrowedValue<'_>,
-) -> Result<ExpressionNode, Error>
-    requires { HasWord (codes "call") (borrowed_view value.now) }
-    ensures ok { IfOk result (λ e. Reads (node_form an_expression) (borrowed_view value.now) (expression_tree e) numbering.old numbering.new) }
-    ensures place { IfErr result (Locates (node_form an_expression) (borrowed_view value.now)) }
+) -> Result<Expression, Error>
+    ensures ok { IfOk result (λ e. ReadsExpression spans words.FunctionCall (borrowed_view value.now) (expression_view e) numbering.old numbering.new) }
+    ensures place { IfErr result (LocatesRow spans (expression_worded spans words.FunctionCall) (borrowed_view value.now)) }
 {
-    if !wesl_form::has_only(value, &["k", "ty", "args"]) {
+    if !wesl_form::has_only_beside(value, spans, "span", &["k", "ty", "args"]) {
         return Err(wrong(alloc));
     }
-    match type_member(alloc, numbering, value, "ty") {
-        Ok(ty) => match expressions_member(alloc, numbering, value, "args") {
-            Ok(arguments) => Ok(placed_nowhere(Expression::FunctionCall(FunctionCall {
-                ty,
-                arguments,
-            }))),
+    match type_member(alloc, spans, numbering, value, "ty") {
+        Ok(ty) => match expressions_member(alloc, spans, numbering, value, "args") {
+            Ok(arguments) => Ok(Expression::FunctionCall(FunctionCall { ty, arguments })),
             Err(error) => Err(error),
         },
         Err(error) => Err(error),
@@ -267,16 +298,15 @@ fn read_call_expression(
 #[cycle(expressions)]
 fn read_type_or_identifier(
     alloc: Global,
+    spans: bool,
     numbering: &mut Numbering,
     value: &BorrowedValue<'_>,
-) -> Result<ExpressionNode, Error>
-    requires object { is_some (as_object (borrowed_view value.now)) ≡ true }
-    requires unmarked { get (codes "k") (borrowed_view value.now) ≡ None }
-    ensures ok { IfOk result (λ e. Reads (node_form an_expression) (borrowed_view value.now) (expression_tree e) numbering.old numbering.new) }
-    ensures place { IfErr result (Locates (node_form an_expression) (borrowed_view value.now)) }
+) -> Result<Expression, Error>
+    ensures ok { IfOk result (λ e. ReadsExpressionOf spans None (borrowed_view value.now) (expression_view e) numbering.old numbering.new) }
+    ensures place { IfErr result (LocatesRow spans (row_of_expression spans None) (borrowed_view value.now)) }
 {
-    match read_type_object(alloc, numbering, value) {
-        Ok(ty) => Ok(placed_nowhere(Expression::TypeOrIdentifier(ty))),
+    match read_type_object(alloc, spans, numbering, value, spans) {
+        Ok(ty) => Ok(Expression::TypeOrIdentifier(ty)),
         Err(error) => Err(error),
     }
 }
@@ -285,66 +315,77 @@ fn read_type_or_identifier(
 #[cycle(expressions)]
 pub fn expression_member(
     alloc: Global,
+    spans: bool,
     numbering: &mut Numbering,
     value: &BorrowedValue<'_>,
     key: &str,
 ) -> Result<ExpressionNode, Error>
-    ensures ok { IfOk result (λ e. ReadsNeeded key.now (node_form an_expression) (borrowed_view value.now) (expression_tree e) numbering.old numbering.new) }
-    ensures place { IfErr result (LocatesMember key.now (node_form an_expression) (borrowed_view value.now)) }
+    ensures ok { IfOk result (λ e. ReadsNeeded spans key.now (node_form an_expression) (borrowed_view value.now) (expression_tree e) numbering.old numbering.new) }
+    ensures place { IfErr result (LocatesMember spans key.now (node_form an_expression) (borrowed_view value.now)) }
 {
     let Some(member) = value.get(key) else {
         return Err(wrong(alloc));
     };
-    inside(alloc, key, read_expression(alloc, numbering, member))
+    inside(alloc, key, read_expression(alloc, spans, numbering, member))
 }
 
 // The expression at `key`, which must be there, in a box.
 #[cycle(expressions)]
 fn boxed_member(
     alloc: Global,
+    spans: bool,
     numbering: &mut Numbering,
     value: &BorrowedValue<'_>,
     key: &str,
 ) -> Result<Box<ExpressionNode>, Error>
-    ensures ok { IfOk result (λ e. ReadsNeeded key.now (node_form an_expression) (borrowed_view value.now) (expression_tree (box_value e)) numbering.old numbering.new) }
-    ensures place { IfErr result (LocatesMember key.now (node_form an_expression) (borrowed_view value.now)) }
+    ensures ok { IfOk result (λ e. ReadsNeeded spans key.now (node_form an_expression) (borrowed_view value.now) (expression_tree (box_value e)) numbering.old numbering.new) }
+    ensures place { IfErr result (LocatesMember spans key.now (node_form an_expression) (borrowed_view value.now)) }
 {
-    boxed(alloc, expression_member(alloc, numbering, value, key))
+    boxed(
+        alloc,
+        expression_member(alloc, spans, numbering, value, key),
+    )
 }
 
 /// The expressions at `key`, a list.
 #[cycle(expressions)]
 pub fn expressions_member(
     alloc: Global,
+    spans: bool,
     numbering: &mut Numbering,
     value: &BorrowedValue<'_>,
     key: &str,
 ) -> Result<Vec<ExpressionNode>, Error>
-    ensures ok { IfOk result (λ e. ReadsMany key.now (list_of list an_expression) (borrowed_view value.now) (listed expression_tree list e) numbering.old numbering.new) }
-    ensures place { IfErr result (LocatesInside key.now (list_of list an_expression) (borrowed_view value.now)) }
+    ensures ok { IfOk result (λ e. ReadsMany spans key.now (list_of list an_expression) (borrowed_view value.now) (listed expression_tree list e) numbering.old numbering.new) }
+    ensures place { IfErr result (LocatesInside spans key.now (list_of list an_expression) (borrowed_view value.now)) }
 {
     let Some(member) = value.get(key) else {
         return Ok(Vec::new(alloc));
     };
-    inside(alloc, key, read_expressions(alloc, numbering, member))
+    inside(
+        alloc,
+        key,
+        read_expressions(alloc, spans, numbering, member),
+    )
 }
 
 /// The expressions that a list is.
 #[cycle(expressions)]
 pub fn read_expressions(
     alloc: Global,
+    spans: bool,
     numbering: &mut Numbering,
     value: &BorrowedValue<'_>,
 ) -> Result<Vec<ExpressionNode>, Error>
-    ensures ok { IfOk result (λ e. Reads (list_of list an_expression) (borrowed_view value.now) (listed expression_tree list e) numbering.old numbering.new) }
-    ensures place { IfErr result (Locates (list_of list an_expression) (borrowed_view value.now)) }
+    ensures ok { IfOk result (λ e. Reads spans (list_of list an_expression) (borrowed_view value.now) (listed expression_tree list e) numbering.old numbering.new) }
+    ensures place { IfErr result (Locates spans (list_of list an_expression) (borrowed_view value.now)) }
 {
     let Some(items) = value.as_array() else {
         return Err(wrong(alloc));
     };
     let mut expressions = room(alloc, items.len());
     for (index, item) in items.iter().enumerate() {
-        let expression = read_expression(alloc, numbering, item);
+        let expression = read_expression(alloc, spans, numbering, item);
         expressions = with_item(alloc, expressions, index, expression);
     }
     expressions
@@ -354,31 +395,33 @@ pub fn read_expressions(
 #[cycle(expressions)]
 pub fn type_member(
     alloc: Global,
+    spans: bool,
     numbering: &mut Numbering,
     value: &BorrowedValue<'_>,
     key: &str,
 ) -> Result<TypeExpression, Error>
-    ensures ok { IfOk result (λ e. ReadsNeeded key.now (node_form a_type) (borrowed_view value.now) (type_view e) numbering.old numbering.new) }
-    ensures place { IfErr result (LocatesMember key.now (node_form a_type) (borrowed_view value.now)) }
+    ensures ok { IfOk result (λ e. ReadsNeeded spans key.now (node_form a_type) (borrowed_view value.now) (type_view e) numbering.old numbering.new) }
+    ensures place { IfErr result (LocatesMember spans key.now (node_form a_type) (borrowed_view value.now)) }
 {
     let Some(member) = value.get(key) else {
         return Err(wrong(alloc));
     };
-    inside(alloc, key, read_type(alloc, numbering, member))
+    inside(alloc, key, read_type(alloc, spans, numbering, member))
 }
 
 /// The type that a value is: its name alone, or an object.
 #[cycle(expressions)]
 pub fn read_type(
     alloc: Global,
+    spans: bool,
     numbering: &mut Numbering,
     value: &BorrowedValue<'_>,
 ) -> Result<TypeExpression, Error>
-    ensures ok { IfOk result (λ e. Reads (node_form a_type) (borrowed_view value.now) (type_view e) numbering.old numbering.new) }
-    ensures place { IfErr result (Locates (node_form a_type) (borrowed_view value.now)) }
+    ensures ok { IfOk result (λ e. Reads spans (node_form a_type) (borrowed_view value.now) (type_view e) numbering.old numbering.new) }
+    ensures place { IfErr result (Locates spans (node_form a_type) (borrowed_view value.now)) }
 {
     if value.is_object() {
-        read_type_object(alloc, numbering, value)
+        read_type_object(alloc, spans, numbering, value, false)
     } else {
         read_plain_type(alloc, numbering, value)
     }
@@ -418,21 +461,24 @@ fn number_of(
     }
 }
 
+// The type that an object is, which may have a span where it takes one.
 #[cycle(expressions)]
 fn read_type_object(
     alloc: Global,
+    spans: bool,
     numbering: &mut Numbering,
     value: &BorrowedValue<'_>,
+    takes_span: bool,
 ) -> Result<TypeExpression, Error>
-    ensures ok { IfOk result (λ e. ReadsType (borrowed_view value.now) (type_view e) numbering.old numbering.new) }
-    ensures place { IfErr result (LocatesRow type_row (borrowed_view value.now)) }
+    ensures ok { IfOk result (λ e. ReadsType spans takes_span (borrowed_view value.now) (type_view e) numbering.old numbering.new) }
+    ensures place { IfErr result (LocatesRow spans (beside takes_span a_span type_row) (borrowed_view value.now)) }
 {
-    if !wesl_form::has_only(value, &["path", "name", "args"]) {
+    if !wesl_form::has_only_beside(value, takes_span, "span", &["path", "name", "args"]) {
         return Err(wrong(alloc));
     }
     match optional_path(alloc, value) {
         Ok(path) => match reference_member(alloc, numbering, value) {
-            Ok(ident) => match arguments_member(alloc, numbering, value) {
+            Ok(ident) => match arguments_member(alloc, spans, numbering, value) {
                 Ok(template_args) => Ok(TypeExpression {
                     path,
                     ident,
@@ -452,7 +498,7 @@ fn reference_member(
     numbering: &mut Numbering,
     value: &BorrowedValue<'_>,
 ) -> Result<Ident, Error>
-    ensures ok { IfOk result (λ e. ReadsNeeded (codes "name") (leaf (an_ident reference)) (borrowed_view value.now) (leaf_tree (ident reference e.0)) numbering.old numbering.new) }
+    ensures ok { IfOk result (λ e. (spans : Bool) → ReadsNeeded spans (codes "name") (leaf (an_ident reference)) (borrowed_view value.now) (leaf_tree (ident reference e.0)) numbering.old numbering.new) }
     ensures place { IfErr result (LocatesText name_in (codes "name") (borrowed_view value.now)) }
 {
     match name_member(alloc, value, "name") {
@@ -463,8 +509,8 @@ fn reference_member(
 
 /// The path at `path`, an option.
 pub fn optional_path(alloc: Global, value: &BorrowedValue<'_>) -> Result<Option<ModulePath>, Error>
-    ensures ok { IfOk result (λ e. (names : List (List ℕ)) → ReadsMay (codes "path") (leaf a_path) (borrowed_view value.now) (option_view path_tree e) names names) }
-    ensures place { IfErr result (LocatesInside (codes "path") (leaf a_path) (borrowed_view value.now)) }
+    ensures ok { IfOk result (λ e. (spans : Bool) (names : List (List ℕ)) → ReadsMay spans (codes "path") (leaf a_path) (borrowed_view value.now) (option_view path_tree e) names names) }
+    ensures place { IfErr result (λ e. (spans : Bool) → LocatesInside spans (codes "path") (leaf a_path) (borrowed_view value.now) e) }
 {
     let Some(member) = value.get("path") else {
         return Ok(None);
@@ -476,33 +522,39 @@ pub fn optional_path(alloc: Global, value: &BorrowedValue<'_>) -> Result<Option<
 #[cycle(expressions)]
 fn arguments_member(
     alloc: Global,
+    spans: bool,
     numbering: &mut Numbering,
     value: &BorrowedValue<'_>,
 ) -> Result<Option<Vec<TemplateArg>>, Error>
-    ensures ok { IfOk result (λ e. ReadsMay (codes "args") (list_of list a_template_argument) (borrowed_view value.now) (option_view (listed argument_view list) e) numbering.old numbering.new) }
-    ensures place { IfErr result (LocatesInside (codes "args") (list_of list a_template_argument) (borrowed_view value.now)) }
+    ensures ok { IfOk result (λ e. ReadsMay spans (codes "args") (list_of list a_template_argument) (borrowed_view value.now) (option_view (listed argument_view list) e) numbering.old numbering.new) }
+    ensures place { IfErr result (LocatesInside spans (codes "args") (list_of list a_template_argument) (borrowed_view value.now)) }
 {
     let Some(member) = value.get("args") else {
         return Ok(None);
     };
-    inside_option(alloc, "args", read_arguments(alloc, numbering, member))
+    inside_option(
+        alloc,
+        "args",
+        read_arguments(alloc, spans, numbering, member),
+    )
 }
 
 #[cycle(expressions)]
 fn read_arguments(
     alloc: Global,
+    spans: bool,
     numbering: &mut Numbering,
     value: &BorrowedValue<'_>,
 ) -> Result<Vec<TemplateArg>, Error>
-    ensures ok { IfOk result (λ e. Reads (list_of list a_template_argument) (borrowed_view value.now) (listed argument_view list e) numbering.old numbering.new) }
-    ensures place { IfErr result (Locates (list_of list a_template_argument) (borrowed_view value.now)) }
+    ensures ok { IfOk result (λ e. Reads spans (list_of list a_template_argument) (borrowed_view value.now) (listed argument_view list e) numbering.old numbering.new) }
+    ensures place { IfErr result (Locates spans (list_of list a_template_argument) (borrowed_view value.now)) }
 {
     let Some(items) = value.as_array() else {
         return Err(wrong(alloc));
     };
     let mut arguments = room(alloc, items.len());
     for (index, item) in items.iter().enumerate() {
-        let argument = argument_of(read_expression(alloc, numbering, item));
+        let argument = argument_of(read_expression(alloc, spans, numbering, item));
         arguments = with_item(alloc, arguments, index, argument);
     }
     arguments
@@ -521,17 +573,18 @@ fn argument_of(read: Result<ExpressionNode, Error>) -> Result<TemplateArg, Error
 /// The call that an object is, without a word.
 pub fn read_call(
     alloc: Global,
+    spans: bool,
     numbering: &mut Numbering,
     value: &BorrowedValue<'_>,
 ) -> Result<FunctionCall, Error>
-    ensures ok { IfOk result (λ e. Reads (node_form a_call) (borrowed_view value.now) (call_view e) numbering.old numbering.new) }
-    ensures place { IfErr result (Locates (node_form a_call) (borrowed_view value.now)) }
+    ensures ok { IfOk result (λ e. Reads spans (node_form a_call) (borrowed_view value.now) (call_view e) numbering.old numbering.new) }
+    ensures place { IfErr result (Locates spans (node_form a_call) (borrowed_view value.now)) }
 {
     if !wesl_form::has_only(value, &["ty", "args"]) {
         return Err(wrong(alloc));
     }
-    match type_member(alloc, numbering, value, "ty") {
-        Ok(ty) => match expressions_member(alloc, numbering, value, "args") {
+    match type_member(alloc, spans, numbering, value, "ty") {
+        Ok(ty) => match expressions_member(alloc, spans, numbering, value, "args") {
             Ok(arguments) => Ok(FunctionCall { ty, arguments }),
             Err(error) => Err(error),
         },
@@ -542,47 +595,54 @@ pub fn read_call(
 /// The expression at `key`, an option.
 pub fn optional_expression(
     alloc: Global,
+    spans: bool,
     numbering: &mut Numbering,
     value: &BorrowedValue<'_>,
     key: &str,
 ) -> Result<Option<ExpressionNode>, Error>
-    ensures ok { IfOk result (λ e. ReadsMay key.now (node_form an_expression) (borrowed_view value.now) (option_view expression_tree e) numbering.old numbering.new) }
-    ensures place { IfErr result (LocatesInside key.now (node_form an_expression) (borrowed_view value.now)) }
+    ensures ok { IfOk result (λ e. ReadsMay spans key.now (node_form an_expression) (borrowed_view value.now) (option_view expression_tree e) numbering.old numbering.new) }
+    ensures place { IfErr result (LocatesInside spans key.now (node_form an_expression) (borrowed_view value.now)) }
 {
     let Some(member) = value.get(key) else {
         return Ok(None);
     };
-    inside_option(alloc, key, read_expression(alloc, numbering, member))
+    inside_option(alloc, key, read_expression(alloc, spans, numbering, member))
 }
 
 /// The expressions at `key`, a list that may be absent.
 pub fn optional_expressions(
     alloc: Global,
+    spans: bool,
     numbering: &mut Numbering,
     value: &BorrowedValue<'_>,
     key: &str,
 ) -> Result<Option<Vec<ExpressionNode>>, Error>
-    ensures ok { IfOk result (λ e. ReadsMay key.now (list_of list an_expression) (borrowed_view value.now) (option_view (listed expression_tree list) e) numbering.old numbering.new) }
-    ensures place { IfErr result (LocatesInside key.now (list_of list an_expression) (borrowed_view value.now)) }
+    ensures ok { IfOk result (λ e. ReadsMay spans key.now (list_of list an_expression) (borrowed_view value.now) (option_view (listed expression_tree list) e) numbering.old numbering.new) }
+    ensures place { IfErr result (LocatesInside spans key.now (list_of list an_expression) (borrowed_view value.now)) }
 {
     let Some(member) = value.get(key) else {
         return Ok(None);
     };
-    inside_option(alloc, key, read_expressions(alloc, numbering, member))
+    inside_option(
+        alloc,
+        key,
+        read_expressions(alloc, spans, numbering, member),
+    )
 }
 
 /// The type at `key`, an option.
 pub fn optional_type(
     alloc: Global,
+    spans: bool,
     numbering: &mut Numbering,
     value: &BorrowedValue<'_>,
     key: &str,
 ) -> Result<Option<TypeExpression>, Error>
-    ensures ok { IfOk result (λ e. ReadsMay key.now (node_form a_type) (borrowed_view value.now) (option_view type_view e) numbering.old numbering.new) }
-    ensures place { IfErr result (LocatesInside key.now (node_form a_type) (borrowed_view value.now)) }
+    ensures ok { IfOk result (λ e. ReadsMay spans key.now (node_form a_type) (borrowed_view value.now) (option_view type_view e) numbering.old numbering.new) }
+    ensures place { IfErr result (LocatesInside spans key.now (node_form a_type) (borrowed_view value.now)) }
 {
     let Some(member) = value.get(key) else {
         return Ok(None);
     };
-    inside_option(alloc, key, read_type(alloc, numbering, member))
+    inside_option(alloc, key, read_type(alloc, spans, numbering, member))
 }

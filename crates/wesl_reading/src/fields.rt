@@ -2,22 +2,22 @@
 //!
 //! A fault's place is a JSON Pointer (RFC 6901). It begins empty, at the value that is wrong, and grows on the way
 //! out, by the key or the index of each value round it.
-ghost use Rattle.std.specs.Prelude.{◌≡◌, ◌∷◌, ◌++◌, map, true, false, Some, None, IfOk, IfErr, OnOk, OnErr, option_and_then, string_bytes};
+ghost use Rattle.std.specs.Prelude.{◌≡◌, ◌∷◌, ◌++◌, map, true, false, Some, None, IfOk, IfErr, OnOk, OnErr, option_and_then, option_map, string_bytes};
 ghost use Rattle.std.specs.List.{list_any};
 ghost use Rattle.std.specs.Str.{bytes_eq};
 ghost use Rattle.serde_json.specs.Find.{as_str, get};
 ghost use Rattle.wesl_form.specs.View.{borrowed_view};
 ghost use Rattle.wesl_names.specs.Path.{path_view};
-ghost use Rattle.wesl_form.specs.Reading.{name_in, literal_in, path_in};
+ghost use Rattle.wesl_form.specs.Reading.{name_in, literal_in, ordered, path_in, span_in, span_of};
 ghost use Rattle.wesl_form.specs.Keys.{all_known, has_only};
 ghost use Rattle.wesl_form.specs.Pointer.{escaped};
-ghost use Rattle.wesl_reading.specs.Faults.{IsAtRoot, IsUnder, IsUnderIndex, LocatesHere, LocatesText};
+ghost use Rattle.wesl_reading.specs.Faults.{IsAtRoot, IsUnder, IsUnderIndex, LocatesHere, LocatesSpan, LocatesText};
 ghost use Rattle.wesl_reading.specs.Parts.{IsMemoryOr, IsTextRead};
 
 use crate::joined::inside;
 use std::alloc::Global;
 use wesl_form::BorrowedValue;
-use wesl_names::{Error, ModulePath};
+use wesl_names::{Error, ModulePath, Span};
 
 /// The value itself is wrong.
 pub fn wrong(alloc: Global) -> Error
@@ -76,6 +76,54 @@ pub fn required<'s, 'a>(
     ensures place { IfErr result IsAtRoot }
 {
     value.get(key).ok_or(wrong(alloc))
+}
+
+/// The span at `span`: of no place where there is none, and where spans are not read.
+///
+/// # Errors
+///
+/// `BadTree` at `span`, where that is no list of just two whole numbers that do not fall and are below 2^32.
+pub fn read_span(alloc: Global, spans: bool, value: &BorrowedValue<'_>) -> Result<Span, Error>
+    ensures ok { IfOk result (λ s. span_in spans (borrowed_view value.now) ≡ Some (s.start, s.end)) }
+    ensures place { IfErr result (LocatesSpan spans (borrowed_view value.now)) }
+{
+    if !spans {
+        return Ok(Span { start: 0, end: 0 });
+    }
+    let Some(member) = value.get("span") else {
+        return Ok(Span { start: 0, end: 0 });
+    };
+    match span_of(member) {
+        Some(span) => Ok(span),
+        None => Err(under(alloc, wrong(alloc), "span")),
+    }
+}
+
+// A list of two whole numbers, as a span.
+fn span_of(value: &BorrowedValue<'_>) -> Option<Span>
+    ensures { option_map (λ s. (s.start, s.end)) result ≡ span_of (borrowed_view value.now) }
+{
+    let items = value.as_array()?;
+    if items.len() != 2 {
+        return None;
+    }
+    span_between(items[0].as_u64(), items[1].as_u64())
+}
+
+// The span from one place to another, which both have 32 bits.
+fn span_between(start: Option<u64>, end: Option<u64>) -> Option<Span>
+    ensures { option_map (λ s. (s.start, s.end)) result ≡ option_and_then (λ s. option_and_then (ordered s) end) start }
+{
+    let start = start?;
+    let end = end?;
+    if start <= end && end < 4294967296 {
+        Some(Span {
+            start: start as u32,
+            end: end as u32,
+        })
+    } else {
+        None
+    }
 }
 
 /// The text of a name, which is not empty.

@@ -1,5 +1,5 @@
 //! Reading lists of names.
-ghost use Rattle.std.specs.Prelude.{◌≡◌, List, ℕ, Some, IfOk, IfErr};
+ghost use Rattle.std.specs.Prelude.{◌≡◌, Bool, List, ℕ, Some, IfOk, IfErr};
 ghost use Rattle.wesl_form.specs.View.{borrowed_view};
 ghost use Rattle.wesl_syntax.specs.View.{names_tree};
 ghost use Rattle.wesl_form.specs.Schema.{leaf, some_names};
@@ -18,8 +18,8 @@ pub fn names_member(
     value: &BorrowedValue<'_>,
     key: &str,
 ) -> Result<Vec<String>, Error>
-    ensures ok { IfOk result (λ e. (names : List (List ℕ)) → ReadsMany key.now (leaf some_names) (borrowed_view value.now) (names_tree e) names names) }
-    ensures place { IfErr result (LocatesInside key.now (leaf some_names) (borrowed_view value.now)) }
+    ensures ok { IfOk result (λ e. (spans : Bool) (names : List (List ℕ)) → ReadsMany spans key.now (leaf some_names) (borrowed_view value.now) (names_tree e) names names) }
+    ensures place { IfErr result (λ e. (spans : Bool) → LocatesInside spans key.now (leaf some_names) (borrowed_view value.now) e) }
 {
     let Some(member) = value.get(key) else {
         return Ok(Vec::new(alloc));
@@ -28,8 +28,8 @@ pub fn names_member(
 }
 
 fn read_names(alloc: Global, value: &BorrowedValue<'_>) -> Result<Vec<String>, Error>
-    ensures ok { IfOk result (λ e. (names : List (List ℕ)) → Reads (leaf some_names) (borrowed_view value.now) (names_tree e) names names) }
-    ensures place { IfErr result (Locates (leaf some_names) (borrowed_view value.now)) }
+    ensures ok { IfOk result (λ e. (spans : Bool) (names : List (List ℕ)) → Reads spans (leaf some_names) (borrowed_view value.now) (names_tree e) names names) }
+    ensures place { IfErr result (λ e. (spans : Bool) → Locates spans (leaf some_names) (borrowed_view value.now) e) }
 {
     let Some(items) = value.as_array() else {
         return Err(wrong(alloc));

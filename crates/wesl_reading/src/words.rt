@@ -1,14 +1,14 @@
 //! The words of the form.
-ghost use Rattle.std.specs.Prelude.{◌≡◌, Some, None, IfOk, IfErr, IfSome, codes, option_map, option_and_then};
-ghost use Rattle.serde_json.specs.Find.{get};
+ghost use Rattle.std.specs.Prelude.{◌≡◌, Some, None, IfOk, IfErr, IfSome, codes, option_map, option_and_then, true};
+ghost use Rattle.serde_json.specs.Find.{as_str, get};
 ghost use Rattle.wesl_form.specs.View.{borrowed_view};
-ghost use Rattle.wesl_syntax.specs.Tree.{unary, binary};
+ghost use Rattle.wesl_syntax.specs.Tree.{binary, kind, unary};
 ghost use Rattle.wesl_form.specs.Schema.{look};
-ghost use Rattle.wesl_form.specs.Words.{unary_words, binary_words};
+ghost use Rattle.wesl_form.specs.Words.{attribute_words, unary_words, binary_words};
 ghost use Rattle.wesl_form.specs.Reading.{word_in};
 ghost use Rattle.wesl_reading.specs.Faults.{LocatesHere, LocatesText};
-ghost use Rattle.wesl_form.specs.Nodes.{attribute_nodes, expression_words};
-ghost use Rattle.wesl_reading.specs.Forms.{attribute_of, attribute_text, expression_of, expression_text};
+ghost use Rattle.wesl_form.specs.Nodes.{all_attribute_words, all_expression_words, plain_words, truth_words};
+ghost use Rattle.wesl_reading.specs.Forms.{attribute_of, attribute_text, expression_of, expression_text, plain_kind, plain_text};
 
 use crate::fields::wrong;
 use crate::joined::inside;
@@ -21,6 +21,7 @@ use wesl_syntax::{BinaryOperator, UnaryOperator};
 #[derive(Clone, Copy)]
 pub(crate) enum ExpressionWord {
     Literal,
+    Truth(bool),
     Parenthesized,
     NamedComponent,
     Indexing,
@@ -29,9 +30,9 @@ pub(crate) enum ExpressionWord {
     FunctionCall,
 }
 
-/// The expression that a word names.
-pub(crate) fn expression_word(text: &str) -> Option<ExpressionWord>
-    ensures node { option_map expression_of result ≡ look expression_words text.now }
+/// The expression that a word names. Truth values have words where spans are read.
+pub(crate) fn expression_word(spans: bool, text: &str) -> Option<ExpressionWord>
+    ensures node { option_map (expression_of spans) result ≡ look (all_expression_words spans) text.now }
     ensures text { IfSome result (λ w. text.now ≡ expression_text w) }
 {
     match text {
@@ -42,7 +43,29 @@ pub(crate) fn expression_word(text: &str) -> Option<ExpressionWord>
         "unary" => Some(ExpressionWord::Unary),
         "binary" => Some(ExpressionWord::Binary),
         "call" => Some(ExpressionWord::FunctionCall),
+        _ => { if spans { truth_word(text) } else { None } }
+    }
+}
+
+fn truth_word(text: &str) -> Option<ExpressionWord>
+    ensures node { option_map (expression_of true) result ≡ look (truth_words true) text.now }
+    ensures text { IfSome result (λ w. text.now ≡ expression_text w) }
+{
+    match text {
+        "true" => Some(ExpressionWord::Truth(true)),
+        "false" => Some(ExpressionWord::Truth(false)),
         _ => None,
+    }
+}
+
+/// The expression that the word at `k` names.
+pub(crate) fn expression_word_in(spans: bool, value: &BorrowedValue<'_>) -> Option<ExpressionWord>
+    ensures node { option_map (expression_of spans) result ≡ option_and_then (look (all_expression_words spans)) (as_str (borrowed_view value.now)) }
+    ensures text { IfSome result (λ w. as_str (borrowed_view value.now) ≡ Some (expression_text w)) }
+{
+    match value.as_str() {
+        Some(text) => expression_word(spans, text),
+        None => None,
     }
 }
 
@@ -60,6 +83,19 @@ pub enum OperandWord {
     Elif,
 }
 
+/// The words of the attributes without operand.
+#[derive(Clone, Copy)]
+pub enum PlainWord {
+    Const,
+    Invariant,
+    MustUse,
+    Vertex,
+    Fragment,
+    Compute,
+    Publish,
+    Else,
+}
+
 /// The words at `k` that tell which attribute an object is.
 #[derive(Clone, Copy)]
 pub enum AttributeWord {
@@ -69,11 +105,12 @@ pub enum AttributeWord {
     Interpolate,
     Diagnostic,
     Custom,
+    Plain(PlainWord),
 }
 
-/// The attribute that a word names.
-pub(crate) fn attribute_word(text: &str) -> Option<AttributeWord>
-    ensures node { option_map attribute_of result ≡ look attribute_nodes text.now }
+/// The attribute that a word names. Those without operand have words at `k` where spans are read.
+pub(crate) fn attribute_word(spans: bool, text: &str) -> Option<AttributeWord>
+    ensures node { option_map (attribute_of spans) result ≡ look (all_attribute_words spans) text.now }
     ensures text { IfSome result (λ w. text.now ≡ attribute_text w) }
 {
     match text {
@@ -91,7 +128,52 @@ pub(crate) fn attribute_word(text: &str) -> Option<AttributeWord>
         "interpolate" => Some(AttributeWord::Interpolate),
         "diagnostic" => Some(AttributeWord::Diagnostic),
         "custom" => Some(AttributeWord::Custom),
+        _ => {
+            if spans {
+                plain_attribute_word(text)
+            } else {
+                None
+            }
+        }
+    }
+}
+
+fn plain_attribute_word(text: &str) -> Option<AttributeWord>
+    ensures node { option_map (attribute_of true) result ≡ look (plain_words true) text.now }
+    ensures text { IfSome result (λ w. text.now ≡ attribute_text w) }
+{
+    match plain_word(text) {
+        Some(word) => Some(AttributeWord::Plain(word)),
+        None => None,
+    }
+}
+
+/// The attribute without operand that a word is.
+pub(crate) fn plain_word(text: &str) -> Option<PlainWord>
+    ensures node { option_map (λ w. kind (plain_kind w)) result ≡ look attribute_words text.now }
+    ensures text { IfSome result (λ w. text.now ≡ plain_text w) }
+{
+    match text {
+        "const" => Some(PlainWord::Const),
+        "invariant" => Some(PlainWord::Invariant),
+        "must_use" => Some(PlainWord::MustUse),
+        "vertex" => Some(PlainWord::Vertex),
+        "fragment" => Some(PlainWord::Fragment),
+        "compute" => Some(PlainWord::Compute),
+        "publish" => Some(PlainWord::Publish),
+        "else" => Some(PlainWord::Else),
         _ => None,
+    }
+}
+
+/// The attribute that the word at `k` names.
+pub(crate) fn attribute_word_in(spans: bool, value: &BorrowedValue<'_>) -> Option<AttributeWord>
+    ensures node { option_map (attribute_of spans) result ≡ option_and_then (look (all_attribute_words spans)) (as_str (borrowed_view value.now)) }
+    ensures text { IfSome result (λ w. as_str (borrowed_view value.now) ≡ Some (attribute_text w)) }
+{
+    match value.as_str() {
+        Some(text) => attribute_word(spans, text),
+        None => None,
     }
 }
 

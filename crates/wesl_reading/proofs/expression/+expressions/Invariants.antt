@@ -13,32 +13,35 @@ decreases-read_expression l = 10 * depth (borrowed_view l.value.now) + 9
 abbrev pub decreases-read_expression_object : goal.decreases-read_expression_object
 decreases-read_expression_object l = 10 * depth (borrowed_view l.value.now) + 8
 
+abbrev pub decreases-read_worded_expression : goal.decreases-read_worded_expression
+decreases-read_worded_expression l = 10 * depth (borrowed_view l.value.now) + 7
+
 abbrev pub decreases-read_parenthesized : goal.decreases-read_parenthesized
-decreases-read_parenthesized l = 10 * depth (borrowed_view l.value.now) + 7
+decreases-read_parenthesized l = 10 * depth (borrowed_view l.value.now) + 6
 
 abbrev pub decreases-read_component : goal.decreases-read_component
-decreases-read_component l = 10 * depth (borrowed_view l.value.now) + 7
+decreases-read_component l = 10 * depth (borrowed_view l.value.now) + 6
 
 abbrev pub decreases-read_indexing : goal.decreases-read_indexing
-decreases-read_indexing l = 10 * depth (borrowed_view l.value.now) + 7
+decreases-read_indexing l = 10 * depth (borrowed_view l.value.now) + 6
 
 abbrev pub decreases-read_unary : goal.decreases-read_unary
-decreases-read_unary l = 10 * depth (borrowed_view l.value.now) + 7
+decreases-read_unary l = 10 * depth (borrowed_view l.value.now) + 6
 
 abbrev pub decreases-read_binary : goal.decreases-read_binary
-decreases-read_binary l = 10 * depth (borrowed_view l.value.now) + 7
+decreases-read_binary l = 10 * depth (borrowed_view l.value.now) + 6
 
 abbrev pub decreases-read_call_expression : goal.decreases-read_call_expression
-decreases-read_call_expression l = 10 * depth (borrowed_view l.value.now) + 7
+decreases-read_call_expression l = 10 * depth (borrowed_view l.value.now) + 6
 
 abbrev pub decreases-read_type_or_identifier : goal.decreases-read_type_or_identifier
-decreases-read_type_or_identifier l = 10 * depth (borrowed_view l.value.now) + 7
+decreases-read_type_or_identifier l = 10 * depth (borrowed_view l.value.now) + 6
 
 abbrev pub decreases-read_type : goal.decreases-read_type
 decreases-read_type l = 10 * depth (borrowed_view l.value.now) + 8
 
 abbrev pub decreases-read_type_object : goal.decreases-read_type_object
-decreases-read_type_object l = 10 * depth (borrowed_view l.value.now) + 6
+decreases-read_type_object l = 10 * depth (borrowed_view l.value.now) + 5
 
 abbrev pub decreases-expression_member : goal.decreases-expression_member
 decreases-expression_member l = 10 * depth (borrowed_view l.value.now) + 3
@@ -63,8 +66,8 @@ decreases-read_arguments l = 10 * depth (borrowed_view l.value.now) + 2
 
 abbrev pub invariant-read_arguments-loop-index : goal.invariant-read_arguments-loop-index
 invariant-read_arguments-loop-index l =
-    IsListRead argument_view list a_template_argument (borrowed_view l.value) l.item-items l.index l.initial.numbering l.numbering l.arguments
+    IsListRead l.spans argument_view list a_template_argument (borrowed_view l.value) l.item-items l.index l.initial.numbering l.numbering l.arguments
 
 abbrev pub invariant-read_expressions-loop-index : goal.invariant-read_expressions-loop-index
 invariant-read_expressions-loop-index l =
-    IsListRead expression_tree list an_expression (borrowed_view l.value) l.item-items l.index l.initial.numbering l.numbering l.expressions
+    IsListRead l.spans expression_tree list an_expression (borrowed_view l.value) l.item-items l.index l.initial.numbering l.numbering l.expressions

@@ -10,5 +10,5 @@ use Rattle.wesl_reading.proofs.expression.expression_word_of.Goals as goal
 pub returns-in-None-clause-place : goal.returns-in-None-clause-place
 returns-in-None-clause-place c =
     let found : get (codes "k") (borrowed_view c.args.value.now) ≡ Some (borrowed_view c.in-Some.word.now) = sym c.in-Some.ensures in
-    let none : nodes_of an_expression (borrowed_view c.args.value.now) ≡ None = no-expression (borrowed_view c.args.value.now) (borrowed_view c.in-Some.word.now) found (search rules) in
-    unknown-word an_expression (borrowed_view c.args.value.now) (borrowed_view c.in-Some.word.now) c.wrong.result c.under.result found none c.wrong.ensures c.under.ensures
+    let none : nodes_of c.args.spans an_expression (borrowed_view c.args.value.now) ≡ None = no-expression c.args.spans (borrowed_view c.args.value.now) (borrowed_view c.in-Some.word.now) found (search rules) in
+    unknown-word c.args.spans an_expression (borrowed_view c.args.value.now) (borrowed_view c.in-Some.word.now) c.wrong.result c.under.result found none c.wrong.ensures c.under.ensures

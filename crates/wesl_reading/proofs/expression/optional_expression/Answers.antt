@@ -7,8 +7,8 @@ use Rattle.wesl_reading.proofs.expression.optional_expression.Goals as goal
 
 pub returns-clause-ok : goal.returns-clause-ok
 returns-clause-ok c =
-    may-inside c.args.key.now (borrowed_view c.args.value.now) (borrowed_view c.in-Some.member.now) (sym c.in-Some.ensures) c.read_expression.result (node an_expression) expression_tree _ _ c.read_expression.ensures.ok c.inside_option.result c.inside_option.ensures.ok
+    may-inside c.args.spans c.args.key.now (borrowed_view c.args.value.now) (borrowed_view c.in-Some.member.now) (sym c.in-Some.ensures) c.read_expression.result (node an_expression) expression_tree _ _ c.read_expression.ensures.ok c.inside_option.result c.inside_option.ensures.ok
 
 pub returns-clause-place : goal.returns-clause-place
 returns-clause-place c =
-    fault-inside c.args.key.now (borrowed_view c.args.value.now) (borrowed_view c.in-Some.member.now) (sym c.in-Some.ensures) c.read_expression.result (node an_expression) c.inside_option.result c.read_expression.ensures.place c.inside_option.ensures.place
+    fault-inside c.args.spans c.args.key.now (borrowed_view c.args.value.now) (borrowed_view c.in-Some.member.now) (sym c.in-Some.ensures) c.read_expression.result (node an_expression) c.inside_option.result c.read_expression.ensures.place c.inside_option.ensures.place

@@ -15,23 +15,23 @@ pub returns-then-not-has_only-clause-place : goal.returns-then-not-has_only-clau
 returns-then-not-has_only-clause-place c =
     let d = borrowed_view c.args.value.now in
     let lacking : has_only (known_keys call_row d) d ≡ false = sym c.has_only.ensures ∙ c.if-not-has_only.true in
-    bare-call-keys d c.wrong.result lacking c.wrong.ensures
+    bare-call-keys c.args.spans d c.wrong.result lacking c.wrong.ensures
 
 pub returns-in-Err-clause-place : goal.returns-in-Err-clause-place
 returns-in-Err-clause-place c =
     let d = borrowed_view c.args.value.now in
     let known : has_only (known_keys call_row d) d ≡ true = sym c.has_only.ensures ∙ c.if-not-has_only.false in
-    bare-call-place d c.in-Err.error known (row-member call_row (codes "ty") (node a_type) d c.in-Err.error refl c.in-Err.ensures.place)
+    bare-call-place c.args.spans d c.in-Err.error known (row-member c.args.spans call_row (codes "ty") (node a_type) d c.in-Err.error refl c.in-Err.ensures.place)
 
 pub returns-in-Err-expressions_member-clause-place : goal.returns-in-Err-expressions_member-clause-place
 returns-in-Err-expressions_member-clause-place c =
     let d = borrowed_view c.args.value.now in
     let known : has_only (known_keys call_row d) d ≡ true = sym c.has_only.ensures ∙ c.if-not-has_only.false in
-    bare-call-place d c.in-Err-expressions_member.error known (row-inside call_row (codes "args") false (list_of list an_expression) d c.in-Err-expressions_member.error refl c.in-Err-expressions_member.ensures.place)
+    bare-call-place c.args.spans d c.in-Err-expressions_member.error known (row-inside c.args.spans call_row (codes "args") false (list_of list an_expression) d c.in-Err-expressions_member.error refl c.in-Err-expressions_member.ensures.place)
 
 pub returns-in-Ok-expressions_member-clause-ok : goal.returns-in-Ok-expressions_member-clause-ok
 returns-in-Ok-expressions_member-clause-ok c =
     let ty_read = c.in-Ok.ensures.ok in
     let arguments_read = c.in-Ok-expressions_member.ensures.ok in
     let known : has_only (known_keys call_row (borrowed_view c.args.value.now)) (borrowed_view c.args.value.now) ≡ true = sym c.has_only.ensures ∙ c.if-not-has_only.false in
-    same-reads (bare-call-reads (borrowed_view c.args.value.now) _ _ _ known (call-rows (borrowed_view c.args.value.now) _ _ _ _ _ ty_read arguments_read)) (sym (made_call c.in-Ok.ty c.in-Ok-expressions_member.arguments))
+    same-reads (bare-call-reads c.args.spans (borrowed_view c.args.value.now) _ _ _ known (call-rows c.args.spans (borrowed_view c.args.value.now) _ _ _ _ _ ty_read arguments_read)) (sym (made_call c.in-Ok.ty c.in-Ok-expressions_member.arguments))

@@ -1,4 +1,4 @@
-use Rattle.std.proofs.Common.{codes}
+use Rattle.std.proofs.Common.{Bool, codes}
 use Rattle.std.proofs.lemmas.Result.{IfOk-weaker, IfErr-weaker}
 use Rattle.wesl_form.specs.View.{borrowed_view}
 use Rattle.wesl_syntax.specs.Tree.{ident, reference, leaf as leaf_tree}
@@ -13,7 +13,7 @@ use Rattle.wesl_reading.proofs.expression.reference_member.Goals as goal
 pub returns-in-Ok-clause-ok : goal.returns-in-Ok-clause-ok
 returns-in-Ok-clause-ok c =
     let d = borrowed_view c.args.value.now in
-    IfOk-weaker c.number.result _ (λ e. ReadsNeeded (codes "name") (leaf (an_ident reference)) d (leaf_tree (ident reference e.0)) c.args.numbering.now c.number.new.self) (λ e h. ident-member reference (codes "name") d c.in-Ok.name.now e.0 c.args.numbering.now c.number.new.self c.in-Ok.ensures.ok h) c.number.ensures.number
+    IfOk-weaker c.number.result _ (λ e. (spans : Bool) → ReadsNeeded spans (codes "name") (leaf (an_ident reference)) d (leaf_tree (ident reference e.0)) c.args.numbering.now c.number.new.self) (λ e h spans. ident-member reference (codes "name") d c.in-Ok.name.now e.0 c.args.numbering.now c.number.new.self c.in-Ok.ensures.ok h) c.number.ensures.number
 
 pub returns-in-Ok-clause-place : goal.returns-in-Ok-clause-place
 returns-in-Ok-clause-place c =

@@ -1,7 +1,7 @@
 use Rattle.std.proofs.Common.{sym}
 use Rattle.wesl_form.specs.View.{borrowed_view}
 use Rattle.wesl_form.specs.Schema.{leaf, some_names}
-use Rattle.wesl_reading.proofs.Within.{fault-inside, many-each}
+use Rattle.wesl_reading.proofs.Within.{fault-each, many-each}
 use Rattle.wesl_syntax.specs.View.{names_tree}
 use Rattle.wesl_reading.proofs.names.names_member.Goals as goal
 
@@ -11,4 +11,4 @@ returns-clause-ok c =
 
 pub returns-clause-place : goal.returns-clause-place
 returns-clause-place c =
-    fault-inside c.args.key.now (borrowed_view c.args.value.now) (borrowed_view c.in-Some.member.now) (sym c.in-Some.ensures) c.read_names.result (leaf some_names) c.inside.result c.read_names.ensures.place c.inside.ensures.place
+    fault-each c.args.key.now (borrowed_view c.args.value.now) (borrowed_view c.in-Some.member.now) (sym c.in-Some.ensures) c.read_names.result (leaf some_names) c.inside.result c.read_names.ensures.place c.inside.ensures.place

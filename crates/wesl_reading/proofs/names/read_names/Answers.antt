@@ -19,7 +19,7 @@ pub returns-clause-ok : goal.returns-clause-ok
 returns-clause-ok c =
     let vs = c.deref-item-items.result.now in
     let is : as_array (borrowed_view c.args.value.now) ≡ Some (items_view vs) = sym c.in-Some.ensures ∙ ap (λ l. Some (items_view l)) (sym c.deref-item-items.ensures.value) in
-    IfOk-weaker c.loop-index.texts _ _ (λ xs h names. names-whole (borrowed_view c.args.value.now) vs c.loop-index.index xs.items names is c.loop-index-test.false h) c.loop-index.invariant.0
+    IfOk-weaker c.loop-index.texts _ _ (λ xs h spans names. names-whole (borrowed_view c.args.value.now) vs c.loop-index.index xs.items names is c.loop-index-test.false h) c.loop-index.invariant.0
 
 pub returns-clause-place : goal.returns-clause-place
 returns-clause-place c = c.loop-index.invariant.1
