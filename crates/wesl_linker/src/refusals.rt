@@ -124,11 +124,7 @@ fn in_module(alloc: Global, numbers: &Numbers, error: Error, id: Option<PathId>)
 }
 
 /// The diagnostic of a refused link: it tells why and in which module, unless there is no memory to tell it.
-pub fn diagnostic_of(
-    alloc: Global,
-    numbers: &Numbers,
-    fault: LinkError<ResolveError>,
-) -> Diagnostic
+pub fn diagnostic_of(alloc: Global, numbers: &Numbers, fault: LinkError<ResolveError>) -> Diagnostic
     requires { HasNumbers (numbering numbers.now) fault }
     ensures { IsToldBy (numbering numbers.now) fault result }
 {

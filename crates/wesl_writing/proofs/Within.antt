@@ -33,7 +33,7 @@ word_before x is = nat_list_cmp_total.antisymm word_key x ∙ ap ordering_revers
 both_at : (o q : Ordering) (x : Text) (d v e : Data) (ms : Members) → (q ≡ Less → o ≡ Less) → (q ≡ Equal → o ≡ Less) → slice_cmp nat_cmp word_key x ≡ o → slice_cmp nat_cmp span_key x ≡ q
     → put word_key d (put span_key v ms) ≡ put span_key v (put word_key d ms)
     → put word_key d (match_ordering q (member span_key v (member x e ms)) (member x v ms) (member x e (put span_key v ms)))
-        ≡ put span_key v (match_ordering o (member word_key d (member x e ms)) (member x d ms) (member x e (put word_key d ms)))
+    ≡ put span_key v (match_ordering o (member word_key d (member x e ms)) (member x d ms) (member x e (put word_key d ms)))
 both_at Less Less x d v e ms f g is has later = rw (has) refl
 both_at Less Equal x d v e ms f g is has later = rw (is, has) refl
 both_at Less Greater x d v e ms f g is has later = rw (is, has) refl

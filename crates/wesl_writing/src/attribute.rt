@@ -28,7 +28,10 @@ pub(crate) fn attribute_values<'a>(
 {
     let mut values = Vec::with_capacity(alloc, attributes.len());
     for attribute in attributes {
-        values = with_item(values, attribute_value(alloc, spans, names, &attribute.node, attribute.span));
+        values = with_item(
+            values,
+            attribute_value(alloc, spans, names, &attribute.node, attribute.span),
+        );
     }
     values
 }
@@ -48,7 +51,12 @@ fn attribute_value<'a>(
 
 // Where it has no place.
 #[tactic(auto, unfolding(crate::specs::Values::placed_in, crate::specs::Values::placed_at, crate::specs::Values::with_member, crate::specs::Values::with_list, crate::specs::Values::with_option))]
-fn bare_attribute_value<'a>(alloc: Global, spans: bool, names: &'a Names, attribute: &'a Attribute) -> Written<'a>
+fn bare_attribute_value<'a>(
+    alloc: Global,
+    spans: bool,
+    names: &'a Names,
+    attribute: &'a Attribute,
+) -> Written<'a>
     ensures { IfOk result (λ v. piece_view v ≡ attribute_in spans names.now (attribute_view attribute.now)) }
 {
     match attribute {

@@ -36,7 +36,10 @@ pub(crate) fn global_values<'a>(
 {
     let mut values = Vec::with_capacity(alloc, declarations.len());
     for declaration in declarations {
-        values = with_item(values, global_value(alloc, spans, names, &declaration.node, declaration.span));
+        values = with_item(
+            values,
+            global_value(alloc, spans, names, &declaration.node, declaration.span),
+        );
     }
     values
 }
@@ -66,7 +69,12 @@ fn bare_global_value<'a>(
 {
     match declaration {
         GlobalDeclaration::Void => void_value(alloc, spans, names),
-        GlobalDeclaration::Declaration(declaration) => declaration_value(alloc, spans, names, declaration),
+        GlobalDeclaration::Declaration(declaration) => declaration_value(
+            alloc,
+            spans,
+            names,
+            declaration,
+        ),
         GlobalDeclaration::TypeAlias(alias) => alias_value(alloc, spans, names, alias),
         GlobalDeclaration::Struct(structure) => struct_value(alloc, spans, names, structure),
         GlobalDeclaration::Function(function) => function_value(alloc, spans, names, function),
@@ -93,7 +101,14 @@ pub(crate) fn declaration_value<'a>(
     ensures local { IfOk result (λ v. piece_view v ≡ statement_in spans names.now (declaration_view declaration.now)) }
 {
     let object = Object::new(alloc);
-    let object = with_optional_expression(alloc, spans, object, names, "init", &declaration.initializer);
+    let object = with_optional_expression(
+        alloc,
+        spans,
+        object,
+        names,
+        "init",
+        &declaration.initializer,
+    );
     let object = with_optional_type(alloc, spans, object, names, "ty", &declaration.ty).text(
         "name",
         spelling(names, declaration.ident),
@@ -116,7 +131,12 @@ fn kind_word(kind: DeclarationKind) -> &'static str
 }
 
 // The object with the space and the access mode of a variable.
-fn with_space<'a>(object: Object<'a>, spans: bool, names: &'a Names, kind: DeclarationKind) -> Object<'a>
+fn with_space<'a>(
+    object: Object<'a>,
+    spans: bool,
+    names: &'a Names,
+    kind: DeclarationKind,
+) -> Object<'a>
     ensures { (ms : Members) → Holds object.entry ms → Holds result (with_space_of spans names.now (kind_tree kind) ms) }
 {
     match kind {
@@ -131,7 +151,12 @@ fn with_space<'a>(object: Object<'a>, spans: bool, names: &'a Names, kind: Decla
 }
 
 // The object with an access mode, an option.
-fn with_access<'a>(object: Object<'a>, spans: bool, names: &'a Names, mode: Option<AccessMode>) -> Object<'a>
+fn with_access<'a>(
+    object: Object<'a>,
+    spans: bool,
+    names: &'a Names,
+    mode: Option<AccessMode>,
+) -> Object<'a>
     ensures { (ms : Members) → Holds object.entry ms → Holds result (with_option (codes "access") spans names.now (leaf (one_of access_words)) (optional access_tree mode) ms) }
 {
     match mode {
@@ -140,7 +165,12 @@ fn with_access<'a>(object: Object<'a>, spans: bool, names: &'a Names, mode: Opti
     }
 }
 
-fn alias_value<'a>(alloc: Global, spans: bool, names: &'a Names, alias: &'a TypeAlias) -> Written<'a>
+fn alias_value<'a>(
+    alloc: Global,
+    spans: bool,
+    names: &'a Names,
+    alias: &'a TypeAlias,
+) -> Written<'a>
     ensures { IfOk result (λ v. piece_view v ≡ declaration_in spans names.now (alias_view alias.now)) }
 {
     let name = spelling(names, alias.ident);
@@ -164,12 +194,20 @@ fn typed_object<'a>(
         .list("attrs", attribute_values(alloc, spans, names, attributes))
 }
 
-fn struct_value<'a>(alloc: Global, spans: bool, names: &'a Names, structure: &'a Struct) -> Written<'a>
+fn struct_value<'a>(
+    alloc: Global,
+    spans: bool,
+    names: &'a Names,
+    structure: &'a Struct,
+) -> Written<'a>
     ensures { IfOk result (λ v. piece_view v ≡ declaration_in spans names.now (struct_view structure.now)) }
 {
     let attributes = attribute_values(alloc, spans, names, &structure.attributes);
     Object::new(alloc)
-        .list("members", member_values(alloc, spans, names, &structure.members))
+        .list(
+            "members",
+            member_values(alloc, spans, names, &structure.members),
+        )
         .text("name", spelling(names, structure.ident))
         .list("attrs", attributes)
         .worded("struct")
@@ -185,7 +223,10 @@ fn member_values<'a>(
 {
     let mut values = Vec::with_capacity(alloc, members.len());
     for member in members {
-        values = with_item(values, member_value(alloc, spans, names, &member.node, member.span));
+        values = with_item(
+            values,
+            member_value(alloc, spans, names, &member.node, member.span),
+        );
     }
     values
 }
@@ -204,14 +245,24 @@ fn member_value<'a>(
 }
 
 // Where it has no place.
-fn bare_member_value<'a>(alloc: Global, spans: bool, names: &'a Names, member: &'a StructMember) -> Written<'a>
+fn bare_member_value<'a>(
+    alloc: Global,
+    spans: bool,
+    names: &'a Names,
+    member: &'a StructMember,
+) -> Written<'a>
     ensures { IfOk result (λ v. piece_view v ≡ placed_in spans names.now a_member member_node (member_view member.now)) }
 {
     let name = member.name.as_str();
     typed_object(alloc, spans, names, &member.attributes, name, &member.ty).finish()
 }
 
-fn function_value<'a>(alloc: Global, spans: bool, names: &'a Names, function: &'a Function) -> Written<'a>
+fn function_value<'a>(
+    alloc: Global,
+    spans: bool,
+    names: &'a Names,
+    function: &'a Function,
+) -> Written<'a>
     ensures { IfOk result (λ v. piece_view v ≡ declaration_in spans names.now (function_view function.now)) }
 {
     let object = Object::new(alloc).value("body", body_value(alloc, spans, names, &function.body));
@@ -250,7 +301,15 @@ fn parameter_value<'a>(
     ensures { IfOk result (λ v. piece_view v ≡ value_in spans names.now (node_form a_parameter) (parameter_view parameter.now)) }
 {
     let name = spelling(names, parameter.ident);
-    typed_object(alloc, spans, names, &parameter.attributes, name, &parameter.ty).finish()
+    typed_object(
+        alloc,
+        spans,
+        names,
+        &parameter.attributes,
+        name,
+        &parameter.ty,
+    )
+    .finish()
 }
 
 /// The value of an assertion, which is the same in a module and in a function.
@@ -263,7 +322,13 @@ pub(crate) fn assert_value<'a>(
     ensures global { IfOk result (λ v. piece_view v ≡ declaration_in spans names.now (assert_view assertion.now)) }
     ensures local { IfOk result (λ v. piece_view v ≡ statement_in spans names.now (assert_view assertion.now)) }
 {
-    let expression = expression_value(alloc, spans, names, &assertion.expression.node, assertion.expression.span);
+    let expression = expression_value(
+        alloc,
+        spans,
+        names,
+        &assertion.expression.node,
+        assertion.expression.span,
+    );
     let attributes = attribute_values(alloc, spans, names, &assertion.attributes);
     Object::new(alloc)
         .value("expr", expression)

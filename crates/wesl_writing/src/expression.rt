@@ -50,7 +50,13 @@ fn bare_expression_value<'a>(
     match expression {
         Expression::Literal(literal) => literal_value(alloc, spans, names, literal),
         Expression::Parenthesized { expression } => {
-            let expression = expression_value(alloc, spans, names, &expression.node, expression.span);
+            let expression = expression_value(
+                alloc,
+                spans,
+                names,
+                &expression.node,
+                expression.span,
+            );
             Object::new(alloc).value("expr", expression).worded("paren")
         }
         Expression::NamedComponent { base, component } => {
@@ -82,7 +88,12 @@ fn bare_expression_value<'a>(
     }
 }
 
-fn literal_value<'a>(alloc: Global, spans: bool, names: &'a Names, literal: &'a Literal) -> Written<'a>
+fn literal_value<'a>(
+    alloc: Global,
+    spans: bool,
+    names: &'a Names,
+    literal: &'a Literal,
+) -> Written<'a>
     ensures { IfOk result (λ v. piece_view v ≡ expression_in spans names.now (branch literal_kind (literal_tree literal.now ∷ []))) }
 {
     match literal {
@@ -112,7 +123,12 @@ fn binary_value<'a>(
 
 /// The members of a call.
 #[cycle(writing)]
-pub(crate) fn call_object<'a>(alloc: Global, spans: bool, names: &'a Names, call: &'a FunctionCall) -> Object<'a>
+pub(crate) fn call_object<'a>(
+    alloc: Global,
+    spans: bool,
+    names: &'a Names,
+    call: &'a FunctionCall,
+) -> Object<'a>
     ensures { Holds result (call_members spans names.now (call_view call.now)) }
 {
     let arguments = expression_values(alloc, spans, names, &call.arguments);
@@ -132,14 +148,22 @@ pub(crate) fn expression_values<'a>(
 {
     let mut values = Vec::with_capacity(alloc, nodes.len());
     for node in nodes {
-        values = with_item(values, expression_value(alloc, spans, names, &node.node, node.span));
+        values = with_item(
+            values,
+            expression_value(alloc, spans, names, &node.node, node.span),
+        );
     }
     values
 }
 
 /// The value of a type: its name, where it has no path and no arguments.
 #[cycle(writing)]
-pub(crate) fn type_value<'a>(alloc: Global, spans: bool, names: &'a Names, ty: &'a TypeExpression) -> Written<'a>
+pub(crate) fn type_value<'a>(
+    alloc: Global,
+    spans: bool,
+    names: &'a Names,
+    ty: &'a TypeExpression,
+) -> Written<'a>
     ensures { IfOk result (λ v. piece_view v ≡ value_in spans names.now (node_form a_type) (type_view ty.now)) }
 {
     match &ty.template_args {
@@ -238,7 +262,13 @@ fn argument_values<'a>(
     for argument in arguments {
         values = with_item(
             values,
-            expression_value(alloc, spans, names, &argument.expression.node, argument.expression.span),
+            expression_value(
+                alloc,
+                spans,
+                names,
+                &argument.expression.node,
+                argument.expression.span,
+            ),
         );
     }
     values
@@ -273,7 +303,10 @@ pub(crate) fn with_optional_expression<'a>(
     ensures { (ms : Members) → Holds object.entry ms → Holds result (with_option key.now spans names.now (node_form an_expression) (optional expression_tree expression.now) ms) }
 {
     match expression {
-        Some(expression) => object.value(key, expression_value(alloc, spans, names, &expression.node, expression.span)),
+        Some(expression) => object.value(
+            key,
+            expression_value(alloc, spans, names, &expression.node, expression.span),
+        ),
         None => object,
     }
 }

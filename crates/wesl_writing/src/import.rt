@@ -29,7 +29,10 @@ pub fn import_values<'a>(
 {
     let mut values = Vec::with_capacity(alloc, imports.len());
     for import in imports {
-        values = with_item(values, import_value(alloc, spans, names, &import.node, import.span));
+        values = with_item(
+            values,
+            import_value(alloc, spans, names, &import.node, import.span),
+        );
     }
     values
 }
@@ -48,18 +51,31 @@ fn import_value<'a>(
 }
 
 // Where it has no place.
-fn bare_import_value<'a>(alloc: Global, spans: bool, names: &'a Names, import: &'a ImportStatement) -> Written<'a>
+fn bare_import_value<'a>(
+    alloc: Global,
+    spans: bool,
+    names: &'a Names,
+    import: &'a ImportStatement,
+) -> Written<'a>
     ensures { IfOk result (λ v. piece_view v ≡ placed_in spans names.now an_import import_node (import_view import.now)) }
 {
     let content = content_value(alloc, spans, names, &import.content);
     let object = Object::new(alloc).value("content", content);
     with_optional_path(alloc, spans, object, names, &import.path)
-        .list("attrs", attribute_values(alloc, spans, names, &import.attributes))
+        .list(
+            "attrs",
+            attribute_values(alloc, spans, names, &import.attributes),
+        )
         .finish()
 }
 
 #[cycle(writing)]
-fn content_value<'a>(alloc: Global, spans: bool, names: &'a Names, content: &'a ImportContent) -> Written<'a>
+fn content_value<'a>(
+    alloc: Global,
+    spans: bool,
+    names: &'a Names,
+    content: &'a ImportContent,
+) -> Written<'a>
     ensures { IfOk result (λ v. piece_view v ≡ value_in spans names.now (node_form a_content) (content_view content.now)) }
 {
     match content {
@@ -85,7 +101,12 @@ fn item_value<'a>(alloc: Global, spans: bool, names: &'a Names, item: &'a Import
 }
 
 #[cycle(writing)]
-fn entry_values<'a>(alloc: Global, spans: bool, names: &'a Names, entries: &'a Vec<Import>) -> WrittenList<'a>
+fn entry_values<'a>(
+    alloc: Global,
+    spans: bool,
+    names: &'a Names,
+    entries: &'a Vec<Import>,
+) -> WrittenList<'a>
     ensures { IfOk result (λ vs. items_view vs.items ≡ items_in spans names.now an_entry (listed entry_view list entries.now).children) }
 {
     let mut values = Vec::with_capacity(alloc, entries.len());
@@ -117,7 +138,10 @@ pub fn directive_values<'a>(
 {
     let mut values = Vec::with_capacity(alloc, directives.len());
     for directive in directives {
-        values = with_item(values, directive_value(alloc, spans, names, &directive.node, directive.span));
+        values = with_item(
+            values,
+            directive_value(alloc, spans, names, &directive.node, directive.span),
+        );
     }
     values
 }
@@ -150,7 +174,14 @@ fn bare_directive_value<'a>(
             attributes,
             severity,
             rule,
-        } => diagnostic_value(alloc, spans, names, attributes, severity.as_str(), rule.as_str()),
+        } => diagnostic_value(
+            alloc,
+            spans,
+            names,
+            attributes,
+            severity.as_str(),
+            rule.as_str(),
+        ),
         GlobalDirective::Enable {
             attributes,
             names: enabled,

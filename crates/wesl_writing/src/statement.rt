@@ -70,10 +70,13 @@ fn bare_statement_value<'a>(
             else_if_clauses,
             else_clause,
         } => {
-            let object = with_optional_else(alloc, spans, Object::new(alloc), names, else_clause).list(
-                "elifs",
-                elif_values(alloc, spans, names, else_if_clauses),
-            );
+            let object = with_optional_else(
+                alloc,
+                spans,
+                Object::new(alloc),
+                names,
+                else_clause,
+            ).list("elifs", elif_values(alloc, spans, names, else_if_clauses));
             with_if_clause(alloc, spans, object, names, if_clause)
                 .list("attrs", attribute_values(alloc, spans, names, attributes))
                 .worded("if")
@@ -84,7 +87,13 @@ fn bare_statement_value<'a>(
             body_attributes,
             clauses,
         } => {
-            let expression = expression_value(alloc, spans, names, &expression.node, expression.span);
+            let expression = expression_value(
+                alloc,
+                spans,
+                names,
+                &expression.node,
+                expression.span,
+            );
             let body_attributes = attribute_values(alloc, spans, names, body_attributes);
             Object::new(alloc)
                 .list("clauses", clause_values(alloc, spans, names, clauses))
@@ -128,7 +137,9 @@ fn bare_statement_value<'a>(
                 .worded("while")
         }
         Statement::Break { attributes } => jump_value(alloc, spans, names, "break", attributes),
-        Statement::Continue { attributes } => jump_value(alloc, spans, names, "continue", attributes),
+        Statement::Continue { attributes } => jump_value(
+            alloc, spans, names, "continue", attributes,
+        ),
         Statement::Return {
             attributes,
             expression,
@@ -239,12 +250,23 @@ pub(crate) fn body_value<'a>(
 }
 
 #[cycle(writing)]
-fn body_object<'a>(alloc: Global, spans: bool, names: &'a Names, body: &'a CompoundStatement) -> Object<'a>
+fn body_object<'a>(
+    alloc: Global,
+    spans: bool,
+    names: &'a Names,
+    body: &'a CompoundStatement,
+) -> Object<'a>
     ensures { Holds result (body_members spans names.now (compound_view body.now)) }
 {
     Object::new(alloc)
-        .list("stmts", statement_values(alloc, spans, names, &body.statements))
-        .list("attrs", attribute_values(alloc, spans, names, &body.attributes))
+        .list(
+            "stmts",
+            statement_values(alloc, spans, names, &body.statements),
+        )
+        .list(
+            "attrs",
+            attribute_values(alloc, spans, names, &body.attributes),
+        )
 }
 
 #[cycle(writing)]
@@ -258,7 +280,10 @@ fn statement_values<'a>(
 {
     let mut values = Vec::with_capacity(alloc, nodes.len());
     for node in nodes {
-        values = with_item(values, statement_value(alloc, spans, names, &node.node, node.span));
+        values = with_item(
+            values,
+            statement_value(alloc, spans, names, &node.node, node.span),
+        );
     }
     values
 }
@@ -274,9 +299,10 @@ fn with_condition<'a>(
 ) -> Object<'a>
     ensures { (ms : Members) (d : Data) → Holds object.entry ms → IfOk body.entry (λ v. piece_view v ≡ d) → Holds result (with_member (codes "cond") (expression_at spans names.now condition.now.span (expression_view condition.now.node)) (with_member (codes "body") d ms)) }
 {
-    object
-        .value("body", body)
-        .value("cond", expression_value(alloc, spans, names, &condition.node, condition.span))
+    object.value("body", body).value(
+        "cond",
+        expression_value(alloc, spans, names, &condition.node, condition.span),
+    )
 }
 
 #[cycle(writing)]
@@ -310,13 +336,28 @@ fn elif_values<'a>(
 }
 
 #[cycle(writing)]
-fn elif_value<'a>(alloc: Global, spans: bool, names: &'a Names, clause: &'a ElseIfClause) -> Written<'a>
+fn elif_value<'a>(
+    alloc: Global,
+    spans: bool,
+    names: &'a Names,
+    clause: &'a ElseIfClause,
+) -> Written<'a>
     ensures { IfOk result (λ v. piece_view v ≡ value_in spans names.now (node_form an_elif) (else_if_view clause.now)) }
 {
     let body = body_value(alloc, spans, names, &clause.body);
-    with_condition(alloc, spans, Object::new(alloc), names, &clause.expression, body)
-        .list("attrs", attribute_values(alloc, spans, names, &clause.attributes))
-        .finish()
+    with_condition(
+        alloc,
+        spans,
+        Object::new(alloc),
+        names,
+        &clause.expression,
+        body,
+    )
+    .list(
+        "attrs",
+        attribute_values(alloc, spans, names, &clause.attributes),
+    )
+    .finish()
 }
 
 #[cycle(writing)]
@@ -336,12 +377,20 @@ fn with_optional_else<'a>(
 }
 
 #[cycle(writing)]
-fn else_value<'a>(alloc: Global, spans: bool, names: &'a Names, clause: &'a ElseClause) -> Written<'a>
+fn else_value<'a>(
+    alloc: Global,
+    spans: bool,
+    names: &'a Names,
+    clause: &'a ElseClause,
+) -> Written<'a>
     ensures { IfOk result (λ v. piece_view v ≡ value_in spans names.now (node_form an_else) (else_view clause.now)) }
 {
     Object::new(alloc)
         .value("body", body_value(alloc, spans, names, &clause.body))
-        .list("attrs", attribute_values(alloc, spans, names, &clause.attributes))
+        .list(
+            "attrs",
+            attribute_values(alloc, spans, names, &clause.attributes),
+        )
         .finish()
 }
 
@@ -362,13 +411,24 @@ fn clause_values<'a>(
 }
 
 #[cycle(writing)]
-fn clause_value<'a>(alloc: Global, spans: bool, names: &'a Names, clause: &'a SwitchClause) -> Written<'a>
+fn clause_value<'a>(
+    alloc: Global,
+    spans: bool,
+    names: &'a Names,
+    clause: &'a SwitchClause,
+) -> Written<'a>
     ensures { IfOk result (λ v. piece_view v ≡ value_in spans names.now (node_form a_clause) (clause_view clause.now)) }
 {
     Object::new(alloc)
         .value("body", body_value(alloc, spans, names, &clause.body))
-        .list("cases", case_values(alloc, spans, names, &clause.case_selectors))
-        .list("attrs", attribute_values(alloc, spans, names, &clause.attributes))
+        .list(
+            "cases",
+            case_values(alloc, spans, names, &clause.case_selectors),
+        )
+        .list(
+            "attrs",
+            attribute_values(alloc, spans, names, &clause.attributes),
+        )
         .finish()
 }
 
@@ -387,12 +447,19 @@ fn case_values<'a>(
     values
 }
 
-fn case_value<'a>(alloc: Global, spans: bool, names: &'a Names, selector: &'a CaseSelector) -> Written<'a>
+fn case_value<'a>(
+    alloc: Global,
+    spans: bool,
+    names: &'a Names,
+    selector: &'a CaseSelector,
+) -> Written<'a>
     ensures { IfOk result (λ v. piece_view v ≡ value_in spans names.now (node_form a_case) (selector_view selector.now)) }
 {
     match selector {
         CaseSelector::Default => Object::new(alloc).worded("default"),
-        CaseSelector::Expression(expression) => { expression_value(alloc, spans, names, &expression.node, expression.span) }
+        CaseSelector::Expression(expression) => {
+            expression_value(alloc, spans, names, &expression.node, expression.span)
+        }
     }
 }
 
@@ -408,7 +475,10 @@ fn with_optional_continuing<'a>(
 {
     match continuing {
         Some(continuing) => {
-            object.value("continuing", continuing_value(alloc, spans, names, continuing))
+            object.value(
+                "continuing",
+                continuing_value(alloc, spans, names, continuing),
+            )
         }
         None => object,
     }
@@ -424,10 +494,16 @@ fn continuing_value<'a>(
     ensures { IfOk result (λ v. piece_view v ≡ value_in spans names.now (node_form a_continuing) (continuing_view continuing.now)) }
 {
     let attributes = attribute_values(alloc, spans, names, &continuing.attributes);
-    with_optional_break_if(alloc, spans, Object::new(alloc), names, &continuing.break_if)
-        .value("body", body_value(alloc, spans, names, &continuing.body))
-        .list("attrs", attributes)
-        .finish()
+    with_optional_break_if(
+        alloc,
+        spans,
+        Object::new(alloc),
+        names,
+        &continuing.break_if,
+    )
+    .value("body", body_value(alloc, spans, names, &continuing.body))
+    .list("attrs", attributes)
+    .finish()
 }
 
 fn with_optional_break_if<'a>(
@@ -453,7 +529,13 @@ fn break_if_value<'a>(
 ) -> Written<'a>
     ensures { IfOk result (λ v. piece_view v ≡ value_in spans names.now (node_form a_break_if) (break_if_view break_if.now)) }
 {
-    let expression = expression_value(alloc, spans, names, &break_if.expression.node, break_if.expression.span);
+    let expression = expression_value(
+        alloc,
+        spans,
+        names,
+        &break_if.expression.node,
+        break_if.expression.span,
+    );
     let attributes = attribute_values(alloc, spans, names, &break_if.attributes);
     Object::new(alloc)
         .value("expr", expression)
@@ -473,7 +555,10 @@ fn with_optional_statement<'a>(
     ensures { (ms : Members) → Holds object.entry ms → Holds result (with_option key.now spans names.now (node_form a_statement) (optional (λ s. statement_tree (box_value s)) statement.now) ms) }
 {
     match statement {
-        Some(statement) => object.value(key, statement_value(alloc, spans, names, &statement.node, statement.span)),
+        Some(statement) => object.value(
+            key,
+            statement_value(alloc, spans, names, &statement.node, statement.span),
+        ),
         None => object,
     }
 }
