@@ -12,7 +12,7 @@ use Rattle.wesl_features.specs.declared.features.Feature.{Feature}
 use Rattle.wesl_bundle.specs.declared.options.Naming.{Naming}
 use Rattle.wesl_bundle.specs.Builtins.{Builtins, builtins_in, builtins_keys, builtins_of_members}
 use Rattle.wesl_bundle.specs.Features.{Features, Flag, feature_in, features_in, features_keys, features_of_members, flags_in, flags_of}
-use Rattle.wesl_bundle.specs.Forms.{BreaksAt, Field, Form, HasFormAt, IsBrokenBundle, IsWrong, IsWrongObject, a_bundle, a_feature, a_limit, a_list_of, a_mangler, a_module, a_name, a_package, a_package_module, a_path, a_text, a_truth, a_unit, an_object_of, fields, find_field, optional, required, some_builtins, some_features}
+use Rattle.wesl_bundle.specs.Forms.{BreaksAt, Field, Form, HasFormAt, IsBrokenBundle, IsWrong, IsWrongObject, a_bundle, a_feature, a_form, a_limit, a_list_of, a_mangler, a_module, a_name, a_package, a_package_module, a_path, a_text, a_truth, a_unit, an_object_of, fields, find_field, optional, required, some_builtins, some_features}
 use Rattle.wesl_bundle.specs.Packages as said
 use Rattle.wesl_bundle.specs.Place.{IsFloatAt}
 use Rattle.wesl_form.specs.Keys.{HasMember}
@@ -40,12 +40,13 @@ all3 mk (Some x) None c r h = cc
 all3 mk (Some x) (Some y) None r h = cc
 all3 mk (Some x) (Some y) (Some z) r h = ((x, refl), (y, refl), (z, refl))
 
-all4 : {A B C D R : Type 0} (mk : A → B → C → D → R) (a : Option A) (b : Option B) (c : Option C) (d : Option D) (r : R) → option_and_then (λ w. option_and_then (λ x. option_and_then (λ y. option_and_then (λ z. Some (mk w x y z)) d) c) b) a ≡ Some r → Given a × Given b × Given c × Given d
-all4 mk None b c d r h = cc
-all4 mk (Some w) None c d r h = cc
-all4 mk (Some w) (Some x) None d r h = cc
-all4 mk (Some w) (Some x) (Some y) None r h = cc
-all4 mk (Some w) (Some x) (Some y) (Some z) r h = ((w, refl), (x, refl), (y, refl), (z, refl))
+all5 : {A B C D E R : Type 0} (mk : A → B → C → D → E → R) (a : Option A) (b : Option B) (c : Option C) (d : Option D) (e : Option E) (r : R) → option_and_then (λ v. option_and_then (λ w. option_and_then (λ x. option_and_then (λ y. option_and_then (λ z. Some (mk v w x y z)) e) d) c) b) a ≡ Some r → Given a × Given b × Given c × Given d × Given e
+all5 mk None b c d e r h = cc
+all5 mk (Some v) None c d e r h = cc
+all5 mk (Some v) (Some w) None d e r h = cc
+all5 mk (Some v) (Some w) (Some x) None e r h = cc
+all5 mk (Some v) (Some w) (Some x) (Some y) None r h = cc
+all5 mk (Some v) (Some w) (Some x) (Some y) (Some z) r h = ((v, refl), (w, refl), (x, refl), (y, refl), (z, refl))
 
 all7 : {A B C D E F G R : Type 0} (mk : A → B → C → D → E → F → G → R) (a : Option A) (b : Option B) (c : Option C) (d : Option D) (e : Option E) (f : Option F) (g : Option G) (r : R)
     → option_and_then (λ t. option_and_then (λ u. option_and_then (λ v. option_and_then (λ w. option_and_then (λ x. option_and_then (λ y. option_and_then (λ z. Some (mk t u v w x y z)) g) f) e) d) c) b) a ≡ Some r
@@ -79,8 +80,8 @@ flag-before name answer fs = (record { named = name; answer = answer }) ∷ fs
 abbrev made-module : Path → Data → spec.Module
 made-module path unit = record { path = path; unit = unit }
 
-abbrev made-options : Naming → Bool → Bool → ℕ → spec.Options
-made-options mangler root eager limit = record { mangler = mangler; mangle_root = root; eager = eager; max_modules = limit }
+abbrev made-options : Naming → Bool → Bool → ℕ → Bool → spec.Options
+made-options mangler root eager limit spans = record { mangler = mangler; mangle_root = root; eager = eager; max_modules = limit; spans = spans }
 
 abbrev made-features : Feature → List Flag → Features
 made-features default flags = record { default = default; flags = flags }
@@ -107,6 +108,7 @@ HasReading a_feature d = Given (feature_in d)
 HasReading a_mangler d = Given (spec.naming_in d)
 HasReading a_truth d = Given (as_bool d)
 HasReading a_limit d = Given (spec.limit_in d)
+HasReading a_form d = Given (spec.form_in d)
 HasReading some_builtins d = Given (builtins_in d)
 HasReading (a_list_of f) d = (ds : Items) × (as_array d ≡ Some ds) × ((i : ℕ) (e : Data) → get_item i ds ≡ Some e → HasReading f e)
 HasReading (an_object_of f) d = (ms : Members) × (as_object d ≡ Some ms) × ((k : Text) (e : Data) → get_member k ms ≡ Some e → HasReading f e)
@@ -176,13 +178,14 @@ module-object d h =
     let parts = all2 made-module (required_in path_in (codes "path") d) (get (codes "unit") d) h.0 known.1 in
     (known.0, (needed path_in (codes "path") a_path (λ e x. x) (get (codes "path") d) parts.0, (there (codes "unit") (get (codes "unit") d) parts.1, tt)))
 
-options-parts : (d : Data) → Given (spec.options_in d) → IsFieldRead (optional (codes "mangler") a_mangler) (get (codes "mangler") d) × IsFieldRead (optional (codes "mangle_root") a_truth) (get (codes "mangle_root") d) × IsFieldRead (optional (codes "eager") a_truth) (get (codes "eager") d) × IsFieldRead (optional (codes "max_modules") a_limit) (get (codes "max_modules") d)
+options-parts : (d : Data) → Given (spec.options_in d) → IsFieldRead (optional (codes "mangler") a_mangler) (get (codes "mangler") d) × IsFieldRead (optional (codes "mangle_root") a_truth) (get (codes "mangle_root") d) × IsFieldRead (optional (codes "eager") a_truth) (get (codes "eager") d) × IsFieldRead (optional (codes "max_modules") a_limit) (get (codes "max_modules") d) × IsFieldRead (optional (codes "form") a_form) (get (codes "form") d)
 options-parts d h =
-    let parts = all4 made-options (or_default naming.Escape spec.naming_in (get (codes "mangler") d)) (or_default false as_bool (get (codes "mangle_root") d)) (or_default false as_bool (get (codes "eager") d)) (or_default 1000 spec.limit_in (get (codes "max_modules") d)) h.0 h.1 in (
+    let parts = all5 made-options (or_default naming.Escape spec.naming_in (get (codes "mangler") d)) (or_default false as_bool (get (codes "mangle_root") d)) (or_default false as_bool (get (codes "eager") d)) (or_default 1000 spec.limit_in (get (codes "max_modules") d)) (or_default false spec.form_in (get (codes "form") d)) h.0 h.1 in (
       may (or_default naming.Escape spec.naming_in) (codes "mangler") a_mangler (λ e x. x) (get (codes "mangler") d) parts.0,
       may (or_default false as_bool) (codes "mangle_root") a_truth (λ e x. x) (get (codes "mangle_root") d) parts.1,
       may (or_default false as_bool) (codes "eager") a_truth (λ e x. x) (get (codes "eager") d) parts.2,
       may (or_default 1000 spec.limit_in) (codes "max_modules") a_limit (λ e x. x) (get (codes "max_modules") d) parts.3,
+      may (or_default false spec.form_in) (codes "form") a_form (λ e x. x) (get (codes "form") d) parts.4,
     )
 
 features-object : (d : Data) → Given (features_in d) → IsObjectRead some_features d
@@ -253,7 +256,7 @@ bundle-object d h =
     let packages = may (or_default said.no_packages said.packages_in) (codes "packages") (a_list_of a_package) (λ e x. list-read said.package_in a_package (λ e y. y) e (packages-listed e x.0 x.1)) (get (codes "packages") d) parts.3 in
     let features = may (optional_in features_in) (codes "features") some_features (λ e x. map_given Some (features_in e) x.0 x.1) (get (codes "features") d) parts.4 in
     let builtins = may (optional_in builtins_in) (codes "builtins") some_builtins (λ e x. map_given Some (builtins_in e) x.0 x.1) (get (codes "builtins") d) parts.6 in
-    (known.0, (root, (keep, (modules, (packages, (features, (options.0, (options.1, (options.2, (options.3, (builtins, tt)))))))))))
+    (known.0, (root, (keep, (modules, (packages, (features, (options.0, (options.1, (options.2, (options.3, (options.4, (builtins, tt))))))))))))
 
 fields-read : (g : Form) (d : Data) → HasReading g d → AreFieldsRead (fields g) d
 fields-read a_bundle d h = (bundle-object d h).1
@@ -269,6 +272,7 @@ fields-read a_feature d h = tt
 fields-read a_mangler d h = tt
 fields-read a_truth d h = tt
 fields-read a_limit d h = tt
+fields-read a_form d h = tt
 fields-read some_builtins d h = (builtins-object d h).1
 fields-read (a_list_of f) d h = tt
 fields-read (an_object_of f) d h = tt
@@ -317,6 +321,7 @@ wrong-unread a_feature d wrong h = none-given (feature_in d) wrong h
 wrong-unread a_mangler d wrong h = none-given (spec.naming_in d) wrong h
 wrong-unread a_truth d wrong h = none-given (as_bool d) wrong h
 wrong-unread a_limit d wrong h = none-given (spec.limit_in d) wrong h
+wrong-unread a_form d wrong h = none-given (spec.form_in d) wrong h
 wrong-unread some_builtins d wrong h = wrong-object some_builtins d (builtins-object d h) wrong
 wrong-unread (a_list_of f) d wrong h = none-given (as_array d) wrong (h.0, h.1)
 wrong-unread (an_object_of f) d wrong h = none-given (as_object d) wrong (h.0, h.1)

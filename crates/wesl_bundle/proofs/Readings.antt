@@ -6,7 +6,7 @@ use Rattle.serde_json.specs.Find.{get, at, get_item, as_array, as_bool, as_str}
 use Rattle.wesl_form.specs.View.{borrowed_view, items_view}
 use Rattle.wesl_form.specs.declared.value.BorrowedValue.{BorrowedValue}
 use Rattle.wesl_names.specs.Path.{Text, Path}
-use Rattle.wesl_bundle.specs.Bundle.{bundle_keys, module_keys, module_in, bundle_in, Module, Options, options_in, naming_in, limit_in}
+use Rattle.wesl_bundle.specs.Bundle.{bundle_keys, module_keys, module_in, bundle_in, Module, Options, options_in, naming_in, limit_in, form_in}
 use Rattle.wesl_bundle.specs.Builtins.{Builtins, builtins_in, builtins_keys}
 use Rattle.wesl_bundle.specs.Features.{Features, Flag, feature_in, features_in, features_keys, flags_in}
 use Rattle.wesl_bundle.specs.Packages.{Packages, no_packages, packages_in}
@@ -67,5 +67,5 @@ builtins-read d names functions constructors known are_names are_functions are_c
 pub bundle-read : (d : Data) (root : Path) (keep : List Text) (modules : List Module) (packages : Packages) (features : Option Features) (options : Options) (builtins : Option Builtins) → has_only bundle_keys d ≡ true → required_in path_in (codes "root") d ≡ Some root → or_empty name_in (get (codes "keep") d) ≡ Some keep → or_empty module_in (get (codes "modules") d) ≡ Some modules → or_default no_packages packages_in (get (codes "packages") d) ≡ Some packages → optional_in features_in (get (codes "features") d) ≡ Some features → options_in d ≡ Some options → optional_in builtins_in (get (codes "builtins") d) ≡ Some builtins → bundle_in d ≡ Some (record { root = root; keep = keep; modules = modules; packages = packages; features = features; options = options; builtins = builtins })
 bundle-read d root keep modules packages features options builtins known is_root is_keep is_modules are_packages are_features are_options are_builtins = rw (known, is_root, is_keep, is_modules, are_packages, are_features, are_options, are_builtins) refl
 
-pub options-read : (d : Data) (mangler : Naming) (mangle_root eager : Bool) (max_modules : ℕ) → or_default naming.Escape naming_in (get (codes "mangler") d) ≡ Some mangler → or_default false as_bool (get (codes "mangle_root") d) ≡ Some mangle_root → or_default false as_bool (get (codes "eager") d) ≡ Some eager → or_default 1000 limit_in (get (codes "max_modules") d) ≡ Some max_modules → options_in d ≡ Some (record { mangler = mangler; mangle_root = mangle_root; eager = eager; max_modules = max_modules })
-options-read d mangler mangle_root eager max_modules is_mangler is_root is_eager is_max = rw (is_mangler, is_root, is_eager, is_max) refl
+pub options-read : (d : Data) (mangler : Naming) (mangle_root eager : Bool) (max_modules : ℕ) (spans : Bool) → or_default naming.Escape naming_in (get (codes "mangler") d) ≡ Some mangler → or_default false as_bool (get (codes "mangle_root") d) ≡ Some mangle_root → or_default false as_bool (get (codes "eager") d) ≡ Some eager → or_default 1000 limit_in (get (codes "max_modules") d) ≡ Some max_modules → or_default false form_in (get (codes "form") d) ≡ Some spans → options_in d ≡ Some (record { mangler = mangler; mangle_root = mangle_root; eager = eager; max_modules = max_modules; spans = spans })
+options-read d mangler mangle_root eager max_modules spans is_mangler is_root is_eager is_max is_form = rw (is_mangler, is_root, is_eager, is_max, is_form) refl

@@ -1,5 +1,5 @@
 -- Bundles: what one says, and which values are one.
-use Rattle.std.specs.Prelude.{ℕ, List, [], ◌∷◌, Bool, false, nat_lt, if◌then◌else◌, Option, Some, None, option_and_then, codes}
+use Rattle.std.specs.Prelude.{ℕ, List, [], ◌∷◌, Bool, true, false, ◌==◌, nat_lt, if◌then◌else◌, Option, Some, None, option_and_then, codes}
 use Rattle.std.specs.Str.{bytes_eq}
 use Rattle.serde_json.specs.Data.{Data}
 use Rattle.serde_json.specs.Find.{get, as_bool, as_number, as_u64, as_str}
@@ -21,12 +21,14 @@ pub record Module : Type 0 where
   pub unit : Data
 
 -- how modules are linked: how the names of their items are written, whether those of the root's items are too, whether
--- every import is followed and every declaration is held, and how many modules may be loaded
+-- every import is followed and every declaration is held, how many modules may be loaded, and whether the answer's unit is
+-- written with spans
 pub record Options : Type 0 where
   pub mangler : Naming
   pub mangle_root : Bool
   pub eager : Bool
   pub max_modules : ℕ
+  pub spans : Bool
 
 -- the path of the root, the names that are kept, the modules in order, where one path may stand twice, the packages, the
 -- answers for feature flags, without which no condition is judged, the options, and the built-in names, without which nothing
@@ -56,6 +58,14 @@ below_limit n = if nat_lt n 4294967296 then Some n else None
 abbrev pub limit_in : Data → Option ℕ
 limit_in d = option_and_then below_limit (option_and_then as_u64 (as_number d))
 
+-- whether units of this form have spans
+abbrev pub spans_in_form : ℕ → Option Bool
+spans_in_form n = if n == 1 then Some false else (if n == 2 then Some true else None)
+
+-- the number of a form
+abbrev pub form_in : Data → Option Bool
+form_in d = option_and_then spans_in_form (option_and_then as_u64 (as_number d))
+
 abbrev pub module_keys : List Text
 module_keys = codes "path" ∷ codes "unit" ∷ []
 
@@ -69,16 +79,17 @@ abbrev pub module_in : Data → Option Module
 module_in d = if has_only module_keys d then module_of_members d else None
 
 abbrev pub bundle_keys : List Text
-bundle_keys = codes "root" ∷ codes "keep" ∷ codes "modules" ∷ codes "packages" ∷ codes "features" ∷ codes "mangler" ∷ codes "mangle_root" ∷ codes "eager" ∷ codes "max_modules" ∷ codes "builtins" ∷ []
+bundle_keys = codes "root" ∷ codes "keep" ∷ codes "modules" ∷ codes "packages" ∷ codes "features" ∷ codes "mangler" ∷ codes "mangle_root" ∷ codes "eager" ∷ codes "max_modules" ∷ codes "form" ∷ codes "builtins" ∷ []
 
--- the escape form, the root's names as they are, only what is reached, and a thousand modules, where nothing else is said
+-- the escape form, the root's names as they are, only what is reached, a thousand modules, and form 1, where nothing else is said
 abbrev pub options_in : Data → Option Options
 options_in d = do
   mangler ← or_default naming.Escape naming_in (get (codes "mangler") d)
   mangle_root ← or_default false as_bool (get (codes "mangle_root") d)
   eager ← or_default false as_bool (get (codes "eager") d)
   max_modules ← or_default 1000 limit_in (get (codes "max_modules") d)
-  Some (record { mangler = mangler; mangle_root = mangle_root; eager = eager; max_modules = max_modules })
+  spans ← or_default false form_in (get (codes "form") d)
+  Some (record { mangler = mangler; mangle_root = mangle_root; eager = eager; max_modules = max_modules; spans = spans })
 
 abbrev pub bundle_of_members : Data → Option Bundle
 bundle_of_members d = do

@@ -9,7 +9,7 @@ use Rattle.wesl_form.specs.Pointer.{Part, key, index, pointer_text}
 use Rattle.wesl_bundle.specs.Reading.{name_in, path_in}
 use Rattle.wesl_form.specs.Keys.{has_only}
 use Rattle.wesl_bundle.specs.Features.{feature_in}
-use Rattle.wesl_bundle.specs.Bundle.{naming_in, limit_in}
+use Rattle.wesl_bundle.specs.Bundle.{naming_in, limit_in, form_in}
 
 pub data Form : Type 0 where
   a_bundle : Form
@@ -25,6 +25,7 @@ pub data Form : Type 0 where
   a_mangler : Form
   a_truth : Form
   a_limit : Form
+  a_form : Form
   some_builtins : Form
   a_list_of : Form → Form
   -- any keys
@@ -42,7 +43,7 @@ abbrev pub optional : Text → Form → Field
 optional k f = record { named = k; is_required = false; form = f }
 
 abbrev pub fields : Form → List Field
-fields a_bundle = required (codes "root") a_path ∷ optional (codes "keep") (a_list_of a_name) ∷ optional (codes "modules") (a_list_of a_module) ∷ optional (codes "packages") (a_list_of a_package) ∷ optional (codes "features") some_features ∷ optional (codes "mangler") a_mangler ∷ optional (codes "mangle_root") a_truth ∷ optional (codes "eager") a_truth ∷ optional (codes "max_modules") a_limit ∷ optional (codes "builtins") some_builtins ∷ []
+fields a_bundle = required (codes "root") a_path ∷ optional (codes "keep") (a_list_of a_name) ∷ optional (codes "modules") (a_list_of a_module) ∷ optional (codes "packages") (a_list_of a_package) ∷ optional (codes "features") some_features ∷ optional (codes "mangler") a_mangler ∷ optional (codes "mangle_root") a_truth ∷ optional (codes "eager") a_truth ∷ optional (codes "max_modules") a_limit ∷ optional (codes "form") a_form ∷ optional (codes "builtins") some_builtins ∷ []
 fields a_module = required (codes "path") a_path ∷ required (codes "unit") a_unit ∷ []
 fields a_package = required (codes "name") a_name ∷ required (codes "unit") a_unit ∷ optional (codes "modules") (a_list_of a_package_module) ∷ optional (codes "dependencies") (a_list_of a_package) ∷ []
 fields a_package_module = required (codes "name") a_name ∷ required (codes "unit") a_unit ∷ optional (codes "modules") (a_list_of a_package_module) ∷ []
@@ -78,6 +79,7 @@ IsWrong a_feature d = feature_in d ≡ None
 IsWrong a_mangler d = naming_in d ≡ None
 IsWrong a_truth d = as_bool d ≡ None
 IsWrong a_limit d = limit_in d ≡ None
+IsWrong a_form d = form_in d ≡ None
 IsWrong some_builtins d = IsWrongObject (fields some_builtins) d
 IsWrong (a_list_of f) d = as_array d ≡ None
 IsWrong (an_object_of f) d = as_object d ≡ None

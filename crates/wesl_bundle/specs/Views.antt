@@ -29,7 +29,7 @@ abbrev pub features_view : Features → said.Features
 features_view f = record { default = f.default; flags = flags_view f.flags }
 
 abbrev pub options_view : Options → spec.Options
-options_view o = record { mangler = o.mangler; mangle_root = o.mangle_root; eager = o.eager; max_modules = o.max_modules }
+options_view o = record { mangler = o.mangler; mangle_root = o.mangle_root; eager = o.eager; max_modules = o.max_modules; spans = o.spans }
 
 abbrev pub builtins_view : BuiltinNames → built_in.Builtins
 builtins_view b = record { names = map string_bytes b.names.items; functions = map string_bytes b.functions.items; constructors = map string_bytes b.constructors.items }

@@ -120,6 +120,7 @@ fn only_known<T: Drop>(
         "mangle_root",
         "eager",
         "max_modules",
+        "form",
         "builtins",
     ];
     only(alloc, value, &known, read)

@@ -2,8 +2,8 @@
 ghost use Rattle.std.specs.Prelude.{◌≡◌, Some, IfOk, IfErr, false, option_and_then, option_map};
 ghost use Rattle.serde_json.specs.Find.{get, as_bool};
 ghost use Rattle.wesl_form.specs.View.{borrowed_view};
-ghost use Rattle.wesl_bundle.specs.Bundle.{below_limit, naming_in, naming_of as word_naming, limit_in, options_in};
-ghost use Rattle.wesl_bundle.specs.Forms.{optional, a_mangler, a_truth, a_limit, a_bundle};
+ghost use Rattle.wesl_bundle.specs.Bundle.{below_limit, form_in, naming_in, naming_of as word_naming, limit_in, options_in, spans_in_form};
+ghost use Rattle.wesl_bundle.specs.Forms.{optional, a_form, a_mangler, a_truth, a_limit, a_bundle};
 ghost use Rattle.wesl_bundle.specs.Reading.{or_default};
 ghost use Rattle.wesl_bundle.specs.Broken.{Locates, LocatesMember};
 ghost use Rattle.wesl_bundle.specs.Views.{options_view};
@@ -36,6 +36,8 @@ pub struct Options {
     pub eager: bool,
     /// How many modules may be loaded, the root counted.
     pub max_modules: usize,
+    /// Whether the answer's unit is written with spans: in form 2 of trees, and else in form 1.
+    pub spans: bool,
 }
 
 /// The options of a bundle.
@@ -47,15 +49,20 @@ pub(crate) fn read_options(alloc: Global, value: &BorrowedValue<'_>) -> Result<O
     let mangle_root = truth_member(alloc, value, "mangle_root");
     let eager = truth_member(alloc, value, "eager");
     let max_modules = limit_member(alloc, value, "max_modules");
-    match both(both(mangler, mangle_root), both(eager, max_modules)) {
-        Ok((naming, extent)) => {
+    let spans = form_member(alloc, value, "form");
+    let naming = both(mangler, mangle_root);
+    let extent = both(eager, max_modules);
+    match both(naming, both(extent, spans)) {
+        Ok((naming, others)) => {
             let (mangler, mangle_root) = naming;
+            let (extent, spans) = others;
             let (eager, max_modules) = extent;
             Ok(Options {
                 mangler,
                 mangle_root,
                 eager,
                 max_modules,
+                spans,
             })
         }
         Err(error) => Err(error),
@@ -113,6 +120,28 @@ fn limit_of(number: Option<u64>) -> Option<usize>
 {
     match number {
         Some(limit) if limit < 4294967296 => Some(limit as usize),
+        _ => None,
+    }
+}
+
+// Whether the form whose number is at the key has spans: form 1, which has none, where it is not there.
+fn form_member(alloc: Global, value: &BorrowedValue<'_>, key: &str) -> Result<bool, BundleError>
+    ensures ok { IfOk result (λ spans. or_default false form_in (get key.now (borrowed_view value.now)) ≡ Some spans) }
+    ensures place { IfErr result (LocatesMember (optional key.now a_form) (borrowed_view value.now)) }
+{
+    match value.get(key) {
+        Some(found) => stated(alloc, key, spans_of(found.as_u64())),
+        None => Ok(false),
+    }
+}
+
+// Whether the form of this number has spans, if there is one.
+fn spans_of(number: Option<u64>) -> Option<bool>
+    ensures { result ≡ option_and_then spans_in_form number }
+{
+    match number {
+        Some(1) => Some(false),
+        Some(2) => Some(true),
         _ => None,
     }
 }
