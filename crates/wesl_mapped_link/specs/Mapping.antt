@@ -1,7 +1,7 @@
 -- A link whose printed names are recorded.
 use Rattle.std.specs.Prelude.{ℕ, Bool, true, List, Option}
 use Rattle.wesl_names.specs.Path.{Text, Path, path_view}
-use Rattle.wesl_names.specs.declared.errors.Error as error
+use Rattle.wesl_names.specs.declared.errors.Diagnostic.{Diagnostic}
 use Rattle.wesl_names.specs.declared.errors.ResolveError.{ResolveError}
 use Rattle.wesl_syntax.specs.Unit.{UnitOf, UnitView}
 use Rattle.wesl_tree.specs.Translation.{unit_view}
@@ -11,7 +11,7 @@ use Rattle.wesl_linker.specs.Worlds.{Module}
 use Rattle.wesl_linker.specs.Linked.{IsAssembled}
 use Rattle.wesl_linker.specs.Resolved.{mangled, NamesAgree, writes}
 use Rattle.wesl_features.specs.declared.features.Features.{Features}
-use Rattle.wesl_link.specs.Linking.{Links, RefusesLinkLeft, kept_names, hands_left, refuses_left}
+use Rattle.wesl_link.specs.Linking.{Links, TellsRefusalLeft, kept_names, hands_left, refuses_left}
 use Rattle.wesl_source_map.specs.BasicView.{items}
 use Rattle.wesl_source_map.specs.declared.mapper.SourceMapper.{SourceMapper}
 use Rattle.wesl_mapped_link.specs.declared.mapped.Mapped.{Mapped}
@@ -50,7 +50,7 @@ module _ {R M : Type 0} (hands : R → Path → UnitOf Text → Type 0) (refuses
       (items mapper.sourcemap) (items made.map) (unit_view made.unit)
 
 module _ {R M : Type 0} (hands : R → Path → UnitOf Text → Type 0) (refuses : R → Path → ResolveError → Type 0) where
-  -- the error tells why such a link by the mapper is refused
-  abbrev pub RefusesByLeft : Option Features → SourceMapper R M → List Text → Bool → ℕ → error.Error → Type 0
-  RefusesByLeft features mapper keep is_eager limit e =
-      RefusesLinkLeft (hands mapper.resolver) (refuses mapper.resolver) features (path_view mapper.root) keep is_eager limit e
+  -- the error of the diagnostic tells why such a link by the mapper is refused
+  abbrev pub RefusesByLeft : Option Features → SourceMapper R M → List Text → Bool → ℕ → Diagnostic → Type 0
+  RefusesByLeft features mapper keep is_eager limit d =
+      TellsRefusalLeft (hands mapper.resolver) (refuses mapper.resolver) features mapper.root keep is_eager limit d

@@ -1,12 +1,13 @@
 //! A link through a mapper, and what it records.
 ghost use Rattle.std.specs.Prelude.{◌≡◌, ◌↔◌, Result, false, true, IfOk, IfErr};
 ghost use Rattle.wesl_names.specs.declared.errors.Error as error;
+ghost use Rattle.wesl_names.specs.declared.errors.Diagnostic.{out-Diagnostic};
 ghost use Rattle.wesl_base.specs.Borrowed.{texts};
 ghost use Rattle.wesl_names.specs.Path.{Text, Path, path_view, is_relative};
 ghost use Rattle.wesl_tree.specs.Translation.{unit_view};
 ghost use Rattle.wesl_tree.specs.declared.unit.TranslationUnit.{TranslationUnit};
 ghost use Rattle.wesl_cond.specs.Conditioned.{IsConditioned};
-ghost use Rattle.wesl_link.specs.Linking.{FindsLink, RefusesLink, kept_names};
+ghost use Rattle.wesl_link.specs.Linking.{FindsLink, TellsRefusal, kept_names};
 ghost use Rattle.wesl_resolutions.specs.Keeping.{IsSound, resolved, modules_of};
 ghost use Rattle.wesl_linker.specs.Resolved.{Resolved, IsMangled, AssemblesTo, writes};
 ghost use Rattle.wesl_linker.specs.Recorded.{IsRecordedBy};
@@ -23,7 +24,7 @@ use wesl_resolutions::Resolutions;
 use wesl_resolve::Preprocessor;
 use wesl_resolver::{NoResolver, Resolver};
 use wesl_source_map::{Asked, BasicSourceMap, SourceMapper, Start};
-use wesl_tree::{Error, ModulePath, TranslationUnit};
+use wesl_tree::{Diagnostic, Error, ModulePath, TranslationUnit};
 
 /// A linked unit, and what was recorded while it was linked.
 #[derive(Drop)]
@@ -41,8 +42,8 @@ pub struct Mapped {
 /// source of each module that is read, and a name for each declared name of each module of the link, in module order; those
 /// of the root only with `mangle_root`. The default source is the root's.
 ///
-/// Refused where the resolver refuses a path, where a fault of a condition stands in a unit, where a link is refused, and for
-/// want of memory.
+/// Refused as `link_under` is: where the resolver refuses a path, where a fault of a condition stands in a unit, where a link
+/// is refused, and for want of memory. The diagnostic tells the place of the fault as far as it is known.
 pub fn link_mapped<R: Resolver + Drop, M: Mangler + Drop>(
     alloc: Global,
     keep: &[&str],
@@ -51,7 +52,7 @@ pub fn link_mapped<R: Resolver + Drop, M: Mangler + Drop>(
     mangle_root: bool,
     features: &Option<Features>,
     max_modules: usize,
-) -> Result<Mapped, Error>
+) -> Result<Mapped, Diagnostic>
     requires ready { R.ready mapper.resolver }
     requires asked { is_relative (path_view mapper.root) ≡ false }
     ensures mapped { IfOk result (MapsByLeft R.hands R.refuses M.name_of features.now mapper (texts keep.now) is_eager mangle_root max_modules) }
@@ -86,7 +87,7 @@ fn link_judged<
     judge: F,
     features: &Option<Features>,
     max_modules: usize,
-) -> Result<Mapped, Error>
+) -> Result<Mapped, Diagnostic>
     requires ready { R.ready mapper.resolver }
     requires asked { is_relative (path_view mapper.root) ≡ false }
     requires callable { F.IsAlwaysCallable judge }
@@ -118,16 +119,16 @@ fn link_through<R: Resolver + Drop, M: Mangler + Drop>(
     mapper: SourceMapper<R, M>,
     mangle_root: bool,
     max_modules: usize,
-) -> Result<Mapped, Error>
+) -> Result<Mapped, Diagnostic>
     requires ready { R.ready mapper.resolver }
     requires asked { is_relative (path_view mapper.root) ≡ false }
     ensures mapped { IfOk result (MapsBy R.hands R.refuses M.name_of mapper (texts keep.now) is_eager mangle_root max_modules) }
-    ensures refused { IfErr result (RefusesLink (R.hands mapper.resolver) (R.refuses mapper.resolver) (path_view mapper.root) (texts keep.now) is_eager max_modules) }
+    ensures refused { IfErr result (TellsRefusal (R.hands mapper.resolver) (R.refuses mapper.resolver) mapper.root (texts keep.now) is_eager max_modules) }
 {
     let path = mapper.root.try_clone(alloc)?;
     match found::<R, M, Brand>(alloc, keep, is_eager, &path, mapper, max_modules) {
         Ok(found) => named(alloc, found, mangle_root),
-        Err(error) => Err(error),
+        Err(diagnostic) => Err(diagnostic),
     }
 }
 
@@ -145,7 +146,7 @@ fn found<R: Resolver + Drop, M: Mangler + Drop, S: Start>(
     path: &ModulePath,
     mapper: SourceMapper<R, M>,
     max_modules: usize,
-) -> Result<MapperLink<M>, Error>
+) -> Result<MapperLink<M>, Diagnostic>
     requires ready { R.ready mapper.resolver }
     requires asked { is_relative (path_view path.now) ≡ false }
     requires start { SameItems S.items (items mapper.sourcemap) }
@@ -156,7 +157,7 @@ fn found<R: Resolver + Drop, M: Mangler + Drop, S: Start>(
     ensures sound { IfOk result (λ f. IsSound f.resolutions) }
     ensures start { IfOk result (λ f. SameItems S.items (items f.mapper.sourcemap)) }
     ensures names { IfOk result (λ f. (p : Path) (i : Text) → M.name_of f.mapper.mangler p i ≡ S.name_of p i) }
-    ensures refused { IfErr result (RefusesLink (R.hands mapper.resolver) (R.refuses mapper.resolver) (path_view path.now) (texts keep.now) is_eager max_modules) }
+    ensures refused { IfErr result (TellsRefusal (R.hands mapper.resolver) (R.refuses mapper.resolver) path.now (texts keep.now) is_eager max_modules) }
 {
     let mut asked = Asked::<R, M, S> {
         mapper,
@@ -167,7 +168,7 @@ fn found<R: Resolver + Drop, M: Mangler + Drop, S: Start>(
             resolutions,
             mapper: without_resolver(asked.mapper),
         }),
-        Err(diagnostic) => Err(diagnostic.into_error()),
+        Err(diagnostic) => Err(diagnostic),
     }
 }
 
@@ -196,11 +197,11 @@ fn named<M: Mangler + Drop>(
     alloc: Global,
     found: MapperLink<M>,
     mangle_root: bool,
-) -> Result<Mapped, Error>
+) -> Result<Mapped, Diagnostic>
     requires sound { IsSound found.resolutions }
     ensures named { IfOk result (λ made. (r : Resolved) × IsMangled (M.name_of found.mapper.mangler) mangle_root (resolved found.resolutions) r × AssemblesTo r (unit_view made.unit)) }
     ensures recorded { IfOk result (λ made. IsRecordedBy true (writes (M.name_of found.mapper.mangler) mangle_root (modules_of found.resolutions)) (items found.mapper.sourcemap) (items made.map)) }
-    ensures refused { IfErr result (λ e. e ≡ error.Memory) }
+    ensures refused { IfErr result (λ d. (out-Diagnostic d).error ≡ error.Memory) }
 {
     let MapperLink {
         mut resolutions,
@@ -210,6 +211,6 @@ fn named<M: Mangler + Drop>(
     let unit = resolutions.assemble(alloc, true)?;
     match mapper.finish(alloc) {
         Ok(map) => Ok(Mapped { unit, map }),
-        Err(_) => Err(Error::Memory),
+        Err(_) => Err(Diagnostic::of(Error::Memory)),
     }
 }

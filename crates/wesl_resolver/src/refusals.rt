@@ -86,7 +86,7 @@ fn refusal_of(alloc: Global, diagnostic: Diagnostic) -> ResolveError
 
 /// The refusal of a module that is there, with the path, the name that it is shown by and the source that is told.
 /// Want of memory stays what it is.
-pub(crate) fn refused(
+pub fn refused(
     alloc: Global,
     fault: Error,
     path: &ModulePath,

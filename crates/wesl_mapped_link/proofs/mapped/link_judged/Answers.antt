@@ -35,5 +35,5 @@ returns-clause-refused g c =
     c.args.features.now (λ given answer. g.F.Fn.post c.new.result.preprocess (given, tt) answer)
     (λ given answer. subst (λ f. g.F.Fn.post f (given, tt) answer ↔ IsConditioned c.args.features.now given answer) (sym stored) (c.requires.judges given answer)) in
     IfErr-weaker c.link_through.result _ _
-    (λ e h. refuses-over _ _ _ _ alike (path_view c.args.mapper.root) (texts c.args.keep.now) c.args.is_eager c.args.max_modules e h)
+    (λ d h. refuses-over _ _ _ _ alike (path_view c.args.mapper.root) (texts c.args.keep.now) c.args.is_eager c.args.max_modules d.error h)
     c.link_through.ensures.refused

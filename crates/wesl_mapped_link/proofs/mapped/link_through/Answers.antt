@@ -1,11 +1,12 @@
 use Rattle.std.proofs.Common.{◌≡◌, IfOk, subst, rules}
+use Rattle.std.proofs.lemmas.Result.{IfErr-weaker}
 use Rattle.wesl_base.specs.Borrowed.{texts}
 use Rattle.wesl_names.specs.Path.{path_view}
+use Rattle.wesl_names.specs.declared.errors.Error as error
 use Rattle.wesl_tree.specs.Translation.{unit_view}
 use Rattle.wesl_resolutions.specs.Keeping.{resolved}
 use Rattle.wesl_source_map.specs.BasicView.{items}
 use Rattle.wesl_link.proofs.Along.{both-ok}
-use Rattle.wesl_link.specs.Linking.{RefusesLink}
 use Rattle.wesl_mapped_link.specs.Mapping.{MapsLink}
 use Rattle.wesl_mapped_link.proofs.Recorded.{maps_link, maps_link_as, memory_refuses}
 use Rattle.wesl_mapped_link.proofs.mapped.link_through.Goals as goal
@@ -31,6 +32,4 @@ returns-in_err-path-clause-refused g c =
     let mapper = c.args.mapper in
     let hands = g.R.Resolver.hands mapper.resolver in
     let refuses = g.R.Resolver.refuses mapper.resolver in
-    let told : RefusesLink hands refuses (path_view mapper.root) (texts c.args.keep.now) c.args.is_eager c.args.max_modules c.in_err-path.field-0.0 =
-    memory_refuses hands refuses (path_view mapper.root) (texts c.args.keep.now) c.args.is_eager c.args.max_modules c.in_err-path.field-0.0 c.in_err-path.ensures.refused in
-    search rules
+    IfErr-weaker c.from_residual.result (λ d. d.error ≡ error.Memory) _ (λ d is. memory_refuses hands refuses (path_view mapper.root) (texts c.args.keep.now) c.args.is_eager c.args.max_modules d.error is) (search rules)
