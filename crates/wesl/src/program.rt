@@ -6,7 +6,7 @@ ghost use Rattle.wesl.specs.Run.{IsLine, IsLineFor, Wrote, WroteBeginning};
 use std::alloc::Global;
 use std::io::{Read, Write};
 use wesl_program::{
-    Failures, Line, ReadFault, answer_of_bytes, memory_line, read_whole, refusal, write_whole,
+    Failures, Line, ReadFault, answer_of_bytes, memory_line, read_whole, refusal_line, write_whole,
 };
 
 /// What a line says: the linked unit, whether its names clash and what they stand for, or why there is none.
@@ -74,7 +74,7 @@ pub fn line_of_bytes(alloc: Global, bytes: &[u8]) -> (Outcome, Line)
 {
     match answer_of_bytes(alloc, bytes) {
         Ok(line) => (Outcome::Linked, Line::Made(line)),
-        Err(error) => (Outcome::Refused, refusal(alloc, error)),
+        Err(refusal) => (Outcome::Refused, refusal_line(alloc, refusal)),
     }
 }
 

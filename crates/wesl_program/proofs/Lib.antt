@@ -3,6 +3,7 @@ pub mod Bytes
 pub mod Texts
 pub mod Units
 pub mod Faults
+pub mod FaultLines
 pub mod Mapped
 pub mod Maps
 pub mod PackageTexts

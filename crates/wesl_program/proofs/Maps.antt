@@ -13,7 +13,7 @@ use Rattle.wesl_names.specs.Path.{Text}
 use Rattle.wesl_map_entries.specs.Records.{Item, Items, SameItems}
 use Rattle.wesl_map_entries.specs.Listed.{IsListing}
 use Rattle.wesl_syntax.specs.Unit.{UnitView}
-use Rattle.wesl_form.specs.Units.{unit_value}
+use Rattle.wesl_form.specs.Units.{written_as}
 use Rattle.wesl_bundle.specs.Bundle.{Bundle}
 use Rattle.wesl_linker.specs.Worlds.{Module}
 use Rattle.wesl_program.specs.Line.{IsAnswerOf, IsMapOf, SaysClash, item_value, map_members}
@@ -72,5 +72,5 @@ map_of_same old new d same (listing, is, shown) = (listing, record { ascend = is
 
 -- an answer of a link, of what a check and the writing of it say
 pub answer-of : (b : Bundle) (u : UnitView) (after : Items) (clash : Bool) (map unit : Data) → (w : List Module) × LinksTo b w u × SameItems (recorded_for b w) after → IsValidUnder b.builtins u
-    → SaysClash clash u → IsMapOf after map → unit ≡ unit_value u → IsAnswerOf b clash map unit
+    → SaysClash clash u → IsMapOf after map → unit ≡ written_as b.options.spans u → IsAnswerOf b clash map unit
 answer-of b u after clash map unit (w, links, same) valid says mapped written = (w, u, links, valid, says, map_of_same (recorded_for b w) after map same mapped, written)

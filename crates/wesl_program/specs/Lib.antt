@@ -1,6 +1,8 @@
 pub mod Streams
 pub mod Bundle
 pub mod Fault
+pub mod Places
+pub mod Told
 pub mod Holds
 pub mod Hands
 pub mod PackageTexts
@@ -11,5 +13,4 @@ pub mod Line
 pub mod Answers
 pub mod Made
 pub mod Refused
-pub mod Refusals
 pub mod Naming

@@ -1,17 +1,19 @@
 -- The line for the bytes of a bundle: an answer or a fault.
-use Rattle.std.specs.Prelude.{◌≡◌, ◌≢◌, ◌⊎◌, ◌↔◌, ℕ, List, [], ◌∷◌, ◌++◌, Bool, true, false, Some, None, codes, IsUtf8}
-use Rattle.serde_json.specs.Data.{Data, boolean, string, array, object, item, no_items, member, no_members, Items, Members}
+use Rattle.std.specs.Prelude.{◌≡◌, ◌≢◌, ◌⊎◌, ◌↔◌, ℕ, List, [], ◌∷◌, ◌++◌, Bool, true, false, Option, Some, None, codes, IsUtf8}
+use Rattle.serde_json.specs.Data.{Data, boolean, string, array, object, item, no_items, member, no_members, put, Items, Members}
 use Rattle.serde_json.specs.Read.{read}
 use Rattle.serde_json.specs.Written.{compact_text}
 use Rattle.wesl_names.specs.Path.{Text}
 use Rattle.wesl_names.specs.PathText.{to_text}
 use Rattle.wesl_syntax.specs.Unit.{UnitView}
-use Rattle.wesl_form.specs.Units.{unit_value}
+use Rattle.wesl_form.specs.Units.{written_as}
+use Rattle.wesl_form.specs.Writing.{span_value}
 use Rattle.wesl_faith.specs.Faithful.{IsFaithful}
 use Rattle.wesl_bundle.specs.Bundle.{Bundle, bundle_of}
 use Rattle.wesl_bundle.specs.Forms.{IsBrokenBundle}
 use Rattle.wesl_names.specs.declared.errors.Error as error
 use Rattle.wesl_program.specs.Fault.{Fault, fault, fault_of}
+use Rattle.wesl_program.specs.Places.{IsPlaceOf, MayStand, Where, nowhere}
 use Rattle.wesl_map_entries.specs.Records.{Item}
 use Rattle.wesl_map_entries.specs.Listed.{IsListing}
 use Rattle.wesl_linker.specs.Recorded.{Record}
@@ -29,11 +31,26 @@ texts_value (s ∷ ss) = item (string s) (texts_value ss)
 
 -- ---- faults
 
-abbrev pub fault_value : Fault → Data
-fault_value f = object (member (codes "args") (array (texts_value f.arguments)) (member (codes "fault") (string f.named) no_members))
+abbrev pub fault_members : Fault → Members
+fault_members f = member (codes "args") (array (texts_value f.arguments)) (member (codes "fault") (string f.named) no_members)
 
+-- the module that is told, behind them
+abbrev pub with_home : Option Text → Members → Members
+with_home None ms = ms
+with_home (Some path) ms = put (codes "module") (string path) ms
+
+-- the place in its source that is told, behind that
+abbrev pub with_span : Option (ℕ × ℕ) → Members → Members
+with_span None ms = ms
+with_span (Some s) ms = put (codes "span") (span_value s.0 s.1) ms
+
+-- a fault and where it stands
+abbrev pub told_value : Fault → Where → Data
+told_value f p = object (with_span p.span (with_home p.home (fault_members f)))
+
+-- the line of a fault that tells no place
 abbrev pub fault_line : Fault → Text
-fault_line f = line_of (fault_value f)
+fault_line f = line_of (told_value f nowhere)
 
 abbrev pub memory : Fault
 memory = fault (codes "Memory") []
@@ -75,12 +92,23 @@ MayRefuse bytes f =
 abbrev pub IsRefusal : List ℕ → error.Error → Type 0
 IsRefusal bytes e = (fault_of e ≡ memory) ⊎ MayRefuse bytes (fault_of e)
 
--- the line of the fault, or the one for want of memory
-abbrev pub Tells : Fault → Text → Type 0
-Tells f line = (line ≡ fault_line memory) ⊎ (line ≡ fault_line f)
+-- the line of the fault, with a place only where places are told, or the one for want of memory
+abbrev pub Tells : Bool → Fault → Text → Type 0
+Tells is_placed f line = (line ≡ fault_line memory) ⊎ ((p : Where) × MayStand is_placed f p × (line ≡ line_of (told_value f p)))
 
+-- the bytes are a bundle that asks for form 2
+abbrev pub AsksForPlaces : List ℕ → Type 0
+AsksForPlaces bytes = (b : Bundle) × IsBundleOf bytes b × (b.options.spans ≡ true)
+
+-- such a bundle has its faults told with their places, as far as a fault has one; for others no place is told
+abbrev pub MayTell : List ℕ → Fault → Where → Type 0
+MayTell bytes f p = (p ≡ nowhere) ⊎ (AsksForPlaces bytes × IsPlaceOf f p)
+
+-- the line of a fault that the bytes may be refused with, at a place that may be told of it, or the one for want of memory
 abbrev pub IsFaultLine : List ℕ → Text → Type 0
-IsFaultLine bytes line = (line ≡ fault_line memory) ⊎ ((f : Fault) × MayRefuse bytes f × (line ≡ fault_line f))
+IsFaultLine bytes line =
+    (line ≡ fault_line memory)
+    ⊎ ((f : Fault) × (p : Where) × MayRefuse bytes f × MayTell bytes f p × (line ≡ line_of (told_value f p)))
 
 -- ---- answers
 
@@ -108,12 +136,12 @@ answer_beginning false = codes "{\"clash\":false,\"map\":"
 abbrev pub SaysClash : Bool → UnitView → Type 0
 SaysClash clash u = (clash ≡ false) ↔ IsFaithful u
 
--- the value of a unit to which the bundle's modules link, which is valid under its built-in names, whether its names clash, and
--- the value of what is recorded of them
+-- the value of a unit to which the bundle's modules link, in the form that it asks for, which is valid under its built-in names,
+-- whether its names clash, and the value of what is recorded of them
 abbrev pub IsAnswerOf : Bundle → Bool → Data → Data → Type 0
 IsAnswerOf b clash map unit =
     (w : List Module) × (u : UnitView) × LinksTo b w u × IsValidUnder b.builtins u
-    × SaysClash clash u × IsMapOf (recorded_for b w) map × (unit ≡ unit_value u)
+    × SaysClash clash u × IsMapOf (recorded_for b w) map × (unit ≡ written_as b.options.spans u)
 
 -- the bytes are a bundle's that is linked, and the line says whether the names of its linked unit clash, what these stand for,
 -- and has the written form of this unit, which is valid where the bundle has built-in names

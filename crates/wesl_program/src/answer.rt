@@ -19,6 +19,8 @@ pub struct Answer {
     pub map: Value,
     /// The unit.
     pub unit: TranslationUnit,
+    /// Whether the unit is written with spans.
+    pub spans: bool,
 }
 
 // The text, and behind it a value as compact JSON, its keys in the order of their bytes.
@@ -38,7 +40,7 @@ pub fn answer_line(alloc: Global, answer: &Answer) -> Result<String, AllocError>
     let text = String::from_str(alloc, beginning(answer.clash))?;
     let text = print_value(alloc, text, &answer.map)?;
     let text = print_text(text, ",\"unit\":")?;
-    let text = print_unit(alloc, text, &answer.unit)?;
+    let text = print_unit(alloc, text, answer.spans, &answer.unit)?;
     print_text(text, "}\n")
 }
 

@@ -1,5 +1,5 @@
 //! The modules of a bundle, as a resolver: the unit at a path is read only when it is asked for.
-ghost use Rattle.std.specs.Prelude.{◌≡◌, ◌⊎◌, None, Ok, Err, IfOk, IfErr};
+ghost use Rattle.std.specs.Prelude.{◌≡◌, ◌⊎◌, None, IfOk, IfErr};
 ghost use Rattle.wesl_names.specs.declared.errors.Error as error;
 ghost use Rattle.wesl_names.specs.Path.{path_view};
 ghost use Rattle.wesl_names.specs.Errors.{IsModuleNotFound, IsRefusedWith, OrMemory};
@@ -8,14 +8,13 @@ ghost use Rattle.wesl_syntax.specs.Unit.{spelled};
 ghost use Rattle.wesl_tree.specs.Translation.{unit_view};
 ghost use Rattle.wesl_json.specs.UnitTexts.{IsSpelled, IsTreeFault};
 ghost use Rattle.wesl_program.specs.Hands.{IsHandedAt, IsRefusedAt, unit_in, virtual_module};
-ghost use Rattle.wesl_program.specs.Refusals.{IsRefusalOf};
 
 use crate::modules::BundleUnits;
 use std::alloc::Global;
 use wesl_form::BorrowedValue;
 use wesl_json::unit_of_borrowed;
-use wesl_resolver::Resolver;
-use wesl_tree::{Diagnostic, Error, ModulePath, ResolveError, TranslationUnit};
+use wesl_resolver::{Resolver, refused};
+use wesl_tree::{Error, ModulePath, ResolveError, TranslationUnit};
 
 /// The modules of a bundle, each read when it is asked for. They are virtual: a module of a bundle has no source.
 #[derive(Drop)]
@@ -70,7 +69,7 @@ fn unit_of_module(
     ensures refused { IfErr result (OrMemory (IsRefusedAt (path_view path.now) (unit_in modules.now (path_view path.now)))) }
 {
     match modules.unit_at(path) {
-        Some(value) => read_unit(alloc, value),
+        Some(value) => read_unit(alloc, path, value),
         None => Err(not_found(alloc, path)),
     }
 }
@@ -83,35 +82,18 @@ fn tree_of(alloc: Global, value: &BorrowedValue<'_>) -> Result<TranslationUnit, 
     unit_of_borrowed(alloc, value)
 }
 
-// The same, its fault as that of a resolver.
-fn read_unit(alloc: Global, value: &BorrowedValue<'_>) -> Result<TranslationUnit, ResolveError>
+// The same of the module at a path, its fault as that of a resolver, which tells the path.
+fn read_unit(
+    alloc: Global,
+    path: &ModulePath,
+    value: &BorrowedValue<'_>,
+) -> Result<TranslationUnit, ResolveError>
     ensures read { IfOk result (λ u. IsSpelled (borrowed_view value.now) (spelled (unit_view u))) }
     ensures refused { IfErr result (OrMemory (IsRefusedWith (IsTreeFault (borrowed_view value.now)))) }
 {
-    refused(alloc, tree_of(alloc, value))
-}
-
-// What was read, its fault as that of a resolver.
-fn refused<T>(alloc: Global, read: Result<T, Error>) -> Result<T, ResolveError>
-    ensures read { IfOk result (λ t. read ≡ Ok t) }
-    ensures refused { IfErr result (λ e. (f : error.Error) × (read ≡ Err f) × IsRefusalOf f e) }
-{
-    match read {
-        Ok(value) => Ok(value),
-        Err(fault) => Err(refusal(alloc, fault)),
-    }
-}
-
-// The refusal that tells a fault. Want of memory stays what it is.
-fn refusal(alloc: Global, fault: Error) -> ResolveError
-    ensures { IsRefusalOf fault result }
-{
-    match fault {
-        Error::Memory => ResolveError::Memory,
-        fault => match Box::new(alloc, Diagnostic::of(fault)) {
-            Ok(diagnostic) => ResolveError::Error(diagnostic),
-            Err(_) => ResolveError::Memory,
-        },
+    match tree_of(alloc, value) {
+        Ok(unit) => Ok(unit),
+        Err(fault) => Err(refused(alloc, fault, path, None, None)),
     }
 }
 

@@ -13,12 +13,15 @@ mod modules;
 mod naming;
 mod packages;
 mod path_text;
+mod place;
+mod refusal;
 mod stored_text;
 mod streams;
 mod text_line;
 mod validity;
 mod whole_answer;
 
-pub use lines::{Line, memory_line, refusal};
+pub use lines::{Line, memory_line, refusal_line};
+pub use refusal::Refusal;
 pub use streams::{Failures, ReadFault, read_whole, write_whole};
 pub use whole_answer::answer_of_bytes;

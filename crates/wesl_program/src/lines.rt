@@ -1,12 +1,14 @@
 //! Lines: one that was made, or the one for want of memory.
 ghost use Rattle.std.specs.Prelude.{◌≡◌};
+ghost use Rattle.wesl_names.specs.declared.errors.Diagnostic.{out-Diagnostic};
 ghost use Rattle.wesl_program.specs.Fault.{fault_of};
 ghost use Rattle.wesl_program.specs.Line.{Tells, fault_line, memory};
 ghost use Rattle.wesl_program.specs.Made.{bytes_of};
 
 use crate::fault_line::fault_line;
+use crate::place::place_told;
+use crate::refusal::Refusal;
 use std::alloc::Global;
-use wesl_tree::Error;
 
 /// A line that was made, or one that takes no memory.
 #[derive(Drop)]
@@ -36,14 +38,16 @@ pub fn memory_line() -> Line
     Line::Constant("{\"args\":[],\"fault\":\"Memory\"}\n")
 }
 
-/// The line of an error, or the one for want of memory.
-pub fn refusal(alloc: Global, error: Error) -> Line
-    ensures { Tells (fault_of error) (bytes_of result) }
+/// The line of a refusal, or the one for want of memory. It tells where the fault stands where the refusal says so: the
+/// module of a fault of a condition, a tree or a name, and the place of a condition in its source.
+pub fn refusal_line(alloc: Global, refusal: Refusal) -> Line
+    ensures { Tells refusal.is_placed (fault_of (out-Diagnostic refusal.diagnostic).error) (bytes_of result) }
 {
-    let line = match fault_line(alloc, &error).ok() {
+    let place = place_told(&refusal);
+    let line = match fault_line(alloc, &refusal.diagnostic.error, place).ok() {
         Some(line) => Line::Made(line),
         None => memory_line(),
     };
-    drop(error);
+    drop(refusal);
     line
 }

@@ -4,15 +4,15 @@ ghost use Rattle.wesl_base.specs.Borrowed.{texts};
 ghost use Rattle.serde_json.specs.View.{view};
 ghost use Rattle.serde_json.specs.Written.{has_float};
 ghost use Rattle.wesl_names.specs.Path.{path_view, is_relative};
-ghost use Rattle.wesl_names.specs.declared.errors.Error as error;
-ghost use Rattle.wesl_form.specs.Units.{unit_value};
+ghost use Rattle.wesl_names.specs.declared.errors.Diagnostic.{out-Diagnostic};
+ghost use Rattle.wesl_form.specs.Units.{written_as};
 ghost use Rattle.wesl_tree.specs.Translation.{unit_view};
 ghost use Rattle.wesl_bundle.specs.PackageViews.{packages_view};
 ghost use Rattle.wesl_bundle.specs.Views.{bundle_view, module_view};
 ghost use Rattle.wesl_linker.specs.Worlds.{Module};
 ghost use Rattle.wesl_map_entries.specs.Records.{SameItems};
 ghost use Rattle.wesl_source_map.specs.BasicView.{items};
-ghost use Rattle.wesl_link.specs.Linking.{RefusesLinkLeft};
+ghost use Rattle.wesl_link.specs.Linking.{TellsRefusalLeft};
 ghost use Rattle.wesl_mapped_link.specs.Mapping.{MapsLinkLeft};
 ghost use Rattle.wesl_program.specs.Line.{IsAnswerOf};
 ghost use Rattle.wesl_program.specs.Linking.{LinksTo, recorded_for};
@@ -37,22 +37,23 @@ use wesl_resolve::StandardResolver;
 use wesl_resolver::Resolver;
 use wesl_scope::names_clash;
 use wesl_source_map::SourceMapper;
-use wesl_tree::{Error, ModulePath};
+use wesl_tree::{Diagnostic, ModulePath};
 
 // The modules of a bundle, and its packages.
 type Sources<'t> = StandardResolver<BundleResolver<'t>, StoredText>;
 
 /// The unit that is linked of a bundle's modules, whether its names clash, and what they stand for. Where the
 /// bundle has built-in names, the unit is validated by them, and refused with the validator's fault.
-pub fn linked(alloc: Global, bundle: Bundle) -> Result<Answer, Error>
+pub fn linked(alloc: Global, bundle: Bundle) -> Result<Answer, Diagnostic>
     requires fixed { is_relative (path_view bundle.root) ≡ false }
-    ensures linked { IfOk result (λ a. IsAnswerOf (bundle_view bundle.entry) a.clash (view a.map) (unit_value (unit_view a.unit))) }
+    ensures linked { IfOk result (λ a. IsAnswerOf (bundle_view bundle.entry) a.clash (view a.map) (written_as a.spans (unit_view a.unit))) }
     ensures map_whole { IfOk result (λ a. has_float (view a.map) ≡ false) }
-    ensures refused { IfErr result (IsLinkFault (bundle_view bundle.entry)) }
+    ensures refused { IfErr result (λ d. IsLinkFault (bundle_view bundle.entry) (out-Diagnostic d).error) }
 {
+    let spans = bundle.options.spans;
     let (made, builtins) = linked_unit(alloc, bundle)?;
-    if let Err(error) = check_valid(alloc, &made.unit, builtins) {
-        return Err(error);
+    if let Err(diagnostic) = check_valid(alloc, &made.unit, builtins) {
+        return Err(diagnostic);
     }
     let clash = names_clash(alloc, &made.unit)?;
     let map = map_value(alloc, &made.map)?;
@@ -60,6 +61,7 @@ pub fn linked(alloc: Global, bundle: Bundle) -> Result<Answer, Error>
         clash,
         map,
         unit: made.unit,
+        spans,
     })
 }
 
@@ -67,12 +69,12 @@ pub fn linked(alloc: Global, bundle: Bundle) -> Result<Answer, Error>
 /// modules those are loaded that are reached from the names that are kept, or from all that is declared, and no more than
 /// the bundle allows; the names of their items are as its mangler gives them, and those of the root's stay where it says
 /// nothing else. What is recorded of these names comes with the unit, and the bundle's built-in names are handed back.
-fn linked_unit(alloc: Global, bundle: Bundle) -> Result<(Mapped, Option<BuiltinNames>), Error>
+fn linked_unit(alloc: Global, bundle: Bundle) -> Result<(Mapped, Option<BuiltinNames>), Diagnostic>
     requires fixed { is_relative (path_view bundle.root) ≡ false }
     ensures linked { IfOk result (λ made. (w : List Module) × LinksTo (bundle_view bundle.entry) w (unit_view made.0.unit)
         × SameItems (recorded_for (bundle_view bundle.entry) w) (items made.0.map)) }
     ensures builtins { IfOk result (λ made. made.1 ≡ bundle.entry.builtins) }
-    ensures refused { IfErr result (IsLinkFault (bundle_view bundle.entry)) }
+    ensures refused { IfErr result (λ d. IsLinkFault (bundle_view bundle.entry) (out-Diagnostic d).error) }
 {
     let Bundle {
         root,
@@ -86,7 +88,7 @@ fn linked_unit(alloc: Global, bundle: Bundle) -> Result<(Mapped, Option<BuiltinN
     let sources = sources_of(alloc, modules, packages)?;
     match link_recorded(alloc, &keep, root, sources, &features, options) {
         Ok(made) => Ok((made, builtins)),
-        Err(error) => Err(error),
+        Err(diagnostic) => Err(diagnostic),
     }
 }
 
@@ -98,11 +100,11 @@ fn link_recorded<R: Resolver + Drop>(
     resolver: R,
     features: &Option<Features>,
     options: Options,
-) -> Result<Mapped, Error>
+) -> Result<Mapped, Diagnostic>
     requires ready { R.ready resolver }
     requires asked { is_relative (path_view root) ≡ false }
     ensures mapped { IfOk result (λ made. MapsLinkLeft (R.hands resolver) (R.refuses resolver) features.now (named_by options.mangler) (path_view root) (map string_bytes keep.now) options.eager options.mangle_root options.max_modules (λ name. None) (items made.map) (unit_view made.unit)) }
-    ensures refused { IfErr result (RefusesLinkLeft (R.hands resolver) (R.refuses resolver) features.now (path_view root) (map string_bytes keep.now) options.eager options.max_modules) }
+    ensures refused { IfErr result (TellsRefusalLeft (R.hands resolver) (R.refuses resolver) features.now root (map string_bytes keep.now) options.eager options.max_modules) }
 {
     let keep = names(alloc, keep)?;
     let naming = BundleMangler {

@@ -1,33 +1,69 @@
 //! From the bytes of a bundle to the line of its answer.
-ghost use Rattle.std.specs.Prelude.{◌≡◌, IfOk, IfErr, string_bytes, false};
+ghost use Rattle.std.specs.Prelude.{◌≡◌, IfOk, IfErr, string_bytes, false, true};
 ghost use Rattle.serde_json.specs.View.{view};
 ghost use Rattle.serde_json.specs.Written.{has_float};
+ghost use Rattle.wesl_bundle.specs.Views.{bundle_view};
+ghost use Rattle.wesl_form.specs.Units.{written_as};
+ghost use Rattle.wesl_names.specs.Path.{is_relative, path_view};
+ghost use Rattle.wesl_names.specs.declared.errors.Diagnostic.{out-Diagnostic};
+ghost use Rattle.wesl_tree.specs.Translation.{unit_view};
 ghost use Rattle.wesl_program.specs.Answers.{IsAnswerFor};
-ghost use Rattle.wesl_program.specs.Line.{IsAnswerLine, IsRefusal};
+ghost use Rattle.wesl_program.specs.Line.{AsksForPlaces, IsAnswerLine, IsAnswerOf, IsRefusal};
+ghost use Rattle.wesl_program.specs.Refused.{IsLinkFault};
 
 use crate::answer::{Answer, answer_line};
 use crate::bundle_value::bundle_of_bytes;
 use crate::linking::linked;
+use crate::refusal::Refusal;
 use json::Scratch;
 use std::alloc::Global;
+use wesl_bundle::Bundle;
 use wesl_tree::Error;
 
-/// The answer's line of the bytes. What was read of them is dropped before the line is made.
-pub fn answer_of_bytes(alloc: Global, bytes: &[u8]) -> Result<String, Error>
+/// The answer's line of the bytes. What was read of them is dropped before the line is made. The place of a fault is told
+/// where the bytes are a bundle that asks for form 2.
+pub fn answer_of_bytes(alloc: Global, bytes: &[u8]) -> Result<String, Refusal>
     ensures line { IfOk result (λ line. IsAnswerLine bytes.now (string_bytes line)) }
-    ensures refused { IfErr result (IsRefusal bytes.now) }
+    ensures refused { IfErr result (λ r. IsRefusal bytes.now (out-Diagnostic r.diagnostic).error) }
+    ensures placed { IfErr result (λ r. r.is_placed ≡ true → AsksForPlaces bytes.now) }
 {
-    let answer = linked_of_bytes(alloc, bytes)?;
-    Ok(answer_line(alloc, &answer)?)
+    match linked_of_bytes(alloc, bytes) {
+        Ok(answer) => match answer_line(alloc, &answer) {
+            Ok(line) => Ok(line),
+            Err(_) => Err(Refusal::of(Error::Memory)),
+        },
+        Err(refusal) => Err(refusal),
+    }
 }
 
 // What is answered of the bundle that the bytes are.
-fn linked_of_bytes(alloc: Global, bytes: &[u8]) -> Result<Answer, Error>
+fn linked_of_bytes(alloc: Global, bytes: &[u8]) -> Result<Answer, Refusal>
     ensures linked { IfOk result (IsAnswerFor bytes.now) }
     ensures map_whole { IfOk result (λ a. has_float (view a.map) ≡ false) }
-    ensures refused { IfErr result (IsRefusal bytes.now) }
+    ensures refused { IfErr result (λ r. IsRefusal bytes.now (out-Diagnostic r.diagnostic).error) }
+    ensures placed { IfErr result (λ r. r.is_placed ≡ true → AsksForPlaces bytes.now) }
 {
     let mut scratch = Scratch::new(alloc);
-    let bundle = bundle_of_bytes(alloc, bytes, &mut scratch)?;
-    linked(alloc, bundle)
+    match bundle_of_bytes(alloc, bytes, &mut scratch) {
+        Ok(bundle) => answer_of(alloc, bundle),
+        Err(error) => Err(Refusal::of(error)),
+    }
+}
+
+// What is answered of a bundle. The place of a fault is told where it asks for form 2.
+fn answer_of(alloc: Global, bundle: Bundle) -> Result<Answer, Refusal>
+    requires fixed { is_relative (path_view bundle.root) ≡ false }
+    ensures linked { IfOk result (λ a. IsAnswerOf (bundle_view bundle.entry) a.clash (view a.map) (written_as a.spans (unit_view a.unit))) }
+    ensures map_whole { IfOk result (λ a. has_float (view a.map) ≡ false) }
+    ensures refused { IfErr result (λ r. IsLinkFault (bundle_view bundle.entry) (out-Diagnostic r.diagnostic).error) }
+    ensures placed { IfErr result (λ r. r.is_placed ≡ bundle.entry.options.spans) }
+{
+    let is_placed = bundle.options.spans;
+    match linked(alloc, bundle) {
+        Ok(answer) => Ok(answer),
+        Err(diagnostic) => Err(Refusal {
+            diagnostic,
+            is_placed,
+        }),
+    }
 }

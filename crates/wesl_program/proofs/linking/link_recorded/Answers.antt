@@ -28,9 +28,9 @@ returns-clause-refused g c =
     let keeps : texts c.deref.result.now ≡ map string_bytes a.keep.now = ap texts c.deref.ensures.value ∙ c.in_ok-keep.ensures in
     let mapper = c.new.result in
     IfErr-weaker c.link_mapped.result _ _
-    (λ e h. refuses-from g.R.Resolver.hands g.R.Resolver.refuses a.features.now mapper.resolver a.resolver c.new.ensures.resolver (path_view mapper.root) (path_view a.root) (ap path_view c.new.ensures.root) (texts c.deref.result.now) (map string_bytes a.keep.now) keeps a.options.eager a.options.max_modules e h)
+    (λ d h. refuses-from g.R.Resolver.hands g.R.Resolver.refuses a.features.now mapper.resolver a.resolver c.new.ensures.resolver (path_view mapper.root) (path_view a.root) (ap path_view c.new.ensures.root) (texts c.deref.result.now) (map string_bytes a.keep.now) keeps a.options.eager a.options.max_modules d.error h)
     c.link_mapped.ensures.refused
 
 pub returns-in_err-keep-clause-refused : goal.returns-in_err-keep-clause-refused
 returns-in_err-keep-clause-refused g c =
-    IfErr-weaker c.from_residual.result (λ e. e ≡ error.Memory) _ (λ e is. inl (resolve_error.Memory, inl refl, is)) (search rules)
+    IfErr-weaker c.from_residual.result (λ d. d.error ≡ error.Memory) _ (λ d is. inl (resolve_error.Memory, inl refl, is)) (search rules)

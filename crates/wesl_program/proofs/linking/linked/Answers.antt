@@ -2,7 +2,7 @@ use Rattle.std.proofs.Common.{◌≡◌, refl, ap, subst, inl, rules}
 use Rattle.std.proofs.lemmas.Result.{IfErr-weaker}
 use Rattle.std.specs.Prelude.{option_map}
 use Rattle.serde_json.specs.View.{view}
-use Rattle.wesl_form.specs.Units.{unit_value}
+use Rattle.wesl_form.specs.Units.{written_as}
 use Rattle.wesl_names.specs.declared.errors.Error as error
 use Rattle.wesl_tree.specs.Translation.{unit_view}
 use Rattle.wesl_bundle.specs.Views.{builtins_view, bundle_view}
@@ -19,8 +19,8 @@ pub returns-in-Err-clause-refused : goal.returns-in-Err-clause-refused
 returns-in-Err-clause-refused c =
     let made = c.in_ok-made in
     let b = bundle_view c.args.bundle in
-    found-fault b (λ w. SameItems (recorded_for b w) (items made.made.map)) (unit_view made.made.unit) c.in-Err.error made.ensures.linked
-    (subst (λ o. RefusesUnit (option_map builtins_view o) (unit_view made.made.unit) c.in-Err.error) made.ensures.builtins c.in-Err.ensures.refused)
+    found-fault b (λ w. SameItems (recorded_for b w) (items made.made.map)) (unit_view made.made.unit) c.in-Err.diagnostic.error made.ensures.linked
+    (subst (λ o. RefusesUnit (option_map builtins_view o) (unit_view made.made.unit) c.in-Err.diagnostic.error) made.ensures.builtins c.in-Err.ensures.refused)
 
 pub returns-clause-linked : goal.returns-clause-linked
 returns-clause-linked c =
@@ -28,12 +28,12 @@ returns-clause-linked c =
     let b = bundle_view c.args.bundle in
     let u = unit_view made.made.unit in
     let valid : IsValidUnder b.builtins u = search rules in
-    answer-of b u (items made.made.map) c.in_ok-clash.clash (view c.in_ok-map.map) (unit_value u) made.ensures.linked valid c.in_ok-clash.ensures.exact c.in_ok-map.ensures.map refl
+    answer-of b u (items made.made.map) c.in_ok-clash.clash (view c.in_ok-map.map) (written_as b.options.spans u) made.ensures.linked valid c.in_ok-clash.ensures.exact c.in_ok-map.ensures.map refl
 
 pub returns-in_err-clash-clause-refused : goal.returns-in_err-clash-clause-refused
 returns-in_err-clash-clause-refused c =
-    IfErr-weaker c.from_residual-in_err-clash.result (λ e. e ≡ error.Memory) _ (λ e is. inl (ap fault_of is)) (search rules)
+    IfErr-weaker c.from_residual-in_err-clash.result (λ d. d.error ≡ error.Memory) _ (λ d is. inl (ap fault_of is)) (search rules)
 
 pub returns-in_err-map-clause-refused : goal.returns-in_err-map-clause-refused
 returns-in_err-map-clause-refused c =
-    IfErr-weaker c.from_residual-in_err-map.result (λ e. e ≡ error.Memory) _ (λ e is. inl (ap fault_of is)) (search rules)
+    IfErr-weaker c.from_residual-in_err-map.result (λ d. d.error ≡ error.Memory) _ (λ d is. inl (ap fault_of is)) (search rules)

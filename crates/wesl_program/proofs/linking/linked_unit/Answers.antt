@@ -39,8 +39,8 @@ returns-clause-refused c =
       are_features = refl;
     } in
     let keep : map string_bytes c.deref.result.now ≡ map string_bytes c.args.bundle.keep.items = ap (map string_bytes) c.deref.ensures.value in
-    fault-from b kept (map string_bytes c.deref.result.now) keep c.in-Err.error c.in-Err.ensures.refused
+    fault-from b kept (map string_bytes c.deref.result.now) keep c.in-Err.diagnostic.error c.in-Err.ensures.refused
 
 pub returns-in_err-sources-clause-refused : goal.returns-in_err-sources-clause-refused
 returns-in_err-sources-clause-refused c =
-    IfErr-weaker c.from_residual.result (λ e. e ≡ error.Memory) _ (λ e is. inl (ap fault_of is)) (search rules)
+    IfErr-weaker c.from_residual.result (λ d. d.error ≡ error.Memory) _ (λ d is. inl (ap fault_of is)) (search rules)
