@@ -4,21 +4,23 @@ use Rattle.std.specs.List.{All}
 use Rattle.std.proofs.lemmas.List.Elements.{All-contains_itself, Contains-append_cases, Contains-append_right}
 use Rattle.wesl_names.specs.Path.{Text, Path}
 use Rattle.wesl_syntax.specs.Tree.{before, end}
+use Rattle.wesl_choices.specs.declared.place.Place.{Place}
+use Rattle.wesl_choices.specs.declared.place.Place.TheVariants.{Name}
+use Rattle.wesl_symbols.specs.declared.symbols.Reference.{Reference}
 use Rattle.wesl_symbols.specs.declared.symbols.Symbol.{Symbol}
 use Rattle.wesl_symbols.specs.declared.symbols.LookUp.{LookUp}
 use Rattle.wesl_symbols.specs.Tables.{Declaration, Table}
-use Rattle.wesl_symbols.specs.declared.symbols.Import.{Import}
-use Rattle.wesl_symbols.specs.Names.{Declares}
-use Rattle.wesl_world.specs.World.{Task, LeadsTo, Entered, Reached, LeadsTo as leads}
+use Rattle.wesl_symbols.specs.Names.{Declares, asked_for}
+use Rattle.wesl_world.specs.World.{Task, LeadsTo, Entered, Reached}
 use Rattle.wesl_world.proofs.Lists.{map_contains, contains_map}
 use Rattle.wesl_occurrences.specs.Occurrences.{Block, Standing, module_name, parameter, local as local_name, reference, word, Occurrence, occurrences, is_binder}
 use Rattle.wesl_occurrences.specs.Pieces.{declarations_in}
 use Rattle.wesl_meanings.specs.Scopes.{Key, bound, free, qualified, is_visible, key_of}
 use Rattle.wesl_meanings.specs.Keys.{number_of}
 use Rattle.wesl_faith.specs.Faithful.{name_of as printed_name}
-use Rattle.wesl_table.specs.Imports.{imports}
-use Rattle.wesl_table.specs.Uses.{asked, meant, use_as, declares}
-use Rattle.wesl_table.specs.Tables.{name_of, names_declared, declaration_of}
+use Rattle.wesl_table.specs.Split.{Scope}
+use Rattle.wesl_table.specs.Uses.{Use, asked, plain_use, path_use, meant, use_as, declares}
+use Rattle.wesl_table.specs.Tables.{name_of, scope_of}
 use Rattle.wesl_assembly.specs.Denotations.{symbol, local, free_name}
 use Rattle.wesl_linker.specs.Worlds.{Module, table, tables}
 use Rattle.wesl_linker.specs.Linked.{Denotation, AskedLeadsTo, StandsFor, Placed, IsHeldAs}
@@ -28,12 +30,12 @@ use Rattle.wesl_laws.proofs.Grammar.{StandsWell, Well, globals_well}
 use Rattle.wesl_laws.proofs.Parts.{blocks_of}
 use Rattle.wesl_laws.proofs.Ranges.{left_within, every_held}
 use Rattle.wesl_laws.proofs.Scoped.{IsMeant}
-use Rattle.wesl_laws.proofs.Denoted.{InBlock, in_own, a_symbol, a_free_name, ReferenceDenotes, in_a_block, outside_blocks, Denotes, IsWell, denotes}
+use Rattle.wesl_laws.proofs.Denoted.{InBlock, in_own, a_symbol, a_free_name, ReferenceDenotes, in_a_block, outside_blocks, Denotes, IsWell, denotes, plain_refers, path_refers}
 use Rattle.wesl_laws.proofs.Follow.{IsBound, StandsSo, StandSo}
 use Rattle.wesl_laws.proofs.Reached.{refers_to_reached}
 use Rattle.wesl_laws.proofs.Modules.{globals_node, globals_place, globals_number, globals_part}
 use Rattle.wesl_laws.proofs.Respelled.{IsGrammatical, global_nodes}
-use Rattle.wesl_laws.proofs.Sources.{Source, own_part, use_in, placed_of, sources_of, rows_sources, sources_are, AreSources}
+use Rattle.wesl_laws.proofs.Sources.{Source, own_part, use_in, placed_of, sources_of, has_row, row_has, sources_are, AreSources}
 use Rattle.wesl_laws.proofs.Named.{has_name}
 use Rattle.wesl_laws.proofs.Inside.{part_inside, globals_joined, around_within, in_declaration}
 use Rattle.wesl_laws.proofs.Laid.{LaidAt, Related, AreLaid, has_source, has_copy, laid_somewhere}
@@ -42,25 +44,35 @@ use Rattle.wesl_laws.proofs.Spans.{At, one_block, one_place, not_module}
 -- ---- what holds of any module
 -- what leads somewhere comes to a declaration
 leads_to_declared : (ws : List (Table Path Text)) (l : LookUp Path Text) (s : Symbol Path Text) → LeadsTo ws l s → (t : Table Path Text) × Contains ws t × (t.path ≡ s.path) × Declares t s.name
-leads_to_declared ws _ _ (leads.here l s (t, (held, there), names, e)) =
-    (t, held, there ∙ sym (ap (λ (x : Symbol Path Text). x.path) e), subst (Declares t) (sym (ap (λ (x : Symbol Path Text). x.name) e)) names)
-leads_to_declared ws _ _ (leads.through l next s hop rest) = leads_to_declared ws next s rest
+leads_to_declared ws l s (a, reaches, (t, (held, there), ((d, d_in, names, seen), own), e)) =
+    (t, held, there ∙ sym (ap (λ (x : Symbol Path Text). x.path) e), (d, d_in, names ∙ ap Some (sym (ap (λ (x : Symbol Path Text). x.name) e))))
 
 abbrev pub IsReference : Standing → Type 0
 IsReference (reference p) = Unit {0}
 IsReference _ = ⊥
 
 -- a reference that denotes a symbol asks for it
-module _ (ws : List (Table Path Text)) (own : Path) (declared : List Text) (is : List (Import Path Text)) where
-  meant_asks : (n : Text) (key : Key) (p : Path) (m : Text) → StandsFor ws own (meant own declared is n key) (symbol p m)
-      → (a : Symbol Path Text) × Contains (asked (meant own declared is n key)) a × AskedLeadsTo ws own a (record { path = p; name = m })
-  meant_asks n (bound [] x) p m h = h
-  meant_asks n (bound (k ∷ outer) x) p m h = absurd (let z : ⊥ = cc in z)
-  meant_asks n (free x) p m h = h
-  meant_asks n (qualified s x) p m h = h
+module _ (ws : List (Table Path Text)) (scope : Scope) (here : Place) where
+  abbrev Asks : Use Path Text → Path → Text → Type 0
+  Asks u p m = (a : Reference Path Text) × Contains (asked u) a × AskedLeadsTo ws scope.own a (record { path = p; name = m })
 
-  symbol_asks : (r : Standing) → IsReference r → (n : Text) (key : Key) (p : Path) (m : Text) → StandsFor ws own (use_as own declared is r n key) (symbol p m)
-      → (a : Symbol Path Text) × Contains (asked (use_as own declared is r n key)) a × AskedLeadsTo ws own a (record { path = p; name = m })
+  plain_asks : (n : Text) (p : Path) (m : Text) → StandsFor ws scope.own (plain_use scope here n) (symbol p m) → Asks (plain_use scope here n) p m
+  plain_asks n p m h =
+      let (asks, is) = plain_refers ws scope.own scope here n (symbol p m) h in
+      subst (λ (u : Use Path Text). Asks u p m) (sym is) (subst (λ (u : Use Path Text). StandsFor ws scope.own u (symbol p m)) is h)
+
+  path_asks : (q : Path) (n : Text) (p : Path) (m : Text) → StandsFor ws scope.own (path_use scope here q n) (symbol p m) → Asks (path_use scope here q n) p m
+  path_asks q n p m h =
+      let (asks, is, some) = path_refers ws scope.own scope here q n (symbol p m) h in
+      subst (λ (u : Use Path Text). Asks u p m) (sym is) (subst (λ (u : Use Path Text). StandsFor ws scope.own u (symbol p m)) is h)
+
+  meant_asks : (n : Text) (key : Key) (p : Path) (m : Text) → StandsFor ws scope.own (meant scope here n key) (symbol p m) → Asks (meant scope here n key) p m
+  meant_asks n (bound [] x) p m h = plain_asks n p m h
+  meant_asks n (bound (k ∷ outer) x) p m h = absurd (let z : ⊥ = cc in z)
+  meant_asks n (free x) p m h = plain_asks n p m h
+  meant_asks n (qualified q x) p m h = path_asks q n p m h
+
+  symbol_asks : (r : Standing) → IsReference r → (n : Text) (key : Key) (p : Path) (m : Text) → StandsFor ws scope.own (use_as scope here r n key) (symbol p m) → Asks (use_as scope here r n key) p m
   symbol_asks (reference by) i n key p m h = meant_asks n key p m h
   symbol_asks module_name i n key p m h = absurd i
   symbol_asks parameter i n key p m h = absurd i
@@ -138,7 +150,7 @@ module _ (w : List Module) (task : Task Path Text) (held : List Placed) (srcs : 
         (globals_well s.home.unit.declarations.children g.globals globals_node (record { ahead = tt; others = (refl, refl); declares = λ e. let z : ⊥ = cc in z }) (globals_place s.home.unit) (globals_number s.home.unit))
         (in_module x i)
 
-    well_so : (x : Occurrence Text) (r : Standing) → StandsWell r x.block → IsWell (tables w) s.home.path (names_declared s.home.unit) (imports s.home.path s.home.unit) (occurrences s.home.unit) x r
+    well_so : (x : Occurrence Text) (r : Standing) → StandsWell r x.block → IsWell (tables w) (scope_of s.home.path s.home.unit) (occurrences s.home.unit) x r
     well_so x module_name h = tt
     well_so x parameter h = h
     well_so x (local_name e) h = h
@@ -146,11 +158,11 @@ module _ (w : List Module) (task : Task Path Text) (held : List Placed) (srcs : 
     well_so x word h = tt
 
     abbrev pub DenotesHere : Occurrence Text → Standing → Denotation → Type 0
-    DenotesHere = Denotes (tables w) s.home.path (names_declared s.home.unit) (imports s.home.path s.home.unit) (occurrences s.home.unit)
+    DenotesHere = Denotes (tables w) (scope_of s.home.path s.home.unit) (occurrences s.home.unit)
 
     pub denotes_here : (a b : ℕ) (x : Occurrence Text) (o : Occurrence ℕ) → Contains (own_part s) x → Related (tables w) means s a b x o → DenotesHere x x.role (means o.name)
     denotes_here a b x o i r =
-        denotes (tables w) s.home.path (names_declared s.home.unit) (imports s.home.path s.home.unit) (occurrences s.home.unit) x x.role (means o.name) (well_so x x.role (stands_well x i)) r.means
+        denotes (tables w) (scope_of s.home.path s.home.unit) (occurrences s.home.unit) x x.role (means o.name) (well_so x x.role (stands_well x i)) r.means
 
     module _ (a b : ℕ) (there : LaidAt lay.place lay.number srcs.sources s a b) where
       pub at_block : (x : Occurrence Text) (o : Occurrence ℕ) → Related (tables w) means s a b x o → Contains all o → (k : ℕ) (outer : Block) → x.block ≡ k ∷ outer → InUnit s.home.path k o.block
@@ -187,9 +199,8 @@ module _ (w : List Module) (task : Task Path Text) (held : List Placed) (srcs : 
       → (z : Occurrence ℕ) × Contains lay.globals z × (z.role ≡ module_name) × (means z.name ≡ symbol x.path x.name)
   symbol_binder x reached t t_in at_path (d, d_in, d_named) =
       let (m, m_in, is) = contains_map table w t t_in in
-      let rows = rows_sources m (gs m m_in) in
       let d_there : Contains (table m).declarations d = subst (λ (y : Table Path Text). Contains y.declarations d) (sym is) d_in in
-      let (s, s_in, row) = contains_map (λ (y : Source). declaration_of y.declaration (map (use_in y.home) (own_part y))) (sources_of m) d (subst (λ ds. Contains ds d) rows d_there) in
+      let (s, k, s_in, row) = row_has m (gs m m_in) d d_there in
       let home : s.home ≡ m = (sources_are m (gs m m_in) s s_in).home in
       let paths : s.home.path ≡ x.path = ap (λ (y : Module). y.path) home ∙ (ap (λ (y : Table Path Text). y.path) is ∙ at_path) in
       let named : name_of s.declaration ≡ Some x.name = ap (λ (y : Declaration Path Text). y.name) row ∙ d_named in
@@ -199,7 +210,7 @@ module _ (w : List Module) (task : Task Path Text) (held : List Placed) (srcs : 
       let (y, y_in, role, called) = has_name x.name (before s.declaration end) each.global s.node each.node named s.place s.number in
       let (a, b, there) = laid_somewhere srcs.sources lay.place lay.number s c in
       let (z, z_in, r) = has_copy (tables w) means srcs.sources lay.place lay.number lay.globals lay.laid s a b there y y_in in
-      let what : use_in s.home y ≡ declares x.name = ap (λ v. use_as s.home.path (names_declared s.home.unit) (imports s.home.path s.home.unit) v y.name (key_of (occurrences s.home.unit) y)) role ∙ ap (λ v. declares v) called in
+      let what : use_in s.home y ≡ declares x.name = ap (λ v. use_as (scope_of s.home.path s.home.unit) (Name y.place) v y.name (key_of (occurrences s.home.unit) y)) role ∙ ap (λ v. declares v) called in
       let meaning : means z.name ≡ symbol s.home.path x.name = subst (λ v. StandsFor (tables w) s.home.path v (means z.name)) what r.means in
       (z, z_in, still_module s.place a s.number b (blocks_of s.declaration) y.role z.role role r.same.role, meaning ∙ ap (λ p. symbol p x.name) paths)
 
@@ -210,13 +221,12 @@ module _ (w : List Module) (task : Task Path Text) (held : List Placed) (srcs : 
       let each = srcs.each s c in
       let m = s.home in
       let target : Symbol Path Text = record { path = p; name = n } in
-      let (a, a_in, answers) = symbol_asks (tables w) m.path (names_declared m.unit) (imports m.path m.unit) x.role is x.name (key_of (occurrences m.unit) x) p n stands in
+      let (a, a_in, answers) = symbol_asks (tables w) (scope_of m.path m.unit) (Name x.place) x.role is x.name (key_of (occurrences m.unit) x) p n stands in
       let t_in : Contains (tables w) (table m) = map_contains table w m each.0 in
-      let row : Contains (table m).declarations (declaration_of s.declaration (map (use_in m) (own_part s))) =
-      subst (λ ds. Contains ds (declaration_of s.declaration (map (use_in m) (own_part s)))) (sym (rows_sources m (gs m each.0))) (map_contains (λ (y : Source). declaration_of y.declaration (map (use_in y.home) (own_part y))) (sources_of m) s each.3) in
-      let reached = refers_to_reached (tables w) task (table m) t_in (entered m each.0) s.declaration (map (use_in m) (own_part s)) row (λ name named. subst (IsHeldAs (tables w) task (placed_of s)) named each.2)
+      let (k, row) = has_row m (gs m each.0) s each.3 in
+      let reached = refers_to_reached (tables w) task (table m) t_in (entered m each.0) (scope_of m.path m.unit) k s.declaration (map (use_in m) (own_part s)) row (λ name named. subst (IsHeldAs (tables w) task (placed_of s)) named each.2)
       (use_in m x) (map_contains (use_in m) (own_part s) x i) a a_in target answers in
-      let (t, there, at_path, names) = leads_to_declared (tables w) (record { asker = Some m.path; path = a.path; name = a.name }) target answers in
+      let (t, there, at_path, names) = leads_to_declared (tables w) (asked_for (table m) a) target answers in
       symbol_binder target reached t there at_path names
 
   -- ---- how each identifier stands
@@ -228,7 +238,7 @@ module _ (w : List Module) (task : Task Path Text) (held : List Placed) (srcs : 
     IsBoundHere = IsBound names all means print InUnit
 
     module _ (s : Source) (c : Contains srcs.sources s) (a b : ℕ) (there : LaidAt lay.place lay.number srcs.sources s a b) (x : Occurrence Text) (o : Occurrence ℕ) (i : Contains (own_part s) x) (held_o : Contains all o) (r : Related (tables w) means s a b x o) where
-      in_a_function : (d : Denotation) → InBlock (tables w) s.home.path (names_declared s.home.unit) (imports s.home.path s.home.unit) x.block x.name d → (p : Path) × (k : ℕ) × (n : Text) × (d ≡ local p k n) × InUnit p k o.block
+      in_a_function : (d : Denotation) → InBlock (tables w) (scope_of s.home.path s.home.unit) x.block x.name d → (p : Path) × (k : ℕ) × (n : Text) × (d ≡ local p k n) × InUnit p k o.block
       in_a_function d (in_own k outer e is) = (s.home.path, k, x.name, is, at_block s c a b there x o r held_o k outer e)
 
       bound_here : (z : Occurrence ℕ) (d : Denotation) → Contains lay.globals z → is_binder z.role ≡ true → means z.name ≡ d → IsBoundHere d
@@ -239,7 +249,7 @@ module _ (w : List Module) (task : Task Path Text) (held : List Placed) (srcs : 
           let (z, z_in, role, meaning) = symbol_reached s c x i ref p n (subst (StandsFor (tables w) s.home.path (use_in s.home x)) (e ∙ is) r.means) in
           bound_here z d z_in (ap is_binder role) (meaning ∙ sym is)
 
-      of_reference : (d : Denotation) → means o.name ≡ d → IsReference x.role → ReferenceDenotes (tables w) s.home.path (names_declared s.home.unit) (imports s.home.path s.home.unit) (occurrences s.home.unit) x d → IsBoundHere d ⊎ ((n : Text) × (d ≡ free_name n))
+      of_reference : (d : Denotation) → means o.name ≡ d → IsReference x.role → ReferenceDenotes (tables w) (scope_of s.home.path s.home.unit) (occurrences s.home.unit) x d → IsBoundHere d ⊎ ((n : Text) × (d ≡ free_name n))
       of_reference d e ref (in_a_block y m (in_own k outer f is)) =
           let (z, z_in, binds, meaning, y_in, rz) = copy_of s c a b there x o r y m k outer f in
           inl (bound_here z d z_in binds (meaning ∙ sym is))

@@ -1,16 +1,15 @@
 -- The declarations of modules, each with where it stands in its module.
-use Rattle.std.proofs.Common.{◌≡◌, ◌⊎◌, inl, inr, ℕ, ◌+◌, ◌≤◌, List, [], ◌∷◌, map, Contains, arith, refl, sym, ap, ◌∙◌, subst, Bool, true, false, ◌&&◌}
+use Rattle.std.proofs.Common.{◌≡◌, ◌⊎◌, inl, inr, ℕ, suc, ◌+◌, ◌≤◌, List, [], ◌∷◌, map, Contains, arith, refl, sym, ap, ◌∙◌, subst, Bool, true, false, ◌&&◌}
 use Rattle.wesl_names.specs.Path.{Text, Path}
 use Rattle.wesl_syntax.specs.Tree.{ForestOf, TreeOf, end, tree, trees, before, kind, at, function, declaration_node}
-use Rattle.wesl_symbols.specs.Tables.{Table}
+use Rattle.wesl_symbols.specs.Tables.{Declaration, Table}
 use Rattle.wesl_world.specs.World.{Task}
 use Rattle.wesl_world.specs.Faults.{AreDistinct}
-use Rattle.wesl_symbols.proofs.Lists.{contains_nil, contains_cases}
+use Rattle.wesl_symbols.proofs.Lists.{contains_nil, contains_first, contains_later, contains_cases}
 use Rattle.wesl_occurrences.specs.Occurrences.{Block, Occurrence, Node, after_field, count, occurrences}
 use Rattle.wesl_occurrences.specs.Pieces.{declarations_in}
-use Rattle.wesl_table.specs.Imports.{imports}
 use Rattle.wesl_table.specs.Uses.{Use, use_of}
-use Rattle.wesl_table.specs.Tables.{paired, names_declared, uses, declaration_of}
+use Rattle.wesl_table.specs.Tables.{paired, scope_of, uses, declaration_of, declarations_from}
 use Rattle.wesl_linker.specs.Worlds.{Module, table}
 use Rattle.wesl_linker.specs.Linked.{Placed, placed, IsHeld, AreHeldOf, Selects, Joins}
 use Rattle.wesl_laws.proofs.Alike.{is_ident}
@@ -36,7 +35,7 @@ own_part s = part s.node s.place s.number s.declaration
 
 -- what an identifier of a module is to a link
 abbrev pub use_in : Module → Occurrence Text → Use Path Text
-use_in m o = use_of m.path (names_declared m.unit) (imports m.path m.unit) (occurrences m.unit) o
+use_in m o = use_of (scope_of m.path m.unit) (occurrences m.unit) o
 
 abbrev pub placed_of : Source → Placed
 placed_of s = record { home = s.home; declaration = s.declaration; uses = map (use_in s.home) (own_part s) }
@@ -54,6 +53,34 @@ paired_sources : {Z : Type 0} (g : TreeOf Text → List (Use Path Text) → Z) (
 paired_sources g m node p q [] = refl
 paired_sources {Z = Z} g m node p q (t ∷ ts) = ap (λ (zs : List Z). g t (map (use_in m) (part node p q t)) ∷ zs) (paired_sources g m (after_field node) (p + count t.children) (q + blocks_of t) ts)
 
+-- ---- and what is declared
+-- its row in the table, as the declaration with this number
+abbrev pub row_of : ℕ → Source → Declaration Path Text
+row_of k s = declaration_of (scope_of s.home.path s.home.unit) k s.declaration (map (use_in s.home) (own_part s))
+
+abbrev rows_from : ℕ → List Source → List (Declaration Path Text)
+rows_from k [] = []
+rows_from k (s ∷ ss) = row_of k s ∷ rows_from (suc k) ss
+
+declared_sources : (m : Module) (node : Node Block) (p q k : ℕ) (ts : List (TreeOf Text)) → declarations_from (scope_of m.path m.unit) k ts (map (map (use_in m)) (parts node p q ts)) ≡ rows_from k (sources_from m node p q ts)
+declared_sources m node p q k [] = refl
+declared_sources m node p q k (t ∷ ts) =
+    ap (λ (ds : List (Declaration Path Text)). declaration_of (scope_of m.path m.unit) k t (map (use_in m) (part node p q t)) ∷ ds) (declared_sources m (after_field node) (p + count t.children) (q + blocks_of t) (suc k) ts)
+
+row_inside : (k : ℕ) (ss : List Source) (s : Source) → Contains ss s → (j : ℕ) × Contains (rows_from k ss) (row_of j s)
+row_inside k [] s c = absurd (contains_nil s c)
+row_inside k (x ∷ ss) s c = elim (contains_cases x s ss c) [
+  | inl e ↦ (k, subst (λ (y : Source). Contains (row_of k x ∷ rows_from (suc k) ss) (row_of k y)) e (contains_first (row_of k x) (rows_from (suc k) ss)))
+  | inr h ↦ (let (j, held) = row_inside (suc k) ss s h in (j, contains_later (row_of k x) (row_of j s) (rows_from (suc k) ss) held))
+]
+
+inside_row : (k : ℕ) (ss : List Source) (d : Declaration Path Text) → Contains (rows_from k ss) d → (s : Source) × (j : ℕ) × Contains ss s × (row_of j s ≡ d)
+inside_row k [] d c = absurd (contains_nil d c)
+inside_row k (x ∷ ss) d c = elim (contains_cases (row_of k x) d (rows_from (suc k) ss) c) [
+  | inl e ↦ (x, k, contains_first x ss, e)
+  | inr h ↦ (let (s, j, held, is) = inside_row (suc k) ss d h in (s, j, contains_later x s ss held, is))
+]
+
 module _ (m : Module) (g : IsGrammatical m.unit) where
   uses_parts : uses m.path m.unit ≡ map (map (use_in m)) (global_parts m.unit)
   uses_parts = ap (map (map (use_in m))) (pieces_parts m.unit g.shaped (global_nodes m.unit.declarations.children g.globals))
@@ -68,8 +95,15 @@ module _ (m : Module) (g : IsGrammatical m.unit) where
       homes node p q [] = refl
       homes node p q (t ∷ ts) = ap (λ (ds : List Placed). record { home = m; declaration = t; uses = map (use_in m) (part node p q t) } ∷ ds) (homes (after_field node) (p + count t.children) (q + blocks_of t) ts)
 
-  pub rows_sources : (table m).declarations ≡ map (λ (s : Source). declaration_of s.declaration (map (use_in s.home) (own_part s))) (sources_of m)
-  rows_sources = all_sources declaration_of
+  rows_sources : (table m).declarations ≡ rows_from 0 (sources_of m)
+  rows_sources = ap (declarations_from (scope_of m.path m.unit) 0 (declarations_in m.unit)) uses_parts ∙ declared_sources m globals_node (globals_place m.unit) (globals_number m.unit) 0 (declarations_in m.unit)
+
+  -- each has its row in the table, and each row is that of one
+  pub has_row : (s : Source) → Contains (sources_of m) s → (k : ℕ) × Contains (table m).declarations (row_of k s)
+  has_row s c = let (k, held) = row_inside 0 (sources_of m) s c in (k, subst (λ ds. Contains ds (row_of k s)) (sym rows_sources) held)
+
+  pub row_has : (d : Declaration Path Text) → Contains (table m).declarations d → (s : Source) × (k : ℕ) × Contains (sources_of m) s × (row_of k s ≡ d)
+  row_has d c = inside_row 0 (sources_of m) d (subst (λ ds. Contains ds d) rows_sources c)
 
 -- ---- where they stand
 pub record IsSourceOf (m : Module) (s : Source) : Type 0 where

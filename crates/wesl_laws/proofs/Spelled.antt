@@ -4,7 +4,8 @@ use Rattle.std.specs.Prelude.{bytes_eq}
 use Rattle.std.specs.List.{All, filter, find}
 use Rattle.std.proofs.lemmas.List.Elements.{All-contains, All-contains_itself, Contains-append_cases}
 use Rattle.wesl_names.specs.Path.{Text, Path}
-use Rattle.wesl_symbols.specs.declared.symbols.Symbol.{Symbol}
+use Rattle.wesl_choices.specs.declared.place.Place.TheVariants.{Name}
+use Rattle.wesl_symbols.specs.declared.symbols.Reference.{Reference}
 use Rattle.wesl_world.specs.World.{Task, Entered}
 use Rattle.wesl_symbols.proofs.Lists.{contains_nil}
 use Rattle.wesl_occurrences.specs.Occurrences.{Block, Standing, module_name, parameter, local as local_name, reference, word, Occurrence, occurrences, is_binder, is_unqualified}
@@ -12,9 +13,9 @@ use Rattle.wesl_meanings.specs.Keys.{named as named_in}
 use Rattle.wesl_meanings.specs.Scopes.{bound, is_visible, binds, binder_of, meaning, key_as}
 use Rattle.wesl_faith.specs.Faithful.{is_global, name_of, first_filled, binders_in, binders_of, AgreeOn, ReadRight}
 use Rattle.wesl_faith.specs.Retargeted.{IsUnbound}
-use Rattle.wesl_table.specs.Imports.{imports}
-use Rattle.wesl_table.specs.Uses.{refers, under, or_else, aims, asked_plain, meant, use_as}
-use Rattle.wesl_table.specs.Tables.{names_declared}
+use Rattle.wesl_table.specs.Split.{Scope}
+use Rattle.wesl_table.specs.Uses.{refers, plain_use, meant, use_as}
+use Rattle.wesl_table.specs.Tables.{scope_of}
 use Rattle.wesl_assembly.specs.Denotations.{symbol, local, free_name}
 use Rattle.wesl_linker.specs.Worlds.{Module, tables}
 use Rattle.wesl_linker.specs.Linked.{Denotation, Placed, StandsFor}
@@ -23,6 +24,7 @@ use Rattle.wesl_laws.proofs.Aligned.{SameStanding}
 use Rattle.wesl_laws.proofs.Shaped.{Pathless}
 use Rattle.wesl_laws.proofs.Parts.{blocks_of}
 use Rattle.wesl_laws.proofs.Scoped.{itself, found}
+use Rattle.wesl_laws.proofs.Denoted.{plain_refers, path_refers}
 use Rattle.wesl_laws.proofs.Respelled.{IsGrammatical}
 use Rattle.wesl_laws.proofs.Sources.{Source, own_part, use_in, AreSources}
 use Rattle.wesl_laws.proofs.Laid.{LaidAt, Related, has_source}
@@ -42,10 +44,6 @@ not_global o k outer e = ap (λ b. is_binder o.role && bytes_eq b []) e ∙ and_
 
 global_so : (o : Occurrence ℕ) → is_binder o.role ≡ true → o.block ≡ [] → is_global o ≡ true
 global_so o r e = ap₂ (λ a b. a && bytes_eq b []) r e
-
-aims_some : (n : Text) (xs : List Path) (p : Path) → map (under {P = Path} n) (or_else xs p) ≡ [] → ⊥
-aims_some n [] p e = let z : ⊥ = cc in z
-aims_some n (q ∷ qs) p e = let z : ⊥ = cc in z
 
 module _ (w : List Module) (task : Task Path Text) (held : List Placed) (srcs : AreSources (tables w) task w held) (gs : (m : Module) → Contains w m → IsGrammatical m.unit) (entered : (m : Module) → Contains w m → Entered (tables w) task m.path)
     (means : ℕ → Denotation) (way : ℕ → Block) (all : List (Occurrence ℕ)) (lay : IsLaidOut (tables w) srcs.sources means way all)
@@ -118,8 +116,8 @@ module _ (w : List Module) (task : Task Path Text) (held : List Placed) (srcs : 
     abbrev Read : Type 0
     Read = AgreeOn names all r.name (binders_of names all (name_of names all r) r.place r.block)
 
-    abbrev own_declared : List Text
-    own_declared = names_declared s.home.unit
+    abbrev scope : Scope
+    scope = scope_of s.home.path s.home.unit
 
     reads_symbol : (p : Path) (n : Text) → IsReference x.role → means r.name ≡ symbol p n → Read
     reads_symbol p n ref e =
@@ -144,27 +142,33 @@ module _ (w : List Module) (task : Task Path Text) (held : List Placed) (srcs : 
         subst (λ m. AgreeOn names all r.name (binders_of names all m r.place r.block)) (sym spelled) (subst (AgreeOn names all r.name) (sym (alone ∙ empty)) unbound)
 
     -- where it refers to what lies outside of functions
-    reads_outside : (asks : List (Symbol Path Text)) (d : Denotation) → means r.name ≡ d → IsReference x.role → StandsFor (tables w) s.home.path (refers x.name asks) d
+    reads_outside : (asks : List (Reference Path Text)) (d : Denotation) → means r.name ≡ d → IsReference x.role → StandsFor (tables w) s.home.path (refers x.name asks) d
         → (asks ≡ [] → binders_of names all x.name r.place r.block ≡ binders_in names all x.name r.place []) → Read
     reads_outside asks (symbol p n) e ref h alone = reads_symbol p n ref e
     reads_outside asks (free_name m) e ref (i, none) alone = reads_free x.name (e ∙ ap free_name i) (alone none)
     reads_outside asks (local p k n) e ref h alone = absurd h
 
-    use_so : (v : Standing) → x.role ≡ v → use_in s.home x ≡ use_as s.home.path own_declared (imports s.home.path s.home.unit) v x.name (key_as (occurrences s.home.unit) x v)
-    use_so v e = ap (λ t. use_as s.home.path own_declared (imports s.home.path s.home.unit) t x.name (key_as (occurrences s.home.unit) x t)) e
+    use_so : (v : Standing) → x.role ≡ v → use_in s.home x ≡ use_as scope (Name x.place) v x.name (key_as (occurrences s.home.unit) x v)
+    use_so v e = ap (λ t. use_as scope (Name x.place) t x.name (key_as (occurrences s.home.unit) x t)) e
 
-    plain_so : (o : Option (Occurrence Text)) → x.role ≡ reference None → binder_of (occurrences s.home.unit) x.name x.place x.block ≡ o → StandsFor (tables w) s.home.path (meant s.home.path own_declared (imports s.home.path s.home.unit) x.name (meaning x.name o)) (means r.name)
-    plain_so o e f = subst (λ u. StandsFor (tables w) s.home.path u (means r.name)) (use_so (reference None) e ∙ ap (λ v. meant s.home.path own_declared (imports s.home.path s.home.unit) x.name (meaning x.name v)) f) rel.means
+    plain_so : (o : Option (Occurrence Text)) → x.role ≡ reference None → binder_of (occurrences s.home.unit) x.name x.place x.block ≡ o → StandsFor (tables w) s.home.path (meant scope (Name x.place) x.name (meaning x.name o)) (means r.name)
+    plain_so o e f = subst (λ u. StandsFor (tables w) s.home.path u (means r.name)) (use_so (reference None) e ∙ ap (λ v. meant scope (Name x.place) x.name (meaning x.name v)) f) rel.means
 
-    bound_plain : (y : Occurrence Text) (v : Block) → y.block ≡ v → StandsFor (tables w) s.home.path (meant s.home.path own_declared (imports s.home.path s.home.unit) x.name (meaning x.name (Some y))) (means r.name)
-        → StandsFor (tables w) s.home.path (meant s.home.path own_declared (imports s.home.path s.home.unit) x.name (bound v x.name)) (means r.name)
-    bound_plain y v e h = subst (λ t. StandsFor (tables w) s.home.path (meant s.home.path own_declared (imports s.home.path s.home.unit) x.name (bound t x.name)) (means r.name)) e h
+    bound_plain : (y : Occurrence Text) (v : Block) → y.block ≡ v → StandsFor (tables w) s.home.path (meant scope (Name x.place) x.name (meaning x.name (Some y))) (means r.name)
+        → StandsFor (tables w) s.home.path (meant scope (Name x.place) x.name (bound v x.name)) (means r.name)
+    bound_plain y v e h = subst (λ t. StandsFor (tables w) s.home.path (meant scope (Name x.place) x.name (bound t x.name)) (means r.name)) e h
+
+    -- where it refers to what the module's block binds, if it binds it
+    reads_module : binders_of names all x.name r.place r.block ≡ binders_in names all x.name r.place [] → IsReference x.role → StandsFor (tables w) s.home.path (plain_use scope (Name x.place) x.name) (means r.name) → Read
+    reads_module alone ref h =
+        let (asks, is) = plain_refers (tables w) s.home.path scope (Name x.place) x.name (means r.name) h in
+        reads_outside asks (means r.name) refl ref (subst (λ v. StandsFor (tables w) s.home.path v (means r.name)) is h) (λ none. alone)
 
     module_found : x.role ≡ reference None → IsReference x.role → binders_of names all x.name r.place r.block ≡ binders_in names all x.name r.place [] → (f : Option (Occurrence Text)) → find (binds [] x.name x.place) (occurrences s.home.unit) ≡ f → binder_of (occurrences s.home.unit) x.name x.place x.block ≡ f → Read
-    module_found e ref alone None f g = reads_outside (asked_plain s.home.path own_declared (imports s.home.path s.home.unit) x.name) (means r.name) refl ref (plain_so None e g) (λ none. alone)
+    module_found e ref alone None f g = reads_module alone ref (plain_so None e g)
     module_found e ref alone (Some y) f g =
         let y_so = bound_so [] x.name x.place y (found (binds [] x.name x.place) (occurrences s.home.unit) y f).1 in
-        reads_outside (asked_plain s.home.path own_declared (imports s.home.path s.home.unit) x.name) (means r.name) refl ref (bound_plain y [] y_so.2 (plain_so (Some y) e g)) (λ none. alone)
+        reads_module alone ref (bound_plain y [] y_so.2 (plain_so (Some y) e g))
 
     reads_plain : x.role ≡ reference None → IsReference x.role → Picks w task held srcs gs entered means way all lay names print local_printed named s c a b there x r x_in r_in rel x.name x.block r.block → Read
     reads_plain e ref (in_a_function k outer y z f g z_in each) =
@@ -178,8 +182,9 @@ module _ (w : List Module) (task : Task Path Text) (held : List Placed) (srcs : 
     reads_as (reference None) t e u h =
         reads_plain e (subst IsReference (sym e) tt) (picks w task held srcs gs entered means way all lay names print local_printed named s c a b there x r x_in r_in rel x.name refl x.block r.block rel.same.block itself)
     reads_as (reference (Some path)) t e u h =
-        let asks = map (under x.name) (aims s.home.path (imports s.home.path s.home.unit) path) in
-        reads_outside asks (means r.name) refl (subst IsReference (sym e) tt) (subst (λ v. StandsFor (tables w) s.home.path v (means r.name)) (use_so (reference (Some path)) e) rel.means) (λ none. absurd (aims_some x.name _ _ none))
+        let stands = subst (λ v. StandsFor (tables w) s.home.path v (means r.name)) (use_so (reference (Some path)) e) rel.means in
+        let (asks, is, some) = path_refers (tables w) s.home.path scope (Name x.place) path x.name (means r.name) stands in
+        reads_outside asks (means r.name) refl (subst IsReference (sym e) tt) (subst (λ v. StandsFor (tables w) s.home.path v (means r.name)) is stands) (λ none. absurd (some none))
     reads_as module_name (reference y) e u h = absurd h
     reads_as parameter (reference y) e u h = absurd h
     reads_as (local_name i) (reference y) e u h = absurd h

@@ -19,7 +19,7 @@ use Rattle.wesl_laws.proofs.Grammar.{StandsWell}
 use Rattle.wesl_laws.proofs.Parts.{blocks_of}
 use Rattle.wesl_laws.proofs.Named.{own_name}
 use Rattle.wesl_laws.proofs.Respelled.{IsGrammatical}
-use Rattle.wesl_laws.proofs.Sources.{Source, own_part, use_in, placed_of, sources_of, rows_sources, AreSources}
+use Rattle.wesl_laws.proofs.Sources.{Source, own_part, placed_of, row_of, has_row, AreSources}
 use Rattle.wesl_laws.proofs.Laid.{Related, has_source}
 use Rattle.wesl_laws.proofs.Meant.{IsLaidOut, stands_well, DenotesHere, denotes_here}
 
@@ -64,12 +64,11 @@ module _ (w : List Module) (task : Task Path Text) (held : List Placed) (srcs : 
         let well : StandsWell x.role x.block = stands_well w task held srcs gs entered means way all lay s c x i in
         let role : x.role ≡ module_name = role_so s.place a s.number b (blocks_of s.declaration) x.role o.role x.block o.block r.same.role r.same.block well binds outermost in
         let named : name_of s.declaration ≡ Some x.name = own_name s.declaration each.1.global s.node each.1.node s.place s.number x i role in
-        let row : Contains (table m).declarations (declaration_of s.declaration (map (use_in m) (own_part s))) =
-        subst (λ ds. Contains ds (declaration_of s.declaration (map (use_in m) (own_part s)))) (sym (rows_sources m (gs m each.0))) (map_contains (λ (y : Source). declaration_of y.declaration (map (use_in y.home) (own_part y))) (sources_of m) s each.3) in record {
+        let (k, row) = has_row m (gs m each.0) s each.3 in record {
           home = m;
           held_home = each.0;
           name = x.name;
-          declares = (declaration_of s.declaration (map (use_in m) (own_part s)), row, named);
+          declares = (row_of k s, row, named);
           reached = subst (IsHeldAs (tables w) task (placed_of s)) named each.2;
           stands_for = subst (λ v. DenotesHere w task held srcs gs entered means way all lay s c x v (means o.name)) role (denotes_here w task held srcs gs entered means way all lay s c a b x o i r);
         }
