@@ -1,5 +1,4 @@
 pub mod Named
-pub mod Worded
 pub mod Exits
 pub mod Members
 pub mod Cases

@@ -1,19 +1,16 @@
 -- What is read of an object by the word at `k`.
-use Rattle.std.specs.Prelude.{◌≡◌, ◌⊎◌, List, Bool, true, false, Some, None, codes, option_and_then}
+use Rattle.std.specs.Prelude.{◌⊎◌, List, Bool, false, Some, None, codes, option_and_then}
 use Rattle.std.specs.Str.{bytes_eq}
 use Rattle.serde_json.specs.Data.{Data}
 use Rattle.serde_json.specs.Find.{get, as_str}
 use Rattle.wesl_names.specs.Path.{Text}
 use Rattle.wesl_names.specs.declared.errors.Error as error
-use Rattle.wesl_syntax.specs.Tree.{Kind, binder, kind, Tree, before, end, list, attributes, clauses, statement_node, compound_statement, compound, increment, decrement, if_statement, if_clause, switch, loop, for_loop, while_loop, break, continue, return, discard, call_statement, declaration, const_assert, void, const_kind, override_kind, let_kind, var_kind}
-use Rattle.wesl_form.specs.Schema.{Head, fixed, chosen, Row, nothing, marked, needs, may, many, inner, Node, leaf, node, list_of, an_ident, a_type, a_body, a_call, a_clause, a_continuing, an_elif, an_else, a_statement, an_attribute}
+use Rattle.wesl_syntax.specs.Tree.{Kind, binder, kind, Tree, list, attributes, clauses, statement_node, compound_statement, compound, increment, decrement, if_statement, if_clause, switch, loop, for_loop, while_loop, break, continue, return, discard, call_statement, declaration, const_assert, void, const_kind, override_kind, let_kind, var_kind}
+use Rattle.wesl_form.specs.Schema.{Head, fixed, chosen, Row, nothing, needs, may, many, inner, Node, leaf, node, list_of, an_ident, a_type, a_body, a_call, a_clause, a_continuing, an_elif, an_else, a_statement, an_attribute}
 use Rattle.wesl_form.specs.Words.{assignment_words}
 use Rattle.wesl_form.specs.Nodes.{expression, one_expression, operand, attrs, body_row, condition_row, declared, space_row}
-use Rattle.wesl_form.specs.Reading.{known_keys}
-use Rattle.wesl_form.specs.Keys.{has_only}
 use Rattle.wesl_reading.specs.Faults.{LocatesInside, LocatesMember}
-use Rattle.wesl_reading.specs.Forms.{worded_node}
-use Rattle.wesl_reading.specs.Numbers.{ReadsRows}
+use Rattle.wesl_reading.specs.Forms.{ReadsWorded, worded_node, worded_row}
 use Rattle.wesl_reading_statements.specs.declared.words.ValueWord.{ValueWord}
 use Rattle.wesl_reading_statements.specs.declared.words.ValueWord.TheVariants as values
 use Rattle.wesl_reading_statements.specs.declared.words.DeclaredWord.{DeclaredWord}
@@ -24,15 +21,6 @@ use Rattle.wesl_reading_statements.specs.declared.words.StepWord.{StepWord}
 use Rattle.wesl_reading_statements.specs.declared.words.StepWord.TheVariants as steps
 use Rattle.wesl_reading_statements.specs.declared.words.JumpWord.{JumpWord}
 use Rattle.wesl_reading_statements.specs.declared.words.JumpWord.TheVariants as jumps
-
--- the row of an object with a word
-abbrev pub worded_row : Text → Head → Row → Row
-worded_row w h row = marked (codes "k") w (inner h row nothing)
-
--- an object has only the members of its word, and they are read as the tree
-pub record ReadsWorded (w : Text) (h : Head) (row : Row) (d : Data) (t : Tree) (old new : List Text) : Type 0 where
-  pub known : has_only (known_keys (worded_row w h row) d) d ≡ true
-  pub inside : ReadsRows (inner h row nothing) d (before t end) old new
 
 -- ---- what stands in modules and in functions
 
@@ -68,18 +56,19 @@ declared_row declareds.Void = nothing
 abbrev pub typed_members : Row
 typed_members = needs (codes "name") (leaf (an_ident binder)) (may (codes "ty") (node a_type) (may (codes "init") expression nothing))
 
--- its name lacks or is broken, or its type, or its initial value
-abbrev pub LocatesTyped : Data → error.Error → Type 0
-LocatesTyped d e = LocatesMember (codes "name") (leaf (an_ident binder)) d e ⊎ LocatesInside (codes "ty") (node a_type) d e ⊎ LocatesInside (codes "init") expression d e
+module _ (spans : Bool) where
+  -- its name lacks or is broken, or its type, or its initial value
+  abbrev pub LocatesTyped : Data → error.Error → Type 0
+  LocatesTyped d e = LocatesMember spans (codes "name") (leaf (an_ident binder)) d e ⊎ LocatesInside spans (codes "ty") (node a_type) d e ⊎ LocatesInside spans (codes "init") expression d e
 
-abbrev pub declared_of : Kind → DeclaredWord → Node
-declared_of outer w = worded_node outer (declared_text w) (fixed (kind (declared_kind w))) (declared_row w)
+  abbrev pub declared_of : Kind → DeclaredWord → Node
+  declared_of outer w = worded_node spans outer (declared_text w) (fixed (kind (declared_kind w))) (declared_row w)
 
-abbrev pub ReadsDeclared : DeclaredWord → Data → Tree → List Text → List Text → Type 0
-ReadsDeclared w = ReadsWorded (declared_text w) (fixed (kind (declared_kind w))) (declared_row w)
+  abbrev pub ReadsDeclared : DeclaredWord → Data → Tree → List Text → List Text → Type 0
+  ReadsDeclared w = ReadsWorded spans (declared_text w) (fixed (kind (declared_kind w))) (declared_row w)
 
-abbrev pub declared_worded : DeclaredWord → Row
-declared_worded w = worded_row (declared_text w) (fixed (kind (declared_kind w))) (declared_row w)
+  abbrev pub declared_worded : DeclaredWord → Row
+  declared_worded w = worded_row spans (declared_text w) (fixed (kind (declared_kind w))) (declared_row w)
 
 -- ---- statements
 
@@ -134,14 +123,15 @@ statement_row stated.Return = attrs (may (codes "expr") expression nothing)
 statement_row stated.Call = attrs (needs (codes "call") (node a_call) nothing)
 statement_row (stated.Declared w) = declared_row w
 
-abbrev pub statement_of : StatementWord → Node
-statement_of w = worded_node statement_node (statement_text w) (statement_head w) (statement_row w)
+module _ (spans : Bool) where
+  abbrev pub statement_of : StatementWord → Node
+  statement_of w = worded_node spans statement_node (statement_text w) (statement_head w) (statement_row w)
 
-abbrev pub ReadsStatement : StatementWord → Data → Tree → List Text → List Text → Type 0
-ReadsStatement w = ReadsWorded (statement_text w) (statement_head w) (statement_row w)
+  abbrev pub ReadsStatement : StatementWord → Data → Tree → List Text → List Text → Type 0
+  ReadsStatement w = ReadsWorded spans (statement_text w) (statement_head w) (statement_row w)
 
-abbrev pub statement_worded : StatementWord → Row
-statement_worded w = worded_row (statement_text w) (statement_head w) (statement_row w)
+  abbrev pub statement_worded : StatementWord → Row
+  statement_worded w = worded_row spans (statement_text w) (statement_head w) (statement_row w)
 
 -- the words of statements with attributes and an operand, and of those with attributes alone
 abbrev pub step_word : StepWord → StatementWord
@@ -153,17 +143,19 @@ jump_word jumps.Break = stated.Break
 jump_word jumps.Continue = stated.Continue
 jump_word jumps.Discard = stated.Discard
 
--- a condition lacks or is broken, or the block that it decides on
-abbrev pub LocatesCondition : Data → error.Error → Type 0
-LocatesCondition d e = LocatesMember (codes "cond") expression d e ⊎ LocatesMember (codes "body") (node a_body) d e
+module _ (spans : Bool) where
+  -- a condition lacks or is broken, or the block that it decides on
+  abbrev pub LocatesCondition : Data → error.Error → Type 0
+  LocatesCondition d e = LocatesMember spans (codes "cond") expression d e ⊎ LocatesMember spans (codes "body") (node a_body) d e
 
 -- the members that each turn of a `for` takes
 abbrev pub turn_members : Row
 turn_members = may (codes "cond") expression (may (codes "update") (node a_statement) (needs (codes "body") (node a_body) nothing))
 
--- its condition is broken, or its update, or its block lacks or is broken
-abbrev pub LocatesTurn : Data → error.Error → Type 0
-LocatesTurn d e = LocatesInside (codes "cond") expression d e ⊎ LocatesInside (codes "update") (node a_statement) d e ⊎ LocatesMember (codes "body") (node a_body) d e
+module _ (spans : Bool) where
+  -- its condition is broken, or its update, or its block lacks or is broken
+  abbrev pub LocatesTurn : Data → error.Error → Type 0
+  LocatesTurn d e = LocatesInside spans (codes "cond") expression d e ⊎ LocatesInside spans (codes "update") (node a_statement) d e ⊎ LocatesMember spans (codes "body") (node a_body) d e
 
 -- ---- the values of `case`
 

@@ -1,6 +1,6 @@
 //! Reading what stands in modules and in functions: variables, values and assertions (WGSL, "Variable and Value
 //! Declarations" and "Const Assertion Statement").
-ghost use Rattle.std.specs.Prelude.{◌≡◌, ℕ, List, [], IfOk, IfErr, codes, is_some, true, false};
+ghost use Rattle.std.specs.Prelude.{Bool, ◌≡◌, ℕ, List, [], IfOk, IfErr, codes, is_some, true, false};
 ghost use Rattle.serde_json.specs.Find.{get};
 ghost use Rattle.wesl_form.specs.View.{borrowed_view};
 ghost use Rattle.wesl_syntax.specs.Tree.{branch};
@@ -52,32 +52,33 @@ pub(crate) fn statement_of(declared: Declared) -> Statement
 /// What an object with the word is.
 pub fn read_declared(
     alloc: Global,
+    spans: bool,
     numbering: &mut Numbering,
     value: &BorrowedValue<'_>,
     word: DeclaredWord,
 ) -> Result<Declared, Error>
-    ensures ok { IfOk result (λ e. ReadsDeclared word (borrowed_view value.now) (declared_view e) numbering.old numbering.new) }
-    ensures place { IfErr result (LocatesRow (declared_worded word) (borrowed_view value.now)) }
+    ensures ok { IfOk result (λ e. ReadsDeclared spans word (borrowed_view value.now) (declared_view e) numbering.old numbering.new) }
+    ensures place { IfErr result (LocatesRow spans (declared_worded spans word) (borrowed_view value.now)) }
 {
     match word {
-        DeclaredWord::Value(kind) => read_value(alloc, numbering, value, kind),
+        DeclaredWord::Value(kind) => read_value(alloc, spans, numbering, value, kind),
         DeclaredWord::Var => {
             if value.get("space").is_some() {
-                read_var_in_space(alloc, numbering, value)
+                read_var_in_space(alloc, spans, numbering, value)
             } else {
-                read_var(alloc, numbering, value)
+                read_var(alloc, spans, numbering, value)
             }
         }
-        DeclaredWord::Assert => read_assert(alloc, numbering, value),
-        DeclaredWord::Void => read_void(alloc, value),
+        DeclaredWord::Assert => read_assert(alloc, spans, numbering, value),
+        DeclaredWord::Void => read_void(alloc, spans, value),
     }
 }
 
-fn read_void(alloc: Global, value: &BorrowedValue<'_>) -> Result<Declared, Error>
-    ensures ok { IfOk result (λ e. (names : List (List ℕ)) → ReadsDeclared declareds.Void (borrowed_view value.now) (declared_view e) names names) }
-    ensures place { IfErr result (LocatesRow (declared_worded declareds.Void) (borrowed_view value.now)) }
+fn read_void(alloc: Global, spans: bool, value: &BorrowedValue<'_>) -> Result<Declared, Error>
+    ensures ok { IfOk result (λ e. (names : List (List ℕ)) → ReadsDeclared spans declareds.Void (borrowed_view value.now) (declared_view e) names names) }
+    ensures place { IfErr result (LocatesRow spans (declared_worded spans declareds.Void) (borrowed_view value.now)) }
 {
-    if !wesl_form::has_only(value, &["k"]) {
+    if !wesl_form::has_only_beside(value, spans, "span", &["k"]) {
         return Err(wrong(alloc));
     }
     Ok(Declared::Void)
@@ -96,15 +97,16 @@ fn kind_of(word: ValueWord) -> DeclarationKind
 // The name, the type and the initial value of a declaration.
 fn typed_parts(
     alloc: Global,
+    spans: bool,
     numbering: &mut Numbering,
     value: &BorrowedValue<'_>,
 ) -> Result<(Ident, Option<TypeExpression>, Option<ExpressionNode>), Error>
-    ensures ok { IfOk result (λ parts. ReadsRows typed_members (borrowed_view value.now) (typed_forest parts.0 parts.1 parts.2) numbering.old numbering.new) }
-    ensures place { IfErr result (LocatesTyped (borrowed_view value.now)) }
+    ensures ok { IfOk result (λ parts. ReadsRows spans typed_members (borrowed_view value.now) (typed_forest parts.0 parts.1 parts.2) numbering.old numbering.new) }
+    ensures place { IfErr result (LocatesTyped spans (borrowed_view value.now)) }
 {
     match binder_member(alloc, numbering, value) {
-        Ok(ident) => match optional_type(alloc, numbering, value, "ty") {
-            Ok(ty) => match optional_expression(alloc, numbering, value, "init") {
+        Ok(ident) => match optional_type(alloc, spans, numbering, value, "ty") {
+            Ok(ty) => match optional_expression(alloc, spans, numbering, value, "init") {
                 Ok(initializer) => Ok((ident, ty, initializer)),
                 Err(error) => Err(error),
             },
@@ -116,20 +118,23 @@ fn typed_parts(
 
 fn read_value(
     alloc: Global,
+    spans: bool,
     numbering: &mut Numbering,
     value: &BorrowedValue<'_>,
     word: ValueWord,
 ) -> Result<Declared, Error>
-    ensures ok { IfOk result (λ e. ReadsDeclared (declareds.Value word) (borrowed_view value.now) (declared_view e) numbering.old numbering.new) }
-    ensures place { IfErr result (LocatesRow (declared_worded (declareds.Value word)) (borrowed_view value.now)) }
+    ensures ok { IfOk result (λ e. ReadsDeclared spans (declareds.Value word) (borrowed_view value.now) (declared_view e) numbering.old numbering.new) }
+    ensures place { IfErr result (LocatesRow spans (declared_worded spans (declareds.Value word)) (borrowed_view value.now)) }
 {
     match keyed_attributes(
         alloc,
+        spans,
         numbering,
         value,
+        spans,
         &["k", "attrs", "name", "ty", "init"],
     ) {
-        Ok(attributes) => match typed_parts(alloc, numbering, value) {
+        Ok(attributes) => match typed_parts(alloc, spans, numbering, value) {
             Ok((ident, ty, initializer)) => Ok(Declared::Declaration(Declaration {
                 attributes,
                 kind: kind_of(word),
@@ -146,20 +151,23 @@ fn read_value(
 // A variable with no address space.
 fn read_var(
     alloc: Global,
+    spans: bool,
     numbering: &mut Numbering,
     value: &BorrowedValue<'_>,
 ) -> Result<Declared, Error>
     requires { is_some (get (codes "space") (borrowed_view value.now)) ≡ false }
-    ensures ok { IfOk result (λ e. ReadsDeclared declareds.Var (borrowed_view value.now) (declared_view e) numbering.old numbering.new) }
-    ensures place { IfErr result (LocatesRow (declared_worded declareds.Var) (borrowed_view value.now)) }
+    ensures ok { IfOk result (λ e. ReadsDeclared spans declareds.Var (borrowed_view value.now) (declared_view e) numbering.old numbering.new) }
+    ensures place { IfErr result (LocatesRow spans (declared_worded spans declareds.Var) (borrowed_view value.now)) }
 {
     match keyed_attributes(
         alloc,
+        spans,
         numbering,
         value,
+        spans,
         &["k", "attrs", "name", "ty", "init"],
     ) {
-        Ok(attributes) => match typed_parts(alloc, numbering, value) {
+        Ok(attributes) => match typed_parts(alloc, spans, numbering, value) {
             Ok((ident, ty, initializer)) => Ok(Declared::Declaration(Declaration {
                 attributes,
                 kind: DeclarationKind::Var(None),
@@ -176,22 +184,25 @@ fn read_var(
 // A variable with an address space, and perhaps an access mode.
 fn read_var_in_space(
     alloc: Global,
+    spans: bool,
     numbering: &mut Numbering,
     value: &BorrowedValue<'_>,
 ) -> Result<Declared, Error>
     requires { is_some (get (codes "space") (borrowed_view value.now)) ≡ true }
-    ensures ok { IfOk result (λ e. ReadsDeclared declareds.Var (borrowed_view value.now) (declared_view e) numbering.old numbering.new) }
-    ensures place { IfErr result (LocatesRow (declared_worded declareds.Var) (borrowed_view value.now)) }
+    ensures ok { IfOk result (λ e. ReadsDeclared spans declareds.Var (borrowed_view value.now) (declared_view e) numbering.old numbering.new) }
+    ensures place { IfErr result (LocatesRow spans (declared_worded spans declareds.Var) (borrowed_view value.now)) }
 {
     match keyed_attributes(
         alloc,
+        spans,
         numbering,
         value,
+        spans,
         &["k", "attrs", "space", "access", "name", "ty", "init"],
     ) {
         Ok(attributes) => match space_member(alloc, value) {
             Ok(space) => match optional_access(alloc, value) {
-                Ok(access) => match typed_parts(alloc, numbering, value) {
+                Ok(access) => match typed_parts(alloc, spans, numbering, value) {
                     Ok((ident, ty, initializer)) => Ok(Declared::Declaration(Declaration {
                         attributes,
                         kind: DeclarationKind::Var(Some((space, access))),
@@ -211,8 +222,8 @@ fn read_var_in_space(
 
 // The access mode at `access`, an option.
 fn optional_access(alloc: Global, value: &BorrowedValue<'_>) -> Result<Option<AccessMode>, Error>
-    ensures ok { IfOk result (λ e. (names : List (List ℕ)) → ReadsMay (codes "access") (leaf (one_of access_words)) (borrowed_view value.now) (option_view access_tree e) names names) }
-    ensures place { IfErr result (LocatesInside (codes "access") (leaf (one_of access_words)) (borrowed_view value.now)) }
+    ensures ok { IfOk result (λ e. (spans : Bool) (names : List (List ℕ)) → ReadsMay spans (codes "access") (leaf (one_of access_words)) (borrowed_view value.now) (option_view access_tree e) names names) }
+    ensures place { IfErr result (λ e. (spans : Bool) → LocatesInside spans (codes "access") (leaf (one_of access_words)) (borrowed_view value.now) e) }
 {
     let Some(member) = value.get("access") else {
         return Ok(None);
@@ -222,14 +233,22 @@ fn optional_access(alloc: Global, value: &BorrowedValue<'_>) -> Result<Option<Ac
 
 fn read_assert(
     alloc: Global,
+    spans: bool,
     numbering: &mut Numbering,
     value: &BorrowedValue<'_>,
 ) -> Result<Declared, Error>
-    ensures ok { IfOk result (λ e. ReadsDeclared declareds.Assert (borrowed_view value.now) (declared_view e) numbering.old numbering.new) }
-    ensures place { IfErr result (LocatesRow (declared_worded declareds.Assert) (borrowed_view value.now)) }
+    ensures ok { IfOk result (λ e. ReadsDeclared spans declareds.Assert (borrowed_view value.now) (declared_view e) numbering.old numbering.new) }
+    ensures place { IfErr result (LocatesRow spans (declared_worded spans declareds.Assert) (borrowed_view value.now)) }
 {
-    match keyed_attributes(alloc, numbering, value, &["k", "attrs", "expr"]) {
-        Ok(attributes) => match expression_member(alloc, numbering, value, "expr") {
+    match keyed_attributes(
+        alloc,
+        spans,
+        numbering,
+        value,
+        spans,
+        &["k", "attrs", "expr"],
+    ) {
+        Ok(attributes) => match expression_member(alloc, spans, numbering, value, "expr") {
             Ok(expression) => Ok(Declared::Assert(ConstAssert {
                 attributes,
                 expression,

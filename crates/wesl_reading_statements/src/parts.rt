@@ -1,5 +1,5 @@
 //! Members that stand in many nodes.
-ghost use Rattle.std.specs.Prelude.{List, ℕ, IfOk, IfErr, codes};
+ghost use Rattle.std.specs.Prelude.{Bool, List, ℕ, IfOk, IfErr, codes};
 ghost use Rattle.wesl_form.specs.View.{borrowed_view};
 ghost use Rattle.wesl_syntax.specs.Tree.{binder};
 ghost use Rattle.wesl_syntax.specs.View.{call_view, ident_tree, text_tree};
@@ -19,8 +19,8 @@ pub fn binder_member(
     numbering: &mut Numbering,
     value: &BorrowedValue<'_>,
 ) -> Result<Ident, Error>
-    ensures ok { IfOk result (λ e. ReadsNeeded (codes "name") (leaf (an_ident binder)) (borrowed_view value.now) (ident_tree binder e) numbering.old numbering.new) }
-    ensures place { IfErr result (LocatesMember (codes "name") (leaf (an_ident binder)) (borrowed_view value.now)) }
+    ensures ok { IfOk result (λ e. (spans : Bool) → ReadsNeeded spans (codes "name") (leaf (an_ident binder)) (borrowed_view value.now) (ident_tree binder e) numbering.old numbering.new) }
+    ensures place { IfErr result (λ e. (spans : Bool) → LocatesMember spans (codes "name") (leaf (an_ident binder)) (borrowed_view value.now) e) }
 {
     match name_member(alloc, value, "name") {
         Ok(name) => numbering.number(alloc, name),
@@ -34,8 +34,8 @@ pub fn plain_name_member(
     value: &BorrowedValue<'_>,
     key: &str,
 ) -> Result<String, Error>
-    ensures ok { IfOk result (λ e. (names : List (List ℕ)) → ReadsNeeded key.now (leaf a_name) (borrowed_view value.now) (text_tree e) names names) }
-    ensures place { IfErr result (LocatesMember key.now (leaf a_name) (borrowed_view value.now)) }
+    ensures ok { IfOk result (λ e. (spans : Bool) (names : List (List ℕ)) → ReadsNeeded spans key.now (leaf a_name) (borrowed_view value.now) (text_tree e) names names) }
+    ensures place { IfErr result (λ e. (spans : Bool) → LocatesMember spans key.now (leaf a_name) (borrowed_view value.now) e) }
 {
     owned(alloc, name_member(alloc, value, key))
 }
@@ -46,8 +46,8 @@ pub fn plain_text_member(
     value: &BorrowedValue<'_>,
     key: &str,
 ) -> Result<String, Error>
-    ensures ok { IfOk result (λ e. (names : List (List ℕ)) → ReadsNeeded key.now (leaf a_text) (borrowed_view value.now) (text_tree e) names names) }
-    ensures place { IfErr result (LocatesMember key.now (leaf a_text) (borrowed_view value.now)) }
+    ensures ok { IfOk result (λ e. (spans : Bool) (names : List (List ℕ)) → ReadsNeeded spans key.now (leaf a_text) (borrowed_view value.now) (text_tree e) names names) }
+    ensures place { IfErr result (λ e. (spans : Bool) → LocatesMember spans key.now (leaf a_text) (borrowed_view value.now) e) }
 {
     owned(alloc, text_member(alloc, value, key))
 }
@@ -55,14 +55,15 @@ pub fn plain_text_member(
 /// The call at `call`.
 pub(crate) fn call_member(
     alloc: Global,
+    spans: bool,
     numbering: &mut Numbering,
     value: &BorrowedValue<'_>,
 ) -> Result<FunctionCall, Error>
-    ensures ok { IfOk result (λ e. ReadsNeeded (codes "call") (node_form a_call) (borrowed_view value.now) (call_view e) numbering.old numbering.new) }
-    ensures place { IfErr result (LocatesMember (codes "call") (node_form a_call) (borrowed_view value.now)) }
+    ensures ok { IfOk result (λ e. ReadsNeeded spans (codes "call") (node_form a_call) (borrowed_view value.now) (call_view e) numbering.old numbering.new) }
+    ensures place { IfErr result (LocatesMember spans (codes "call") (node_form a_call) (borrowed_view value.now)) }
 {
     let Some(member) = value.get("call") else {
         return Err(wrong(alloc));
     };
-    inside(alloc, "call", read_call(alloc, numbering, member))
+    inside(alloc, "call", read_call(alloc, spans, numbering, member))
 }

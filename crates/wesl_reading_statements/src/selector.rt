@@ -1,5 +1,5 @@
 //! Reading the values of `case` and the condition of `break if` (WGSL, "Switch Statement" and "Break-If Statement").
-ghost use Rattle.std.specs.Prelude.{◌≡◌, ℕ, List, IfOk, IfErr, codes, true};
+ghost use Rattle.std.specs.Prelude.{Bool, ◌≡◌, ℕ, List, IfOk, IfErr, codes, true};
 ghost use Rattle.wesl_form.specs.View.{borrowed_view};
 ghost use Rattle.wesl_syntax.specs.Tree.{list};
 ghost use Rattle.wesl_syntax.specs.View.{break_if_view, listed, optional as option_view, selector_view};
@@ -20,32 +20,34 @@ use wesl_syntax::{BreakIfStatement, CaseSelector};
 /// The values at `cases`, a list.
 pub(crate) fn cases_member(
     alloc: Global,
+    spans: bool,
     numbering: &mut Numbering,
     value: &BorrowedValue<'_>,
 ) -> Result<Vec<CaseSelector>, Error>
-    ensures ok { IfOk result (λ e. ReadsMany (codes "cases") (list_of list a_case) (borrowed_view value.now) (listed selector_view list e) numbering.old numbering.new) }
-    ensures place { IfErr result (LocatesInside (codes "cases") (list_of list a_case) (borrowed_view value.now)) }
+    ensures ok { IfOk result (λ e. ReadsMany spans (codes "cases") (list_of list a_case) (borrowed_view value.now) (listed selector_view list e) numbering.old numbering.new) }
+    ensures place { IfErr result (LocatesInside spans (codes "cases") (list_of list a_case) (borrowed_view value.now)) }
 {
     let Some(member) = value.get("cases") else {
         return Ok(Vec::new(alloc));
     };
-    inside(alloc, "cases", read_cases(alloc, numbering, member))
+    inside(alloc, "cases", read_cases(alloc, spans, numbering, member))
 }
 
 fn read_cases(
     alloc: Global,
+    spans: bool,
     numbering: &mut Numbering,
     value: &BorrowedValue<'_>,
 ) -> Result<Vec<CaseSelector>, Error>
-    ensures ok { IfOk result (λ e. Reads (list_of list a_case) (borrowed_view value.now) (listed selector_view list e) numbering.old numbering.new) }
-    ensures place { IfErr result (Locates (list_of list a_case) (borrowed_view value.now)) }
+    ensures ok { IfOk result (λ e. Reads spans (list_of list a_case) (borrowed_view value.now) (listed selector_view list e) numbering.old numbering.new) }
+    ensures place { IfErr result (Locates spans (list_of list a_case) (borrowed_view value.now)) }
 {
     let Some(items) = value.as_array() else {
         return Err(wrong(alloc));
     };
     let mut cases = room(alloc, items.len());
     for (index, item) in items.iter().enumerate() {
-        let case = read_case(alloc, numbering, item);
+        let case = read_case(alloc, spans, numbering, item);
         cases = with_item(alloc, cases, index, case);
     }
     cases
@@ -54,16 +56,17 @@ fn read_cases(
 // `default` by its word, or an expression.
 fn read_case(
     alloc: Global,
+    spans: bool,
     numbering: &mut Numbering,
     value: &BorrowedValue<'_>,
 ) -> Result<CaseSelector, Error>
-    ensures ok { IfOk result (λ e. Reads (node_form a_case) (borrowed_view value.now) (selector_view e) numbering.old numbering.new) }
-    ensures place { IfErr result (Locates (node_form a_case) (borrowed_view value.now)) }
+    ensures ok { IfOk result (λ e. Reads spans (node_form a_case) (borrowed_view value.now) (selector_view e) numbering.old numbering.new) }
+    ensures place { IfErr result (Locates spans (node_form a_case) (borrowed_view value.now)) }
 {
     if is_default(value) {
         read_default(alloc, value)
     } else {
-        match read_expression(alloc, numbering, value) {
+        match read_expression(alloc, spans, numbering, value) {
             Ok(expression) => Ok(CaseSelector::Expression(expression)),
             Err(error) => Err(error),
         }
@@ -84,8 +87,8 @@ fn is_default(value: &BorrowedValue<'_>) -> bool
 
 fn read_default(alloc: Global, value: &BorrowedValue<'_>) -> Result<CaseSelector, Error>
     requires { has_default (borrowed_view value.now) ≡ true }
-    ensures ok { IfOk result (λ e. (names : List (List ℕ)) → Reads (node_form a_case) (borrowed_view value.now) (selector_view e) names names) }
-    ensures place { IfErr result (Locates (node_form a_case) (borrowed_view value.now)) }
+    ensures ok { IfOk result (λ e. (spans : Bool) (names : List (List ℕ)) → Reads spans (node_form a_case) (borrowed_view value.now) (selector_view e) names names) }
+    ensures place { IfErr result (λ e. (spans : Bool) → Locates spans (node_form a_case) (borrowed_view value.now) e) }
 {
     check_keys(alloc, value, &["k"])?;
     Ok(CaseSelector::Default)
@@ -94,28 +97,34 @@ fn read_default(alloc: Global, value: &BorrowedValue<'_>) -> Result<CaseSelector
 /// What stands at `break_if`, an option.
 pub(crate) fn optional_break_if(
     alloc: Global,
+    spans: bool,
     numbering: &mut Numbering,
     value: &BorrowedValue<'_>,
 ) -> Result<Option<BreakIfStatement>, Error>
-    ensures ok { IfOk result (λ e. ReadsMay (codes "break_if") (node_form a_break_if) (borrowed_view value.now) (option_view break_if_view e) numbering.old numbering.new) }
-    ensures place { IfErr result (LocatesInside (codes "break_if") (node_form a_break_if) (borrowed_view value.now)) }
+    ensures ok { IfOk result (λ e. ReadsMay spans (codes "break_if") (node_form a_break_if) (borrowed_view value.now) (option_view break_if_view e) numbering.old numbering.new) }
+    ensures place { IfErr result (LocatesInside spans (codes "break_if") (node_form a_break_if) (borrowed_view value.now)) }
 {
     let Some(member) = value.get("break_if") else {
         return Ok(None);
     };
-    inside_option(alloc, "break_if", read_break_if(alloc, numbering, member))
+    inside_option(
+        alloc,
+        "break_if",
+        read_break_if(alloc, spans, numbering, member),
+    )
 }
 
 fn read_break_if(
     alloc: Global,
+    spans: bool,
     numbering: &mut Numbering,
     value: &BorrowedValue<'_>,
 ) -> Result<BreakIfStatement, Error>
-    ensures ok { IfOk result (λ e. Reads (node_form a_break_if) (borrowed_view value.now) (break_if_view e) numbering.old numbering.new) }
-    ensures place { IfErr result (Locates (node_form a_break_if) (borrowed_view value.now)) }
+    ensures ok { IfOk result (λ e. Reads spans (node_form a_break_if) (borrowed_view value.now) (break_if_view e) numbering.old numbering.new) }
+    ensures place { IfErr result (Locates spans (node_form a_break_if) (borrowed_view value.now)) }
 {
-    match keyed_attributes(alloc, numbering, value, &["attrs", "expr"]) {
-        Ok(attributes) => match expression_member(alloc, numbering, value, "expr") {
+    match keyed_attributes(alloc, spans, numbering, value, false, &["attrs", "expr"]) {
+        Ok(attributes) => match expression_member(alloc, spans, numbering, value, "expr") {
             Ok(expression) => Ok(BreakIfStatement {
                 attributes,
                 expression,

@@ -19,19 +19,20 @@ use wesl_syntax::Statement;
 /// An assignment, by its operator at `op`.
 pub(crate) fn read_assignment(
     alloc: Global,
+    spans: bool,
     numbering: &mut Numbering,
     value: &BorrowedValue<'_>,
 ) -> Result<Statement, Error>
-    ensures ok { IfOk result (λ e. ReadsStatement stated.Assign (borrowed_view value.now) (statement_view e) numbering.old numbering.new) }
-    ensures place { IfErr result (LocatesRow (statement_worded stated.Assign) (borrowed_view value.now)) }
+    ensures ok { IfOk result (λ e. ReadsStatement spans stated.Assign (borrowed_view value.now) (statement_view e) numbering.old numbering.new) }
+    ensures place { IfErr result (LocatesRow spans (statement_worded spans stated.Assign) (borrowed_view value.now)) }
 {
-    if !wesl_form::has_only(value, &["k", "op", "attrs", "lhs", "rhs"]) {
+    if !wesl_form::has_only_beside(value, spans, "span", &["k", "op", "attrs", "lhs", "rhs"]) {
         return Err(wrong(alloc));
     }
     match assignment_member(alloc, value) {
-        Ok(operator) => match attributes_member(alloc, numbering, value, "attrs") {
-            Ok(attributes) => match expression_member(alloc, numbering, value, "lhs") {
-                Ok(lhs) => match expression_member(alloc, numbering, value, "rhs") {
+        Ok(operator) => match attributes_member(alloc, spans, numbering, value, "attrs") {
+            Ok(attributes) => match expression_member(alloc, spans, numbering, value, "lhs") {
+                Ok(lhs) => match expression_member(alloc, spans, numbering, value, "rhs") {
                     Ok(rhs) => Ok(Statement::Assignment {
                         attributes,
                         operator,
@@ -51,15 +52,23 @@ pub(crate) fn read_assignment(
 /// `expr++;` or `expr--;`, by its word.
 pub(crate) fn read_step(
     alloc: Global,
+    spans: bool,
     numbering: &mut Numbering,
     value: &BorrowedValue<'_>,
     word: StepWord,
 ) -> Result<Statement, Error>
-    ensures ok { IfOk result (λ e. ReadsStatement (step_word word) (borrowed_view value.now) (statement_view e) numbering.old numbering.new) }
-    ensures place { IfErr result (LocatesRow (statement_worded (step_word word)) (borrowed_view value.now)) }
+    ensures ok { IfOk result (λ e. ReadsStatement spans (step_word word) (borrowed_view value.now) (statement_view e) numbering.old numbering.new) }
+    ensures place { IfErr result (LocatesRow spans (statement_worded spans (step_word word)) (borrowed_view value.now)) }
 {
-    match keyed_attributes(alloc, numbering, value, &["k", "attrs", "expr"]) {
-        Ok(attributes) => match expression_member(alloc, numbering, value, "expr") {
+    match keyed_attributes(
+        alloc,
+        spans,
+        numbering,
+        value,
+        spans,
+        &["k", "attrs", "expr"],
+    ) {
+        Ok(attributes) => match expression_member(alloc, spans, numbering, value, "expr") {
             Ok(expression) => match word {
                 StepWord::Increment => Ok(Statement::Increment {
                     attributes,
@@ -79,14 +88,15 @@ pub(crate) fn read_step(
 /// `break;`, `continue;` or `discard;`, by its word.
 pub(crate) fn read_jump(
     alloc: Global,
+    spans: bool,
     numbering: &mut Numbering,
     value: &BorrowedValue<'_>,
     word: JumpWord,
 ) -> Result<Statement, Error>
-    ensures ok { IfOk result (λ e. ReadsStatement (jump_word word) (borrowed_view value.now) (statement_view e) numbering.old numbering.new) }
-    ensures place { IfErr result (LocatesRow (statement_worded (jump_word word)) (borrowed_view value.now)) }
+    ensures ok { IfOk result (λ e. ReadsStatement spans (jump_word word) (borrowed_view value.now) (statement_view e) numbering.old numbering.new) }
+    ensures place { IfErr result (LocatesRow spans (statement_worded spans (jump_word word)) (borrowed_view value.now)) }
 {
-    match keyed_attributes(alloc, numbering, value, &["k", "attrs"]) {
+    match keyed_attributes(alloc, spans, numbering, value, spans, &["k", "attrs"]) {
         Ok(attributes) => match word {
             JumpWord::Break => Ok(Statement::Break { attributes }),
             JumpWord::Continue => Ok(Statement::Continue { attributes }),
@@ -99,14 +109,22 @@ pub(crate) fn read_jump(
 /// `return;` or `return expr;`
 pub(crate) fn read_return(
     alloc: Global,
+    spans: bool,
     numbering: &mut Numbering,
     value: &BorrowedValue<'_>,
 ) -> Result<Statement, Error>
-    ensures ok { IfOk result (λ e. ReadsStatement stated.Return (borrowed_view value.now) (statement_view e) numbering.old numbering.new) }
-    ensures place { IfErr result (LocatesRow (statement_worded stated.Return) (borrowed_view value.now)) }
+    ensures ok { IfOk result (λ e. ReadsStatement spans stated.Return (borrowed_view value.now) (statement_view e) numbering.old numbering.new) }
+    ensures place { IfErr result (LocatesRow spans (statement_worded spans stated.Return) (borrowed_view value.now)) }
 {
-    match keyed_attributes(alloc, numbering, value, &["k", "attrs", "expr"]) {
-        Ok(attributes) => match optional_expression(alloc, numbering, value, "expr") {
+    match keyed_attributes(
+        alloc,
+        spans,
+        numbering,
+        value,
+        spans,
+        &["k", "attrs", "expr"],
+    ) {
+        Ok(attributes) => match optional_expression(alloc, spans, numbering, value, "expr") {
             Ok(expression) => Ok(Statement::Return {
                 attributes,
                 expression,
@@ -120,14 +138,22 @@ pub(crate) fn read_return(
 /// `call;`
 pub(crate) fn read_call_statement(
     alloc: Global,
+    spans: bool,
     numbering: &mut Numbering,
     value: &BorrowedValue<'_>,
 ) -> Result<Statement, Error>
-    ensures ok { IfOk result (λ e. ReadsStatement stated.Call (borrowed_view value.now) (statement_view e) numbering.old numbering.new) }
-    ensures place { IfErr result (LocatesRow (statement_worded stated.Call) (borrowed_view value.now)) }
+    ensures ok { IfOk result (λ e. ReadsStatement spans stated.Call (borrowed_view value.now) (statement_view e) numbering.old numbering.new) }
+    ensures place { IfErr result (LocatesRow spans (statement_worded spans stated.Call) (borrowed_view value.now)) }
 {
-    match keyed_attributes(alloc, numbering, value, &["k", "attrs", "call"]) {
-        Ok(attributes) => match call_member(alloc, numbering, value) {
+    match keyed_attributes(
+        alloc,
+        spans,
+        numbering,
+        value,
+        spans,
+        &["k", "attrs", "call"],
+    ) {
+        Ok(attributes) => match call_member(alloc, spans, numbering, value) {
             Ok(call) => Ok(Statement::FunctionCall { attributes, call }),
             Err(error) => Err(error),
         },

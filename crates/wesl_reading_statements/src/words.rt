@@ -1,5 +1,5 @@
 //! The words of statements, and of what stands in modules and in functions.
-ghost use Rattle.std.specs.Prelude.{◌≡◌, Some, None, IfOk, IfErr, IfSome, codes, option_map, option_and_then};
+ghost use Rattle.std.specs.Prelude.{◌≡◌, Bool, Some, None, IfOk, IfErr, IfSome, codes, option_map, option_and_then};
 ghost use Rattle.serde_json.specs.Find.{get};
 ghost use Rattle.wesl_form.specs.View.{borrowed_view};
 ghost use Rattle.wesl_syntax.specs.Tree.{Kind, access, assignment, space};
@@ -70,7 +70,7 @@ pub(crate) enum JumpWord {
 
 /// What a word names in modules and in functions.
 pub fn declared_word(text: &str) -> Option<DeclaredWord>
-    ensures node { (outer : Kind) → option_map (declared_of outer) result ≡ look (declared_words outer) text.now }
+    ensures node { (spans : Bool) (outer : Kind) → option_map (declared_of spans outer) result ≡ look (declared_words spans outer) text.now }
     ensures text { IfSome result (λ w. text.now ≡ declared_text w) }
 {
     match text {
@@ -86,7 +86,7 @@ pub fn declared_word(text: &str) -> Option<DeclaredWord>
 
 /// The statement that a word names.
 pub(crate) fn statement_word(text: &str) -> Option<StatementWord>
-    ensures node { option_map statement_of result ≡ look statement_words text.now }
+    ensures node { (spans : Bool) → option_map (statement_of spans) result ≡ look (statement_words spans) text.now }
     ensures text { IfSome result (λ w. text.now ≡ statement_text w) }
 {
     match text {

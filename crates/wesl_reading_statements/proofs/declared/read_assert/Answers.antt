@@ -7,7 +7,7 @@ use Rattle.wesl_reading.proofs.Keyed.{by-keys}
 use Rattle.wesl_reading.proofs.Places.{row-inside, row-keys, row-member}
 use Rattle.wesl_reading.proofs.Rows.{plain-kind}
 use Rattle.wesl_reading.proofs.Steps.{many-then, needs-then, none-then}
-use Rattle.wesl_reading_statements.proofs.Worded.{worded-reads}
+use Rattle.wesl_reading.proofs.Worded.{worded-reads}
 use Rattle.wesl_reading_statements.specs.Forms.{declared_worded}
 use Rattle.wesl_syntax.specs.Tree.{attributes, const_assert}
 use Rattle.wesl_reading_statements.specs.declared.words.DeclaredWord.TheVariants as declareds
@@ -17,18 +17,18 @@ pub returns-in-Err-clause-place : goal.returns-in-Err-clause-place
 returns-in-Err-clause-place c =
     let d = borrowed_view c.args.value.now in
     by-keys c.in-Err.ensures.place
-    (λ h. let lacking : has_only (known_keys (declared_worded declareds.Assert) d) d ≡ false = h.0 in row-keys (declared_worded declareds.Assert) d c.in-Err.error lacking h.1)
-    (λ h. row-inside (declared_worded declareds.Assert) (codes "attrs") false (list_of attributes an_attribute) d c.in-Err.error refl h.1)
+    (λ h. let lacking : has_only (known_keys (declared_worded c.args.spans declareds.Assert) d) d ≡ false = h.0 in row-keys c.args.spans (declared_worded c.args.spans declareds.Assert) d c.in-Err.error lacking h.1)
+    (λ h. row-inside c.args.spans (declared_worded c.args.spans declareds.Assert) (codes "attrs") false (list_of attributes an_attribute) d c.in-Err.error refl h.1)
 
 pub returns-in-Err-expression_member-clause-place : goal.returns-in-Err-expression_member-clause-place
 returns-in-Err-expression_member-clause-place c =
     let d = borrowed_view c.args.value.now in
-    row-member (declared_worded declareds.Assert) (codes "expr") (node an_expression) d c.in-Err-expression_member.error refl c.in-Err-expression_member.ensures.place
+    row-member c.args.spans (declared_worded c.args.spans declareds.Assert) (codes "expr") (node an_expression) d c.in-Err-expression_member.error refl c.in-Err-expression_member.ensures.place
 
 pub returns-in-Ok-expression_member-clause-ok : goal.returns-in-Ok-expression_member-clause-ok
 returns-in-Ok-expression_member-clause-ok c =
     let d = borrowed_view c.args.value.now in
     let attributes_read = c.in-Ok.ensures.ok in
     let expression_read = c.in-Ok-expression_member.ensures.ok in
-    let known : has_only (known_keys (declared_worded declareds.Assert) d) d ≡ true = c.in-Ok.ensures.keys in
+    let known : has_only (known_keys (declared_worded c.args.spans declareds.Assert) d) d ≡ true = c.in-Ok.ensures.keys in
     worded-reads known (plain-kind const_assert) refl (many-then attributes_read (needs-then expression_read (none-then d _)))

@@ -6,15 +6,15 @@ use Rattle.wesl_form.specs.Keys.{has_only}
 use Rattle.wesl_form.specs.Schema.{an_attribute, list_of, nothing}
 use Rattle.wesl_form.specs.Words.{space_words}
 use Rattle.wesl_reading.proofs.Keyed.{by-keys}
-use Rattle.wesl_reading.proofs.Places.{row-inside, row-keys}
+use Rattle.wesl_reading.proofs.Places.{look_field, row-inside, row-keys}
 use Rattle.wesl_reading.proofs.Rows.{plain-kind}
 use Rattle.wesl_reading.proofs.Steps.{inner-then, many-then, none-then}
 use Rattle.wesl_reading.proofs.Wheres.{where-absent-then}
-use Rattle.wesl_reading_statements.proofs.Worded.{worded-reads}
+use Rattle.wesl_reading.proofs.Worded.{worded-reads}
 use Rattle.wesl_reading_statements.specs.Forms.{declared_worded}
 use Rattle.wesl_syntax.specs.Tree.{attributes, declaration, end, var_kind}
 use Rattle.wesl_reading_statements.specs.declared.words.DeclaredWord.TheVariants as declareds
-use Rattle.wesl_form.specs.Place.{field, fields, find_field}
+use Rattle.wesl_form.specs.Place.{field, find_field}
 use Rattle.wesl_form.specs.Schema.{chosen}
 use Rattle.wesl_reading_statements.proofs.Spaces.{access_row, no-member, var-fields, var-keys, typed-place}
 use Rattle.wesl_reading_statements.proofs.declared.read_var.Goals as goal
@@ -23,21 +23,21 @@ pub returns-in-Err-clause-place : goal.returns-in-Err-clause-place
 returns-in-Err-clause-place c =
     let d = borrowed_view c.args.value.now in
     by-keys c.in-Err.ensures.place
-    (λ h. let absent : get (codes "space") d ≡ None = no-member (get (codes "space") d) c.requires in let same = var-keys d absent in let lacking : has_only (known_keys (declared_worded declareds.Var) d) d ≡ false = ap (λ ks. has_only ks d) same ∙ h.0 in row-keys (declared_worded declareds.Var) d c.in-Err.error lacking h.1)
-    (λ h. let absent : get (codes "space") d ≡ None = no-member (get (codes "space") d) c.requires in let there : find_field (codes "attrs") (fields (declared_worded declareds.Var) d) ≡ Some (field (codes "attrs") false (list_of attributes an_attribute)) = ap (find_field (codes "attrs")) (var-fields d absent) in row-inside (declared_worded declareds.Var) (codes "attrs") false (list_of attributes an_attribute) d c.in-Err.error there h.1)
+    (λ h. let absent : get (codes "space") d ≡ None = no-member (get (codes "space") d) c.requires in let same = var-keys c.args.spans d absent in let lacking : has_only (known_keys (declared_worded c.args.spans declareds.Var) d) d ≡ false = ap (λ ks. has_only ks d) same ∙ h.0 in row-keys c.args.spans (declared_worded c.args.spans declareds.Var) d c.in-Err.error lacking h.1)
+    (λ h. let absent : get (codes "space") d ≡ None = no-member (get (codes "space") d) c.requires in let there : look_field (codes "attrs") (declared_worded c.args.spans declareds.Var) d ≡ Some (field (codes "attrs") false (list_of attributes an_attribute)) = ap (find_field (codes "attrs")) (var-fields d absent) in row-inside c.args.spans (declared_worded c.args.spans declareds.Var) (codes "attrs") false (list_of attributes an_attribute) d c.in-Err.error there h.1)
 
 pub returns-in-Ok-typed_parts-clause-ok : goal.returns-in-Ok-typed_parts-clause-ok
 returns-in-Ok-typed_parts-clause-ok c =
     let d = borrowed_view c.args.value.now in
     let attributes_read = c.in-Ok.ensures.ok in
     let absent : get (codes "space") d ≡ None = no-member (get (codes "space") d) c.requires in
-    let known : has_only (known_keys (declared_worded declareds.Var) d) d ≡ true = ap (λ ks. has_only ks d) (var-keys d absent) ∙ c.in-Ok.ensures.keys in
+    let known : has_only (known_keys (declared_worded c.args.spans declareds.Var) d) d ≡ true = ap (λ ks. has_only ks d) (var-keys c.args.spans d absent) ∙ c.in-Ok.ensures.keys in
     let rest = c.in-Ok-typed_parts.ensures.ok in
-    worded-reads known (plain-kind declaration) refl (many-then attributes_read (inner-then (plain-kind var_kind) refl (where-absent-then (codes "space") (chosen (codes "space") space_words) access_row nothing d end _ _ absent (none-then d _)) rest))
+    worded-reads known (plain-kind declaration) refl (many-then attributes_read (inner-then (plain-kind var_kind) refl (where-absent-then c.args.spans (codes "space") (chosen (codes "space") space_words) access_row nothing d end _ _ absent (none-then d _)) rest))
 
 pub returns-in-Err-typed_parts-clause-place : goal.returns-in-Err-typed_parts-clause-place
 returns-in-Err-typed_parts-clause-place c =
     let d = borrowed_view c.args.value.now in
     let absent : get (codes "space") d ≡ None = no-member (get (codes "space") d) c.requires in
     let same = var-fields d absent in
-    typed-place (declared_worded declareds.Var) d c.in-Err-typed_parts.error (ap (find_field (codes "name")) same) (ap (find_field (codes "ty")) same) (ap (find_field (codes "init")) same) c.in-Err-typed_parts.ensures.place
+    typed-place c.args.spans (declared_worded c.args.spans declareds.Var) d c.in-Err-typed_parts.error (ap (find_field (codes "name")) same) (ap (find_field (codes "ty")) same) (ap (find_field (codes "init")) same) c.in-Err-typed_parts.ensures.place

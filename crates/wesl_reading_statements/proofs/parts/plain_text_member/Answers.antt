@@ -1,4 +1,4 @@
-use Rattle.std.proofs.Common.{List, Some, ap, option_map, refl, string_bytes, sym, ℕ, ◌∙◌}
+use Rattle.std.proofs.Common.{Bool, List, Some, ap, option_map, refl, string_bytes, sym, ℕ, ◌∙◌}
 use Rattle.std.proofs.lemmas.Result.{IfErr-weaker, IfOk-weaker}
 use Rattle.wesl_form.specs.View.{borrowed_view}
 use Rattle.serde_json.specs.Find.{as_str}
@@ -16,10 +16,10 @@ use Rattle.wesl_reading_statements.proofs.parts.plain_text_member.Goals as goal
 pub returns-clause-ok : goal.returns-clause-ok
 returns-clause-ok c =
     let d = borrowed_view c.args.value.now in
-    IfOk-weaker c.owned.result _ (λ s. (names : List (List ℕ)) → ReadsNeeded c.args.key.now (leaf a_text) d (text_tree s) names names) (λ s h names. text-member as_str a_text text c.args.key.now d (string_bytes s) (text (string_bytes s)) names (λ v. refl) (plain-text (string_bytes s)) (part _ c.text_member.result h.1 c.text_member.ensures.ok ∙ ap Some (sym h.2))) c.owned.ensures.text
+    IfOk-weaker c.owned.result _ (λ s. (spans : Bool) (names : List (List ℕ)) → ReadsNeeded spans c.args.key.now (leaf a_text) d (text_tree s) names names) (λ s h spans names. text-member as_str a_text text c.args.key.now d (string_bytes s) (text (string_bytes s)) names (λ v. refl) (plain-text (string_bytes s)) (part _ c.text_member.result h.1 c.text_member.ensures.ok ∙ ap Some (sym h.2))) c.owned.ensures.text
 
 pub returns-clause-place : goal.returns-clause-place
 returns-clause-place c =
     let d = borrowed_view c.args.value.now in
     let place = of-boxed (IsTextBroken as_str c.args.key.now d) c.owned.result c.text_member.result c.owned.ensures.place c.text_member.ensures.place in
-    IfErr-weaker c.owned.result _ (LocatesMember c.args.key.now (leaf a_text) d) (λ e h. text-is-member as_str c.args.key.now a_text d e (λ v n. ap (option_map text) n) h) place
+    IfErr-weaker c.owned.result _ (λ e. (spans : Bool) → LocatesMember spans c.args.key.now (leaf a_text) d e) (λ e h spans. text-is-member spans as_str c.args.key.now a_text d e (λ v n. ap (option_map text) n) h) place

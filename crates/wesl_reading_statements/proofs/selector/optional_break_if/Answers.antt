@@ -7,8 +7,8 @@ use Rattle.wesl_reading_statements.proofs.selector.optional_break_if.Goals as go
 
 pub returns-clause-ok : goal.returns-clause-ok
 returns-clause-ok c =
-    may-inside (codes "break_if") (borrowed_view c.args.value.now) (borrowed_view c.in-Some.member.now) (sym c.in-Some.ensures) c.read_break_if.result (node a_break_if) break_if_view _ _ c.read_break_if.ensures.ok c.inside_option.result c.inside_option.ensures.ok
+    may-inside c.args.spans (codes "break_if") (borrowed_view c.args.value.now) (borrowed_view c.in-Some.member.now) (sym c.in-Some.ensures) c.read_break_if.result (node a_break_if) break_if_view _ _ c.read_break_if.ensures.ok c.inside_option.result c.inside_option.ensures.ok
 
 pub returns-clause-place : goal.returns-clause-place
 returns-clause-place c =
-    fault-inside (codes "break_if") (borrowed_view c.args.value.now) (borrowed_view c.in-Some.member.now) (sym c.in-Some.ensures) c.read_break_if.result (node a_break_if) c.inside_option.result c.read_break_if.ensures.place c.inside_option.ensures.place
+    fault-inside c.args.spans (codes "break_if") (borrowed_view c.args.value.now) (borrowed_view c.in-Some.member.now) (sym c.in-Some.ensures) c.read_break_if.result (node a_break_if) c.inside_option.result c.read_break_if.ensures.place c.inside_option.ensures.place

@@ -15,14 +15,14 @@ pub returns-in-Err-clause-place : goal.returns-in-Err-clause-place
 returns-in-Err-clause-place c =
     let d = borrowed_view c.args.value.now in
     by-keys c.in-Err.ensures.place
-    (λ h. let lacking : has_only (known_keys (attrs operand) d) d ≡ false = h.0 in bare-keys a_break_if break_if (attrs operand) d refl c.in-Err.error refl lacking h.1)
-    (λ h. let known : has_only (known_keys (attrs operand) d) d ≡ true = h.0 in bare-place a_break_if break_if (attrs operand) d refl c.in-Err.error known (row-inside (attrs operand) (codes "attrs") false (list_of attributes an_attribute) d c.in-Err.error refl h.1))
+    (λ h. let lacking : has_only (known_keys (attrs operand) d) d ≡ false = h.0 in bare-keys c.args.spans a_break_if break_if (attrs operand) d refl c.in-Err.error refl lacking h.1)
+    (λ h. let known : has_only (known_keys (attrs operand) d) d ≡ true = h.0 in bare-place c.args.spans a_break_if break_if (attrs operand) d refl c.in-Err.error known (row-inside c.args.spans (attrs operand) (codes "attrs") false (list_of attributes an_attribute) d c.in-Err.error refl h.1))
 
 pub returns-in-Err-expression_member-clause-place : goal.returns-in-Err-expression_member-clause-place
 returns-in-Err-expression_member-clause-place c =
     let d = borrowed_view c.args.value.now in
     let known : has_only (known_keys (attrs operand) d) d ≡ true = c.in-Ok.ensures.keys in
-    bare-place a_break_if break_if (attrs operand) d refl c.in-Err-expression_member.error known (row-member (attrs operand) (codes "expr") (node an_expression) d c.in-Err-expression_member.error refl c.in-Err-expression_member.ensures.place)
+    bare-place c.args.spans a_break_if break_if (attrs operand) d refl c.in-Err-expression_member.error known (row-member c.args.spans (attrs operand) (codes "expr") (node an_expression) d c.in-Err-expression_member.error refl c.in-Err-expression_member.ensures.place)
 
 pub returns-in-Ok-expression_member-clause-ok : goal.returns-in-Ok-expression_member-clause-ok
 returns-in-Ok-expression_member-clause-ok c =
@@ -30,4 +30,4 @@ returns-in-Ok-expression_member-clause-ok c =
     let attributes_read = c.in-Ok.ensures.ok in
     let expression_read = c.in-Ok-expression_member.ensures.ok in
     let known : has_only (known_keys (attrs operand) d) d ≡ true = c.in-Ok.ensures.keys in
-    bare-reads a_break_if break_if (attrs operand) d refl _ _ _ known (many-then attributes_read (needs-then expression_read (none-then d _)))
+    bare-reads c.args.spans a_break_if break_if (attrs operand) d refl _ _ _ known (many-then attributes_read (needs-then expression_read (none-then d _)))

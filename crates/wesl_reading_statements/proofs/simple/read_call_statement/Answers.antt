@@ -8,7 +8,7 @@ use Rattle.wesl_reading.proofs.Places.{row-inside, row-keys, row-member}
 use Rattle.wesl_reading.proofs.Rows.{plain-kind}
 use Rattle.wesl_reading.proofs.Steps.{many-then, needs-then, none-then}
 use Rattle.wesl_reading_statements.proofs.Views.{view-call}
-use Rattle.wesl_reading_statements.proofs.Worded.{same-worded, worded-reads}
+use Rattle.wesl_reading.proofs.Worded.{same-worded, worded-reads}
 use Rattle.wesl_reading_statements.specs.Forms.{statement_worded}
 use Rattle.wesl_syntax.specs.Tree.{attributes, call_statement}
 use Rattle.wesl_reading_statements.specs.declared.words.StatementWord.TheVariants as stated
@@ -18,18 +18,18 @@ pub returns-in-Err-clause-place : goal.returns-in-Err-clause-place
 returns-in-Err-clause-place c =
     let d = borrowed_view c.args.value.now in
     by-keys c.in-Err.ensures.place
-    (λ h. let lacking : has_only (known_keys (statement_worded stated.Call) d) d ≡ false = h.0 in row-keys (statement_worded stated.Call) d c.in-Err.error lacking h.1)
-    (λ h. row-inside (statement_worded stated.Call) (codes "attrs") false (list_of attributes an_attribute) d c.in-Err.error refl h.1)
+    (λ h. let lacking : has_only (known_keys (statement_worded c.args.spans stated.Call) d) d ≡ false = h.0 in row-keys c.args.spans (statement_worded c.args.spans stated.Call) d c.in-Err.error lacking h.1)
+    (λ h. row-inside c.args.spans (statement_worded c.args.spans stated.Call) (codes "attrs") false (list_of attributes an_attribute) d c.in-Err.error refl h.1)
 
 pub returns-in-Err-call_member-clause-place : goal.returns-in-Err-call_member-clause-place
 returns-in-Err-call_member-clause-place c =
     let d = borrowed_view c.args.value.now in
-    row-member (statement_worded stated.Call) (codes "call") (node a_call) d c.in-Err-call_member.error refl c.in-Err-call_member.ensures.place
+    row-member c.args.spans (statement_worded c.args.spans stated.Call) (codes "call") (node a_call) d c.in-Err-call_member.error refl c.in-Err-call_member.ensures.place
 
 pub returns-in-Ok-call_member-clause-ok : goal.returns-in-Ok-call_member-clause-ok
 returns-in-Ok-call_member-clause-ok c =
     let d = borrowed_view c.args.value.now in
     let attributes_read = c.in-Ok.ensures.ok in
     let call_read = c.in-Ok-call_member.ensures.ok in
-    let known : has_only (known_keys (statement_worded stated.Call) d) d ≡ true = c.in-Ok.ensures.keys in
+    let known : has_only (known_keys (statement_worded c.args.spans stated.Call) d) d ≡ true = c.in-Ok.ensures.keys in
     same-worded (worded-reads known (plain-kind call_statement) refl (many-then attributes_read (needs-then call_read (none-then d _)))) (sym (view-call c.in-Ok.attributes c.in-Ok-call_member.call))
