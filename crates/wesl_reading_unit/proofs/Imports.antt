@@ -21,11 +21,12 @@ role_in d = if is_some (get (codes "as") d) then word else binder
 abbrev pub item_row : Data → Row
 item_row d = needs (codes "item") (leaf (an_ident (role_in d))) (may (codes "as") (leaf (an_ident binder)) nothing)
 
-pub content-collection : (d : Data) → is_some (get (codes "list") d) ≡ true → nodes_of a_content d ≡ Some (node_of_kind import_collection (needs (codes "list") (list_of list an_entry) nothing))
-content-collection d h = ap (λ b. Some (if b then collection_node else item_node d)) h
+module _ (spans : Bool) where
+  pub content-collection : (d : Data) → is_some (get (codes "list") d) ≡ true → nodes_of spans a_content d ≡ Some (node_of_kind import_collection (needs (codes "list") (list_of list an_entry) nothing))
+  content-collection d h = ap (λ b. Some (if b then collection_node else item_node d)) h
 
-pub content-item : (d : Data) → is_some (get (codes "list") d) ≡ false → nodes_of a_content d ≡ Some (node_of_kind import_item (item_row d))
-content-item d h = ap (λ b. Some (if b then collection_node else item_node d)) h
+  pub content-item : (d : Data) → is_some (get (codes "list") d) ≡ false → nodes_of spans a_content d ≡ Some (node_of_kind import_item (item_row d))
+  content-item d h = ap (λ b. Some (if b then collection_node else item_node d)) h
 
 -- ---- trees
 

@@ -1,3 +1,4 @@
 pub mod Named
 pub mod Imports
 pub mod Units
+pub mod Spanned

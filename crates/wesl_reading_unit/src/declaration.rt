@@ -1,45 +1,47 @@
 //! Reading the declarations of a module (WGSL, "Declaration and Scope").
-ghost use Rattle.std.specs.Prelude.{◌≡◌, IfOk, IfErr, codes};
+ghost use Rattle.std.specs.Prelude.{Bool, ◌≡◌, IfOk, IfErr, codes};
 ghost use Rattle.wesl_form.specs.View.{borrowed_view};
-ghost use Rattle.wesl_syntax.specs.Tree.{declaration_node, declarations, member_node, members, parameters};
+ghost use Rattle.wesl_syntax.specs.Tree.{declaration_node, declarations, member, member_node, members, parameters};
 ghost use Rattle.wesl_syntax.specs.View.{declarations_tree, global_view, listed, member_view, parameter_view, placed};
-ghost use Rattle.wesl_form.specs.Schema.{a_declaration, a_member, a_parameter, list_of, node as node_form};
+ghost use Rattle.wesl_form.specs.Schema.{a_declaration, a_member, a_name, a_parameter, list_of, node as node_form};
+ghost use Rattle.wesl_form.specs.Nodes.{typed_row};
 ghost use Rattle.wesl_reading.specs.Faults.{Locates, LocatesInside, LocatesRow};
 ghost use Rattle.wesl_reading.specs.Forms.{HasWord};
 ghost use Rattle.wesl_reading.specs.Numbers.{Reads, ReadsMany};
 ghost use Rattle.wesl_reading_statements.specs.Views.{declared_view};
 ghost use Rattle.wesl_reading_unit.specs.declared.words.DeclarationWord.TheVariants as globals;
-ghost use Rattle.wesl_reading_unit.specs.Forms.{ReadsDeclaration, declaration_text, declaration_worded};
+ghost use Rattle.wesl_reading_unit.specs.Forms.{ReadsDeclaration, ReadsSpanned, declaration_text, declaration_worded};
 
 use crate::words::{DeclarationWord, declaration_word};
 use std::alloc::Global;
 use wesl_form::BorrowedValue;
 use wesl_names::Error;
 use wesl_reading::{
-    Numbering, attributes_member, optional_type, room, type_member, under, unplaced, with_item,
+    Numbering, attributes_member, optional_type, read_span, room, type_member, under, with_item,
     wrong,
 };
 use wesl_reading_statements::{
     Declared, binder_member, body_member, plain_name_member, read_declared,
 };
 use wesl_syntax::{
-    FormalParameter, Function, GlobalDeclaration, GlobalDeclarationNode, Struct, StructMember,
-    StructMemberNode, TypeAlias,
+    FormalParameter, Function, GlobalDeclaration, GlobalDeclarationNode, Spanned, Struct,
+    StructMember, StructMemberNode, TypeAlias,
 };
 
 /// The declarations at `declarations`, a list.
 pub(crate) fn declarations_member(
     alloc: Global,
+    spans: bool,
     numbering: &mut Numbering,
     value: &BorrowedValue<'_>,
 ) -> Result<Vec<GlobalDeclarationNode>, Error>
-    ensures ok { IfOk result (λ e. ReadsMany (codes "declarations") (list_of declarations a_declaration) (borrowed_view value.now) (declarations_tree e) numbering.old numbering.new) }
-    ensures place { IfErr result (LocatesInside (codes "declarations") (list_of declarations a_declaration) (borrowed_view value.now)) }
+    ensures ok { IfOk result (λ e. ReadsMany spans (codes "declarations") (list_of declarations a_declaration) (borrowed_view value.now) (declarations_tree e) numbering.old numbering.new) }
+    ensures place { IfErr result (LocatesInside spans (codes "declarations") (list_of declarations a_declaration) (borrowed_view value.now)) }
 {
     let Some(member) = value.get("declarations") else {
         return Ok(Vec::new(alloc));
     };
-    match read_declarations(alloc, numbering, member) {
+    match read_declarations(alloc, spans, numbering, member) {
         Ok(declarations) => Ok(declarations),
         Err(error) => Err(under(alloc, error, "declarations")),
     }
@@ -47,18 +49,19 @@ pub(crate) fn declarations_member(
 
 fn read_declarations(
     alloc: Global,
+    spans: bool,
     numbering: &mut Numbering,
     value: &BorrowedValue<'_>,
 ) -> Result<Vec<GlobalDeclarationNode>, Error>
-    ensures ok { IfOk result (λ e. Reads (list_of declarations a_declaration) (borrowed_view value.now) (declarations_tree e) numbering.old numbering.new) }
-    ensures place { IfErr result (Locates (list_of declarations a_declaration) (borrowed_view value.now)) }
+    ensures ok { IfOk result (λ e. Reads spans (list_of declarations a_declaration) (borrowed_view value.now) (declarations_tree e) numbering.old numbering.new) }
+    ensures place { IfErr result (Locates spans (list_of declarations a_declaration) (borrowed_view value.now)) }
 {
     let Some(items) = value.as_array() else {
         return Err(wrong(alloc));
     };
     let mut declarations = room(alloc, items.len());
     for (index, item) in items.iter().enumerate() {
-        let declaration = read_declaration(alloc, numbering, item);
+        let declaration = read_declaration(alloc, spans, numbering, item);
         declarations = with_item(alloc, declarations, index, declaration);
     }
     declarations
@@ -66,15 +69,19 @@ fn read_declarations(
 
 fn read_declaration(
     alloc: Global,
+    spans: bool,
     numbering: &mut Numbering,
     value: &BorrowedValue<'_>,
 ) -> Result<GlobalDeclarationNode, Error>
-    ensures ok { IfOk result (λ e. Reads (node_form a_declaration) (borrowed_view value.now) (placed global_view declaration_node e) numbering.old numbering.new) }
-    ensures place { IfErr result (Locates (node_form a_declaration) (borrowed_view value.now)) }
+    ensures ok { IfOk result (λ e. Reads spans (node_form a_declaration) (borrowed_view value.now) (placed global_view declaration_node e) numbering.old numbering.new) }
+    ensures place { IfErr result (Locates spans (node_form a_declaration) (borrowed_view value.now)) }
 {
     match declaration_word_of(alloc, value) {
-        Ok(word) => match read_worded(alloc, numbering, value, word) {
-            Ok(declaration) => Ok(unplaced(declaration)),
+        Ok(word) => match read_span(alloc, spans, value) {
+            Ok(span) => match read_worded(alloc, spans, numbering, value, word) {
+                Ok(node) => Ok(Spanned { node, span }),
+                Err(error) => Err(error),
+            },
             Err(error) => Err(error),
         },
         Err(error) => Err(error),
@@ -84,7 +91,7 @@ fn read_declaration(
 // The word at `k`.
 fn declaration_word_of(alloc: Global, value: &BorrowedValue<'_>) -> Result<DeclarationWord, Error>
     ensures word { IfOk result (λ w. HasWord (declaration_text w) (borrowed_view value.now)) }
-    ensures place { IfErr result (Locates (node_form a_declaration) (borrowed_view value.now)) }
+    ensures place { IfErr result (λ e. (spans : Bool) → Locates spans (node_form a_declaration) (borrowed_view value.now) e) }
 {
     let Some(word) = value.get("k") else {
         return Err(wrong(alloc));
@@ -97,18 +104,21 @@ fn declaration_word_of(alloc: Global, value: &BorrowedValue<'_>) -> Result<Decla
 
 fn read_worded(
     alloc: Global,
+    spans: bool,
     numbering: &mut Numbering,
     value: &BorrowedValue<'_>,
     word: DeclarationWord,
 ) -> Result<GlobalDeclaration, Error>
-    ensures ok { IfOk result (λ e. ReadsDeclaration word (borrowed_view value.now) (global_view e) numbering.old numbering.new) }
-    ensures place { IfErr result (LocatesRow (declaration_worded word) (borrowed_view value.now)) }
+    ensures ok { IfOk result (λ e. ReadsDeclaration spans word (borrowed_view value.now) (global_view e) numbering.old numbering.new) }
+    ensures place { IfErr result (LocatesRow spans (declaration_worded spans word) (borrowed_view value.now)) }
 {
     match word {
-        DeclarationWord::Alias => read_alias(alloc, numbering, value),
-        DeclarationWord::Struct => read_struct(alloc, numbering, value),
-        DeclarationWord::Function => read_function(alloc, numbering, value),
-        DeclarationWord::Declared(word) => match read_declared(alloc, numbering, value, word) {
+        DeclarationWord::Alias => read_alias(alloc, spans, numbering, value),
+        DeclarationWord::Struct => read_struct(alloc, spans, numbering, value),
+        DeclarationWord::Function => read_function(alloc, spans, numbering, value),
+        DeclarationWord::Declared(word) => match read_declared(
+            alloc, spans, numbering, value, word,
+        ) {
             Ok(declared) => Ok(global_of(declared)),
             Err(error) => Err(error),
         },
@@ -128,18 +138,19 @@ fn global_of(declared: Declared) -> GlobalDeclaration
 
 fn read_alias(
     alloc: Global,
+    spans: bool,
     numbering: &mut Numbering,
     value: &BorrowedValue<'_>,
 ) -> Result<GlobalDeclaration, Error>
-    ensures ok { IfOk result (λ e. ReadsDeclaration globals.Alias (borrowed_view value.now) (global_view e) numbering.old numbering.new) }
-    ensures place { IfErr result (LocatesRow (declaration_worded globals.Alias) (borrowed_view value.now)) }
+    ensures ok { IfOk result (λ e. ReadsDeclaration spans globals.Alias (borrowed_view value.now) (global_view e) numbering.old numbering.new) }
+    ensures place { IfErr result (LocatesRow spans (declaration_worded spans globals.Alias) (borrowed_view value.now)) }
 {
-    if !wesl_form::has_only(value, &["k", "attrs", "name", "ty"]) {
+    if !wesl_form::has_only_beside(value, spans, "span", &["k", "attrs", "name", "ty"]) {
         return Err(wrong(alloc));
     }
-    match attributes_member(alloc, numbering, value, "attrs") {
+    match attributes_member(alloc, spans, numbering, value, "attrs") {
         Ok(attributes) => match binder_member(alloc, numbering, value) {
-            Ok(ident) => match type_member(alloc, numbering, value, "ty") {
+            Ok(ident) => match type_member(alloc, spans, numbering, value, "ty") {
                 Ok(ty) => Ok(GlobalDeclaration::TypeAlias(TypeAlias {
                     attributes,
                     ident,
@@ -155,18 +166,19 @@ fn read_alias(
 
 fn read_struct(
     alloc: Global,
+    spans: bool,
     numbering: &mut Numbering,
     value: &BorrowedValue<'_>,
 ) -> Result<GlobalDeclaration, Error>
-    ensures ok { IfOk result (λ e. ReadsDeclaration globals.Struct (borrowed_view value.now) (global_view e) numbering.old numbering.new) }
-    ensures place { IfErr result (LocatesRow (declaration_worded globals.Struct) (borrowed_view value.now)) }
+    ensures ok { IfOk result (λ e. ReadsDeclaration spans globals.Struct (borrowed_view value.now) (global_view e) numbering.old numbering.new) }
+    ensures place { IfErr result (LocatesRow spans (declaration_worded spans globals.Struct) (borrowed_view value.now)) }
 {
-    if !wesl_form::has_only(value, &["k", "attrs", "name", "members"]) {
+    if !wesl_form::has_only_beside(value, spans, "span", &["k", "attrs", "name", "members"]) {
         return Err(wrong(alloc));
     }
-    match attributes_member(alloc, numbering, value, "attrs") {
+    match attributes_member(alloc, spans, numbering, value, "attrs") {
         Ok(attributes) => match binder_member(alloc, numbering, value) {
-            Ok(ident) => match members_member(alloc, numbering, value) {
+            Ok(ident) => match members_member(alloc, spans, numbering, value) {
                 Ok(members) => Ok(GlobalDeclaration::Struct(Struct {
                     attributes,
                     ident,
@@ -182,24 +194,35 @@ fn read_struct(
 
 fn read_function(
     alloc: Global,
+    spans: bool,
     numbering: &mut Numbering,
     value: &BorrowedValue<'_>,
 ) -> Result<GlobalDeclaration, Error>
-    ensures ok { IfOk result (λ e. ReadsDeclaration globals.Function (borrowed_view value.now) (global_view e) numbering.old numbering.new) }
-    ensures place { IfErr result (LocatesRow (declaration_worded globals.Function) (borrowed_view value.now)) }
+    ensures ok { IfOk result (λ e. ReadsDeclaration spans globals.Function (borrowed_view value.now) (global_view e) numbering.old numbering.new) }
+    ensures place { IfErr result (LocatesRow spans (declaration_worded spans globals.Function) (borrowed_view value.now)) }
 {
-    if !wesl_form::has_only(
+    if !wesl_form::has_only_beside(
         value,
+        spans,
+        "span",
         &["k", "attrs", "name", "params", "ret_attrs", "ret", "body"],
     ) {
         return Err(wrong(alloc));
     }
-    match attributes_member(alloc, numbering, value, "attrs") {
+    match attributes_member(alloc, spans, numbering, value, "attrs") {
         Ok(attributes) => match binder_member(alloc, numbering, value) {
-            Ok(ident) => match parameters_member(alloc, numbering, value) {
-                Ok(parameters) => match attributes_member(alloc, numbering, value, "ret_attrs") {
-                    Ok(return_attributes) => match optional_type(alloc, numbering, value, "ret") {
-                        Ok(return_type) => match body_member(alloc, numbering, value) {
+            Ok(ident) => match parameters_member(alloc, spans, numbering, value) {
+                Ok(parameters) => match attributes_member(
+                    alloc,
+                    spans,
+                    numbering,
+                    value,
+                    "ret_attrs",
+                ) {
+                    Ok(return_attributes) => match optional_type(
+                        alloc, spans, numbering, value, "ret",
+                    ) {
+                        Ok(return_type) => match body_member(alloc, spans, numbering, value) {
                             Ok(body) => Ok(GlobalDeclaration::Function(Function {
                                 attributes,
                                 ident,
@@ -225,16 +248,17 @@ fn read_function(
 // The members at `members`, a list.
 fn members_member(
     alloc: Global,
+    spans: bool,
     numbering: &mut Numbering,
     value: &BorrowedValue<'_>,
 ) -> Result<Vec<StructMemberNode>, Error>
-    ensures ok { IfOk result (λ e. ReadsMany (codes "members") (list_of members a_member) (borrowed_view value.now) (listed (placed member_view member_node) members e) numbering.old numbering.new) }
-    ensures place { IfErr result (LocatesInside (codes "members") (list_of members a_member) (borrowed_view value.now)) }
+    ensures ok { IfOk result (λ e. ReadsMany spans (codes "members") (list_of members a_member) (borrowed_view value.now) (listed (placed member_view member_node) members e) numbering.old numbering.new) }
+    ensures place { IfErr result (LocatesInside spans (codes "members") (list_of members a_member) (borrowed_view value.now)) }
 {
     let Some(member) = value.get("members") else {
         return Ok(Vec::new(alloc));
     };
-    match read_members(alloc, numbering, member) {
+    match read_members(alloc, spans, numbering, member) {
         Ok(members) => Ok(members),
         Err(error) => Err(under(alloc, error, "members")),
     }
@@ -242,18 +266,19 @@ fn members_member(
 
 fn read_members(
     alloc: Global,
+    spans: bool,
     numbering: &mut Numbering,
     value: &BorrowedValue<'_>,
 ) -> Result<Vec<StructMemberNode>, Error>
-    ensures ok { IfOk result (λ e. Reads (list_of members a_member) (borrowed_view value.now) (listed (placed member_view member_node) members e) numbering.old numbering.new) }
-    ensures place { IfErr result (Locates (list_of members a_member) (borrowed_view value.now)) }
+    ensures ok { IfOk result (λ e. Reads spans (list_of members a_member) (borrowed_view value.now) (listed (placed member_view member_node) members e) numbering.old numbering.new) }
+    ensures place { IfErr result (Locates spans (list_of members a_member) (borrowed_view value.now)) }
 {
     let Some(items) = value.as_array() else {
         return Err(wrong(alloc));
     };
     let mut members = room(alloc, items.len());
     for (index, item) in items.iter().enumerate() {
-        let member = read_member(alloc, numbering, item);
+        let member = read_member(alloc, spans, numbering, item);
         members = with_item(alloc, members, index, member);
     }
     members
@@ -261,23 +286,43 @@ fn read_members(
 
 fn read_member(
     alloc: Global,
+    spans: bool,
     numbering: &mut Numbering,
     value: &BorrowedValue<'_>,
 ) -> Result<StructMemberNode, Error>
-    ensures ok { IfOk result (λ e. Reads (node_form a_member) (borrowed_view value.now) (placed member_view member_node e) numbering.old numbering.new) }
-    ensures place { IfErr result (Locates (node_form a_member) (borrowed_view value.now)) }
+    ensures ok { IfOk result (λ e. Reads spans (node_form a_member) (borrowed_view value.now) (placed member_view member_node e) numbering.old numbering.new) }
+    ensures place { IfErr result (Locates spans (node_form a_member) (borrowed_view value.now)) }
 {
-    if !wesl_form::has_only(value, &["attrs", "name", "ty"]) {
+    match read_span(alloc, spans, value) {
+        Ok(span) => match read_member_parts(alloc, spans, numbering, value) {
+            Ok(node) => Ok(Spanned { node, span }),
+            Err(error) => Err(error),
+        },
+        Err(error) => Err(error),
+    }
+}
+
+// The member of a struct that an object is, but for its span.
+fn read_member_parts(
+    alloc: Global,
+    spans: bool,
+    numbering: &mut Numbering,
+    value: &BorrowedValue<'_>,
+) -> Result<StructMember, Error>
+    ensures ok { IfOk result (λ e. ReadsSpanned spans member (typed_row a_name) (borrowed_view value.now) (member_view e) numbering.old numbering.new) }
+    ensures place { IfErr result (Locates spans (node_form a_member) (borrowed_view value.now)) }
+{
+    if !wesl_form::has_only_beside(value, spans, "span", &["attrs", "name", "ty"]) {
         return Err(wrong(alloc));
     }
-    match attributes_member(alloc, numbering, value, "attrs") {
+    match attributes_member(alloc, spans, numbering, value, "attrs") {
         Ok(attributes) => match plain_name_member(alloc, value, "name") {
-            Ok(name) => match type_member(alloc, numbering, value, "ty") {
-                Ok(ty) => Ok(unplaced(StructMember {
+            Ok(name) => match type_member(alloc, spans, numbering, value, "ty") {
+                Ok(ty) => Ok(StructMember {
                     attributes,
                     name,
                     ty,
-                })),
+                }),
                 Err(error) => Err(error),
             },
             Err(error) => Err(error),
@@ -289,16 +334,17 @@ fn read_member(
 // The parameters at `params`, a list.
 fn parameters_member(
     alloc: Global,
+    spans: bool,
     numbering: &mut Numbering,
     value: &BorrowedValue<'_>,
 ) -> Result<Vec<FormalParameter>, Error>
-    ensures ok { IfOk result (λ e. ReadsMany (codes "params") (list_of parameters a_parameter) (borrowed_view value.now) (listed parameter_view parameters e) numbering.old numbering.new) }
-    ensures place { IfErr result (LocatesInside (codes "params") (list_of parameters a_parameter) (borrowed_view value.now)) }
+    ensures ok { IfOk result (λ e. ReadsMany spans (codes "params") (list_of parameters a_parameter) (borrowed_view value.now) (listed parameter_view parameters e) numbering.old numbering.new) }
+    ensures place { IfErr result (LocatesInside spans (codes "params") (list_of parameters a_parameter) (borrowed_view value.now)) }
 {
     let Some(member) = value.get("params") else {
         return Ok(Vec::new(alloc));
     };
-    match read_parameters(alloc, numbering, member) {
+    match read_parameters(alloc, spans, numbering, member) {
         Ok(parameters) => Ok(parameters),
         Err(error) => Err(under(alloc, error, "params")),
     }
@@ -306,18 +352,19 @@ fn parameters_member(
 
 fn read_parameters(
     alloc: Global,
+    spans: bool,
     numbering: &mut Numbering,
     value: &BorrowedValue<'_>,
 ) -> Result<Vec<FormalParameter>, Error>
-    ensures ok { IfOk result (λ e. Reads (list_of parameters a_parameter) (borrowed_view value.now) (listed parameter_view parameters e) numbering.old numbering.new) }
-    ensures place { IfErr result (Locates (list_of parameters a_parameter) (borrowed_view value.now)) }
+    ensures ok { IfOk result (λ e. Reads spans (list_of parameters a_parameter) (borrowed_view value.now) (listed parameter_view parameters e) numbering.old numbering.new) }
+    ensures place { IfErr result (Locates spans (list_of parameters a_parameter) (borrowed_view value.now)) }
 {
     let Some(items) = value.as_array() else {
         return Err(wrong(alloc));
     };
     let mut parameters = room(alloc, items.len());
     for (index, item) in items.iter().enumerate() {
-        let parameter = read_parameter(alloc, numbering, item);
+        let parameter = read_parameter(alloc, spans, numbering, item);
         parameters = with_item(alloc, parameters, index, parameter);
     }
     parameters
@@ -325,18 +372,19 @@ fn read_parameters(
 
 fn read_parameter(
     alloc: Global,
+    spans: bool,
     numbering: &mut Numbering,
     value: &BorrowedValue<'_>,
 ) -> Result<FormalParameter, Error>
-    ensures ok { IfOk result (λ e. Reads (node_form a_parameter) (borrowed_view value.now) (parameter_view e) numbering.old numbering.new) }
-    ensures place { IfErr result (Locates (node_form a_parameter) (borrowed_view value.now)) }
+    ensures ok { IfOk result (λ e. Reads spans (node_form a_parameter) (borrowed_view value.now) (parameter_view e) numbering.old numbering.new) }
+    ensures place { IfErr result (Locates spans (node_form a_parameter) (borrowed_view value.now)) }
 {
     if !wesl_form::has_only(value, &["attrs", "name", "ty"]) {
         return Err(wrong(alloc));
     }
-    match attributes_member(alloc, numbering, value, "attrs") {
+    match attributes_member(alloc, spans, numbering, value, "attrs") {
         Ok(attributes) => match binder_member(alloc, numbering, value) {
-            Ok(ident) => match type_member(alloc, numbering, value, "ty") {
+            Ok(ident) => match type_member(alloc, spans, numbering, value, "ty") {
                 Ok(ty) => Ok(FormalParameter {
                     attributes,
                     ident,

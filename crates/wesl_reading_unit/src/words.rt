@@ -1,5 +1,5 @@
 //! The words of directives and declarations.
-ghost use Rattle.std.specs.Prelude.{◌≡◌, IfSome, option_map};
+ghost use Rattle.std.specs.Prelude.{◌≡◌, Bool, IfSome, option_map};
 ghost use Rattle.wesl_form.specs.Nodes.{declaration_words, directive_words};
 ghost use Rattle.wesl_form.specs.Schema.{look};
 ghost use Rattle.wesl_reading_unit.specs.Forms.{declaration_of, declaration_text, directive_of, directive_text};
@@ -25,7 +25,7 @@ pub(crate) enum DirectiveWord {
 
 /// The declaration that a word names.
 pub(crate) fn declaration_word(text: &str) -> Option<DeclarationWord>
-    ensures node { option_map declaration_of result ≡ look declaration_words text.now }
+    ensures node { (spans : Bool) → option_map (declaration_of spans) result ≡ look (declaration_words spans) text.now }
     ensures text { IfSome result (λ w. text.now ≡ declaration_text w) }
 {
     match text {
@@ -41,7 +41,7 @@ pub(crate) fn declaration_word(text: &str) -> Option<DeclarationWord>
 
 /// The directive that a word names.
 pub(crate) fn directive_word(text: &str) -> Option<DirectiveWord>
-    ensures node { option_map directive_of result ≡ look directive_words text.now }
+    ensures node { (spans : Bool) → option_map (directive_of spans) result ≡ look (directive_words spans) text.now }
     ensures text { IfSome result (λ w. text.now ≡ directive_text w) }
 {
     match text {

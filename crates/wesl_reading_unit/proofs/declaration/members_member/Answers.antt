@@ -17,4 +17,4 @@ pub returns-in-Err-clause-place : goal.returns-in-Err-clause-place
 returns-in-Err-clause-place c =
     let d = borrowed_view c.args.value.now in
     let found : get (codes "members") d ≡ Some (borrowed_view c.in-Some.member.now) = search rules in
-    inside-under (codes "members") (list_of members a_member) d (borrowed_view c.in-Some.member.now) c.in-Err.error c.under.result found c.in-Err.ensures.place c.under.ensures
+    inside-under c.args.spans (codes "members") (list_of members a_member) d (borrowed_view c.in-Some.member.now) c.in-Err.error c.under.result found c.in-Err.ensures.place c.under.ensures

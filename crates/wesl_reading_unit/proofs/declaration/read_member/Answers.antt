@@ -1,45 +1,16 @@
+use Rattle.std.proofs.Common.{refl}
 use Rattle.wesl_form.specs.View.{borrowed_view}
-use Rattle.std.proofs.Common.{◌∙◌, ap, codes, false, refl, sym, true, ◌≡◌}
 use Rattle.wesl_form.specs.Nodes.{typed_row}
-use Rattle.wesl_form.specs.Reading.{known_keys}
-use Rattle.wesl_form.specs.Keys.{has_only}
-use Rattle.wesl_form.specs.Schema.{a_member, a_name, a_type, an_attribute, fixed, inner, leaf, list_of, node, nothing}
-use Rattle.wesl_reading.proofs.Places.{row-inside, row-member}
-use Rattle.wesl_reading.proofs.Rows.{plain-kind}
-use Rattle.wesl_reading.proofs.Steps.{many-then, needs-then, none-then, same-reads}
-use Rattle.wesl_reading_statements.proofs.Members.{spanned-keys, spanned-place, spanned-reads}
-use Rattle.wesl_syntax.specs.Tree.{attributes, kind, member, member_node}
-use Rattle.wesl_syntax.specs.View.{member_view, placed}
+use Rattle.wesl_form.specs.Schema.{a_member, a_name}
+use Rattle.wesl_syntax.specs.Tree.{member, member_node}
+use Rattle.wesl_syntax.specs.View.{member_view}
+use Rattle.wesl_reading_unit.proofs.Spanned.{spanned-placed, spanned-span}
 use Rattle.wesl_reading_unit.proofs.declaration.read_member.Goals as goal
 
-pub returns-then-not-has_only-clause-place : goal.returns-then-not-has_only-clause-place
-returns-then-not-has_only-clause-place c =
-    let d = borrowed_view c.args.value.now in
-    let lacking : has_only (known_keys (inner (fixed (kind member)) (typed_row a_name) nothing) d) d ≡ false = sym c.has_only.ensures ∙ c.if-not-has_only.true in spanned-keys a_member member_node member (typed_row a_name) d refl c.wrong.result refl lacking c.wrong.ensures
+pub returns-in-Ok-read_member_parts-clause-ok : goal.returns-in-Ok-read_member_parts-clause-ok
+returns-in-Ok-read_member_parts-clause-ok c =
+    spanned-placed c.args.spans a_member member_node member (typed_row a_name) (borrowed_view c.args.value.now) refl _ _ (member_view c.in-Ok-read_member_parts.node) _ _ c.in-Ok.ensures.ok c.in-Ok-read_member_parts.ensures.ok
 
 pub returns-in-Err-clause-place : goal.returns-in-Err-clause-place
 returns-in-Err-clause-place c =
-    let d = borrowed_view c.args.value.now in
-    let known : has_only (known_keys (inner (fixed (kind member)) (typed_row a_name) nothing) d) d ≡ true = sym c.has_only.ensures ∙ c.if-not-has_only.false in
-    spanned-place a_member member_node member (typed_row a_name) d refl c.in-Err.error known (row-inside (inner (fixed (kind member)) (typed_row a_name) nothing) (codes "attrs") false (list_of attributes an_attribute) d c.in-Err.error refl c.in-Err.ensures.place)
-
-pub returns-in-Err-plain_name_member-clause-place : goal.returns-in-Err-plain_name_member-clause-place
-returns-in-Err-plain_name_member-clause-place c =
-    let d = borrowed_view c.args.value.now in
-    let known : has_only (known_keys (inner (fixed (kind member)) (typed_row a_name) nothing) d) d ≡ true = sym c.has_only.ensures ∙ c.if-not-has_only.false in
-    spanned-place a_member member_node member (typed_row a_name) d refl c.in-Err-plain_name_member.error known (row-member (inner (fixed (kind member)) (typed_row a_name) nothing) (codes "name") (leaf a_name) d c.in-Err-plain_name_member.error refl c.in-Err-plain_name_member.ensures.place)
-
-pub returns-in-Err-type_member-clause-place : goal.returns-in-Err-type_member-clause-place
-returns-in-Err-type_member-clause-place c =
-    let d = borrowed_view c.args.value.now in
-    let known : has_only (known_keys (inner (fixed (kind member)) (typed_row a_name) nothing) d) d ≡ true = sym c.has_only.ensures ∙ c.if-not-has_only.false in
-    spanned-place a_member member_node member (typed_row a_name) d refl c.in-Err-type_member.error known (row-member (inner (fixed (kind member)) (typed_row a_name) nothing) (codes "ty") (node a_type) d c.in-Err-type_member.error refl c.in-Err-type_member.ensures.place)
-
-pub returns-in-Ok-type_member-clause-ok : goal.returns-in-Ok-type_member-clause-ok
-returns-in-Ok-type_member-clause-ok c =
-    let d = borrowed_view c.args.value.now in
-    let attributes_read = c.in-Ok.ensures.ok in
-    let name_read = c.in-Ok-plain_name_member.ensures.ok in
-    let ty_read = c.in-Ok-type_member.ensures.ok in
-    let known : has_only (known_keys (inner (fixed (kind member)) (typed_row a_name) nothing) d) d ≡ true = sym c.has_only.ensures ∙ c.if-not-has_only.false in
-    same-reads (spanned-reads a_member member_node member (typed_row a_name) d refl _ _ _ known (plain-kind member) (many-then attributes_read (needs-then (name_read _) (needs-then ty_read (none-then d _))))) (sym (ap (placed member_view member_node) c.unplaced.ensures))
+    spanned-span c.args.spans a_member member_node member (typed_row a_name) (borrowed_view c.args.value.now) refl c.in-Err.error c.in-Err.ensures.place

@@ -6,4 +6,4 @@ use Rattle.wesl_reading.proofs.ReadLists.{IsListRead}
 use Rattle.wesl_reading_unit.proofs.declaration.read_parameters.Given as goal
 
 abbrev pub invariant-loop-index : goal.invariant-loop-index
-invariant-loop-index l = IsListRead parameter_view parameters a_parameter (borrowed_view l.value) l.item-items l.index l.initial.numbering l.numbering l.parameters
+invariant-loop-index l = IsListRead l.spans parameter_view parameters a_parameter (borrowed_view l.value) l.item-items l.index l.initial.numbering l.numbering l.parameters

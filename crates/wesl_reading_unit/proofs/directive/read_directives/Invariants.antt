@@ -6,4 +6,4 @@ use Rattle.wesl_reading.proofs.ReadLists.{IsListRead}
 use Rattle.wesl_reading_unit.proofs.directive.read_directives.Given as goal
 
 abbrev pub invariant-loop-index : goal.invariant-loop-index
-invariant-loop-index l = IsListRead (placed directive_view directive_node) directive_list a_directive (borrowed_view l.value) l.item-items l.index l.initial.numbering l.numbering l.directives
+invariant-loop-index l = IsListRead l.spans (placed directive_view directive_node) directive_list a_directive (borrowed_view l.value) l.item-items l.index l.initial.numbering l.numbering l.directives

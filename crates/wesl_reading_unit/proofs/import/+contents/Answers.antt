@@ -27,7 +27,7 @@ content_member-returns-in-Ok-clause-ok t c =
 pub content_member-returns-in-Err-clause-place : goal.content_member-returns-in-Err-clause-place
 content_member-returns-in-Err-clause-place t c =
     let d = borrowed_view c.args.value.now in
-    member-inside (codes "content") (node a_content) d c.under.result (inside-under (codes "content") (node a_content) d (borrowed_view c.in_ok-member.member.now) c.in-Err.error c.under.result c.in_ok-member.ensures.ok c.in-Err.ensures.place c.under.ensures)
+    member-inside c.args.spans (codes "content") (node a_content) d c.under.result (inside-under c.args.spans (codes "content") (node a_content) d (borrowed_view c.in_ok-member.member.now) c.in-Err.error c.under.result c.in_ok-member.ensures.ok c.in-Err.ensures.place c.under.ensures)
 
 pub entries_member-read_entries-requires : goal.entries_member-read_entries-requires
 entries_member-read_entries-requires t c =
@@ -41,7 +41,7 @@ entries_member-returns-in-Ok-clause-ok t c =
 pub entries_member-returns-in-Err-clause-place : goal.entries_member-returns-in-Err-clause-place
 entries_member-returns-in-Err-clause-place t c =
     let d = borrowed_view c.args.value.now in
-    member-inside (codes "list") (list_of list an_entry) d c.under.result (inside-under (codes "list") (list_of list an_entry) d (borrowed_view c.in_ok-member.member.now) c.in-Err.error c.under.result c.in_ok-member.ensures.ok c.in-Err.ensures.place c.under.ensures)
+    member-inside c.args.spans (codes "list") (list_of list an_entry) d c.under.result (inside-under c.args.spans (codes "list") (list_of list an_entry) d (borrowed_view c.in_ok-member.member.now) c.in-Err.error c.under.result c.in_ok-member.ensures.ok c.in-Err.ensures.place c.under.ensures)
 
 pub read_entries-read_entry-entry-requires : goal.read_entries-read_entry-entry-requires
 read_entries-read_entry-entry-requires t c =
@@ -51,46 +51,48 @@ read_entries-read_entry-entry-requires t c =
     let deep : items_depth (items_view vs) < depth (borrowed_view c.args.value.now) = array-depth _ _ is in
     (omega arith, tt)
 
-pub read_content-returns-in_ok-item-clause-ok : goal.read_content-returns-in_ok-item-clause-ok
-read_content-returns-in_ok-item-clause-ok t c =
-    same-reads c.in_ok-item.ensures.ok (sym (view-item c.in_ok-item.item))
+pub read_content-returns-in-Ok-clause-ok : goal.read_content-returns-in-Ok-clause-ok
+read_content-returns-in-Ok-clause-ok t c = same-reads (c.in-Ok.ensures.ok c.args.spans) (sym (view-item c.in-Ok.item))
+
+pub read_content-returns-in-Err-clause-place : goal.read_content-returns-in-Err-clause-place
+read_content-returns-in-Err-clause-place t c = c.in-Err.ensures.place c.args.spans
 
 pub read_collection-returns-then-not-has_only-clause-place : goal.read_collection-returns-then-not-has_only-clause-place
 read_collection-returns-then-not-has_only-clause-place t c =
     let d = borrowed_view c.args.value.now in
     let lacking : has_only (known_keys (needs (codes "list") (list_of list an_entry) nothing) d) d ≡ false = sym c.has_only.ensures ∙ c.if-not-has_only.true in
-    bare-keys a_content import_collection (needs (codes "list") (list_of list an_entry) nothing) d (content-collection d c.requires) c.wrong.result refl lacking c.wrong.ensures
+    bare-keys c.args.spans a_content import_collection (needs (codes "list") (list_of list an_entry) nothing) d (content-collection c.args.spans d c.requires) c.wrong.result refl lacking c.wrong.ensures
 
 pub read_collection-returns-in-Err-clause-place : goal.read_collection-returns-in-Err-clause-place
 read_collection-returns-in-Err-clause-place t c =
     let d = borrowed_view c.args.value.now in
     let known : has_only (known_keys (needs (codes "list") (list_of list an_entry) nothing) d) d ≡ true = sym c.has_only.ensures ∙ c.if-not-has_only.false in
-    bare-place a_content import_collection (needs (codes "list") (list_of list an_entry) nothing) d (content-collection d c.requires) c.in-Err.error known (row-member (needs (codes "list") (list_of list an_entry) nothing) (codes "list") (list_of list an_entry) d c.in-Err.error refl c.in-Err.ensures.place)
+    bare-place c.args.spans a_content import_collection (needs (codes "list") (list_of list an_entry) nothing) d (content-collection c.args.spans d c.requires) c.in-Err.error known (row-member c.args.spans (needs (codes "list") (list_of list an_entry) nothing) (codes "list") (list_of list an_entry) d c.in-Err.error refl c.in-Err.ensures.place)
 
 pub read_collection-returns-in-Ok-clause-ok : goal.read_collection-returns-in-Ok-clause-ok
 read_collection-returns-in-Ok-clause-ok t c =
     let d = borrowed_view c.args.value.now in
     let entries_read = c.in-Ok.ensures.ok in
     let known : has_only (known_keys (needs (codes "list") (list_of list an_entry) nothing) d) d ≡ true = sym c.has_only.ensures ∙ c.if-not-has_only.false in
-    same-reads (bare-reads a_content import_collection (needs (codes "list") (list_of list an_entry) nothing) d (content-collection d c.requires) _ _ _ known (needs-then entries_read (none-then d _))) (sym (view-collection c.in-Ok.entries))
+    same-reads (bare-reads c.args.spans a_content import_collection (needs (codes "list") (list_of list an_entry) nothing) d (content-collection c.args.spans d c.requires) _ _ _ known (needs-then entries_read (none-then d _))) (sym (view-collection c.in-Ok.entries))
 
 pub read_entry-returns-then-not-has_only-clause-place : goal.read_entry-returns-then-not-has_only-clause-place
 read_entry-returns-then-not-has_only-clause-place t c =
     let d = borrowed_view c.args.value.now in
     let lacking : has_only (known_keys (many (codes "path") (leaf some_names) (needs (codes "content") (node a_content) nothing)) d) d ≡ false = sym c.has_only.ensures ∙ c.if-not-has_only.true in
-    bare-keys an_entry import_entry (many (codes "path") (leaf some_names) (needs (codes "content") (node a_content) nothing)) d refl c.wrong.result refl lacking c.wrong.ensures
+    bare-keys c.args.spans an_entry import_entry (many (codes "path") (leaf some_names) (needs (codes "content") (node a_content) nothing)) d refl c.wrong.result refl lacking c.wrong.ensures
 
 pub read_entry-returns-in-Err-clause-place : goal.read_entry-returns-in-Err-clause-place
 read_entry-returns-in-Err-clause-place t c =
     let d = borrowed_view c.args.value.now in
     let known : has_only (known_keys (many (codes "path") (leaf some_names) (needs (codes "content") (node a_content) nothing)) d) d ≡ true = sym c.has_only.ensures ∙ c.if-not-has_only.false in
-    bare-place an_entry import_entry (many (codes "path") (leaf some_names) (needs (codes "content") (node a_content) nothing)) d refl c.in-Err.error known (row-inside (many (codes "path") (leaf some_names) (needs (codes "content") (node a_content) nothing)) (codes "path") false (leaf some_names) d c.in-Err.error refl c.in-Err.ensures.place)
+    bare-place c.args.spans an_entry import_entry (many (codes "path") (leaf some_names) (needs (codes "content") (node a_content) nothing)) d refl c.in-Err.error known (row-inside c.args.spans (many (codes "path") (leaf some_names) (needs (codes "content") (node a_content) nothing)) (codes "path") false (leaf some_names) d c.in-Err.error refl (c.in-Err.ensures.place c.args.spans))
 
 pub read_entry-returns-in-Err-content_member-clause-place : goal.read_entry-returns-in-Err-content_member-clause-place
 read_entry-returns-in-Err-content_member-clause-place t c =
     let d = borrowed_view c.args.value.now in
     let known : has_only (known_keys (many (codes "path") (leaf some_names) (needs (codes "content") (node a_content) nothing)) d) d ≡ true = sym c.has_only.ensures ∙ c.if-not-has_only.false in
-    bare-place an_entry import_entry (many (codes "path") (leaf some_names) (needs (codes "content") (node a_content) nothing)) d refl c.in-Err-content_member.error known (row-member (many (codes "path") (leaf some_names) (needs (codes "content") (node a_content) nothing)) (codes "content") (node a_content) d c.in-Err-content_member.error refl c.in-Err-content_member.ensures.place)
+    bare-place c.args.spans an_entry import_entry (many (codes "path") (leaf some_names) (needs (codes "content") (node a_content) nothing)) d refl c.in-Err-content_member.error known (row-member c.args.spans (many (codes "path") (leaf some_names) (needs (codes "content") (node a_content) nothing)) (codes "content") (node a_content) d c.in-Err-content_member.error refl c.in-Err-content_member.ensures.place)
 
 pub read_entry-returns-in-Ok-content_member-clause-ok : goal.read_entry-returns-in-Ok-content_member-clause-ok
 read_entry-returns-in-Ok-content_member-clause-ok t c =
@@ -98,23 +100,23 @@ read_entry-returns-in-Ok-content_member-clause-ok t c =
     let path_read = c.in-Ok.ensures.ok in
     let content_read = c.in-Ok-content_member.ensures.ok in
     let known : has_only (known_keys (many (codes "path") (leaf some_names) (needs (codes "content") (node a_content) nothing)) d) d ≡ true = sym c.has_only.ensures ∙ c.if-not-has_only.false in
-    same-reads (bare-reads an_entry import_entry (many (codes "path") (leaf some_names) (needs (codes "content") (node a_content) nothing)) d refl _ _ _ known (many-then (path_read _) (needs-then content_read (none-then d _)))) (sym (made-entry c.in-Ok.path c.in-Ok-content_member.content))
+    same-reads (bare-reads c.args.spans an_entry import_entry (many (codes "path") (leaf some_names) (needs (codes "content") (node a_content) nothing)) d refl _ _ _ known (many-then (path_read c.args.spans _) (needs-then content_read (none-then d _)))) (sym (made-entry c.in-Ok.path c.in-Ok-content_member.content))
 
 pub read_entries-loop-index-init : goal.read_entries-loop-index-init
 read_entries-loop-index-init t c =
-    list-none entry_view list an_entry (borrowed_view c.args.value.now) c.deref-item-items.result.now c.args.numbering.now c.room-entries.result c.room-entries.ensures.ok c.room-entries.ensures.refused
+    list-none c.args.spans entry_view list an_entry (borrowed_view c.args.value.now) c.deref-item-items.result.now c.args.numbering.now c.room-entries.result c.room-entries.ensures.ok c.room-entries.ensures.refused
 
 pub read_entries-loop-index-preserved : goal.read_entries-loop-index-preserved
 read_entries-loop-index-preserved t c =
     let vs = c.deref-item-items.result.now in
     let is : as_array (borrowed_view c.args.value.now) ≡ Some (items_view vs) = sym c.in-Some.ensures ∙ ap (λ l. Some (items_view l)) (sym c.deref-item-items.ensures.value) in
-    list-turn entry_view list an_entry (borrowed_view c.args.value.now) vs is c.loop-index.index c.item-item.result c.args.numbering.now c.loop-index.numbering c.read_entry-entry.new.numbering c.loop-index.entries c.read_entry-entry.result c.loop-index-test.true c.item-item.is c.loop-index.invariant c.with_item-entries.result c.read_entry-entry.ensures.ok c.read_entry-entry.ensures.place c.with_item-entries.ensures.ok c.with_item-entries.ensures.place
+    list-turn c.args.spans entry_view list an_entry (borrowed_view c.args.value.now) vs is c.loop-index.index c.item-item.result c.args.numbering.now c.loop-index.numbering c.read_entry-entry.new.numbering c.loop-index.entries c.read_entry-entry.result c.loop-index-test.true c.item-item.is c.loop-index.invariant c.with_item-entries.result c.read_entry-entry.ensures.ok c.read_entry-entry.ensures.place c.with_item-entries.ensures.ok c.with_item-entries.ensures.place
 
 pub read_entries-returns-clause-ok : goal.read_entries-returns-clause-ok
 read_entries-returns-clause-ok t c =
     let vs = c.deref-item-items.result.now in
     let is : as_array (borrowed_view c.args.value.now) ≡ Some (items_view vs) = sym c.in-Some.ensures ∙ ap (λ l. Some (items_view l)) (sym c.deref-item-items.ensures.value) in
-    list-whole entry_view list an_entry (borrowed_view c.args.value.now) vs is c.loop-index.index _ _ c.loop-index.entries c.loop-index-test.false c.loop-index.invariant
+    list-whole c.args.spans entry_view list an_entry (borrowed_view c.args.value.now) vs is c.loop-index.index _ _ c.loop-index.entries c.loop-index-test.false c.loop-index.invariant
 
 pub read_entries-returns-clause-place : goal.read_entries-returns-clause-place
 read_entries-returns-clause-place t c = c.loop-index.invariant.1

@@ -26,4 +26,4 @@ abbrev pub decreases-read_entry : goal.decreases-read_entry
 decreases-read_entry l = 10 * depth (borrowed_view l.value.now) + 7
 
 abbrev pub invariant-read_entries-loop-index : goal.invariant-read_entries-loop-index
-invariant-read_entries-loop-index l = IsListRead entry_view list an_entry (borrowed_view l.value) l.item-items l.index l.initial.numbering l.numbering l.entries
+invariant-read_entries-loop-index l = IsListRead l.spans entry_view list an_entry (borrowed_view l.value) l.item-items l.index l.initial.numbering l.numbering l.entries

@@ -17,4 +17,4 @@ pub returns-in-Err-clause-place : goal.returns-in-Err-clause-place
 returns-in-Err-clause-place c =
     let d = borrowed_view c.args.value.now in
     let found : get (codes "imports") d ≡ Some (borrowed_view c.in-Some.member.now) = search rules in
-    inside-under (codes "imports") (list_of imports an_import) d (borrowed_view c.in-Some.member.now) c.in-Err.error c.under.result found c.in-Err.ensures.place c.under.ensures
+    inside-under c.args.spans (codes "imports") (list_of imports an_import) d (borrowed_view c.in-Some.member.now) c.in-Err.error c.under.result found c.in-Err.ensures.place c.under.ensures

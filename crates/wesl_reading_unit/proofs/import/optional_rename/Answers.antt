@@ -10,16 +10,16 @@ use Rattle.wesl_reading.proofs.Members.{form-ident}
 use Rattle.wesl_reading_unit.proofs.import.optional_rename.Goals as goal
 
 pub returns-in_ok-number-in-Ok-clause-ok : goal.returns-in_ok-number-in-Ok-clause-ok
-returns-in_ok-number-in-Ok-clause-ok c =
+returns-in_ok-number-in-Ok-clause-ok c = λ spans.
     let d = borrowed_view c.args.value.now in
     let v = borrowed_view c.in-Some.member.now in
     let found : get (codes "as") d ≡ Some v = search rules in
     let a = c.args.numbering.now in
     let b = c.number.new.self in
-    may-there (codes "as") (leaf (an_ident binder)) d v _ a b found (record { form = form-ident binder v c.in-Ok.name.now c.in_ok-number-in-Ok.field-0.0 a b c.in-Ok.ensures.ok c.in_ok-number-in-Ok.ensures.number })
+    may-there (codes "as") (leaf (an_ident binder)) d v _ a b found (record { form = form-ident spans binder v c.in-Ok.name.now c.in_ok-number-in-Ok.field-0.0 a b c.in-Ok.ensures.ok c.in_ok-number-in-Ok.ensures.number })
 
 pub returns-in-Err-clause-place : goal.returns-in-Err-clause-place
-returns-in-Err-clause-place c =
+returns-in-Err-clause-place c = λ spans.
     let d = borrowed_view c.args.value.now in
     let found : get (codes "as") d ≡ Some (borrowed_view c.in-Some.member.now) = search rules in
-    leaf-under name_in (codes "as") (an_ident binder) d (borrowed_view c.in-Some.member.now) c.in-Err.error c.under.result found (λ x h. ap (option_map (ident binder)) h) c.in-Err.ensures.place c.under.ensures
+    leaf-under spans name_in (codes "as") (an_ident binder) d (borrowed_view c.in-Some.member.now) c.in-Err.error c.under.result found (λ x h. ap (option_map (ident binder)) h) c.in-Err.ensures.place c.under.ensures

@@ -6,4 +6,4 @@ use Rattle.wesl_reading.proofs.ReadLists.{IsListRead}
 use Rattle.wesl_reading_unit.proofs.import.read_imports.Given as goal
 
 abbrev pub invariant-loop-index : goal.invariant-loop-index
-invariant-loop-index l = IsListRead (placed import_view import_node) imports an_import (borrowed_view l.value) l.item-items l.index l.initial.numbering l.numbering l.imports
+invariant-loop-index l = IsListRead l.spans (placed import_view import_node) imports an_import (borrowed_view l.value) l.item-items l.index l.initial.numbering l.numbering l.imports

@@ -1,69 +1,18 @@
+use Rattle.std.proofs.Common.{false, refl, sym, true, ◌∙◌, ◌≡◌}
 use Rattle.wesl_form.specs.View.{borrowed_view}
-use Rattle.std.proofs.Common.{[], codes, false, refl, rules, subst, sym, true, ◌∙◌, ◌≡◌}
-use Rattle.wesl_form.specs.Nodes.{whole_form}
 use Rattle.wesl_form.specs.Reading.{known_keys}
 use Rattle.wesl_form.specs.Keys.{has_only}
-use Rattle.wesl_form.specs.Schema.{a_declaration, a_directive, an_import, list_of, node}
-use Rattle.wesl_reading.proofs.Expressions.{bare-keys, bare-place}
-use Rattle.wesl_reading.proofs.Places.{row-inside}
-use Rattle.wesl_reading.specs.Numbers.{Reads, ReadsMany}
-use Rattle.wesl_syntax.specs.Tree.{declarations, directive_list, imports}
-use Rattle.std.proofs.Common.{true≢false}
-use Rattle.wesl_syntax.specs.Tree.{unit}
-use Rattle.wesl_syntax.specs.Unit.{unit_below}
-use Rattle.wesl_syntax.specs.View.{imports_tree, directives_tree, declarations_tree}
 use Rattle.wesl_form.specs.Schema.{a_unit}
-use Rattle.wesl_form.specs.Units.{IsUnitOf}
-use Rattle.wesl_tree.specs.Translation.{unit_view}
-use Rattle.wesl_reading_unit.proofs.Units.{is-unit, unit-below, unit-read, unit_of, unit_row}
+use Rattle.wesl_reading.proofs.Expressions.{bare-keys}
+use Rattle.wesl_syntax.specs.Tree.{unit}
+use Rattle.wesl_reading_unit.proofs.Units.{form-place, formed_row, unit-place}
 use Rattle.wesl_reading_unit.proofs.unit.read_unit.Goals as goal
 
-pub returns-then-not-has_only-clause-place : goal.returns-then-not-has_only-clause-place
-returns-then-not-has_only-clause-place c =
+pub returns-then-not-has_only_beside-clause-place : goal.returns-then-not-has_only_beside-clause-place
+returns-then-not-has_only_beside-clause-place c =
     let d = borrowed_view c.args.value.now in
-    let lacking : has_only (known_keys unit_row d) d ≡ false = sym c.has_only.ensures ∙ c.if-not-has_only.true in
-    bare-keys a_unit unit unit_row d refl c.wrong.result refl lacking c.wrong.ensures
+    let lacking : has_only (known_keys (formed_row c.args.spans) d) d ≡ false = sym c.has_only_beside.ensures ∙ c.if-not-has_only_beside.true in
+    unit-place c.args.spans d c.requires c.wrong.result (bare-keys c.args.spans a_unit unit (formed_row c.args.spans) d refl c.wrong.result refl lacking c.wrong.ensures)
 
 pub returns-in-Err-clause-place : goal.returns-in-Err-clause-place
-returns-in-Err-clause-place c =
-    let d = borrowed_view c.args.value.now in
-    let known : has_only (known_keys unit_row d) d ≡ true = sym c.has_only.ensures ∙ c.if-not-has_only.false in
-    bare-place a_unit unit unit_row d refl c.in-Err.error known (row-inside unit_row (codes "imports") false (list_of imports an_import) d c.in-Err.error refl c.in-Err.ensures.place)
-
-pub returns-in-Err-directives_member-clause-place : goal.returns-in-Err-directives_member-clause-place
-returns-in-Err-directives_member-clause-place c =
-    let d = borrowed_view c.args.value.now in
-    let known : has_only (known_keys unit_row d) d ≡ true = sym c.has_only.ensures ∙ c.if-not-has_only.false in
-    bare-place a_unit unit unit_row d refl c.in-Err-directives_member.error known (row-inside unit_row (codes "directives") false (list_of directive_list a_directive) d c.in-Err-directives_member.error refl c.in-Err-directives_member.ensures.place)
-
-pub returns-in-Err-declarations_member-clause-place : goal.returns-in-Err-declarations_member-clause-place
-returns-in-Err-declarations_member-clause-place c =
-    let d = borrowed_view c.args.value.now in
-    let known : has_only (known_keys unit_row d) d ≡ true = sym c.has_only.ensures ∙ c.if-not-has_only.false in
-    bare-place a_unit unit unit_row d refl c.in-Err-declarations_member.error known (row-inside unit_row (codes "declarations") false (list_of declarations a_declaration) d c.in-Err-declarations_member.error refl c.in-Err-declarations_member.ensures.place)
-
-pub returns-in-Some-clause-unit : goal.returns-in-Some-clause-unit
-returns-in-Some-clause-unit c =
-    let d = borrowed_view c.args.value.now in
-    let i = imports_tree c.in-Ok.imports in
-    let r = directives_tree c.in-Ok-directives_member.directives in
-    let g = declarations_tree c.in-Ok-declarations_member.declarations in
-    let names = c.in-Ok-into_names.names in
-    let known : has_only (known_keys unit_row d) d ≡ true = sym c.has_only.ensures ∙ c.if-not-has_only.false in
-    let first = subst (λ a. ReadsMany (codes "imports") (list_of imports an_import) d i a c.imports_member.new.numbering) c.new-numbering.ensures c.in-Ok.ensures.ok in
-    let read = subst (λ n. Reads (node a_unit) d (unit_of i r g) [] n) (sym c.in-Ok-into_names.ensures.names) (unit-read d i r g _ _ _ known first c.in-Ok-directives_member.ensures.ok c.in-Ok-declarations_member.ensures.ok) in
-    let made : record { names = names; imports = i; directives = r; declarations = g } ≡ unit_view c.in-Some.unit = search rules in
-    subst (IsUnitOf whole_form d) made (is-unit d i r g names c.in-Ok-into_names.ensures.distinct read.form)
-
-pub returns-in-None-clause-place : goal.returns-in-None-clause-place
-returns-in-None-clause-place c =
-    let d = borrowed_view c.args.value.now in
-    let i = imports_tree c.in-Ok.imports in
-    let r = directives_tree c.in-Ok-directives_member.directives in
-    let g = declarations_tree c.in-Ok-declarations_member.declarations in
-    let names = c.in-Ok-into_names.names in
-    let known : has_only (known_keys unit_row d) d ≡ true = sym c.has_only.ensures ∙ c.if-not-has_only.false in
-    let first = subst (λ a. ReadsMany (codes "imports") (list_of imports an_import) d i a c.imports_member.new.numbering) c.new-numbering.ensures c.in-Ok.ensures.ok in
-    let read = subst (λ n. Reads (node a_unit) d (unit_of i r g) [] n) (sym c.in-Ok-into_names.ensures.names) (unit-read d i r g _ _ _ known first c.in-Ok-directives_member.ensures.ok c.in-Ok-declarations_member.ensures.ok) in
-    let above : unit_below (record { names = names; imports = i; directives = r; declarations = g }) ≡ false = search rules in
-    absurd (true≢false (sym (unit-below d i r g names read.form) ∙ above))
+returns-in-Err-clause-place c = form-place (borrowed_view c.args.value.now) c.in-Err.error c.in-Err.ensures.place
