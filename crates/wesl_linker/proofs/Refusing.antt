@@ -1,5 +1,5 @@
 -- What a refused link tells.
-use Rattle.std.proofs.Common.{◌≡◌, ◌⊎◌, inl, inr, ℕ, Bool, List, All, false, refl, sym, subst, ap, ◌∙◌}
+use Rattle.std.proofs.Common.{◌≡◌, inl, inr, ℕ, Bool, List, All, false, refl, sym, subst, ap, ◌∙◌}
 use Rattle.std.specs.Prelude.{string_bytes}
 use Rattle.wesl_names.specs.Path.{Text, Path, path_view, is_relative}
 use Rattle.wesl_names.specs.Errors.{error_of_resolve, IsBare}

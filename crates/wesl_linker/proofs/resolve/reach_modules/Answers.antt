@@ -21,7 +21,6 @@ use Rattle.wesl_linker.specs.Worlds.{IsRefused}
 use Rattle.wesl_linker.proofs.Found.{kept_left, once_left, some_left}
 use Rattle.wesl_linker.proofs.Sound as sound
 use Rattle.wesl_linker.proofs.Reaching.{reach_numbers, reach_refused}
-use Rattle.std.proofs.lemmas.Result.{IfOk-weaker, IfErr-weaker}
 use Rattle.wesl_linker.proofs.Holding.{IsFoundBy, found_by, sound_by}
 use Rattle.wesl_linker.proofs.Refusing.{told_by, memory_told}
 use Rattle.wesl_linker.proofs.Readying.{keeps_nothing, ready_table}
