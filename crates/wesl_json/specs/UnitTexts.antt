@@ -1,26 +1,30 @@
 -- Which JSON text says which unit, and why a text is refused.
-use Rattle.std.specs.Prelude.{◌≡◌, ◌⊎◌, ℕ, ◌<◌, Some, None}
+use Rattle.std.specs.Prelude.{◌≡◌, ◌⊎◌, ℕ, ◌<◌, Some, None, false, option_map}
 use Rattle.serde_json.specs.Data.{Data, depth}
 use Rattle.serde_json.specs.Read.{read}
 use Rattle.serde_json.specs.Written.{compact_text}
 use Rattle.wesl_names.specs.Path.{Text}
 use Rattle.wesl_names.specs.declared.errors.Error as error
+use Rattle.wesl_syntax.specs.Tree.{respell}
 use Rattle.wesl_syntax.specs.Unit.{UnitOf}
-use Rattle.wesl_form.specs.Schema.{node, a_unit}
-use Rattle.wesl_form.specs.Nodes.{whole_form}
+use Rattle.wesl_form.specs.Schema.{Spelled, node, a_unit}
 use Rattle.wesl_form.specs.Reading.{reading}
-use Rattle.wesl_form.specs.Units.{unit_tree, IsBrokenUnit, IsNoUnit}
+use Rattle.wesl_form.specs.Units.{form_of, unit_tree, IsBrokenUnit, IsNoUnit}
 use Rattle.wesl_form.specs.Writing.{written}
 use Rattle.wesl_reading.specs.Faults.{place_of}
 use Rattle.wesl_resolver.specs.UnitText.{HasTextPaths}
 
--- the value stands for a unit that is spelled so: at each number of levels above its depth that is its reading
+-- a tree without its spans
+abbrev pub bare : Spelled → Spelled
+bare t = respell (λ s. s) t
+
+-- the value stands for a unit that is spelled so: at each number of levels above its depth that is its reading, spans aside
 abbrev pub IsSpelled : Data → UnitOf Text → Type 0
-IsSpelled d u = (n : ℕ) → depth d < n → reading whole_form n (node a_unit) d ≡ Some (unit_tree u)
+IsSpelled d u = (n : ℕ) → depth d < n → option_map bare (reading (form_of d) n (node a_unit) d) ≡ Some (unit_tree u)
 
 -- the value stands for no unit, and breaks the form of one at the place that is told
 abbrev pub IsTreeFault : Data → error.Error → Type 0
-IsTreeFault d e = (place : Text) × (place_of e ≡ Some place) × IsBrokenUnit whole_form d place × IsNoUnit whole_form d
+IsTreeFault d e = (place : Text) × (place_of e ≡ Some place) × IsBrokenUnit d place × IsNoUnit d
 
 -- the text is JSON, and its value stands for a unit that is spelled so
 abbrev pub ReadsAs : Text → UnitOf Text → Type 0
@@ -32,8 +36,8 @@ IsUnreadable text e =
     (e ≡ error.NotJson) × (read text ≡ None)
     ⊎ ((d : Data) × (read text ≡ Some d) × IsTreeFault d e)
 
--- the text, with no space, of the value that a unit of this spelling is written as; where it is read as a unit, this one
+-- the text, with no space, of the value that a unit of this spelling is written as in form 1; where it is read as a unit, this one
 -- has the same spelling, if each path in the first has a text that says the same path or none
 pub record PrintsAs (u : UnitOf Text) (text : Text) : Type 0 where
-  pub compact : text ≡ compact_text (written (node a_unit) (unit_tree u))
+  pub compact : text ≡ compact_text (written false (node a_unit) (unit_tree u))
   pub read_back : HasTextPaths u → (v : UnitOf Text) → ReadsAs text v → v ≡ u

@@ -13,8 +13,8 @@ use wesl_piece::law_of_units;
 use wesl_resolver::UnitText;
 use wesl_tree::{Diagnostic, Error, TranslationUnit};
 
-/// Units as JSON texts with no space. A text that is no JSON, or that nests deeper than 127, is refused with `NotJson`,
-/// and one whose value stands for no unit with `BadTree`.
+/// Units as JSON texts with no space, read in either form and printed in form 1, without spans. A text that is no JSON, or
+/// that nests deeper than 127, is refused with `NotJson`, and one whose value stands for no unit with `BadTree`.
 #[derive(Clone, Copy, Debug)]
 pub struct JsonText;
 

@@ -9,6 +9,7 @@ pub fn answered(row: Row<'_>) -> Value {
     match row.text("call") {
         "unit_of_value" => units::read(row),
         "value_of_unit" => units::again(row, &row.tree()),
+        "value_of_unit_2" => units::with_places(row),
         "value_of_unit of an enable directive" => units::enabled(row),
         "JsonText::read" => units::text_read(row),
         "TranslationUnit::new" => row.tree_of(&TranslationUnit::new(row.alloc)),
@@ -17,7 +18,9 @@ pub fn answered(row: Row<'_>) -> Value {
         "TranslationUnit::names" => names_value(row, row.tree().names()),
         "TranslationUnit::remove_voids" => units::without_voids(row),
         "TranslationUnit::try_clone" => copies::unit_copied(row),
-        "TranslationUnit::same_spelling" | "== of the lists of units" => copies::compared(row),
+        "TranslationUnit::same_spelling"
+        | "TranslationUnit::same_spans"
+        | "== of the lists of units" => copies::compared(row),
         "Copying::attributes and Copying::statements" | "Copying::nodes" => {
             copies::lists_copied(row)
         }

@@ -21,15 +21,15 @@ fn lists_compared(row: Row<'_>, first: &TranslationUnit, second: &TranslationUni
     answer.end(row)
 }
 
-/// Whether the units `first` and `second`, each with numbers or without, have the same spelling, or which of their lists
-/// are equal.
+/// Whether the units `first` and `second`, each with numbers or without, have the same spelling, or the same places, or
+/// which of their lists are equal.
 pub fn compared(row: Row<'_>) -> Value {
     let first = row.made(numbered(row.part("first")));
     let second = row.made(numbered(row.part("second")));
-    if row.text("call") == "TranslationUnit::same_spelling" {
-        Value::Bool(first.same_spelling(&second))
-    } else {
-        lists_compared(row, &first, &second)
+    match row.text("call") {
+        "TranslationUnit::same_spelling" => Value::Bool(first.same_spelling(&second)),
+        "TranslationUnit::same_spans" => Value::Bool(first.same_spans(&second)),
+        _ => lists_compared(row, &first, &second),
     }
 }
 

@@ -1,7 +1,7 @@
 //! Units: their JSON form, their texts and their parts.
 use serde_json::Value;
 use wesl_copies::Copying;
-use wesl_json::{JsonText, unit_of_value};
+use wesl_json::{JsonText, unit_of_value, value_of_unit_2};
 use wesl_resolver::UnitText;
 use wesl_row::{Object, Row, printed};
 use wesl_tree::{GlobalDirective, Names, Span, Spanned, TranslationUnit};
@@ -12,6 +12,11 @@ pub fn read(row: Row<'_>) -> Value {
         Ok(unit) => row.tree_of(&unit),
         Err(fault) => fault,
     }
+}
+
+/// What is written with its places of the unit of the `tree`.
+pub fn with_places(row: Row<'_>) -> Value {
+    row.or(value_of_unit_2(row.alloc, &row.tree()), Value::Null)
 }
 
 /// Whether what is written of a unit is read with the unit's spelling, or the fault where it is not read.

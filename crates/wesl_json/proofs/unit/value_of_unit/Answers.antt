@@ -1,4 +1,4 @@
-use Rattle.std.proofs.Common.{ap, ◌∙◌}
+use Rattle.std.proofs.Common.{false, ap, ◌∙◌}
 use Rattle.std.proofs.lemmas.Result.{IfOk-weaker}
 use Rattle.serde_json.specs.Written.{has_float}
 use Rattle.wesl_tree.specs.Translation.{unit_view}
@@ -11,4 +11,4 @@ pub returns-clause-refused : goal.returns-clause-refused
 returns-clause-refused c = c.value_of_unit.ensures.refused
 
 pub returns-clause-whole : goal.returns-clause-whole
-returns-clause-whole c = IfOk-weaker c.value_of_unit.result _ _ (λ v h. ap has_float h ∙ c.law_of_whole_values.ensures (unit_view c.args.unit.now)) c.value_of_unit.ensures.written
+returns-clause-whole c = IfOk-weaker c.value_of_unit.result _ _ (λ v h. ap has_float h ∙ c.law_of_whole_values.ensures false (unit_view c.args.unit.now)) c.value_of_unit.ensures.written
