@@ -1,0 +1,8 @@
+pub mod Alike
+pub mod Agreed
+pub mod Lists
+pub mod Interning
+pub mod Targets
+pub mod Grouping
+pub mod Orders
+pub mod Unsplit

@@ -1,0 +1,8 @@
+pub mod Different
+pub mod Numbering
+pub mod Split
+pub mod Uses
+pub mod SplitRows
+pub mod Grouped
+pub mod ScopeView
+pub mod Laws
