@@ -11,7 +11,7 @@ use Rattle.wesl_symbols.specs.declared.ids.PathId.{PathId}
 use Rattle.wesl_split.specs.Grouped.{ids, same_id, AreGrouped}
 use Rattle.wesl_split.specs.Split as split
 use Rattle.wesl_split.specs.Split.{Binder}
-use Rattle.wesl_split.proofs.Interning.{added, none_passes}
+use Rattle.wesl_split.proofs.Different.{added, get_cases, none_passes}
 use Rattle.wesl_split.proofs.Targets.{found_true, any_there, same_bool}
 
 abbrev Ours : Type 0
@@ -43,13 +43,7 @@ set_length [] i x = refl
 set_length (y ∷ xs) zero x = refl
 set_length (y ∷ xs) (suc i) x = ap suc (set_length xs i x)
 
-last_or_before : {X : Type 0} (xs : List X) (y : X) (i : ℕ) (x : X) → slice_get (xs ++ y ∷ []) i ≡ Some x → (slice_get xs i ≡ Some x) ⊎ ((i ≡ length xs) × (y ≡ x))
-last_or_before [] y zero x h = inr (refl, cc)
-last_or_before [] y (suc i) x h = absurd (cc)
-last_or_before (z ∷ xs) y zero x h = inl h
-last_or_before (z ∷ xs) y (suc i) x h = elim (last_or_before xs y i x h) [ inl e ↦ inl e | inr (e, f) ↦ inr (ap suc e, f) ]
-
-get_below : {X : Type 0} (xs : List X) (i : ℕ) (x : X) → slice_get xs i ≡ Some x → i < length xs
+pub get_below : {X : Type 0} (xs : List X) (i : ℕ) (x : X) → slice_get xs i ≡ Some x → i < length xs
 get_below [] i x h = absurd (cc)
 get_below (z ∷ xs) zero x h = omega arith
 get_below (z ∷ xs) (suc i) x h = omega (arith, get_below xs i x h)
@@ -165,7 +159,7 @@ module _ (bs : List Ours) (ns : List NameId) (gs : List Group) (b : Ours) (h : A
         by c d (inl t) = absurd (let l : list_any (same_id b.bound) ns ≡ true = subst (λ m. list_any (same_id m) ns ≡ true) (sym (id_is b.bound c.bound t)) (h.all c d) in let z : ⊥ = cc in z)
 
     first_each : (i : ℕ) (n : NameId) (x : Group) → slice_get (ns ++ b.bound ∷ []) i ≡ Some n → slice_get (gs ++ g ∷ []) i ≡ Some x → x.items ≡ split.of_name ids n (bs ++ b ∷ [])
-    first_each i n x named there = by (last_or_before ns b.bound i n named) (last_or_before gs g i x there)
+    first_each i n x named there = by (get_cases ns b.bound i n named) (get_cases gs g i x there)
       where
         by : (slice_get ns i ≡ Some n) ⊎ ((i ≡ length ns) × (b.bound ≡ n)) → (slice_get gs i ≡ Some x) ⊎ ((i ≡ length gs) × (g ≡ x)) → x.items ≡ split.of_name ids n (bs ++ b ∷ [])
         by (inl at) (inl held) = h.each i n x at held ∙ sym (of_other n (elim (by_cases (same_id n b.bound)) [
@@ -202,9 +196,6 @@ pub held_at : {X : Type 0} (xs : List X) (i : ℕ) (x : X) → i < length xs →
 held_at [] i x h e = absurd (omega (arith, h))
 held_at (y ∷ xs) zero x h e = ap Some (sym e)
 held_at (y ∷ xs) (suc i) x h e = held_at xs i x (omega (arith, h)) e
-
-pub get_within : {X : Type 0} (xs : List X) (i : ℕ) (x : X) → slice_get xs i ≡ Some x → i < length xs
-get_within = get_below
 
 pub name_at : (n : NameId) (ns : List NameId) (i : ℕ) → position (same_id n) ns ≡ Some i → slice_get ns i ≡ Some n
 name_at n [] i h = absurd (cc)

@@ -1,4 +1,4 @@
-//! Split names.
+//! Names with several targets in one module (split names), and what names ask for there.
 #![tactic(auto)]
 
 pub mod binders;

@@ -18,7 +18,7 @@ none_passes p (y ∷ xs) (suc i) k n h e = none_passes p xs i k (second (p y) (l
     second false b h = h
 
 -- the last element, or one before it
-get_cases : {X : Type 0} (xs : List X) (y : X) (i : ℕ) (x : X) → slice_get (xs ++ y ∷ []) i ≡ Some x → (slice_get xs i ≡ Some x) ⊎ ((i ≡ length xs) × (y ≡ x))
+pub get_cases : {X : Type 0} (xs : List X) (y : X) (i : ℕ) (x : X) → slice_get (xs ++ y ∷ []) i ≡ Some x → (slice_get xs i ≡ Some x) ⊎ ((i ≡ length xs) × (y ≡ x))
 get_cases [] y zero x h = inr (refl, cc)
 get_cases [] y (suc i) x h = absurd (cc)
 get_cases (z ∷ xs) y zero x h = inl h
