@@ -1,0 +1,9 @@
+pub mod Views
+pub mod Steps
+pub mod Nodes
+pub mod Outlines
+pub mod Turns
+pub mod FoundFlags
+pub mod Once
+pub mod Rows
+pub mod Bits

@@ -1,0 +1,9 @@
+pub mod Choices
+pub mod Kept
+pub mod Alive
+pub mod Positions
+pub mod Rows
+pub mod Sound
+pub mod Walk
+pub mod Views
+pub mod Noted
