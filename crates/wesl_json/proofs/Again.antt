@@ -11,7 +11,7 @@ use Rattle.wesl_tree.specs.Translation.{unit_view}
 use Rattle.wesl_tree.specs.declared.unit.TranslationUnit.{TranslationUnit}
 use Rattle.wesl_form.specs.Schema.{Spelled, SpelledForest, node, a_unit}
 use Rattle.wesl_form.specs.Reading.{reading}
-use Rattle.wesl_form.specs.Units.{form_of, shown_unit, unit_tree, written_as, IsNoUnit}
+use Rattle.wesl_form.specs.Units.{form_of, shown_unit, unit_tree, written_as, IsNoUnit, IsUnitOf}
 use Rattle.wesl_piece.specs.Readable as laws
 use Rattle.wesl_piece.specs.Readable.{are_readable, IsReadable, UnitsReadBack}
 use Rattle.wesl_reading.specs.Faults.{IfPlace}
@@ -138,8 +138,12 @@ module _ {I : Type 0} (f : I → Text) where
   twice_forest end = refl
   twice_forest (tree l children others) = rw (twice_label l, twice_forest children, twice_forest others) refl
 
-pub bare_placed : (u : UnitView) → bare (unit_tree (placed u)) ≡ unit_tree (spelled u)
+bare_placed : (u : UnitView) → bare (unit_tree (placed u)) ≡ unit_tree (spelled u)
 bare_placed u = ap (λ (ts : SpelledForest). record { label = kind unit; children = ts }) (bare_forest (name_in u.names) (forest_of_unit (trees_of u)))
+
+-- what a value stands for is spelled so
+pub spelled-read : (d : Data) (u : UnitView) → IsUnitOf d u → IsSpelled d (spelled u)
+spelled-read d u h = λ n low. ap (option_map bare) (h.read n low) ∙ ap Some (bare_placed u)
 
 bare_spelled : (u : UnitView) → bare (unit_tree (spelled u)) ≡ unit_tree (spelled u)
 bare_spelled u = ap (λ (ts : SpelledForest). record { label = kind unit; children = ts }) (twice_forest (name_in u.names) (forest_of_unit (trees_of u)))

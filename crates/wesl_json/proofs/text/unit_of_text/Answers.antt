@@ -1,15 +1,12 @@
 use Rattle.std.proofs.lemmas.Result.{IfOk-weaker, err_from_is_err_and}
 use Rattle.wesl_form.specs.View.{borrowed_view}
-use Rattle.std.specs.Prelude.{Some, option_map}
-use Rattle.std.proofs.Common.{ap, ◌∙◌}
 use Rattle.wesl_tree.specs.Translation.{unit_view}
-use Rattle.wesl_json.specs.UnitTexts.{bare}
-use Rattle.wesl_json.proofs.Again.{bare_placed}
+use Rattle.wesl_json.proofs.Again.{spelled-read}
 use Rattle.wesl_json.proofs.UnitTextLemmas.{both-err, unreadable, no-json}
 use Rattle.wesl_json.proofs.text.unit_of_text.Goals as goal
 
 pub returns-clause-read : goal.returns-clause-read
-returns-clause-read c = IfOk-weaker c.unit_of_borrowed.result _ _ (λ u h. (borrowed_view c.in_ok-value.value, c.in_ok-value.ensures.value, λ n low. ap (option_map bare) (h.read n low) ∙ ap Some (bare_placed (unit_view u)))) c.unit_of_borrowed.ensures.unit
+returns-clause-read c = IfOk-weaker c.unit_of_borrowed.result _ _ (λ u h. (borrowed_view c.in_ok-value.value, c.in_ok-value.ensures.value, spelled-read (borrowed_view c.in_ok-value.value) (unit_view u) h)) c.unit_of_borrowed.ensures.unit
 
 pub returns-clause-refused : goal.returns-clause-refused
 returns-clause-refused c =
