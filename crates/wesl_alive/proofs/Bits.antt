@@ -1,24 +1,22 @@
 -- The sets of the nodes of a judged list, for one choice.
 use Rattle.std.proofs.Common.{◌≡◌, ℕ, suc, Bool, true, false, not, ◌&&◌, cond, List, [], ◌∷◌, map, refl, sym, ap, ◌∙◌, subst}
-use Rattle.std.specs.Prelude.{Option, Some, None}
+use Rattle.std.specs.Prelude.{Option}
 use Rattle.wesl_chains.specs.Chains.{Condition, none, on, else_on, otherwise, follows_on}
-use Rattle.wesl_chains.specs.Formulas.{Form, value_under}
+use Rattle.wesl_chains.specs.Formulas.{Form}
 use Rattle.wesl_chains.specs.Picked.{Choice, is_true}
 use Rattle.wesl_alive.specs.Sound.{Outline, is_whole}
+use Rattle.wesl_alive.specs.Sets as sets
 use Rattle.wesl_alive.specs.Walk.{Branch, Here, bare_in, branches_of, formula_of, in_set, no_choices, places_of}
 use Rattle.wesl_alive.proofs.Turns.{Verdict, goes, stays, picked, verdict, verdicts}
 
 -- `has n` is whether set n has the choice; the empty one has none
 module _ {I : Type 0} (choice : Choice I) (has : ℕ → Bool) (has_none : has no_choices ≡ false) where
-  abbrev pub value : Option (Form I) → Bool
-  value None = true
-  value (Some f) = value_under choice f
+  abbrev value : Option (Form I) → Bool
+  value = sets.value choice
 
   -- the branches have these sets, from number `next` on; `free` where no branch before in the first one's chain was true
   abbrev pub AreSet : ℕ → Bool → List (Branch I) → Type 0
-  AreSet next free [] = Unit {0}
-  AreSet next free (b ∷ bs) =
-      (has next ≡ (has b.holder && (cond b.begins true free && value b.formula))) × AreSet (suc next) (cond b.begins true free && not (value b.formula)) bs
+  AreSet = sets.AreSet choice has
 
   -- what becomes of a node by where it stands
   abbrev pub told : Here → Verdict

@@ -74,7 +74,7 @@ module _ {I J : Type 0} (r : I → J) where
   identifier_natural true l = refl
   identifier_natural false l = refl
 
-  formula_natural : (l : LabelOf I) → is_formula (respell_label r l) ≡ is_formula l
+  pub formula_natural : (l : LabelOf I) → is_formula (respell_label r l) ≡ is_formula l
   formula_natural (kind k) = refl
   formula_natural l = refl
 

@@ -7,3 +7,11 @@ pub mod FoundFlags
 pub mod Once
 pub mod Rows
 pub mod Bits
+pub mod BranchSets
+pub mod Respelled
+pub mod KeptPlaces
+pub mod Growing
+pub mod Nested
+pub mod Marks
+pub mod AliveOf
+pub mod Numbers

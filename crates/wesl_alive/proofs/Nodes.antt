@@ -17,6 +17,7 @@ use Rattle.wesl_chains.specs.Nodes.{optional_forest}
 use Rattle.wesl_names.specs.declared.names.Ident.{Ident}
 use Rattle.wesl_names.specs.declared.path.ModulePath.{ModulePath}
 use Rattle.wesl_alive.specs.Positions.{size}
+use Rattle.wesl_alive.specs.Sets.{before_declarations}
 use Rattle.wesl_alive.specs.Sound.{Outline, outline_of, is_conditional}
 use Rattle.wesl_alive.specs.Walk.{Ahead, all_choices, in_set, plain, listed, leaf, bare, body, last, branches_of, Here, State, judged, next, places_in, standing, walk, whole_here, no_choices}
 use Rattle.wesl_alive.specs.Views.{state_of}
@@ -201,3 +202,7 @@ pub unit_joined : (s : State ℕ) (i d k i' d' k' : Tree) → i ≡ i' → d ≡
     → walked_as (listed []) (in_set all_choices) (walked_as (listed []) (in_set all_choices) (walked_as (listed []) (in_set all_choices) s i) d) k
     ≡ walk (plain (in_set all_choices)) s (forest_of_unit (record { imports = i'; directives = d'; declarations = k' }))
 unit_joined s i d k i' d' k' e f g = rw (e, f, g) refl
+
+pub before_joined : (s : State ℕ) (i d i' d' k : Tree) → i ≡ i' → d ≡ d'
+    → walked_as (listed []) (in_set all_choices) (walked_as (listed []) (in_set all_choices) s i) d ≡ before_declarations s (record { imports = i'; directives = d'; declarations = k })
+before_joined s i d i' d' k e f = rw (e, f) refl

@@ -1,11 +1,11 @@
 -- The flags of a module, and choices of them.
-use Rattle.std.specs.Prelude.{ℕ, Bool, ◌^◌, ◌/◌, ◌%◌, nat_eq, not, true, false, if◌then◌else◌, List, [], ◌∷◌, ◌++◌, length, bytes_eq}
+use Rattle.std.specs.Prelude.{◌≡◌, ℕ, Bool, ◌<◌, ◌^◌, ◌/◌, ◌%◌, nat_eq, not, true, false, if◌then◌else◌, List, [], ◌∷◌, ◌++◌, length, bytes_eq}
 use Rattle.std.specs.List.{filter, list_any}
-use Rattle.wesl_choices.specs.Choices.{below}
+use Rattle.wesl_choices.specs.Choices.{Choices, below, has}
 use Rattle.wesl_names.specs.Path.{Text}
 use Rattle.wesl_chains.specs.Flags.{flags_of}
 use Rattle.wesl_chains.specs.Picked.{Choice}
-use Rattle.wesl_syntax.specs.Unit.{UnitOf}
+use Rattle.wesl_syntax.specs.Unit.{UnitOf, name_in}
 
 -- each text once, where it stands first
 abbrev pub once : List Text → List Text
@@ -32,3 +32,11 @@ choice_of (f ∷ fs) k = λ flag. if bytes_eq f flag then nat_eq (k % 2) 1 else 
 -- the numbers of all choices of a module's flags
 abbrev pub all_choices : UnitOf Text → List ℕ
 all_choices u = below (2 ^ length (flags u))
+
+-- the same choice of flags that are numbers of a table, each by its name there
+abbrev pub choice_by : List Text → List Text → ℕ → Choice ℕ
+choice_by names fs k = λ number. choice_of fs k (name_in names number)
+
+-- a set has those choices of n flags of which this is true
+abbrev pub IsSetOf : ℕ → (ℕ → Bool) → Choices → Type 0
+IsSetOf n test c = (k : ℕ) → k < 2 ^ n → has c k ≡ test k

@@ -5,5 +5,6 @@ pub mod Positions
 pub mod Rows
 pub mod Sound
 pub mod Walk
+pub mod Sets
 pub mod Views
 pub mod Noted

@@ -1,32 +1,15 @@
 //! The flags of a unit.
 ghost use Rattle.std.specs.Prelude.{◌≡◌, IfOk, map};
 ghost use Rattle.wesl_base.specs.Borrowed.{texts};
-ghost use Rattle.wesl_syntax.specs.Unit.{forest_of_unit, name_in, spelled, trees_of};
+ghost use Rattle.wesl_syntax.specs.Unit.{name_in, spelled};
 ghost use Rattle.wesl_tree.specs.Translation.{unit_view};
 ghost use Rattle.wesl_alive.specs.Choices.{among, flags, once, with_text};
-ghost use Rattle.wesl_alive.specs.Noted.{Becomes};
-ghost use Rattle.wesl_alive.specs.Walk.{all_choices, in_set, plain, walk};
-ghost use Rattle.wesl_alive.specs.Views.{state_of};
 
 use crate::walk::Walk;
 use std::alloc::{AllocError, Global};
 use wesl_chains::name_of;
 use wesl_names::{Ident, Names};
 use wesl_tree::TranslationUnit;
-
-impl<'a> Walk<'a> {
-    /// The identifiers of a whole unit.
-    fn unit(&mut self, unit: &'a TranslationUnit)
-        ensures { Becomes self.old self.new (walk (plain (in_set all_choices)) (state_of self.old) (forest_of_unit (trees_of (unit_view unit.now)))) }
-    {
-        let statements = unit.imports();
-        let _ = self.imports(statements);
-        let directives = unit.global_directives();
-        self.directives(directives);
-        let declarations = unit.global_declarations();
-        let _ = self.globals(declarations);
-    }
-}
 
 /// Whether a text is one of these.
 fn is_among(found: &[&str], name: &str) -> bool
@@ -84,7 +67,7 @@ pub fn flags_of_unit<'a>(
     ensures { IfOk result (λ fs. texts fs.items ≡ flags (spelled (unit_view unit.now))) }
 {
     let mut walk = Walk::new(alloc);
-    walk.unit(unit);
+    let _ = walk.unit(unit);
     if walk.is_refused {
         return Err(AllocError);
     }

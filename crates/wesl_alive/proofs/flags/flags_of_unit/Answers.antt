@@ -14,7 +14,7 @@ returns c =
     let all = λ (s : State ℕ). walk (plain (in_set all_choices)) s (forest_of_unit (trees_of u)) in
     let k : c.unit.new.self.is_refused ≡ false = cc in
     let is : map (λ (i : Ident). i.0) c.deref.result.now ≡ (all (record { branches = []; marks = []; flags = [] })).flags =
-    ap (map (λ (i : Ident). i.0)) c.deref.ensures.value ∙ ap (λ (s : State ℕ). s.flags) (c.unit.ensures.found k ∙ ap all c.new-walk.ensures) in
+    ap (map (λ (i : Ident). i.0)) c.deref.ensures.value ∙ ap (λ (s : State ℕ). s.flags) (c.unit.ensures.found.found k ∙ ap all c.new-walk.ensures) in
     ok_map c.distinct.result _ _ (λ fs h.
     h ∙ (ap (λ ns. once (map (name_in ns) (map (λ (i : Ident). i.0) c.deref.result.now))) c.names.ensures.names
     ∙ (ap (λ xs. once (map (name_in u.names) xs)) is ∙ ap once (sym (flags_found u refl refl refl))))) c.distinct.ensures
