@@ -7,11 +7,13 @@ pub mod FoundFlags
 pub mod Once
 pub mod Rows
 pub mod Bits
+pub mod Grown
+pub mod Parts
+pub mod Marks
 pub mod BranchSets
 pub mod Respelled
 pub mod KeptPlaces
 pub mod Growing
 pub mod Nested
-pub mod Marks
 pub mod AliveOf
 pub mod Numbers
