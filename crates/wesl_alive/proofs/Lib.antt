@@ -7,6 +7,7 @@ pub mod FoundFlags
 pub mod Once
 pub mod Rows
 pub mod Bits
+pub mod Named
 pub mod Grown
 pub mod Parts
 pub mod Marks

@@ -19,3 +19,4 @@ pub use alive::alive_of;
 pub use flags::flags_of_unit;
 pub use formulas::formula_set;
 pub use laws::{law_of_positions, law_of_rows};
+pub use outline::Outline;
