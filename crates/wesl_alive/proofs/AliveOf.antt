@@ -1,5 +1,5 @@
 -- What each choice keeps of a module is told by the sets of the walk's branches.
-use Rattle.std.proofs.Common.{◌≡◌, ℕ, zero, suc, ◌+◌, ◌^◌, ◌<◌, Bool, true, false, if◌then◌else◌, List, [], ◌∷◌, ◌++◌, append-nil, length, map, filter, Some, refl, sym, ap, ◌∙◌, subst, arith}
+use Rattle.std.proofs.Common.{◌≡◌, ℕ, zero, suc, ◌+◌, ◌^◌, ◌<◌, Bool, true, false, List, [], ◌∷◌, ◌++◌, length, map, filter, refl, sym, ap, ◌∙◌, subst, arith}
 use Rattle.wesl_chains.specs.Lists.{elements}
 use Rattle.wesl_chains.specs.Picked.{Choice}
 use Rattle.wesl_choices.specs.Alive.{kept_by, kept_from, kept_lists, place_sets}
@@ -7,17 +7,19 @@ use Rattle.wesl_choices.specs.Choices.{Choices, below}
 use Rattle.wesl_choices.specs.declared.place.Place.{Place}
 use Rattle.wesl_choices.specs.declared.place.Place.TheVariants.{Import, Declaration, Name}
 use Rattle.wesl_names.specs.Path.{Text}
-use Rattle.wesl_syntax.specs.Tree.{Forest, ForestOf, end, tree, kind, identifiers, respell_forest, imports as imports_kind, directive_list, declarations as declarations_kind}
-use Rattle.wesl_syntax.specs.Unit.{UnitView, UnitOf, forest_of_unit, name_in, spelled, trees_of}
+use Rattle.wesl_syntax.specs.Tree.{Forest, ForestOf, LabelOf, end, tree, kind, identifiers, respell_forest, imports as imports_kind, directive_list, declarations as declarations_kind}
+use Rattle.wesl_syntax.specs.Unit.{UnitView, forest_of_unit, name_in, spelled, trees_of}
 use Rattle.wesl_alive.specs.Alive.{Numbered, alive_of, kept_numbers, kept_places, numbered}
 use Rattle.wesl_alive.specs.Choices.{choice_by, choice_of, flags}
-use Rattle.wesl_alive.specs.Kept.{kept_forest, kept_indexes}
+use Rattle.wesl_alive.specs.Kept.{kept_indexes}
 use Rattle.wesl_alive.specs.Sets.{AreSet, AreSetsOf, before_declarations, has_choice}
-use Rattle.wesl_alive.specs.Sound.{Outline, outline_of}
-use Rattle.wesl_alive.specs.Walk.{Branch, Here, Mark, Node, State, all_choices, branches_of, in_set, no_choices, places_in, plain, walk}
-use Rattle.wesl_alive.proofs.Growing.{count_from, counted, first_grows, marks_walked, names_of, named, sets_of_list}
+use Rattle.wesl_alive.specs.Sound.{outline_of}
+use Rattle.wesl_alive.specs.Walk.{Mark, Node, State, all_choices, branches_of, in_set, no_choices, outlines_at, places_in, plain, walk}
+use Rattle.wesl_alive.proofs.Counted.{count_from, counted, marks_walked, named}
+use Rattle.wesl_alive.proofs.Grown.{begin_sets, entry_sets, leave_sets}
 use Rattle.wesl_alive.proofs.KeptPlaces.{indexes_kept}
-use Rattle.wesl_alive.proofs.Respelled.{list_outlines, places_in_natural, respell_branch, respell_mark, respell_outline, respell_state, sets_spelled, sets_unspelled, walk_natural}
+use Rattle.wesl_alive.proofs.Marks.{marks_are}
+use Rattle.wesl_alive.proofs.Respelled.{list_outlines, places_in_natural, respell_mark, respell_state, sets_spelled, sets_unspelled, walk_natural}
 
 abbrev pub nothing : {I : Type 0} → State I
 nothing = record { branches = []; marks = []; flags = [] }
@@ -71,10 +73,7 @@ sets_of_marks r (m ∷ ms) = ap (λ ns. m.set ∷ ns) (sets_of_marks r ms)
 
 -- ---- one choice of a module
 
-module _ (marks_are : (I : Type 0) (choice : Choice I) (has : ℕ → Bool) → has no_choices ≡ false → has all_choices ≡ true → (f : ForestOf I)
-    → AreSet choice has 2 true (walk start nothing f).branches → map (λ m. m.name) (filter (λ m. has m.set) (walk start nothing f).marks) ≡ identifiers (kept_forest choice f))
-  (names : List Text) (ci cd ck : Forest) where
-
+module _ (names : List Text) (ci cd ck : Forest) where
   abbrev pub unit_with : UnitView
   unit_with = record {
     names = names;
@@ -96,8 +95,7 @@ module _ (marks_are : (I : Type 0) (choice : Choice I) (has : ℕ → Bool) → 
   before_it = before_declarations nothing (trees_of unit_with)
 
   module _ (choice : Choice Text) (sets : List Choices) (k : ℕ) (has_all : has_choice sets k all_choices ≡ true) (has_none : has_choice sets k no_choices ≡ false)
-    (told : AreSet (λ i. choice (r i)) (has_choice sets k) 2 true (walk start nothing forest).branches) where
-
+      (told : AreSet (λ i. choice (r i)) (has_choice sets k) 2 true (walk start nothing forest).branches) where
     -- over the spelled module
     spelled_sets : AreSet choice (has_choice sets k) 2 true (walk start nothing texts_forest).branches
     spelled_sets =
@@ -105,26 +103,32 @@ module _ (marks_are : (I : Type 0) (choice : Choice I) (has : ℕ → Bool) → 
         (sets_spelled r choice (has_choice sets k) (walk start nothing forest).branches 2 true told)
 
     -- a list of statements
-    list_kept : (place : ℕ → Place) (c : Forest) (s : State ℕ) (t : State Text) (bs : List (Branch Text)) → t ≡ respell_state r s
-        → (walk start nothing texts_forest).branches ≡ (t.branches ++ branches_of all_choices true (map outline_of (elements false (respell_forest r c)))) ++ bs
+    list_kept : (place : ℕ → Place) (c : Forest) (s : State ℕ) (t : State Text) → t ≡ respell_state r s
+        → (free : Bool) × AreSet choice (has_choice sets k) (2 + length t.branches) free (branches_of all_choices true (map outline_of (elements false (respell_forest r c))))
         → map place (kept_indexes choice (elements false (respell_forest r c))) ≡ kept_from sets k place 0 (map (λ h. h.set) (places_in all_choices (map outline_of (elements false c)) s))
-    list_kept place c s t bs e is =
+    list_kept place c s t e own =
         let os = map outline_of (elements false (respell_forest r c)) in
-        let own = sets_of_list choice (has_choice sets k) all_choices os t.branches bs 2 true (subst (AreSet choice (has_choice sets k) 2 true) is spelled_sets) in
-        indexes_kept choice sets k has_none place all_choices (elements false (respell_forest r c)) (2 + length t.branches) has_all own
+        indexes_kept choice sets k has_none place all_choices (elements false (respell_forest r c)) (2 + length t.branches) own.0 has_all own.1
         ∙ ap (λ hs. kept_from sets k place 0 (map (λ h. h.set) hs))
         (ap (λ u. places_in all_choices os u) e ∙ (ap (λ xs. places_in all_choices xs (respell_state r s)) (list_outlines r c) ∙ places_in_natural r all_choices (map outline_of (elements false c)) s))
 
+    -- the sets of the first list of trees
+    first_sets : (l : LabelOf Text) (c o : ForestOf Text) (t : State Text) → AreSet choice (has_choice sets k) 2 true (walk start t (tree l c o)).branches
+        → (free : Bool) × AreSet choice (has_choice sets k) (2 + length t.branches) free (branches_of all_choices true (outlines_at start l c))
+    first_sets l c o t set =
+        entry_sets choice (has_choice sets k) has_none start t l c
+        (begin_sets choice (has_choice sets k) has_none start t l c (leave_sets choice (has_choice sets k) has_none start t l c o set))
+
     imports_kept : map (λ j. Import j) (kept_indexes choice (elements false (respell_forest r ci))) ≡ kept_from sets k Import 0 (map (λ h. h.set) (places_in all_choices (map outline_of (elements false ci)) nothing))
     imports_kept =
-        let grown = first_grows (kind imports_kind) (respell_forest r ci) (tree (kind directive_list) (respell_forest r cd) (tree (kind declarations_kind) (respell_forest r ck) end)) start nothing in
-        list_kept Import ci nothing nothing grown.0 refl grown.1
+        list_kept Import ci nothing nothing refl
+        (first_sets (kind imports_kind) (respell_forest r ci) (tree (kind directive_list) (respell_forest r cd) (tree (kind declarations_kind) (respell_forest r ck) end)) nothing spelled_sets)
 
     declarations_kept : map (λ j. Declaration j) (kept_indexes choice (elements false (respell_forest r ck))) ≡ kept_from sets k Declaration 0 (map (λ h. h.set) (places_in all_choices (map outline_of (elements false ck)) before_it))
     declarations_kept =
         let t : State Text = before_declarations nothing (spelled unit_with) in
-        let grown = first_grows (kind declarations_kind) (respell_forest r ck) end start t in
-        list_kept Declaration ck before_it t grown.0 (walk_natural r (tree (kind imports_kind) ci (tree (kind directive_list) cd end)) start nothing) grown.1
+        list_kept Declaration ck before_it t (walk_natural r (tree (kind imports_kind) ci (tree (kind directive_list) cd end)) start nothing)
+        (first_sets (kind declarations_kind) (respell_forest r ck) end t spelled_sets)
 
     -- identifiers
     names_told : map (λ i. Name i) (kept_numbers (spelled unit_with) choice) ≡ kept_from sets k Name 0 (map (λ m. m.set) (walk start nothing forest).marks)
@@ -142,7 +146,7 @@ module _ (marks_are : (I : Type 0) (choice : Choice I) (has : ℕ → Bool) → 
         sym (sets_of_marks name w.marks)
         ∙ (ap (λ (s : State Text). map (λ (m : Mark Text). m.set) s.marks) (sym same ∙ walk_natural r forest start nothing)
         ∙ sets_of_marks r (walk start nothing forest).marks) in
-        ap (numbers sets k) (sym (marks_are (Numbered Text) (λ x. choice x.name) (has_choice sets k) has_none has_all f own))
+        ap (numbers sets k) (sym (marks_are (λ x. choice x.name) (has_choice sets k) has_none has_all f own))
         ∙ (names_kept sets k w.marks 0 (length (identifiers texts_forest)) counts
         ∙ ap (kept_from sets k Name 0) marks_same)
 

@@ -1,6 +1,6 @@
 -- The sets of branches, one branch after the other.
-use Rattle.std.proofs.Common.{◌≡◌, ℕ, zero, suc, ◌+◌, ◌^◌, ◌<◌, Bool, true, false, not, ◌&&◌, cond, List, [], ◌∷◌, ◌++◌, length, length-append, length-take-le, map, take, get_or, Contains, slice_get, Some, inl, inr, refl, sym, ap, ◌∙◌, subst, arith}
-use Rattle.std.specs.Prelude.{Option, nat_lt}
+use Rattle.std.proofs.Common.{◌≡◌, ℕ, zero, suc, ◌+◌, ◌^◌, ◌<◌, Bool, true, not, ◌&&◌, cond, List, [], ◌∷◌, ◌++◌, length, length-append, length-take-le, map, take, get_or, slice_get, Some, inl, inr, refl, sym, ap, ◌∙◌, subst, arith}
+use Rattle.std.specs.Prelude.{nat_lt}
 use Rattle.std.proofs.lemmas.Bool.{lt-ltb}
 use Rattle.std.proofs.lemmas.List.{length-map, map_more}
 use Rattle.std.proofs.lemmas.List.Elements.{Contains-append_cases}
@@ -38,9 +38,10 @@ module _ {I : Type 0} where
     sets_same h g [] next free d e s = tt
     sets_same h g (b ∷ bs) next free d e s =
         let low : b.holder < next + suc (length bs) = omega (arith, d.0) in
-        let own : next < next + suc (length bs) = omega arith in
-        (sym (e next own) ∙ s.0 ∙ ap (λ x. x && (left_at free b && value choice b.formula)) (e b.holder low),
-        sets_same h g bs (suc next) (left_at free b && not (value choice b.formula)) d.1 (λ n l. let m : n < next + suc (length bs) = omega arith in e n m) s.1)
+        let own : next < next + suc (length bs) = omega arith in (
+          sym (e next own) ∙ s.0 ∙ ap (λ x. x && (left_at free b && value choice b.formula)) (e b.holder low),
+          sets_same h g bs (suc next) (left_at free b && not (value choice b.formula)) d.1 (λ n l. let m : n < next + suc (length bs) = omega arith in e n m) s.1,
+        )
 
   module _ {X : Type 0} (view : X → Branch I) where
     pub nested_take : (xs : List X) (i next : ℕ) → AreNested next (map view xs) → AreNested next (map view (take i xs))

@@ -35,7 +35,7 @@ module _ {I : Type 0} where
   judged_grows holder [] s = grows_not s s refl
   judged_grows holder (x ∷ xs) s = (branches_of holder true (x ∷ xs), refl)
 
-  flagged_branches : (l : LabelOf I) (here : Here) (s : State I) → (flagged l here s).branches ≡ s.branches
+  pub flagged_branches : (l : LabelOf I) (here : Here) (s : State I) → (flagged l here s).branches ≡ s.branches
   flagged_branches (ident r x) here s = refl
   flagged_branches l here s = refl
 

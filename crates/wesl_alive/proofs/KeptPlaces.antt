@@ -1,9 +1,9 @@
 -- What a choice keeps of the nodes of a judged list is told by where they stand.
-use Rattle.std.proofs.Common.{◌≡◌, ℕ, zero, suc, Bool, true, false, cond, if◌then◌else◌, List, [], ◌∷◌, ◌++◌, length, map, Some, refl, sym, ap, ◌∙◌}
+use Rattle.std.proofs.Common.{◌≡◌, ℕ, suc, Bool, true, false, if◌then◌else◌, List, [], ◌∷◌, ◌++◌, length, map, refl, sym, ap, ◌∙◌}
 use Rattle.std.proofs.lemmas.List.{length-map}
 use Rattle.wesl_chains.specs.Lists.{Element}
 use Rattle.wesl_chains.specs.Picked.{Choice}
-use Rattle.wesl_choices.specs.Alive.{has_at, kept_from}
+use Rattle.wesl_choices.specs.Alive.{kept_from}
 use Rattle.wesl_choices.specs.Choices.{Choices}
 use Rattle.wesl_choices.specs.declared.place.Place.{Place}
 use Rattle.wesl_alive.specs.Kept.{kept_indexes, numbered_element, numbered_from}
@@ -11,7 +11,8 @@ use Rattle.wesl_alive.specs.Sets.{AreSet, has_choice}
 use Rattle.wesl_alive.specs.Sound.{Outline, outline_of, is_whole}
 use Rattle.wesl_alive.specs.Walk.{Here, branches_of, no_choices, places_of}
 use Rattle.wesl_alive.proofs.Bits.{places_told, told}
-use Rattle.wesl_alive.proofs.Turns.{Verdict, goes, stays, picked, IsTold, all_become, become, kept_is, verdicts}
+use Rattle.wesl_alive.proofs.Parts.{free_ignored}
+use Rattle.wesl_alive.proofs.Turns.{Verdict, all_become, become, kept_is, verdicts}
 
 module _ {I : Type 0} where
   outlines_numbered : (xs : List (Element I)) (j : ℕ) → map (λ (x : Element I × ℕ). outline_of x.0) (numbered_from j xs) ≡ map outline_of xs
@@ -55,11 +56,11 @@ module _ {I : Type 0} where
     all_kept (h ∷ hs) (x ∷ xs) j e = one_kept h x j (all (map turn hs) (numbered_from (suc j) xs)) (kept_from sets k place (suc j) (map (λ y. y.set) hs)) (has_choice sets k h.set) h.is_bare refl refl (all_kept hs xs (suc j) (cc))
 
     -- the nodes of a judged list that are kept are those in whose sets the choice is
-    pub indexes_kept : (holder : ℕ) (xs : List (Element I)) (n : ℕ) → has_choice sets k holder ≡ true → AreSet choice (has_choice sets k) n true (branches_of holder true (map outline_of xs))
+    pub indexes_kept : (holder : ℕ) (xs : List (Element I)) (n : ℕ) (free : Bool) → has_choice sets k holder ≡ true → AreSet choice (has_choice sets k) n free (branches_of holder true (map outline_of xs))
         → map place (kept_indexes choice xs) ≡ kept_from sets k place 0 (map (λ h. h.set) (places_of holder n true (map outline_of xs)))
-    indexes_kept holder xs n alive set =
+    indexes_kept holder xs n free alive set =
         let hs = places_of holder n true (map outline_of xs) in
         ap numbers (kept_is numbered_element (λ (y : Element I × ℕ). y.0) (record { voids = λ y. refl; conditions = λ y. refl }) choice (λ y e. refl) (numbered_from 0 xs))
         ∙ (ap (λ os. numbers (all (verdicts choice true true os) (numbered_from 0 xs))) (outlines_numbered xs 0)
-        ∙ (ap (λ vs. numbers (all vs (numbered_from 0 xs))) (sym (places_told choice (has_choice sets k) has_none holder alive (map outline_of xs) true true n set))
+        ∙ (ap (λ vs. numbers (all vs (numbered_from 0 xs))) (sym (places_told choice (has_choice sets k) has_none holder alive (map outline_of xs) true free n set ∙ free_ignored choice free (map outline_of xs)))
         ∙ all_kept hs xs 0 (place_count holder n true (map outline_of xs) ∙ length-map xs outline_of)))

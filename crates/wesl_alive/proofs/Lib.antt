@@ -14,7 +14,7 @@ pub mod Marks
 pub mod BranchSets
 pub mod Respelled
 pub mod KeptPlaces
-pub mod Growing
+pub mod Counted
 pub mod Nested
 pub mod AliveOf
 pub mod Numbers

@@ -1,14 +1,13 @@
 -- The list of each branch is held in a set before its own.
-use Rattle.std.proofs.Common.{◌≡◌, ℕ, zero, suc, ◌+◌, ◌<◌, ◌≤◌, Bool, true, false, not, ◌&&◌, cond, List, [], ◌∷◌, ◌++◌, length, length-append, map, drop, refl, sym, ap, ◌∙◌, subst, arith}
-use Rattle.wesl_chains.specs.Chains.{follows_on}
+use Rattle.std.proofs.Common.{◌≡◌, ℕ, zero, suc, ◌+◌, ◌<◌, ◌≤◌, Bool, true, false, ◌&&◌, cond, List, [], ◌∷◌, ◌++◌, append-nil, length, length-append, drop, refl, sym, ap, ◌∙◌, subst, arith}
 use Rattle.wesl_chains.specs.Conditions.{condition_at, is_list, is_statements}
 use Rattle.wesl_chains.specs.Lists.{is_closed, is_compound, is_entered}
 use Rattle.wesl_syntax.specs.Nodes.{is_attributes}
 use Rattle.wesl_syntax.specs.Tree.{LabelOf, ForestOf, end, tree}
 use Rattle.wesl_alive.specs.Sets.{AreNested}
 use Rattle.wesl_alive.specs.Sound.{Outline, is_conditional, is_whole}
-use Rattle.wesl_alive.specs.Walk.{Ahead, listed, leaf, bare, closing, body, last, past, inner, inside, beyond, Branch, Here, Node, State, after, ahead_in, ahead_inside, attributes_in_turn, branches_of, entered, formula_of, next, or_marked, outlines_at, places_in, places_of, set_count, standing, statement_count, statements_ahead, body_ahead, last_ahead, walk}
-use Rattle.wesl_alive.proofs.Growing.{begun, begun_branches, grows, marked_branches, own_branches}
+use Rattle.wesl_alive.specs.Walk.{Ahead, listed, leaf, bare, closing, body, last, past, inner, inside, beyond, Branch, Here, Node, State, after, ahead_in, ahead_inside, attributes_in_turn, branches_of, flagged, judged, next, outlines_at, places_of, set_count, standing, statement_count, statements_ahead, body_ahead, last_ahead, walk}
+use Rattle.wesl_alive.proofs.Grown.{at_entry, at_leave, flagged_branches, marked_branches, node_in, passed, places_at, walk_grows}
 
 -- places in the first n sets
 abbrev AreLow : ℕ → List Here → Type 0
@@ -171,31 +170,39 @@ module _ {I : Type 0} where
 
   -- ---- the walk
 
+  judged_branches : (holder : ℕ) (xs : List (Outline I)) (s : State I) → (judged holder xs s).branches ≡ s.branches ++ branches_of holder true xs
+  judged_branches holder [] s = sym (append-nil s.branches)
+  judged_branches holder (x ∷ xs) s = refl
+
+  abbrev own_branches : Node → LabelOf I → ForestOf I → List (Branch I)
+  own_branches node l c = branches_of (standing node.here node.ahead c).set true (outlines_at node l c)
+
+  entry_branches : (node : Node) (s : State I) (l : LabelOf I) (c : ForestOf I) → (at_entry node s l c).branches ≡ s.branches ++ own_branches node l c
+  entry_branches node s l c =
+      let here = standing node.here node.ahead c in
+      judged_branches here.set (outlines_at node l c) (flagged l here s) ∙ ap (λ bs. bs ++ own_branches node l c) (flagged_branches l here s)
+
   pub walk_nested : (f : ForestOf I) (node : Node) (s : State I) → node.here.set < set_count s → IsLow (set_count s) node.ahead → AreNested 2 s.branches → AreNested 2 (walk node s f).branches
   walk_nested end node s low all d = d
   walk_nested (tree l c o) node s low all d =
       let here = standing node.here node.ahead c in
       let list = outlines_at node l c in
-      let places = places_in here.set list s in
-      let into = entered node l c places in
-      let start = begun node s l c in
-      let found = walk into start c in
-      let n = set_count s in
-      let two : 1 < n = omega arith in
-      let stands : here.set < n = low_standing n node.here node.ahead c two low all in
+      let places = places_at node s l c in
+      let entry = at_entry node s l c in
+      let leave = at_leave node s l c in
+      let next_one = passed node s l c in
       let own = own_branches node l c in
-      let is : start.branches ≡ s.branches ++ own = begun_branches node s l c in
-      let m = set_count start in
-      let sizes : length start.branches ≡ length s.branches + length own = ap length is ∙ length-append s.branches own in
+      let n = set_count s in
+      let m = set_count entry in
+      let stands : here.set < n = low_standing n node.here node.ahead c (omega arith) low all in
+      let is : entry.branches ≡ s.branches ++ own = entry_branches node s l c in
+      let sizes : length entry.branches ≡ length s.branches + length own = ap length is ∙ length-append s.branches own in
       let counted : n + length own ≡ m = omega (arith, sizes) in
-      let more : n ≤ m = omega (arith, sizes) in
-      let new : AreLow m places = subst (λ k. AreLow k places) counted (low_places here.set list n true stands two) in
-      let nested : AreNested 2 start.branches = subst (AreNested 2) (sym is) (nested_both s.branches own 2 d (list_nested here.set list n true stands)) in
-      let inner = walk_nested c into start (omega arith) (low_ahead m node.ahead here l places (is_low_in n m node.ahead more all) new) nested in
-      let grown = grows c into start in
-      let marked = or_marked l here s found in
-      let same : marked.branches ≡ found.branches = marked_branches l here s found in
-      let sizes' : length found.branches ≡ length start.branches + length grown.0 = ap length grown.1 ∙ length-append start.branches grown.0 in
-      let last_is : set_count marked ≡ set_count found = ap (λ bs. 2 + length bs) same in
-      let most : n ≤ set_count marked = omega arith in
-      walk_nested o (after node c) marked (omega arith) (is_low_in n (set_count marked) (next node.ahead c) most (low_next n node.ahead c all)) (subst (AreNested 2) (sym same) inner)
+      let new : AreLow m places = subst (λ k. AreLow k places) counted (low_places here.set list n true stands (omega arith)) in
+      let nested : AreNested 2 entry.branches = subst (AreNested 2) (sym is) (nested_both s.branches own 2 d (list_nested here.set list n true stands)) in
+      let inner = walk_nested c (node_in node s l c) entry (omega arith) (low_ahead m node.ahead here l places (is_low_in n m node.ahead (omega (arith, sizes)) all) new) nested in
+      let grown = walk_grows c (node_in node s l c) entry in
+      let same : next_one.branches ≡ leave.branches = marked_branches l here s leave in
+      let last_size : length next_one.branches ≡ length entry.branches + length grown.0 = ap length same ∙ (ap length grown.1 ∙ length-append entry.branches grown.0) in
+      let most : n ≤ set_count next_one = omega (arith, sizes, last_size) in
+      walk_nested o (after node c) next_one (omega arith) (is_low_in n (set_count next_one) (next node.ahead c) most (low_next n node.ahead c all)) (subst (AreNested 2) (sym same) inner)

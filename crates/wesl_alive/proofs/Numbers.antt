@@ -1,5 +1,5 @@
 -- The numbers of the sets of what the code has found.
-use Rattle.std.proofs.Common.{◌≡◌, ℕ, List, [], ◌∷◌, map, refl, ap}
+use Rattle.std.proofs.Common.{◌≡◌, List, [], ◌∷◌, map, refl, ap}
 use Rattle.wesl_alive.specs.Views.{here_view, mark_view}
 use Rattle.wesl_alive.specs.declared.walk.Here.{Here}
 use Rattle.wesl_alive.specs.declared.walk.Mark.{Mark}

@@ -1,9 +1,8 @@
 -- Identifiers replaced: the walk over a module with other identifiers is the walk over it, with those.
-use Rattle.std.proofs.Common.{◌≡◌, ℕ, suc, ◌+◌, Bool, true, false, not, ◌&&◌, cond, List, [], ◌∷◌, ◌++◌, length, map, drop, refl, sym, ap, ◌∙◌, subst}
+use Rattle.std.proofs.Common.{◌≡◌, ℕ, suc, ◌+◌, Bool, true, false, not, ◌&&◌, cond, List, [], ◌∷◌, ◌++◌, map, drop, refl, sym, ap, ◌∙◌, subst}
 use Rattle.std.specs.Prelude.{◌||◌, Option, Some, None}
 use Rattle.std.specs.Option.{option_map}
 use Rattle.std.proofs.lemmas.List.{length-map, map-append}
-use Rattle.std.specs.List.{flat_map}
 use Rattle.wesl_features.specs.declared.features.Feature.TheVariants.{Keep}
 use Rattle.wesl_features.specs.declared.features.Truth.TheVariants.{Undecided}
 use Rattle.wesl_chains.specs.Chains.{Condition, none, on, else_on, otherwise, follows_on}
@@ -11,14 +10,14 @@ use Rattle.wesl_chains.specs.Conditions.{condition_at, attributes_in, is_stateme
 use Rattle.wesl_chains.specs.Faults.{and_rest, body_list, closed_list, condition_faults, conditions, list_at}
 use Rattle.wesl_chains.specs.FormulaFaults.{Fault, formula_faults}
 use Rattle.wesl_chains.specs.Formulas.{Form, always, never, flag, templated, within, negation, conjunction, disjunction, other, value_under}
-use Rattle.wesl_chains.specs.Lists.{Element, element, elements, is_closed, is_compound, is_entered, is_option}
+use Rattle.wesl_chains.specs.Lists.{Element, elements, is_closed, is_compound, is_option}
 use Rattle.wesl_chains.proofs.Natural.{respell_form, respell_condition, respell_element, attributes_natural, list_natural, statements_natural, closed_natural, compound_natural, option_natural, entered_natural, void_natural, cond_natural, attributes_in_natural, elements_natural, condition_natural, condition_in_natural}
-use Rattle.wesl_syntax.specs.Tree.{LabelOf, ForestOf, end, tree, kind, at, ident, statement_node, declaration_node, respell_label, respell_forest}
+use Rattle.wesl_syntax.specs.Tree.{LabelOf, ForestOf, end, tree, ident, respell_label, respell_forest}
 use Rattle.wesl_alive.specs.Kept.{is_faultless}
 use Rattle.wesl_alive.specs.Positions.{size}
 use Rattle.wesl_alive.specs.Sets.{AreSet, value}
 use Rattle.wesl_alive.specs.Sound.{Outline, are_clean, are_clean_after, outline_of, is_conditional, opens_chain, is_rest_sound, is_chain_sound, is_whole}
-use Rattle.wesl_alive.specs.Walk.{Ahead, listed, leaf, bare, closing, body, last, past, inner, inside, beyond, Branch, Here, Mark, Node, State, after, ahead_in, bare_in, branches_of, entered, flagged, formula_of, in_set, is_held, judged, list_in, next, no_choices, or_marked, outlines_at, places_in, places_of, set_count, standing, statement_count, statements_ahead, body_ahead, last_ahead, walk}
+use Rattle.wesl_alive.specs.Walk.{Ahead, listed, leaf, bare, closing, body, last, Branch, Here, Mark, Node, State, after, ahead_in, bare_in, branches_of, entered, flagged, formula_of, in_set, is_held, judged, list_in, next, no_choices, or_marked, outlines_at, places_in, places_of, set_count, standing, statement_count, statements_ahead, body_ahead, last_ahead, walk}
 use Rattle.wesl_alive.proofs.FoundFlags.{formula_natural}
 use Rattle.wesl_alive.proofs.Turns.{faultless_both}
 
@@ -276,14 +275,16 @@ module _ {I J : Type 0} (r : I → J) where
 
   pub sets_spelled : (choice : J → Bool) (has : ℕ → Bool) (bs : List (Branch I)) (n : ℕ) (free : Bool) → AreSet (λ i. choice (r i)) has n free bs → AreSet choice has n free (map respell_branch bs)
   sets_spelled choice has [] n free s = tt
-  sets_spelled choice has (b ∷ bs) n free s =
-      (s.0 ∙ ap (λ v. has b.holder && (cond b.begins true free && v)) (sym (option_value choice b.formula)),
-      subst (λ f. AreSet choice has (suc n) f (map respell_branch bs)) (ap (λ v. cond b.begins true free && not v) (sym (option_value choice b.formula)))
-      (sets_spelled choice has bs (suc n) (cond b.begins true free && not (value (λ i. choice (r i)) b.formula)) s.1))
+  sets_spelled choice has (b ∷ bs) n free s = (
+    s.0 ∙ ap (λ v. has b.holder && (cond b.begins true free && v)) (sym (option_value choice b.formula)),
+    subst (λ f. AreSet choice has (suc n) f (map respell_branch bs)) (ap (λ v. cond b.begins true free && not v) (sym (option_value choice b.formula)))
+        (sets_spelled choice has bs (suc n) (cond b.begins true free && not (value (λ i. choice (r i)) b.formula)) s.1),
+  )
 
   pub sets_unspelled : (choice : J → Bool) (has : ℕ → Bool) (bs : List (Branch I)) (n : ℕ) (free : Bool) → AreSet choice has n free (map respell_branch bs) → AreSet (λ i. choice (r i)) has n free bs
   sets_unspelled choice has [] n free s = tt
-  sets_unspelled choice has (b ∷ bs) n free s =
-      (s.0 ∙ ap (λ v. has b.holder && (cond b.begins true free && v)) (option_value choice b.formula),
-      sets_unspelled choice has bs (suc n) (cond b.begins true free && not (value (λ i. choice (r i)) b.formula))
-      (subst (λ f. AreSet choice has (suc n) f (map respell_branch bs)) (ap (λ v. cond b.begins true free && not v) (option_value choice b.formula)) s.1))
+  sets_unspelled choice has (b ∷ bs) n free s = (
+    s.0 ∙ ap (λ v. has b.holder && (cond b.begins true free && v)) (option_value choice b.formula),
+    sets_unspelled choice has bs (suc n) (cond b.begins true free && not (value (λ i. choice (r i)) b.formula))
+        (subst (λ f. AreSet choice has (suc n) f (map respell_branch bs)) (ap (λ v. cond b.begins true free && not v) (option_value choice b.formula)) s.1),
+  )

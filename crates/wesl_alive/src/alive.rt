@@ -38,11 +38,7 @@ fn numbers_of_marks(alloc: Global, marks: &[Mark]) -> Result<Vec<usize>, AllocEr
 ///
 /// # Errors
 /// Want of memory.
-pub fn alive_of(
-    alloc: Global,
-    unit: &TranslationUnit,
-    flags: &[&str],
-) -> Result<Alive, AllocError>
+pub fn alive_of(alloc: Global, unit: &TranslationUnit, flags: &[&str]) -> Result<Alive, AllocError>
     requires few { length flags.now ≤ 16 }
     requires all { texts flags.now ≡ choices.flags (spelled (unit_view unit.now)) }
     ensures { IfOk result (λ x. x ≡ alive_of (spelled (unit_view unit.now))) }

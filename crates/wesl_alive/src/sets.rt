@@ -1,5 +1,5 @@
 //! The sets of choices that a walk numbers.
-ghost use Rattle.std.specs.Prelude.{◌≡◌, ◌<◌, ◌≤◌, ◌^◌, ℕ, ◌+◌, ◌∷◌, ◌++◌, ◌&&◌, [], IfOk, Some, cond, length, map, not, slice_get, true};
+ghost use Rattle.std.specs.Prelude.{◌≡◌, ◌<◌, ◌≤◌, ℕ, [], IfOk, Some, cond, length, map, true};
 ghost use Rattle.std.specs.Option.{option_map};
 ghost use Rattle.wesl_base.specs.Borrowed.{texts};
 ghost use Rattle.wesl_chains.specs.Formulas.{form};

@@ -1,4 +1,4 @@
-use Rattle.std.proofs.Common.{◌≡◌, ℕ, ◌∙◌, ap, sym, refl, subst, false, true, [], List, length, map, arith}
+use Rattle.std.proofs.Common.{◌≡◌, ℕ, ◌∙◌, ap, sym, subst, false, length, map, arith}
 use Rattle.std.proofs.lemmas.List.{length-map}
 use Rattle.wesl_base.specs.Borrowed.{texts}
 use Rattle.wesl_syntax.specs.Unit.{forest_of_unit, trees_of}
@@ -7,11 +7,10 @@ use Rattle.wesl_chains.specs.Lists.{elements}
 use Rattle.wesl_alive.specs.Choices.{choice_by}
 use Rattle.wesl_alive.specs.Sets.{AreNested, AreSetsOf, before_declarations}
 use Rattle.wesl_alive.specs.Sound.{outline_of}
-use Rattle.wesl_alive.specs.Views.{branch_view, here_view, mark_view, state_of}
-use Rattle.wesl_alive.specs.Walk.{Branch, Here, Mark, State, all_choices, places_in, walk}
+use Rattle.wesl_alive.specs.Views.{branch_view, state_of}
+use Rattle.wesl_alive.specs.Walk.{Here, Mark, State, all_choices, places_in, walk}
 use Rattle.wesl_alive.specs.declared.walk.Here as code_here
 use Rattle.wesl_alive.proofs.AliveOf.{alive_is, nothing, start}
-use Rattle.wesl_alive.proofs.Marks.{marks_are}
 use Rattle.wesl_alive.proofs.Nested.{walk_nested}
 use Rattle.wesl_alive.proofs.Numbers.{numbers_of_marks, numbers_of_places}
 use Rattle.wesl_alive.proofs.alive.alive_of.Goals as goal
@@ -44,6 +43,6 @@ returns c =
     let marks : c.in_ok-names.names.items ≡ map (λ (m : Mark ℕ). m.set) (walk start nothing forest).marks =
     c.in_ok-names.ensures ∙ (ap (map (λ m. m.set)) c.deref-4.ensures.value ∙ (numbers_of_marks c.unit-places.new.self.marks.items ∙ ap (λ (s : State ℕ). map (λ (m : Mark ℕ). m.set) s.marks) is)) in
     c.new.ensures
-    ∙ alive_is (λ I choice has none all f s. marks_are choice has none all f s) u.names u.imports.children u.directives.children u.declarations.children
+    ∙ alive_is u.names u.imports.children u.directives.children u.declarations.children
     n fs c.in_ok-sets.sets.items c.in_ok-imports.imports.items c.in_ok-declarations.declarations.items c.in_ok-names.names.items
     (sym (length-map c.args.flags.now _)) c.requires.all told imports declarations marks

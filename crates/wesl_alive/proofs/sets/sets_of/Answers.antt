@@ -1,4 +1,4 @@
-use Rattle.std.proofs.Common.{◌≡◌, ℕ, ◌+◌, ◌<◌, ◌^◌, ◌∷◌, ◌++◌, [], length, map, take, ap, sym, ◌∙◌, subst, arith}
+use Rattle.std.proofs.Common.{◌≡◌, ℕ, ◌+◌, ◌<◌, ◌^◌, ◌∷◌, ◌++◌, [], length, map, take, sym, ◌∙◌, subst, arith}
 use Rattle.wesl_base.specs.Borrowed.{texts}
 use Rattle.wesl_choices.proofs.Kept.{there}
 use Rattle.wesl_alive.specs.Choices.{choice_by}

@@ -1,4 +1,4 @@
-use Rattle.std.proofs.Common.{◌≡◌, ◌∙◌, ap, false, map}
+use Rattle.std.proofs.Common.{◌∙◌, ap, false, map}
 use Rattle.wesl_chains.specs.Lists.{elements}
 use Rattle.wesl_syntax.specs.Tree.{Tree}
 use Rattle.wesl_tree.specs.Translation.{unit_view}
