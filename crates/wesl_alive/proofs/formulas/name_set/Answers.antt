@@ -1,4 +1,4 @@
-use Rattle.std.proofs.Common.{◌≡◌, ◌∙◌, ◌<◌, length, sym, arith}
+use Rattle.std.proofs.Common.{◌∙◌, ◌<◌, length, sym, arith}
 use Rattle.wesl_alive.proofs.Named.{choice_later}
 use Rattle.wesl_alive.proofs.formulas.name_set.Goals as goal
 
