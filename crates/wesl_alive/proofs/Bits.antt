@@ -1,12 +1,12 @@
 -- The sets of the nodes of a judged list, for one choice.
-use Rattle.std.proofs.Common.{◌≡◌, ℕ, suc, Bool, true, false, not, ◌&&◌, cond, List, [], ◌∷◌, map, refl, sym, ap, ◌∙◌, subst}
+use Rattle.std.proofs.Common.{◌≡◌, ℕ, suc, Bool, true, false, not, ◌&&◌, cond, List, [], ◌∷◌, map, refl, ap, ◌∙◌, subst}
 use Rattle.std.specs.Prelude.{Option}
 use Rattle.wesl_chains.specs.Chains.{Condition, none, on, else_on, otherwise, follows_on}
 use Rattle.wesl_chains.specs.Formulas.{Form}
 use Rattle.wesl_chains.specs.Picked.{Choice, is_true}
 use Rattle.wesl_alive.specs.Sound.{Outline, is_whole}
 use Rattle.wesl_alive.specs.Sets as sets
-use Rattle.wesl_alive.specs.Walk.{Branch, Here, bare_in, branches_of, formula_of, in_set, no_choices, places_of}
+use Rattle.wesl_alive.specs.Walk.{Branch, Here, bare_in, branches_of, formula_of, no_choices, places_of}
 use Rattle.wesl_alive.proofs.Turns.{Verdict, goes, stays, picked, verdict, verdicts}
 
 -- `has n` is whether set n has the choice; the empty one has none

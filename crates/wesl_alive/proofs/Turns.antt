@@ -1,10 +1,10 @@
 -- What a choice keeps of a list, node by node.
-use Rattle.std.proofs.Common.{◌≡◌, Bool, true, false, not, ◌&&◌, cond, List, [], ◌∷◌, ◌++◌, map, filter, refl, sym, ap, ◌∙◌, subst, append_assoc}
+use Rattle.std.proofs.Common.{◌≡◌, Bool, true, false, not, ◌&&◌, cond, List, [], ◌∷◌, ◌++◌, map, filter, refl, sym, ap, ◌∙◌}
 use Rattle.std.specs.List.{flat_map}
 use Rattle.wesl_features.specs.declared.chain.Role.TheVariants.{Plain}
 use Rattle.wesl_features.specs.declared.features.Feature.TheVariants.{Keep}
 use Rattle.wesl_chains.specs.Chains.{Condition, none, on, else_on, otherwise, follows_on, Judged, is_node, is_branch, attach, chains}
-use Rattle.wesl_chains.specs.Conditions.{condition_at, first_condition, or_next, attributes_in, is_void}
+use Rattle.wesl_chains.specs.Conditions.{condition_at, first_condition, or_next, attributes_in}
 use Rattle.wesl_chains.specs.Faults.{condition_faults, and_rest, conditions, opens, place_faults, list_faults}
 use Rattle.wesl_chains.specs.FormulaFaults.{Fault}
 use Rattle.wesl_chains.specs.Lists.{Element}

@@ -1,5 +1,5 @@
 -- Which places of a module some choice of flags keeps together.
-use Rattle.std.specs.Prelude.{ℕ, zero, ◌+◌, ◌^◌, Bool, false, List, [], ◌∷◌, ◌++◌, map, length}
+use Rattle.std.specs.Prelude.{ℕ, ◌+◌, Bool, false, List, ◌++◌, map, length}
 use Rattle.wesl_names.specs.Path.{Text}
 use Rattle.wesl_chains.specs.Lists.{elements}
 use Rattle.wesl_chains.specs.Picked.{Choice}

@@ -1,5 +1,5 @@
 -- The flags of a module, and choices of them.
-use Rattle.std.specs.Prelude.{◌≡◌, ℕ, Bool, ◌<◌, ◌^◌, ◌/◌, ◌%◌, nat_eq, not, true, false, if◌then◌else◌, List, [], ◌∷◌, ◌++◌, length, bytes_eq}
+use Rattle.std.specs.Prelude.{◌≡◌, ℕ, Bool, ◌<◌, ◌^◌, ◌/◌, ◌%◌, nat_eq, not, false, if◌then◌else◌, List, [], ◌∷◌, ◌++◌, length, bytes_eq}
 use Rattle.std.specs.List.{filter, list_any}
 use Rattle.wesl_choices.specs.Choices.{Choices, below, has}
 use Rattle.wesl_names.specs.Path.{Text}

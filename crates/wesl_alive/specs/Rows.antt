@@ -1,12 +1,11 @@
 -- Rows.
-use Rattle.std.specs.Prelude.{◌≡◌, ℕ, true, false, List, [], ◌∷◌, length}
+use Rattle.std.specs.Prelude.{◌≡◌, true, false, [], ◌∷◌, length}
 use Rattle.wesl_names.specs.Path.{Text}
-use Rattle.wesl_syntax.specs.Tree.{ForestOf, TreeOf, end, tree, kind, at, ident, absent, present, binder, word, branch, attributes, if_attribute, elif_attribute, else_attribute, expression_node, statement_node, type_or_identifier, type_expression, declaration as declaration_kind, declaration_node, attribute_node, imports, directive_list, declarations, function, parameters, compound, statements, loop, continuing, discard, break_if}
+use Rattle.wesl_syntax.specs.Tree.{ForestOf, end, tree, kind, at, ident, absent, present, binder, word, branch, attributes, if_attribute, elif_attribute, else_attribute, expression_node, statement_node, type_or_identifier, type_expression, declaration as declaration_kind, declaration_node, attribute_node, imports, directive_list, declarations, function, parameters, compound, statements, loop, continuing, discard, break_if}
 use Rattle.wesl_syntax.specs.Unit.{UnitOf}
-use Rattle.wesl_choices.specs.declared.place.Place.{Place}
 use Rattle.wesl_choices.specs.declared.place.Place.TheVariants.{Always, Import, Declaration, Name}
-use Rattle.wesl_alive.specs.Choices.{flags, choice_of}
-use Rattle.wesl_alive.specs.Alive.{kept_numbers, alive_of, are_together}
+use Rattle.wesl_alive.specs.Choices.{flags}
+use Rattle.wesl_alive.specs.Alive.{alive_of, are_together}
 use Rattle.wesl_alive.specs.Positions.{are_alive_together}
 
 abbrev pub X : Text

@@ -6,7 +6,7 @@ use Rattle.wesl_chains.specs.Conditions.{first_condition, attributes_in, is_void
 use Rattle.wesl_chains.specs.Faults.{condition_faults, conditions}
 use Rattle.wesl_chains.specs.Lists.{Element}
 use Rattle.wesl_alive.specs.Kept.{is_faultless}
-use Rattle.wesl_syntax.specs.Tree.{ForestOf, tree, end}
+use Rattle.wesl_syntax.specs.Tree.{tree, end}
 
 -- what matters of a node
 pub record Outline (I : Type 0) : Type 0 where

@@ -1,6 +1,6 @@
 -- One walk over a module: which set of choices each identifier, import and declaration has. Sets are told by numbers:
 -- 0 is that of all choices, 1 the empty one, and the others are those of the branches of chains, in order.
-use Rattle.std.specs.Prelude.{ℕ, zero, suc, ◌+◌, Bool, true, false, not, ◌&&◌, cond, Option, Some, None, List, [], ◌∷◌, ◌++◌, map, length, drop}
+use Rattle.std.specs.Prelude.{ℕ, suc, ◌+◌, Bool, true, false, not, ◌&&◌, cond, Option, Some, None, List, [], ◌∷◌, ◌++◌, map, length, drop}
 use Rattle.wesl_chains.specs.Chains.{Condition, none, on, else_on, otherwise, follows_on}
 use Rattle.wesl_chains.specs.Conditions.{condition_at, is_statements, is_list}
 use Rattle.wesl_chains.specs.Faults.{list_at}

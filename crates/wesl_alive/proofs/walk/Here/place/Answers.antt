@@ -1,4 +1,3 @@
-use Rattle.std.proofs.Common.{arith}
 use Rattle.wesl_alive.specs.Views.{here_view}
 use Rattle.wesl_alive.proofs.Outlines.{place_at}
 use Rattle.wesl_alive.proofs.walk.Here.place.Goals as goal

@@ -1,4 +1,4 @@
-use Rattle.std.proofs.Common.{refl, ap, ◌∙◌, map, []}
+use Rattle.std.proofs.Common.{refl, ap, ◌∙◌, map}
 use Rattle.wesl_syntax.specs.View.{argument_view, expression_view, expression_tree}
 use Rattle.std.specs.Prelude.{Some, None}
 use Rattle.wesl_syntax.specs.declared.expression.TypeExpression.{out-TypeExpression}

@@ -1,4 +1,4 @@
-use Rattle.std.proofs.Common.{◌≡◌, ◌∙◌, ap, refl, sym, arith, ℕ, ◌+◌, ◌<◌, ◌≤◌, length, drop, [], ◌∷◌, map}
+use Rattle.std.proofs.Common.{◌∙◌, ap, refl, sym, arith, ℕ, ◌<◌, ◌≤◌, length, drop, [], ◌∷◌, map}
 use Rattle.std.proofs.lemmas.List.{length-map}
 use Rattle.wesl_syntax.specs.Tree.{before, branch, continuing, end, forest_of, loop, statement_node}
 use Rattle.wesl_syntax.specs.View.{attributes_tree, optional, statement_view, compound_view, continuing_view, break_if_view, statement_tree, else_if_view, clause_view}

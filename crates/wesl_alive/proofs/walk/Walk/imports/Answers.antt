@@ -1,7 +1,7 @@
 use Rattle.std.proofs.Common.{ℕ, refl, arith, ap, ◌∙◌, map, drop, ◌<◌, length}
 use Rattle.wesl_syntax.specs.Tree.{end, import_node}
 use Rattle.wesl_syntax.specs.View.{import_view, placed}
-use Rattle.wesl_alive.specs.Views.{here_view, spot_view, state_of}
+use Rattle.wesl_alive.specs.Views.{here_view, state_of}
 use Rattle.wesl_alive.specs.Walk.{all_choices, in_set, listed, standing}
 use Rattle.wesl_alive.proofs.Steps.{gone_on, judged_passed}
 use Rattle.wesl_alive.proofs.Nodes.{next_listed, in_leaf, stepped}

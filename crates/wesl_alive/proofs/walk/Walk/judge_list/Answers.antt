@@ -1,4 +1,4 @@
-use Rattle.std.proofs.Common.{ap, ◌∙◌, ◌++◌, false, map, true}
+use Rattle.std.proofs.Common.{ap, ◌∙◌, ◌++◌, false, map}
 use Rattle.wesl_chains.specs.Lists.{elements}
 use Rattle.wesl_syntax.specs.Tree.{forest_of}
 use Rattle.wesl_alive.specs.Sound.{outline_of}

@@ -2,7 +2,7 @@ use Rattle.std.proofs.Common.{ℕ, refl, arith, ap, ◌∙◌, map, drop, ◌<�
 use Rattle.wesl_syntax.specs.Tree.{end, member_node}
 use Rattle.wesl_syntax.specs.View.{member_view, placed}
 use Rattle.wesl_alive.specs.Views.{here_view, spot_view, state_of}
-use Rattle.wesl_alive.specs.Walk.{all_choices, in_set, listed, standing}
+use Rattle.wesl_alive.specs.Walk.{listed, standing}
 use Rattle.wesl_alive.proofs.Steps.{gone_on, judged_passed}
 use Rattle.wesl_alive.proofs.Nodes.{next_listed, in_leaf, stepped}
 use Rattle.wesl_alive.proofs.walk.Walk.members.Goals as goal

@@ -2,7 +2,7 @@ use Rattle.std.proofs.Common.{ℕ, refl, arith, ap, ◌∙◌, map, drop, ◌<�
 use Rattle.wesl_syntax.specs.Tree.{end}
 use Rattle.wesl_syntax.specs.View.{parameter_view}
 use Rattle.wesl_alive.specs.Views.{here_view, spot_view, state_of}
-use Rattle.wesl_alive.specs.Walk.{all_choices, in_set, listed, standing}
+use Rattle.wesl_alive.specs.Walk.{listed, standing}
 use Rattle.wesl_alive.proofs.Steps.{gone_on, judged_passed}
 use Rattle.wesl_alive.proofs.Nodes.{next_listed, in_place, stepped}
 use Rattle.wesl_alive.proofs.walk.Walk.parameters.Goals as goal
