@@ -148,18 +148,24 @@ spelled-read d u h = λ n low. ap (option_map bare) (h.read n low) ∙ ap Some (
 bare_spelled : (u : UnitView) → bare (unit_tree (spelled u)) ≡ unit_tree (spelled u)
 bare_spelled u = ap (λ (ts : SpelledForest). record { label = kind unit; children = ts }) (twice_forest (name_in u.names) (forest_of_unit (trees_of u)))
 
-bare-if : (b : Bool) (t : Spelled) → bare t ≡ t → option_map bare (if b then Some t else None) ≡ (if b then Some t else None)
-bare-if true t e = ap Some e
-bare-if false t e = refl
+-- what a form shows of a unit is its spelling, spans aside
+bare_shown : (spans : Bool) (u : UnitView) → bare (unit_tree (shown_unit spans u)) ≡ unit_tree (spelled u)
+bare_shown false u = bare_spelled u
+bare_shown true u = bare_placed u
 
--- what is read, spans aside, of what a unit was written as in form 1 is its spelling
-pub spelled-written : UnitsReadBack → (u : TranslationUnit) (d : Data) → d ≡ written_as false (unit_view u) → HasTextPaths (spelled (unit_view u)) → (v : UnitOf Text) → IsSpelled d v → v ≡ spelled (unit_view u)
-spelled-written back u d same paths v r =
+bare-if : (b : Bool) (t s : Spelled) → bare t ≡ s → option_map bare (if b then Some t else None) ≡ (if b then Some s else None)
+bare-if true t s e = ap Some e
+bare-if false t s e = refl
+
+-- what is read, spans aside, of what a unit was written as is its spelling
+pub spelled-written : UnitsReadBack → (spans : Bool) (u : TranslationUnit) (d : Data) → d ≡ written_as spans (unit_view u) → HasTextPaths (spelled (unit_view u)) → (v : UnitOf Text) → IsSpelled d v → v ≡ spelled (unit_view u)
+spelled-written back spans u d same paths v r =
     let s : UnitOf Text = spelled (unit_view u) in
-    let b : Bool = are_readable (kind unit) (forest_of_unit s) in
+    let t : UnitOf Text = shown_unit spans (unit_view u) in
+    let b : Bool = are_readable (kind unit) (forest_of_unit t) in
     let low : depth d < suc (depth d) = omega arith in
-    let law = along s s d (written_as false (unit_view u)) (back false u) same (have-texts s paths) in
-    (if-read b s v (sym (r (suc (depth d)) low) ∙ (ap (option_map bare) (law (suc (depth d)) low) ∙ bare-if b (unit_tree s) (bare_spelled (unit_view u))))).1
+    let law = along s t d (written_as spans (unit_view u)) (back spans u) same (have-texts s paths) in
+    (if-read b s v (sym (r (suc (depth d)) low) ∙ (ap (option_map bare) (law (suc (depth d)) low) ∙ bare-if b (unit_tree t) (unit_tree s) (bare_shown spans (unit_view u))))).1
 
 -- ---- an error that tells no place
 

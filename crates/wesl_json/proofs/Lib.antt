@@ -1,3 +1,4 @@
 pub mod Depths
 pub mod Again
+pub mod PlaceLemmas
 pub mod UnitTextLemmas

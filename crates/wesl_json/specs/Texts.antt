@@ -1,7 +1,7 @@
 -- Which text a JSON value has, and why a text is refused.
-use Rattle.std.specs.Prelude.{◌≡◌, ◌⊎◌, Some, None, false}
-use Rattle.serde_json.specs.Data.{Data}
-use Rattle.serde_json.specs.Read.{read}
+use Rattle.std.specs.Prelude.{◌≡◌, ◌⊎◌, ◌≤◌, Some, None, false}
+use Rattle.serde_json.specs.Data.{Data, depth}
+use Rattle.serde_json.specs.Read.{max_depth, read}
 use Rattle.serde_json.specs.Written.{compact_text, has_float}
 use Rattle.wesl_names.specs.Path.{Text}
 use Rattle.wesl_names.specs.declared.errors.Error as error
@@ -14,3 +14,7 @@ IsNoJson text e = (e ≡ error.Memory) ⊎ (e ≡ error.NotJson) × (read text �
 pub record IsTextOf (d : Data) (text : Text) : Type 0 where
   pub compact : has_float d ≡ false → text ≡ compact_text d
   pub read_as : (e : Data) → read text ≡ Some e → e ≡ d
+
+-- the text is read as the value, unless that nests too deep
+abbrev pub IsReadBack : Data → Text → Type 0
+IsReadBack d text = depth d ≤ max_depth → read text ≡ Some d

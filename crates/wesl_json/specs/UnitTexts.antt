@@ -1,16 +1,18 @@
 -- Which JSON text says which unit, and why a text is refused.
-use Rattle.std.specs.Prelude.{◌≡◌, ◌⊎◌, ℕ, ◌<◌, Some, None, false, option_map}
+use Rattle.std.specs.Prelude.{◌≡◌, ◌⊎◌, ◌||◌, ℕ, ◌<◌, Bool, Some, None, true, option_map}
 use Rattle.serde_json.specs.Data.{Data, depth}
 use Rattle.serde_json.specs.Read.{read}
 use Rattle.serde_json.specs.Written.{compact_text}
 use Rattle.wesl_names.specs.Path.{Text}
 use Rattle.wesl_names.specs.declared.errors.Error as error
-use Rattle.wesl_syntax.specs.Tree.{respell}
-use Rattle.wesl_syntax.specs.Unit.{UnitOf}
-use Rattle.wesl_form.specs.Schema.{Spelled, node, a_unit}
+use Rattle.wesl_syntax.specs.Tree.{respell, imports, directive_list, declarations}
+use Rattle.wesl_syntax.specs.Shown.{placed}
+use Rattle.wesl_syntax.specs.Unit.{UnitOf, UnitView, spelled}
+use Rattle.wesl_form.specs.Schema.{Spelled, list_of, node, a_unit, a_declaration, a_directive, an_import}
 use Rattle.wesl_form.specs.Reading.{reading}
-use Rattle.wesl_form.specs.Units.{form_of, unit_tree, IsBrokenUnit, IsNoUnit}
+use Rattle.wesl_form.specs.Units.{form_of, unit_tree, written_as, IsBrokenUnit, IsNoUnit}
 use Rattle.wesl_form.specs.Writing.{written}
+use Rattle.wesl_piece.specs.Numbers.{has_number}
 use Rattle.wesl_reading.specs.Faults.{place_of}
 use Rattle.wesl_resolver.specs.UnitText.{HasTextPaths}
 
@@ -36,8 +38,19 @@ IsUnreadable text e =
     (e ≡ error.NotJson) × (read text ≡ None)
     ⊎ ((d : Data) × (read text ≡ Some d) × IsTreeFault d e)
 
--- the text, with no space, of the value that a unit of this spelling is written as in form 1; where it is read as a unit, this one
--- has the same spelling, if each path in the first has a text that says the same path or none
+-- form 2 writes a span in one of the lists of a unit: no other number stands there
+abbrev pub shows_span : UnitOf Text → Bool
+shows_span v =
+    has_number (written true (list_of imports an_import) v.imports)
+    || has_number (written true (list_of directive_list a_directive) v.directives)
+    || has_number (written true (list_of declarations a_declaration) v.declarations)
+
+-- the value whose text a unit is printed as: in form 2 where that writes a span, else in form 1
+abbrev pub chosen_value : UnitView → Data
+chosen_value u = written_as (shows_span (placed u)) u
+
+-- the text, with no space, of the value that a unit of this spelling is printed as; where it is read as a unit, this one has the
+-- same spelling, if each path in the first has a text that says the same path or none
 pub record PrintsAs (u : UnitOf Text) (text : Text) : Type 0 where
-  pub compact : text ≡ compact_text (written false (node a_unit) (unit_tree u))
+  pub compact : (v : UnitView) × (spelled v ≡ u) × (text ≡ compact_text (chosen_value v))
   pub read_back : HasTextPaths u → (v : UnitOf Text) → ReadsAs text v → v ≡ u

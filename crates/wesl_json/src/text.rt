@@ -1,20 +1,24 @@
 //! Units as JSON texts.
 ghost use Rattle.std.specs.Prelude.{◌≡◌, ◌⊎◌, IfErr, IfOk, string_bytes};
+ghost use Rattle.serde_json.specs.Written.{compact_text};
 ghost use Rattle.wesl_names.specs.declared.errors.Error as error;
 ghost use Rattle.wesl_syntax.specs.Unit.{spelled};
 ghost use Rattle.wesl_tree.specs.Translation.{unit_view};
-ghost use Rattle.wesl_json.specs.UnitTexts.{IsUnreadable, PrintsAs, ReadsAs};
+ghost use Rattle.wesl_json.specs.Texts.{IsReadBack};
+ghost use Rattle.wesl_json.specs.UnitTexts.{IsUnreadable, PrintsAs, ReadsAs, chosen_value};
 
-use crate::unit::{unit_of_borrowed, value_of_unit};
+use crate::places::shows_span;
+use crate::unit::unit_of_borrowed;
 use crate::value_text::{borrowed_of_text, text_of_value};
 use json::Scratch;
 use std::alloc::Global;
-use wesl_piece::law_of_units;
+use wesl_piece::{law_of_units, law_of_whole_values};
 use wesl_resolver::UnitText;
 use wesl_tree::{Diagnostic, Error, TranslationUnit};
 
-/// Units as JSON texts with no space, read in either form and printed in form 1, without spans. A text that is no JSON, or
-/// that nests deeper than 127, is refused with `NotJson`, and one whose value stands for no unit with `BadTree`.
+/// Units as JSON texts with no space, read in either form, and printed as `text_of_unit` prints them: in form 2 where
+/// they have places, else in form 1. A text that is no JSON, or that nests deeper than 127, is refused with `NotJson`, and
+/// one whose value stands for no unit with `BadTree`.
 #[derive(Clone, Copy, Debug)]
 pub struct JsonText;
 
@@ -48,12 +52,20 @@ fn unit_of_text(alloc: Global, text: &str) -> Result<TranslationUnit, Error>
     unit_of_borrowed(alloc, &value)
 }
 
-// The text of the value that a unit is written as.
-fn text_of_unit(alloc: Global, unit: &TranslationUnit) -> Result<String, Error>
+/// The text of the value that a unit is written as, with no space: in form 2 where a node of it has a span other than
+/// `0..0`, which that form writes, and else in form 1.
+///
+/// Where it is read, it is read as that value, and it is read where the value nests at most 127 deep. Refused for want of
+/// memory alone.
+pub fn text_of_unit(alloc: Global, unit: &TranslationUnit) -> Result<String, Error>
+    ensures text { IfOk result (λ text. string_bytes text ≡ compact_text (chosen_value (unit_view unit.now))) }
+    ensures is_read { IfOk result (λ text. IsReadBack (chosen_value (unit_view unit.now)) (string_bytes text)) }
     ensures printed { IfOk result (λ text. PrintsAs (spelled (unit_view unit.now)) (string_bytes text)) }
     ensures refused { IfErr result (λ e. e ≡ error.Memory) }
 {
     law_of_units();
-    let value = value_of_unit(alloc, unit)?;
+    law_of_whole_values();
+    let spans = shows_span(alloc, unit)?;
+    let value = wesl_writing::value_of_unit(alloc, spans, unit)?;
     text_of_value(alloc, &value)
 }
