@@ -1,23 +1,23 @@
 -- Marks, and the references that are added with them.
-use Rattle.std.proofs.Common.{◌≡◌, ℕ, ◌+◌, ◌<◌, List, [], ◌∷◌, ◌++◌, map, length, get_or, take, drop, arith, refl, sym, subst, ap, ◌∙◌, append_assoc, append-nil}
+use Rattle.std.proofs.Common.{◌≡◌, ℕ, Bool, true, false, List, [], ◌∷◌, ◌++◌, length, drop, arith, refl, sym, subst, ap, ◌∙◌, append_assoc, append-nil}
 use Rattle.std.specs.Prelude.{flat_map}
 use Rattle.std.proofs.Math.Seq.{drop-append_seam}
 use Rattle.std.proofs.lemmas.Grind.{flat_map-append}
-use Rattle.wesl_names.specs.Path.{Text, Path, path_view}
-use Rattle.wesl_names.specs.declared.path.ModulePath.{ModulePath}
+use Rattle.wesl_names.specs.Path.{Text, Path}
 use Rattle.wesl_symbols.specs.declared.ids.PathId.{PathId}
 use Rattle.wesl_symbols.specs.declared.ids.NameId.{NameId}
 use Rattle.wesl_symbols.specs.declared.symbols.Reference.{Reference}
 use Rattle.wesl_table.specs.Marks.{IsMark}
-use Rattle.wesl_table.specs.Numbering.{Numbering, AreRelated, SameImport, SameReference, Grows, NameAt, PathAt, AreNumberedNames, AreNumberedReferences}
-use Rattle.wesl_table.specs.Reading.{reference_by, mark_of, Adds, AddsNames, Marks, under_path, IsNumberedBy, own_path, imports_in, view_in}
-use Rattle.wesl_table.specs.Uses.{Use, declares, refers, unclear, local, asked, unclear_in}
+use Rattle.wesl_split.specs.ScopeView.{scope_view}
+use Rattle.wesl_table.specs.Numbering.{Numbering, AreRelated, SameReference, Grows, NameAt, PathAt, AreNumberedNames, AreNumberedReferences}
+use Rattle.wesl_table.specs.Reading.{mark_of, Adds, AddsNames, Marks, IsNumberedBy, scope_in, view_in}
+use Rattle.wesl_table.specs.Uses.{Use, declares, refers, unclear, local, said, asked, unclear_in}
 use Rattle.wesl_table.specs.declared.marks.Asked.{Asked}
 use Rattle.wesl_table.specs.declared.marks.Mark.{Mark}
 use Rattle.wesl_table.specs.declared.reading.Reading.{Reading}
 use Rattle.wesl_table.specs.declared.marks.Mark.TheVariants as marks
 use Rattle.wesl_table.proofs.Lists.{related_more, related_append}
-use Rattle.wesl_table.proofs.Related.{name_later, path_later, import_later, reference_later, references_one, map_next}
+use Rattle.wesl_table.proofs.Related.{name_later, reference_later, references_one, scope_later}
 
 pub adds_none : (nb : Numbering) (rs : List (Reference PathId NameId)) → Adds nb rs rs []
 adds_none nb rs = ([], sym (append-nil rs), tt)
@@ -44,6 +44,22 @@ marks_after nb n x old new items added b m ss at same b_is new_is items_is m_is 
       unclear = names_none nb old.unclear.items new.unclear.items same;
     }
 
+-- the mark of a name that stands for two things, or whose path does
+pub marks_unclear : (nb : Numbering) (n k : NameId) (x y : Text) (old new : Asked) (m : Mark) → NameAt nb n x → NameAt nb k y → m ≡ marks.Unclear n → new.references.items ≡ old.references.items → new.unclear.items ≡ old.unclear.items ++ k ∷ []
+    → Marks nb m old new (unclear x y)
+marks_unclear nb n k x y old new m at at_k m_is same more = record {
+  mark = subst (λ j. IsMark nb j (unclear x y)) (sym m_is) at;
+  added = ([], same ∙ sym (append-nil old.references.items), tt);
+  unclear = (k ∷ [], more, (at_k, tt));
+}
+
+-- what is said of a name, by whether it stands for two things
+pub said_unclear : (x y : Text) (b : Bool) (rs : List (Reference Path Text)) → b ≡ true → said x y b rs ≡ unclear x y
+said_unclear x y b rs e = ap (λ c. said x y c rs) e
+
+pub said_clear : (x y : Text) (b : Bool) (rs : List (Reference Path Text)) → b ≡ false → said x y b rs ≡ refers x rs
+said_clear x y b rs e = ap (λ c. said x y c rs) e
+
 module _ (nb : Numbering) (n : NameId) (x : Text) (old : Asked) (at : NameAt nb n x) where
   pub marks_declared : Marks nb (marks.Declares n) old old (declares x)
   marks_declared = record { mark = at; added = adds_none nb old.references.items; unclear = names_none nb old.unclear.items old.unclear.items refl }
@@ -56,18 +72,11 @@ module _ (nb : Numbering) (n : NameId) (x : Text) (old : Asked) (at : NameAt nb 
 
 -- ---- one more
 
--- a name under one module more
-pub under_next : (a b c : Numbering) → Grows a b → Grows b c → (name : NameId) (p : PathId) (ms : List ModulePath) (i : ℕ) (m : ModulePath) (from found : List (Reference PathId NameId)) (x : Text) → NameAt a name x
-    → Adds b from found (map (under_path x) (take i ms)) → PathAt c p (path_view m) → i < length ms → m ≡ get_or ms i m
-    → Adds c from (found ++ reference_by name p ∷ []) (map (under_path x) (take (i + 1) ms))
-under_next a b c g h name p ms i m from found x n (added, e, k) at bound is =
-    let r : Reference PathId NameId = reference_by name p in
-    let so_far : List (Reference Path Text) = map (under_path x) (take i ms) in
-    let s : SameReference (PathAt c) (NameAt c) r (under_path x m) = record { path = at; name = name_later b c h name x (name_later a b g name x n); from = refl } in (
-      added ++ r ∷ [],
-      ap (λ l. l ++ r ∷ []) e ∙ append_assoc from added (r ∷ []),
-      subst (λ ss. AreNumberedReferences c (added ++ r ∷ []) ss) (sym (map_next (under_path x) ms i m bound is)) (references_one b c h added so_far r (under_path x m) k s),
-    )
+-- a reference more that says this
+pub adds_next : (a b : Numbering) → Grows a b → (r : Reference PathId NameId) (s : Reference Path Text) (from found : List (Reference PathId NameId)) (so_far : List (Reference Path Text)) → Adds a from found so_far
+    → SameReference (PathAt b) (NameAt b) r s → Adds b from (found ++ r ∷ []) (so_far ++ s ∷ [])
+adds_next a b g r s from found so_far (added, e, k) same =
+    (added ++ r ∷ [], ap (λ l. l ++ r ∷ []) e ∙ append_assoc from added (r ∷ []), references_one a b g added so_far r s k same)
 
 -- what one more adds
 module _ {X Y U : Type 0} (R S : X → Y → Type 0) (later : (x : X) (y : Y) → R x y → S x y) (f : U → List Y) where
@@ -116,9 +125,6 @@ marks_one a b g ms us m u h k = related_append (IsMark a) (IsMark b) (mark_later
 -- and so do the numbers of a module that is read
 pub numbered_later : (a b : Numbering) → Grows a b → (r : Reading) → IsNumberedBy a r → IsNumberedBy b r
 numbered_later a b g r h = record {
-  own = path_later a b g r.own (own_path r) h.own;
-  imports = related_more (SameImport (PathAt a) (NameAt a)) (SameImport (PathAt b) (NameAt b)) (import_later a b g) r.numbered.now (imports_in r) h.imports;
+  scope = scope_later a b g (scope_view r.scope.now) (scope_in r) h.scope;
   ids = related_more (NameAt a) (NameAt b) (name_later a b g) r.ids.now (view_in r).names h.ids;
-  declares = λ n c. let (x, d, at) = h.declares n c in (x, d, name_later a b g n x at);
-  declared = λ x c. let (n, d, at) = h.declared x c in (n, d, name_later a b g n x at);
 }

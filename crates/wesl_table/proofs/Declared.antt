@@ -1,6 +1,6 @@
 -- What a module of the code imports and declares is what its spelled unit does.
-use Rattle.std.proofs.Common.{◌≡◌, ℕ, Bool, true, false, Option, Some, None, List, [], ◌∷◌, ◌++◌, map, refl, sym, ap, ◌∙◌, ◌||◌}
-use Rattle.std.specs.Prelude.{flat_map, option_map, if◌then◌else◌}
+use Rattle.std.proofs.Common.{◌≡◌, ℕ, suc, Bool, true, false, Option, Some, None, List, [], ◌∷◌, ◌++◌, map, refl, sym, ap, ◌∙◌, ◌||◌}
+use Rattle.std.specs.Prelude.{option_map, if◌then◌else◌}
 use mathlib.Core.List.{map-map}
 use Rattle.std.proofs.lemmas.List.{map-append}
 use Rattle.wesl_names.specs.Path.{Text, Path}
@@ -8,6 +8,8 @@ use Rattle.wesl_names.specs.declared.names.Ident.{Ident}
 use Rattle.wesl_names.specs.declared.path.ModulePath.{ModulePath}
 use Rattle.wesl_syntax.specs.Tree.{LabelOf, kind, at, ident, text, texts, truth, unary, binary, assignment, space, access, path, binder, reference, word, ForestOf, TreeOf, end, tree, trees, identifiers, respell_label, respell_forest, respell}
 use Rattle.wesl_syntax.specs.Unit.{name_in, UnitView, spelled}
+use Rattle.wesl_choices.specs.declared.place.Place.{Place}
+use Rattle.wesl_choices.specs.declared.place.Place.TheVariants as places
 use Rattle.wesl_symbols.specs.declared.symbols.Import.{Import}
 use Rattle.wesl_table.specs.Imports as imports
 use Rattle.wesl_table.specs.Tables.{bound_name, or_later, declared_name}
@@ -158,43 +160,43 @@ module _ {I J : Type 0} (f : I → J) where
   identifiers_respelled (tree (access x) children others) = both_respelled children others (identifiers_respelled children) (identifiers_respelled others)
   identifiers_respelled (tree (path x) children others) = both_respelled children others (identifiers_respelled children) (identifiers_respelled others)
 
-  items_respelled : (published : Bool) (b : imports.Base) (is : List I) → imports.item_imports published b (map f is) ≡ map (respell_import f) (imports.item_imports published b is)
-  items_respelled published imports.unset [] = refl
-  items_respelled published imports.unset (i ∷ is) = refl
-  items_respelled published imports.nowhere [] = refl
-  items_respelled published imports.nowhere (i ∷ is) = refl
-  items_respelled published (imports.to p) [] = refl
-  items_respelled published (imports.to p) (i ∷ []) = refl
-  items_respelled published (imports.to p) (i ∷ j ∷ is) = refl
+  items_respelled : (stands : Place) (published : Bool) (b : imports.Base) (is : List I) → imports.item_imports stands published b (map f is) ≡ map (respell_import f) (imports.item_imports stands published b is)
+  items_respelled stands published imports.unset [] = refl
+  items_respelled stands published imports.unset (i ∷ is) = refl
+  items_respelled stands published imports.nowhere [] = refl
+  items_respelled stands published imports.nowhere (i ∷ is) = refl
+  items_respelled stands published (imports.to p) [] = refl
+  items_respelled stands published (imports.to p) (i ∷ []) = refl
+  items_respelled stands published (imports.to p) (i ∷ j ∷ is) = refl
 
-  content_respelled : (published : Bool) (b : imports.Base) (g : ForestOf I) → imports.content_imports published b (respell_forest f g) ≡ map (respell_import f) (imports.content_imports published b g)
-  content_respelled published b end = refl
-  content_respelled published b (tree l children others) =
+  content_respelled : (stands : Place) (published : Bool) (b : imports.Base) (g : ForestOf I) → imports.content_imports stands published b (respell_forest f g) ≡ map (respell_import f) (imports.content_imports stands published b g)
+  content_respelled stands published b end = refl
+  content_respelled stands published b (tree l children others) =
       let h : Import Path I → Import Path J = respell_import f in
       let names : List Text = imports.first_label [] imports.label_texts children in
-      let items : List (Import Path I) = imports.item_imports published b (identifiers children) in
-      let deep : List (Import Path I) = imports.content_imports published (imports.entered b names) children in
-      let deeper : List (Import Path I) = imports.content_imports published b children in
+      let items : List (Import Path I) = imports.item_imports stands published b (identifiers children) in
+      let deep : List (Import Path I) = imports.content_imports stands published (imports.entered b names) children in
+      let deeper : List (Import Path I) = imports.content_imports stands published b children in
       let same : imports.first_label [] imports.label_texts (respell_forest f children) ≡ names = first_blind [] imports.label_texts imports.label_texts label_texts-blind children in
-      let e : imports.item_imports published b (identifiers (respell_forest f children)) ≡ map h items = ap (imports.item_imports published b) (identifiers_respelled children) ∙ items_respelled published b (identifiers children) in
-      let g : imports.content_imports published (imports.entered b (imports.first_label [] imports.label_texts (respell_forest f children))) (respell_forest f children) ≡ map h deep =
-      ap (λ ns. imports.content_imports published (imports.entered b ns) (respell_forest f children)) same ∙ content_respelled published (imports.entered b names) children in
-      let k : imports.content_imports published b (respell_forest f children) ≡ map h deeper = content_respelled published b children in
-      let inner : (if imports.is_entry (respell_label f l) then imports.content_imports published (imports.entered b (imports.first_label [] imports.label_texts (respell_forest f children))) (respell_forest f children)
-      else imports.content_imports published b (respell_forest f children)) ≡ map h (if imports.is_entry l then deep else deeper) =
+      let e : imports.item_imports stands published b (identifiers (respell_forest f children)) ≡ map h items = ap (imports.item_imports stands published b) (identifiers_respelled children) ∙ items_respelled stands published b (identifiers children) in
+      let g : imports.content_imports stands published (imports.entered b (imports.first_label [] imports.label_texts (respell_forest f children))) (respell_forest f children) ≡ map h deep =
+      ap (λ ns. imports.content_imports stands published (imports.entered b ns) (respell_forest f children)) same ∙ content_respelled stands published (imports.entered b names) children in
+      let k : imports.content_imports stands published b (respell_forest f children) ≡ map h deeper = content_respelled stands published b children in
+      let inner : (if imports.is_entry (respell_label f l) then imports.content_imports stands published (imports.entered b (imports.first_label [] imports.label_texts (respell_forest f children))) (respell_forest f children)
+      else imports.content_imports stands published b (respell_forest f children)) ≡ map h (if imports.is_entry l then deep else deeper) =
       if_mapped h (imports.is_entry (respell_label f l)) (imports.is_entry l) deep deeper
-      (imports.content_imports published (imports.entered b (imports.first_label [] imports.label_texts (respell_forest f children))) (respell_forest f children))
-      (imports.content_imports published b (respell_forest f children)) (is_entry-blind l) g k in
-      let outer : (if imports.is_item (respell_label f l) then imports.item_imports published b (identifiers (respell_forest f children)) else
-      (if imports.is_entry (respell_label f l) then imports.content_imports published (imports.entered b (imports.first_label [] imports.label_texts (respell_forest f children))) (respell_forest f children)
-      else imports.content_imports published b (respell_forest f children))) ≡ map h (if imports.is_item l then items else if imports.is_entry l then deep else deeper) =
+      (imports.content_imports stands published (imports.entered b (imports.first_label [] imports.label_texts (respell_forest f children))) (respell_forest f children))
+      (imports.content_imports stands published b (respell_forest f children)) (is_entry-blind l) g k in
+      let outer : (if imports.is_item (respell_label f l) then imports.item_imports stands published b (identifiers (respell_forest f children)) else
+      (if imports.is_entry (respell_label f l) then imports.content_imports stands published (imports.entered b (imports.first_label [] imports.label_texts (respell_forest f children))) (respell_forest f children)
+      else imports.content_imports stands published b (respell_forest f children))) ≡ map h (if imports.is_item l then items else if imports.is_entry l then deep else deeper) =
       if_mapped h (imports.is_item (respell_label f l)) (imports.is_item l) items (if imports.is_entry l then deep else deeper)
-      (imports.item_imports published b (identifiers (respell_forest f children)))
-      (if imports.is_entry (respell_label f l) then imports.content_imports published (imports.entered b (imports.first_label [] imports.label_texts (respell_forest f children))) (respell_forest f children)
-      else imports.content_imports published b (respell_forest f children)) (is_item-blind l) e inner in
-      ap (λ xs. xs ++ imports.content_imports published b (respell_forest f others)) outer
-      ∙ (ap (λ xs. map h (if imports.is_item l then items else if imports.is_entry l then deep else deeper) ++ xs) (content_respelled published b others)
-      ∙ sym (map-append h (if imports.is_item l then items else if imports.is_entry l then deep else deeper) (imports.content_imports published b others)))
+      (imports.item_imports stands published b (identifiers (respell_forest f children)))
+      (if imports.is_entry (respell_label f l) then imports.content_imports stands published (imports.entered b (imports.first_label [] imports.label_texts (respell_forest f children))) (respell_forest f children)
+      else imports.content_imports stands published b (respell_forest f children)) (is_item-blind l) e inner in
+      ap (λ xs. xs ++ imports.content_imports stands published b (respell_forest f others)) outer
+      ∙ (ap (λ xs. map h (if imports.is_item l then items else if imports.is_entry l then deep else deeper) ++ xs) (content_respelled stands published b others)
+      ∙ sym (map-append h (if imports.is_item l then items else if imports.is_entry l then deep else deeper) (imports.content_imports stands published b others)))
 
   published_respelled : (g : ForestOf I) → imports.is_published (respell_forest f g) ≡ imports.is_published g
   published_respelled end = refl
@@ -206,29 +208,29 @@ module _ {I J : Type 0} (f : I → J) where
   after_respelled end = refl
   after_respelled (tree l children others) = refl
 
-  statement_respelled : (own : Path) (g : ForestOf I) → imports.statement_imports own (respell_forest f g) ≡ map (respell_import f) (imports.statement_imports own g)
-  statement_respelled own g =
+  statement_respelled : (own : Path) (stands : Place) (g : ForestOf I) → imports.statement_imports own stands (respell_forest f g) ≡ map (respell_import f) (imports.statement_imports own stands g)
+  statement_respelled own stands g =
       let published : imports.is_published (imports.below (respell_forest f g)) ≡ imports.is_published (imports.below g) = ap imports.is_published (below_respelled g) ∙ published_respelled (imports.below g) in
       let where_to : imports.first_label None imports.label_path (imports.below (imports.after (respell_forest f g))) ≡ imports.first_label None imports.label_path (imports.below (imports.after g)) =
       ap (λ t. imports.first_label None imports.label_path (imports.below t)) (after_respelled g) ∙ (ap (imports.first_label None imports.label_path) (below_respelled (imports.after g))
       ∙ first_blind None imports.label_path imports.label_path label_path-blind (imports.below (imports.after g))) in
       let content : imports.after (imports.after (respell_forest f g)) ≡ respell_forest f (imports.after (imports.after g)) = ap imports.after (after_respelled g) ∙ after_respelled (imports.after g) in
-      ap (λ b. imports.content_imports b (imports.base_of own (imports.first_label None imports.label_path (imports.below (imports.after (respell_forest f g))))) (imports.after (imports.after (respell_forest f g)))) published
-      ∙ (ap (λ p. imports.content_imports (imports.is_published (imports.below g)) (imports.base_of own p) (imports.after (imports.after (respell_forest f g)))) where_to
-      ∙ (ap (λ t. imports.content_imports (imports.is_published (imports.below g)) (imports.base_of own (imports.first_label None imports.label_path (imports.below (imports.after g)))) t) content
-      ∙ content_respelled (imports.is_published (imports.below g)) (imports.base_of own (imports.first_label None imports.label_path (imports.below (imports.after g)))) (imports.after (imports.after g))))
+      ap (λ b. imports.content_imports stands b (imports.base_of own (imports.first_label None imports.label_path (imports.below (imports.after (respell_forest f g))))) (imports.after (imports.after (respell_forest f g)))) published
+      ∙ (ap (λ p. imports.content_imports stands (imports.is_published (imports.below g)) (imports.base_of own p) (imports.after (imports.after (respell_forest f g)))) where_to
+      ∙ (ap (λ t. imports.content_imports stands (imports.is_published (imports.below g)) (imports.base_of own (imports.first_label None imports.label_path (imports.below (imports.after g)))) t) content
+      ∙ content_respelled stands (imports.is_published (imports.below g)) (imports.base_of own (imports.first_label None imports.label_path (imports.below (imports.after g)))) (imports.after (imports.after g))))
 
-  statements_respelled : (own : Path) (ts : List (TreeOf I)) → flat_map (λ t. imports.statement_imports own (imports.below t.children)) (map (respell f) ts)
-      ≡ map (respell_import f) (flat_map (λ t. imports.statement_imports own (imports.below t.children)) ts)
-  statements_respelled own [] = refl
-  statements_respelled own (t ∷ ts) =
-      ap (λ xs. xs ++ flat_map (λ t. imports.statement_imports own (imports.below t.children)) (map (respell f) ts))
-      (ap (imports.statement_imports own) (below_respelled t.children) ∙ statement_respelled own (imports.below t.children))
-      ∙ (ap (λ xs. map (respell_import f) (imports.statement_imports own (imports.below t.children)) ++ xs) (statements_respelled own ts)
-      ∙ sym (map-append (respell_import f) (imports.statement_imports own (imports.below t.children)) (flat_map (λ t. imports.statement_imports own (imports.below t.children)) ts)))
+  statements_respelled : (own : Path) (j : ℕ) (ts : List (TreeOf I)) → imports.imports_from own j (map (respell f) ts) ≡ map (respell_import f) (imports.imports_from own j ts)
+  statements_respelled own j [] = refl
+  statements_respelled own j (t ∷ ts) =
+      let stands : Place = places.Import j in
+      let first : List (Import Path I) = imports.statement_imports own stands (imports.below t.children) in
+      ap (λ xs. xs ++ imports.imports_from own (suc j) (map (respell f) ts))
+      (ap (imports.statement_imports own stands) (below_respelled t.children) ∙ statement_respelled own stands (imports.below t.children))
+      ∙ (ap (λ xs. map (respell_import f) first ++ xs) (statements_respelled own (suc j) ts) ∙ sym (map-append (respell_import f) first (imports.imports_from own (suc j) ts)))
 
   pub all_imports_respelled : (own : Path) (g : ForestOf I) → imports.all_imports own (respell_forest f g) ≡ map (respell_import f) (imports.all_imports own g)
-  all_imports_respelled own g = ap (flat_map (λ t. imports.statement_imports own (imports.below t.children))) (trees_respelled g) ∙ statements_respelled own (trees g)
+  all_imports_respelled own g = ap (imports.imports_from own 0) (trees_respelled g) ∙ statements_respelled own 0 (trees g)
 
 -- ---- the whole module
 

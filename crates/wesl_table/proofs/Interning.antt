@@ -7,7 +7,7 @@ use Rattle.std.proofs.lemmas.List.{map-append}
 use Rattle.std.proofs.lemmas.List.Quantifiers.{position-Some}
 use Rattle.std.proofs.lemmas.Slice.Eq.{bytes_eq-Decides}
 use Rattle.indexmap.specs.IndexSet.{insert_key}
-use Rattle.wesl_table.specs.Different.{AreDifferent}
+use Rattle.wesl_split.specs.Different.{AreDifferent}
 use Rattle.wesl_table.specs.Interning.{PutsOrKeeps}
 use Rattle.wesl_table.specs.Interned.{with_text}
 

@@ -6,10 +6,13 @@ pub mod Related
 pub mod Asked
 pub mod Declared
 pub mod Naming
-pub mod Plain
+pub mod Alike
+pub mod Unsplit
 pub mod Holding
 pub mod Added
 pub mod Seen
 pub mod Pieced
+pub mod Marking
+pub mod Scoping
 pub mod Tabling
 pub mod Interning

@@ -1,7 +1,6 @@
 -- Nodes of the code, their trees, and what is found in them.
-use Rattle.std.proofs.Common.{◌≡◌, ℕ, List, [], ◌∷◌, ◌++◌, map, Vec, Global, refl, ◌∙◌, ap, rules}
+use Rattle.std.proofs.Common.{◌≡◌, ℕ, zero, suc, ◌+◌, ◌<◌, List, [], ◌∷◌, ◌++◌, map, take, length, get_or, Vec, Global, arith, refl, sym, ◌∙◌, ap, rules, append_assoc, append-nil}
 use mathlib.Core.List.{map-map}
-use Rattle.std.specs.Prelude.{flat_map}
 use Rattle.wesl_names.specs.Path.{Path}
 use Rattle.wesl_syntax.specs.Tree.{Tree, TreeOf, trees, forest_of, branch, import_collection, import_entry, import_node, list}
 use Rattle.wesl_syntax.specs.View.{names_tree, entry_view, item_view, listed, content_view, content_step, entry_step, import_view, placed}
@@ -11,8 +10,11 @@ use Rattle.wesl_syntax.specs.declared.import.Import.{Import, out-Import}
 use Rattle.wesl_syntax.specs.declared.import.ImportItem.{ImportItem}
 use Rattle.wesl_syntax.specs.declared.import.ImportContent.{ImportContent, the_lemmas, Item, Collection}
 use Rattle.wesl_syntax.specs.declared.import.ImportContent.TheFolds.{fold_out-Import}
+use Rattle.wesl_choices.specs.declared.place.Place.{Place}
+use Rattle.wesl_choices.specs.declared.place.Place.TheVariants as places
 use Rattle.wesl_symbols.specs.declared.symbols.Import as world
-use Rattle.wesl_table.specs.Imports.{statement_imports, all_imports, below}
+use Rattle.wesl_table.specs.Imports as spec
+use Rattle.wesl_table.specs.Imports.{statement_imports, all_imports}
 
 pub view_entry : (i : Import) → entry_view i ≡ branch import_entry (names_tree (out-Import i).path ∷ content_view (out-Import i).content ∷ [])
 view_entry i = fold_out-Import Tree Tree content_step entry_step i
@@ -33,15 +35,34 @@ pub trees-forest_of : {I : Type 0} (ts : List (TreeOf I)) → trees (forest_of t
 trees-forest_of [] = refl
 trees-forest_of (t ∷ ts) = ap (λ us. t ∷ us) (trees-forest_of ts)
 
-pub flat_map-map : {X Y Z : Type 0} (f : Y → List Z) (g : X → Y) (xs : List X) → flat_map f (map g xs) ≡ flat_map (λ x. f (g x)) xs
-flat_map-map f g [] = refl
-flat_map-map f g (x ∷ xs) = ap (λ l. f (g x) ++ l) (flat_map-map f g xs)
+-- the statements of the code from this number on, and the imports of one
+abbrev pub imports_of : Path → Place → Spanned ImportStatement → List (world.Import Path ℕ)
+imports_of own stands s = statement_imports own stands (import_view s.node).children
 
-abbrev pub imports_of : Path → Spanned ImportStatement → List (world.Import Path ℕ)
-imports_of own s = statement_imports own (import_view s.node).children
+abbrev pub imports_from : Path → ℕ → List (Spanned ImportStatement) → List (world.Import Path ℕ)
+imports_from own j [] = []
+imports_from own j (x ∷ xs) = imports_of own (places.Import j) x ++ imports_from own (suc j) xs
 
--- the imports of all statements
-pub imports_of-all : (own : Path) (xs : List (Spanned ImportStatement)) → all_imports own (forest_of (map (placed import_view import_node) xs)) ≡ flat_map (imports_of own) xs
-imports_of-all own xs =
-    ap (λ ts. flat_map (λ t. statement_imports own (below t.children)) ts) (trees-forest_of (map (placed import_view import_node) xs))
-    ∙ flat_map-map (λ t. statement_imports own (below t.children)) (placed import_view import_node) xs
+-- one statement more
+pub imports_next : (own : Path) (j : ℕ) (xs : List (Spanned ImportStatement)) (i : ℕ) (x : Spanned ImportStatement) → i < length xs → x ≡ get_or xs i x
+    → imports_from own j (take (i + 1) xs) ≡ imports_from own j (take i xs) ++ imports_of own (places.Import (j + i)) x
+imports_next own j [] i x b e = absurd (omega (arith, b))
+imports_next own j (y ∷ xs) zero x b e =
+    let n : j + zero ≡ j = omega arith in
+    append-nil (imports_of own (places.Import j) y) ∙ (ap (imports_of own (places.Import j)) (sym e) ∙ ap (λ k. imports_of own (places.Import k) x) (sym n))
+imports_next own j (y ∷ xs) (suc i) x b e =
+    let n : suc i + 1 ≡ suc (i + 1) = omega arith in
+    let m : suc j + i ≡ j + suc i = omega arith in
+    let first : List (world.Import Path ℕ) = imports_of own (places.Import j) y in
+    ap (λ k. imports_from own j (take k (y ∷ xs))) n
+    ∙ (ap (λ l. first ++ l) (imports_next own (suc j) xs i x (omega (arith, b)) e)
+    ∙ (sym (append_assoc first (imports_from own (suc j) (take i xs)) (imports_of own (places.Import (suc j + i)) x))
+    ∙ ap (λ k. (first ++ imports_from own (suc j) (take i xs)) ++ imports_of own (places.Import k) x) m))
+
+-- and all of them
+pub imports_from-all : (own : Path) (j : ℕ) (xs : List (Spanned ImportStatement)) → spec.imports_from own j (map (placed import_view import_node) xs) ≡ imports_from own j xs
+imports_from-all own j [] = refl
+imports_from-all own j (x ∷ xs) = ap (λ l. imports_of own (places.Import j) x ++ l) (imports_from-all own (suc j) xs)
+
+pub all_imports-all : (own : Path) (xs : List (Spanned ImportStatement)) → all_imports own (forest_of (map (placed import_view import_node) xs)) ≡ imports_from own 0 xs
+all_imports-all own xs = ap (spec.imports_from own 0) (trees-forest_of (map (placed import_view import_node) xs)) ∙ imports_from-all own 0 xs

@@ -5,7 +5,7 @@ use Rattle.std.specs.List.{list_any}
 use Rattle.std.proofs.lemmas.List.{map-append}
 use Rattle.std.proofs.lemmas.List.Elements.{All-append}
 use Rattle.wesl_names.specs.Path.{Text}
-use Rattle.wesl_table.specs.Different.{AreDifferent}
+use Rattle.wesl_split.specs.Different.{AreDifferent}
 use Rattle.wesl_table.specs.Interned.{with_text}
 use Rattle.wesl_table.proofs.Interning.{get_unmap, none_passes, added}
 use Rattle.wesl_table.specs.Numbering.{IsLonger, Puts}

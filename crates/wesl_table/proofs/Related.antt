@@ -1,13 +1,16 @@
 -- What has numbers keeps them as names and paths are added.
-use Rattle.std.proofs.Common.{◌≡◌, ℕ, Option, Some, None, List, [], ◌∷◌, ◌++◌, map, take, length, get_or, false, refl, sym, subst, ap, ◌∙◌, ◌<◌, ◌+◌}
+use Rattle.std.proofs.Common.{◌≡◌, ℕ, Option, Some, None, List, [], ◌∷◌, ◌++◌, map, take, length, get_or, ap, ◌∙◌, ◌<◌, ◌+◌}
 use Rattle.std.proofs.lemmas.List.{map-append}
 use Rattle.wesl_names.specs.Path.{Text, Path}
+use Rattle.wesl_choices.specs.Places.{together}
 use Rattle.wesl_symbols.specs.declared.ids.PathId.{PathId}
 use Rattle.wesl_symbols.specs.declared.ids.NameId.{NameId}
 use Rattle.wesl_symbols.specs.declared.symbols.Import.{Import}
 use Rattle.wesl_symbols.specs.declared.symbols.Reference.{Reference}
 use Rattle.wesl_symbols.specs.Tables.{Declaration, Table}
-use Rattle.wesl_table.specs.Numbering.{AreRelated, IsRelatedOption, SameImport, SameReference, SameDeclaration, SameTable, Numbering, Grows, NameAt, PathAt, AreNumberedDeclarations}
+use Rattle.wesl_split.specs.Split.{Scope}
+use Rattle.wesl_split.specs.declared.binders.Binder.{Binder}
+use Rattle.wesl_table.specs.Numbering.{AreRelated, IsRelatedOption, SameImport, SameReference, SameBinder, SameScope, SameDeclaration, SameTable, Numbering, Grows, NameAt, PathAt, AreNumberedDeclarations}
 use Rattle.wesl_table.proofs.Lists.{longer_itself, longer_trans, get_in, related_more, related_append, take_next}
 
 pub grows_itself : (a : Numbering) → Grows a a
@@ -63,6 +66,16 @@ module _ (a b : Numbering) (g : Grows a b) where
     crowded = h.crowded;
   }
 
+  pub binder_later : (c : Binder PathId NameId) (d : Binder Path Text) → SameBinder (PathAt a) (NameAt a) c d → SameBinder (PathAt b) (NameAt b) c d
+  binder_later c d h = record { bound = name_later c.bound d.bound h.bound; path = path_later c.path d.path h.path; item = name_later c.item d.item h.item; declares = h.declares; stands = h.stands }
+
+  pub scope_later : (s : Scope PathId NameId) (t : Scope Path Text) → SameScope (PathAt a) (NameAt a) s t → SameScope (PathAt b) (NameAt b) s t
+  scope_later s t h = record {
+    own = path_later s.own t.own h.own;
+    binders = related_more (SameBinder (PathAt a) (NameAt a)) (SameBinder (PathAt b) (NameAt b)) binder_later s.binders t.binders h.binders;
+    together = h.together;
+  }
+
   pub imports_later : (is : List (Import PathId NameId)) (js : List (Import Path Text)) → AreRelated (SameImport (PathAt a) (NameAt a)) is js → AreRelated (SameImport (PathAt b) (NameAt b)) is js
   imports_later is js h = related_more (SameImport (PathAt a) (NameAt a)) (SameImport (PathAt b) (NameAt b)) import_later is js h
 
@@ -86,17 +99,8 @@ module _ (a b : Numbering) (g : Grows a b) where
 pub map_next : {X Y : Type 0} (f : X → Y) (xs : List X) (i : ℕ) (x : X) → i < length xs → x ≡ get_or xs i x → map f (take (i + 1) xs) ≡ map f (take i xs) ++ f x ∷ []
 map_next f xs i x b e = ap (map f) (take_next xs i x b e) ∙ map-append f (take i xs) (x ∷ [])
 
--- a table made of parts with numbers, in which conditions play no part
-pub table_made : (a b c : Numbering) → Grows a b → Grows b c → (id : PathId) (own : Path) (is : List (Import PathId NameId)) (js : List (Import Path Text)) (ds : List (Declaration PathId NameId)) (es : List (Declaration Path Text))
-    (t : Table PathId NameId) → t ≡ record { path = id; imports = is; declarations = ds; alive = []; is_crowded = false } → PathAt a id own → AreRelated (SameImport (PathAt b) (NameAt b)) is js → AreNumberedDeclarations c ds es
-    → SameTable (PathAt c) (NameAt c) t (record { path = own; imports = js; declarations = es; alive = []; is_crowded = false })
-table_made a b c g h id own is js ds es t e at imports declarations =
-    let made : Table Path Text = record { path = own; imports = js; declarations = es; alive = []; is_crowded = false } in
-    let same : SameTable (PathAt c) (NameAt c) (record { path = id; imports = is; declarations = ds; alive = []; is_crowded = false }) made = record {
-      path = path_later b c h id own (path_later a b g id own at);
-      imports = related_more (SameImport (PathAt b) (NameAt b)) (SameImport (PathAt c) (NameAt c)) (import_later b c h) is js imports;
-      declarations = declarations;
-      together = λ x y. refl;
-      crowded = refl;
-    } in
-    subst (λ (u : Table PathId NameId). SameTable (PathAt c) (NameAt c) u made) (sym e) same
+-- a table made of parts with numbers
+pub table_made : (nb : Numbering) (t : Table PathId NameId) (u : Table Path Text) → PathAt nb t.path u.path → AreRelated (SameImport (PathAt nb) (NameAt nb)) t.imports u.imports → AreNumberedDeclarations nb t.declarations u.declarations
+    → t.alive ≡ u.alive → t.is_crowded ≡ u.is_crowded → SameTable (PathAt nb) (NameAt nb) t u
+table_made nb t u at imports declarations alive crowded =
+    record { path = at; imports = imports; declarations = declarations; together = λ a b. ap (λ x. together x a b) alive; crowded = crowded }

@@ -6,7 +6,7 @@ use Rattle.wesl_names.specs.Path.{Text, Path}
 use Rattle.wesl_names.specs.declared.path.ModulePath.{ModulePath}
 use Rattle.wesl_syntax.specs.Unit.{name_in}
 use Rattle.wesl_choices.specs.declared.place.Place.{Place}
-use Rattle.wesl_choices.specs.declared.place.Place.TheVariants.{Always, Name}
+use Rattle.wesl_choices.specs.declared.place.Place.TheVariants.{Name}
 use Rattle.wesl_symbols.specs.declared.ids.NameId.{NameId}
 use Rattle.wesl_occurrences.specs.Laws.{renamed, SpellingKeepsOccurrences}
 use Rattle.wesl_occurrences.specs.Occurrences as spec
@@ -25,7 +25,7 @@ use Rattle.wesl_table.specs.Numbering.{Numbering, NameAt}
 use Rattle.wesl_table.specs.Reading.{IsRead, IsNumberedBy, Marks, view_in, unit_in, scope_in, all_uses, use_at, plain_in, aimed_in, meant_by}
 use Rattle.wesl_syntax.specs.Tree.{TreeOf}
 use Rattle.wesl_symbols.specs.Tables.{Declaration}
-use Rattle.wesl_table.specs.Split.{Scope}
+use Rattle.wesl_split.specs.Split.{Scope}
 use Rattle.wesl_table.specs.Tables.{paired, declaration_of, declarations_from}
 use Rattle.wesl_table.specs.Uses.{Use, local, meant, use_as}
 use Rattle.wesl_table.specs.declared.marks.Asked.{Asked}
@@ -59,7 +59,7 @@ module _ {X Y Z : Type 0} where
 
 -- ---- the declarations of a table
 
-module _ (s : Scope) where
+module _ (s : Scope Path Text) where
   pub declarations_length : (n : ℕ) (ts : List (TreeOf Text)) (us : List (List (Use Path Text))) → length ts ≡ length us → length (declarations_from s n ts us) ≡ length ts
   declarations_length n [] [] e = refl
   declarations_length n [] (u ∷ us) e = refl
@@ -74,13 +74,6 @@ module _ (s : Scope) where
   declarations_at n (a ∷ ts) (b ∷ us) (suc i) t u z h k e f = let m : suc n + i ≡ n + suc i = omega arith in declarations_at (suc n) ts us i t u z (omega (arith, h)) (omega (arith, k)) e f ∙ ap (λ j. declaration_of s j t u) m
 
 -- ---- the identifiers of a module that is read
-
--- it plays no part where an identifier stands
-anywhere : (s : Scope) (a b : Place) (x : Text) (k : scopes.Key) → meant s a x k ≡ meant s b x k
-anywhere s a b x (scopes.bound [] m) = refl
-anywhere s a b x (scopes.bound (j ∷ outer) m) = refl
-anywhere s a b x (scopes.free m) = refl
-anywhere s a b x (scopes.qualified p m) = refl
 
 module _ (r : Reading) (read : IsRead r) (law : SpellingKeepsOccurrences) where
   abbrev all : List Occurrence
@@ -137,15 +130,9 @@ module _ (r : Reading) (read : IsRead r) (law : SpellingKeepsOccurrences) where
 
   -- and so is that of a parameter, a local declaration or a reference, which is what the name means
   pub mark_meant : (nb : Numbering) (m : Mark) (old new : Asked) (i : ℕ) (o : Occurrence) (k : Key) → i < length all → o ≡ get_or all i o → k ≡ get_or all_keys i k → (o.standing ≡ standings.ModuleName → ⊥)
-      → (o.standing ≡ standings.Word → ⊥) → Marks nb m old new (meant_by r k (name_in (view_in r).names o.ident.0)) → Marks nb m old new (use_at r i)
-  mark_meant nb m old new i o k h e f no_name no_word marked_anywhere = by o.standing refl
+      → (o.standing ≡ standings.Word → ⊥) → Marks nb m old new (meant_by r (Name o.place) k (name_in (view_in r).names o.ident.0)) → Marks nb m old new (use_at r i)
+  mark_meant nb m old new i o k h e f no_name no_word marked = by o.standing refl
     where
-      x : Text
-      x = name_in (view_in r).names o.ident.0
-
-      marked : Marks nb m old new (meant (scope_in r) (Name o.place) x (key_view block_way k))
-      marked = subst (Marks nb m old new) (anywhere (scope_in r) Always (Name o.place) x (key_view block_way k)) marked_anywhere
-
       by : (s : Standing) → o.standing ≡ s → Marks nb m old new (use_at r i)
       by standings.ModuleName at = absurd (no_name at)
       by standings.Word at = absurd (no_word at)
@@ -167,18 +154,18 @@ module _ (r : Reading) (read : IsRead r) (law : SpellingKeepsOccurrences) where
 
 -- ---- what names ask for, by what they mean
 
-module _ (r : Reading) (x : Text) (k : Key) where
-  pub meant_module : (b : ℕ) (y : Bor (List ℕ)) → k ≡ made.Bound b y → b ≤ 0 → IsKeyBelow (length r.meanings.now.found.outer.items) k → meant_by r k x ≡ plain_in r x
+module _ (r : Reading) (here : Place) (x : Text) (k : Key) where
+  pub meant_module : (b : ℕ) (y : Bor (List ℕ)) → k ≡ made.Bound b y → b ≤ 0 → IsKeyBelow (length r.meanings.now.found.outer.items) k → meant_by r here k x ≡ plain_in r here x
   meant_module b y e h below =
       let w : ℕ → spec.Block = way r.meanings.now.found.outer.items in
       let z : b ≡ 0 = omega (arith, h) in
       let some : b < length r.meanings.now.found.outer.items = subst (IsKeyBelow (length r.meanings.now.found.outer.items)) e below in
-      ap (λ k. meant_by r k x) e
-      ∙ (ap (λ b. meant (scope_in r) Always x (scopes.bound (w b) y.now)) z
-      ∙ ap (λ ws. meant (scope_in r) Always x (scopes.bound ws y.now)) (way_module r.meanings.now.found.outer.items (omega (arith, some))))
+      ap (λ k. meant_by r here k x) e
+      ∙ (ap (λ b. meant (scope_in r) here x (scopes.bound (w b) y.now)) z
+      ∙ ap (λ ws. meant (scope_in r) here x (scopes.bound ws y.now)) (way_module r.meanings.now.found.outer.items (omega (arith, some))))
 
-  pub meant_free : (y : Bor (List ℕ)) → k ≡ made.Free y → meant_by r k x ≡ plain_in r x
-  meant_free y e = ap (λ k. meant_by r k x) e
+  pub meant_free : (y : Bor (List ℕ)) → k ≡ made.Free y → meant_by r here k x ≡ plain_in r here x
+  meant_free y e = ap (λ k. meant_by r here k x) e
 
-  pub meant_aimed : (p : Bor ModulePath) (y : Bor (List ℕ)) → k ≡ made.Qualified p y → meant_by r k x ≡ aimed_in r p.now x
-  meant_aimed p y e = ap (λ k. meant_by r k x) e
+  pub meant_aimed : (p : Bor ModulePath) (y : Bor (List ℕ)) → k ≡ made.Qualified p y → meant_by r here k x ≡ aimed_in r here p.now x
+  meant_aimed p y e = ap (λ k. meant_by r here k x) e

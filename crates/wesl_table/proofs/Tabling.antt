@@ -6,7 +6,7 @@ use Rattle.std.proofs.lemmas.List.{length-map}
 use Rattle.wesl_names.specs.Path.{Text, Path}
 use Rattle.wesl_syntax.specs.Tree.{TreeOf, end, kind, void, declarations, respell_label}
 use Rattle.wesl_syntax.specs.Unit.{name_in}
-use Rattle.wesl_choices.specs.declared.place.Place.TheVariants.{Always}
+use Rattle.wesl_choices.specs.declared.place.Place.TheVariants as places
 use Rattle.wesl_symbols.specs.declared.ids.PathId.{PathId}
 use Rattle.wesl_symbols.specs.declared.ids.NameId.{NameId}
 use Rattle.wesl_symbols.specs.Tables.{Declaration}
@@ -17,13 +17,18 @@ use Rattle.wesl_occurrences.proofs.Cutting.{total, whole_length}
 use Rattle.wesl_table.specs.Marks.{IsMark, AreMarked}
 use Rattle.wesl_table.specs.Numbering.{Numbering, AreRelated, IsRelatedOption, SameDeclaration, Grows, NameAt, PathAt, AreNumberedNames, AreNumberedReferences, AreNumberedDeclarations}
 use Rattle.wesl_table.specs.Reading.{IsRead, view_in, unit_in, own_path, scope_in, all_uses, span, references_in, unclear_names}
-use Rattle.wesl_table.specs.Split.{Scope}
+use Rattle.wesl_split.specs.Grouped.{ids}
+use Rattle.wesl_split.specs.Laws.{AskAlike}
+use Rattle.wesl_split.specs.ScopeView.{scope_view}
+use Rattle.wesl_split.specs.Split as split
+use Rattle.wesl_split.specs.Split.{Scope}
 use Rattle.wesl_table.specs.Tables.{name_of, uses, declaration_of, declarations_from}
 use Rattle.wesl_table.specs.Uses.{Use, asked, unclear_in}
 use Rattle.wesl_table.specs.declared.marks.Asked.{Asked}
 use Rattle.wesl_table.specs.declared.marks.Mark.{Mark}
 use Rattle.wesl_table.specs.declared.reading.Reading.{Reading}
 use Rattle.wesl_table.proofs.Added.{mark_later}
+use Rattle.wesl_table.proofs.Alike.{place_alike}
 use Rattle.wesl_table.proofs.Holding.{get_itself}
 use Rattle.wesl_table.proofs.Lists.{related_more, related_append}
 use Rattle.wesl_table.proofs.Naming.{related_length, related_at}
@@ -104,12 +109,12 @@ module _ (r : Reading) (read : IsRead r) (law : SpellingKeepsOccurrences) where
 
     module _ (a b : Numbering) (g : Grows a b) where
       -- one declaration more
-      pub declared_next : (names : List (Option NameId)) (name : Option NameId) → AreRelated (IsRelatedOption (NameAt b)) names (map name_of nodes) → name ≡ get_or names k name
+      pub declared_next : AskAlike b (scope_view r.scope.now) (scope_in r) → (names : List (Option NameId)) (name : Option NameId) → AreRelated (IsRelatedOption (NameAt b)) names (map name_of nodes) → name ≡ get_or names k name
           → (found : Asked) → AreNumberedReferences b found.references.items (references_in r from to) → AreNumberedNames b found.unclear.items (unclear_names r from to) → (d : Declaration PathId NameId)
-          → d ≡ record { name = name; place = Always; references = found.references.items; unclear = found.unclear.items }
+          → d ≡ record { name = name; place = split.place_of ids (scope_view r.scope.now) name (places.Declaration k); references = found.references.items; unclear = found.unclear.items }
           → (ds : List (Declaration PathId NameId)) → AreNumberedDeclarations a ds (take k (made_in r)) → AreNumberedDeclarations b (ds ++ d ∷ []) (take (k + 1) (made_in r))
-      declared_next names name named is found refs doubts d d_is ds h =
-          let s : Scope = scope_in r in
+      declared_next alike names name named is found refs doubts d d_is ds h =
+          let s : Scope Path Text = scope_in r in
           let t : TreeOf Text = get_or nodes k any_tree in
           let us : List (Use Path Text) = get_or pieces_used k [] in
           let made : List (Declaration Path Text) = made_in r in
@@ -119,8 +124,8 @@ module _ (r : Reading) (read : IsRead r) (law : SpellingKeepsOccurrences) where
           subst (λ o. IsRelatedOption (NameAt b) name o) (get_mapped name_of nodes k any_tree bound None) (related_at (IsRelatedOption (NameAt b)) names (map name_of nodes) k name None named longer is) in
           let same_refs : AreNumberedReferences b found.references.items (flat_map asked us) = subst (λ l. AreNumberedReferences b found.references.items (flat_map asked l)) (sym piece_is) refs in
           let same_doubts : AreNumberedNames b found.unclear.items (flat_map unclear_in us) = subst (λ l. AreNumberedNames b found.unclear.items (flat_map unclear_in l)) (sym piece_is) doubts in
-          let by_number : Declaration PathId NameId = record { name = name; place = Always; references = found.references.items; unclear = found.unclear.items } in
-          let same : SameDeclaration (PathAt b) (NameAt b) by_number e = record { name = same_name; place = refl; references = same_refs; unclear = same_doubts } in
+          let by_number : Declaration PathId NameId = record { name = name; place = split.place_of ids (scope_view r.scope.now) name (places.Declaration k); references = found.references.items; unclear = found.unclear.items } in
+          let same : SameDeclaration (PathAt b) (NameAt b) by_number e = record { name = same_name; place = place_alike b (scope_view r.scope.now) s alike name (name_of t) same_name (places.Declaration k); references = same_refs; unclear = same_doubts } in
           let number : 0 + k ≡ k = omega arith in
           let at_k : get_or made k e ≡ e =
           declarations_at s 0 nodes pieces_used k t us e bound (omega (arith, bound, pieces_length r)) (get_itself nodes k any_tree bound) (get_itself pieces_used k [] (omega (arith, bound, pieces_length r)))

@@ -6,13 +6,12 @@ pub mod Marks
 pub mod Reading
 pub mod Numbering
 pub mod Walks
-pub mod Scope
+pub mod Aims
 pub mod Spelling
 pub mod NumbersView
 pub mod Base
 pub mod Laws
 pub mod Parts
 pub mod TextsView
-pub mod Different
 pub mod Interned
 pub mod Interning

@@ -1,23 +1,17 @@
 -- Numbers for names and paths, and symbol tables that are the same but for the numbers in place of names and paths.
-use Rattle.std.specs.Prelude.{◌≡◌, ◌⊎◌, Bool, false, Option, Some, None, List, [], ◌∷◌, ◌++◌, slice_get}
+use Rattle.std.specs.Prelude.{◌≡◌, ◌⊎◌, Bool, false, Option, Some, None, List, [], ◌∷◌, ◌++◌}
 use Rattle.std.specs.List.{list_any}
 use Rattle.wesl_names.specs.Path.{Text, Path}
-pub use Rattle.wesl_table.specs.Different.{AreDifferent}
-use Rattle.wesl_symbols.specs.declared.ids.PathId.{PathId}
-use Rattle.wesl_symbols.specs.declared.ids.NameId.{NameId}
 use Rattle.wesl_choices.specs.declared.place.Place.{Place}
 use Rattle.wesl_choices.specs.Places.{together}
+use Rattle.wesl_symbols.specs.declared.ids.PathId.{PathId}
+use Rattle.wesl_symbols.specs.declared.ids.NameId.{NameId}
 use Rattle.wesl_symbols.specs.declared.symbols.Import.{Import}
-use Rattle.wesl_symbols.specs.declared.symbols.Reference.{Reference}
 use Rattle.wesl_symbols.specs.Tables.{Declaration, Table}
+pub use Rattle.wesl_split.specs.Different.{AreDifferent}
+pub use Rattle.wesl_split.specs.Numbering.{AreRelated, SameImport, SameReference, SameBinder, SameScope, Numbering, NameAt, PathAt, IsNumberedImport, IsNumberedReference, AreNumberedReferences, AreNumberedBinders, IsNumberedScope}
 
 -- ---- tables over paths `P` and names `N`, and over `Q` and `M`, that say the same
-
--- both lists have as many elements, and each is related to the one at its place
-abbrev pub AreRelated : {X Y : Type 0} → (X → Y → Type 0) → List X → List Y → Type 0
-AreRelated R [] [] = Unit {0}
-AreRelated R (x ∷ xs) (y ∷ ys) = R x y × AreRelated R xs ys
-AreRelated R _ _ = ⊥
 
 abbrev pub IsRelatedOption : {X Y : Type 0} → (X → Y → Type 0) → Option X → Option Y → Type 0
 IsRelatedOption R None None = Unit {0}
@@ -25,39 +19,21 @@ IsRelatedOption R (Some x) (Some y) = R x y
 IsRelatedOption R _ _ = ⊥
 
 module _ {P N Q M : Type 0} (R : P → Q → Type 0) (S : N → M → Type 0) where
-  pub record SameImport (i : Import P N) (j : Import Q M) : Type 0 where
-    pub bound : S i.bound j.bound
-    pub path : R i.path j.path
-    pub item : S i.item j.item
-    pub published : i.published ≡ j.published
-    pub place : i.place ≡ j.place
-    pub from : i.from ≡ j.from
-    pub order : i.order ≡ j.order
-
-  pub record SameReference (r : Reference P N) (s : Reference Q M) : Type 0 where
-    pub path : R r.path s.path
-    pub name : S r.name s.name
-    pub from : r.from ≡ s.from
-
   pub record SameDeclaration (d : Declaration P N) (e : Declaration Q M) : Type 0 where
     pub name : IsRelatedOption S d.name e.name
     pub place : d.place ≡ e.place
-    pub references : AreRelated SameReference d.references e.references
+    pub references : AreRelated (SameReference R S) d.references e.references
     pub unclear : AreRelated S d.unclear e.unclear
 
+  -- what choices of flags keep is the same in what it answers of two places
   pub record SameTable (t : Table P N) (u : Table Q M) : Type 0 where
     pub path : R t.path u.path
-    pub imports : AreRelated SameImport t.imports u.imports
+    pub imports : AreRelated (SameImport R S) t.imports u.imports
     pub declarations : AreRelated SameDeclaration t.declarations u.declarations
     pub together : (a b : Place) → together t.alive a b ≡ together u.alive a b
     pub crowded : t.is_crowded ≡ u.is_crowded
 
 -- ---- numbers
-
--- the names and the paths that have numbers, in their order
-pub record Numbering : Type 0 where
-  pub names : List Text
-  pub paths : List Path
 
 -- the list goes on from the other
 abbrev pub IsLonger : {X : Type 0} → List X → List X → Type 0
@@ -72,29 +48,13 @@ pub record Grows (old new : Numbering) : Type 0 where
   pub names : IsLonger old.names new.names
   pub paths : IsLonger old.paths new.paths
 
--- the name of a number, and the path of one
-abbrev pub NameAt : Numbering → NameId → Text → Type 0
-NameAt numbering n x = slice_get numbering.names n.0 ≡ Some x
-
-abbrev pub PathAt : Numbering → PathId → Path → Type 0
-PathAt numbering p q = slice_get numbering.paths p.0 ≡ Some q
-
 -- the table has these numbers where the other has names and paths
 abbrev pub IsNumbered : Numbering → Table PathId NameId → Table Path Text → Type 0
 IsNumbered numbering t u = SameTable (PathAt numbering) (NameAt numbering) t u
 
 module _ (numbering : Numbering) where
-  abbrev pub IsNumberedImport : Import PathId NameId → Import Path Text → Type 0
-  IsNumberedImport i j = SameImport (PathAt numbering) (NameAt numbering) i j
-
   abbrev pub AreNumberedImports : List (Import PathId NameId) → List (Import Path Text) → Type 0
   AreNumberedImports is js = AreRelated (SameImport (PathAt numbering) (NameAt numbering)) is js
-
-  abbrev pub IsNumberedReference : Reference PathId NameId → Reference Path Text → Type 0
-  IsNumberedReference r s = SameReference (PathAt numbering) (NameAt numbering) r s
-
-  abbrev pub AreNumberedReferences : List (Reference PathId NameId) → List (Reference Path Text) → Type 0
-  AreNumberedReferences rs ss = AreRelated (SameReference (PathAt numbering) (NameAt numbering)) rs ss
 
   abbrev pub AreNumberedNames : List NameId → List Text → Type 0
   AreNumberedNames ns xs = AreRelated (NameAt numbering) ns xs

@@ -1,8 +1,8 @@
 -- What is known of a module while its identifiers are marked.
-use Rattle.std.specs.Prelude.{◌≡◌, ℕ, ◌<◌, ◌==◌, Bool, false, Option, List, [], ◌∷◌, ◌++◌, length, map, flat_map, take, drop, get_or, Contains, if◌then◌else◌, Vec}
+use Rattle.std.specs.Prelude.{◌≡◌, ℕ, ◌<◌, false, Option, List, [], ◌∷◌, ◌++◌, length, map, flat_map, take, drop, get_or, Vec}
 use Rattle.std.specs.declared.alloc.Global.{Global}
-use Rattle.std.specs.List.{All, list_any}
-use Rattle.wesl_names.specs.Path.{Text, Path, path_view, is_relative}
+use Rattle.std.specs.List.{All}
+use Rattle.wesl_names.specs.Path.{Text, Origin, from_package, Path, path_view, is_relative}
 use Rattle.wesl_names.specs.declared.path.ModulePath.{ModulePath}
 use Rattle.wesl_syntax.specs.Tree.{TreeOf, kind, declarations, trees, respell}
 use Rattle.wesl_syntax.specs.Unit.{UnitOf, UnitView, spelled, trees_of, name_in}
@@ -10,10 +10,9 @@ use Rattle.wesl_syntax.specs.View.{declarations_tree}
 use Rattle.wesl_syntax.specs.declared.declaration.GlobalDeclaration.{GlobalDeclaration}
 use Rattle.wesl_syntax.specs.declared.span.Spanned.{Spanned}
 use Rattle.wesl_tree.specs.Translation.{unit_view}
-use Rattle.wesl_choices.specs.declared.place.Place.TheVariants.{Always}
+use Rattle.wesl_choices.specs.declared.place.Place.{Place}
 use Rattle.wesl_symbols.specs.declared.ids.PathId.{PathId}
 use Rattle.wesl_symbols.specs.declared.ids.NameId.{NameId}
-use Rattle.wesl_symbols.specs.declared.symbols.Import.{Import}
 use Rattle.wesl_symbols.specs.declared.symbols.Reference.{Reference}
 use Rattle.wesl_occurrences.specs.Occurrences.{occurrences}
 use Rattle.wesl_occurrences.specs.Identified.{identified}
@@ -22,14 +21,14 @@ use Rattle.wesl_occurrences.specs.Ways.{AreNested, way}
 use Rattle.wesl_meanings.specs.Scopes.{keys}
 use Rattle.wesl_meanings.specs.Keys.{key_view, IsKeyBelow}
 use Rattle.wesl_meanings.specs.declared.keys.Key as keyed
-use Rattle.wesl_table.specs.Imports.{imports}
 use Rattle.wesl_table.specs.Marks.{IsMark}
-use Rattle.wesl_table.specs.Numbering.{Numbering, AreRelated, IsRelatedOption, AreNumberedImports, AreNumberedNames, AreNumberedReferences, NameAt, PathAt}
+use Rattle.wesl_table.specs.Numbering.{Numbering, AreRelated, IsRelatedOption, AreNumberedNames, AreNumberedReferences, AreNumberedBinders, IsNumberedScope, NameAt}
 use Rattle.wesl_table.specs.NumbersView.{numbering}
-use Rattle.wesl_table.specs.Spelling.{spelled_imports}
-use Rattle.wesl_table.specs.Split.{Scope}
-use Rattle.wesl_table.specs.Tables.{name_of, names_declared, scope_of}
-use Rattle.wesl_table.specs.Uses.{Use, local, asked, unclear_in, plain_use, path_use, meant, use_of}
+use Rattle.wesl_split.specs.ScopeView.{scope_view}
+use Rattle.wesl_split.specs.Split.{Scope, under}
+use Rattle.wesl_split.specs.declared.binders.Binder.{Binder}
+use Rattle.wesl_table.specs.Tables.{name_of, scope_of}
+use Rattle.wesl_table.specs.Uses.{Use, refers, local, texts, aims, asked, unclear_in, plain_use, path_use, meant, use_of}
 use Rattle.wesl_table.specs.declared.marks.Asked.{Asked}
 use Rattle.wesl_table.specs.declared.marks.Mark.{Mark}
 use Rattle.wesl_table.specs.declared.marks.Mark.TheVariants as marks
@@ -47,22 +46,22 @@ unit_in r = spelled (view_in r)
 abbrev pub own_path : Reading → Path
 own_path r = path_view r.path.now
 
-abbrev pub imports_in : Reading → List (Import Path Text)
-imports_in r = imports (own_path r) (unit_in r)
-
-abbrev pub scope_in : Reading → Scope
+abbrev pub scope_in : Reading → Scope Path Text
 scope_in r = scope_of (own_path r) (unit_in r)
 
--- what a name is in it that means this by plain scoping, where no condition plays a part
-abbrev pub meant_by : Reading → keyed.Key → Text → Use Path Text
-meant_by r key x = meant (scope_in r) Always x (key_view (way r.meanings.now.found.outer.items) key)
+-- what a name is at a place of it that means this by plain scoping
+abbrev pub meant_by : Reading → Place → keyed.Key → Text → Use Path Text
+meant_by r here key x = meant (scope_in r) here x (key_view (way r.meanings.now.found.outer.items) key)
 
--- a name without a path, and a name under a path
-abbrev pub plain_in : Reading → Text → Use Path Text
-plain_in r x = plain_use (scope_in r) Always x
+-- a name without a path, a name under a path, and one under a path that begins with the name of these imports
+abbrev pub plain_in : Reading → Place → Text → Use Path Text
+plain_in r here x = plain_use (scope_in r) here x
 
-abbrev pub aimed_in : Reading → ModulePath → Text → Use Path Text
-aimed_in r p x = path_use (scope_in r) Always (path_view p) x
+abbrev pub aimed_in : Reading → Place → ModulePath → Text → Use Path Text
+aimed_in r here p x = path_use (scope_in r) here (path_view p) x
+
+abbrev pub under_in : Reading → Place → List (Binder Path Text) → ModulePath → Text → Use Path Text
+under_in r here bs p x = refers x (map (under texts (scope_in r) x here) (aims (own_path r) bs (path_view p)))
 
 -- what all its identifiers are, and the one at a place
 abbrev pub all_uses : Reading → List (Use Path Text)
@@ -85,8 +84,6 @@ unclear_names r from to = flat_map unclear_in (span from to (all_uses r))
 -- what was read of it
 pub record IsRead (r : Reading) : Type 0 where
   pub own : is_relative (own_path r) ≡ false
-  pub asked : All (λ i. is_relative (path_view i.path) ≡ false) r.imports.now
-  pub imports : spelled_imports (view_in r).names r.imports.now ≡ imports_in r
   pub label : (view_in r).declarations.label ≡ kind declarations
   pub found : identified r.meanings.now.found ≡ occurrences (trees_of (view_in r))
   pub keys : map (key_view (way r.meanings.now.found.outer.items)) r.meanings.now.keys.items ≡ keys (occurrences (unit_in r))
@@ -99,32 +96,12 @@ pub record IsRead (r : Reading) : Type 0 where
 abbrev pub AreNumbersOfNames : Numbering → List (Option NameId) → List (TreeOf Text) → Type 0
 AreNumbersOfNames nb ids ds = AreRelated (IsRelatedOption (NameAt nb)) ids (map name_of ds)
 
--- its numbers: of its path, its imports, its names, and of those that it declares
+-- what its names stand for by numbers, and the numbers of its names
 pub record IsNumberedBy (nb : Numbering) (r : Reading) : Type 0 where
-  pub own : PathAt nb r.own (own_path r)
-  pub imports : AreNumberedImports nb r.numbered.now (imports_in r)
+  pub scope : IsNumberedScope nb (scope_view r.scope.now) (scope_in r)
   pub ids : AreRelated (NameAt nb) r.ids.now (view_in r).names
-  pub declares : (n : NameId) → Contains r.declared.now.keys n → (x : Text) × Contains (names_declared (unit_in r)) x × NameAt nb n x
-  pub declared : (x : Text) → Contains (names_declared (unit_in r)) x → (n : NameId) × Contains r.declared.now.keys n × NameAt nb n x
 
 -- ---- what names ask for, by numbers
-
-abbrev pub same_id : NameId → NameId → Bool
-same_id m n = m.0 == n.0
-
-abbrev pub reference_by : NameId → PathId → Reference PathId NameId
-reference_by n p = record { path = p; name = n; from = Always }
-
-abbrev pub imported_as : NameId → Import PathId NameId → List (Reference PathId NameId)
-imported_as n i = if same_id i.bound n then record { path = i.path; name = i.item; from = i.from } ∷ [] else []
-
--- of a name without a path, where the module declares these names and has these imports
-abbrev pub plain : PathId → List NameId → List (Import PathId NameId) → NameId → List (Reference PathId NameId)
-plain own declared imports n = if list_any (same_id n) declared then reference_by n own ∷ [] else flat_map (imported_as n) imports
-
--- of a name without a path in the module that is read
-abbrev pub plain_of : Reading → NameId → List (Reference PathId NameId)
-plain_of r name = plain r.own r.declared.now.keys r.numbered.now name
 
 -- the mark of a name that asks for these
 abbrev pub mark_of : NameId → List (Reference PathId NameId) → Mark
@@ -148,13 +125,20 @@ pub record Marks (nb : Numbering) (m : Mark) (old new : Asked) (u : Use Path Tex
 abbrev pub MarksName : Numbers → Numbers → NameId → (Text → Use Path Text) → Mark → Asked → Asked → Type 0
 MarksName before after name as_use m old new = (x : Text) → NameAt (numbering before) name x → Marks (numbering after) m old new (as_use x)
 
--- a reference to the name under a module, from where no condition plays a part
-abbrev pub under_path : Text → ModulePath → Reference Path Text
-under_path x p = record { path = path_view p; name = x; from = Always }
+-- the number is that of the package with which a path begins
+abbrev pub IsPackage : Numbering → NameId → Origin → Type 0
+IsPackage nb n (from_package x) = NameAt nb n x
+IsPackage nb n _ = ⊥
+
+-- the same of a name under a path that begins with the name of imports, which have these numbers
+abbrev pub MarksUnder : Numbers → Numbers → Reading → Place → ModulePath → List (Binder PathId NameId) → NameId → Mark → Asked → Asked → Type 0
+MarksUnder before after r here path imports name m old new =
+    (bs : List (Binder Path Text)) → AreNumberedBinders (numbering before) imports bs → MarksName before after name (under_in r here bs path) m old new
 
 -- the name of that number is asked for under each of these modules
-abbrev pub AddsUnder : Numbers → Numbers → NameId → List ModulePath → List (Reference PathId NameId) → List (Reference PathId NameId) → Type 0
-AddsUnder before after name modules old new = (x : Text) → NameAt (numbering before) name x → Adds (numbering after) old new (map (under_path x) modules)
+abbrev pub AddsUnder : Numbers → Numbers → Reading → Place → NameId → List ModulePath → List (Reference PathId NameId) → List (Reference PathId NameId) → Type 0
+AddsUnder before after r here name modules old new =
+    (x : Text) → NameAt (numbering before) name x → Adds (numbering after) old new (map (λ m. under texts (scope_in r) x here (path_view m)) modules)
 
 -- of each of these declarations the number of the name that it binds by a table of names, if it binds one
 abbrev pub NumbersNames : Numbering → List Text → Vec (Spanned GlobalDeclaration) Global → List (Option NameId) → Type 0

@@ -1,10 +1,13 @@
 -- Imports under other names.
 use Rattle.std.specs.Prelude.{List, map}
-use Rattle.wesl_names.specs.Path.{Text, Path}
+use Rattle.wesl_names.specs.Path.{Text, Path, path_view}
 use Rattle.wesl_names.specs.declared.names.Ident.{Ident}
 use Rattle.wesl_names.specs.declared.path.ModulePath.{ModulePath}
-use Rattle.wesl_syntax.specs.Unit.{name_in}
+use Rattle.wesl_syntax.specs.Unit.{name_in, spelled}
+use Rattle.wesl_tree.specs.Translation.{unit_view}
+use Rattle.wesl_tree.specs.declared.unit.TranslationUnit.{TranslationUnit}
 use Rattle.wesl_symbols.specs.declared.symbols.Import.{Import}
+use Rattle.wesl_table.specs.Imports.{imports}
 use Rattle.wesl_table.specs.Walks.{import_view}
 
 abbrev pub respell_import : {I J : Type 0} → (I → J) → Import Path I → Import Path J
@@ -16,3 +19,11 @@ spelled_import names i = respell_import (name_in names) (import_view i)
 
 abbrev pub spelled_imports : List Text → List (Import ModulePath Ident) → List (Import Path Text)
 spelled_imports names is = map (spelled_import names) is
+
+-- imports as the names of the unit spell them
+abbrev pub spelled_in : TranslationUnit → List (Import ModulePath Ident) → List (Import Path Text)
+spelled_in unit is = spelled_imports (unit_view unit).names is
+
+-- the imports that a unit has as the module at this path
+abbrev pub imports_at : ModulePath → TranslationUnit → List (Import Path Text)
+imports_at path unit = imports (path_view path) (spelled (unit_view unit))

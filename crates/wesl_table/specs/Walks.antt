@@ -7,6 +7,7 @@ use Rattle.wesl_names.specs.declared.path.ModulePath.{ModulePath}
 use Rattle.wesl_syntax.specs.Tree.{Forest, end, tree, identifiers}
 use Rattle.wesl_syntax.specs.View.{import_view as statement_view}
 use Rattle.wesl_syntax.specs.declared.import.ImportStatement.{ImportStatement}
+use Rattle.wesl_choices.specs.declared.place.Place.{Place}
 use Rattle.wesl_symbols.specs.declared.symbols.Import.{Import}
 use Rattle.wesl_table.specs.Base.{base_view}
 use Rattle.wesl_table.specs.Imports as imports
@@ -29,18 +30,18 @@ abbrev pub AddsPaths : Vec ModulePath Global → Vec ModulePath Global → List 
 AddsPaths old new more = paths_of new ≡ paths_of old ++ more
 
 -- the imports of this content, after those found before
-abbrev pub imported : Bool → imports.Base → List (Import Path ℕ) → Forest → List (Import Path ℕ)
-imported published base found end = found
-imported published base found (tree l children others) =
-    imported published base
-    (if imports.is_item l then found ++ imports.item_imports published base (identifiers children)
-    else if imports.is_entry l then imported published (imports.entered base (imports.first_label [] imports.label_texts children)) found children
-    else imported published base found children) others
+abbrev pub imported : Place → Bool → imports.Base → List (Import Path ℕ) → Forest → List (Import Path ℕ)
+imported stands published base found end = found
+imported stands published base found (tree l children others) =
+    imported stands published base
+    (if imports.is_item l then found ++ imports.item_imports stands published base (identifiers children)
+    else if imports.is_entry l then imported stands published (imports.entered base (imports.first_label [] imports.label_texts children)) found children
+    else imported stands published base found children) others
 
 -- what was found has the imports of this content after those found before
-abbrev pub HasImported : Bool → Base → Forest → Vec (Import ModulePath Ident) Global → Vec (Import ModulePath Ident) Global → Type 0
-HasImported published base content old new = imports_of new ≡ imported published (base_view base) (imports_of old) content
+abbrev pub HasImported : Place → Bool → Base → Forest → Vec (Import ModulePath Ident) Global → Vec (Import ModulePath Ident) Global → Type 0
+HasImported stands published base content old new = imports_of new ≡ imported stands published (base_view base) (imports_of old) content
 
 -- the imports of a statement of the module at this path
-abbrev pub statement_imports : ModulePath → ImportStatement → List (Import Path ℕ)
-statement_imports own statement = imports.statement_imports (path_view own) (statement_view statement).children
+abbrev pub statement_imports : ModulePath → Place → ImportStatement → List (Import Path ℕ)
+statement_imports own stands statement = imports.statement_imports (path_view own) stands (statement_view statement).children

@@ -63,7 +63,8 @@ fn base_of(alloc: Global, own: &ModulePath, path: &Option<ModulePath>) -> Result
     }
 }
 
-/// The imports with a target of the module at `own`, in the order of the source. Refused for want of memory alone.
+/// The imports with a target of the module at `own`, in the order of the source, each with where its statement stands.
+/// Refused for want of memory alone.
 pub fn imports(
     alloc: Global,
     own: &ModulePath,
@@ -74,8 +75,14 @@ pub fn imports(
     ensures asked { IfOk result (λ found. All (λ i. is_relative (path_view i.path) ≡ false) found.items) }
 {
     let mut found = Vec::new(alloc);
-    for statement in statements {
-        add_statement(alloc, own, &mut found, &statement.node)?;
+    for i in 0..statements.len() {
+        add_statement(
+            alloc,
+            own,
+            &mut found,
+            Place::Import(i),
+            &statements[i].node,
+        )?;
     }
     Ok(found)
 }
@@ -84,28 +91,32 @@ fn add_statement(
     alloc: Global,
     own: &ModulePath,
     found: &mut Vec<Import<ModulePath, Ident>>,
+    stands: Place,
     statement: &ImportStatement,
 ) -> Result<(), AllocError>
-    ensures { OnOk result (imports_of found.new ≡ imports_of found.old ++ statement_imports own.now statement.now) }
+    ensures { OnOk result (imports_of found.new ≡ imports_of found.old ++ statement_imports own.now stands statement.now) }
 {
     let base = base_of(alloc, own, &statement.path)?;
     let published = is_published(&statement.attributes);
-    add_content(alloc, found, published, &base, &statement.content)
+    add_content(alloc, found, stands, published, &base, &statement.content)
 }
 
 #[cycle(imports)]
 fn add_content(
     alloc: Global,
     found: &mut Vec<Import<ModulePath, Ident>>,
+    stands: Place,
     published: bool,
     base: &Base,
     content: &ImportContent,
 ) -> Result<(), AllocError>
-    ensures { OnOk result (HasImported published base.now (before (content_view content.now) end) found.old found.new) }
+    ensures { OnOk result (HasImported stands published base.now (before (content_view content.now) end) found.old found.new) }
 {
     match content {
-        ImportContent::Item(item) => add_item(alloc, found, published, base, item),
-        ImportContent::Collection(entries) => add_entries(alloc, found, published, base, entries),
+        ImportContent::Item(item) => add_item(alloc, found, stands, published, base, item),
+        ImportContent::Collection(entries) => add_entries(
+            alloc, found, stands, published, base, entries,
+        ),
     }
 }
 
@@ -113,14 +124,15 @@ fn add_content(
 fn add_entries(
     alloc: Global,
     found: &mut Vec<Import<ModulePath, Ident>>,
+    stands: Place,
     published: bool,
     base: &Base,
     entries: &Vec<ImportEntry>,
 ) -> Result<(), AllocError>
-    ensures { OnOk result (HasImported published base.now (forest_of (map entry_view entries.now.items)) found.old found.new) }
+    ensures { OnOk result (HasImported stands published base.now (forest_of (map entry_view entries.now.items)) found.old found.new) }
 {
     for entry in entries {
-        add_entry(alloc, found, published, base, entry)?;
+        add_entry(alloc, found, stands, published, base, entry)?;
     }
     Ok(())
 }
@@ -129,24 +141,26 @@ fn add_entries(
 fn add_entry(
     alloc: Global,
     found: &mut Vec<Import<ModulePath, Ident>>,
+    stands: Place,
     published: bool,
     base: &Base,
     entry: &ImportEntry,
 ) -> Result<(), AllocError>
-    ensures { OnOk result (HasImported published base.now (before (entry_view entry.now) end) found.old found.new) }
+    ensures { OnOk result (HasImported stands published base.now (before (entry_view entry.now) end) found.old found.new) }
 {
     let inner = base.entered(alloc, &entry.path)?;
-    add_content(alloc, found, published, &inner, &entry.content)
+    add_content(alloc, found, stands, published, &inner, &entry.content)
 }
 
 fn add_item(
     alloc: Global,
     found: &mut Vec<Import<ModulePath, Ident>>,
+    stands: Place,
     published: bool,
     base: &Base,
     item: &ImportItem,
 ) -> Result<(), AllocError>
-    ensures { OnOk result (HasImported published base.now (before (item_view item.now) end) found.old found.new) }
+    ensures { OnOk result (HasImported stands published base.now (before (item_view item.now) end) found.old found.new) }
 {
     let Base::At(path) = base else {
         return Ok(());
@@ -159,7 +173,7 @@ fn add_item(
         path: copied(alloc, path)?,
         item: item.ident,
         published,
-        place: Place::Always,
+        place: stands,
         from: Place::Always,
         order: 2,
     };

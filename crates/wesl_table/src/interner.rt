@@ -3,7 +3,7 @@ ghost use Rattle.std.specs.Prelude.{◌≡◌, ◌<◌, ℕ, [], true, length, S
 ghost use Rattle.std.specs.Global.{Global};
 ghost use Rattle.indexmap.specs.IndexSet.{insert_key};
 ghost use Rattle.wesl_names.specs.declared.errors.Error as error;
-ghost use Rattle.wesl_table.specs.Different.{AreDifferent};
+ghost use Rattle.wesl_split.specs.Different.{AreDifferent};
 ghost use Rattle.wesl_table.specs.Interning.{PutsOrKeeps};
 
 use indexmap::IndexSet;

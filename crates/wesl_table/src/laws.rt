@@ -1,5 +1,5 @@
 //! Laws of declarations and of numbers for names, each the contract of a function that does nothing.
-ghost use Rattle.wesl_table.specs.Different.{AreDifferent};
+ghost use Rattle.wesl_split.specs.Different.{AreDifferent};
 ghost use Rattle.wesl_table.specs.Interned.{texts_of};
 ghost use Rattle.wesl_table.specs.Laws.{UsesAreIdentifiers};
 

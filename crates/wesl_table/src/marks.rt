@@ -1,20 +1,23 @@
 //! What the identifiers of a module are to a link.
-ghost use Rattle.std.specs.Prelude.{◌≡◌, ◌<◌, ◌≤◌, ◌++◌, [], false, All, length, get_or, drop, IfOk, OnOk};
+ghost use Rattle.std.specs.Prelude.{◌≡◌, ◌<◌, ◌≤◌, ◌++◌, ◌∷◌, [], false, All, length, get_or, drop, IfOk, OnOk};
 ghost use Rattle.wesl_names.specs.Path.{path_view, is_relative};
 ghost use Rattle.wesl_meanings.specs.Keys.{IsKeyBelow};
+ghost use Rattle.wesl_table.specs.Aims.{IsKnown};
 ghost use Rattle.wesl_table.specs.Marks.{IsMark};
 ghost use Rattle.wesl_table.specs.Numbering.{AreRelated, AreNumberedNames, AreNumberedReferences, Grows};
 ghost use Rattle.wesl_table.specs.NumbersView.{numbering};
-ghost use Rattle.wesl_table.specs.Reading.{IsRead, IsNumberedBy, Marks, MarksName, AddsUnder, plain_of, plain_in, mark_of, aimed_in, meant_by, use_at, all_uses, references_in, unclear_names, span};
+ghost use Rattle.wesl_table.specs.Reading.{IsRead, IsNumberedBy, IsPackage, Marks, MarksName, MarksUnder, AddsUnder, plain_in, mark_of, aimed_in, meant_by, use_at, all_uses, references_in, unclear_names, span};
+ghost use Rattle.wesl_table.specs.declared.marks.Mark.TheVariants as marks;
 
-use crate::aims::{Scope, aims};
+use crate::aims::aims;
 use crate::numbers::Numbers;
 use crate::reading::Reading;
 use std::alloc::{AllocError, Global};
 use wesl_choices::place::Place;
 use wesl_meanings::Key;
-use wesl_names::{Ident, ModulePath};
+use wesl_names::{Ident, ModulePath, PathOrigin};
 use wesl_occurrences::{Standing, law_of_ways};
+use wesl_split::binders::{Binder, has_two_targets};
 use wesl_symbols::ids::{NameId, PathId};
 use wesl_symbols::symbols::Reference;
 
@@ -43,34 +46,6 @@ fn mark_after(references: &[Reference<PathId, NameId>], before: usize, name: Nam
     }
 }
 
-/// What a name without a path asks for: the module's own declaration, else what its imports of the name aim at.
-fn add_plain(
-    reading: &Reading<'_, '_>,
-    found: &mut Vec<Reference<PathId, NameId>>,
-    name: NameId,
-) -> Result<(), AllocError>
-    ensures { OnOk result (found.new.items ≡ found.old.items ++ plain_of reading.now name) }
-{
-    if reading.declared.contains(&name) {
-        found.push(Reference {
-            path: reading.own,
-            name,
-            from: Place::Always,
-        })?;
-        return Ok(());
-    }
-    for import in reading.numbered {
-        if import.bound == name {
-            found.push(Reference {
-                path: import.path,
-                name: import.item,
-                from: import.from,
-            })?;
-        }
-    }
-    Ok(())
-}
-
 /// What the identifiers of a declaration ask for, and the names that stand for two things there.
 #[derive(Drop)]
 pub struct Asked {
@@ -78,18 +53,35 @@ pub struct Asked {
     pub unclear: Vec<NameId>,
 }
 
+/// The mark of a name that is used where it stands for two things, or the package of its path does, which is then this name.
+fn mark_unclear(found: &mut Asked, name: NameId, unclear: NameId) -> Result<Mark, AllocError>
+    ensures mark { IfOk result (λ m. m ≡ marks.Unclear name) }
+    ensures references { found.new.references.items ≡ found.old.references.items }
+    ensures unclear { OnOk result (found.new.unclear.items ≡ found.old.unclear.items ++ unclear ∷ []) }
+{
+    found.unclear.push(unclear)?;
+    Ok(Mark::Unclear(name))
+}
+
 /// The mark of a name without a path.
 fn mark_plain(
+    alloc: Global,
     numbers: &Numbers,
     reading: &Reading<'_, '_>,
     found: &mut Asked,
     name: NameId,
+    here: Place,
 ) -> Result<Mark, AllocError>
     requires numbered { IsNumberedBy (numbering numbers.now) reading.now }
-    ensures { IfOk result (λ m. MarksName numbers.now numbers.now name (plain_in reading.now) m found.old found.new) }
+    ensures { IfOk result (λ m. MarksName numbers.now numbers.now name (plain_in reading.now here) m found.old found.new) }
 {
     let before = found.references.len();
-    add_plain(reading, &mut found.references, name)?;
+    let is_unclear = reading
+        .scope
+        .add_plain(alloc, &mut found.references, name, here)?;
+    if is_unclear {
+        return mark_unclear(found, name, name);
+    }
     Ok(mark_after(&found.references, before, name))
 }
 
@@ -97,12 +89,15 @@ fn mark_plain(
 fn add_under(
     alloc: Global,
     numbers: &mut Numbers,
+    reading: &Reading<'_, '_>,
     found: &mut Vec<Reference<PathId, NameId>>,
     name: NameId,
+    here: Place,
     modules: &[ModulePath],
 ) -> Result<(), AllocError>
-    requires { All (λ p. is_relative (path_view p) ≡ false) modules.now }
-    ensures added { OnOk result (AddsUnder numbers.old numbers.new name modules.now found.old.items found.new.items) }
+    requires numbered { IsNumberedBy (numbering numbers.now) reading.now }
+    requires asked { All (λ p. is_relative (path_view p) ≡ false) modules.now }
+    ensures added { OnOk result (AddsUnder numbers.old numbers.new reading.now here name modules.now found.old.items found.new.items) }
     ensures grows { Grows (numbering numbers.old) (numbering numbers.new) }
 {
     for module in modules {
@@ -110,10 +105,65 @@ fn add_under(
         found.push(Reference {
             path,
             name,
-            from: Place::Always,
+            from: reading.scope.asked_at(path, name, here),
         })?;
     }
     Ok(())
+}
+
+/// The mark of a name under a path that begins with the name of these imports, where there are some.
+fn mark_under(
+    alloc: Global,
+    numbers: &mut Numbers,
+    reading: &Reading<'_, '_>,
+    found: &mut Asked,
+    name: NameId,
+    here: Place,
+    path: &ModulePath,
+    imports: &[Binder<PathId, NameId>],
+) -> Result<Mark, AllocError>
+    requires read { IsRead reading.now }
+    requires numbered { IsNumberedBy (numbering numbers.now) reading.now }
+    requires known { All (IsKnown (numbering numbers.now)) imports.now }
+    ensures marked { IfOk result (λ m. MarksUnder numbers.old numbers.new reading.now here path.now imports.now name m found.old found.new) }
+    ensures grows { Grows (numbering numbers.old) (numbering numbers.new) }
+{
+    let modules = aims(alloc, numbers, reading.path, path, imports)?;
+    let before = found.references.len();
+    add_under(
+        alloc,
+        numbers,
+        reading,
+        &mut found.references,
+        name,
+        here,
+        &modules,
+    )?;
+    Ok(mark_after(&found.references, before, name))
+}
+
+/// The mark of a name under a path that begins with the name of a package, which has this number: it may be that of imports.
+fn mark_through(
+    alloc: Global,
+    numbers: &mut Numbers,
+    reading: &Reading<'_, '_>,
+    found: &mut Asked,
+    name: NameId,
+    here: Place,
+    path: &ModulePath,
+    first: NameId,
+) -> Result<Mark, AllocError>
+    requires read { IsRead reading.now }
+    requires numbered { IsNumberedBy (numbering numbers.now) reading.now }
+    requires first { IsPackage (numbering numbers.now) first (path_view path.now).origin }
+    ensures marked { IfOk result (λ m. MarksName numbers.old numbers.new name (aimed_in reading.now here path.now) m found.old found.new) }
+    ensures grows { Grows (numbering numbers.old) (numbering numbers.new) }
+{
+    let imports = reading.scope.seen_imports(alloc, first, here)?;
+    if has_two_targets(&imports) {
+        return mark_unclear(found, name, first);
+    }
+    mark_under(alloc, numbers, reading, found, name, here, path, &imports)
 }
 
 /// The mark of a name under a path.
@@ -123,21 +173,31 @@ fn mark_aimed(
     reading: &Reading<'_, '_>,
     found: &mut Asked,
     name: NameId,
+    here: Place,
     path: &ModulePath,
 ) -> Result<Mark, AllocError>
     requires read { IsRead reading.now }
-    ensures marked { IfOk result (λ m. MarksName numbers.old numbers.new name (aimed_in reading.now path.now) m found.old found.new) }
+    requires numbered { IsNumberedBy (numbering numbers.now) reading.now }
+    ensures marked { IfOk result (λ m. MarksName numbers.old numbers.new name (aimed_in reading.now here path.now) m found.old found.new) }
     ensures grows { Grows (numbering numbers.old) (numbering numbers.new) }
 {
-    let scope = Scope {
-        own: reading.path,
-        names: reading.unit.names(),
-        imports: reading.imports,
-    };
-    let modules = aims(alloc, &scope, path)?;
-    let before = found.references.len();
-    add_under(alloc, numbers, &mut found.references, name, &modules)?;
-    Ok(mark_after(&found.references, before, name))
+    match &path.origin {
+        PathOrigin::Package(package) => {
+            let first = numbers.name(package)?;
+            mark_through(alloc, numbers, reading, found, name, here, path, first)
+        }
+        PathOrigin::Absolute => mark_under(alloc, numbers, reading, found, name, here, path, &[]),
+        PathOrigin::Relative(_) => mark_under(
+            alloc,
+            numbers,
+            reading,
+            found,
+            name,
+            here,
+            path,
+            &[],
+        ),
+    }
 }
 
 /// The mark of a name that is no word and that its declaration does not bind, by what it means.
@@ -147,12 +207,13 @@ fn mark_reference(
     reading: &Reading<'_, '_>,
     found: &mut Asked,
     name: NameId,
+    here: Place,
     key: Key<'_>,
 ) -> Result<Mark, AllocError>
     requires read { IsRead reading.now }
     requires numbered { IsNumberedBy (numbering numbers.now) reading.now }
     requires below { IsKeyBelow (length reading.now.meanings.now.found.outer.items) key }
-    ensures marked { IfOk result (λ m. MarksName numbers.old numbers.new name (meant_by reading.now key.entry) m found.old found.new) }
+    ensures marked { IfOk result (λ m. MarksName numbers.old numbers.new name (meant_by reading.now here key.entry) m found.old found.new) }
     ensures grows { Grows (numbering numbers.old) (numbering numbers.new) }
 {
     law_of_ways();
@@ -161,11 +222,11 @@ fn mark_reference(
             if block > 0 {
                 Ok(Mark::Local(block, name))
             } else {
-                mark_plain(numbers, reading, found, name)
+                mark_plain(alloc, numbers, reading, found, name, here)
             }
         }
-        Key::Free(_) => mark_plain(numbers, reading, found, name),
-        Key::Qualified(path, _) => mark_aimed(alloc, numbers, reading, found, name, path),
+        Key::Free(_) => mark_plain(alloc, numbers, reading, found, name, here),
+        Key::Qualified(path, _) => mark_aimed(alloc, numbers, reading, found, name, here, path),
     }
 }
 
@@ -194,11 +255,12 @@ fn mark_at(
     let occurrence = reading.meanings.found.all[index];
     let name = id_of(reading.ids, occurrence.ident);
     let key = reading.meanings.keys[index];
+    let here = Place::Name(occurrence.place);
     match occurrence.standing {
         Standing::ModuleName => Ok(Mark::Declares(name)),
         Standing::Word => Ok(Mark::Free(name)),
         // parameters and local declarations too, by what their names mean
-        _ => mark_reference(alloc, numbers, reading, found, name, key),
+        _ => mark_reference(alloc, numbers, reading, found, name, here, key),
     }
 }
 

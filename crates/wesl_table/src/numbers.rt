@@ -1,8 +1,8 @@
 //! The numbers of paths and of names: one numbering for all modules of a link.
-ghost use Rattle.std.specs.Prelude.{◌≡◌, ℕ, [], true, false, All, IfOk, IfSome, IfNone, Some, None, map, slice_get, string_bytes};
+ghost use Rattle.std.specs.Prelude.{◌≡◌, ◌<◌, ℕ, [], length, true, false, All, IfOk, IfSome, IfNone, Some, None, map, slice_get, string_bytes};
 ghost use Rattle.wesl_names.specs.Path.{path_view, is_relative};
 ghost use Rattle.wesl_syntax.specs.Unit.{name_in};
-ghost use Rattle.wesl_table.specs.Different.{AreDifferent};
+ghost use Rattle.wesl_split.specs.Different.{AreDifferent};
 ghost use Rattle.wesl_table.specs.Numbering.{IsLonger, Puts, Grows, NameAt, PathAt};
 
 use crate::interner::Interner;
@@ -75,6 +75,17 @@ impl PathNumbers {
     {
         let PathNumbers { paths } = self;
         paths.into_iter().collect(alloc)
+    }
+
+    /// The path of a number that has one. It takes no memory.
+    pub fn get(&self, id: PathId) -> &ModulePath
+        requires below { id.0 < length (paths_of self.now) }
+        ensures { slice_get (paths_of self.now) id.0 ≡ Some (path_view result.now) }
+    {
+        match self.paths.get_index(id.0) {
+            Some(path) => path,
+            None => unreachable!(),
+        }
     }
 
     /// The path of a number.

@@ -1,20 +1,18 @@
 //! A module as its identifiers are marked.
-ghost use Rattle.std.specs.Prelude.{◌≡◌, ◌↔◌, ◌⊎◌, [], Some, Contains, option_map, IfOk, OnOk};
+ghost use Rattle.std.specs.Prelude.{◌≡◌, [], option_map, IfOk, OnOk};
 ghost use Rattle.wesl_syntax.specs.Unit.{name_in};
 ghost use Rattle.wesl_syntax.specs.View.{global_view};
-ghost use Rattle.wesl_symbols.specs.declared.ids.NameId.{NameId};
 ghost use Rattle.wesl_table.specs.Tables.{declared_name};
 ghost use Rattle.wesl_table.specs.Numbering.{AreRelated, IsRelatedOption, Grows, NameAt};
 ghost use Rattle.wesl_table.specs.NumbersView.{numbering};
 ghost use Rattle.wesl_table.specs.Reading.{NumbersNames};
 
 use crate::numbers::{Numbers, spelling};
-use indexmap::IndexSet;
 use std::alloc::AllocError;
 use wesl_meanings::Meanings;
 use wesl_names::{Ident, ModulePath, Names};
-use wesl_symbols::ids::{NameId, PathId};
-use wesl_symbols::symbols::Import;
+use wesl_split::split::Scope;
+use wesl_symbols::ids::NameId;
 use wesl_syntax::{GlobalDeclaration, GlobalDeclarationNode};
 use wesl_tree::TranslationUnit;
 
@@ -26,15 +24,10 @@ pub struct Reading<'a, 'b> {
     pub unit: &'a TranslationUnit,
     /// its identifiers, and what they mean by plain scoping
     pub meanings: &'a Meanings<'b>,
-    pub imports: &'a [Import<ModulePath, Ident>],
-    /// the number of its path
-    pub own: PathId,
-    /// its imports by numbers
-    pub numbered: &'a [Import<PathId, NameId>],
+    /// what its names stand for, by numbers
+    pub scope: &'a Scope,
     /// of each of its names the number
     pub ids: &'a [NameId],
-    /// the names that it declares
-    pub declared: &'a IndexSet<NameId>,
 }
 
 /// Adds the numbers of these names. Refused for want of memory alone.
@@ -100,30 +93,6 @@ pub fn add_names(
         let ident = declared_ident(&node.node);
         let number = number_ident(numbers, names, ident)?;
         found.push(number)?;
-    }
-    Ok(())
-}
-
-/// One more name, if there is one and it is not there yet.
-fn add_name(set: &mut IndexSet<NameId>, name: Option<NameId>) -> Result<(), AllocError>
-    ensures { OnOk result ((n : NameId) → Contains set.new.keys n ↔ (Contains set.old.keys n ⊎ (name ≡ Some n))) }
-{
-    match name {
-        Some(name) => {
-            set.insert(name)?;
-            Ok(())
-        }
-        None => Ok(()),
-    }
-}
-
-/// Adds the names among these, each once. Refused for want of memory alone.
-pub fn add_set(names: &[Option<NameId>], set: &mut IndexSet<NameId>) -> Result<(), AllocError>
-    requires { set.old.keys ≡ [] }
-    ensures { OnOk result ((n : NameId) → Contains set.new.keys n ↔ Contains names.now (Some n)) }
-{
-    for name in names {
-        add_name(set, *name)?;
     }
     Ok(())
 }

@@ -4,7 +4,7 @@
 //! them.
 ghost use Rattle.std.specs.Prelude.{◌≡◌, false, All, IfSome, IfNone, Some, None, map, slice_get, string_bytes};
 ghost use Rattle.wesl_names.specs.Path.{path_view, is_relative};
-ghost use Rattle.wesl_table.specs.Different.{AreDifferent};
+ghost use Rattle.wesl_split.specs.Different.{AreDifferent};
 
 use wesl_names::ModulePath;
 use wesl_symbols::ids::NameId;

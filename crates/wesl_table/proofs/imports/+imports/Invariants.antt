@@ -7,5 +7,5 @@ use Rattle.wesl_table.proofs.imports.+imports.Given as goal
 
 abbrev pub invariant-add_entries-loop-entry : goal.invariant-add_entries-loop-entry
 invariant-add_entries-loop-entry l =
-    imported l.published (base_view l.base) (map import_view l.initial.found.items) (forest_of (map entry_view l.entry-items))
-    ≡ imported l.published (base_view l.base) (map import_view l.found.items) (forest_of (map entry_view (drop l.entry-index l.entry-items)))
+    imported l.stands l.published (base_view l.base) (map import_view l.initial.found.items) (forest_of (map entry_view l.entry-items))
+    ≡ imported l.stands l.published (base_view l.base) (map import_view l.found.items) (forest_of (map entry_view (drop l.entry-index l.entry-items)))

@@ -6,4 +6,4 @@ use Rattle.wesl_table.proofs.imports.add_statement.Goals as goal
 
 pub returns : goal.returns
 returns c =
-    on_ok c.add_content.result (λ e. e ∙ statement_is (path_view c.args.own.now) c.args.statement.now c.is_published-published.result _ (map import_view c.args.found.now.items) c.is_published-published.ensures c.in_ok-base.ensures) c.add_content.ensures
+    on_ok c.add_content.result (λ e. e ∙ statement_is (path_view c.args.own.now) c.args.statement.now c.args.stands c.is_published-published.result _ (map import_view c.args.found.now.items) c.is_published-published.ensures c.in_ok-base.ensures) c.add_content.ensures

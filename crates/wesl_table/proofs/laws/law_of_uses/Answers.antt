@@ -7,21 +7,21 @@ use Rattle.wesl_occurrences.specs.Occurrences.{Standing, module_name, parameter,
 use Rattle.wesl_occurrences.specs.Pieces.{pieces}
 use Rattle.wesl_occurrences.proofs.Cutting.{pieces_are}
 use Rattle.wesl_meanings.specs.Scopes.{Key, bound, free, qualified, key_of}
-use Rattle.wesl_table.specs.Split.{Scope, is_unclear_plain, is_unclear_path}
+use Rattle.wesl_split.specs.Split.{Scope, has_two_targets, under, asked_plain, is_unclear_plain}
 use Rattle.wesl_table.specs.Tables.{scope_of}
-use Rattle.wesl_table.specs.Uses.{use_name, said, package_name, under, asked_plain, aims, meant, use_as, use_of}
+use Rattle.wesl_table.specs.Uses.{use_name, said, texts, package_name, aims, through, meant, use_as, use_of}
 use Rattle.wesl_table.proofs.laws.law_of_uses.Goals as goal
 
 said_name : (n x : Text) (b : Bool) (rs : List (Reference Path Text)) → use_name (said n x b rs) ≡ n
 said_name n x true rs = refl
 said_name n x false rs = refl
 
-module _ (s : Scope) where
+module _ (s : Scope Path Text) where
   meant_name : (here : Place) (n : Text) (k : Key) → use_name (meant s here n k) ≡ n
-  meant_name here n (bound [] m) = said_name n n (is_unclear_plain s here n) (asked_plain s here n)
+  meant_name here n (bound [] m) = said_name n n (is_unclear_plain texts s n here) (asked_plain texts s n here)
   meant_name here n (bound (b ∷ outer) m) = refl
-  meant_name here n (free m) = said_name n n (is_unclear_plain s here n) (asked_plain s here n)
-  meant_name here n (qualified p m) = said_name n (package_name p.origin) (is_unclear_path s here p) (map (under s here n) (aims s.own s.imports p))
+  meant_name here n (free m) = said_name n n (is_unclear_plain texts s n here) (asked_plain texts s n here)
+  meant_name here n (qualified p m) = said_name n (package_name p.origin) (has_two_targets texts (through s here p.origin)) (map (under texts s n here) (aims s.own (through s here p.origin) p))
 
   use_as_name : (here : Place) (r : Standing) (n : Text) (k : Key) → use_name (use_as s here r n k) ≡ n
   use_as_name here module_name n k = refl

@@ -1,28 +1,28 @@
-use Rattle.std.proofs.Common.{subst}
+use Rattle.std.proofs.Common.{◌∙◌, ap, sym, subst}
 use Rattle.wesl_names.specs.Path.{path_view}
 use Rattle.wesl_syntax.specs.Unit.{spelled}
 use Rattle.wesl_tree.specs.Translation.{unit_view}
+use Rattle.wesl_split.specs.ScopeView.{scope_view}
+use Rattle.wesl_split.proofs.Agreed.{ask_alike}
 use Rattle.wesl_table.specs.Imports.{imports}
+use Rattle.wesl_table.specs.Numbering.{AreNumberedImports}
 use Rattle.wesl_table.specs.NumbersView.{numbering}
-use Rattle.wesl_table.specs.Parts.{IsNumberedUnit}
-use Rattle.wesl_table.proofs.Related.{grows_trans, imports_later, path_later}
+use Rattle.wesl_table.specs.Parts.{settled_in}
+use Rattle.wesl_table.specs.Tables.{scope_of, table_at}
+use Rattle.wesl_table.proofs.Alike.{settled_alike}
+use Rattle.wesl_table.proofs.Related.{imports_later}
 use Rattle.wesl_table.proofs.Walked.{on_ok}
 use Rattle.wesl_table.proofs.table.Parts.fill.Goals as goal
 
-pub mark_unit-requires-clause-held : goal.mark_unit-requires-clause-held
-mark_unit-requires-clause-held c = path_later (numbering c.args.numbers.now) (numbering c.number_unit.new.numbers) c.number_unit.ensures.grows c.args.id (path_view c.args.path.now) c.requires.held
-
-pub mark_unit-requires-clause-numbered : goal.mark_unit-requires-clause-numbered
-mark_unit-requires-clause-numbered c =
-    subst (λ js. IsNumberedUnit (numbering c.number_unit.new.numbers) js (unit_view c.args.unit.now) c.number_unit.new.numbered) c.requires.imports c.in_ok-number_unit.ensures.numbered
-
-pub returns-clause-numbered : goal.returns-clause-numbered
-returns-clause-numbered c =
-    let n1 = numbering c.number_unit.new.numbers in
-    let n2 = numbering c.mark_unit.new.numbers in
-    let js = imports (path_view c.args.path.now) (spelled (unit_view c.args.unit.now)) in
-    let unit = subst (λ is. IsNumberedUnit n1 is (unit_view c.args.unit.now) c.number_unit.new.numbered) c.requires.imports c.in_ok-number_unit.ensures.numbered in
-    on_ok c.mark_unit.result (λ h. imports_later n1 n2 c.mark_unit.ensures.grows c.number_unit.new.numbered.imports.items js unit.imports) c.mark_unit.ensures.declared
-
-pub returns-clause-grows : goal.returns-clause-grows
-returns-clause-grows c = grows_trans (numbering c.args.numbers.now) (numbering c.number_unit.new.numbers) (numbering c.mark_unit.new.numbers) c.number_unit.ensures.grows c.mark_unit.ensures.grows
+pub returns-clause-imports : goal.returns-clause-imports
+returns-clause-imports c =
+    let numbers = c.args.numbers.now in
+    let n0 = numbering numbers in
+    let n1 = numbering c.mark_unit.new.numbers in
+    let own = path_view c.args.path.now in
+    let u = spelled (unit_view c.args.unit.now) in
+    let s = scope_view c.args.scope.now in
+    let is = c.args.numbered.now.imports.items in
+    let same = settled_alike n0 s (scope_of own u) (ask_alike n0 numbers.names.different numbers.paths.different s (scope_of own u) c.requires.scope) is (imports own u) c.requires.numbered.imports in
+    let made = c.in_ok-add_settled.ensures ∙ ap (settled_in c.args.scope.now) c.deref.ensures.value in
+    on_ok c.mark_unit.result (λ h. subst (λ l. AreNumberedImports n1 l (table_at own u).imports) (sym made) (imports_later n0 n1 c.mark_unit.ensures.grows (settled_in c.args.scope.now is) (table_at own u).imports same)) c.mark_unit.ensures.declared
