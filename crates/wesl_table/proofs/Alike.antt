@@ -1,10 +1,9 @@
 -- What the names of a module stand for is the same by numbers.
-use Rattle.std.proofs.Common.{◌≡◌, ℕ, zero, suc, ◌<◌, Bool, Option, Some, None, List, [], ◌∷◌, ◌++◌, map, All, length, get_or, take, arith, refl, sym, subst, ap, ap₂, ◌∙◌, append-nil, append_assoc}
+use Rattle.std.proofs.Common.{◌≡◌, ℕ, zero, suc, ◌<◌, ◌+◌, Option, Some, None, List, [], ◌∷◌, ◌++◌, map, All, length, get_or, take, arith, refl, sym, subst, ap, ap₂, ◌∙◌, append-nil, append_assoc}
 use Rattle.std.specs.Prelude.{slice_get}
 use Rattle.wesl_names.specs.Path.{Text, Origin, absolute, relative, from_package, Path, root_path}
 use Rattle.wesl_syntax.specs.Unit.{UnitOf}
 use Rattle.wesl_choices.specs.declared.place.Place.{Place}
-use Rattle.wesl_choices.specs.declared.place.Place.TheVariants as places
 use Rattle.wesl_choices.specs.Places.{together}
 use Rattle.wesl_symbols.specs.declared.ids.PathId.{PathId}
 use Rattle.wesl_symbols.specs.declared.ids.NameId.{NameId}
@@ -49,12 +48,11 @@ module _ (nb : Numbering) where
       let same_bound : get_or nb.names b.bound.0 [] ≡ c.bound = getting nb.names b.bound.0 c.bound [] h.bound in
       let same_path : get_or nb.paths b.path.0 root_path ≡ c.path = getting nb.paths b.path.0 c.path root_path h.path in
       let same_item : get_or nb.names b.item.0 [] ≡ c.item = getting nb.names b.item.0 c.item [] h.item in
-      let e : b.declares ≡ c.declares = h.declares in
-      let f : b.stands ≡ c.stands = h.stands in
-      made same_bound same_path same_item e f
-    where
-      made : {x : Text} {p : Path} {y : Text} {d : Bool} {s : Place} → x ≡ c.bound → p ≡ c.path → y ≡ c.item → d ≡ c.declares → s ≡ c.stands → record { bound = x; path = p; item = y; declares = d; stands = s } ≡ c
-      made refl refl refl refl refl = refl
+      ap (λ x. record { bound = x; path = get_or nb.paths b.path.0 root_path; item = get_or nb.names b.item.0 []; declares = b.declares; stands = b.stands }) same_bound
+      ∙ (ap (λ p. record { bound = c.bound; path = p; item = get_or nb.names b.item.0 []; declares = b.declares; stands = b.stands }) same_path
+      ∙ (ap (λ y. record { bound = c.bound; path = c.path; item = y; declares = b.declares; stands = b.stands }) same_item
+      ∙ (ap (λ d. record { bound = c.bound; path = c.path; item = c.item; declares = d; stands = b.stands }) h.declares
+      ∙ ap (λ s. record { bound = c.bound; path = c.path; item = c.item; declares = c.declares; stands = s }) h.stands)))
 
   pub binders_are : (bs : List (Binder PathId NameId)) (cs : List (Binder Path Text)) → AreNumberedBinders nb bs cs → map (spelled_binder nb) bs ≡ cs
   binders_are [] [] h = refl

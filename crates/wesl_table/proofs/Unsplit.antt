@@ -26,26 +26,14 @@ and_false : (a : Bool) → (a && false) ≡ false
 and_false true = refl
 and_false false = refl
 
-module _ (p : NameId → Bool) (n : NameId) where
-  -- of binders of whose names none passes, none of this name is there, or it does not pass
-  unpassed : (none : p n ≡ true → ⊥) → p n ≡ false
-  unpassed none = by (p n) refl
-    where
-      by : (b : Bool) → p n ≡ b → p n ≡ false
-      by false e = e
-      by true e = absurd (none e)
-
 -- there is a binder of the name, or there is none
 named : (n : NameId) (bs : List (Binder PathId NameId)) (p : NameId → Bool) → list_any (λ b. p b.bound) bs ≡ false → (split.of_name ids n bs ≡ [] → p n ≡ false) → p n ≡ false
 named n [] p none empty = empty refl
-named n (b ∷ bs) p none empty = by (same_id n b.bound) refl
+named n (b ∷ bs) p none empty = by (same_id n b.bound) refl (λ f. named n bs p (or_right (p b.bound) (list_any (λ c. p c.bound) bs) none) f)
   where
-    later : (split.of_name ids n (b ∷ bs) ≡ split.of_name ids n bs) → p n ≡ false
-    later e = named n bs p (or_right (p b.bound) (list_any (λ c. p c.bound) bs) none) (λ f. empty (e ∙ f))
-
-    by : (a : Bool) → same_id n b.bound ≡ a → p n ≡ false
-    by true e = ap p (id_is n b.bound e) ∙ or_left (p b.bound) (list_any (λ c. p c.bound) bs) none
-    by false e = later (ap (λ a. if a then b ∷ split.of_name ids n bs else split.of_name ids n bs) e)
+    by : (a : Bool) → same_id n b.bound ≡ a → ((split.of_name ids n bs ≡ [] → p n ≡ false) → p n ≡ false) → p n ≡ false
+    by true e rest = ap p (id_is n b.bound e) ∙ or_left (p b.bound) (list_any (λ c. p c.bound) bs) none
+    by false e rest = rest (λ f. empty (ap (λ a. if a then b ∷ split.of_name ids n bs else split.of_name ids n bs) e ∙ f))
 
 module _ (s : Scope PathId NameId) (h : split.has_split ids s.binders ≡ false) where
   unsplit : (n : NameId) → split.is_split ids s.binders n ≡ false

@@ -7,4 +7,4 @@ use Rattle.wesl_table.proofs.aims.add_in_place.Given as goal
 
 abbrev pub invariant-loop-import : goal.invariant-loop-import
 invariant-loop-import l =
-    map path_view l.found.items ≡ map (λ b. module_in_place (path_view l.path) (spelled_binder (numbering l.numbers) b)) (take l.import-index l.import-items)
+    map path_view l.found.items ≡ map (λ b. module_in_place (path_view l.path) (spelled_binder (numbering l.numbers) b)) (take l.import-index l.imports)

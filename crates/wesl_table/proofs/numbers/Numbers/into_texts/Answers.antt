@@ -1,6 +1,6 @@
 use Rattle.std.proofs.Common.{List, subst, sym}
 use Rattle.wesl_names.specs.Path.{Text}
-use Rattle.wesl_table.specs.Different.{AreDifferent}
+use Rattle.wesl_split.specs.Different.{AreDifferent}
 use Rattle.wesl_table.proofs.numbers.Numbers.into_texts.Goals as goal
 
 pub new-requires : goal.new-requires
