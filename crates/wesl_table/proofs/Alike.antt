@@ -1,5 +1,5 @@
 -- What the names of a module stand for is the same by numbers.
-use Rattle.std.proofs.Common.{◌≡◌, ℕ, zero, suc, ◌<◌, ◌+◌, Option, Some, None, List, [], ◌∷◌, ◌++◌, map, All, length, get_or, take, arith, refl, sym, subst, ap, ap₂, ◌∙◌, append-nil, append_assoc}
+use Rattle.std.proofs.Common.{◌≡◌, ℕ, zero, suc, ◌<◌, ◌+◌, Option, Some, None, List, [], ◌∷◌, ◌++◌, map, All, length, get_or, take, arith, refl, sym, ap, ap₂, ◌∙◌, append-nil, append_assoc}
 use Rattle.std.specs.Prelude.{slice_get}
 use Rattle.wesl_names.specs.Path.{Text, Origin, absolute, relative, from_package, Path, root_path}
 use Rattle.wesl_syntax.specs.Unit.{UnitOf}
@@ -15,11 +15,11 @@ use Rattle.wesl_split.specs.Split.{Scope}
 use Rattle.wesl_split.specs.declared.binders.Binder.{Binder}
 use Rattle.wesl_split.proofs.Agreed.{ask_alike}
 use Rattle.wesl_table.specs.Aims.{IsKnown, spelled_binder}
-use Rattle.wesl_table.specs.Numbering.{Numbering, AreDifferent, AreRelated, IsRelatedOption, SameBinder, SameScope, NameAt, PathAt, IsNumberedImport, AreNumberedImports, AreNumberedBinders, IsNumberedScope}
+use Rattle.wesl_table.specs.Numbering.{Numbering, AreDifferent, AreRelated, IsRelatedOption, SameBinder, NameAt, PathAt, AreNumberedImports, AreNumberedBinders, IsNumberedScope}
 use Rattle.wesl_table.specs.Reading.{IsPackage}
 use Rattle.wesl_table.specs.Split.{declares_as, declared_from, binders_by, alive_if}
 use Rattle.wesl_table.specs.Uses.{texts}
-use Rattle.wesl_table.proofs.Lists.{related_more, related_append}
+use Rattle.wesl_table.proofs.Lists.{related_append}
 
 -- ---- numbers that are known
 

@@ -1,5 +1,5 @@
 -- Keys that are read by what they say, each numbered by its place.
-use Rattle.std.proofs.Common.{String, Global, ◌≡◌, ◌⊎◌, inl, inr, ℕ, zero, suc, ◌<◌, Bool, true, false, ◌||◌, Some, List, [], ◌∷◌, ◌++◌, length, map, get_or, arith, refl, sym, subst, ap, ◌∙◌, true≢false}
+use Rattle.std.proofs.Common.{String, Global, ◌≡◌, inl, inr, ℕ, zero, suc, ◌<◌, Bool, true, false, ◌||◌, Some, List, [], ◌∷◌, ◌++◌, length, map, get_or, arith, refl, sym, subst, ap, ◌∙◌}
 use Rattle.std.specs.Prelude.{bytes_eq, string_bytes, slice_get, if◌then◌else◌}
 use Rattle.std.specs.List.{list_any, position}
 use Rattle.std.specs.String.{string_eq}
@@ -8,6 +8,7 @@ use Rattle.std.proofs.lemmas.List.Quantifiers.{position-Some}
 use Rattle.std.proofs.lemmas.Slice.Eq.{bytes_eq-Decides}
 use Rattle.indexmap.specs.IndexSet.{insert_key}
 use Rattle.wesl_split.specs.Different.{AreDifferent}
+use Rattle.wesl_split.proofs.Different.{none_passes, added}
 use Rattle.wesl_table.specs.Interning.{PutsOrKeeps}
 use Rattle.wesl_table.specs.Interned.{with_text}
 
@@ -35,39 +36,9 @@ pub position_held : {K X : Type 0} (f : K → X) (p : K → Bool) (x : X) → ((
 position_held f p x passes [] i h = absurd (cc)
 position_held f p x passes (y ∷ xs) i h = at_position f p x passes y xs i (position-Some p (y ∷ xs) i y h)
 
-pub none_passes : {K : Type 0} (p : K → Bool) (xs : List K) (i : ℕ) (k : K) → list_any p xs ≡ false → slice_get xs i ≡ Some k → p k ≡ true → ⊥
-none_passes p [] i k n h e = cc
-none_passes p (y ∷ xs) zero k n h e = let same : y ≡ k = cc in true≢false (sym e ∙ (ap p (sym same) ∙ first (p y) (list_any p xs) n))
-  where
-    first : (a b : Bool) → (a || b) ≡ false → a ≡ false
-    first true b h = h
-    first false b h = refl
-none_passes p (y ∷ xs) (suc i) k n h e = none_passes p xs i k (second (p y) (list_any p xs) n) h e
-  where
-    second : (a b : Bool) → (a || b) ≡ false → b ≡ false
-    second true b h = absurd (true≢false h)
-    second false b h = h
-
 -- what no key says has no place
 pub none_held : {K X : Type 0} (f : K → X) (p : K → Bool) (x : X) → ((k : K) → f k ≡ x → p k ≡ true) → (xs : List K) → list_any p xs ≡ false → (i : ℕ) → slice_get (map f xs) i ≡ Some x → ⊥
 none_held f p x passes xs n i h = let (k, g, e) = get_unmap f xs i x h in none_passes p xs i k n g (passes k e)
-
--- the last element, or one before it
-get_cases : {X : Type 0} (xs : List X) (y : X) (i : ℕ) (x : X) → slice_get (xs ++ y ∷ []) i ≡ Some x → (slice_get xs i ≡ Some x) ⊎ ((i ≡ length xs) × (y ≡ x))
-get_cases [] y zero x h = inr (refl, cc)
-get_cases [] y (suc i) x h = absurd (cc)
-get_cases (z ∷ xs) y zero x h = inl h
-get_cases (z ∷ xs) y (suc i) x h = elim (get_cases xs y i x h) [ inl e ↦ inl e | inr (e, f) ↦ inr (ap suc e, f) ]
-
--- one more than those that are different, which it is none of
-pub added : {X : Type 0} (xs : List X) (y : X) → AreDifferent xs → ((i : ℕ) → slice_get xs i ≡ Some y → ⊥) → AreDifferent (xs ++ y ∷ [])
-added xs y d new i j x g h = by (get_cases xs y i x g) (get_cases xs y j x h)
-  where
-    by : (slice_get xs i ≡ Some x) ⊎ ((i ≡ length xs) × (y ≡ x)) → (slice_get xs j ≡ Some x) ⊎ ((j ≡ length xs) × (y ≡ x)) → i ≡ j
-    by (inl a) (inl b) = d i j x a b
-    by (inl a) (inr (b, e)) = absurd (new i (a ∙ ap Some (sym e)))
-    by (inr (a, e)) (inl b) = absurd (new j (b ∙ ap Some (sym e)))
-    by (inr (a, e)) (inr (b, g)) = a ∙ sym b
 
 -- what the texts say of a key is what the keys say
 any_text : (k : String Global) (ks : List (String Global)) → list_any (string_eq k) ks ≡ list_any (bytes_eq (string_bytes k)) (map string_bytes ks)

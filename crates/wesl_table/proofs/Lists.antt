@@ -1,7 +1,6 @@
 -- Lists that grow by one element at a time.
 use Rattle.std.proofs.Common.{◌≡◌, ℕ, zero, suc, ◌≤◌, ◌<◌, ◌+◌, Some, List, [], ◌∷◌, ◌++◌, map, length, take, get_or, arith, refl, sym, ap, ◌∙◌, append_assoc, append-nil}
-use Rattle.std.specs.Prelude.{slice_get, flat_map}
-use Rattle.std.proofs.lemmas.Grind.{flat_map-append}
+use Rattle.std.specs.Prelude.{slice_get}
 use Rattle.std.proofs.lemmas.List.{map-append}
 use Rattle.wesl_table.specs.Numbering.{IsLonger, AreRelated}
 
@@ -41,16 +40,6 @@ module _ {X Y Z : Type 0} (g : Z → Y) (f : X → Y) (xs : List X) (i : ℕ) wh
 
   pub mapped_all : (ys : List X) (found : List Z) → xs ≡ ys → length xs ≤ i → map g found ≡ map f (take i xs) → map g found ≡ map f ys
   mapped_all ys found e b h = h ∙ ap (map f) (taken_all xs i b ∙ e)
-
--- what is found as the elements are gone over
-module _ {X Y : Type 0} (f : X → List Y) (xs : List X) (i : ℕ) where
-  pub flat_next : (x : X) (old new : List Y) → i < length xs → x ≡ get_or xs i x → old ≡ flat_map f (take i xs) → new ≡ old ++ f x → new ≡ flat_map f (take (i + 1) xs)
-  flat_next x old new b e h g =
-      g ∙ (ap (λ l. l ++ f x) h
-      ∙ sym (ap (flat_map f) (take_next xs i x b e) ∙ (flat_map-append f (take i xs) (x ∷ []) ∙ ap (λ l. flat_map f (take i xs) ++ l) (append-nil (f x)))))
-
-  pub flat_all : (ys : List X) (found : List Y) → xs ≡ ys → length xs ≤ i → found ≡ flat_map f (take i xs) → found ≡ flat_map f ys
-  flat_all ys found e b h = h ∙ ap (flat_map f) (taken_all xs i b ∙ e)
 
 module _ {X Y : Type 0} (R S : X → Y → Type 0) (more : (x : X) (y : Y) → R x y → S x y) where
   pub related_more : (xs : List X) (ys : List Y) → AreRelated R xs ys → AreRelated S xs ys

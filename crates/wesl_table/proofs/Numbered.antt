@@ -7,7 +7,8 @@ use Rattle.std.proofs.lemmas.List.Elements.{All-append}
 use Rattle.wesl_names.specs.Path.{Text}
 use Rattle.wesl_split.specs.Different.{AreDifferent}
 use Rattle.wesl_table.specs.Interned.{with_text}
-use Rattle.wesl_table.proofs.Interning.{get_unmap, none_passes, added}
+use Rattle.wesl_split.proofs.Different.{none_passes, added}
+use Rattle.wesl_table.proofs.Interning.{get_unmap}
 use Rattle.wesl_table.specs.Numbering.{IsLonger, Puts}
 use Rattle.wesl_table.proofs.Lists.{longer_itself}
 

@@ -1,5 +1,5 @@
 -- What the names of a unit stand for, as its table is made.
-use Rattle.std.proofs.Common.{◌≡◌, Bool, List, [], map, refl, sym, subst, ap, ◌∙◌}
+use Rattle.std.proofs.Common.{◌≡◌, List, [], map, sym, subst, ap, ◌∙◌}
 use Rattle.std.specs.Prelude.{Result, Ok, Err, IfOk}
 use Rattle.wesl_names.specs.Path.{Text, Path}
 use Rattle.wesl_syntax.specs.Unit.{UnitOf, UnitView, spelled}

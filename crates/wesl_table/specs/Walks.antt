@@ -25,10 +25,6 @@ imports_of found = map import_view found.items
 abbrev pub paths_of : Vec ModulePath Global → List Path
 paths_of found = map path_view found.items
 
--- these paths are found after those before
-abbrev pub AddsPaths : Vec ModulePath Global → Vec ModulePath Global → List Path → Type 0
-AddsPaths old new more = paths_of new ≡ paths_of old ++ more
-
 -- the imports of this content, after those found before
 abbrev pub imported : Place → Bool → imports.Base → List (Import Path ℕ) → Forest → List (Import Path ℕ)
 imported stands published base found end = found

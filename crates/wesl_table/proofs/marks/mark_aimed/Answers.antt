@@ -6,7 +6,7 @@ use Rattle.wesl_table.specs.Reading.{IsPackage, Marks}
 use Rattle.wesl_table.proofs.Added.{numbered_later}
 use Rattle.wesl_table.proofs.Asked.{if_ok}
 use Rattle.wesl_table.proofs.Marking.{aimed_absolute, aimed_relative}
-use Rattle.wesl_table.proofs.Related.{grows_trans, name_later}
+use Rattle.wesl_table.proofs.Related.{name_later}
 use Rattle.wesl_table.proofs.marks.mark_aimed.Goals as goal
 
 pub mark_through-requires-clause-numbered : goal.mark_through-requires-clause-numbered

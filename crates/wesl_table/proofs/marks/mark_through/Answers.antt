@@ -1,4 +1,4 @@
-use Rattle.std.proofs.Common.{◌∙◌, All, ap, refl, sym, subst}
+use Rattle.std.proofs.Common.{◌∙◌, All, ap, sym, subst}
 use Rattle.wesl_names.specs.Path.{path_view}
 use Rattle.wesl_split.specs.Grouped.{ids}
 use Rattle.wesl_split.specs.Split.{has_two_targets, seen_imports}
@@ -11,7 +11,6 @@ use Rattle.wesl_table.proofs.Added.{marks_unclear}
 use Rattle.wesl_table.proofs.Alike.{known_all, package_is}
 use Rattle.wesl_table.proofs.Asked.{if_ok}
 use Rattle.wesl_table.proofs.Marking.{seen_alike, targets_alike, aimed_unclear, aimed_clear}
-use Rattle.wesl_table.proofs.Related.{grows_itself}
 use Rattle.wesl_table.proofs.Walked.{if_on}
 use Rattle.wesl_table.proofs.marks.mark_through.Goals as goal
 

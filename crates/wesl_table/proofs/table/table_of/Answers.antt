@@ -1,6 +1,5 @@
 use Rattle.std.proofs.Common.{◌≡◌, ◌∙◌, ap, subst, map}
 use Rattle.wesl_names.specs.Path.{path_view}
-use Rattle.wesl_syntax.specs.Unit.{spelled}
 use Rattle.wesl_tree.specs.Translation.{unit_view}
 use Rattle.wesl_table.specs.Imports.{all_imports}
 use Rattle.wesl_table.specs.NumbersView.{numbering}
