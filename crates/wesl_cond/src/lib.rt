@@ -2,11 +2,13 @@
 //! features leave of one formula, over `wesl_chains`.
 #![tactic(auto)]
 
+mod alive;
 mod conditioned;
 mod evaluate;
 mod laws;
 mod unit;
 
+pub use alive::flag_count;
 pub use conditioned::condition;
 pub use evaluate::eval_attr;
 pub use laws::law_of_spelling;
