@@ -115,7 +115,7 @@ module _ (nb : Numbering) (m : LoadedModule) (t : Table PathId NameId) (same : I
   pub rows_many : length t.declarations ≡ length gs
   rows_many =
       sym (related_length (SameDeclaration (PathAt nb) (NameAt nb)) t.declarations (table (module_of m)).declarations same.declarations)
-      ∙ (declarations_length (scope_of own unit) 0 (declarations_in unit) (uses own unit) (uses_length own unit) ∙ trees_many)
+      ∙ (declarations_length own unit 0 (declarations_in unit) (uses own unit) (uses_length own unit) ∙ trees_many)
 
   pub marks_many : length m.marks.items ≡ length gs
   marks_many = sym (related_length (λ (v : Vec Mark Global) us. AreRelated (IsMark nb) v.items us) m.marks.items (uses own unit) marked) ∙ (uses_length own unit ∙ trees_many)
@@ -128,7 +128,7 @@ module _ (nb : Numbering) (m : LoadedModule) (t : Table PathId NameId) (same : I
       let (us, us_at, is_marked) = related_at (λ (v : Vec Mark Global) us. AreRelated (IsMark nb) v.items us) m.marks.items (uses own unit) marked i ms ms_at in
       let tree_at : slice_get (declarations_in unit) i ≡ Some (spelled_in m g) = ap (λ ts. slice_get ts i) (all_trees m gs all) ∙ map_at (spelled_in m) gs i g g_at in
       let (d, d_at, is_d) = related_at (SameDeclaration (PathAt nb) (NameAt nb)) t.declarations (table (module_of m)).declarations same.declarations i row row_at in
-      let (n, there) = declarations_at (scope_of own unit) 0 (declarations_in unit) (uses own unit) i (spelled_in m g) us tree_at us_at in
+      let (n, there) = declarations_at own unit 0 (declarations_in unit) (uses own unit) i (spelled_in m g) us tree_at us_at in
       let both : Some d ≡ Some (declaration_of (scope_of own unit) n (spelled_in m g) us) = sym d_at ∙ there in
       let is : d ≡ declaration_of (scope_of own unit) n (spelled_in m g) us = cc in
       record {
@@ -163,12 +163,12 @@ module _ (l : Link) (sound : IsLinkOf (task_in l) l) where
   module _ (m : LoadedModule) (i : ℕ) (g : Node) (row : Declaration PathId NameId) (ms : List Mark) (one : OneAt (numbering l.numbers) m i g row ms) where
     -- what the marks ask for, the declaration refers to
     pub marks_refer : RefersToAll row ms
-    marks_refer = refers_to_all (numbering l.numbers) l.numbers.paths.different l.numbers.names.different row (scope_of (module_of m).path (module_of m).unit) one.number (spelled_in m g) ms one.uses one.same one.marked
+    marks_refer = refers_to_all (numbering l.numbers) l.numbers.paths.different l.numbers.names.different row (module_of m).path (module_of m).unit one.number (spelled_in m g) ms one.uses one.same one.marked
 
     -- and where it is held, none of them is unclear
     pub marks_clear : (t : Table PathId NameId) (h : GlobalDeclaration) → Contains l.linked.tables t → Contains t.declarations row → IsHeldHere l.linked t.path h row.name → AreClear ms
     marks_clear t h t_in row_in held =
-        all_clear (numbering l.numbers) l.numbers.paths.different l.numbers.names.different row (scope_of (module_of m).path (module_of m).unit) one.number (spelled_in m g) ms one.uses one.same one.marked
+        all_clear (numbering l.numbers) l.numbers.paths.different l.numbers.names.different row (module_of m).path (module_of m).unit one.number (spelled_in m g) ms one.uses one.same one.marked
         (λ n c. sound.clear t row.name n t_in (is_held l.linked t.path h row.name held) (row, row_in, refl, c))
 
   module _ (m : LoadedModule) (t : Table PathId NameId) (same : IsNumbered (numbering l.numbers) t (table (module_of m))) (p q r : Parts) (i : ℕ) (g : Bor Node) (row : Declaration PathId NameId) (ms : List Mark)

@@ -4,11 +4,11 @@ use Rattle.std.specs.Prelude.{slice_get, flat_map}
 use Rattle.std.proofs.lemmas.List.Elements.{Contains-append_cases, Contains-append_left, Contains-append_right}
 use Rattle.wesl_names.specs.Path.{Text, Path}
 use Rattle.wesl_syntax.specs.Tree.{TreeOf, trees, forest_of}
+use Rattle.wesl_syntax.specs.Unit.{UnitOf}
 use Rattle.wesl_symbols.proofs.Lists.{contains_nil, contains_first, contains_later, contains_cases}
 use Rattle.wesl_occurrences.specs.Pieces.{size, cut}
 use Rattle.wesl_table.specs.Numbering.{AreRelated}
-use Rattle.wesl_table.specs.Split.{Scope}
-use Rattle.wesl_table.specs.Tables.{paired, declaration_of, declarations_from}
+use Rattle.wesl_table.specs.Tables.{paired, scope_of, declaration_of, declarations_from}
 use Rattle.wesl_table.specs.Uses.{Use}
 use Rattle.wesl_linker.specs.Linked.{Selects, Joins}
 use Rattle.wesl_linker.specs.Linked.{Selects as selects, Joins as joins}
@@ -50,12 +50,14 @@ paired_at f (u ∷ xs) (v ∷ ys) zero x y a b = let g : u ≡ x = cc in let h :
 paired_at f (u ∷ xs) (v ∷ ys) (suc i) x y a b = paired_at f xs ys i x y a b
 
 -- a declaration stands there under some number
-pub declarations_at : (s : Scope) (k : ℕ) (ts : List (TreeOf Text)) (uss : List (List (Use Path Text))) (i : ℕ) (t : TreeOf Text) (us : List (Use Path Text)) → slice_get ts i ≡ Some t → slice_get uss i ≡ Some us
-    → (j : ℕ) × (slice_get (declarations_from s k ts uss) i ≡ Some (declaration_of s j t us))
-declarations_at s k [] uss i t us a b = absurd (cc)
-declarations_at s k (u ∷ ts) [] i t us a b = absurd (cc)
-declarations_at s k (u ∷ ts) (v ∷ uss) zero t us a b = let g : u ≡ t = cc in let h : v ≡ us = cc in (k, ap (λ z. Some (declaration_of s k z v)) g ∙ ap (λ z. Some (declaration_of s k t z)) h)
-declarations_at s k (u ∷ ts) (v ∷ uss) (suc i) t us a b = declarations_at s (suc k) ts uss i t us a b
+module _ (own : Path) (unit : UnitOf Text) where
+  pub declarations_at : (k : ℕ) (ts : List (TreeOf Text)) (uss : List (List (Use Path Text))) (i : ℕ) (t : TreeOf Text) (us : List (Use Path Text)) → slice_get ts i ≡ Some t → slice_get uss i ≡ Some us
+      → (j : ℕ) × (slice_get (declarations_from (scope_of own unit) k ts uss) i ≡ Some (declaration_of (scope_of own unit) j t us))
+  declarations_at k [] uss i t us a b = absurd (cc)
+  declarations_at k (u ∷ ts) [] i t us a b = absurd (cc)
+  declarations_at k (u ∷ ts) (v ∷ uss) zero t us a b =
+      let s = scope_of own unit in let g : u ≡ t = cc in let h : v ≡ us = cc in (k, ap (λ z. Some (declaration_of s k z v)) g ∙ ap (λ z. Some (declaration_of s k t z)) h)
+  declarations_at k (u ∷ ts) (v ∷ uss) (suc i) t us a b = declarations_at (suc k) ts uss i t us a b
 
 pub related_at : {X Y : Type 0} (R : X → Y → Type 0) (xs : List X) (ys : List Y) → AreRelated R xs ys → (i : ℕ) (x : X) → slice_get xs i ≡ Some x → (y : Y) × (slice_get ys i ≡ Some y) × R x y
 related_at R [] ys h i x e = absurd (cc)
@@ -80,10 +82,11 @@ paired_length f [] ys e = refl
 paired_length f (x ∷ xs) [] e = absurd (omega arith)
 paired_length f (x ∷ xs) (y ∷ ys) e = ap suc (paired_length f xs ys (omega arith))
 
-pub declarations_length : (s : Scope) (k : ℕ) (ts : List (TreeOf Text)) (uss : List (List (Use Path Text))) → length uss ≡ length ts → length (declarations_from s k ts uss) ≡ length ts
-declarations_length s k [] uss e = refl
-declarations_length s k (t ∷ ts) [] e = absurd (omega arith)
-declarations_length s k (t ∷ ts) (us ∷ uss) e = ap suc (declarations_length s (suc k) ts uss (omega arith))
+module _ (own : Path) (unit : UnitOf Text) where
+  pub declarations_length : (k : ℕ) (ts : List (TreeOf Text)) (uss : List (List (Use Path Text))) → length uss ≡ length ts → length (declarations_from (scope_of own unit) k ts uss) ≡ length ts
+  declarations_length k [] uss e = refl
+  declarations_length k (t ∷ ts) [] e = absurd (omega arith)
+  declarations_length k (t ∷ ts) (us ∷ uss) e = ap suc (declarations_length (suc k) ts uss (omega arith))
 
 pub cut_length : {I X : Type 0} (ts : List (TreeOf I)) (xs : List X) → length (cut ts xs) ≡ length ts
 cut_length [] xs = refl

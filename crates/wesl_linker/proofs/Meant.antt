@@ -3,6 +3,7 @@ use Rattle.std.proofs.Common.{◌≡◌, inl, inr, ℕ, Option, Some, None, List
 use Rattle.std.specs.Prelude.{flat_map}
 use Rattle.wesl_names.specs.Path.{Text, Path}
 use Rattle.wesl_syntax.specs.Tree.{TreeOf}
+use Rattle.wesl_syntax.specs.Unit.{UnitOf}
 use Rattle.wesl_syntax.specs.declared.declaration.GlobalDeclaration.{GlobalDeclaration}
 use Rattle.wesl_symbols.specs.declared.ids.PathId.{PathId}
 use Rattle.wesl_symbols.specs.declared.ids.NameId.{NameId}
@@ -18,8 +19,7 @@ use Rattle.wesl_world.specs.Keeping.{IsHeld}
 use Rattle.wesl_symbols.proofs.Lists.{contains_nil, contains_first, contains_cases}
 use Rattle.wesl_table.specs.Marks.{IsMark}
 use Rattle.wesl_table.specs.Numbering.{Numbering, NameAt, PathAt, AreRelated, AreDifferent, SameReference, SameDeclaration}
-use Rattle.wesl_table.specs.Split.{Scope}
-use Rattle.wesl_table.specs.Tables.{declaration_of}
+use Rattle.wesl_table.specs.Tables.{scope_of, declaration_of}
 use Rattle.wesl_table.specs.Uses.{Use, declares, refers, unclear, local as in_block, asked, unclear_in}
 use Rattle.wesl_table.specs.declared.marks.Mark.{Mark}
 use Rattle.wesl_table.specs.declared.marks.Mark.TheVariants as marks
@@ -43,7 +43,7 @@ module _ (nb : Numbering) (different_paths : AreDifferent nb.paths) (different_n
       ∙ (ap (λ (n : NameId). record { path = r.path; name = n; from = q.from }) ((names_one nb different_names).other q.name r.name a.name h.name k.name)
       ∙ ap (λ (x : Place). record { path = r.path; name = r.name; from = x }) (h.from ∙ sym k.from))
 
-  module _ (row : Declaration PathId NameId) (s : Scope) (number : ℕ) (t : TreeOf Text) (ms : List Mark) (us : List (Use Path Text)) (same : SameDeclaration (PathAt nb) (NameAt nb) row (declaration_of s number t us)) (marked : AreRelated (IsMark nb) ms us) where
+  module _ (row : Declaration PathId NameId) (own : Path) (unit : UnitOf Text) (number : ℕ) (t : TreeOf Text) (ms : List Mark) (us : List (Use Path Text)) (same : SameDeclaration (PathAt nb) (NameAt nb) row (declaration_of (scope_of own unit) number t us)) (marked : AreRelated (IsMark nb) ms us) where
     -- what marks ask for, the declaration refers to
     pub refers_to_all : RefersToAll row ms
     refers_to_all r c = let (u, held, is) = related_in (IsMark nb) ms us (marks.Asks r) marked c in by u held is
