@@ -21,6 +21,7 @@ pub use wesl_builtins::VecSize;
 pub use wesl_cond::Feature;
 pub use wesl_cond::Features;
 pub use wesl_cond::eval_attr;
+pub use wesl_cond::flag_count;
 pub use wesl_copies::TryClone;
 pub use wesl_json::JsonText;
 pub use wesl_json::text_of_unit;

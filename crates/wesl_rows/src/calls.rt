@@ -6,7 +6,7 @@ use crate::{conditions, mappers, maps, paths, program};
 use serde_json::Value;
 use wesl::{
     BasicSourceMap, BuiltinIdent, BuiltinType, Builtins, Feature, Features, ModulePath,
-    NoSourceMap, PathOrigin,
+    NoSourceMap, PathOrigin, flag_count,
 };
 use wesl_row::Row;
 
@@ -37,6 +37,10 @@ fn of_conditions(row: Row<'_>, call: &str) -> Value {
         "wesl_cond::run" => conditions::left(row),
         "wesl_cond::run in stages" => conditions::stages(row),
         "eval_attr" => conditions::formulas_left(row),
+        "flag_count" => {
+            let count = flag_count(row.alloc, &row.tree());
+            Value::from(row.or(count, 0))
+        }
         "Feature::from" => {
             let is_on = row.part("flag").value.as_bool() == Some(true);
             row.text_value(word(Feature::from(is_on)))
