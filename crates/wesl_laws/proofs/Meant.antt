@@ -18,9 +18,8 @@ use Rattle.wesl_occurrences.specs.Pieces.{declarations_in}
 use Rattle.wesl_meanings.specs.Scopes.{Key, bound, free, qualified, is_visible, key_of}
 use Rattle.wesl_meanings.specs.Keys.{number_of}
 use Rattle.wesl_faith.specs.Faithful.{name_of as printed_name}
-use Rattle.wesl_table.specs.Split.{Scope}
-use Rattle.wesl_table.specs.Uses.{Use, asked, plain_use, path_use, meant, use_as, declares}
-use Rattle.wesl_table.specs.Tables.{name_of, scope_of}
+use Rattle.wesl_table.specs.Uses.{Use, asked, declares}
+use Rattle.wesl_table.specs.Tables.{name_of}
 use Rattle.wesl_assembly.specs.Denotations.{symbol, local, free_name}
 use Rattle.wesl_linker.specs.Worlds.{Module, table, tables}
 use Rattle.wesl_linker.specs.Linked.{Denotation, AskedLeadsTo, StandsFor, Placed, IsHeldAs}
@@ -30,12 +29,12 @@ use Rattle.wesl_laws.proofs.Grammar.{StandsWell, Well, globals_well}
 use Rattle.wesl_laws.proofs.Parts.{blocks_of}
 use Rattle.wesl_laws.proofs.Ranges.{left_within, every_held}
 use Rattle.wesl_laws.proofs.Scoped.{IsMeant}
-use Rattle.wesl_laws.proofs.Denoted.{InBlock, in_own, a_symbol, a_free_name, ReferenceDenotes, in_a_block, outside_blocks, Denotes, IsWell, denotes, plain_refers, path_refers}
+use Rattle.wesl_laws.proofs.Denoted.{plain_in, path_in, meant_in, standing_in, InBlock, in_own, a_symbol, a_free_name, ReferenceDenotes, in_a_block, outside_blocks, Denotes, IsWell, denotes, plain_refers, path_refers}
 use Rattle.wesl_laws.proofs.Follow.{IsBound, StandsSo, StandSo}
 use Rattle.wesl_laws.proofs.Reached.{refers_to_reached}
 use Rattle.wesl_laws.proofs.Modules.{globals_node, globals_place, globals_number, globals_part}
 use Rattle.wesl_laws.proofs.Respelled.{IsGrammatical, global_nodes}
-use Rattle.wesl_laws.proofs.Sources.{Source, own_part, use_in, placed_of, sources_of, has_row, row_has, sources_are, AreSources}
+use Rattle.wesl_laws.proofs.Sources.{Source, own_part, use_in, placed_of, has_row, row_has, sources_are, AreSources}
 use Rattle.wesl_laws.proofs.Named.{has_name}
 use Rattle.wesl_laws.proofs.Inside.{part_inside, globals_joined, around_within, in_declaration}
 use Rattle.wesl_laws.proofs.Laid.{LaidAt, Related, AreLaid, has_source, has_copy, laid_somewhere}
@@ -52,27 +51,27 @@ IsReference (reference p) = Unit {0}
 IsReference _ = ⊥
 
 -- a reference that denotes a symbol asks for it
-module _ (ws : List (Table Path Text)) (scope : Scope) (here : Place) where
+module _ (ws : List (Table Path Text)) (own : Module) (here : Place) where
   abbrev Asks : Use Path Text → Path → Text → Type 0
-  Asks u p m = (a : Reference Path Text) × Contains (asked u) a × AskedLeadsTo ws scope.own a (record { path = p; name = m })
+  Asks u p m = (a : Reference Path Text) × Contains (asked u) a × AskedLeadsTo ws own.path a (record { path = p; name = m })
 
-  plain_asks : (n : Text) (p : Path) (m : Text) → StandsFor ws scope.own (plain_use scope here n) (symbol p m) → Asks (plain_use scope here n) p m
+  plain_asks : (n : Text) (p : Path) (m : Text) → StandsFor ws own.path (plain_in own here n) (symbol p m) → Asks (plain_in own here n) p m
   plain_asks n p m h =
-      let (asks, is) = plain_refers ws scope.own scope here n (symbol p m) h in
-      subst (λ (u : Use Path Text). Asks u p m) (sym is) (subst (λ (u : Use Path Text). StandsFor ws scope.own u (symbol p m)) is h)
+      let (asks, is) = plain_refers ws own here n (symbol p m) h in
+      subst (λ (u : Use Path Text). Asks u p m) (sym is) (subst (λ (u : Use Path Text). StandsFor ws own.path u (symbol p m)) is h)
 
-  path_asks : (q : Path) (n : Text) (p : Path) (m : Text) → StandsFor ws scope.own (path_use scope here q n) (symbol p m) → Asks (path_use scope here q n) p m
+  path_asks : (q : Path) (n : Text) (p : Path) (m : Text) → StandsFor ws own.path (path_in own here q n) (symbol p m) → Asks (path_in own here q n) p m
   path_asks q n p m h =
-      let (asks, is, some) = path_refers ws scope.own scope here q n (symbol p m) h in
-      subst (λ (u : Use Path Text). Asks u p m) (sym is) (subst (λ (u : Use Path Text). StandsFor ws scope.own u (symbol p m)) is h)
+      let (asks, is, some) = path_refers ws own here q n (symbol p m) h in
+      subst (λ (u : Use Path Text). Asks u p m) (sym is) (subst (λ (u : Use Path Text). StandsFor ws own.path u (symbol p m)) is h)
 
-  meant_asks : (n : Text) (key : Key) (p : Path) (m : Text) → StandsFor ws scope.own (meant scope here n key) (symbol p m) → Asks (meant scope here n key) p m
+  meant_asks : (n : Text) (key : Key) (p : Path) (m : Text) → StandsFor ws own.path (meant_in own here n key) (symbol p m) → Asks (meant_in own here n key) p m
   meant_asks n (bound [] x) p m h = plain_asks n p m h
   meant_asks n (bound (k ∷ outer) x) p m h = absurd (let z : ⊥ = cc in z)
   meant_asks n (free x) p m h = plain_asks n p m h
   meant_asks n (qualified q x) p m h = path_asks q n p m h
 
-  symbol_asks : (r : Standing) → IsReference r → (n : Text) (key : Key) (p : Path) (m : Text) → StandsFor ws scope.own (use_as scope here r n key) (symbol p m) → Asks (use_as scope here r n key) p m
+  symbol_asks : (r : Standing) → IsReference r → (n : Text) (key : Key) (p : Path) (m : Text) → StandsFor ws own.path (standing_in own here r n key) (symbol p m) → Asks (standing_in own here r n key) p m
   symbol_asks (reference by) i n key p m h = meant_asks n key p m h
   symbol_asks module_name i n key p m h = absurd i
   symbol_asks parameter i n key p m h = absurd i
@@ -150,7 +149,7 @@ module _ (w : List Module) (task : Task Path Text) (held : List Placed) (srcs : 
         (globals_well s.home.unit.declarations.children g.globals globals_node (record { ahead = tt; others = (refl, refl); declares = λ e. let z : ⊥ = cc in z }) (globals_place s.home.unit) (globals_number s.home.unit))
         (in_module x i)
 
-    well_so : (x : Occurrence Text) (r : Standing) → StandsWell r x.block → IsWell (tables w) (scope_of s.home.path s.home.unit) (occurrences s.home.unit) x r
+    well_so : (x : Occurrence Text) (r : Standing) → StandsWell r x.block → IsWell (tables w) s.home (occurrences s.home.unit) x r
     well_so x module_name h = tt
     well_so x parameter h = h
     well_so x (local_name e) h = h
@@ -158,11 +157,11 @@ module _ (w : List Module) (task : Task Path Text) (held : List Placed) (srcs : 
     well_so x word h = tt
 
     abbrev pub DenotesHere : Occurrence Text → Standing → Denotation → Type 0
-    DenotesHere = Denotes (tables w) (scope_of s.home.path s.home.unit) (occurrences s.home.unit)
+    DenotesHere = Denotes (tables w) s.home (occurrences s.home.unit)
 
     pub denotes_here : (a b : ℕ) (x : Occurrence Text) (o : Occurrence ℕ) → Contains (own_part s) x → Related (tables w) means s a b x o → DenotesHere x x.role (means o.name)
     denotes_here a b x o i r =
-        denotes (tables w) (scope_of s.home.path s.home.unit) (occurrences s.home.unit) x x.role (means o.name) (well_so x x.role (stands_well x i)) r.means
+        denotes (tables w) s.home (occurrences s.home.unit) x x.role (means o.name) (well_so x x.role (stands_well x i)) r.means
 
     module _ (a b : ℕ) (there : LaidAt lay.place lay.number srcs.sources s a b) where
       pub at_block : (x : Occurrence Text) (o : Occurrence ℕ) → Related (tables w) means s a b x o → Contains all o → (k : ℕ) (outer : Block) → x.block ≡ k ∷ outer → InUnit s.home.path k o.block
@@ -210,7 +209,7 @@ module _ (w : List Module) (task : Task Path Text) (held : List Placed) (srcs : 
       let (y, y_in, role, called) = has_name x.name (before s.declaration end) each.global s.node each.node named s.place s.number in
       let (a, b, there) = laid_somewhere srcs.sources lay.place lay.number s c in
       let (z, z_in, r) = has_copy (tables w) means srcs.sources lay.place lay.number lay.globals lay.laid s a b there y y_in in
-      let what : use_in s.home y ≡ declares x.name = ap (λ v. use_as (scope_of s.home.path s.home.unit) (Name y.place) v y.name (key_of (occurrences s.home.unit) y)) role ∙ ap (λ v. declares v) called in
+      let what : use_in s.home y ≡ declares x.name = ap (λ v. standing_in s.home (Name y.place) v y.name (key_of (occurrences s.home.unit) y)) role ∙ ap (λ v. declares v) called in
       let meaning : means z.name ≡ symbol s.home.path x.name = subst (λ v. StandsFor (tables w) s.home.path v (means z.name)) what r.means in
       (z, z_in, still_module s.place a s.number b (blocks_of s.declaration) y.role z.role role r.same.role, meaning ∙ ap (λ p. symbol p x.name) paths)
 
@@ -221,10 +220,10 @@ module _ (w : List Module) (task : Task Path Text) (held : List Placed) (srcs : 
       let each = srcs.each s c in
       let m = s.home in
       let target : Symbol Path Text = record { path = p; name = n } in
-      let (a, a_in, answers) = symbol_asks (tables w) (scope_of m.path m.unit) (Name x.place) x.role is x.name (key_of (occurrences m.unit) x) p n stands in
+      let (a, a_in, answers) = symbol_asks (tables w) m (Name x.place) x.role is x.name (key_of (occurrences m.unit) x) p n stands in
       let t_in : Contains (tables w) (table m) = map_contains table w m each.0 in
       let (k, row) = has_row m (gs m each.0) s each.3 in
-      let reached = refers_to_reached (tables w) task (table m) t_in (entered m each.0) (scope_of m.path m.unit) k s.declaration (map (use_in m) (own_part s)) row (λ name named. subst (IsHeldAs (tables w) task (placed_of s)) named each.2)
+      let reached = refers_to_reached (tables w) task (table m) t_in (entered m each.0) m k s.declaration (map (use_in m) (own_part s)) row (λ name named. subst (IsHeldAs (tables w) task (placed_of s)) named each.2)
       (use_in m x) (map_contains (use_in m) (own_part s) x i) a a_in target answers in
       let (t, there, at_path, names) = leads_to_declared (tables w) (asked_for (table m) a) target answers in
       symbol_binder target reached t there at_path names
@@ -238,7 +237,7 @@ module _ (w : List Module) (task : Task Path Text) (held : List Placed) (srcs : 
     IsBoundHere = IsBound names all means print InUnit
 
     module _ (s : Source) (c : Contains srcs.sources s) (a b : ℕ) (there : LaidAt lay.place lay.number srcs.sources s a b) (x : Occurrence Text) (o : Occurrence ℕ) (i : Contains (own_part s) x) (held_o : Contains all o) (r : Related (tables w) means s a b x o) where
-      in_a_function : (d : Denotation) → InBlock (tables w) (scope_of s.home.path s.home.unit) x.block x.name d → (p : Path) × (k : ℕ) × (n : Text) × (d ≡ local p k n) × InUnit p k o.block
+      in_a_function : (d : Denotation) → InBlock (tables w) s.home x.block x.name d → (p : Path) × (k : ℕ) × (n : Text) × (d ≡ local p k n) × InUnit p k o.block
       in_a_function d (in_own k outer e is) = (s.home.path, k, x.name, is, at_block s c a b there x o r held_o k outer e)
 
       bound_here : (z : Occurrence ℕ) (d : Denotation) → Contains lay.globals z → is_binder z.role ≡ true → means z.name ≡ d → IsBoundHere d
@@ -249,7 +248,7 @@ module _ (w : List Module) (task : Task Path Text) (held : List Placed) (srcs : 
           let (z, z_in, role, meaning) = symbol_reached s c x i ref p n (subst (StandsFor (tables w) s.home.path (use_in s.home x)) (e ∙ is) r.means) in
           bound_here z d z_in (ap is_binder role) (meaning ∙ sym is)
 
-      of_reference : (d : Denotation) → means o.name ≡ d → IsReference x.role → ReferenceDenotes (tables w) (scope_of s.home.path s.home.unit) (occurrences s.home.unit) x d → IsBoundHere d ⊎ ((n : Text) × (d ≡ free_name n))
+      of_reference : (d : Denotation) → means o.name ≡ d → IsReference x.role → ReferenceDenotes (tables w) s.home (occurrences s.home.unit) x d → IsBoundHere d ⊎ ((n : Text) × (d ≡ free_name n))
       of_reference d e ref (in_a_block y m (in_own k outer f is)) =
           let (z, z_in, binds, meaning, y_in, rz) = copy_of s c a b there x o r y m k outer f in
           inl (bound_here z d z_in binds (meaning ∙ sym is))

@@ -11,9 +11,9 @@ use Rattle.wesl_symbols.specs.Tables.{Table}
 use Rattle.wesl_symbols.specs.Names.{AsksFrom, asked_for}
 use Rattle.wesl_world.specs.World.{Task, Entered, Reached, Followed, led_to, by_assert, by_symbol}
 use Rattle.wesl_symbols.proofs.Lists.{contains_nil, contains_cases}
-use Rattle.wesl_table.specs.Split.{Scope}
-use Rattle.wesl_table.specs.Tables.{name_of, declaration_of}
+use Rattle.wesl_table.specs.Tables.{name_of, scope_of, declaration_of}
 use Rattle.wesl_table.specs.Uses.{Use, asked}
+use Rattle.wesl_linker.specs.Worlds.{Module}
 use Rattle.wesl_linker.specs.Linked.{AskedLeadsTo}
 
 in_flat_map : {X Y : Type 0} (f : X → List Y) (xs : List X) (x : X) (y : Y) → Contains xs x → Contains (f x) y → Contains (flat_map f xs) y
@@ -30,8 +30,8 @@ module _ (w : List (Table Path Text)) (task : Task Path Text) (t : Table Path Te
   followed (Some n) l h asks = by_symbol (record { path = t.path; name = n }) t l (h n refl) (here, refl) asks
 
   -- of a declaration that is held: its symbol is reached, or it has no name
-  pub refers_to_reached : (scope : Scope) (k : ℕ) (d : TreeOf Text) (us : List (Use Path Text)) → Contains t.declarations (declaration_of scope k d us) → ((n : Text) → name_of d ≡ Some n → Reached w task (record { path = t.path; name = n }))
+  pub refers_to_reached : (m : Module) (k : ℕ) (d : TreeOf Text) (us : List (Use Path Text)) → Contains t.declarations (declaration_of (scope_of m.path m.unit) k d us) → ((n : Text) → name_of d ≡ Some n → Reached w task (record { path = t.path; name = n }))
       → (u : Use Path Text) → Contains us u → (a : Reference Path Text) → Contains (asked u) a → (s : Symbol Path Text) → AskedLeadsTo w t.path a s → Reached w task s
-  refers_to_reached scope k d us held reached u in_uses a in_asked s answers =
-      let asks : AsksFrom t (name_of d) (asked_for t a) = (a, (declaration_of scope k d us, held, refl, in_flat_map asked us u a in_uses in_asked), refl) in
+  refers_to_reached m k d us held reached u in_uses a in_asked s answers =
+      let asks : AsksFrom t (name_of d) (asked_for t a) = (a, (declaration_of (scope_of m.path m.unit) k d us, held, refl, in_flat_map asked us u a in_uses in_asked), refl) in
       led_to (asked_for t a) s (followed (name_of d) (asked_for t a) reached asks) answers

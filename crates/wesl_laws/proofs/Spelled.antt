@@ -1,5 +1,5 @@
 -- A linked unit whose names are apart is faithful.
-use Rattle.std.proofs.Common.{◌≡◌, ◌≢◌, ◌⊎◌, inl, inr, ℕ, Bool, true, false, ◌&&◌, Option, Some, None, List, [], ◌∷◌, map, get_or, Contains, refl, sym, ap, ap₂, ◌∙◌, subst}
+use Rattle.std.proofs.Common.{◌≡◌, ◌≢◌, ◌⊎◌, inl, inr, ℕ, Bool, true, false, ◌&&◌, Option, Some, None, List, [], ◌∷◌, get_or, Contains, refl, sym, ap, ap₂, ◌∙◌, subst}
 use Rattle.std.specs.Prelude.{bytes_eq}
 use Rattle.std.specs.List.{All, filter, find}
 use Rattle.std.proofs.lemmas.List.Elements.{All-contains, All-contains_itself, Contains-append_cases}
@@ -13,9 +13,7 @@ use Rattle.wesl_meanings.specs.Keys.{named as named_in}
 use Rattle.wesl_meanings.specs.Scopes.{bound, is_visible, binds, binder_of, meaning, key_as}
 use Rattle.wesl_faith.specs.Faithful.{is_global, name_of, first_filled, binders_in, binders_of, AgreeOn, ReadRight}
 use Rattle.wesl_faith.specs.Retargeted.{IsUnbound}
-use Rattle.wesl_table.specs.Split.{Scope}
-use Rattle.wesl_table.specs.Uses.{refers, plain_use, meant, use_as}
-use Rattle.wesl_table.specs.Tables.{scope_of}
+use Rattle.wesl_table.specs.Uses.{refers}
 use Rattle.wesl_assembly.specs.Denotations.{symbol, local, free_name}
 use Rattle.wesl_linker.specs.Worlds.{Module, tables}
 use Rattle.wesl_linker.specs.Linked.{Denotation, Placed, StandsFor}
@@ -24,7 +22,7 @@ use Rattle.wesl_laws.proofs.Aligned.{SameStanding}
 use Rattle.wesl_laws.proofs.Shaped.{Pathless}
 use Rattle.wesl_laws.proofs.Parts.{blocks_of}
 use Rattle.wesl_laws.proofs.Scoped.{itself, found}
-use Rattle.wesl_laws.proofs.Denoted.{plain_refers, path_refers}
+use Rattle.wesl_laws.proofs.Denoted.{plain_in, meant_in, standing_in, plain_refers, path_refers}
 use Rattle.wesl_laws.proofs.Respelled.{IsGrammatical}
 use Rattle.wesl_laws.proofs.Sources.{Source, own_part, use_in, AreSources}
 use Rattle.wesl_laws.proofs.Laid.{LaidAt, Related, has_source}
@@ -116,9 +114,6 @@ module _ (w : List Module) (task : Task Path Text) (held : List Placed) (srcs : 
     abbrev Read : Type 0
     Read = AgreeOn names all r.name (binders_of names all (name_of names all r) r.place r.block)
 
-    abbrev scope : Scope
-    scope = scope_of s.home.path s.home.unit
-
     reads_symbol : (p : Path) (n : Text) → IsReference x.role → means r.name ≡ symbol p n → Read
     reads_symbol p n ref e =
         let (g, g_in, role, meaning) = symbol_reached w task held srcs gs entered means way all lay s c x x_in ref p n (subst (StandsFor (tables w) s.home.path (use_in s.home x)) e rel.means) in
@@ -148,20 +143,20 @@ module _ (w : List Module) (task : Task Path Text) (held : List Placed) (srcs : 
     reads_outside asks (free_name m) e ref (i, none) alone = reads_free x.name (e ∙ ap free_name i) (alone none)
     reads_outside asks (local p k n) e ref h alone = absurd h
 
-    use_so : (v : Standing) → x.role ≡ v → use_in s.home x ≡ use_as scope (Name x.place) v x.name (key_as (occurrences s.home.unit) x v)
-    use_so v e = ap (λ t. use_as scope (Name x.place) t x.name (key_as (occurrences s.home.unit) x t)) e
+    use_so : (v : Standing) → x.role ≡ v → use_in s.home x ≡ standing_in s.home (Name x.place) v x.name (key_as (occurrences s.home.unit) x v)
+    use_so v e = ap (λ t. standing_in s.home (Name x.place) t x.name (key_as (occurrences s.home.unit) x t)) e
 
-    plain_so : (o : Option (Occurrence Text)) → x.role ≡ reference None → binder_of (occurrences s.home.unit) x.name x.place x.block ≡ o → StandsFor (tables w) s.home.path (meant scope (Name x.place) x.name (meaning x.name o)) (means r.name)
-    plain_so o e f = subst (λ u. StandsFor (tables w) s.home.path u (means r.name)) (use_so (reference None) e ∙ ap (λ v. meant scope (Name x.place) x.name (meaning x.name v)) f) rel.means
+    plain_so : (o : Option (Occurrence Text)) → x.role ≡ reference None → binder_of (occurrences s.home.unit) x.name x.place x.block ≡ o → StandsFor (tables w) s.home.path (meant_in s.home (Name x.place) x.name (meaning x.name o)) (means r.name)
+    plain_so o e f = subst (λ u. StandsFor (tables w) s.home.path u (means r.name)) (use_so (reference None) e ∙ ap (λ v. meant_in s.home (Name x.place) x.name (meaning x.name v)) f) rel.means
 
-    bound_plain : (y : Occurrence Text) (v : Block) → y.block ≡ v → StandsFor (tables w) s.home.path (meant scope (Name x.place) x.name (meaning x.name (Some y))) (means r.name)
-        → StandsFor (tables w) s.home.path (meant scope (Name x.place) x.name (bound v x.name)) (means r.name)
-    bound_plain y v e h = subst (λ t. StandsFor (tables w) s.home.path (meant scope (Name x.place) x.name (bound t x.name)) (means r.name)) e h
+    bound_plain : (y : Occurrence Text) (v : Block) → y.block ≡ v → StandsFor (tables w) s.home.path (meant_in s.home (Name x.place) x.name (meaning x.name (Some y))) (means r.name)
+        → StandsFor (tables w) s.home.path (meant_in s.home (Name x.place) x.name (bound v x.name)) (means r.name)
+    bound_plain y v e h = subst (λ t. StandsFor (tables w) s.home.path (meant_in s.home (Name x.place) x.name (bound t x.name)) (means r.name)) e h
 
     -- where it refers to what the module's block binds, if it binds it
-    reads_module : binders_of names all x.name r.place r.block ≡ binders_in names all x.name r.place [] → IsReference x.role → StandsFor (tables w) s.home.path (plain_use scope (Name x.place) x.name) (means r.name) → Read
+    reads_module : binders_of names all x.name r.place r.block ≡ binders_in names all x.name r.place [] → IsReference x.role → StandsFor (tables w) s.home.path (plain_in s.home (Name x.place) x.name) (means r.name) → Read
     reads_module alone ref h =
-        let (asks, is) = plain_refers (tables w) s.home.path scope (Name x.place) x.name (means r.name) h in
+        let (asks, is) = plain_refers (tables w) s.home (Name x.place) x.name (means r.name) h in
         reads_outside asks (means r.name) refl ref (subst (λ v. StandsFor (tables w) s.home.path v (means r.name)) is h) (λ none. alone)
 
     module_found : x.role ≡ reference None → IsReference x.role → binders_of names all x.name r.place r.block ≡ binders_in names all x.name r.place [] → (f : Option (Occurrence Text)) → find (binds [] x.name x.place) (occurrences s.home.unit) ≡ f → binder_of (occurrences s.home.unit) x.name x.place x.block ≡ f → Read
@@ -183,7 +178,7 @@ module _ (w : List Module) (task : Task Path Text) (held : List Placed) (srcs : 
         reads_plain e (subst IsReference (sym e) tt) (picks w task held srcs gs entered means way all lay names print local_printed named s c a b there x r x_in r_in rel x.name refl x.block r.block rel.same.block itself)
     reads_as (reference (Some path)) t e u h =
         let stands = subst (λ v. StandsFor (tables w) s.home.path v (means r.name)) (use_so (reference (Some path)) e) rel.means in
-        let (asks, is, some) = path_refers (tables w) s.home.path scope (Name x.place) path x.name (means r.name) stands in
+        let (asks, is, some) = path_refers (tables w) s.home (Name x.place) path x.name (means r.name) stands in
         reads_outside asks (means r.name) refl (subst IsReference (sym e) tt) (subst (λ v. StandsFor (tables w) s.home.path v (means r.name)) is stands) (λ none. absurd (some none))
     reads_as module_name (reference y) e u h = absurd h
     reads_as parameter (reference y) e u h = absurd h
