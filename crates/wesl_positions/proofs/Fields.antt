@@ -3,12 +3,13 @@ use Rattle.std.proofs.Common.{◌≡◌, ℕ, zero, suc, ◌<◌, ◌≤◌, nat
 use Rattle.std.proofs.lemmas.Bool.{cases_lt, le-ltb, lt-ltb}
 use Rattle.std.specs.Prelude.{Option, None}
 use Rattle.wesl_chains.specs.Conditions.{is_list}
+use Rattle.wesl_chains.specs.Faults.{closed_list}
 use Rattle.wesl_chains.specs.Lists.{elements, is_closed, is_compound, is_entered}
 use Rattle.wesl_chains.specs.Picked.{Choice}
 use Rattle.wesl_chains.proofs.Begun.{all_taken}
 use Rattle.wesl_syntax.specs.Tree.{Forest, Kind, Label, Tree, before, end, forest_of, kind, tree}
 use Rattle.wesl_alive.specs.Kept.{kept_indexes}
-use Rattle.wesl_alive.specs.Positions.{has, is_plain, kept_at}
+use Rattle.wesl_alive.specs.Positions.{handed, has, is_plain, keeps_child, kept_at}
 
 module _ (choice : Choice ℕ) where
   abbrev pub from_tree : List ℕ → Tree → Bool
@@ -61,6 +62,11 @@ module _ (choice : Choice ℕ) where
   pub through_span : (held : Option (List ℕ)) (p : List ℕ) (l : Label) (t : Tree) → is_entered l ≡ true → is_plain l ≡ true → kept_at choice held 0 p (tree l (before t end) end) ≡ from_tree p t
   through_span held [] l t e d = refl
   through_span held (i ∷ p) l t e d = rw (e, d) refl
+
+  -- nodes that add one
+  pub below : (l : Label) (i : ℕ) (p : List ℕ) (children : Forest) → is_entered l ≡ true → is_plain l ≡ false
+      → kept_at choice None 0 (i ∷ p) (tree l children end) ≡ (keeps_child choice None l children i && kept_at choice (handed l (kept_indexes choice (closed_list children)) None i) i p children)
+  below l i p children e d = rw (e, d) refl
 
   -- a list that is judged
   pub record IsJudged (k : Kind) : Type 0 where

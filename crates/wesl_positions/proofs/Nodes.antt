@@ -5,13 +5,12 @@ use Rattle.std.proofs.lemmas.List.{length-map}
 use Rattle.std.specs.Prelude.{Option, None, Some, Result, IfOk}
 use Rattle.std.specs.Global.{Vec}
 use Rattle.std.specs.declared.alloc.AllocError.{AllocError}
-use Rattle.wesl_chains.specs.Conditions.{is_list}
 use Rattle.wesl_chains.specs.Faults.{closed_list}
-use Rattle.wesl_chains.specs.Lists.{Element, elements, is_closed, is_compound, is_entered}
+use Rattle.wesl_chains.specs.Lists.{Element, elements, is_entered}
 use Rattle.wesl_chains.specs.Nodes.{optional_forest}
 use Rattle.wesl_chains.specs.Picked.{Choice}
 use Rattle.wesl_choices.specs.Choices.{Choices, has as holds}
-use Rattle.wesl_syntax.specs.Tree.{Kind, Tree, at, before, branch, compound, end, forest_of, kind, list, statement_node, statements}
+use Rattle.wesl_syntax.specs.Tree.{Forest, Kind, Tree, at, before, branch, compound, continuing, end, forest_of, kind, list, loop, statement_node, statements}
 use Rattle.wesl_syntax.specs.View.{attributes_tree, compound_view, optional, selector_view, statement_tree, statement_view}
 use Rattle.wesl_syntax.specs.declared.attribute.Attribute.{Attribute}
 use Rattle.wesl_syntax.specs.declared.span.Spanned.{Spanned}
@@ -21,11 +20,11 @@ use Rattle.wesl_syntax.specs.declared.statement.CompoundStatement.{CompoundState
 use Rattle.wesl_syntax.specs.declared.statement.Statement.{Statement}
 use Rattle.wesl_alive.proofs.Views.{view_compound}
 use Rattle.wesl_alive.specs.Kept.{kept_indexes}
-use Rattle.wesl_alive.specs.Positions.{has, is_plain, kept_at, size}
+use Rattle.wesl_alive.specs.Positions.{body_size, handed, has, is_plain, keeps_child, kept_at, size}
 use Rattle.wesl_alive.specs.Sound.{outline_of}
 use Rattle.wesl_positions.specs.Found.{Finds, IsFound, choice_in, keeps_leaf}
 use Rattle.wesl_positions.specs.declared.lookup.Lookup.{Lookup}
-use Rattle.wesl_positions.proofs.Fields.{IsJudged, alone, from_tree, judged_at, leaf_at, no_element, this_element, through_span}
+use Rattle.wesl_positions.proofs.Fields.{IsJudged, alone, below, from_tree, judged_at, leaf_at, no_element, this_element, through_span}
 use Rattle.wesl_positions.proofs.Numbers.{found_as, kept_number, none_past}
 
 and_false : (b : Bool) → (b && false) ≡ false
@@ -98,9 +97,16 @@ module _ (look : Lookup) where
 pub record IsClosing (k : Kind) : Type 0 where
   pub entered : is_entered {I = ℕ} (kind k) ≡ true
   pub plain : is_plain {I = ℕ} (kind k) ≡ false
-  pub list : is_list {I = ℕ} (kind k) ≡ false
-  pub closed : is_closed {I = ℕ} (kind k) ≡ true
-  pub compound : is_compound {I = ℕ} (kind k) ≡ false
+  pub keeps_body : (choice : Choice ℕ) (children : Forest) → keeps_child choice None (kind k) children 1 ≡ true
+  pub keeps_last : (choice : Choice ℕ) (children : Forest) → keeps_child choice None (kind k) children 2 ≡ has (kept_indexes choice (closed_list children)) (body_size children)
+  pub to_body : (ks : List ℕ) → handed {I = ℕ} (kind k) ks None 1 ≡ Some ks
+  pub to_last : (ks : List ℕ) → handed {I = ℕ} (kind k) ks None 2 ≡ None
+
+pub loop_closing : IsClosing loop
+loop_closing = record { entered = refl; plain = refl; keeps_body = λ choice children. refl; keeps_last = λ choice children. refl; to_body = λ ks. refl; to_last = λ ks. refl }
+
+pub continuing_closing : IsClosing continuing
+continuing_closing = record { entered = refl; plain = refl; keeps_body = λ choice children. refl; keeps_last = λ choice children. refl; to_body = λ ks. refl; to_last = λ ks. refl }
 
 size_listed : (ts : List Tree) → size (forest_of ts) ≡ length ts
 size_listed [] = refl
@@ -113,6 +119,9 @@ length_elements (t ∷ ts) = ap suc (length_elements ts)
 abbrev pub body_tree : Vec (Spanned Attribute) → List Tree → Tree
 body_tree b ts = branch compound (attributes_tree b ∷ branch statements ts ∷ [])
 
+abbrev statements_of : CompoundStatement → List Tree
+statements_of body = map statement_tree (out-CompoundStatement body).statements.items
+
 module _ {X : Type 0} (view : X → Tree) where
   abbrev pub both_of : List Tree → Option X → List (Element ℕ)
   both_of ts o = elements false (forest_of ts) ++ elements true (optional_forest view o)
@@ -123,6 +132,10 @@ module _ {X : Type 0} (view : X → Tree) where
   closed_list_is : (k : Kind) (a b : Vec (Spanned Attribute)) (ts : List Tree) (o : Option X) → closed_list (closing_tree k a b ts o).children ≡ both_of ts o
   closed_list_is k a b ts None = refl
   closed_list_is k a b ts (Some x) = refl
+
+  -- the list of a body and of what closes it
+  abbrev pub closing_list : CompoundStatement → Option X → List (Element ℕ)
+  closing_list body o = both_of (statements_of body) o
 
   module _ (choice : Choice ℕ) (k : Kind) (h : IsClosing k) where
     none_there : (ts : List Tree) → has (kept_indexes choice (both_of ts None)) (length ts) ≡ false
@@ -136,14 +149,25 @@ module _ {X : Type 0} (view : X → Tree) where
 
     pub in_body : (q : List ℕ) (a b : Vec (Spanned Attribute)) (ts : List Tree) (o : Option X)
         → from_tree choice (1 ∷ q) (closing_tree k a b ts o) ≡ kept_at choice (Some (kept_indexes choice (both_of ts o))) 0 q (before (body_tree b ts) end)
-    in_body q a b ts o = rw (h.entered, h.plain, h.list, h.closed) (alone choice _ q (body_tree b ts) (before (optional view o) end) ∙ ap (λ xs. kept_at choice (Some (kept_indexes choice xs)) 0 q (before (body_tree b ts) end)) (closed_list_is k a b ts o))
+    in_body q a b ts o =
+        let children : Forest = (closing_tree k a b ts o).children in
+        let ks : List ℕ = kept_indexes choice (closed_list children) in
+        below choice (kind k) 1 q children h.entered h.plain
+        ∙ ap (λ s. s && kept_at choice (handed {I = ℕ} (kind k) ks None 1) 1 q children) (h.keeps_body choice children)
+        ∙ ap (λ held. kept_at choice held 1 q children) (h.to_body ks)
+        ∙ alone choice (Some ks) q (body_tree b ts) (before (optional view o) end)
+        ∙ ap (λ xs. kept_at choice (Some (kept_indexes choice xs)) 0 q (before (body_tree b ts) end)) (closed_list_is k a b ts o)
 
     pub in_last : (q : List ℕ) (a b : Vec (Spanned Attribute)) (ts : List Tree) (o : Option X)
         → from_tree choice (2 ∷ q) (closing_tree k a b ts o) ≡ (has (kept_indexes choice (both_of ts o)) (length ts) && from_tree choice q (optional view o))
     in_last q a b ts o =
-        rw (h.entered, h.plain, h.list, h.closed, h.compound)
-        (ap (λ xs. has (kept_indexes choice xs) (size (forest_of ts)) && from_tree choice q (optional view o)) (closed_list_is k a b ts o)
-        ∙ ap (λ n. has (kept_indexes choice (both_of ts o)) n && from_tree choice q (optional view o)) (size_listed ts))
+        let children : Forest = (closing_tree k a b ts o).children in
+        let ks : List ℕ = kept_indexes choice (closed_list children) in
+        below choice (kind k) 2 q children h.entered h.plain
+        ∙ ap (λ s. s && kept_at choice (handed {I = ℕ} (kind k) ks None 2) 2 q children) (h.keeps_last choice children)
+        ∙ ap (λ held. has ks (size (forest_of ts)) && kept_at choice held 2 q children) (h.to_last ks)
+        ∙ ap (λ xs. has (kept_indexes choice xs) (size (forest_of ts)) && from_tree choice q (optional view o)) (closed_list_is k a b ts o)
+        ∙ ap (λ n. has (kept_indexes choice (both_of ts o)) n && from_tree choice q (optional view o)) (size_listed ts)
 
     -- what closes a list has no judged list in it, and is there where it is kept
     pub in_last_leaf : ((x : X) → is_entered (view x).label ≡ false) → (q : List ℕ) (a b : Vec (Spanned Attribute)) (ts : List Tree) (o : Option X)
@@ -184,39 +208,33 @@ module _ (look : Lookup) where
 
   module _ {X : Type 0} (view : X → Tree) (k : Kind) (closing : IsClosing k) (t : Tree) (a : Vec (Spanned Attribute)) (body : CompoundStatement) (o : Option X)
       (is : t ≡ branch k (attributes_tree a ∷ compound_view body ∷ optional view o ∷ [])) where
-    abbrev statements_of : List Tree
-    statements_of = map statement_tree (out-CompoundStatement body).statements.items
-
-    abbrev pub closing_list : List (Element ℕ)
-    closing_list = both_of view statements_of o
-
-    whole_is : t ≡ closing_tree view k a (out-CompoundStatement body).attributes statements_of o
+    whole_is : t ≡ closing_tree view k a (out-CompoundStatement body).attributes (statements_of body) o
     whole_is = is ∙ ap (λ z. branch k (attributes_tree a ∷ z ∷ optional view o ∷ [])) (view_compound body)
 
-    pub body_found : (p q : List ℕ) (r : Result Choices AllocError) → IfOk r (IsFound look (λ choice. kept_at choice (Some (kept_indexes choice closing_list)) 0 q (before (compound_view body) end))) → p ≡ 1 ∷ q → Finds look p t r
+    pub body_found : (p q : List ℕ) (r : Result Choices AllocError) → IfOk r (IsFound look (λ choice. kept_at choice (Some (kept_indexes choice (closing_list view body o))) 0 q (before (compound_view body) end))) → p ≡ 1 ∷ q → Finds look p t r
     body_found p q r h e =
-        found_as look r (λ choice. kept_at choice (Some (kept_indexes choice closing_list)) 0 q (before (compound_view body) end)) (λ choice. from_tree choice p t)
-        (λ choice. ap (λ z. kept_at choice (Some (kept_indexes choice closing_list)) 0 q (before z end)) (view_compound body)
-        ∙ sym (ap (λ z. from_tree choice z t) e ∙ ap (from_tree choice (1 ∷ q)) whole_is ∙ in_body view choice k closing q a (out-CompoundStatement body).attributes statements_of o)) h
+        found_as look r (λ choice. kept_at choice (Some (kept_indexes choice (closing_list view body o))) 0 q (before (compound_view body) end)) (λ choice. from_tree choice p t)
+        (λ choice. ap (λ z. kept_at choice (Some (kept_indexes choice (closing_list view body o))) 0 q (before z end)) (view_compound body)
+        ∙ sym (ap (λ z. from_tree choice z t) e ∙ ap (from_tree choice (1 ∷ q)) whole_is ∙ in_body view choice k closing q a (out-CompoundStatement body).attributes (statements_of body) o)) h
 
     last_is : (choice : Choice ℕ) (p q : List ℕ) (n : ℕ) → n ≡ length (out-CompoundStatement body).statements.items → p ≡ 2 ∷ q
-        → from_tree choice p t ≡ (has (kept_indexes choice closing_list) n && from_tree choice q (optional view o))
+        → from_tree choice p t ≡ (has (kept_indexes choice (closing_list view body o)) n && from_tree choice q (optional view o))
     last_is choice p q n d e =
-        ap (λ z. from_tree choice z t) e ∙ ap (from_tree choice (2 ∷ q)) whole_is ∙ in_last view choice k closing q a (out-CompoundStatement body).attributes statements_of o
-        ∙ ap (λ m. has (kept_indexes choice closing_list) m && from_tree choice q (optional view o)) (length-map (out-CompoundStatement body).statements.items statement_tree ∙ sym d)
+        ap (λ z. from_tree choice z t) e ∙ ap (from_tree choice (2 ∷ q)) whole_is ∙ in_last view choice k closing q a (out-CompoundStatement body).attributes (statements_of body) o
+        ∙ ap (λ m. has (kept_indexes choice (closing_list view body o)) m && from_tree choice q (optional view o)) (length-map (out-CompoundStatement body).statements.items statement_tree ∙ sym d)
 
-    pub last_found : (p q : List ℕ) (n : ℕ) (x y z : Choices) → n ≡ length (out-CompoundStatement body).statements.items → IsFound look (λ choice. has (kept_indexes choice closing_list) n) x
+    pub last_found : (p q : List ℕ) (n : ℕ) (x y z : Choices) → n ≡ length (out-CompoundStatement body).statements.items → IsFound look (λ choice. has (kept_indexes choice (closing_list view body o)) n) x
         → IsFound look (λ choice. from_tree choice q (optional view o)) y → z.flags ≡ x.flags → ((j : ℕ) → holds z j ≡ (holds x j && holds y j)) → p ≡ 2 ∷ q → IsFound look (λ choice. from_tree choice p t) z
     last_found p q n x y z d found inside over both e =
-        both_found look (λ choice. has (kept_indexes choice closing_list) n) (λ choice. from_tree choice q (optional view o)) (λ choice. from_tree choice p t) x y z
+        both_found look (λ choice. has (kept_indexes choice (closing_list view body o)) n) (λ choice. from_tree choice q (optional view o)) (λ choice. from_tree choice p t) x y z
         (λ choice. sym (last_is choice p q n d e)) found inside over both
 
     pub last_leaf_found : ((x : X) → is_entered (view x).label ≡ false) → (p q : List ℕ) (n : ℕ) (r : Result Choices AllocError) → n ≡ length (out-CompoundStatement body).statements.items
-        → IfOk r (IsFound look (λ choice. has (kept_indexes choice closing_list) n)) → p ≡ 2 ∷ q → Finds look p t r
+        → IfOk r (IsFound look (λ choice. has (kept_indexes choice (closing_list view body o)) n)) → p ≡ 2 ∷ q → Finds look p t r
     last_leaf_found leaf p q n r d h e =
-        found_as look r (λ choice. has (kept_indexes choice closing_list) n) (λ choice. from_tree choice p t)
-        (λ choice. ap (has (kept_indexes choice closing_list)) (d ∙ sym (length-map (out-CompoundStatement body).statements.items statement_tree))
-        ∙ sym (ap (λ z. from_tree choice z t) e ∙ ap (from_tree choice (2 ∷ q)) whole_is ∙ in_last_leaf view choice k closing leaf q a (out-CompoundStatement body).attributes statements_of o)) h
+        found_as look r (λ choice. has (kept_indexes choice (closing_list view body o)) n) (λ choice. from_tree choice p t)
+        (λ choice. ap (has (kept_indexes choice (closing_list view body o))) (d ∙ sym (length-map (out-CompoundStatement body).statements.items statement_tree))
+        ∙ sym (ap (λ z. from_tree choice z t) e ∙ ap (from_tree choice (2 ∷ q)) whole_is ∙ in_last_leaf view choice k closing leaf q a (out-CompoundStatement body).attributes (statements_of body) o)) h
 
 -- ---- judged lists below whose nodes none lies
 

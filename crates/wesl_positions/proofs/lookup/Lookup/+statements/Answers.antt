@@ -1,15 +1,16 @@
-use Rattle.std.proofs.Common.{◌≡◌, ◌∙◌, ℕ, ◌<◌, ◌≤◌, [], ◌∷◌, ap, arith, drop, get_or, length, map, take, refl, rules, sym}
+use Rattle.std.proofs.Common.{◌∙◌, [], ◌∷◌, ap, arith, drop, get_or, length, map, take, refl, rules}
 use Rattle.std.specs.Prelude.{None}
-use Rattle.wesl_syntax.specs.Tree.{at, clauses as clauses_kind, continuing as continuing_kind, list, loop, statement_node, statements as statements_kind}
-use Rattle.wesl_syntax.specs.View.{break_if_view, clause_view, compound_view, continuing_view, else_if_view, listed, selector_view, statement_tree, statement_view}
+use Rattle.std.specs.Box.{box_value}
+use Rattle.wesl_syntax.specs.Tree.{Forest, Tree, at, before, clauses as clauses_kind, continuing as continuing_kind, end, forest_of, list, loop, statement_node, statements as statements_kind}
+use Rattle.wesl_syntax.specs.View.{break_if_view, clause_view, compound_view, continuing_view, else_if_view, expression_tree, listed, optional, selector_view, statement_tree, statement_view}
 use Rattle.wesl_syntax.specs.declared.statement.CompoundStatement.{out-CompoundStatement}
 use Rattle.wesl_syntax.specs.declared.statement.ContinuingStatement.{out-ContinuingStatement}
 use Rattle.wesl_syntax.specs.declared.statement.SwitchClause.{out-SwitchClause}
 use Rattle.wesl_alive.specs.Views.{outline_view}
 use Rattle.wesl_alive.proofs.Once.{ok_map}
-use Rattle.wesl_alive.proofs.Views.{view_clause, view_compound, view_continuing, view_loop}
+use Rattle.wesl_alive.proofs.Views.{view_clause, view_compound, view_continuing, view_for, view_loop, view_while}
 use Rattle.wesl_positions.proofs.Fields.{alone, begins_by, begins_two, begins_with, no_element, this_element, through_span}
-use Rattle.wesl_positions.proofs.Nodes.{body_found, closing_list, element_found, last_leaf_found, no_element_found, no_statement_found, nowhere, onward, statement_found}
+use Rattle.wesl_positions.proofs.Nodes.{body_found, closing_list, continuing_closing, element_found, last_found, last_leaf_found, loop_closing, no_element_found, no_statement_found, nowhere, onward, statement_found}
 use Rattle.wesl_positions.proofs.lookup.Lookup.+statements.Goals as goal
 
 pub compound-returns-in-1 : goal.compound-returns-in-1
@@ -22,7 +23,7 @@ pub clause-returns-in-1 : goal.clause-returns-in-1
 clause-returns-in-1 t c =
     let k = out-SwitchClause c.args.clause.now in
     onward c.args.self.now (clause_view c.args.clause.now) _ (listed selector_view list k.case_selectors) 1 c.args.position.now _ c.selectors.result
-    (view_clause c.args.clause.now) (λ choice. alone choice None _ (listed selector_view list k.case_selectors) _) c.selectors.ensures (begins_by c.args.position.now 0 _ 1 c.in-1.len_at_least (omega arith) (search rules))
+    (view_clause c.args.clause.now) (λ choice. alone choice None _ (listed selector_view list k.case_selectors) (before (compound_view k.body) end)) c.selectors.ensures (begins_by c.args.position.now 0 _ 1 c.in-1.len_at_least (omega arith) (search rules))
 
 pub clause-returns-in-2 : goal.clause-returns-in-2
 clause-returns-in-2 t c =
@@ -59,14 +60,14 @@ closed_body-returns-in_ok-statement-in-1 t c = λ xs is.
 pub continuing-returns-in-1 : goal.continuing-returns-in-1
 continuing-returns-in-1 t c =
     let v = out-ContinuingStatement c.args.continuing.now in
-    body_found c.args.self.now break_if_view continuing_kind (record { entered = refl; plain = refl; list = refl; closed = refl; compound = refl }) (continuing_view c.args.continuing.now) v.attributes v.body v.break_if (view_continuing c.args.continuing.now)
+    body_found c.args.self.now break_if_view continuing_kind continuing_closing (continuing_view c.args.continuing.now) v.attributes v.body v.break_if (view_continuing c.args.continuing.now)
     c.args.position.now _ c.closed_body.result
     (c.closed_body.ensures (closing_list break_if_view v.body v.break_if) (ap (map outline_view) c.deref.ensures.value ∙ c.in_ok-nodes.ensures)) (begins_by c.args.position.now 0 _ 1 c.in-1.len_at_least (omega arith) (search rules))
 
 pub continuing-returns-in-2 : goal.continuing-returns-in-2
 continuing-returns-in-2 t c =
     let v = out-ContinuingStatement c.args.continuing.now in
-    last_leaf_found c.args.self.now break_if_view continuing_kind (record { entered = refl; plain = refl; list = refl; closed = refl; compound = refl }) (continuing_view c.args.continuing.now) v.attributes v.body v.break_if (view_continuing c.args.continuing.now)
+    last_leaf_found c.args.self.now break_if_view continuing_kind continuing_closing (continuing_view c.args.continuing.now) v.attributes v.body v.break_if (view_continuing c.args.continuing.now)
     (λ x. refl) c.args.position.now (take (length c.args.position.now) (drop 1 c.args.position.now)) c.len.result c.numbered.result (omega (arith, c.len.ensures))
     (ok_map c.numbered.result _ _ (λ s f. f (closing_list break_if_view v.body v.break_if) (ap (map outline_view) c.deref-in-2.ensures.value ∙ c.in_ok-nodes.ensures)) c.numbered.ensures.kept)
     (begins_by c.args.position.now 0 _ 2 c.in-2.len_at_least (omega arith) (search rules))
@@ -88,25 +89,47 @@ else_if_clauses-returns-else-number-len t c =
 pub statement-returns-in-1-position : goal.statement-returns-in-1-position
 statement-returns-in-1-position t c =
     let v = c.in-Loop in
-    body_found c.args.self.now continuing_view loop (record { entered = refl; plain = refl; list = refl; closed = refl; compound = refl }) (statement_view c.args.statement.now) v.attributes v.body v.continuing
+    body_found c.args.self.now continuing_view loop loop_closing (statement_view c.args.statement.now) v.attributes v.body v.continuing
     (ap statement_view v.is ∙ view_loop v.attributes v.body v.continuing)
     c.args.position.now _ c.closed_body.result
     (c.closed_body.ensures (closing_list continuing_view v.body v.continuing) (ap (map outline_view) c.deref.ensures.value ∙ c.in_ok-nodes-in-Loop.ensures)) (begins_by c.args.position.now 0 _ 1 c.in-1-position.len_at_least (omega arith) (search rules))
 
 pub statement-returns-in-2-position : goal.statement-returns-in-2-position
-statement-returns-in-2-position t c = ?
+statement-returns-in-2-position t c =
+    let v = c.in-Loop in
+    last_found c.args.self.now continuing_view loop loop_closing (statement_view c.args.statement.now) v.attributes v.body v.continuing (ap statement_view v.is ∙ view_loop v.attributes v.body v.continuing)
+    c.args.position.now _ c.len.result c.in_ok-kept-in-2-position.kept c.in_ok-optional_continuing-in-2-position.field-0 c.and.new.self (omega (arith, c.len.ensures))
+    (c.in_ok-kept-in-2-position.ensures.kept (closing_list continuing_view v.body v.continuing) (ap (map outline_view) c.deref-in-2-position.ensures.value ∙ c.in_ok-nodes-in-Loop.ensures))
+    c.in_ok-optional_continuing-in-2-position.ensures c.and.ensures.over c.and.ensures.both (begins_by c.args.position.now 0 _ 2 c.in-2-position.len_at_least (omega arith) (search rules))
 
 pub statement-returns-in-1-position-2 : goal.statement-returns-in-1-position-2
-statement-returns-in-1-position-2 t c = ?
+statement-returns-in-1-position-2 t c =
+    let v = c.in-For in
+    let first : Tree = optional (λ s. statement_tree (box_value s)) v.initializer in
+    let others : Forest = forest_of (optional expression_tree v.condition ∷ optional (λ s. statement_tree (box_value s)) v.update ∷ compound_view v.body ∷ []) in
+    onward c.args.self.now (statement_view c.args.statement.now) _ first 1 c.args.position.now _ c.optional_statement.result
+    (ap statement_view v.is ∙ view_for v.attributes v.initializer v.condition v.update v.body) (λ choice. alone choice None _ first others) c.optional_statement.ensures
+    (begins_by c.args.position.now 0 _ 1 c.in-1-position-2.len_at_least (omega arith) (search rules))
 
 pub statement-returns-in-3-position-2 : goal.statement-returns-in-3-position-2
-statement-returns-in-3-position-2 t c = ?
+statement-returns-in-3-position-2 t c =
+    let v = c.in-For in
+    let third : Tree = optional (λ s. statement_tree (box_value s)) v.update in
+    onward c.args.self.now (statement_view c.args.statement.now) _ third 3 c.args.position.now _ c.optional_statement-in-3-position-2.result
+    (ap statement_view v.is ∙ view_for v.attributes v.initializer v.condition v.update v.body) (λ choice. alone choice None _ third (before (compound_view v.body) end)) c.optional_statement-in-3-position-2.ensures
+    (begins_by c.args.position.now 0 _ 3 c.in-3-position-2.len_at_least (omega arith) (search rules))
 
 pub statement-returns-in-4 : goal.statement-returns-in-4
-statement-returns-in-4 t c = ?
+statement-returns-in-4 t c =
+    let v = c.in-For in
+    onward c.args.self.now (statement_view c.args.statement.now) _ (compound_view v.body) 4 c.args.position.now _ c.compound-in-4.result
+    (ap statement_view v.is ∙ view_for v.attributes v.initializer v.condition v.update v.body) (λ choice. refl) c.compound-in-4.ensures (begins_by c.args.position.now 0 _ 4 c.in-4.len_at_least (omega arith) (search rules))
 
 pub statement-returns-in-2-position-3 : goal.statement-returns-in-2-position-3
-statement-returns-in-2-position-3 t c = ?
+statement-returns-in-2-position-3 t c =
+    let v = c.in-While in
+    onward c.args.self.now (statement_view c.args.statement.now) _ (compound_view v.body) 2 c.args.position.now _ c.compound-in-2-position-3.result
+    (ap statement_view v.is ∙ view_while v.attributes v.condition v.body) (λ choice. refl) c.compound-in-2-position-3.ensures (begins_by c.args.position.now 0 _ 2 c.in-2-position-3.len_at_least (omega arith) (search rules))
 
 pub statements-returns-then-number-len : goal.statements-returns-then-number-len
 statements-returns-then-number-len t c =
