@@ -1,6 +1,6 @@
 //! Nodes of declarations.
 ghost use Rattle.wesl_syntax.specs.Tree.{member_node, members as members_kind, parameters as parameters_kind};
-ghost use Rattle.wesl_syntax.specs.View.{declarations_tree, function_view, global_view, listed, member_view, parameter_view, placed, struct_view};
+ghost use Rattle.wesl_syntax.specs.View.{declarations_tree, function_view, global_view, listed, member_view, optional, parameter_view, placed, struct_view, type_view};
 ghost use Rattle.wesl_positions.specs.Found.{Finds};
 
 use crate::lookup::Lookup;
@@ -8,6 +8,7 @@ use std::alloc::AllocError;
 use wesl_choices::choices::Choices;
 use wesl_syntax::{
     FormalParameter, Function, GlobalDeclaration, GlobalDeclarationNode, Struct, StructMemberNode,
+    TypeExpression,
 };
 
 impl<'a> Lookup<'a> {
@@ -41,13 +42,26 @@ impl<'a> Lookup<'a> {
         }
     }
 
+    fn return_type(
+        &self,
+        return_type: &Option<TypeExpression>,
+        position: &[usize],
+    ) -> Result<Choices, AllocError>
+        ensures { Finds self.now position.now (optional type_view return_type.now) result }
+    {
+        match return_type {
+            None => self.all_if(position.is_empty()),
+            Some(_) => self.all(),
+        }
+    }
+
     fn function(&self, function: &Function, position: &[usize]) -> Result<Choices, AllocError>
         ensures { Finds self.now position.now (function_view function.now) result }
     {
         match position {
             [] | [0 | 1 | 3, ..] => self.all(),
             [2, rest @ ..] => self.parameters(&function.parameters, rest),
-            [4, rest @ ..] => self.all_if(function.return_type.is_some() || rest.is_empty()),
+            [4, rest @ ..] => self.return_type(&function.return_type, rest),
             [5, rest @ ..] => self.compound(&function.body, rest),
             _ => self.none(),
         }
