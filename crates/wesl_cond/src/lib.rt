@@ -8,7 +8,7 @@ mod evaluate;
 mod laws;
 mod unit;
 
-pub use alive::flag_count;
+pub use alive::{alive_together, flag_count};
 pub use conditioned::condition;
 pub use evaluate::eval_attr;
 pub use laws::law_of_spelling;
