@@ -20,6 +20,7 @@ pub use wesl_builtins::TextureType;
 pub use wesl_builtins::VecSize;
 pub use wesl_cond::Feature;
 pub use wesl_cond::Features;
+pub use wesl_cond::alive_together;
 pub use wesl_cond::eval_attr;
 pub use wesl_cond::flag_count;
 pub use wesl_copies::TryClone;

@@ -30,8 +30,9 @@ pub fn flag_count(alloc: Global, unit: &TranslationUnit) -> Result<usize, Error>
 }
 
 /// Whether some choice of a unit's flags keeps both nodes (WESL, "ConditionalTranslation"). The nodes are given by their
-/// positions: a field adds its number, a list element its index, and options, variants and boxes add nothing. No choice keeps
-/// what a position that leads nowhere tells.
+/// positions: a field adds its number, a list element its index, and options, variants and boxes add nothing. Where a list
+/// that is judged may lie ahead, no choice keeps what a position that leads nowhere tells; where none may, a position stands
+/// for the node in which it goes on.
 ///
 /// ```
 /// let can_clash = alive_together(alloc, &unit, &[2, 0], &[2, 1])?;

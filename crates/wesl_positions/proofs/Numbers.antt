@@ -1,6 +1,6 @@
 -- The numbers of the nodes of a judged list that a choice keeps.
-use Rattle.std.proofs.Common.{◌≡◌, ℕ, zero, suc, ◌+◌, ◌<◌, ◌≤◌, ◌^◌, nat_eq, ◌&&◌, ◌||◌, not, cond, Bool, true, false, List, [], ◌∷◌, ◌++◌, map, drop, get_or, length, refl, sym, ap, ◌∙◌, arith}
-use Rattle.std.specs.Prelude.{Option, None, Some, Result, Ok, Err, IfOk}
+use Rattle.std.proofs.Common.{◌≡◌, ℕ, zero, suc, ◌+◌, ◌<◌, ◌≤◌, ◌^◌, nat_eq, ◌&&◌, ◌||◌, cond, Bool, true, false, List, [], ◌∷◌, map, drop, get_or, length, refl, sym, ap, ◌∙◌, arith}
+use Rattle.std.specs.Prelude.{None, Some, Result, Ok, Err, IfOk}
 use Rattle.std.specs.declared.alloc.AllocError.{AllocError}
 use Rattle.std.proofs.lemmas.Bool.{eq-eqb, ne_eqb}
 use Rattle.std.proofs.lemmas.List.{drop_more, length-map}
@@ -16,7 +16,7 @@ use Rattle.wesl_alive.specs.Sound.{Outline, is_whole, outline_of, whole_after}
 use Rattle.wesl_alive.specs.Views.{outline_view}
 use Rattle.wesl_alive.specs.Walk.{formula_of}
 use Rattle.wesl_alive.specs.declared.outline.Outline as code
-use Rattle.wesl_alive.proofs.Turns.{IsTold, Verdict, goes, stays, picked, verdict, verdicts, all_become, become, kept_is}
+use Rattle.wesl_alive.proofs.Turns.{IsTold, Verdict, goes, stays, picked, verdict, verdicts, all_become, kept_is}
 use Rattle.wesl_positions.specs.Found.{IsFound, choice_in, free_after, keeps_node}
 use Rattle.wesl_positions.specs.declared.lookup.Lookup.{Lookup}
 

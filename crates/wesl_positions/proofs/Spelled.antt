@@ -1,16 +1,15 @@
 -- Identifiers replaced: a choice keeps the same nodes of a module with other identifiers as the choice of those does of it.
-use Rattle.std.proofs.Common.{◌≡◌, ℕ, zero, suc, nat_eq, ◌&&◌, ◌||◌, not, cond, Bool, true, false, List, [], ◌∷◌, ◌++◌, map, length, refl, sym, ap, ◌∙◌}
+use Rattle.std.proofs.Common.{◌≡◌, ℕ, zero, suc, ◌&&◌, not, cond, Bool, true, false, List, [], ◌∷◌, ◌++◌, map, length, refl, sym, ap, ◌∙◌}
 use Rattle.std.proofs.lemmas.List.{map-append}
 use Rattle.std.specs.Prelude.{Option, None, Some, Result, Ok, Err, IfOk}
 use Rattle.std.specs.declared.alloc.AllocError.{AllocError}
-use Rattle.std.specs.List.{flat_map}
 use Rattle.wesl_features.specs.declared.features.Feature.TheVariants.{Keep}
 use Rattle.wesl_chains.specs.Chains.{Condition, none, on, else_on, otherwise, follows_on}
-use Rattle.wesl_chains.specs.Conditions.{condition_at, first_condition, or_next, attributes_in, is_statements, is_list, is_void}
+use Rattle.wesl_chains.specs.Conditions.{condition_at, first_condition, or_next, attributes_in, is_statements, is_void}
 use Rattle.wesl_chains.specs.Faults.{and_rest, body_list, closed_list, condition_faults, conditions}
 use Rattle.wesl_chains.specs.FormulaFaults.{formula_faults}
 use Rattle.wesl_chains.specs.Formulas.{Form, always, never, flag, templated, within, negation, conjunction, disjunction, other, value_under}
-use Rattle.wesl_chains.specs.Lists.{Element, elements, is_closed, is_compound, is_entered, is_option}
+use Rattle.wesl_chains.specs.Lists.{Element, elements, is_compound, is_option}
 use Rattle.wesl_chains.specs.Picked.{Choice, is_true}
 use Rattle.wesl_chains.proofs.Natural.{attributes_in_natural, closed_natural, compound_natural, condition_natural, elements_natural, entered_natural, list_natural, option_natural, respell_condition, respell_element, respell_form, statements_natural, void_natural}
 use Rattle.wesl_syntax.specs.Tree.{LabelOf, ForestOf, end, tree, kind, at, present, compound_statement, respell_forest, respell_label}
@@ -20,9 +19,9 @@ use Rattle.wesl_choices.specs.Choices.{Choices}
 use Rattle.wesl_names.specs.Path.{Text}
 use Rattle.wesl_alive.specs.Choices.{IsSetOf, choice_by, choice_of}
 use Rattle.wesl_alive.specs.Kept.{is_faultless, kept_indexes, numbered_from}
-use Rattle.wesl_alive.specs.Positions.{body_size, handed, has, is_plain, keeps_child, kept_at, kept_in, size}
+use Rattle.wesl_alive.specs.Positions.{body_size, handed, is_plain, keeps_child, kept_at, kept_in, size}
 use Rattle.wesl_alive.specs.Sound.{Outline, are_clean_after, is_conditional, is_rest_sound, is_whole, opens_chain, outline_of}
-use Rattle.wesl_alive.proofs.Turns.{Verdict, goes, stays, picked, faultless_both, verdict, verdicts}
+use Rattle.wesl_alive.proofs.Turns.{Verdict, goes, stays, picked, faultless_both, verdicts}
 use Rattle.wesl_positions.specs.Found.{IsFound}
 use Rattle.wesl_positions.specs.declared.lookup.Lookup.{Lookup}
 use Rattle.wesl_positions.proofs.Numbers.{kept_are, numbers_of}

@@ -37,6 +37,7 @@ fn of_conditions(row: Row<'_>, call: &str) -> Value {
         "wesl_cond::run" => conditions::left(row),
         "wesl_cond::run in stages" => conditions::stages(row),
         "eval_attr" => conditions::formulas_left(row),
+        "alive_together" => conditions::are_together(row),
         "flag_count" => {
             let count = flag_count(row.alloc, &row.tree());
             Value::from(row.or(count, 0))

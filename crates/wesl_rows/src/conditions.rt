@@ -2,7 +2,9 @@
 use crate::features::{both, composed, listed};
 use serde_json::Value;
 use wesl::condcomp::run;
-use wesl::{Feature, Features, GlobalDeclaration, TranslationUnit, eval_attr};
+use wesl::{
+    Feature, Features, GlobalDeclaration, TranslationUnit, alive_together, eval_attr, flag_count,
+};
 use wesl_row::{Row, fault, is_refused};
 
 /// What a run under the `features`, and then `next` if they are there, leaves of the unit of the `tree`, or the fault
@@ -93,5 +95,20 @@ pub fn formulas_left(row: Row<'_>) -> Value {
     match fault {
         Value::Null => row.tree_of(&unit),
         fault => fault,
+    }
+}
+
+/// Whether some choice of the flags of the unit of the `tree` keeps the nodes at the positions `first` and `second`.
+pub fn are_together(row: Row<'_>) -> Value {
+    let unit = row.tree();
+    let first = row.numbers("first");
+    let second = row.numbers("second");
+    match flag_count(row.alloc, &unit) {
+        Ok(count) if count <= 16 => {
+            let together = alive_together(row.alloc, &unit, first.as_slice(), second.as_slice());
+            Value::Bool(row.is(together))
+        }
+        Ok(_) => Value::Null,
+        Err(error) => row.answer_of(error),
     }
 }

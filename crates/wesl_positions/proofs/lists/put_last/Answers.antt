@@ -1,4 +1,4 @@
-use Rattle.std.proofs.Common.{◌≡◌, ◌∙◌, ◌++◌, ◌∷◌, [], ap, map, sym, true}
+use Rattle.std.proofs.Common.{◌∙◌, ◌++◌, ap, map, sym, true}
 use Rattle.wesl_chains.specs.Lists.{elements}
 use Rattle.wesl_chains.specs.Nodes.{optional_forest}
 use Rattle.wesl_alive.specs.Sound.{outline_of}

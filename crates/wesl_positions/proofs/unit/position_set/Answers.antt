@@ -1,5 +1,3 @@
-use Rattle.std.proofs.Common.{◌≡◌, ◌∙◌, ap, sym}
-use Rattle.wesl_base.specs.Borrowed.{texts}
 use Rattle.wesl_tree.specs.Translation.{unit_view}
 use Rattle.wesl_positions.proofs.Spelled.{spelled_found}
 use Rattle.wesl_positions.proofs.unit.position_set.Goals as goal

@@ -1,4 +1,4 @@
-use Rattle.std.proofs.Common.{◌≡◌, arith, length, refl}
+use Rattle.std.proofs.Common.{arith, length, refl}
 use Rattle.std.specs.Prelude.{None}
 use Rattle.wesl_syntax.specs.Tree.{at, declaration_node, declarations as declarations_kind}
 use Rattle.wesl_syntax.specs.View.{global_view, placed}

@@ -1,4 +1,4 @@
-use Rattle.std.proofs.Common.{◌≡◌, ◌∙◌, ◌+◌, ◌-◌, ◌<◌, ◌≤◌, ap, arith, drop, length, length-drop, map, suc, take}
+use Rattle.std.proofs.Common.{◌≡◌, ◌∙◌, ◌+◌, ◌-◌, ◌<◌, ap, arith, drop, length, length-drop, map, suc, take}
 use Rattle.wesl_chains.proofs.Begun.{all_taken}
 use Rattle.wesl_choices.specs.Choices.{has}
 use Rattle.wesl_alive.specs.Sound.{whole_after}
