@@ -33,3 +33,4 @@ pub mod Escapes
 pub mod Meaning
 pub mod ReadAs
 pub mod Whole
+pub mod Places

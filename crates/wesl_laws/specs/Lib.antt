@@ -10,3 +10,4 @@ pub mod Rows
 pub mod Retarget
 pub mod Units
 pub mod Faith
+pub mod Positions
