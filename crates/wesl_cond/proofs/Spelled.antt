@@ -1,14 +1,14 @@
 -- What is left of a unit, by its spelling.
 use Rattle.std.proofs.Common.{◌≡◌, List, false, refl, sym, ap, ◌∙◌, subst}
-use Rattle.wesl_chains.proofs.Natural.{through_natural}
-use Rattle.wesl_chains.specs.Laws.{IsFaultless, BothStagesAreFaultless, LaterStagesAreFaultless, RunsInStages, SpellingTellsFaults, ThenIsInStages}
-use Rattle.wesl_chains.specs.Residual.{first_tree, residual_tree, residual_unit}
+use Rattle.wesl_cond_chains.proofs.Natural.{through_natural}
+use Rattle.wesl_cond_chains.specs.Laws.{IsFaultless, BothStagesAreFaultless, LaterStagesAreFaultless, RunsInStages, SpellingTellsFaults, ThenIsInStages}
+use Rattle.wesl_cond_chains.specs.Residual.{first_tree, residual_tree, residual_unit}
 use Rattle.wesl_cond.proofs.Stages.{left_in_stages, left_over_faultless, two_stages_faultless}
 use Rattle.wesl_cond.specs.Units.{left_of, AreSpelledTwoStages, GoesOnSpelled, IsFaultlessUnit, IsSpelledLeftOver, SpellsWhatIsLeft}
-use Rattle.wesl_features.specs.Features.{Replies, known, by_number, HoldsNoError}
-use Rattle.wesl_names.specs.Path.{Text}
-use Rattle.wesl_syntax.specs.Tree.{Tree, end, tree, respell}
-use Rattle.wesl_syntax.specs.Unit.{UnitView, spelled, name_in}
+use Rattle.wesl_cond_features.specs.Features.{Replies, known, by_number, HoldsNoError}
+use Rattle.wesl_tree_names.specs.Path.{Text}
+use Rattle.wesl_tree_syntax.specs.Tree.{Tree, end, tree, respell}
+use Rattle.wesl_tree_syntax.specs.Unit.{UnitView, spelled, name_in}
 
 tree_spelled : (names : List Text) (reply : Replies Text) (t : Tree) → respell (name_in names) (residual_tree (known (by_number names reply)) t) ≡ residual_tree (known reply) (respell (name_in names) t)
 tree_spelled names reply t =

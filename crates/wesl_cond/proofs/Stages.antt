@@ -1,17 +1,17 @@
 -- What is left of a unit, in stages, again and under choices.
 use Rattle.std.proofs.Common.{◌≡◌, ℕ, inl, inr, List, Result, Err, sym, ap, ◌∙◌, subst}
 use mathlib.Core.Path.{fun_ext}
-use Rattle.wesl_chains.specs.Judging.{Checks, IsClear, RefusesIn}
-use Rattle.wesl_chains.specs.Laws.{RunsInStages, TwiceIsOnce, PicksTheSame, ThenIsInStages, LaterStagesAreFaultless, BothStagesAreFaultless}
-use Rattle.wesl_chains.specs.Picked.{picked_unit}
-use Rattle.wesl_chains.specs.Residual.{residual_unit}
+use Rattle.wesl_cond_chains.specs.Judging.{Checks, IsClear, RefusesIn}
+use Rattle.wesl_cond_chains.specs.Laws.{RunsInStages, TwiceIsOnce, PicksTheSame, ThenIsInStages, LaterStagesAreFaultless, BothStagesAreFaultless}
+use Rattle.wesl_cond_chains.specs.Picked.{picked_unit}
+use Rattle.wesl_cond_chains.specs.Residual.{residual_unit}
 use Rattle.wesl_cond.specs.Units.{left_of, GoesOn, IsFaultlessUnit, IsLeftOver, AreTwoStages, Picks}
-use Rattle.wesl_features.specs.Features.{Replies, known, by_number, HoldsNoError, then_replies}
-use Rattle.wesl_names.specs.Path.{Text}
-use Rattle.wesl_names.specs.declared.errors.Diagnostic.{Diagnostic, out-Diagnostic}
-use Rattle.wesl_names.specs.declared.errors.Error as error
-use Rattle.wesl_syntax.specs.Tree.{Forest}
-use Rattle.wesl_syntax.specs.Unit.{UnitView, UnitOf, trees_of, name_in}
+use Rattle.wesl_cond_features.specs.Features.{Replies, known, by_number, HoldsNoError, then_replies}
+use Rattle.wesl_tree_names.specs.Path.{Text}
+use Rattle.wesl_tree_names.specs.declared.errors.Diagnostic.{Diagnostic, out-Diagnostic}
+use Rattle.wesl_tree_names.specs.declared.errors.Error as error
+use Rattle.wesl_tree_syntax.specs.Tree.{Forest}
+use Rattle.wesl_tree_syntax.specs.Unit.{UnitView, UnitOf, trees_of, name_in}
 
 abbrev with_trees : List Text → UnitOf ℕ → UnitView
 with_trees names t = record { names = names; imports = t.imports; directives = t.directives; declarations = t.declarations }

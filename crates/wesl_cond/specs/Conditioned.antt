@@ -1,13 +1,13 @@
 -- What features leave of a unit; without features no condition is judged.
 use Rattle.std.specs.Prelude.{◌≡◌, ◌⊎◌, Option, Some, None, Result, Ok, Err}
-use Rattle.wesl_names.specs.Errors.{IsRefusedFor}
-use Rattle.wesl_names.specs.declared.errors.Error as error
-use Rattle.wesl_names.specs.declared.errors.ResolveError.{ResolveError}
-use Rattle.wesl_syntax.specs.Unit.{UnitView}
+use Rattle.wesl_tree_names.specs.Errors.{IsRefusedFor}
+use Rattle.wesl_tree_names.specs.declared.errors.Error as error
+use Rattle.wesl_tree_names.specs.declared.errors.ResolveError.{ResolveError}
+use Rattle.wesl_tree_syntax.specs.Unit.{UnitView}
 use Rattle.wesl_tree.specs.Translation.{unit_view}
 use Rattle.wesl_tree.specs.declared.unit.TranslationUnit.{TranslationUnit}
-use Rattle.wesl_features.specs.Features.{answer_to}
-use Rattle.wesl_features.specs.declared.features.Features.{Features}
+use Rattle.wesl_cond_features.specs.Features.{answer_to}
+use Rattle.wesl_cond_features.specs.declared.features.Features.{Features}
 use Rattle.wesl_cond.specs.Units.{left_of, IsFaultlessUnit, RefusesUnit}
 
 -- no fault of a condition stands, and the second unit is what is left of the first

@@ -1,15 +1,15 @@
 -- Units without a fault, in stages and under choices.
 use Rattle.std.specs.Prelude.{◌≡◌, ℕ}
-pub use Rattle.wesl_branches.specs.Left.{left_of}
-use Rattle.wesl_chains.specs.Flags.{flags_of, AgreesOn}
-use Rattle.wesl_chains.specs.Judging.{RefusesIn}
-use Rattle.wesl_chains.specs.Laws.{IsFaultless}
-use Rattle.wesl_chains.specs.Picked.{Choice, picked_unit}
-use Rattle.wesl_chains.specs.Residual.{residual_unit}
-use Rattle.wesl_features.specs.Features.{Replies, known, by_number, HoldsNoError, then_replies}
-use Rattle.wesl_names.specs.Path.{Text}
-use Rattle.wesl_names.specs.declared.errors.Error as error
-use Rattle.wesl_syntax.specs.Unit.{UnitView, trees_of, forest_of_unit, spelled}
+pub use Rattle.wesl_cond_unit.specs.Left.{left_of}
+use Rattle.wesl_cond_chains.specs.Flags.{flags_of, AgreesOn}
+use Rattle.wesl_cond_chains.specs.Judging.{RefusesIn}
+use Rattle.wesl_cond_chains.specs.Laws.{IsFaultless}
+use Rattle.wesl_cond_chains.specs.Picked.{Choice, picked_unit}
+use Rattle.wesl_cond_chains.specs.Residual.{residual_unit}
+use Rattle.wesl_cond_features.specs.Features.{Replies, known, by_number, HoldsNoError, then_replies}
+use Rattle.wesl_tree_names.specs.Path.{Text}
+use Rattle.wesl_tree_names.specs.declared.errors.Error as error
+use Rattle.wesl_tree_syntax.specs.Unit.{UnitView, trees_of, forest_of_unit, spelled}
 
 -- no fault of a condition stands in a unit
 abbrev pub IsFaultlessUnit : Replies Text → UnitView → Type 0

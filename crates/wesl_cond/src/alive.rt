@@ -1,16 +1,16 @@
 //! What is kept of a module by some choice of its flags.
 ghost use Rattle.std.specs.Prelude.{◌≡◌, ◌≤◌, ◌↔◌, IfOk, IfErr, IsTrue, length};
-ghost use Rattle.wesl_alive.specs.Choices.{flags};
-ghost use Rattle.wesl_alive.specs.Positions.{AreAliveTogether};
-ghost use Rattle.wesl_names.specs.declared.errors.Error as error;
-ghost use Rattle.wesl_syntax.specs.Unit.{spelled};
+ghost use Rattle.wesl_cond_alive.specs.Choices.{flags};
+ghost use Rattle.wesl_cond_alive.specs.Positions.{AreAliveTogether};
+ghost use Rattle.wesl_tree_names.specs.declared.errors.Error as error;
+ghost use Rattle.wesl_tree_syntax.specs.Unit.{spelled};
 ghost use Rattle.wesl_tree.specs.Translation.{unit_view};
 
 use std::alloc::Global;
-use wesl_alive::flags_of_unit;
-use wesl_names::Error;
-use wesl_positions::position_set;
+use wesl_cond_alive::flags_of_unit;
+use wesl_cond_positions::position_set;
 use wesl_tree::TranslationUnit;
+use wesl_tree_names::Error;
 
 /// How many different flags the conditions of a unit name (WESL, "ConditionalTranslation"). A flag that is named more than
 /// once counts once, and of a qualified name the flag is its last part.

@@ -1,13 +1,13 @@
 //! What features leave of a unit.
 ghost use Rattle.std.specs.Prelude.{◌≡◌};
 ghost use Rattle.wesl_cond.specs.Conditioned.{IsConditioned, IsHandedOn};
-ghost use Rattle.wesl_names.specs.declared.errors.Diagnostic.{out-Diagnostic};
+ghost use Rattle.wesl_tree_names.specs.declared.errors.Diagnostic.{out-Diagnostic};
 
 use crate::unit::run;
 use std::alloc::Global;
-use wesl_features::Features;
-use wesl_names::{Diagnostic, Error, ResolveError};
+use wesl_cond_features::Features;
 use wesl_tree::TranslationUnit;
+use wesl_tree_names::{Diagnostic, Error, ResolveError};
 
 /// What the features leave of a unit (WESL, "ConditionalTranslation"). Without features no condition is judged, and the
 /// unit stays as it is.

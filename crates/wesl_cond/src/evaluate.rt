@@ -1,19 +1,19 @@
 //! What is left of the formula of a conditional attribute.
 ghost use Rattle.std.specs.Prelude.{◌≡◌, [], IfOk, IfErr};
-ghost use Rattle.wesl_chains.specs.Evaluation.{IsRefused};
-ghost use Rattle.wesl_chains.specs.FormulaFaults.{formula_faults};
-ghost use Rattle.wesl_features.specs.Features.{answer_to, by_number, known};
-ghost use Rattle.wesl_chains.specs.Formulas.{form, written};
-ghost use Rattle.wesl_chains.specs.FormulaResidual.{residual};
-ghost use Rattle.wesl_names.specs.declared.errors.Diagnostic.{out-Diagnostic};
-ghost use Rattle.wesl_syntax.specs.View.{expression_view};
+ghost use Rattle.wesl_cond_chains.specs.Evaluation.{IsRefused};
+ghost use Rattle.wesl_cond_chains.specs.FormulaFaults.{formula_faults};
+ghost use Rattle.wesl_cond_features.specs.Features.{answer_to, by_number, known};
+ghost use Rattle.wesl_cond_chains.specs.Formulas.{form, written};
+ghost use Rattle.wesl_cond_chains.specs.FormulaResidual.{residual};
+ghost use Rattle.wesl_tree_names.specs.declared.errors.Diagnostic.{out-Diagnostic};
+ghost use Rattle.wesl_tree_syntax.specs.View.{expression_view};
 
 use std::alloc::Global;
-use wesl_chains::{check_formula, simplify};
-use wesl_copies::Copying;
-use wesl_features::Features;
-use wesl_names::{Diagnostic, Names};
-use wesl_syntax::{Expression, ExpressionNode};
+use wesl_cond_chains::{check_formula, simplify};
+use wesl_cond_features::Features;
+use wesl_tree_copies::Copying;
+use wesl_tree_names::{Diagnostic, Names};
+use wesl_tree_syntax::{Expression, ExpressionNode};
 
 /// What the features leave of a formula over the names of this table (WESL, "ConditionalTranslation").
 ///

@@ -1,19 +1,19 @@
 //! What is left of a unit.
 ghost use Rattle.std.specs.Prelude.{◌≡◌, IfOk, IfErr, IsOk};
 ghost use Rattle.wesl_cond.specs.Units.{left_of, AreSpelledTwoStages, AreTwoStages, GoesOn, GoesOnSpelled, IsFaultlessUnit, IsLeftOver, IsSpelledLeftOver, Picks, RefusesUnit};
-ghost use Rattle.wesl_features.specs.Features.{answer_to, HoldsNoError};
-ghost use Rattle.wesl_names.specs.declared.errors.Diagnostic.{out-Diagnostic};
+ghost use Rattle.wesl_cond_features.specs.Features.{answer_to, HoldsNoError};
+ghost use Rattle.wesl_tree_names.specs.declared.errors.Diagnostic.{out-Diagnostic};
 ghost use Rattle.wesl_tree.specs.Translation.{unit_view};
 
 use std::alloc::Global;
-use wesl_branches::{check, resolve};
-use wesl_chains::{
+use wesl_cond_chains::{
     law_of_both_stages, law_of_choices, law_of_faults, law_of_later_stages, law_of_stages,
     law_of_then, law_of_twice,
 };
-use wesl_features::Features;
-use wesl_names::Diagnostic;
+use wesl_cond_features::Features;
+use wesl_cond_unit::{check, resolve};
 use wesl_tree::TranslationUnit;
+use wesl_tree_names::Diagnostic;
 
 /// Conditional translation of a module (WESL, "ConditionalTranslation"): leaves of the unit what the features leave.
 ///

@@ -2,22 +2,22 @@
 use Rattle.std.specs.Prelude.{option_map}
 use Rattle.std.proofs.Common.{◌≡◌, ℕ, suc, ◌<◌, Bool, true, false, if◌then◌else◌, Option, Some, None, refl, sym, ap, ap₂, ◌∙◌, subst, arith, All, ◌++◌, ◌∷◌}
 use Rattle.serde_json.specs.Data.{Data, depth}
-use Rattle.wesl_names.specs.Path.{Text}
-use Rattle.wesl_names.specs.declared.errors.Error as error
-use Rattle.wesl_syntax.specs.Tree.{LabelOf, ForestOf, end, tree, kind, at, ident, text, texts, truth, unary, binary, assignment, space, access, path, unit, respell_label, respell_forest}
-use Rattle.wesl_syntax.specs.Shown.{placed, shown_label, shown_forest}
-use Rattle.wesl_syntax.specs.Unit.{UnitOf, UnitView, forest_of_unit, spelled, name_in, trees_of}
+use Rattle.wesl_tree_names.specs.Path.{Text}
+use Rattle.wesl_tree_names.specs.declared.errors.Error as error
+use Rattle.wesl_tree_syntax.specs.Tree.{LabelOf, ForestOf, end, tree, kind, at, ident, text, texts, truth, unary, binary, assignment, space, access, path, unit, respell_label, respell_forest}
+use Rattle.wesl_tree_syntax.specs.Shown.{placed, shown_label, shown_forest}
+use Rattle.wesl_tree_syntax.specs.Unit.{UnitOf, UnitView, forest_of_unit, spelled, name_in, trees_of}
 use Rattle.wesl_tree.specs.Translation.{unit_view}
 use Rattle.wesl_tree.specs.declared.unit.TranslationUnit.{TranslationUnit}
-use Rattle.wesl_form.specs.Schema.{Spelled, SpelledForest, node, a_unit}
-use Rattle.wesl_form.specs.Reading.{reading}
-use Rattle.wesl_form.specs.Units.{form_of, shown_unit, unit_tree, written_as, IsNoUnit, IsUnitOf}
-use Rattle.wesl_piece.specs.Readable as laws
-use Rattle.wesl_piece.specs.Readable.{are_readable, IsReadable, UnitsReadBack}
-use Rattle.wesl_reading.specs.Faults.{IfPlace}
+use Rattle.wesl_json_form.specs.Schema.{Spelled, SpelledForest, node, a_unit}
+use Rattle.wesl_json_form.specs.Reading.{reading}
+use Rattle.wesl_json_form.specs.Units.{form_of, shown_unit, unit_tree, written_as, IsNoUnit, IsUnitOf}
+use Rattle.wesl_json_light.specs.Readable as laws
+use Rattle.wesl_json_light.specs.Readable.{are_readable, IsReadable, UnitsReadBack}
+use Rattle.wesl_json_read.specs.Faults.{IfPlace}
 use Rattle.wesl_json.specs.UnitTexts.{IsSpelled, bare}
-use Rattle.wesl_resolver.specs.UnitText as resolved
-use Rattle.wesl_resolver.specs.UnitText.{HasTextPaths}
+use Rattle.wesl_resolve_base.specs.UnitText as resolved
+use Rattle.wesl_resolve_base.specs.UnitText.{HasTextPaths}
 
 -- ---- a unit is one with its tree
 

@@ -1,13 +1,13 @@
 -- Whether a span is written in the lists of a unit, item by item.
 use Rattle.std.proofs.Common.{◌≡◌, ℕ, Bool, true, false, ◌||◌, ◌+◌, ◌<◌, ◌≤◌, List, ◌∷◌, length, drop, get_or, map, refl, sym, ap, ◌∙◌}
 use Rattle.std.proofs.lemmas.List.{drop_all, drop_more}
-use Rattle.wesl_names.specs.Path.{Text}
-use Rattle.wesl_syntax.specs.Tree.{Tree, forest_of}
-use Rattle.wesl_syntax.specs.Shown.{placed}
-use Rattle.wesl_syntax.specs.Unit.{UnitView}
-use Rattle.wesl_form.specs.Schema.{Name, node, a_declaration, a_directive, an_import}
-use Rattle.wesl_piece.specs.Numbers.{has_number, items_have_number}
-use Rattle.wesl_writing.specs.Values.{items_in, value_in}
+use Rattle.wesl_tree_names.specs.Path.{Text}
+use Rattle.wesl_tree_syntax.specs.Tree.{Tree, forest_of}
+use Rattle.wesl_tree_syntax.specs.Shown.{placed}
+use Rattle.wesl_tree_syntax.specs.Unit.{UnitView}
+use Rattle.wesl_json_form.specs.Schema.{Name, node, a_declaration, a_directive, an_import}
+use Rattle.wesl_json_light.specs.Numbers.{has_number, items_have_number}
+use Rattle.wesl_json_write.specs.Values.{items_in, value_in}
 use Rattle.wesl_json.specs.UnitTexts.{shows_span}
 
 -- ---- the loop over declarations

@@ -3,16 +3,16 @@ use Rattle.std.proofs.Common.{◌≡◌, ◌⊎◌, inl, inr, Bool, Result, Ok, 
 use Rattle.serde_json.specs.Data.{Data}
 use Rattle.serde_json.specs.Read.{read}
 use Rattle.serde_json.specs.Written.{compact_text, has_float}
-use Rattle.wesl_names.specs.Path.{Text}
-use Rattle.wesl_names.specs.declared.errors.Error as error
-use Rattle.wesl_syntax.specs.Shown.{placed}
-use Rattle.wesl_syntax.specs.Unit.{UnitView, spelled}
+use Rattle.wesl_tree_names.specs.Path.{Text}
+use Rattle.wesl_tree_names.specs.declared.errors.Error as error
+use Rattle.wesl_tree_syntax.specs.Shown.{placed}
+use Rattle.wesl_tree_syntax.specs.Unit.{UnitView, spelled}
 use Rattle.wesl_tree.specs.Translation.{unit_view}
 use Rattle.wesl_tree.specs.declared.unit.TranslationUnit.{TranslationUnit}
-use Rattle.wesl_form.specs.Units.{written_as, IsBrokenUnit, IsNoUnit}
-use Rattle.wesl_piece.specs.Readable.{UnitsReadBack}
+use Rattle.wesl_json_form.specs.Units.{written_as, IsBrokenUnit, IsNoUnit}
+use Rattle.wesl_json_light.specs.Readable.{UnitsReadBack}
 use Rattle.wesl_json.specs.Texts.{IsNoJson, IsTextOf}
-use Rattle.wesl_reading.specs.Faults.{IfPlace}
+use Rattle.wesl_json_read.specs.Faults.{IfPlace}
 use Rattle.wesl_json.proofs.Again.{spelled-written}
 use Rattle.wesl_json.specs.UnitTexts.{chosen_value, shows_span, IsUnreadable, PrintsAs}
 

@@ -3,8 +3,8 @@ use Rattle.std.specs.Prelude.{◌≡◌, ◌⊎◌, ◌≤◌, Some, None, false
 use Rattle.serde_json.specs.Data.{Data, depth}
 use Rattle.serde_json.specs.Read.{max_depth, read}
 use Rattle.serde_json.specs.Written.{compact_text, has_float}
-use Rattle.wesl_names.specs.Path.{Text}
-use Rattle.wesl_names.specs.declared.errors.Error as error
+use Rattle.wesl_tree_names.specs.Path.{Text}
+use Rattle.wesl_tree_names.specs.declared.errors.Error as error
 
 -- memory was refused, or the text is no JSON
 abbrev pub IsNoJson : Text → error.Error → Type 0

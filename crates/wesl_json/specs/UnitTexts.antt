@@ -3,18 +3,18 @@ use Rattle.std.specs.Prelude.{◌≡◌, ◌⊎◌, ◌||◌, ℕ, ◌<◌, Bool
 use Rattle.serde_json.specs.Data.{Data, depth}
 use Rattle.serde_json.specs.Read.{read}
 use Rattle.serde_json.specs.Written.{compact_text}
-use Rattle.wesl_names.specs.Path.{Text}
-use Rattle.wesl_names.specs.declared.errors.Error as error
-use Rattle.wesl_syntax.specs.Tree.{respell, imports, directive_list, declarations}
-use Rattle.wesl_syntax.specs.Shown.{placed}
-use Rattle.wesl_syntax.specs.Unit.{UnitOf, UnitView, spelled}
-use Rattle.wesl_form.specs.Schema.{Spelled, list_of, node, a_unit, a_declaration, a_directive, an_import}
-use Rattle.wesl_form.specs.Reading.{reading}
-use Rattle.wesl_form.specs.Units.{form_of, unit_tree, written_as, IsBrokenUnit, IsNoUnit}
-use Rattle.wesl_form.specs.Writing.{written}
-use Rattle.wesl_piece.specs.Numbers.{has_number}
-use Rattle.wesl_reading.specs.Faults.{place_of}
-use Rattle.wesl_resolver.specs.UnitText.{HasTextPaths}
+use Rattle.wesl_tree_names.specs.Path.{Text}
+use Rattle.wesl_tree_names.specs.declared.errors.Error as error
+use Rattle.wesl_tree_syntax.specs.Tree.{respell, imports, directive_list, declarations}
+use Rattle.wesl_tree_syntax.specs.Shown.{placed}
+use Rattle.wesl_tree_syntax.specs.Unit.{UnitOf, UnitView, spelled}
+use Rattle.wesl_json_form.specs.Schema.{Spelled, list_of, node, a_unit, a_declaration, a_directive, an_import}
+use Rattle.wesl_json_form.specs.Reading.{reading}
+use Rattle.wesl_json_form.specs.Units.{form_of, unit_tree, written_as, IsBrokenUnit, IsNoUnit}
+use Rattle.wesl_json_form.specs.Writing.{written}
+use Rattle.wesl_json_light.specs.Numbers.{has_number}
+use Rattle.wesl_json_read.specs.Faults.{place_of}
+use Rattle.wesl_resolve_base.specs.UnitText.{HasTextPaths}
 
 -- a tree without its spans
 abbrev pub bare : Spelled → Spelled

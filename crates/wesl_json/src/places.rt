@@ -1,21 +1,21 @@
 //! Whether a unit has places that form 2 writes.
 ghost use Rattle.std.specs.Prelude.{◌≡◌, true, IfOk};
 ghost use Rattle.serde_json.specs.Data.{Data, Items};
-ghost use Rattle.wesl_form.specs.Schema.{a_declaration};
-ghost use Rattle.wesl_piece.specs.Numbers.{has_number, items_have_number};
-ghost use Rattle.wesl_piece.specs.View.{items_view, piece_view};
-ghost use Rattle.wesl_syntax.specs.Shown.{placed};
-ghost use Rattle.wesl_syntax.specs.View.{declarations_tree};
+ghost use Rattle.wesl_json_form.specs.Schema.{a_declaration};
+ghost use Rattle.wesl_json_light.specs.Numbers.{has_number, items_have_number};
+ghost use Rattle.wesl_json_light.specs.View.{items_view, piece_view};
+ghost use Rattle.wesl_tree_syntax.specs.Shown.{placed};
+ghost use Rattle.wesl_tree_syntax.specs.View.{declarations_tree};
 ghost use Rattle.wesl_tree.specs.Translation.{unit_view};
-ghost use Rattle.wesl_writing.specs.Values.{items_in};
+ghost use Rattle.wesl_json_write.specs.Values.{items_in};
 ghost use Rattle.wesl_json.specs.UnitTexts.{shows_span};
 
 use std::alloc::{AllocError, Global};
-use wesl_names::Names;
-use wesl_piece::{Piece, has_number};
-use wesl_syntax::GlobalDeclarationNode;
+use wesl_json_light::{Piece, has_number};
+use wesl_json_write::{Written, WrittenList, directive_values, global_value, import_values};
 use wesl_tree::TranslationUnit;
-use wesl_writing::{Written, WrittenList, directive_values, global_value, import_values};
+use wesl_tree_names::Names;
+use wesl_tree_syntax::GlobalDeclarationNode;
 
 /// Whether form 2 writes a span in one of the lists of a unit.
 ///

@@ -1,8 +1,8 @@
 //! Units as JSON texts.
 ghost use Rattle.std.specs.Prelude.{◌≡◌, ◌⊎◌, IfErr, IfOk, string_bytes};
 ghost use Rattle.serde_json.specs.Written.{compact_text};
-ghost use Rattle.wesl_names.specs.declared.errors.Error as error;
-ghost use Rattle.wesl_syntax.specs.Unit.{spelled};
+ghost use Rattle.wesl_tree_names.specs.declared.errors.Error as error;
+ghost use Rattle.wesl_tree_syntax.specs.Unit.{spelled};
 ghost use Rattle.wesl_tree.specs.Translation.{unit_view};
 ghost use Rattle.wesl_json.specs.Texts.{IsReadBack};
 ghost use Rattle.wesl_json.specs.UnitTexts.{IsUnreadable, PrintsAs, ReadsAs, chosen_value};
@@ -12,8 +12,8 @@ use crate::unit::unit_of_borrowed;
 use crate::value_text::{borrowed_of_text, text_of_value};
 use json::Scratch;
 use std::alloc::Global;
-use wesl_piece::{law_of_units, law_of_whole_values};
-use wesl_resolver::UnitText;
+use wesl_json_light::{law_of_units, law_of_whole_values};
+use wesl_resolve_base::UnitText;
 use wesl_tree::{Diagnostic, Error, TranslationUnit};
 
 /// Units as JSON texts with no space, read in either form, and printed as `text_of_unit` prints them: in form 2 where
@@ -66,6 +66,6 @@ pub fn text_of_unit(alloc: Global, unit: &TranslationUnit) -> Result<String, Err
     law_of_units();
     law_of_whole_values();
     let spans = shows_span(alloc, unit)?;
-    let value = wesl_writing::value_of_unit(alloc, spans, unit)?;
+    let value = wesl_json_write::value_of_unit(alloc, spans, unit)?;
     text_of_value(alloc, &value)
 }

@@ -2,19 +2,19 @@
 ghost use Rattle.std.specs.Prelude.{◌≡◌, false, IfErr, IfOk};
 ghost use Rattle.serde_json.specs.View.{view};
 ghost use Rattle.serde_json.specs.Written.{has_float};
-ghost use Rattle.wesl_form.specs.View.{borrowed_view};
-ghost use Rattle.wesl_names.specs.declared.errors.Error as error;
-ghost use Rattle.wesl_syntax.specs.Shown.{placed};
+ghost use Rattle.wesl_json_form.specs.View.{borrowed_view};
+ghost use Rattle.wesl_tree_names.specs.declared.errors.Error as error;
+ghost use Rattle.wesl_tree_syntax.specs.Shown.{placed};
 ghost use Rattle.wesl_tree.specs.Translation.{unit_view};
-ghost use Rattle.wesl_form.specs.Units.{IsBrokenUnit, IsNoUnit, IsUnitOf, unit_value, unit_value_2};
-ghost use Rattle.wesl_piece.specs.Readable.{IsReadable};
-ghost use Rattle.wesl_reading.specs.Faults.{IfPlace};
+ghost use Rattle.wesl_json_form.specs.Units.{IsBrokenUnit, IsNoUnit, IsUnitOf, unit_value, unit_value_2};
+ghost use Rattle.wesl_json_light.specs.Readable.{IsReadable};
+ghost use Rattle.wesl_json_read.specs.Faults.{IfPlace};
 ghost use Rattle.wesl_json.specs.ReadAgain.{OfWritten};
 
 use serde_json::Value;
 use std::alloc::Global;
-use wesl_form::BorrowedValue;
-use wesl_piece::{borrowed_of_value, law_of_units, law_of_whole_values};
+use wesl_json_form::BorrowedValue;
+use wesl_json_light::{borrowed_of_value, law_of_units, law_of_whole_values};
 use wesl_tree::{Error, TranslationUnit};
 
 /// The unit that a value stands for: of form 2, which has places in the source, where it has the key `form`, else of
@@ -56,7 +56,7 @@ pub fn unit_of_borrowed(alloc: Global, value: &BorrowedValue<'_>) -> Result<Tran
     ensures is_read { IfErr result (λ e. OfWritten (borrowed_view value.now) (λ u. IsReadable u → e ≡ error.Memory)) }
 {
     law_of_units();
-    wesl_reading_unit::unit_of_value(alloc, value)
+    wesl_json_read_unit::unit_of_value(alloc, value)
 }
 
 /// The value that a unit is written as in form 1: its form with the names for the identifiers, without its spans.
@@ -70,7 +70,7 @@ pub fn value_of_unit(alloc: Global, unit: &TranslationUnit) -> Result<Value, Err
     ensures refused { IfErr result (λ e. e ≡ error.Memory) }
 {
     law_of_whole_values();
-    wesl_writing::value_of_unit(alloc, false, unit)
+    wesl_json_write::value_of_unit(alloc, false, unit)
 }
 
 /// The value that a unit is written as in form 2: as `value_of_unit` writes it, with the key `form` and with the span of
@@ -93,5 +93,5 @@ pub fn value_of_unit_2(alloc: Global, unit: &TranslationUnit) -> Result<Value, E
     ensures refused { IfErr result (λ e. e ≡ error.Memory) }
 {
     law_of_whole_values();
-    wesl_writing::value_of_unit(alloc, true, unit)
+    wesl_json_write::value_of_unit(alloc, true, unit)
 }

@@ -3,15 +3,15 @@ ghost use Rattle.std.specs.Prelude.{◌≡◌, ◌≤◌, Some, IfOk, IfErr, str
 ghost use Rattle.serde_json.specs.Data.{depth};
 ghost use Rattle.serde_json.specs.Read.{max_depth, read};
 ghost use Rattle.serde_json.specs.View.{view};
-ghost use Rattle.wesl_form.specs.View.{borrowed_view};
-ghost use Rattle.wesl_names.specs.declared.errors.Error as error;
+ghost use Rattle.wesl_json_form.specs.View.{borrowed_view};
+ghost use Rattle.wesl_tree_names.specs.declared.errors.Error as error;
 ghost use Rattle.wesl_json.specs.Texts.{IsNoJson, IsTextOf};
 
 use json::Scratch;
 use serde_json::Value;
 use std::alloc::Global;
-use wesl_form::{BorrowedValue, ReadFault, read_borrowed};
-use wesl_names::Error;
+use wesl_json_form::{BorrowedValue, ReadFault, read_borrowed};
+use wesl_tree_names::Error;
 
 /// The value that a text is, as JSON (RFC 8259) with arrays and objects nested at most 127 deep.
 ///

@@ -1,22 +1,22 @@
 -- A link over relations that mean the same.
 use Rattle.std.proofs.Common.{◌⊎◌, ◌↔◌, Option, ℕ, Bool, List, Result, Ok, Err, IfOk, inl, inr, ⊎_elim}
-use Rattle.wesl_names.specs.Path.{Text, Path}
-use Rattle.wesl_names.specs.declared.errors.Error as error
-use Rattle.wesl_names.specs.declared.errors.ImportError as import_error
-use Rattle.wesl_names.specs.declared.errors.ResolveError.{ResolveError}
-use Rattle.wesl_names.specs.declared.errors.ResolveError as resolve_error
-use Rattle.wesl_features.specs.declared.features.Features.{Features}
+use Rattle.wesl_tree_names.specs.Path.{Text, Path}
+use Rattle.wesl_tree_names.specs.declared.errors.Error as error
+use Rattle.wesl_tree_names.specs.declared.errors.ImportError as import_error
+use Rattle.wesl_tree_names.specs.declared.errors.ResolveError.{ResolveError}
+use Rattle.wesl_tree_names.specs.declared.errors.ResolveError as resolve_error
+use Rattle.wesl_cond_features.specs.declared.features.Features.{Features}
 use Rattle.wesl_tree.specs.declared.unit.TranslationUnit.{TranslationUnit}
-use Rattle.wesl_names.specs.Errors.{IsRefusedFor, OrMemory}
+use Rattle.wesl_tree_names.specs.Errors.{IsRefusedFor, OrMemory}
 use Rattle.wesl_resolve.specs.Preprocessor.{IsMade, IsMadeFault}
 use Rattle.wesl_cond.specs.Conditioned.{IsConditioned}
-use Rattle.wesl_syntax.specs.Unit.{UnitOf}
-use Rattle.wesl_symbols.specs.Tables.{Table}
-use Rattle.wesl_world.specs.World.{Task}
-use Rattle.wesl_world.specs.Faults.{Fault, duplicate, refused, missing, private, ambiguous, too_many_flags, too_many, Stands}
-use Rattle.wesl_linker.specs.Worlds.{Module, tables, task_of, IsWorld, IsLinked, IsRefused}
+use Rattle.wesl_tree_syntax.specs.Unit.{UnitOf}
+use Rattle.wesl_link_symbols.specs.Tables.{Table}
+use Rattle.wesl_link_reach.specs.World.{Task}
+use Rattle.wesl_link_reach.specs.Faults.{Fault, duplicate, refused, missing, private, ambiguous, too_many_flags, too_many, Stands}
+use Rattle.wesl_link_engine.specs.Worlds.{Module, tables, task_of, IsWorld, IsLinked, IsRefused}
 use Rattle.wesl_link.specs.Linking.{Links, RefusesLink, kept_names, hands_left, refuses_left}
-use Rattle.wesl_linker.specs.Refusal.{TellsOfImport, TellsOf}
+use Rattle.wesl_link_engine.specs.Refusal.{TellsOfImport, TellsOf}
 
 stands-over : (refuses others : Path → ResolveError → Type 0) → ((p : Path) (e : ResolveError) → refuses p e → others p e) → (task : Task Path Text) (limit : ℕ) (ts : List (Table Path Text)) (fault : Fault Path Text ResolveError) → Stands refuses task limit ts fault → Stands others task limit ts fault
 stands-over refuses others to task limit ts (duplicate n) h = h

@@ -1,9 +1,9 @@
 -- What features leave of the units that are handed out; without features no condition is judged.
 use Rattle.std.specs.Prelude.{Option}
-use Rattle.wesl_names.specs.Path.{Text}
-use Rattle.wesl_names.specs.declared.errors.ResolveError.{ResolveError}
-use Rattle.wesl_syntax.specs.Unit.{UnitOf}
-use Rattle.wesl_features.specs.declared.features.Features.{Features}
+use Rattle.wesl_tree_names.specs.Path.{Text}
+use Rattle.wesl_tree_names.specs.declared.errors.ResolveError.{ResolveError}
+use Rattle.wesl_tree_syntax.specs.Unit.{UnitOf}
+use Rattle.wesl_cond_features.specs.declared.features.Features.{Features}
 use Rattle.wesl_cond.specs.Conditioned.{IsConditioned}
 use Rattle.wesl_resolve.specs.Preprocessor.{IsMade, IsMadeFault}
 

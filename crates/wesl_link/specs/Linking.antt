@@ -1,17 +1,17 @@
 -- What a link promises whose root is handed out as every other module is.
 use Rattle.std.specs.Prelude.{◌≡◌, ◌⊎◌, ℕ, Bool, true, false, List, [], Option}
-use Rattle.wesl_names.specs.Path.{Text, Path, path_view}
-use Rattle.wesl_names.specs.Errors.{OrMemory, error_of_resolve}
-use Rattle.wesl_names.specs.declared.errors.Diagnostic.{Diagnostic, out-Diagnostic}
-use Rattle.wesl_names.specs.declared.errors.Error as error
-use Rattle.wesl_names.specs.declared.errors.ResolveError.{ResolveError}
-use Rattle.wesl_names.specs.declared.path.ModulePath.{ModulePath}
-use Rattle.wesl_syntax.specs.Unit.{UnitOf}
-use Rattle.wesl_features.specs.declared.features.Features.{Features}
-use Rattle.wesl_linker.specs.Worlds.{Module, task_of, IsLinked, IsRefused, IsModuleOrder}
-use Rattle.wesl_linker.specs.Refusal.{TellsOf}
-use Rattle.wesl_resolutions.specs.Keeping.{modules_of, turns_of}
-use Rattle.wesl_resolutions.specs.declared.resolutions.Resolutions.{Resolutions}
+use Rattle.wesl_tree_names.specs.Path.{Text, Path, path_view}
+use Rattle.wesl_tree_names.specs.Errors.{OrMemory, error_of_resolve}
+use Rattle.wesl_tree_names.specs.declared.errors.Diagnostic.{Diagnostic, out-Diagnostic}
+use Rattle.wesl_tree_names.specs.declared.errors.Error as error
+use Rattle.wesl_tree_names.specs.declared.errors.ResolveError.{ResolveError}
+use Rattle.wesl_tree_names.specs.declared.path.ModulePath.{ModulePath}
+use Rattle.wesl_tree_syntax.specs.Unit.{UnitOf}
+use Rattle.wesl_cond_features.specs.declared.features.Features.{Features}
+use Rattle.wesl_link_engine.specs.Worlds.{Module, task_of, IsLinked, IsRefused, IsModuleOrder}
+use Rattle.wesl_link_engine.specs.Refusal.{TellsOf}
+use Rattle.wesl_link_resolutions.specs.Keeping.{modules_of, turns_of}
+use Rattle.wesl_link_resolutions.specs.declared.resolutions.Resolutions.{Resolutions}
 use Rattle.wesl_link.specs.Conditions.{HandsLeft, RefusesLeft}
 
 -- the names that are kept: none where all that is declared is asked for

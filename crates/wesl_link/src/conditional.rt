@@ -1,22 +1,22 @@
 //! Linking under features.
 ghost use Rattle.std.specs.Prelude.{◌≡◌, ◌↔◌, Result, false, IfOk, IfErr};
-ghost use Rattle.wesl_names.specs.declared.errors.Error as error;
+ghost use Rattle.wesl_tree_names.specs.declared.errors.Error as error;
 ghost use Rattle.wesl_tree.specs.declared.unit.TranslationUnit.{TranslationUnit};
-ghost use Rattle.wesl_base.specs.Borrowed.{texts};
-ghost use Rattle.wesl_names.specs.Path.{Text, Path, path_view, is_relative};
-ghost use Rattle.wesl_resolver.specs.Resolver.{MeansTheSame};
+ghost use Rattle.wesl_tree_base.specs.Borrowed.{texts};
+ghost use Rattle.wesl_tree_names.specs.Path.{Text, Path, path_view, is_relative};
+ghost use Rattle.wesl_resolve_base.specs.Resolver.{MeansTheSame};
 ghost use Rattle.wesl_cond.specs.Conditioned.{IsConditioned};
 ghost use Rattle.wesl_link.specs.Linking.{FindsLink, FindsLinkLeft, TellsRefusal, TellsRefusalLeft, kept_names};
-ghost use Rattle.wesl_linker.specs.Linking.{LinksRoot, RefusesRoot};
-ghost use Rattle.wesl_linker.specs.Resolved.{module_at};
-ghost use Rattle.wesl_linker.specs.Worlds as worlds;
-ghost use Rattle.wesl_resolutions.specs.Keeping.{IsSound, resolved, modules_of};
+ghost use Rattle.wesl_link_engine.specs.Linking.{LinksRoot, RefusesRoot};
+ghost use Rattle.wesl_link_engine.specs.Resolved.{module_at};
+ghost use Rattle.wesl_link_engine.specs.Worlds as worlds;
+ghost use Rattle.wesl_link_resolutions.specs.Keeping.{IsSound, resolved, modules_of};
 
 use std::alloc::Global;
 use wesl_cond::{Features, condition};
-use wesl_resolutions::{Resolutions, resolve_eager, resolve_lazy};
+use wesl_link_resolutions::{Resolutions, resolve_eager, resolve_lazy};
 use wesl_resolve::Preprocessor;
-use wesl_resolver::Resolver;
+use wesl_resolve_base::Resolver;
 use wesl_tree::{Diagnostic, Error, ModulePath, TranslationUnit};
 
 /// Links the module at `path` with the modules that the names in `keep` and the const_asserts reach, and no others, each as

@@ -1,5 +1,5 @@
-//! Linking: many modules into one unit (WESL, "Imports"), as they are, or as features leave them. `wesl_resolutions` has
-//! the calls that link units as they are, and `wesl_linker` does the work; `wesl_mapped_link` links with a record of the
+//! Linking: many modules into one unit (WESL, "Imports"), as they are, or as features leave them. `wesl_link_resolutions` has
+//! the calls that link units as they are, and `wesl_link_engine` does the work; `wesl_link_mapped` links with a record of the
 //! names that are printed.
 #![tactic(auto)]
 
@@ -7,6 +7,6 @@ mod conditional;
 
 pub use conditional::{link_at, link_under};
 pub use wesl_cond::condition;
-pub use wesl_linker::{law_of_eager_links, law_of_links};
-pub use wesl_resolutions::{Resolutions, resolve_eager, resolve_lazy};
-pub use wesl_resolver::Resolver;
+pub use wesl_link_engine::{law_of_eager_links, law_of_links};
+pub use wesl_link_resolutions::{Resolutions, resolve_eager, resolve_lazy};
+pub use wesl_resolve_base::Resolver;

@@ -1,8 +1,8 @@
 -- What manglers hold.
 use Rattle.std.specs.Prelude.{Option, option_map}
 use Rattle.std.specs.BTreeMap.{get_by_text}
-use Rattle.wesl_names.specs.Path.{Text, Path}
-use Rattle.wesl_item_forms.specs.Items.{item_view}
+use Rattle.wesl_tree_names.specs.Path.{Text, Path}
+use Rattle.wesl_mangle_forms.specs.Items.{item_view}
 use Rattle.wesl_mangle.specs.declared.cache.CacheMangler.{CacheMangler}
 use Rattle.wesl_mangle.specs.declared.hash.HashMangler.{HashMangler}
 

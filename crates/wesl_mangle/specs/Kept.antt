@@ -1,7 +1,7 @@
 -- A record of names, and another's record below it.
 use Rattle.std.specs.Prelude.{◌≡◌, ◌⊎◌, Option, Some, None, Bool}
-use Rattle.wesl_names.specs.Path.{Text, Path}
-use Rattle.wesl_item_forms.specs.Mangler.{written_if}
+use Rattle.wesl_tree_names.specs.Path.{Text, Path}
+use Rattle.wesl_mangle_forms.specs.Mangler.{written_if}
 
 -- the first value, where there is one, else the second
 abbrev pub option_or : {X : Type 0} → Option X → Option X → Option X

@@ -1,17 +1,17 @@
 //! A record of the names that a mangler gave.
 ghost use Rattle.std.specs.Prelude.{◌≡◌, None, Some, true, IfOk, IfErr, OnOk, OnErr, string_bytes};
-ghost use Rattle.wesl_names.specs.Path.{Text, Path, path_view};
-ghost use Rattle.wesl_names.specs.declared.errors.Error as error;
-ghost use Rattle.wesl_item_forms.specs.Items.{item_view, numbered};
-ghost use Rattle.wesl_item_forms.specs.Mangler.{written_if};
+ghost use Rattle.wesl_tree_names.specs.Path.{Text, Path, path_view};
+ghost use Rattle.wesl_tree_names.specs.declared.errors.Error as error;
+ghost use Rattle.wesl_mangle_forms.specs.Items.{item_view, numbered};
+ghost use Rattle.wesl_mangle_forms.specs.Mangler.{written_if};
 ghost use Rattle.wesl_mangle.specs.Kept.{IsWrittenOrKept};
 ghost use Rattle.wesl_mangle.specs.Shown.{shown};
 
 use std::alloc::Global;
 use std::collections::BTreeMap;
-use wesl_item_forms::{Mangler, is_made, number_item};
-use wesl_names::{Error, ModulePath, Names};
-use wesl_syntax::TypeExpression;
+use wesl_mangle_forms::{Mangler, is_made, number_item};
+use wesl_tree_names::{Error, ModulePath, Names};
+use wesl_tree_syntax::TypeExpression;
 
 /// A name, and the item that it is given for.
 type Entry = (String, (ModulePath, String));

@@ -1,15 +1,15 @@
 //! The mangler of the escape form (WESL, "NameMangling": the number of underscores stands before a name that has some).
 ghost use Rattle.std.specs.Prelude.{◌≡◌, IfOk, IfErr, string_bytes, Some, None, true, false};
-ghost use Rattle.wesl_names.specs.Path.{path_view};
-ghost use Rattle.wesl_names.specs.declared.errors.Error as error;
-ghost use Rattle.wesl_item_forms.specs.Items.{numbered};
-ghost use Rattle.wesl_item_forms.specs.Identifier.{is_ascii_identifier, begins_with_two_underscores, has_identifiers};
-ghost use Rattle.wesl_item_forms.specs.Escape.{escape, unescape, is_reversible};
+ghost use Rattle.wesl_tree_names.specs.Path.{path_view};
+ghost use Rattle.wesl_tree_names.specs.declared.errors.Error as error;
+ghost use Rattle.wesl_mangle_forms.specs.Items.{numbered};
+ghost use Rattle.wesl_mangle_forms.specs.Identifier.{is_ascii_identifier, begins_with_two_underscores, has_identifiers};
+ghost use Rattle.wesl_mangle_forms.specs.Escape.{escape, unescape, is_reversible};
 
 use std::alloc::Global;
-use wesl_item_forms::{Mangler, escape_form, number_item, read_escape};
-use wesl_names::{Error, ModulePath, Names};
-use wesl_syntax::TypeExpression;
+use wesl_mangle_forms::{Mangler, escape_form, number_item, read_escape};
+use wesl_tree_names::{Error, ModulePath, Names};
+use wesl_tree_syntax::TypeExpression;
 
 /// Joins the names of a path and an item by `_`, with the number of its underscores before a name that
 /// has some (WESL, "NameMangling"). It remembers nothing, and reads what it writes.
@@ -26,7 +26,7 @@ impl EscapeMangler {
         ensures told { result ≡ is_reversible (path_view path.now) item.now }
         ensures read_back { result ≡ true → unescape (escape (path_view path.now) item.now) ≡ Some (path_view path.now, item.now) }
     {
-        wesl_item_forms::is_reversible(path, item)
+        wesl_mangle_forms::is_reversible(path, item)
     }
 }
 

@@ -1,13 +1,13 @@
 //! Names with a number.
 ghost use Rattle.std.specs.Prelude.{◌≡◌, ℕ, Some, None, false, IfOk, IfErr, string_bytes};
-ghost use Rattle.wesl_names.specs.Path.{Text, Path, path_view};
-ghost use Rattle.wesl_names.specs.declared.errors.Error as error;
-ghost use Rattle.wesl_item_forms.specs.Items.{numbered};
+ghost use Rattle.wesl_tree_names.specs.Path.{Text, Path, path_view};
+ghost use Rattle.wesl_tree_names.specs.declared.errors.Error as error;
+ghost use Rattle.wesl_mangle_forms.specs.Items.{numbered};
 
 use std::alloc::Global;
-use wesl_item_forms::{Mangler, number_item};
-use wesl_names::{Error, ModulePath, Names};
-use wesl_syntax::TypeExpression;
+use wesl_mangle_forms::{Mangler, number_item};
+use wesl_tree_names::{Error, ModulePath, Names};
+use wesl_tree_syntax::TypeExpression;
 
 /// A number for each item of a module, which never changes.
 pub trait PathHash {

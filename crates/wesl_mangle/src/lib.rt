@@ -10,6 +10,6 @@ pub use cache::CacheMangler;
 pub use escape::EscapeMangler;
 pub use hash::{HashMangler, PathHash};
 pub use unicode::UnicodeMangler;
-pub use wesl_item_forms::{
+pub use wesl_mangle_forms::{
     Mangler, NoMangler, escape_round_trip, escape_rows, unicode_round_trip, unicode_rows,
 };

@@ -1,14 +1,14 @@
 //! The mangler of the Unicode form.
 ghost use Rattle.std.specs.Prelude.{◌≡◌, IfOk, IfErr, string_bytes, Some, None, true, false};
-ghost use Rattle.wesl_names.specs.Path.{path_view};
-ghost use Rattle.wesl_names.specs.declared.errors.Error as error;
-ghost use Rattle.wesl_item_forms.specs.TypeText.{unicode_variant};
-ghost use Rattle.wesl_item_forms.specs.Unicode.{unicode, from_unicode, has_own_words};
+ghost use Rattle.wesl_tree_names.specs.Path.{path_view};
+ghost use Rattle.wesl_tree_names.specs.declared.errors.Error as error;
+ghost use Rattle.wesl_mangle_forms.specs.TypeText.{unicode_variant};
+ghost use Rattle.wesl_mangle_forms.specs.Unicode.{unicode, from_unicode, has_own_words};
 
 use std::alloc::Global;
-use wesl_item_forms::{Mangler, read_unicode, unicode_form, unicode_variant};
-use wesl_names::{Error, ModulePath, Names};
-use wesl_syntax::TypeExpression;
+use wesl_mangle_forms::{Mangler, read_unicode, unicode_form, unicode_variant};
+use wesl_tree_names::{Error, ModulePath, Names};
+use wesl_tree_syntax::TypeExpression;
 
 /// Joins the names of a path and an item by marks that look like colons, and writes types in brackets
 /// that look like angle brackets. It remembers nothing, and reads the names that it writes.

@@ -3,7 +3,7 @@ use Rattle.std.proofs.Common.{◌≡◌, [], ◌∷◌, ◌++◌, Bool, true, fa
 use Rattle.serde_json.specs.Data.{Data}
 use Rattle.serde_json.specs.Written.{compact_text}
 use Rattle.serde_json.proofs.OnLiterals.{serde_json_on_literals}
-use Rattle.wesl_names.specs.Path.{Text}
+use Rattle.wesl_tree_names.specs.Path.{Text}
 use Rattle.wesl_program.specs.Line.{answer_beginning, answer_value, line_of}
 
 abbrev between : Text

@@ -1,7 +1,7 @@
 -- The line of a refusal is one of the lines that the bytes may have.
 use Rattle.std.proofs.Common.{◌≡◌, ℕ, List, Bool, true, false, refl, ap, ◌∙◌, subst, inl, inr}
-use Rattle.wesl_names.specs.Path.{Text}
-use Rattle.wesl_names.specs.declared.errors.Error as error
+use Rattle.wesl_tree_names.specs.Path.{Text}
+use Rattle.wesl_tree_names.specs.declared.errors.Error as error
 use Rattle.wesl_program.specs.Fault.{Fault, fault_of}
 use Rattle.wesl_program.specs.Line.{AsksForPlaces, IsFaultLine, IsRefusal, Tells, fault_line, line_of, memory, told_value}
 use Rattle.wesl_program.specs.Places.{IsPlaceOf, MayStand, Where, has_home, has_span, nowhere}

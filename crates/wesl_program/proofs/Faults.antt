@@ -3,23 +3,23 @@ use Rattle.std.specs.Option.{option_map}
 use Rattle.std.specs.Prelude.{string_bytes}
 use Rattle.std.proofs.Common.{◌≡◌, ◌⊎◌, ℕ, List, [], Bool, true, false, true≢false, Option, Some, None, bytes_eq, codes, refl, sym, ap, ◌∙◌, subst, inl, inr}
 use Rattle.serde_json.specs.Data.{Data}
-use Rattle.wesl_syntax.specs.Unit.{UnitOf}
-use Rattle.wesl_names.specs.Path.{Text, Origin, absolute, relative, from_package, Path}
-use Rattle.wesl_names.specs.Errors.{IsModuleNotFound, IsRefusedWith, OrMemory, error_of_resolve}
-use Rattle.wesl_names.specs.declared.errors.Error as error
-use Rattle.wesl_base.specs.declared.faults.CondCompError.{CondCompError}
-use Rattle.wesl_base.specs.declared.faults.CondCompError.TheVariants as cond
-use Rattle.wesl_names.specs.declared.errors.ResolveError as resolve_error
-use Rattle.wesl_names.specs.declared.errors.ImportError as import_error
-use Rattle.wesl_chains.specs.FormulaFaults.{Fault, Tells}
-use Rattle.wesl_features.specs.declared.features.Features.{Features}
+use Rattle.wesl_tree_syntax.specs.Unit.{UnitOf}
+use Rattle.wesl_tree_names.specs.Path.{Text, Origin, absolute, relative, from_package, Path}
+use Rattle.wesl_tree_names.specs.Errors.{IsModuleNotFound, IsRefusedWith, OrMemory, error_of_resolve}
+use Rattle.wesl_tree_names.specs.declared.errors.Error as error
+use Rattle.wesl_tree_base.specs.declared.faults.CondCompError.{CondCompError}
+use Rattle.wesl_tree_base.specs.declared.faults.CondCompError.TheVariants as cond
+use Rattle.wesl_tree_names.specs.declared.errors.ResolveError as resolve_error
+use Rattle.wesl_tree_names.specs.declared.errors.ImportError as import_error
+use Rattle.wesl_cond_chains.specs.FormulaFaults.{Fault, Tells}
+use Rattle.wesl_cond_features.specs.declared.features.Features.{Features}
 use Rattle.wesl_tree.specs.Translation.{unit_view}
 use Rattle.wesl_tree.specs.declared.unit.TranslationUnit.{TranslationUnit}
 use Rattle.wesl_resolve.specs.ByOrigin.{AtOrigin, ByOrigin}
-use Rattle.wesl_resolver.specs.Packages.{IsRefusedIn}
-use Rattle.wesl_resolver.specs.declared.packages.CodegenPkg.{CodegenPkg}
+use Rattle.wesl_resolve_base.specs.Packages.{IsRefusedIn}
+use Rattle.wesl_resolve_base.specs.declared.packages.CodegenPkg.{CodegenPkg}
 use Rattle.wesl_json.specs.UnitTexts.{IsTreeFault}
-use Rattle.wesl_reading.specs.Faults.{place_of}
+use Rattle.wesl_json_read.specs.Faults.{place_of}
 use Rattle.wesl_cond.specs.Conditioned.{IsHandedOn, IsRefusedBy}
 use Rattle.wesl_link.specs.Conditions.{RefusesLeft}
 use Rattle.wesl_link.specs.Linking.{RefusesLink, hands_left, refuses_left}
@@ -28,19 +28,19 @@ use Rattle.wesl_program.specs.Fault.{fault_of, fault_of_condition, fault_of_reso
 use Rattle.wesl_program.specs.Hands.{IsRefusedAt, virtual_module}
 use Rattle.wesl_program.specs.Linking.{Kept, LinksTo, handed, refused, handed_left, refused_left}
 use Rattle.wesl_program.specs.Validity.{RefusesUnit, built_in}
-use Rattle.wesl_valid.specs.Faults as valid
-use Rattle.wesl_syntax.specs.Unit.{UnitView}
-use Rattle.wesl_base.specs.declared.faults.ValidateError.{ValidateError}
-use Rattle.wesl_base.specs.declared.faults.ValidateError.TheVariants as invalid
-use Rattle.wesl_bundle.specs.Builtins as said
-use Rattle.wesl_bundle.specs.Bundle.{Bundle}
+use Rattle.wesl_validate_rules.specs.Faults as valid
+use Rattle.wesl_tree_syntax.specs.Unit.{UnitView}
+use Rattle.wesl_tree_base.specs.declared.faults.ValidateError.{ValidateError}
+use Rattle.wesl_tree_base.specs.declared.faults.ValidateError.TheVariants as invalid
+use Rattle.wesl_program_bundle.specs.Builtins as said
+use Rattle.wesl_program_bundle.specs.Bundle.{Bundle}
 use Rattle.wesl_program.specs.Line.{memory, IsOfModules}
 use Rattle.wesl_program.specs.Refused.{IsLinkFault}
 use Rattle.wesl_program.specs.StoredTexts.{IsUnreadable}
-use Rattle.wesl_world.specs.World.{Task}
-use Rattle.wesl_world.specs.Faults as standing
-use Rattle.wesl_linker.specs.Refusal.{TellsOfImport, TellsOf}
-use Rattle.wesl_linker.specs.Worlds as worlds
+use Rattle.wesl_link_reach.specs.World.{Task}
+use Rattle.wesl_link_reach.specs.Faults as standing
+use Rattle.wesl_link_engine.specs.Refusal.{TellsOfImport, TellsOf}
+use Rattle.wesl_link_engine.specs.Worlds as worlds
 
 -- memory was refused, or a module is at fault and not the bundle
 abbrev IsModuleFault : error.Error → Type 0

@@ -1,16 +1,16 @@
 -- What a link through a mapper finds, told by the parts that the mapper was made of.
 use Rattle.std.proofs.Common.{◌≡◌, ℕ, Bool, List, Option, None, subst}
-use Rattle.wesl_names.specs.Path.{Text, Path}
-use Rattle.wesl_names.specs.declared.errors.Error as error
-use Rattle.wesl_names.specs.declared.errors.ResolveError.{ResolveError}
-use Rattle.wesl_syntax.specs.Unit.{UnitOf, UnitView}
-use Rattle.wesl_features.specs.declared.features.Features.{Features}
-use Rattle.wesl_linker.specs.Recorded.{Record}
-use Rattle.wesl_bundle.specs.Bundle.{Bundle}
-use Rattle.wesl_linker.specs.Worlds.{Module}
-use Rattle.wesl_map_entries.specs.Records.{SameItems}
+use Rattle.wesl_tree_names.specs.Path.{Text, Path}
+use Rattle.wesl_tree_names.specs.declared.errors.Error as error
+use Rattle.wesl_tree_names.specs.declared.errors.ResolveError.{ResolveError}
+use Rattle.wesl_tree_syntax.specs.Unit.{UnitOf, UnitView}
+use Rattle.wesl_cond_features.specs.declared.features.Features.{Features}
+use Rattle.wesl_link_engine.specs.Recorded.{Record}
+use Rattle.wesl_program_bundle.specs.Bundle.{Bundle}
+use Rattle.wesl_link_engine.specs.Worlds.{Module}
+use Rattle.wesl_source_map_entries.specs.Records.{SameItems}
 use Rattle.wesl_link.specs.Linking.{RefusesLink, hands_left, refuses_left}
-use Rattle.wesl_mapped_link.specs.Mapping.{MapsLink}
+use Rattle.wesl_link_mapped.specs.Mapping.{MapsLink}
 use Rattle.wesl_program.specs.Linking.{Kept, LinksTo, handed_left, refused_left, recorded_for}
 use Rattle.wesl_program.specs.Naming.{named_by}
 use Rattle.wesl_program.specs.Refused.{IsLinkFault}

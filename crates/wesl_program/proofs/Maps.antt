@@ -9,13 +9,13 @@ use Rattle.std.specs.Map.{keys_of}
 use Rattle.std.specs.Ordering.{ordering_reverse}
 use Rattle.serde_json.specs.Data.{Data, Members, no_members, member, put, object}
 use Rattle.serde_json.specs.Written.{has_float, members_have_float}
-use Rattle.wesl_names.specs.Path.{Text}
-use Rattle.wesl_map_entries.specs.Records.{Item, Items, SameItems}
-use Rattle.wesl_map_entries.specs.Listed.{IsListing}
-use Rattle.wesl_syntax.specs.Unit.{UnitView}
-use Rattle.wesl_form.specs.Units.{written_as}
-use Rattle.wesl_bundle.specs.Bundle.{Bundle}
-use Rattle.wesl_linker.specs.Worlds.{Module}
+use Rattle.wesl_tree_names.specs.Path.{Text}
+use Rattle.wesl_source_map_entries.specs.Records.{Item, Items, SameItems}
+use Rattle.wesl_source_map_entries.specs.Listed.{IsListing}
+use Rattle.wesl_tree_syntax.specs.Unit.{UnitView}
+use Rattle.wesl_json_form.specs.Units.{written_as}
+use Rattle.wesl_program_bundle.specs.Bundle.{Bundle}
+use Rattle.wesl_link_engine.specs.Worlds.{Module}
 use Rattle.wesl_program.specs.Line.{IsAnswerOf, IsMapOf, SaysClash, item_value, map_members}
 use Rattle.wesl_program.specs.Linking.{LinksTo, recorded_for}
 use Rattle.wesl_program.specs.Validity.{IsValidUnder}

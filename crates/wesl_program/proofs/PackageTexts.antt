@@ -1,9 +1,9 @@
 -- Packages as texts, one more at a time.
 use Rattle.std.proofs.Common.{List, [], ◌∷◌, ◌++◌}
-use Rattle.wesl_bundle.specs.Packages as said
-use Rattle.wesl_bundle.specs.PackageViews.{package_modules, packages_of}
-use Rattle.wesl_resolver.specs.declared.packages.CodegenModule.{CodegenModule}
-use Rattle.wesl_resolver.specs.declared.packages.CodegenPkg.{CodegenPkg}
+use Rattle.wesl_program_bundle.specs.Packages as said
+use Rattle.wesl_program_bundle.specs.PackageViews.{package_modules, packages_of}
+use Rattle.wesl_resolve_base.specs.declared.packages.CodegenModule.{CodegenModule}
+use Rattle.wesl_resolve_base.specs.declared.packages.CodegenPkg.{CodegenPkg}
 use Rattle.wesl_program.specs.PackageTexts.{AreModulesOf, IsModuleOf, ArePackagesOf, IsPackageOf}
 
 pub modules-more : (xs : List said.PackageModule) (ms : List CodegenModule) (x : said.PackageModule) (m : CodegenModule) → AreModulesOf (package_modules xs) ms → IsModuleOf x m → AreModulesOf (package_modules (xs ++ x ∷ [])) (ms ++ m ∷ [])

@@ -1,9 +1,9 @@
 -- Why a text is refused: as JSON is, but for one that is no JSON.
 use Rattle.std.proofs.Common.{◌≡◌, ◌⊎◌, Some, [], sym, ◌∙◌, subst, inl, inr}
-use Rattle.wesl_names.specs.Path.{Text}
-use Rattle.wesl_names.specs.declared.errors.Error as error
+use Rattle.wesl_tree_names.specs.Path.{Text}
+use Rattle.wesl_tree_names.specs.declared.errors.Error as error
 use Rattle.wesl_json.specs.UnitTexts as json
-use Rattle.wesl_reading.specs.Faults.{place_of}
+use Rattle.wesl_json_read.specs.Faults.{place_of}
 use Rattle.wesl_program.specs.StoredTexts.{IsUnreadable}
 
 -- an error that tells a place is not that of a text that is no JSON

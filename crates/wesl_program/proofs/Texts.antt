@@ -5,7 +5,7 @@ use Rattle.serde_json.specs.Data.{string, item}
 use Rattle.serde_json.specs.Written.{has_float, items_have_float, members_have_float}
 use Rattle.serde_json.specs.View.{view, items_view}
 use Rattle.serde_json.specs.declared.value.Value.{Value}
-use Rattle.wesl_names.specs.Path.{Text}
+use Rattle.wesl_tree_names.specs.Path.{Text}
 use Rattle.wesl_program.specs.Fault.{Fault}
 use Rattle.wesl_program.specs.Line.{fault_members, texts_value, told_value, with_home, with_span}
 use Rattle.wesl_program.specs.Places.{Where}

@@ -1,11 +1,11 @@
 -- Faults of trees.
 use Rattle.std.proofs.Common.{◌≡◌, ◌⊎◌, ◌∙◌, refl, sym, subst, inl, inr, string_bytes}
 use Rattle.serde_json.specs.Data.{Data}
-use Rattle.wesl_names.specs.declared.errors.Error as error
-use Rattle.wesl_names.specs.declared.errors.ResolveError as resolve_error
-use Rattle.wesl_names.specs.Errors.{IsRefusedFor, IsRefusedWith, OrMemory}
-use Rattle.wesl_form.specs.Units.{IsBrokenUnit, IsNoUnit}
-use Rattle.wesl_reading.specs.Faults.{IfPlace}
+use Rattle.wesl_tree_names.specs.declared.errors.Error as error
+use Rattle.wesl_tree_names.specs.declared.errors.ResolveError as resolve_error
+use Rattle.wesl_tree_names.specs.Errors.{IsRefusedFor, IsRefusedWith, OrMemory}
+use Rattle.wesl_json_form.specs.Units.{IsBrokenUnit, IsNoUnit}
+use Rattle.wesl_json_read.specs.Faults.{IfPlace}
 use Rattle.wesl_json.specs.UnitTexts.{IsTreeFault}
 
 pub tree-fault : (d : Data) (e : error.Error) → IfPlace e (IsBrokenUnit d) → IfPlace e (λ _. IsNoUnit d) → (e ≡ error.Memory) ⊎ IsTreeFault d e

@@ -3,13 +3,13 @@ use Rattle.std.proofs.Common.{◌≡◌, List, [], ◌∷◌, ◌++◌, Bool, tr
 use Rattle.std.specs.Map.{lookup}
 use Rattle.indexmap.specs.IndexMap.{insert_entry}
 use Rattle.serde_json.specs.Data.{Data}
-use Rattle.wesl_form.specs.View.{borrowed_view}
-use Rattle.wesl_form.specs.declared.value.BorrowedValue.{BorrowedValue}
-use Rattle.wesl_names.specs.Path.{Path, path_view}
-use Rattle.wesl_names.specs.PathLaws.{path_eq}
-use Rattle.wesl_names.specs.PathOrder.{same_path}
-use Rattle.wesl_names.specs.declared.path.ModulePath.{ModulePath}
-use Rattle.wesl_names.proofs.Order.{path_eq-view, same_path-decides}
+use Rattle.wesl_json_form.specs.View.{borrowed_view}
+use Rattle.wesl_json_form.specs.declared.value.BorrowedValue.{BorrowedValue}
+use Rattle.wesl_tree_names.specs.Path.{Path, path_view}
+use Rattle.wesl_tree_names.specs.PathLaws.{path_eq}
+use Rattle.wesl_tree_names.specs.PathOrder.{same_path}
+use Rattle.wesl_tree_names.specs.declared.path.ModulePath.{ModulePath}
+use Rattle.wesl_tree_names.proofs.Order.{path_eq-view, same_path-decides}
 use Rattle.wesl_program.specs.Bundle.{Module, later, unit_at}
 use Rattle.wesl_program.specs.Holds.{Holds, values_of, value_at}
 use Rattle.wesl_program.specs.declared.modules.BundleUnits.{BundleUnits}

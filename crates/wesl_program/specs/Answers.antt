@@ -2,9 +2,9 @@
 use Rattle.std.specs.Prelude.{◌≡◌, ℕ, List, Some}
 use Rattle.serde_json.specs.Data.{Data}
 use Rattle.serde_json.specs.View.{view}
-use Rattle.wesl_form.specs.Units.{written_as}
+use Rattle.wesl_json_form.specs.Units.{written_as}
 use Rattle.wesl_tree.specs.Translation.{unit_view}
-use Rattle.wesl_bundle.specs.Bundle.{Bundle, bundle_of}
+use Rattle.wesl_program_bundle.specs.Bundle.{Bundle, bundle_of}
 use Rattle.wesl_program.specs.Line.{IsAnswerOf, IsJsonOf, answer_value}
 use Rattle.wesl_program.specs.declared.answer.Answer.{Answer}
 

@@ -1,9 +1,9 @@
 -- The units of a bundle's modules, by their paths.
-pub use Rattle.wesl_bundle.specs.Bundle.{Module}
+pub use Rattle.wesl_program_bundle.specs.Bundle.{Module}
 use Rattle.std.specs.Prelude.{List, [], ◌∷◌, if◌then◌else◌, Option, Some, None}
 use Rattle.serde_json.specs.Data.{Data}
-use Rattle.wesl_names.specs.Path.{Path}
-use Rattle.wesl_names.specs.PathOrder.{same_path}
+use Rattle.wesl_tree_names.specs.Path.{Path}
+use Rattle.wesl_tree_names.specs.PathOrder.{same_path}
 
 -- the later of two units
 abbrev pub later : Option Data → Option Data → Option Data

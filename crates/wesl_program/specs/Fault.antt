@@ -1,16 +1,16 @@
 -- What a fault line tells of an error: the name of the fault and its arguments. Of errors that hold one
 -- another, as the refusal of a resolver holds the fault of a unit, the innermost is told.
 use Rattle.std.specs.Prelude.{List, [], ◌∷◌, codes, decimal, string_bytes}
-use Rattle.wesl_names.specs.Path.{Text, path_view}
-use Rattle.wesl_names.specs.PathText.{to_text}
-use Rattle.wesl_names.specs.declared.path.ModulePath.{ModulePath}
-use Rattle.wesl_base.specs.declared.faults.CondCompError.{CondCompError}
-use Rattle.wesl_base.specs.declared.faults.CondCompError.TheVariants as cond
-use Rattle.wesl_base.specs.declared.faults.ValidateError.{ValidateError}
-use Rattle.wesl_base.specs.declared.faults.ValidateError.TheVariants as invalid
-use Rattle.wesl_names.specs.declared.errors.ImportError as import_error
-use Rattle.wesl_names.specs.declared.errors.ResolveError as resolve_error
-use Rattle.wesl_names.specs.declared.errors.Error as error
+use Rattle.wesl_tree_names.specs.Path.{Text, path_view}
+use Rattle.wesl_tree_names.specs.PathText.{to_text}
+use Rattle.wesl_tree_names.specs.declared.path.ModulePath.{ModulePath}
+use Rattle.wesl_tree_base.specs.declared.faults.CondCompError.{CondCompError}
+use Rattle.wesl_tree_base.specs.declared.faults.CondCompError.TheVariants as cond
+use Rattle.wesl_tree_base.specs.declared.faults.ValidateError.{ValidateError}
+use Rattle.wesl_tree_base.specs.declared.faults.ValidateError.TheVariants as invalid
+use Rattle.wesl_tree_names.specs.declared.errors.ImportError as import_error
+use Rattle.wesl_tree_names.specs.declared.errors.ResolveError as resolve_error
+use Rattle.wesl_tree_names.specs.declared.errors.Error as error
 
 pub record Fault : Type 0 where
   pub named : Text

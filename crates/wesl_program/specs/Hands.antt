@@ -1,10 +1,10 @@
 -- What the modules of a bundle hand out at a path, and what they refuse.
 use Rattle.std.specs.Prelude.{Option, Some, None, codes}
 use Rattle.serde_json.specs.Data.{Data}
-use Rattle.wesl_syntax.specs.Unit.{UnitOf}
-use Rattle.wesl_names.specs.Path.{Text, Path}
-use Rattle.wesl_names.specs.Errors.{IsModuleNotFound, IsRefusedWith}
-use Rattle.wesl_names.specs.declared.errors.ResolveError.{ResolveError}
+use Rattle.wesl_tree_syntax.specs.Unit.{UnitOf}
+use Rattle.wesl_tree_names.specs.Path.{Text, Path}
+use Rattle.wesl_tree_names.specs.Errors.{IsModuleNotFound, IsRefusedWith}
+use Rattle.wesl_tree_names.specs.declared.errors.ResolveError.{ResolveError}
 use Rattle.wesl_json.specs.UnitTexts.{IsSpelled, IsTreeFault}
 use Rattle.wesl_program.specs.Holds.{values_of, value_at}
 use Rattle.wesl_program.specs.declared.modules.BundleUnits.{BundleUnits}

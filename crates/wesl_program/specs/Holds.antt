@@ -1,11 +1,11 @@
 -- Which modules a map of units has.
 use Rattle.std.specs.Prelude.{◌≡◌, if◌then◌else◌, Option, Some, None, List, [], ◌∷◌, map}
 use Rattle.serde_json.specs.Data.{Data}
-use Rattle.wesl_form.specs.View.{borrowed_view}
-use Rattle.wesl_form.specs.declared.value.BorrowedValue.{BorrowedValue}
-use Rattle.wesl_names.specs.Path.{Path, path_view}
-use Rattle.wesl_names.specs.PathOrder.{same_path}
-use Rattle.wesl_names.specs.declared.path.ModulePath.{ModulePath}
+use Rattle.wesl_json_form.specs.View.{borrowed_view}
+use Rattle.wesl_json_form.specs.declared.value.BorrowedValue.{BorrowedValue}
+use Rattle.wesl_tree_names.specs.Path.{Path, path_view}
+use Rattle.wesl_tree_names.specs.PathOrder.{same_path}
+use Rattle.wesl_tree_names.specs.declared.path.ModulePath.{ModulePath}
 use Rattle.wesl_program.specs.Bundle.{Module, unit_at}
 use Rattle.wesl_program.specs.declared.modules.BundleUnits.{BundleUnits}
 

@@ -3,21 +3,21 @@ use Rattle.std.specs.Prelude.{◌≡◌, ◌≢◌, ◌⊎◌, ◌↔◌, ℕ, L
 use Rattle.serde_json.specs.Data.{Data, boolean, string, array, object, item, no_items, member, no_members, put, Items, Members}
 use Rattle.serde_json.specs.Read.{read}
 use Rattle.serde_json.specs.Written.{compact_text}
-use Rattle.wesl_names.specs.Path.{Text}
-use Rattle.wesl_names.specs.PathText.{to_text}
-use Rattle.wesl_syntax.specs.Unit.{UnitView}
-use Rattle.wesl_form.specs.Units.{written_as}
-use Rattle.wesl_form.specs.Writing.{span_value}
-use Rattle.wesl_faith.specs.Faithful.{IsFaithful}
-use Rattle.wesl_bundle.specs.Bundle.{Bundle, bundle_of}
-use Rattle.wesl_bundle.specs.Forms.{IsBrokenBundle}
-use Rattle.wesl_names.specs.declared.errors.Error as error
+use Rattle.wesl_tree_names.specs.Path.{Text}
+use Rattle.wesl_tree_names.specs.PathText.{to_text}
+use Rattle.wesl_tree_syntax.specs.Unit.{UnitView}
+use Rattle.wesl_json_form.specs.Units.{written_as}
+use Rattle.wesl_json_form.specs.Writing.{span_value}
+use Rattle.wesl_scope_clash.specs.Faithful.{IsFaithful}
+use Rattle.wesl_program_bundle.specs.Bundle.{Bundle, bundle_of}
+use Rattle.wesl_program_bundle.specs.Forms.{IsBrokenBundle}
+use Rattle.wesl_tree_names.specs.declared.errors.Error as error
 use Rattle.wesl_program.specs.Fault.{Fault, fault, fault_of}
 use Rattle.wesl_program.specs.Places.{IsPlaceOf, MayStand, Where, nowhere}
-use Rattle.wesl_map_entries.specs.Records.{Item}
-use Rattle.wesl_map_entries.specs.Listed.{IsListing}
-use Rattle.wesl_linker.specs.Recorded.{Record}
-use Rattle.wesl_linker.specs.Worlds.{Module}
+use Rattle.wesl_source_map_entries.specs.Records.{Item}
+use Rattle.wesl_source_map_entries.specs.Listed.{IsListing}
+use Rattle.wesl_link_engine.specs.Recorded.{Record}
+use Rattle.wesl_link_engine.specs.Worlds.{Module}
 use Rattle.wesl_program.specs.Linking.{LinksTo, recorded_for}
 use Rattle.wesl_program.specs.Validity.{IsValidUnder, RefusesBundle}
 

@@ -1,24 +1,24 @@
 -- What is linked of a bundle.
 use Rattle.std.specs.Prelude.{◌≡◌, ℕ, List, Option, None, true, option_map}
 use Rattle.serde_json.specs.Data.{Data}
-use Rattle.wesl_names.specs.Path.{Text, Path}
-use Rattle.wesl_names.specs.declared.errors.Error as error
-use Rattle.wesl_names.specs.declared.errors.ResolveError.{ResolveError}
-use Rattle.wesl_syntax.specs.Unit.{UnitOf, UnitView}
-use Rattle.wesl_features.specs.declared.features.Features.{Features}
-use Rattle.wesl_bundle.specs.Bundle.{Bundle}
-use Rattle.wesl_bundle.specs.Views.{features_view}
+use Rattle.wesl_tree_names.specs.Path.{Text, Path}
+use Rattle.wesl_tree_names.specs.declared.errors.Error as error
+use Rattle.wesl_tree_names.specs.declared.errors.ResolveError.{ResolveError}
+use Rattle.wesl_tree_syntax.specs.Unit.{UnitOf, UnitView}
+use Rattle.wesl_cond_features.specs.declared.features.Features.{Features}
+use Rattle.wesl_program_bundle.specs.Bundle.{Bundle}
+use Rattle.wesl_program_bundle.specs.Views.{features_view}
 use Rattle.wesl_resolve.specs.ByOrigin.{ByOrigin}
-use Rattle.wesl_resolver.specs.Packages.{IsReadIn, IsRefusedIn}
-use Rattle.wesl_resolver.specs.declared.packages.CodegenPkg.{CodegenPkg}
+use Rattle.wesl_resolve_base.specs.Packages.{IsReadIn, IsRefusedIn}
+use Rattle.wesl_resolve_base.specs.declared.packages.CodegenPkg.{CodegenPkg}
 use Rattle.wesl_json.specs.UnitTexts.{ReadsAs}
 use Rattle.wesl_link.specs.Linking.{Links, RefusesLink, hands_left, refuses_left}
-use Rattle.wesl_mapped_link.specs.Mapping.{task_at}
-use Rattle.wesl_linker.specs.Recorded.{Record, all_written}
-use Rattle.wesl_linker.specs.Worlds as worlds
-use Rattle.wesl_linker.specs.Linked.{IsAssembled}
-use Rattle.wesl_linker.specs.Resolved.{mangled, NamesAgree, writes}
-use Rattle.wesl_world.specs.World.{Task}
+use Rattle.wesl_link_mapped.specs.Mapping.{task_at}
+use Rattle.wesl_link_engine.specs.Recorded.{Record, all_written}
+use Rattle.wesl_link_engine.specs.Worlds as worlds
+use Rattle.wesl_link_engine.specs.Linked.{IsAssembled}
+use Rattle.wesl_link_engine.specs.Resolved.{mangled, NamesAgree, writes}
+use Rattle.wesl_link_reach.specs.World.{Task}
 use Rattle.wesl_program.specs.Bundle.{unit_at}
 use Rattle.wesl_program.specs.Hands.{IsHandedAt, IsRefusedAt}
 use Rattle.wesl_program.specs.Naming.{named_by}

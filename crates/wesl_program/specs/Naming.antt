@@ -1,13 +1,13 @@
 -- How the items of modules are named.
 use Rattle.std.specs.Prelude.{ℕ, List, Option, Some, None}
-use Rattle.wesl_names.specs.Path.{Text, Path}
-use Rattle.wesl_syntax.specs.Tree.{Tree}
-use Rattle.wesl_bundle.specs.declared.options.Naming.{Naming}
-use Rattle.wesl_bundle.specs.declared.options.Naming.TheVariants as naming
-use Rattle.wesl_item_forms.specs.Items.{numbered}
-use Rattle.wesl_item_forms.specs.Escape.{escape, unescape}
-use Rattle.wesl_item_forms.specs.Unicode.{unicode, from_unicode}
-use Rattle.wesl_item_forms.specs.TypeText.{unicode_variant}
+use Rattle.wesl_tree_names.specs.Path.{Text, Path}
+use Rattle.wesl_tree_syntax.specs.Tree.{Tree}
+use Rattle.wesl_program_bundle.specs.declared.options.Naming.{Naming}
+use Rattle.wesl_program_bundle.specs.declared.options.Naming.TheVariants as naming
+use Rattle.wesl_mangle_forms.specs.Items.{numbered}
+use Rattle.wesl_mangle_forms.specs.Escape.{escape, unescape}
+use Rattle.wesl_mangle_forms.specs.Unicode.{unicode, from_unicode}
+use Rattle.wesl_mangle_forms.specs.TypeText.{unicode_variant}
 
 -- the name of an item of a module
 abbrev pub named_by : Naming → Path → Text → Text

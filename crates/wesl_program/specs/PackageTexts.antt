@@ -1,10 +1,10 @@
 -- The packages of a bundle, their modules as texts.
 use Rattle.std.specs.Prelude.{◌≡◌, List, [], ◌∷◌}
-use Rattle.wesl_bundle.specs.Packages as said
+use Rattle.wesl_program_bundle.specs.Packages as said
 use Rattle.wesl_json.specs.Texts.{IsTextOf}
-use Rattle.wesl_resolver.specs.Packages.{module_name, source_of}
-use Rattle.wesl_resolver.specs.declared.packages.CodegenModule.{CodegenModule, out-CodegenModule}
-use Rattle.wesl_resolver.specs.declared.packages.CodegenPkg.{CodegenPkg, out-CodegenPkg}
+use Rattle.wesl_resolve_base.specs.Packages.{module_name, source_of}
+use Rattle.wesl_resolve_base.specs.declared.packages.CodegenModule.{CodegenModule, out-CodegenModule}
+use Rattle.wesl_resolve_base.specs.declared.packages.CodegenPkg.{CodegenPkg, out-CodegenPkg}
 
 -- modules of these names, in order, each with the text of its value and with the modules below it
 abbrev pub AreModulesOf : said.PackageModules → List CodegenModule → Type 0

@@ -2,7 +2,7 @@
 use Rattle.std.specs.Prelude.{◌≡◌, ◌⊎◌, ◌||◌, ℕ, List, [], ◌∷◌, Bool, true, false, Option, None, codes}
 use Rattle.std.specs.List.{list_any}
 use Rattle.std.specs.Str.{bytes_eq}
-use Rattle.wesl_names.specs.Path.{Text}
+use Rattle.wesl_tree_names.specs.Path.{Text}
 use Rattle.wesl_program.specs.Fault.{Fault}
 
 -- the path of the module that holds the fault, and the place in its source: the first byte, and the byte after the last one

@@ -1,7 +1,7 @@
 -- Faults of modules.
 use Rattle.std.specs.Prelude.{◌≡◌, ◌⊎◌}
-use Rattle.wesl_bundle.specs.Bundle.{Bundle}
-use Rattle.wesl_names.specs.declared.errors.Error as error
+use Rattle.wesl_program_bundle.specs.Bundle.{Bundle}
+use Rattle.wesl_tree_names.specs.declared.errors.Error as error
 use Rattle.wesl_program.specs.Fault.{fault_of}
 use Rattle.wesl_program.specs.Line.{memory, IsOfModules, TellsOfLink}
 

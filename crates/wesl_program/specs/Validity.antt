@@ -1,15 +1,15 @@
 -- What the built-in names of a bundle ask of its linked unit (WGSL, "Declaration and Scope" and "Function Calls").
 use Rattle.std.specs.Prelude.{◌≡◌, ◌⊎◌, List, Option, Some, None}
-use Rattle.wesl_names.specs.declared.errors.Error as error
-use Rattle.wesl_names.specs.declared.errors.Diagnostic.{Diagnostic}
-use Rattle.wesl_syntax.specs.Unit.{UnitView}
-use Rattle.wesl_builtins.specs.Builtins.{BuiltinNames}
-use Rattle.wesl_linker.specs.Worlds.{Module}
-use Rattle.wesl_bundle.specs.Builtins as said
-use Rattle.wesl_bundle.specs.Bundle.{Bundle}
+use Rattle.wesl_tree_names.specs.declared.errors.Error as error
+use Rattle.wesl_tree_names.specs.declared.errors.Diagnostic.{Diagnostic}
+use Rattle.wesl_tree_syntax.specs.Unit.{UnitView}
+use Rattle.wesl_validate_builtins.specs.Builtins.{BuiltinNames}
+use Rattle.wesl_link_engine.specs.Worlds.{Module}
+use Rattle.wesl_program_bundle.specs.Builtins as said
+use Rattle.wesl_program_bundle.specs.Bundle.{Bundle}
 use Rattle.wesl_program.specs.Linking.{LinksTo, IsLinkRefused}
-use Rattle.wesl_valid.specs.Valid.{IsValidWgsl}
-use Rattle.wesl_valid.specs.Faults.{RefusesWgsl}
+use Rattle.wesl_validate_rules.specs.Valid.{IsValidWgsl}
+use Rattle.wesl_validate_rules.specs.Faults.{RefusesWgsl}
 
 -- the names that a bundle calls built in, as validation takes them
 abbrev pub built_in : said.Builtins → BuiltinNames

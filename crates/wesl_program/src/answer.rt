@@ -7,7 +7,7 @@ ghost use Rattle.wesl_program.specs.Line.{answer_beginning, line_of};
 
 use serde_json::Value;
 use std::alloc::{AllocError, Global};
-use wesl_printing::{print_text, print_unit};
+use wesl_json_print::{print_text, print_unit};
 use wesl_tree::TranslationUnit;
 
 /// What is answered of a linked unit.

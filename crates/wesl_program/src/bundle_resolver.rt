@@ -1,19 +1,19 @@
 //! The modules of a bundle, as a resolver: the unit at a path is read only when it is asked for.
 ghost use Rattle.std.specs.Prelude.{◌≡◌, ◌⊎◌, None, IfOk, IfErr};
-ghost use Rattle.wesl_names.specs.declared.errors.Error as error;
-ghost use Rattle.wesl_names.specs.Path.{path_view};
-ghost use Rattle.wesl_names.specs.Errors.{IsModuleNotFound, IsRefusedWith, OrMemory};
-ghost use Rattle.wesl_form.specs.View.{borrowed_view};
-ghost use Rattle.wesl_syntax.specs.Unit.{spelled};
+ghost use Rattle.wesl_tree_names.specs.declared.errors.Error as error;
+ghost use Rattle.wesl_tree_names.specs.Path.{path_view};
+ghost use Rattle.wesl_tree_names.specs.Errors.{IsModuleNotFound, IsRefusedWith, OrMemory};
+ghost use Rattle.wesl_json_form.specs.View.{borrowed_view};
+ghost use Rattle.wesl_tree_syntax.specs.Unit.{spelled};
 ghost use Rattle.wesl_tree.specs.Translation.{unit_view};
 ghost use Rattle.wesl_json.specs.UnitTexts.{IsSpelled, IsTreeFault};
 ghost use Rattle.wesl_program.specs.Hands.{IsHandedAt, IsRefusedAt, unit_in, virtual_module};
 
 use crate::modules::BundleUnits;
 use std::alloc::Global;
-use wesl_form::BorrowedValue;
 use wesl_json::unit_of_borrowed;
-use wesl_resolver::{Resolver, refused};
+use wesl_json_form::BorrowedValue;
+use wesl_resolve_base::{Resolver, refused};
 use wesl_tree::{Error, ModulePath, ResolveError, TranslationUnit};
 
 /// The modules of a bundle, each read when it is asked for. They are virtual: a module of a bundle has no source.
@@ -23,7 +23,7 @@ pub(crate) struct BundleResolver<'t> {
 }
 
 impl Resolver for BundleResolver<'_> {
-    ghost use Rattle.wesl_names.specs.Errors.{IsModuleNotFound};
+    ghost use Rattle.wesl_tree_names.specs.Errors.{IsModuleNotFound};
     ghost use Rattle.wesl_program.specs.Hands.{IsHandedAt, IsRefusedAt, unit_in, virtual_module};
 
     ghost ready = { λ _. Unit {0} };
@@ -100,5 +100,5 @@ fn read_unit(
 fn not_found(alloc: Global, path: &ModulePath) -> ResolveError
     ensures { OrMemory (IsModuleNotFound (path_view path.now) virtual_module) result }
 {
-    wesl_resolver::not_found(alloc, path, "virtual module")
+    wesl_resolve_base::not_found(alloc, path, "virtual module")
 }

@@ -1,16 +1,16 @@
 //! The bytes of a bundle, read.
 ghost use Rattle.std.specs.Prelude.{◌≡◌, false, IfOk, IfErr};
-ghost use Rattle.wesl_names.specs.Path.{path_view, is_relative};
-ghost use Rattle.wesl_form.specs.View.{borrowed_view};
-ghost use Rattle.wesl_bundle.specs.Views.{bundle_view};
+ghost use Rattle.wesl_tree_names.specs.Path.{path_view, is_relative};
+ghost use Rattle.wesl_json_form.specs.View.{borrowed_view};
+ghost use Rattle.wesl_program_bundle.specs.Views.{bundle_view};
 ghost use Rattle.wesl_program.specs.Line.{IsBundleOf, IsJsonOf, IsRefusal};
 
 use json::Scratch;
 use std::alloc::Global;
 use std::str::from_utf8;
-use wesl_bundle::{Bundle, read_bundle};
-use wesl_form::BorrowedValue;
 use wesl_json::borrowed_of_text;
+use wesl_json_form::BorrowedValue;
+use wesl_program_bundle::{Bundle, read_bundle};
 use wesl_tree::Error;
 
 /// The bundle that the bytes are. Its texts stand in the bytes, or, where they have escapes, in the scratch. The value of

@@ -3,7 +3,7 @@
 ghost use Rattle.std.specs.Prelude.{◌≡◌, ◌∷◌, [], IfOk, map, option_map, string_bytes, codes, decimal};
 ghost use Rattle.serde_json.specs.Data.{array, string, member, no_members, put};
 ghost use Rattle.serde_json.specs.View.{view, items_view, members_view};
-ghost use Rattle.wesl_form.specs.Writing.{span_value};
+ghost use Rattle.wesl_json_form.specs.Writing.{span_value};
 ghost use Rattle.wesl_program.specs.Fault.{fault, fault_of, fault_of_condition, fault_of_import, fault_of_resolver, fault_of_validation, path_text};
 ghost use Rattle.wesl_program.specs.Line.{fault_members, line_of, texts_value, told_value, with_home, with_span};
 ghost use Rattle.wesl_program.specs.Told.{where_told};

@@ -1,6 +1,6 @@
 //! Lines: one that was made, or the one for want of memory.
 ghost use Rattle.std.specs.Prelude.{◌≡◌};
-ghost use Rattle.wesl_names.specs.declared.errors.Diagnostic.{out-Diagnostic};
+ghost use Rattle.wesl_tree_names.specs.declared.errors.Diagnostic.{out-Diagnostic};
 ghost use Rattle.wesl_program.specs.Fault.{fault_of};
 ghost use Rattle.wesl_program.specs.Line.{Tells, fault_line, memory};
 ghost use Rattle.wesl_program.specs.Made.{bytes_of};

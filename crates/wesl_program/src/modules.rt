@@ -1,13 +1,13 @@
 //! The modules of a bundle.
 ghost use Rattle.std.specs.Prelude.{◌≡◌, ◌++◌, ◌∷◌, [], List, OnOk, option_map};
-ghost use Rattle.wesl_form.specs.View.{borrowed_view};
-ghost use Rattle.wesl_names.specs.Path.{path_view};
+ghost use Rattle.wesl_json_form.specs.View.{borrowed_view};
+ghost use Rattle.wesl_tree_names.specs.Path.{path_view};
 ghost use Rattle.wesl_program.specs.Bundle.{Module};
 ghost use Rattle.wesl_program.specs.Hands.{unit_in};
 
 use indexmap::IndexMap;
 use std::alloc::{AllocError, Global};
-use wesl_form::BorrowedValue;
+use wesl_json_form::BorrowedValue;
 use wesl_tree::ModulePath;
 
 /// The value of the unit at each path, of a path that stands twice the later. No unit is read yet.

@@ -3,10 +3,10 @@ ghost use Rattle.std.specs.Prelude.{None, false};
 ghost use Rattle.wesl_program.specs.Naming.{named_by, read_by, variant_by};
 
 use std::alloc::Global;
-use wesl_bundle::Naming;
 use wesl_mangle::{EscapeMangler, Mangler, NoMangler, UnicodeMangler};
-use wesl_names::{Error, ModulePath, Names};
-use wesl_syntax::TypeExpression;
+use wesl_program_bundle::Naming;
+use wesl_tree_names::{Error, ModulePath, Names};
+use wesl_tree_syntax::TypeExpression;
 
 /// Names items as the mangler does that a bundle asks for.
 #[derive(Clone, Copy, Drop)]

@@ -1,16 +1,16 @@
 //! The packages of a bundle, their modules as texts.
 ghost use Rattle.std.specs.Prelude.{IfOk, string_bytes};
-ghost use Rattle.wesl_form.specs.View.{borrowed_view};
+ghost use Rattle.wesl_json_form.specs.View.{borrowed_view};
 ghost use Rattle.wesl_json.specs.Texts.{IsTextOf};
-ghost use Rattle.wesl_bundle.specs.PackageViews.{package_module_view, package_modules_view, package_view, packages_view};
+ghost use Rattle.wesl_program_bundle.specs.PackageViews.{package_module_view, package_modules_view, package_view, packages_view};
 ghost use Rattle.wesl_program.specs.PackageTexts.{AreModulesOf, ArePackagesOf, IsModuleOf, IsPackageOf};
 
 use std::alloc::{AllocError, Global};
-use wesl_bundle::{Package, PackageModule};
-use wesl_form::BorrowedValue;
 use wesl_json::text_of_value;
-use wesl_piece::value_of_borrowed;
-use wesl_resolver::{CodegenModule, CodegenPkg};
+use wesl_json_form::BorrowedValue;
+use wesl_json_light::value_of_borrowed;
+use wesl_program_bundle::{Package, PackageModule};
+use wesl_resolve_base::{CodegenModule, CodegenPkg};
 
 /// A package whose modules are kept as compact JSON, and read only when they are loaded.
 #[cycle(packages)]

@@ -1,7 +1,7 @@
 //! The texts of paths.
 ghost use Rattle.std.specs.Prelude.{◌≡◌, IfOk, string_bytes};
-ghost use Rattle.wesl_names.specs.Path.{path_view};
-ghost use Rattle.wesl_names.specs.PathText.{to_text};
+ghost use Rattle.wesl_tree_names.specs.Path.{path_view};
+ghost use Rattle.wesl_tree_names.specs.PathText.{to_text};
 
 use std::alloc::{AllocError, Global};
 use wesl_tree::ModulePath;

@@ -1,7 +1,7 @@
 //! Where a fault stands. Of errors that hold one another the innermost is told, in the innermost module that is known and at
 //! the innermost place that is known.
 ghost use Rattle.std.specs.Prelude.{◌≡◌, None};
-ghost use Rattle.wesl_names.specs.declared.errors.Diagnostic.{out-Diagnostic};
+ghost use Rattle.wesl_tree_names.specs.declared.errors.Diagnostic.{out-Diagnostic};
 ghost use Rattle.wesl_program.specs.Fault.{fault_of, fault_of_import, fault_of_resolver};
 ghost use Rattle.wesl_program.specs.Places.{IsPlaceOf, MayStand, nowhere};
 ghost use Rattle.wesl_program.specs.Told.{where_told};

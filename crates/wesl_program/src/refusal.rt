@@ -1,6 +1,6 @@
 //! Why there is no answer.
 ghost use Rattle.std.specs.Prelude.{◌≡◌, false};
-ghost use Rattle.wesl_names.specs.declared.errors.Diagnostic.{out-Diagnostic};
+ghost use Rattle.wesl_tree_names.specs.declared.errors.Diagnostic.{out-Diagnostic};
 
 use wesl_tree::{Diagnostic, Error};
 

@@ -1,11 +1,11 @@
 //! The texts in which the modules of packages are kept.
 ghost use Rattle.std.specs.Prelude.{◌≡◌, Some, []};
-ghost use Rattle.wesl_names.specs.declared.errors.Error as error;
-ghost use Rattle.wesl_reading.specs.Faults.{place_of};
+ghost use Rattle.wesl_tree_names.specs.declared.errors.Error as error;
+ghost use Rattle.wesl_json_read.specs.Faults.{place_of};
 
 use std::alloc::Global;
 use wesl_json::JsonText;
-use wesl_resolver::UnitText;
+use wesl_resolve_base::UnitText;
 use wesl_tree::{Diagnostic, Error, TranslationUnit};
 
 /// Units as compact JSON. A text that is no JSON is refused as a tree that breaks its form at its root: `NotJson` speaks

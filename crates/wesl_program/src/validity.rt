@@ -1,15 +1,15 @@
 //! What the built-in names of a bundle ask of its linked unit.
 ghost use Rattle.std.specs.Prelude.{IfOk, IfErr, option_map};
-ghost use Rattle.wesl_bundle.specs.Views.{builtins_view};
-ghost use Rattle.wesl_names.specs.declared.errors.Diagnostic.{out-Diagnostic};
+ghost use Rattle.wesl_program_bundle.specs.Views.{builtins_view};
+ghost use Rattle.wesl_tree_names.specs.declared.errors.Diagnostic.{out-Diagnostic};
 ghost use Rattle.wesl_program.specs.Validity.{IsValidUnder, RefusesUnit};
 ghost use Rattle.wesl_tree.specs.Translation.{unit_view};
 
 use std::alloc::Global;
-use wesl_builtins::Builtins;
-use wesl_bundle::BuiltinNames;
+use wesl_program_bundle::BuiltinNames;
 use wesl_tree::{Diagnostic, TranslationUnit};
 use wesl_validate::validate_wgsl;
+use wesl_validate_builtins::Builtins;
 
 /// Validates the unit by the built-in names, where there are such. Refused with the validator's fault, which for want of
 /// memory is `Memory`.

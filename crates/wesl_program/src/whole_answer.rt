@@ -2,10 +2,10 @@
 ghost use Rattle.std.specs.Prelude.{◌≡◌, IfOk, IfErr, string_bytes, false, true};
 ghost use Rattle.serde_json.specs.View.{view};
 ghost use Rattle.serde_json.specs.Written.{has_float};
-ghost use Rattle.wesl_bundle.specs.Views.{bundle_view};
-ghost use Rattle.wesl_form.specs.Units.{written_as};
-ghost use Rattle.wesl_names.specs.Path.{is_relative, path_view};
-ghost use Rattle.wesl_names.specs.declared.errors.Diagnostic.{out-Diagnostic};
+ghost use Rattle.wesl_program_bundle.specs.Views.{bundle_view};
+ghost use Rattle.wesl_json_form.specs.Units.{written_as};
+ghost use Rattle.wesl_tree_names.specs.Path.{is_relative, path_view};
+ghost use Rattle.wesl_tree_names.specs.declared.errors.Diagnostic.{out-Diagnostic};
 ghost use Rattle.wesl_tree.specs.Translation.{unit_view};
 ghost use Rattle.wesl_program.specs.Answers.{IsAnswerFor};
 ghost use Rattle.wesl_program.specs.Line.{AsksForPlaces, IsAnswerLine, IsAnswerOf, IsRefusal};
@@ -17,7 +17,7 @@ use crate::linking::linked;
 use crate::refusal::Refusal;
 use json::Scratch;
 use std::alloc::Global;
-use wesl_bundle::Bundle;
+use wesl_program_bundle::Bundle;
 use wesl_tree::Error;
 
 /// The answer's line of the bytes. What was read of them is dropped before the line is made. The place of a fault is told

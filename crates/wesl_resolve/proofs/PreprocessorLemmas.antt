@@ -1,16 +1,16 @@
 -- What a preprocessor means, once its resolver was asked.
 use Rattle.std.proofs.Common.{◌≡◌, ◌⊎◌, Option, Result, Err, subst, sym, ⊎_elim, inl, inr}
-use Rattle.wesl_names.specs.Path.{Text, Path}
-use Rattle.wesl_names.specs.Errors.{OrMemory, IsRefusedFor}
-use Rattle.wesl_names.specs.declared.errors.Error.{Error}
-use Rattle.wesl_names.specs.declared.errors.ResolveError as resolve_error
-use Rattle.wesl_syntax.specs.Unit.{UnitOf, spelled}
+use Rattle.wesl_tree_names.specs.Path.{Text, Path}
+use Rattle.wesl_tree_names.specs.Errors.{OrMemory, IsRefusedFor}
+use Rattle.wesl_tree_names.specs.declared.errors.Error.{Error}
+use Rattle.wesl_tree_names.specs.declared.errors.ResolveError as resolve_error
+use Rattle.wesl_tree_syntax.specs.Unit.{UnitOf, spelled}
 use Rattle.wesl_tree.specs.Translation.{unit_view}
 use Rattle.wesl_tree.specs.declared.unit.TranslationUnit.{TranslationUnit}
-use Rattle.wesl_resolver.specs.Resolver.{MeansTheSame}
+use Rattle.wesl_resolve_base.specs.Resolver.{MeansTheSame}
 use Rattle.wesl_resolve.specs.Preprocessor.{IsMade, IsMadeFault}
 use Rattle.wesl_resolve.specs.declared.preprocessor.Preprocessor.{Preprocessor}
-use Rattle.wesl_resolver.proofs.ResultLemmas.{either-iff}
+use Rattle.wesl_resolve_base.proofs.ResultLemmas.{either-iff}
 
 pub IsRefusedFor-to : (P Q : Error → Type 0) → ((e : Error) → P e → Q e) → (e : resolve_error.ResolveError) → IsRefusedFor P e → IsRefusedFor Q e
 IsRefusedFor-to P Q f (resolve_error.FileNotFound a b) h = h

@@ -2,9 +2,9 @@
 use Rattle.std.proofs.Common.{◌≡◌, ◌≤◌, ◌<◌, ◌+◌, ◌⊎◌, ℕ, zero, suc, set, List, [], ◌∷◌, Option, Some, None, true, false, slice_get, length, arith, subst, ap, sym, ◌∙◌, refl, ⊎_elim, inl, inr, true≢false}
 use Rattle.std.proofs.Math.Nat.{eq-or-lt_of_le}
 use Rattle.std.proofs.lemmas.Option.{same_Some, none-some, slice_get_within}
-use Rattle.wesl_names.specs.Path.{Path, path_view, starts_with}
-use Rattle.wesl_names.specs.declared.path.ModulePath.{ModulePath}
-use Rattle.wesl_resolver.specs.Suffixes.{suffix}
+use Rattle.wesl_tree_names.specs.Path.{Path, path_view, starts_with}
+use Rattle.wesl_tree_names.specs.declared.path.ModulePath.{ModulePath}
+use Rattle.wesl_resolve_base.specs.Suffixes.{suffix}
 use Rattle.wesl_resolve.specs.Router.{prefix_length, Takes, TakenByNone, IsRoute, Routed}
 
 below_le : (k n : ℕ) → k < n + 1 → k ≤ n

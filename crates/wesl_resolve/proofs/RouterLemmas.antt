@@ -3,18 +3,18 @@ use Rattle.std.proofs.Common.{◌≡◌, ◌≤◌, ◌⊎◌, ◌↔◌, ℕ, z
 use Rattle.std.proofs.Math.Seq.{map-set_same}
 use Rattle.std.proofs.lemmas.Option.{get_or_from_slice_get, none-some, same_Some}
 use Rattle.std.specs.Str.{bytes_eq}
-use Rattle.wesl_names.specs.Path.{Text, Path, path_view, starts_with, same_origin, components_begin}
-use Rattle.wesl_names.specs.declared.path.ModulePath.{ModulePath}
+use Rattle.wesl_tree_names.specs.Path.{Text, Path, path_view, starts_with, same_origin, components_begin}
+use Rattle.wesl_tree_names.specs.declared.path.ModulePath.{ModulePath}
 use Rattle.wesl_resolve.specs.Router.{prefix_length, Takes, TakenByNone, Routed, NoRoute, AllReady, LeavesOthers}
 use Rattle.wesl_resolve.proofs.RouteLemmas.{Holds-set, Holds-before, Routed-held, TakenByNone-held, set-cases, set-others}
 use Rattle.std.specs.Vec.{with_item}
-use Rattle.wesl_syntax.specs.Unit.{UnitOf}
-use Rattle.wesl_names.specs.declared.errors.ResolveError.{ResolveError}
-use Rattle.wesl_resolver.specs.Resolver.{MeansTheSame}
-use Rattle.wesl_resolver.specs.Suffixes.{suffix}
+use Rattle.wesl_tree_syntax.specs.Unit.{UnitOf}
+use Rattle.wesl_tree_names.specs.declared.errors.ResolveError.{ResolveError}
+use Rattle.wesl_resolve_base.specs.Resolver.{MeansTheSame}
+use Rattle.wesl_resolve_base.specs.Suffixes.{suffix}
 use Rattle.wesl_resolve.specs.RouterMeaning.{RouterMeans}
 use Rattle.wesl_resolve.specs.declared.router.Router.{Router}
-use Rattle.wesl_resolver.proofs.ResultLemmas.{both-iff, either-iff}
+use Rattle.wesl_resolve_base.proofs.ResultLemmas.{both-iff, either-iff}
 
 and-right : (a b : Bool) → (a && b) ≡ true → b ≡ true
 and-right true b h = h

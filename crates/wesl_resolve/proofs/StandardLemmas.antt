@@ -1,20 +1,20 @@
 -- What a standard resolver means, once its packages or its other resolver were asked.
 use Rattle.std.proofs.Common.{◌≡◌, ◌↔◌, Option, Result, IfOk, IfErr, String, subst, sym, refl}
 use Rattle.std.specs.declared.alloc.Global.{Global}
-use Rattle.wesl_names.specs.Path.{Text, Path, Origin, absolute, relative, from_package, origin_view, path_view}
-use Rattle.wesl_names.specs.Errors.{OrMemory}
-use Rattle.wesl_names.specs.declared.path.ModulePath.{ModulePath}
-use Rattle.wesl_names.specs.declared.path.PathOrigin.{PathOrigin}
-use Rattle.wesl_names.specs.declared.path.PathOrigin.TheVariants.{Absolute, Relative, Package}
-use Rattle.wesl_names.specs.declared.errors.Error.{Error}
-use Rattle.wesl_names.specs.declared.errors.ResolveError.{ResolveError}
-use Rattle.wesl_syntax.specs.Unit.{UnitOf}
+use Rattle.wesl_tree_names.specs.Path.{Text, Path, Origin, absolute, relative, from_package, origin_view, path_view}
+use Rattle.wesl_tree_names.specs.Errors.{OrMemory}
+use Rattle.wesl_tree_names.specs.declared.path.ModulePath.{ModulePath}
+use Rattle.wesl_tree_names.specs.declared.path.PathOrigin.{PathOrigin}
+use Rattle.wesl_tree_names.specs.declared.path.PathOrigin.TheVariants.{Absolute, Relative, Package}
+use Rattle.wesl_tree_names.specs.declared.errors.Error.{Error}
+use Rattle.wesl_tree_names.specs.declared.errors.ResolveError.{ResolveError}
+use Rattle.wesl_tree_syntax.specs.Unit.{UnitOf}
 use Rattle.wesl_resolve.specs.ByOrigin.{AtOrigin, ByOrigin}
-use Rattle.wesl_resolver.specs.Resolver.{MeansTheSame}
+use Rattle.wesl_resolve_base.specs.Resolver.{MeansTheSame}
 use Rattle.wesl_resolve.specs.StandardMeaning.{StandardMeans}
 use Rattle.wesl_resolve.specs.declared.pkg_resolver.PkgResolver.{PkgResolver}
 use Rattle.wesl_resolve.specs.declared.standard.StandardResolver.{StandardResolver}
-use Rattle.wesl_resolver.proofs.ResultLemmas.{IfOk-to, refused-to}
+use Rattle.wesl_resolve_base.proofs.ResultLemmas.{IfOk-to, refused-to}
 
 module _ {R P : Type 0} (hands : StandardResolver R P → Path → UnitOf Text → Type 0) (refuses : StandardResolver R P → Path → ResolveError → Type 0)
     (source : StandardResolver R P → Path → Text → Type 0) (lacks : StandardResolver R P → Path → ResolveError → Type 0) (shown : StandardResolver R P → Path → Option Text → Type 0) where

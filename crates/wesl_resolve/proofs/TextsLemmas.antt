@@ -5,11 +5,11 @@ use Rattle.std.specs.Map.{lookup}
 use Rattle.std.specs.Map.Iter.{deref_pair}
 use Rattle.std.proofs.lemmas.List.{map-append}
 use Rattle.indexmap.specs.IndexMap.{insert_entry}
-use Rattle.wesl_names.specs.Path.{Text, Path, path_view}
-use Rattle.wesl_names.specs.PathLaws.{path_eq}
-use Rattle.wesl_names.specs.PathOrder.{same_path}
-use Rattle.wesl_names.specs.declared.path.ModulePath.{ModulePath}
-use Rattle.wesl_names.proofs.Order.{path_eq-view, same_path-decides}
+use Rattle.wesl_tree_names.specs.Path.{Text, Path, path_view}
+use Rattle.wesl_tree_names.specs.PathLaws.{path_eq}
+use Rattle.wesl_tree_names.specs.PathOrder.{same_path}
+use Rattle.wesl_tree_names.specs.declared.path.ModulePath.{ModulePath}
+use Rattle.wesl_tree_names.proofs.Order.{path_eq-view, same_path-decides}
 use Rattle.wesl_resolve.specs.Texts.{texts_of, text_at, put, IsLast}
 
 chosen : (b : Bool) (text : String Global) (others : Option (String Global)) (o : Option Text) → o ≡ option_map string_bytes others

@@ -1,5 +1,5 @@
 -- Paths into packages, and all others.
-use Rattle.wesl_names.specs.Path.{Path, Origin, absolute, relative, from_package}
+use Rattle.wesl_tree_names.specs.Path.{Path, Origin, absolute, relative, from_package}
 
 abbrev pub AtOrigin : Origin → Type 0 → Type 0 → Type 0
 AtOrigin (from_package name) P Q = P

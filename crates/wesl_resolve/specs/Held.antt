@@ -1,9 +1,9 @@
 -- What resolvers hold.
 use Rattle.std.specs.Prelude.{List, Option}
-use Rattle.wesl_names.specs.Path.{Text, Path}
-use Rattle.wesl_names.specs.declared.path.ModulePath.{ModulePath}
+use Rattle.wesl_tree_names.specs.Path.{Text, Path}
+use Rattle.wesl_tree_names.specs.declared.path.ModulePath.{ModulePath}
 use Rattle.wesl_resolve.specs.Texts.{texts_of}
-use Rattle.wesl_resolver.specs.declared.packages.CodegenPkg.{CodegenPkg}
+use Rattle.wesl_resolve_base.specs.declared.packages.CodegenPkg.{CodegenPkg}
 use Rattle.wesl_resolve.specs.declared.pkg_resolver.PkgResolver.{PkgResolver}
 use Rattle.wesl_resolve.specs.declared.router.Router.{Router}
 use Rattle.wesl_resolve.specs.declared.standard.StandardResolver.{StandardResolver}

@@ -1,8 +1,8 @@
 -- Which mount of a router a path goes to, and what is asked of it there.
 use Rattle.std.specs.Prelude.{◌≡◌, ◌≤◌, ℕ, List, map, Option, Some, None, true, false, IsSomeAnd, IfSome, ◌⊎◌, length, slice_get}
-use Rattle.wesl_names.specs.Path.{Path, path_view, starts_with}
-use Rattle.wesl_names.specs.declared.path.ModulePath.{ModulePath}
-use Rattle.wesl_resolver.specs.Suffixes.{suffix}
+use Rattle.wesl_tree_names.specs.Path.{Path, path_view, starts_with}
+use Rattle.wesl_tree_names.specs.declared.path.ModulePath.{ModulePath}
+use Rattle.wesl_resolve_base.specs.Suffixes.{suffix}
 
 -- the number of components in the prefix of a mount
 abbrev pub prefix_length : {B : Type 0} → ModulePath × B → ℕ

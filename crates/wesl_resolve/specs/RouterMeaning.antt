@@ -1,11 +1,11 @@
 -- What a router means, by what the resolvers that it holds mean.
 use Rattle.std.specs.Prelude.{◌≡◌, ◌⊎◌, Option, None, codes}
-use Rattle.wesl_names.specs.Path.{Text, Path}
-use Rattle.wesl_names.specs.Errors.{IsModuleNotFound}
-use Rattle.wesl_names.specs.declared.errors.ResolveError.{ResolveError}
-use Rattle.wesl_syntax.specs.Unit.{UnitOf}
+use Rattle.wesl_tree_names.specs.Path.{Text, Path}
+use Rattle.wesl_tree_names.specs.Errors.{IsModuleNotFound}
+use Rattle.wesl_tree_names.specs.declared.errors.ResolveError.{ResolveError}
+use Rattle.wesl_tree_syntax.specs.Unit.{UnitOf}
 use Rattle.wesl_resolve.specs.Held.{mounts_of, fallback_of}
-use Rattle.wesl_resolver.specs.Resolver.{MeansTheSame}
+use Rattle.wesl_resolve_base.specs.Resolver.{MeansTheSame}
 use Rattle.wesl_resolve.specs.Router.{LeavesOthers, Routed, NoRoute}
 use Rattle.wesl_resolve.specs.declared.router.Router.{Router}
 

@@ -1,15 +1,15 @@
 -- What a standard resolver means: a path that begins in a named package is the packages', and every other the local
 -- resolver's.
 use Rattle.std.specs.Prelude.{◌≡◌, List, Option, None}
-use Rattle.wesl_names.specs.Path.{Text, Path}
-use Rattle.wesl_names.specs.declared.errors.Error.{Error}
-use Rattle.wesl_names.specs.declared.errors.ResolveError.{ResolveError}
-use Rattle.wesl_syntax.specs.Unit.{UnitOf}
+use Rattle.wesl_tree_names.specs.Path.{Text, Path}
+use Rattle.wesl_tree_names.specs.declared.errors.Error.{Error}
+use Rattle.wesl_tree_names.specs.declared.errors.ResolveError.{ResolveError}
+use Rattle.wesl_tree_syntax.specs.Unit.{UnitOf}
 use Rattle.wesl_resolve.specs.ByOrigin.{ByOrigin}
 use Rattle.wesl_resolve.specs.Held.{packages_of, package_reader_of, package_resolver_of, local_of}
-use Rattle.wesl_resolver.specs.Packages.{IsMissingIn, IsReadIn, IsRefusedIn, IsSourceIn}
-use Rattle.wesl_resolver.specs.Resolver.{MeansTheSame}
-use Rattle.wesl_resolver.specs.declared.packages.CodegenPkg.{CodegenPkg}
+use Rattle.wesl_resolve_base.specs.Packages.{IsMissingIn, IsReadIn, IsRefusedIn, IsSourceIn}
+use Rattle.wesl_resolve_base.specs.Resolver.{MeansTheSame}
+use Rattle.wesl_resolve_base.specs.declared.packages.CodegenPkg.{CodegenPkg}
 use Rattle.wesl_resolve.specs.declared.standard.StandardResolver.{StandardResolver}
 
 module _ {R P : Type 0} where

@@ -1,13 +1,13 @@
 -- Texts that are kept by paths.
 use Rattle.std.specs.Prelude.{◌≡◌, ◌⊎◌, if◌then◌else◌, Option, Some, None, List, [], ◌∷◌, map, codes, String, string_bytes}
 use Rattle.std.specs.declared.alloc.Global.{Global}
-use Rattle.wesl_names.specs.Path.{Text, Path, path_view}
-use Rattle.wesl_names.specs.PathOrder.{same_path}
-use Rattle.wesl_names.specs.Errors.{IsModuleNotFound, IsRefusedFor}
-use Rattle.wesl_names.specs.declared.path.ModulePath.{ModulePath}
-use Rattle.wesl_names.specs.declared.errors.Error.{Error}
-use Rattle.wesl_names.specs.declared.errors.ResolveError.{ResolveError}
-use Rattle.wesl_syntax.specs.Unit.{UnitOf}
+use Rattle.wesl_tree_names.specs.Path.{Text, Path, path_view}
+use Rattle.wesl_tree_names.specs.PathOrder.{same_path}
+use Rattle.wesl_tree_names.specs.Errors.{IsModuleNotFound, IsRefusedFor}
+use Rattle.wesl_tree_names.specs.declared.path.ModulePath.{ModulePath}
+use Rattle.wesl_tree_names.specs.declared.errors.Error.{Error}
+use Rattle.wesl_tree_names.specs.declared.errors.ResolveError.{ResolveError}
+use Rattle.wesl_tree_syntax.specs.Unit.{UnitOf}
 
 -- what the entries of a map say
 abbrev pub texts_of : List (ModulePath × String Global) → List (Path × Text)

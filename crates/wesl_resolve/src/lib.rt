@@ -12,4 +12,4 @@ pub use preprocessor::Preprocessor;
 pub use router::Router;
 pub use standard::StandardResolver;
 pub use virtual_resolver::VirtualResolver;
-pub use wesl_resolver::{CodegenModule, CodegenPkg, NoResolver, Resolver, UnitText};
+pub use wesl_resolve_base::{CodegenModule, CodegenPkg, NoResolver, Resolver, UnitText};

@@ -1,16 +1,16 @@
 //! Modules of packages.
 ghost use Rattle.std.specs.Prelude.{◌≡◌, ◌++◌, ◌∷◌, [], None, IfOk, IfErr, OnOk, OnErr, string_bytes};
-ghost use Rattle.wesl_names.specs.Path.{path_view};
-ghost use Rattle.wesl_names.specs.Errors.{OrMemory};
-ghost use Rattle.wesl_names.specs.declared.errors.Error as error;
-ghost use Rattle.wesl_syntax.specs.Unit.{spelled};
+ghost use Rattle.wesl_tree_names.specs.Path.{path_view};
+ghost use Rattle.wesl_tree_names.specs.Errors.{OrMemory};
+ghost use Rattle.wesl_tree_names.specs.declared.errors.Error as error;
+ghost use Rattle.wesl_tree_syntax.specs.Unit.{spelled};
 ghost use Rattle.wesl_tree.specs.Translation.{unit_view};
-ghost use Rattle.wesl_resolver.specs.Packages.{IsMissingIn, IsReadIn, IsRefusedIn, IsSourceIn};
+ghost use Rattle.wesl_resolve_base.specs.Packages.{IsMissingIn, IsReadIn, IsRefusedIn, IsSourceIn};
 
 use std::alloc::Global;
-use wesl_names::{Error, ModulePath, ResolveError};
-use wesl_resolver::{CodegenPkg, Resolver, UnitText, copied, module_at, read_module};
+use wesl_resolve_base::{CodegenPkg, Resolver, UnitText, copied, module_at, read_module};
 use wesl_tree::TranslationUnit;
+use wesl_tree_names::{Error, ModulePath, ResolveError};
 
 /// Hands out the modules of packages, each read from its source when it is asked for.
 ///
@@ -60,7 +60,7 @@ impl<P> PkgResolver<P> {
 }
 
 impl<P: UnitText> Resolver for PkgResolver<P> {
-    ghost use Rattle.wesl_resolver.specs.Packages.{IsMissingIn, IsReadIn, IsRefusedIn, IsSourceIn};
+    ghost use Rattle.wesl_resolve_base.specs.Packages.{IsMissingIn, IsReadIn, IsRefusedIn, IsSourceIn};
     ghost use Rattle.wesl_resolve.specs.Held.{packages_of, package_reader_of};
 
     ghost ready = { λ _. Unit {0} };

@@ -4,9 +4,9 @@ ghost use Rattle.wesl_tree.specs.declared.unit.TranslationUnit.{TranslationUnit}
 ghost use Rattle.wesl_resolve.specs.Preprocessor.{IsMade, IsMadeFault};
 
 use std::alloc::Global;
-use wesl_names::{Error, ModulePath, ResolveError};
-use wesl_resolver::{Resolver, refused_by};
+use wesl_resolve_base::{Resolver, refused_by};
 use wesl_tree::TranslationUnit;
+use wesl_tree_names::{Error, ModulePath, ResolveError};
 
 /// Hands out what a function makes of the units of another resolver.
 ///

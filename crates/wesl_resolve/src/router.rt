@@ -1,16 +1,16 @@
 //! A resolver that sends each path to one of several others.
 ghost use Rattle.std.specs.Prelude.{◌≡◌, ◌++◌, ◌∷◌, [], false, OnOk, OnErr, IfOk, IfErr, Some, None, string_bytes};
-ghost use Rattle.wesl_names.specs.Path.{path_view, is_relative};
-ghost use Rattle.wesl_names.specs.Errors.{OrMemory};
-ghost use Rattle.wesl_names.specs.declared.errors.Error as error;
-ghost use Rattle.wesl_syntax.specs.Unit.{spelled};
+ghost use Rattle.wesl_tree_names.specs.Path.{path_view, is_relative};
+ghost use Rattle.wesl_tree_names.specs.Errors.{OrMemory};
+ghost use Rattle.wesl_tree_names.specs.declared.errors.Error as error;
+ghost use Rattle.wesl_tree_syntax.specs.Unit.{spelled};
 ghost use Rattle.wesl_tree.specs.Translation.{unit_view};
 ghost use Rattle.wesl_resolve.specs.Router.{IsRoute, AllReady};
 
 use std::alloc::Global;
-use wesl_names::{Error, ModulePath, ResolveError};
-use wesl_resolver::{Resolver, depth, module_after, name_after, not_found, source_after};
+use wesl_resolve_base::{Resolver, depth, module_after, name_after, not_found, source_after};
 use wesl_tree::TranslationUnit;
+use wesl_tree_names::{Error, ModulePath, ResolveError};
 
 /// The place of the mount that takes the path.
 fn route<B>(mounts: &[(ModulePath, B)], path: &ModulePath) -> Option<usize>

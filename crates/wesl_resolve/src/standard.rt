@@ -1,18 +1,18 @@
 //! The resolver of a program: packages, and a resolver for all else.
 ghost use Rattle.std.specs.Prelude.{◌≡◌, ◌++◌, ◌∷◌, [], false, IfOk, IfErr, OnOk, OnErr, string_bytes};
-ghost use Rattle.wesl_names.specs.Path.{path_view, is_relative};
-ghost use Rattle.wesl_names.specs.Errors.{OrMemory};
-ghost use Rattle.wesl_names.specs.declared.errors.Error as error;
-ghost use Rattle.wesl_syntax.specs.Unit.{spelled};
+ghost use Rattle.wesl_tree_names.specs.Path.{path_view, is_relative};
+ghost use Rattle.wesl_tree_names.specs.Errors.{OrMemory};
+ghost use Rattle.wesl_tree_names.specs.declared.errors.Error as error;
+ghost use Rattle.wesl_tree_syntax.specs.Unit.{spelled};
 ghost use Rattle.wesl_tree.specs.Translation.{unit_view};
 ghost use Rattle.wesl_resolve.specs.ByOrigin.{IfInPackage};
-ghost use Rattle.wesl_resolver.specs.Resolver.{MeansTheSame};
+ghost use Rattle.wesl_resolve_base.specs.Resolver.{MeansTheSame};
 
 use crate::pkg_resolver::PkgResolver;
 use std::alloc::Global;
-use wesl_names::{Error, ModulePath, PathOrigin, ResolveError};
-use wesl_resolver::{CodegenPkg, Resolver, UnitText};
+use wesl_resolve_base::{CodegenPkg, Resolver, UnitText};
 use wesl_tree::TranslationUnit;
+use wesl_tree_names::{Error, ModulePath, PathOrigin, ResolveError};
 
 /// Looks up a path that begins in a named package among packages, and every other in a resolver of the caller's.
 pub struct StandardResolver<R, P> {

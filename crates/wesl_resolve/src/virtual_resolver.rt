@@ -1,17 +1,17 @@
 //! Modules that are held in memory, as texts.
 ghost use Rattle.std.specs.Prelude.{◌≡◌, false, None, Some, [], IfOk, IfErr, OnOk, OnErr, map, option_map, string_bytes};
-ghost use Rattle.wesl_names.specs.Path.{Text, Path, path_view, is_relative};
-ghost use Rattle.wesl_names.specs.Errors.{OrMemory};
-ghost use Rattle.wesl_names.specs.declared.errors.Error as error;
-ghost use Rattle.wesl_syntax.specs.Unit.{spelled};
+ghost use Rattle.wesl_tree_names.specs.Path.{Text, Path, path_view, is_relative};
+ghost use Rattle.wesl_tree_names.specs.Errors.{OrMemory};
+ghost use Rattle.wesl_tree_names.specs.declared.errors.Error as error;
+ghost use Rattle.wesl_tree_syntax.specs.Unit.{spelled};
 ghost use Rattle.wesl_tree.specs.Translation.{unit_view};
 ghost use Rattle.wesl_resolve.specs.Texts.{texts_of, text_at, put, IsLast, IsMissing, IsReadAt, IsRefusedAt};
 
 use indexmap::IndexMap;
 use std::alloc::Global;
-use wesl_names::{Error, ModulePath, ResolveError};
-use wesl_resolver::{Resolver, UnitText, copied, not_found, read_module};
+use wesl_resolve_base::{Resolver, UnitText, copied, not_found, read_module};
 use wesl_tree::TranslationUnit;
+use wesl_tree_names::{Error, ModulePath, ResolveError};
 
 /// Puts a text at a path, in the place of the one that is there.
 fn put(

@@ -1,6 +1,6 @@
 //! Types and address spaces whose names are built in.
 use wesl::{AddressSpace, VecSize};
-use wesl_row::Row;
+use wesl_rows_base::Row;
 
 /// The size of the number at a key.
 pub fn size(row: Row<'_>, key: &str) -> VecSize {

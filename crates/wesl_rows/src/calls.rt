@@ -8,7 +8,7 @@ use wesl::{
     BasicSourceMap, BuiltinIdent, BuiltinType, Builtins, Feature, Features, ModulePath,
     NoSourceMap, PathOrigin, flag_count,
 };
-use wesl_row::Row;
+use wesl_rows_base::Row;
 
 /// What the call of a row answers. Here are those of the program, of the caller of the linker and of built-in names.
 pub fn answered(row: Row<'_>) -> Value {

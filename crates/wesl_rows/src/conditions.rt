@@ -5,7 +5,7 @@ use wesl::condcomp::run;
 use wesl::{
     Feature, Features, GlobalDeclaration, TranslationUnit, alive_together, eval_attr, flag_count,
 };
-use wesl_row::{Row, fault, is_refused};
+use wesl_rows_base::{Row, fault, is_refused};
 
 /// What a run under the `features`, and then `next` if they are there, leaves of the unit of the `tree`, or the fault
 /// that it tells, which is to leave the unit as it was.

@@ -1,7 +1,7 @@
 //! Features: answers by the names of flags.
 use serde_json::Value;
 use wesl::{Feature, Features};
-use wesl_row::{List, Row, is_refused, text_of};
+use wesl_rows_base::{List, Row, is_refused, text_of};
 
 /// The answer that a word names.
 fn feature(word: &Value) -> Feature {

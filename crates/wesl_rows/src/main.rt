@@ -1,5 +1,5 @@
-//! Rows as data: of whole bundles, conditions, paths, source maps and built-in names, and those of `wesl_link_rows` and
-//! `wesl_tree_rows`. Each line of standard input is a JSON object that names a row and a public call, and holds the call's
+//! Rows as data: of whole bundles, conditions, paths, source maps and built-in names, and those of `wesl_rows_link` and
+//! `wesl_rows_tree`. Each line of standard input is a JSON object that names a row and a public call, and holds the call's
 //! inputs; the line that is written for it holds what the call answers. The last line is their count.
 #![tactic(auto)]
 
@@ -16,7 +16,7 @@ use serde_json::Value;
 use std::alloc::Global;
 use std::cell::Cell;
 use std::io::{BufRead, BufReader};
-use wesl_row::{Row, line};
+use wesl_rows_base::{Row, line};
 
 /// The line that is written for the text of a row, by the crate that its key `of` names, or else by this one.
 fn line_of(alloc: Global, text: &str) -> Result<String, anyhow::Error> {
@@ -24,9 +24,9 @@ fn line_of(alloc: Global, text: &str) -> Result<String, anyhow::Error> {
     let note = Cell::new("");
     let row = Row::new(alloc, &value, &note);
     match row.text("of") {
-        "trees" => wesl_tree_rows::line_of(alloc, text),
-        "links" => wesl_link_rows::line_of(alloc, text),
-        "faults" => wesl_faults::line_of(alloc, text),
+        "trees" => wesl_rows_tree::line_of(alloc, text),
+        "links" => wesl_rows_link::line_of(alloc, text),
+        "faults" => wesl_rows_faults::line_of(alloc, text),
         _ => line(row, calls::answered(row)),
     }
 }

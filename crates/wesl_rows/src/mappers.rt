@@ -1,6 +1,6 @@
 //! Mappers: the names that they give as manglers, the modules that they pass on as resolvers, and the record of both.
 ghost use Rattle.std.specs.Prelude.{◌≡◌, false};
-ghost use Rattle.wesl_names.specs.Path.{path_view, is_relative};
+ghost use Rattle.wesl_tree_names.specs.Path.{path_view, is_relative};
 
 use crate::features::listed;
 use crate::maps;
@@ -10,7 +10,7 @@ use wesl::{
     BasicSourceMap, EscapeMangler, Feature, Features, Mangler, ModulePath, Names, NoMangler,
     NoResolver, Preprocessor, ResolveError, Resolver, SourceMap, SourceMapper, TranslationUnit,
 };
-use wesl_row::{Row, is_refused, item_value, refused};
+use wesl_rows_base::{Row, is_refused, item_value, refused};
 
 /// The name that a mangler gives to the item of a row.
 fn named<M: Mangler>(row: Row<'_>, mangler: &mut M) -> Value {

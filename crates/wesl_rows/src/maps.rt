@@ -1,7 +1,7 @@
 //! Source maps: what is recorded, what is looked up, and what a map knows after a record that was refused.
 use serde_json::Value;
 use wesl::{BasicSourceMap, SourceMap};
-use wesl_row::{List, Object, Row, found_value, is_refused, stands, text_of};
+use wesl_rows_base::{List, Object, Row, found_value, is_refused, stands, text_of};
 
 /// Records an entry: a module's source, with the name by which it is shown, where it has one, else the item of a name.
 /// Answers whether that was refused, as it is for want of memory.

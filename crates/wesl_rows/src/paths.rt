@@ -1,7 +1,7 @@
 //! Paths of modules, and tables of names.
 use serde_json::Value;
 use wesl::{Ident, ModulePath, Names, PathOrigin};
-use wesl_row::{List, Object, Row, names_value, text_of};
+use wesl_rows_base::{List, Object, Row, names_value, text_of};
 
 /// Where a path begins: at the root, so many modules up, or in a package.
 fn origin(row: Row<'_>, origin: &PathOrigin) -> Value {

@@ -1,7 +1,7 @@
 //! The program as one call: bundles and their lines.
 use serde_json::Value;
 use wesl::{Outcome, run};
-use wesl_row::Row;
+use wesl_rows_base::Row;
 
 /// What comes of a run over these bytes, which adds to what is `written`.
 fn outcome(row: Row<'_>, bundle: &[u8], written: &mut Vec<u8>) -> Outcome {

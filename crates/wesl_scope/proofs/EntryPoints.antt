@@ -1,11 +1,11 @@
 -- Entry points, one declaration after the other.
 use Rattle.std.proofs.Common.{◌≡◌, ℕ, ◌+◌, ◌<◌, Bool, ◌||◌, List, [], ◌∷◌, ◌++◌, length, get_or, map, drop, refl, sym, ap, ◌∙◌, add-one, drop-cons}
 use Rattle.std.proofs.lemmas.List.{append_assoc}
-use Rattle.wesl_syntax.specs.Tree.{forest_of, attribute_node, declaration_node}
-use Rattle.wesl_syntax.specs.View.{attribute_view, global_view, placed}
-use Rattle.wesl_syntax.specs.declared.span.Spanned.{Spanned}
-use Rattle.wesl_syntax.specs.declared.attribute.Attribute.{Attribute}
-use Rattle.wesl_syntax.specs.declared.declaration.GlobalDeclaration.{GlobalDeclaration}
+use Rattle.wesl_tree_syntax.specs.Tree.{forest_of, attribute_node, declaration_node}
+use Rattle.wesl_tree_syntax.specs.View.{attribute_view, global_view, placed}
+use Rattle.wesl_tree_syntax.specs.declared.span.Spanned.{Spanned}
+use Rattle.wesl_tree_syntax.specs.declared.attribute.Attribute.{Attribute}
+use Rattle.wesl_tree_syntax.specs.declared.declaration.GlobalDeclaration.{GlobalDeclaration}
 use Rattle.wesl_scope.specs.EntryPoints.{is_stage, begins, one_begins, entry_points_of, entry_points_in}
 
 abbrev pub one_stage : List (Spanned Attribute) → Bool

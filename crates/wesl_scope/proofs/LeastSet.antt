@@ -2,11 +2,11 @@
 use Rattle.std.proofs.Common.{◌≡◌, ℕ, ◌<◌, Bool, true, false, List, [], length, refl, sym, ap, ◌∙◌, subst}
 use Rattle.std.specs.List.{Contains}
 use Rattle.std.proofs.lemmas.List.{ext_get_or}
-use Rattle.wesl_names.specs.Path.{Text}
-use Rattle.wesl_syntax.specs.Unit.{UnitView, name_in}
-use Rattle.wesl_kept.specs.Declarations.{count, declared_in, referred_in, IsKept, named, nameless, reached}
+use Rattle.wesl_tree_names.specs.Path.{Text}
+use Rattle.wesl_tree_syntax.specs.Unit.{UnitView, name_in}
+use Rattle.wesl_scope_strip.specs.Declarations.{count, declared_in, referred_in, IsKept, named, nameless, reached}
 use Rattle.wesl_scope.specs.Strip.{IsStripped, marked}
-use Rattle.wesl_kept.specs.Marks.{mark_at}
+use Rattle.wesl_scope_strip.specs.Marks.{mark_at}
 
 same_answer : (x y : Bool) → (x ≡ true → y ≡ true) → (y ≡ true → x ≡ true) → x ≡ y
 same_answer true y f g = sym (f refl)

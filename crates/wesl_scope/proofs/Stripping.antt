@@ -6,8 +6,8 @@ use Rattle.std.proofs.lemmas.List.{take-set-le, length-set, take_all, length-tak
 use Rattle.std.proofs.lemmas.Bool.{cases_eq}
 use Rattle.std.specs.Prelude.{Option, Some, None, MatchOption}
 use Rattle.std.specs.Option.{IsSome}
-use Rattle.wesl_syntax.specs.Tree.{Forest, Tree, end, tree, forest_of, label_below, forest_below, tree_below}
-use Rattle.wesl_syntax.specs.Unit.{UnitView, unit_below}
+use Rattle.wesl_tree_syntax.specs.Tree.{Forest, Tree, end, tree, forest_of, label_below, forest_below, tree_below}
+use Rattle.wesl_tree_syntax.specs.Unit.{UnitView, unit_below}
 use Rattle.wesl_scope.specs.Strip.{marked}
 
 -- the marked ones

@@ -1,6 +1,6 @@
 -- The entry points of a module (WGSL, "Entry Points").
 use Rattle.std.specs.Prelude.{Bool, true, false, ◌&&◌, ◌||◌, List, [], ◌∷◌, ◌++◌, if◌then◌else◌}
-use Rattle.wesl_syntax.specs.Tree.{LabelOf, ForestOf, end, tree, kind, ident, function, vertex, fragment, compute}
+use Rattle.wesl_tree_syntax.specs.Tree.{LabelOf, ForestOf, end, tree, kind, ident, function, vertex, fragment, compute}
 
 module _ {I : Type 0} where
   -- whether a label is that of @vertex, @fragment or @compute

@@ -1,9 +1,9 @@
 -- Laws of the definitions, as functions of the crate cite them.
 use Rattle.std.specs.Prelude.{◌≡◌, ℕ, ◌<◌, Bool, true, List, []}
 use Rattle.std.specs.List.{Contains}
-use Rattle.wesl_names.specs.Path.{Text}
-use Rattle.wesl_syntax.specs.Unit.{UnitView, name_in}
-use Rattle.wesl_kept.specs.Declarations.{count, declared_in, referred_in, IsKept}
+use Rattle.wesl_tree_names.specs.Path.{Text}
+use Rattle.wesl_tree_syntax.specs.Unit.{UnitView, name_in}
+use Rattle.wesl_scope_strip.specs.Declarations.{count, declared_in, referred_in, IsKept}
 use Rattle.wesl_scope.specs.Strip.{IsStripped}
 
 -- the stripped module is one

@@ -1,10 +1,10 @@
 -- A module without what nothing kept reaches.
 use Rattle.std.specs.Prelude.{◌≡◌, ℕ, ◌<◌, ◌↔◌, Bool, true, false, List, [], ◌∷◌, length}
-use Rattle.wesl_names.specs.Path.{Text}
-use Rattle.wesl_syntax.specs.Tree.{ForestOf, end, tree, trees}
-use Rattle.wesl_syntax.specs.Unit.{UnitView}
-use Rattle.wesl_kept.specs.Declarations.{IsKept}
-use Rattle.wesl_kept.specs.Marks.{mark_at}
+use Rattle.wesl_tree_names.specs.Path.{Text}
+use Rattle.wesl_tree_syntax.specs.Tree.{ForestOf, end, tree, trees}
+use Rattle.wesl_tree_syntax.specs.Unit.{UnitView}
+use Rattle.wesl_scope_strip.specs.Declarations.{IsKept}
+use Rattle.wesl_scope_strip.specs.Marks.{mark_at}
 
 module _ {I : Type 0} where
   -- those of the trees that are marked

@@ -1,11 +1,11 @@
 //! Whether names clash.
 ghost use Rattle.std.specs.Prelude.{◌≡◌, ◌↔◌, false, IfOk, IfErr};
-ghost use Rattle.wesl_names.specs.declared.errors.Error as error;
+ghost use Rattle.wesl_tree_names.specs.declared.errors.Error as error;
 ghost use Rattle.wesl_tree.specs.Translation.{unit_view};
-ghost use Rattle.wesl_faith.specs.Faithful.{IsFaithful};
+ghost use Rattle.wesl_scope_clash.specs.Faithful.{IsFaithful};
 
 use std::alloc::Global;
-use wesl_faith::{law_of_faith, readings_of};
+use wesl_scope_clash::{law_of_faith, readings_of};
 use wesl_tree::{Error, TranslationUnit};
 
 /// Whether the names of a module, read by plain scoping (WGSL, "Declaration and Scope"), mean something else than its

@@ -1,5 +1,5 @@
 //! What is asked of a module's tree and done to it by scopes: entry points, new numbers by meaning, and stripping; and whether
-//! its names, printed and read again, would mean something else than its numbers say (`wesl_faith` does the work).
+//! its names, printed and read again, would mean something else than its numbers say (`wesl_scope_clash` does the work).
 #![tactic(auto)]
 
 mod clash;

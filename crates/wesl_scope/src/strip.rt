@@ -1,13 +1,13 @@
 //! A module without what nothing kept reaches.
 ghost use Rattle.std.specs.Prelude.{◌≡◌, length, map, OnOk, IfErr};
-ghost use Rattle.wesl_names.specs.declared.errors.Error as error;
-ghost use Rattle.wesl_syntax.specs.View.{declarations_tree};
+ghost use Rattle.wesl_tree_names.specs.declared.errors.Error as error;
+ghost use Rattle.wesl_tree_syntax.specs.View.{declarations_tree};
 ghost use Rattle.wesl_scope.specs.Strip.{IsStripped, marked};
 ghost use Rattle.wesl_tree.specs.Translation.{unit_view};
 
 use std::alloc::Global;
 use std::mem;
-use wesl_kept::kept_declarations;
+use wesl_scope_strip::kept_declarations;
 use wesl_tree::{Error, GlobalDeclarationNode, TranslationUnit};
 
 /// Keeps the marked declarations, in their order. It takes no memory.

@@ -1,10 +1,10 @@
 -- What is recorded of a source, told by what the resolver meant before it was asked.
 use Rattle.std.proofs.Common.{◌↔◌, Option, inl, inr}
-use Rattle.wesl_names.specs.Path.{Text, Path}
-use Rattle.wesl_names.specs.declared.errors.ResolveError.{ResolveError}
-use Rattle.wesl_syntax.specs.Unit.{UnitOf}
-use Rattle.wesl_resolver.specs.Resolver.{MeansTheSame}
-use Rattle.wesl_map_entries.specs.Records.{Sources}
+use Rattle.wesl_tree_names.specs.Path.{Text, Path}
+use Rattle.wesl_tree_names.specs.declared.errors.ResolveError.{ResolveError}
+use Rattle.wesl_tree_syntax.specs.Unit.{UnitOf}
+use Rattle.wesl_resolve_base.specs.Resolver.{MeansTheSame}
+use Rattle.wesl_source_map_entries.specs.Records.{Sources}
 use Rattle.wesl_source_map.specs.Recording.{Records, RecordsIfGiven}
 
 then : {A B C : Type 0} → C ↔ B → B ↔ A → C ↔ A

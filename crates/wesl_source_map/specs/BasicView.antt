@@ -1,8 +1,8 @@
 -- What a basic source map knows.
 use Rattle.std.specs.Prelude.{◌≡◌, Option}
-use Rattle.wesl_names.specs.Path.{Text}
-use Rattle.wesl_map_entries.specs.Records.{Items, Sources, SameItems, SameSources}
-use Rattle.wesl_map_entries.specs.Held.{held_items, held_sources, held_default}
+use Rattle.wesl_tree_names.specs.Path.{Text}
+use Rattle.wesl_source_map_entries.specs.Records.{Items, Sources, SameItems, SameSources}
+use Rattle.wesl_source_map_entries.specs.Held.{held_items, held_sources, held_default}
 use Rattle.wesl_source_map.specs.declared.basic.BasicSourceMap.{BasicSourceMap}
 
 -- the item that a name was last given for

@@ -1,10 +1,10 @@
 -- What a resolver and a mangler that record leave in the record.
 use Rattle.std.specs.Prelude.{◌≡◌, ◌⊎◌, Option, Bool}
-use Rattle.wesl_names.specs.Path.{Text, Path}
-use Rattle.wesl_names.specs.declared.errors.ResolveError as resolve_error
-use Rattle.wesl_names.specs.declared.path.ModulePath.{ModulePath}
-use Rattle.wesl_item_forms.specs.Mangler.{written_if}
-use Rattle.wesl_map_entries.specs.Records.{Item, Items, Sources, WritesSource, SameItems, SameSources}
+use Rattle.wesl_tree_names.specs.Path.{Text, Path}
+use Rattle.wesl_tree_names.specs.declared.errors.ResolveError as resolve_error
+use Rattle.wesl_tree_names.specs.declared.path.ModulePath.{ModulePath}
+use Rattle.wesl_mangle_forms.specs.Mangler.{written_if}
+use Rattle.wesl_source_map_entries.specs.Records.{Item, Items, Sources, WritesSource, SameItems, SameSources}
 use Rattle.wesl_source_map.specs.BasicView.{items, default_text}
 use Rattle.wesl_source_map.specs.declared.basic.BasicSourceMap.{BasicSourceMap}
 

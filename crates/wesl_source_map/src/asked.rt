@@ -1,16 +1,16 @@
 //! A mapper that is asked for modules by generic code, and what it keeps meanwhile.
 ghost use Rattle.std.specs.Prelude.{◌≡◌, Option, None};
-ghost use Rattle.wesl_names.specs.Path.{Text, Path};
-ghost use Rattle.wesl_map_entries.specs.Records.{SameItems};
+ghost use Rattle.wesl_tree_names.specs.Path.{Text, Path};
+ghost use Rattle.wesl_source_map_entries.specs.Records.{SameItems};
 ghost use Rattle.wesl_source_map.specs.BasicView.{items};
 
 use crate::mapper::SourceMapper;
 use std::alloc::Global;
 use std::marker::{Brand, PhantomData};
-use wesl_item_forms::Mangler;
-use wesl_names::{ModulePath, ResolveError};
-use wesl_resolver::Resolver;
+use wesl_mangle_forms::Mangler;
+use wesl_resolve_base::Resolver;
 use wesl_tree::TranslationUnit;
+use wesl_tree_names::{ModulePath, ResolveError};
 
 /// What a mapper had recorded, and the names that its mangler gave, before it was asked. A call picks them.
 pub trait Start {

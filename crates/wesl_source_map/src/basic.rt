@@ -1,15 +1,15 @@
 //! A record of names and of modules.
 ghost use Rattle.std.specs.Prelude.{◌≡◌, [], None, Some, OnOk, OnErr, IfOk, IfErr, map, option_map, string_bytes};
-ghost use Rattle.wesl_names.specs.Path.{Text, Path, path_view};
-ghost use Rattle.wesl_names.specs.declared.errors.Error as error;
-ghost use Rattle.wesl_map_entries.specs.Records.{WritesItem, WritesSource, SameItems, SameSources};
-ghost use Rattle.wesl_map_entries.specs.Listed.{IsListing};
-ghost use Rattle.wesl_map_entries.specs.Tables.{items_in};
+ghost use Rattle.wesl_tree_names.specs.Path.{Text, Path, path_view};
+ghost use Rattle.wesl_tree_names.specs.declared.errors.Error as error;
+ghost use Rattle.wesl_source_map_entries.specs.Records.{WritesItem, WritesSource, SameItems, SameSources};
+ghost use Rattle.wesl_source_map_entries.specs.Listed.{IsListing};
+ghost use Rattle.wesl_source_map_entries.specs.Tables.{items_in};
 
 use std::alloc::{AllocError, Global};
 use std::collections::BTreeMap;
-use wesl_map_entries::{Entries, SourceMap, text_of};
-use wesl_names::{Error, ModulePath};
+use wesl_source_map_entries::{Entries, SourceMap, text_of};
+use wesl_tree_names::{Error, ModulePath};
 
 /// Remembers the item that each name was last given for, and what was last said of each module.
 ///

@@ -8,4 +8,4 @@ mod mapper;
 pub use asked::{Asked, Start};
 pub use basic::BasicSourceMap;
 pub use mapper::SourceMapper;
-pub use wesl_map_entries::{NoSourceMap, SourceMap};
+pub use wesl_source_map_entries::{NoSourceMap, SourceMap};

@@ -1,26 +1,26 @@
 //! A resolver and a mangler that record what they are asked.
 ghost use Rattle.std.specs.Prelude.{◌≡◌, ◌⊎◌, ℕ, List, false, true, None, OnOk, OnErr, IfOk, IfErr, string_bytes};
-ghost use Rattle.wesl_syntax.specs.Tree.{Tree};
-ghost use Rattle.wesl_syntax.specs.Unit.{spelled};
+ghost use Rattle.wesl_tree_syntax.specs.Tree.{Tree};
+ghost use Rattle.wesl_tree_syntax.specs.Unit.{spelled};
 ghost use Rattle.wesl_tree.specs.Translation.{unit_view};
-ghost use Rattle.wesl_names.specs.Path.{Text, Path, path_view, is_relative};
-ghost use Rattle.wesl_names.specs.Errors.{OrMemory};
-ghost use Rattle.wesl_names.specs.declared.errors.Error as error;
-ghost use Rattle.wesl_names.specs.declared.errors.ResolveError as resolve_error;
-ghost use Rattle.wesl_resolver.specs.Resolver.{MeansTheSame};
-ghost use Rattle.wesl_map_entries.specs.Records.{WritesItem, SameItems, SameSources};
-ghost use Rattle.wesl_map_entries.specs.Held.{source_or};
+ghost use Rattle.wesl_tree_names.specs.Path.{Text, Path, path_view, is_relative};
+ghost use Rattle.wesl_tree_names.specs.Errors.{OrMemory};
+ghost use Rattle.wesl_tree_names.specs.declared.errors.Error as error;
+ghost use Rattle.wesl_tree_names.specs.declared.errors.ResolveError as resolve_error;
+ghost use Rattle.wesl_resolve_base.specs.Resolver.{MeansTheSame};
+ghost use Rattle.wesl_source_map_entries.specs.Records.{WritesItem, SameItems, SameSources};
+ghost use Rattle.wesl_source_map_entries.specs.Held.{source_or};
 ghost use Rattle.wesl_source_map.specs.BasicView.{items, sources, default_text, KnowsTheSame};
 ghost use Rattle.wesl_source_map.specs.Recording.{Records, RecordsIfGiven, IsAskedAlone, HasNamed};
 
 use crate::basic::BasicSourceMap;
 use std::alloc::Global;
-use wesl_item_forms::Mangler;
-use wesl_map_entries::{as_resolved, unless_memory};
-use wesl_names::{Error, ModulePath, Names, ResolveError};
-use wesl_resolver::Resolver;
-use wesl_syntax::TypeExpression;
+use wesl_mangle_forms::Mangler;
+use wesl_resolve_base::Resolver;
+use wesl_source_map_entries::{as_resolved, unless_memory};
 use wesl_tree::TranslationUnit;
+use wesl_tree_names::{Error, ModulePath, Names, ResolveError};
+use wesl_tree_syntax::TypeExpression;
 
 /// Passes on what a resolver and a mangler answer, and records it.
 ///

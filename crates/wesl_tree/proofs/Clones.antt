@@ -3,12 +3,12 @@ use Rattle.std.proofs.Common.{◌≡◌, Bool, true, false, Option, Some, None, 
 use Rattle.std.specs.Option.{MatchOption}
 use Rattle.std.specs.Prelude.{Err, IfOk, Ok, OnOk, Result}
 use Rattle.std.proofs.lemmas.Option.{MatchOption-at_none, MatchOption-at_some}
-use Rattle.wesl_names.specs.Path.{Text}
-use Rattle.wesl_syntax.specs.Tree.{Tree}
-use Rattle.wesl_syntax.specs.Unit.{UnitView, unit_below}
-use Rattle.wesl_copies.proofs.Kept.{equal_copy, none_given}
-use Rattle.wesl_copies.specs.Copied.{Copied}
-use Rattle.wesl_copies.specs.declared.copying.Copying.{Copying}
+use Rattle.wesl_tree_names.specs.Path.{Text}
+use Rattle.wesl_tree_syntax.specs.Tree.{Tree}
+use Rattle.wesl_tree_syntax.specs.Unit.{UnitView, unit_below}
+use Rattle.wesl_tree_copies.proofs.Kept.{equal_copy, none_given}
+use Rattle.wesl_tree_copies.specs.Copied.{Copied}
+use Rattle.wesl_tree_copies.specs.declared.copying.Copying.{Copying}
 use Rattle.wesl_tree.specs.declared.unit.TranslationUnit.{TranslationUnit}
 use Rattle.wesl_tree.specs.Translation.{unit_view}
 

@@ -1,11 +1,11 @@
 -- A list of declarations without the void ones.
 use Rattle.std.proofs.Common.{◌≡◌, IsTrue, ℕ, Bool, true, false, not, cond, ◌&&◌, List, [], ◌∷◌, map, refl, if◌then◌else◌}
 use Rattle.std.specs.List.{filter}
-use Rattle.wesl_syntax.specs.Tree.{Label, Forest, Tree, forest_of, forest_below, label_below, tree, end, declaration_node}
-use Rattle.wesl_syntax.specs.Unit.{begins_void, without_voids}
-use Rattle.wesl_syntax.specs.View.{global_view, placed}
-use Rattle.wesl_syntax.specs.declared.span.Spanned.{Spanned}
-use Rattle.wesl_syntax.specs.declared.declaration.GlobalDeclaration.{GlobalDeclaration}
+use Rattle.wesl_tree_syntax.specs.Tree.{Label, Forest, Tree, forest_of, forest_below, label_below, tree, end, declaration_node}
+use Rattle.wesl_tree_syntax.specs.Unit.{begins_void, without_voids}
+use Rattle.wesl_tree_syntax.specs.View.{global_view, placed}
+use Rattle.wesl_tree_syntax.specs.declared.span.Spanned.{Spanned}
+use Rattle.wesl_tree_syntax.specs.declared.declaration.GlobalDeclaration.{GlobalDeclaration}
 
 both : (a b : Bool) → (a && b) ≡ true → (a ≡ true) × (b ≡ true)
 both true b h = (refl, h)

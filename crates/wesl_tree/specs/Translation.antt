@@ -1,5 +1,5 @@
 -- What a unit stands for.
-use Rattle.wesl_syntax.specs.Unit.{UnitView}
+use Rattle.wesl_tree_syntax.specs.Unit.{UnitView}
 use Rattle.wesl_tree.specs.Parts.{parts_view}
 use Rattle.wesl_tree.specs.declared.unit.TranslationUnit.{TranslationUnit}
 

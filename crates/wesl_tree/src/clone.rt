@@ -1,12 +1,12 @@
 //! Copies of units.
 ghost use Rattle.std.specs.Prelude.{◌≡◌, IfOk, IfErr};
-ghost use Rattle.wesl_names.specs.declared.errors.Error as error;
+ghost use Rattle.wesl_tree_names.specs.declared.errors.Error as error;
 ghost use Rattle.wesl_tree.specs.Translation.{unit_view};
 
 use crate::unit::TranslationUnit;
 use std::alloc::Global;
-use wesl_copies::{Copying, unless_refused};
-use wesl_names::Error;
+use wesl_tree_copies::{Copying, unless_refused};
+use wesl_tree_names::Error;
 
 impl TranslationUnit {
     /// A copy of the unit, which equals it, spans too. Refused for want of memory alone.

@@ -5,12 +5,12 @@ mod clone;
 mod unit;
 
 pub use unit::TranslationUnit;
-pub use wesl_names::{
+pub use wesl_tree_names::{
     CondCompError, Diagnostic, Error, Ident, ImportError, ModulePath, Names, PathOrigin,
     ResolveError, Span, ValidateError, law_of_equality as law_of_path_equality, law_of_order,
     law_of_rows, law_of_texts,
 };
-pub use wesl_syntax::{
+pub use wesl_tree_syntax::{
     AccessMode, AddressSpace, AssignmentOperator, Attribute, AttributeNode, Attributes,
     BinaryOperator, BreakIfStatement, CaseSelector, CompoundStatement, ConstAssert,
     ContinuingStatement, Declaration, DeclarationKind, ElseClause, ElseIfClause, Expression,

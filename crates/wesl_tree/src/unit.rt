@@ -1,16 +1,16 @@
 //! Whole modules.
 ghost use Rattle.std.specs.Prelude.{◌≡◌, ◌↔◌, IsTrue, true, false, not, length, [], ◌∷◌, MatchOption};
-ghost use Rattle.wesl_syntax.specs.Tree.{tree_below, forest_of};
-ghost use Rattle.wesl_syntax.specs.Shown.{unnamed};
-ghost use Rattle.wesl_syntax.specs.Unit.{unit_below, empty_unit, spelled, begins_void, without_voids};
-ghost use Rattle.wesl_syntax.specs.View.{imports_tree, directives_tree, declarations_tree, global_view};
+ghost use Rattle.wesl_tree_syntax.specs.Tree.{tree_below, forest_of};
+ghost use Rattle.wesl_tree_syntax.specs.Shown.{unnamed};
+ghost use Rattle.wesl_tree_syntax.specs.Unit.{unit_below, empty_unit, spelled, begins_void, without_voids};
+ghost use Rattle.wesl_tree_syntax.specs.View.{imports_tree, directives_tree, declarations_tree, global_view};
 ghost use Rattle.wesl_tree.specs.Parts.{parts_view};
 
 use std::alloc::Global;
-use wesl_bounds::{declarations_are_below, directives_are_below, imports_are_below};
-use wesl_names::Names;
-use wesl_spelling::{Tables, same_declarations, same_directives, same_imports};
-use wesl_syntax::{
+use wesl_tree_bounds::{declarations_are_below, directives_are_below, imports_are_below};
+use wesl_tree_names::Names;
+use wesl_tree_spelling::{Tables, same_declarations, same_directives, same_imports};
+use wesl_tree_syntax::{
     GlobalDeclaration, GlobalDeclarationNode, GlobalDirectiveNode, ImportStatementNode,
 };
 

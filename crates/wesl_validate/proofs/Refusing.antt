@@ -1,13 +1,13 @@
 -- What `validate_wesl` refuses, `validate_wgsl` refuses too.
 use Rattle.std.specs.Prelude.{Option}
-use Rattle.wesl_names.specs.Path.{Text}
-use Rattle.wesl_base.specs.declared.faults.ValidateError.{ValidateError}
-use Rattle.wesl_base.specs.declared.faults.ValidateError.TheVariants as fault
-use Rattle.wesl_names.specs.declared.errors.Error as error
-use Rattle.wesl_names.specs.declared.errors.Diagnostic.{Diagnostic}
-use Rattle.wesl_syntax.specs.Unit.{UnitView}
-use Rattle.wesl_builtins.specs.Builtins.{BuiltinNames}
-use Rattle.wesl_valid.specs.Faults.{IsWeslFault, IsWgslFault, RefusesWesl, RefusesWgsl, Tells as Said}
+use Rattle.wesl_tree_names.specs.Path.{Text}
+use Rattle.wesl_tree_base.specs.declared.faults.ValidateError.{ValidateError}
+use Rattle.wesl_tree_base.specs.declared.faults.ValidateError.TheVariants as fault
+use Rattle.wesl_tree_names.specs.declared.errors.Error as error
+use Rattle.wesl_tree_names.specs.declared.errors.Diagnostic.{Diagnostic}
+use Rattle.wesl_tree_syntax.specs.Unit.{UnitView}
+use Rattle.wesl_validate_builtins.specs.Builtins.{BuiltinNames}
+use Rattle.wesl_validate_rules.specs.Faults.{IsWeslFault, IsWgslFault, RefusesWesl, RefusesWgsl, Tells as Said}
 
 -- what `validate_wesl` answers is also a refusal here
 module _ (u : UnitView) (b : BuiltinNames) where

@@ -1,16 +1,16 @@
 //! The validator of what WESL asks.
 ghost use Rattle.std.specs.Prelude.{◌≡◌, None, IfOk, IfErr};
-ghost use Rattle.wesl_names.specs.declared.errors.Error as error;
+ghost use Rattle.wesl_tree_names.specs.declared.errors.Error as error;
 ghost use Rattle.wesl_tree.specs.Translation.{unit_view};
-ghost use Rattle.wesl_builtins.specs.Builtins.{builtins_view};
-ghost use Rattle.wesl_valid.specs.Valid.{IsValidWesl};
-ghost use Rattle.wesl_valid.specs.Faults.{RefusesWesl};
+ghost use Rattle.wesl_validate_builtins.specs.Builtins.{builtins_view};
+ghost use Rattle.wesl_validate_rules.specs.Valid.{IsValidWesl};
+ghost use Rattle.wesl_validate_rules.specs.Faults.{RefusesWesl};
 
 use std::alloc::Global;
-use wesl_builtins::Builtins;
-use wesl_fitting::wesl_fault;
-use wesl_names::{Diagnostic, Error};
 use wesl_tree::TranslationUnit;
+use wesl_tree_names::{Diagnostic, Error};
+use wesl_validate_builtins::Builtins;
+use wesl_validate_calls::wesl_fault;
 
 /// Asks that names are defined and distinct, and that no declaration reaches itself (WGSL, "Declaration and Scope"). It
 /// goes by the numbers of `unit` as they stand; call `retarget_idents` first.

@@ -1,17 +1,17 @@
 //! The validator of what WGSL asks.
 ghost use Rattle.std.specs.Prelude.{◌≡◌, None, IfOk, IfErr};
-ghost use Rattle.wesl_names.specs.declared.errors.Error as error;
+ghost use Rattle.wesl_tree_names.specs.declared.errors.Error as error;
 ghost use Rattle.wesl_tree.specs.Translation.{unit_view};
-ghost use Rattle.wesl_builtins.specs.Builtins.{builtins_view};
-ghost use Rattle.wesl_valid.specs.Valid.{IsValidWgsl};
-ghost use Rattle.wesl_valid.specs.Faults.{RefusesWgsl};
+ghost use Rattle.wesl_validate_builtins.specs.Builtins.{builtins_view};
+ghost use Rattle.wesl_validate_rules.specs.Valid.{IsValidWgsl};
+ghost use Rattle.wesl_validate_rules.specs.Faults.{RefusesWgsl};
 
 use crate::wesl::validate_wesl;
 use std::alloc::Global;
-use wesl_builtins::Builtins;
-use wesl_fitting::call_fault;
-use wesl_names::{Diagnostic, Error};
 use wesl_tree::TranslationUnit;
+use wesl_tree_names::{Diagnostic, Error};
+use wesl_validate_builtins::Builtins;
+use wesl_validate_calls::call_fault;
 
 /// Asks what `validate_wesl` asks, and that each call without a path fits what its aliases end in (WGSL, "Function
 /// Calls" and "Value Constructor Expressions"), by the numbers as they stand; call `retarget_idents` first.

@@ -1,8 +1,8 @@
 -- Runs over a list that is gone through by an index.
 use Rattle.std.proofs.Common.{◌≡◌, ℕ, ◌+◌, ◌<◌, List, [], ◌∷◌, ◌++◌, length, get_or, take, drop, Result, Ok, Err, IfErr, Bor, refl, sym, ap, ◌∙◌, subst}
 use Rattle.std.proofs.lemmas.List.{take_more, map-append, take-append-drop}
-use Rattle.wesl_syntax.specs.Tree.{Tree}
-use Rattle.wesl_collect.specs.Lent.{views}
+use Rattle.wesl_tree_syntax.specs.Tree.{Tree}
+use Rattle.wesl_visit_collect.specs.Lent.{views}
 use Rattle.wesl_visit.specs.Run.{Run, still, next, Begun}
 
 -- what is met is what is to be met

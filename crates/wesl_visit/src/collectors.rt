@@ -1,22 +1,22 @@
 //! What has nodes below it that can be collected.
 ghost use Rattle.std.specs.Prelude.{◌≡◌, IfErr, IfOk};
-ghost use Rattle.wesl_names.specs.declared.errors.Error as error;
-ghost use Rattle.wesl_collect.specs.Lent.{views};
-ghost use Rattle.wesl_collect.specs.Walk.{strictly};
+ghost use Rattle.wesl_tree_names.specs.declared.errors.Error as error;
+ghost use Rattle.wesl_visit_collect.specs.Lent.{views};
+ghost use Rattle.wesl_visit_collect.specs.Walk.{strictly};
 
 use std::alloc::Global;
-use wesl_collect::{
+use wesl_tree::TranslationUnit;
+use wesl_tree_names::Error;
+use wesl_tree_syntax::{
+    Attribute, ConstAssert, Declaration, Expression, Function, GlobalDeclaration, Spanned,
+    Statement, Struct, StructMember, TypeAlias, TypeExpression,
+};
+use wesl_visit_collect::{
     Collected, Kind, in_alias, in_assert, in_attribute, in_declaration, in_declarations,
     in_directives, in_expression, in_function, in_global, in_imports, in_member, in_statement,
     in_struct, in_type,
 };
-use wesl_names::Error;
-use wesl_rewrite::Holder;
-use wesl_syntax::{
-    Attribute, ConstAssert, Declaration, Expression, Function, GlobalDeclaration, Spanned,
-    Statement, Struct, StructMember, TypeAlias, TypeExpression,
-};
-use wesl_tree::TranslationUnit;
+use wesl_visit_rewrite::Holder;
 
 /// A part of a tree from which the nodes below it can be collected.
 pub trait Collect: Holder {

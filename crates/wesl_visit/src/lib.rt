@@ -1,4 +1,4 @@
-//! Visits and rewriting of the nodes of a syntax tree. The engines are `wesl_collect` and `wesl_rewrite`.
+//! Visits and rewriting of the nodes of a syntax tree. The engines are `wesl_visit_collect` and `wesl_visit_rewrite`.
 #![tactic(auto)]
 
 mod collectors;
@@ -6,4 +6,4 @@ mod visits;
 
 pub use collectors::Collect;
 pub use visits::{Visit, Visitor};
-pub use wesl_rewrite::{Holder, Kind, Node, Replace, Rewrite};
+pub use wesl_visit_rewrite::{Holder, Kind, Node, Replace, Rewrite};

@@ -1,25 +1,25 @@
 //! Visits: lists of nodes, and runs of a visitor over them; and rewriting.
 ghost use Rattle.std.specs.Prelude.{◌≡◌, IfErr, IfOk, false, true};
-ghost use Rattle.wesl_collect.specs.Sought.{test};
-ghost use Rattle.wesl_names.specs.declared.errors.Error as error;
-ghost use Rattle.wesl_rewrite.specs.Holders.{KeepsNumbers};
-ghost use Rattle.wesl_rewrite.specs.Replaced.{ReplacedBelow, StoppedBelow, rule};
-ghost use Rattle.wesl_syntax.specs.Nodes.{all_nodes, outermost};
-ghost use Rattle.wesl_syntax.specs.Tree.{Tree};
-ghost use Rattle.wesl_collect.specs.Lent.{views};
+ghost use Rattle.wesl_visit_collect.specs.Sought.{test};
+ghost use Rattle.wesl_tree_names.specs.declared.errors.Error as error;
+ghost use Rattle.wesl_visit_rewrite.specs.Holders.{KeepsNumbers};
+ghost use Rattle.wesl_visit_rewrite.specs.Replaced.{ReplacedBelow, StoppedBelow, rule};
+ghost use Rattle.wesl_tree_syntax.specs.Nodes.{all_nodes, outermost};
+ghost use Rattle.wesl_tree_syntax.specs.Tree.{Tree};
+ghost use Rattle.wesl_visit_collect.specs.Lent.{views};
 ghost use Rattle.wesl_visit.specs.Run.{Begun, Run};
-ghost use Rattle.wesl_collect.specs.Seen.{below};
+ghost use Rattle.wesl_visit_collect.specs.Seen.{below};
 
 use crate::collectors::Collect;
 use std::alloc::Global;
-use wesl_collect::{Kind, Replace, Rewrite};
-use wesl_names::Error;
-use wesl_syntax::{
+use wesl_tree::TranslationUnit;
+use wesl_tree_names::Error;
+use wesl_tree_syntax::{
     Attribute, Attributes, ConstAssert, Declaration, Expression, ExpressionNode, Function,
     GlobalDeclaration, Spanned, Statement, StatementNode, Struct, StructMember, TypeAlias,
     TypeExpression,
 };
-use wesl_tree::TranslationUnit;
+use wesl_visit_collect::{Kind, Replace, Rewrite};
 
 /// What is done at each node of a kind.
 ///

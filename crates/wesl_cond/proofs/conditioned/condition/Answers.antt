@@ -1,7 +1,7 @@
 use Rattle.std.proofs.Common.{Some, Err, rules, subst, sym}
 use Rattle.wesl_cond.proofs.HandedOn.{handed_as}
 use Rattle.wesl_cond.specs.Conditioned.{IsConditioned, IsRefusedBy}
-use Rattle.wesl_names.specs.declared.errors.Diagnostic.{out-Diagnostic}
+use Rattle.wesl_tree_names.specs.declared.errors.Diagnostic.{out-Diagnostic}
 use Rattle.wesl_tree.specs.Translation.{unit_view}
 use Rattle.wesl_cond.proofs.conditioned.condition.Goals as goal
 

@@ -1,9 +1,9 @@
 use Rattle.std.proofs.Common.{rules, ◌∙◌, ap}
-use Rattle.wesl_syntax.specs.View.{expression_view}
-use Rattle.wesl_copies.proofs.Kept.{equal_copy}
-use Rattle.wesl_features.specs.Features.{answer_to, by_number, known}
-use Rattle.wesl_chains.specs.Formulas.{form, written}
-use Rattle.wesl_chains.specs.FormulaResidual.{residual}
+use Rattle.wesl_tree_syntax.specs.View.{expression_view}
+use Rattle.wesl_tree_copies.proofs.Kept.{equal_copy}
+use Rattle.wesl_cond_features.specs.Features.{answer_to, by_number, known}
+use Rattle.wesl_cond_chains.specs.Formulas.{form, written}
+use Rattle.wesl_cond_chains.specs.FormulaResidual.{residual}
 use Rattle.wesl_cond.proofs.evaluate.eval_attr.Goals as goal
 
 -- what is left of an equal copy

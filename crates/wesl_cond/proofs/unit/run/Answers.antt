@@ -1,6 +1,6 @@
-use Rattle.wesl_chains.specs.Nodes.{replies}
-use Rattle.wesl_syntax.specs.Unit.{forest_of_unit, trees_of}
-use Rattle.wesl_features.specs.Features.{answer_to}
+use Rattle.wesl_cond_chains.specs.Nodes.{replies}
+use Rattle.wesl_tree_syntax.specs.Unit.{forest_of_unit, trees_of}
+use Rattle.wesl_cond_features.specs.Features.{answer_to}
 use Rattle.wesl_tree.specs.Translation.{unit_view}
 use Rattle.wesl_cond.proofs.Stages.{settled_is, goes_on, picks_same, err_not_clear, left_over_faultless, two_stages_faultless}
 use Rattle.wesl_cond.proofs.Spelled.{goes_on_spelled, spelled_left_over_faultless, spelled_two_stages_faultless}

@@ -1,7 +1,7 @@
 use Rattle.std.proofs.Common.{◌≡◌}
-use Rattle.wesl_syntax.specs.Tree.{declaration_node}
-use Rattle.wesl_syntax.specs.View.{global_view, placed}
-use Rattle.wesl_form.specs.Schema.{a_declaration}
+use Rattle.wesl_tree_syntax.specs.Tree.{declaration_node}
+use Rattle.wesl_tree_syntax.specs.View.{global_view, placed}
+use Rattle.wesl_json_form.specs.Schema.{a_declaration}
 use Rattle.wesl_json.proofs.PlaceLemmas.{has_from}
 use Rattle.wesl_json.proofs.places.declarations_have_number.Given as goal
 

@@ -4,7 +4,7 @@ use Rattle.serde_json.specs.Data.{Data}
 use Rattle.serde_json.specs.View.{view}
 use Rattle.serde_json.specs.Written.{compact_text, has_float}
 use Rattle.wesl_tree.specs.Translation.{unit_view}
-use Rattle.wesl_syntax.specs.Unit.{spelled}
+use Rattle.wesl_tree_syntax.specs.Unit.{spelled}
 use Rattle.wesl_json.specs.Texts.{IsReadBack}
 use Rattle.wesl_json.specs.UnitTexts.{chosen_value, PrintsAs}
 use Rattle.wesl_json.proofs.UnitTextLemmas.{chosen, chosen-text, printed}

@@ -1,5 +1,5 @@
 use Rattle.std.proofs.lemmas.Result.{IfOk-weaker, err_from_is_err_and}
-use Rattle.wesl_form.specs.View.{borrowed_view}
+use Rattle.wesl_json_form.specs.View.{borrowed_view}
 use Rattle.wesl_tree.specs.Translation.{unit_view}
 use Rattle.wesl_json.proofs.Again.{spelled-read}
 use Rattle.wesl_json.proofs.UnitTextLemmas.{both-err, unreadable, no-json}

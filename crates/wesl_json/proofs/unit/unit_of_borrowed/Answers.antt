@@ -1,8 +1,8 @@
 use Rattle.std.proofs.lemmas.Result.{IfOk-weaker, IfErr-weaker}
-use Rattle.wesl_form.specs.View.{borrowed_view}
-use Rattle.wesl_syntax.specs.Shown.{placed}
+use Rattle.wesl_json_form.specs.View.{borrowed_view}
+use Rattle.wesl_tree_syntax.specs.Shown.{placed}
 use Rattle.wesl_tree.specs.Translation.{unit_view}
-use Rattle.wesl_form.specs.Units.{IsNoUnit}
+use Rattle.wesl_json_form.specs.Units.{IsNoUnit}
 use Rattle.wesl_json.proofs.Again.{read-written, readable-read, is-memory}
 use Rattle.wesl_json.proofs.unit.unit_of_borrowed.Goals as goal
 

@@ -1,7 +1,7 @@
 use Rattle.std.proofs.Common.{subst, IfErr}
 use Rattle.serde_json.specs.Data.{Data}
-use Rattle.wesl_form.specs.Units.{IsBrokenUnit, IsNoUnit}
-use Rattle.wesl_reading.specs.Faults.{IfPlace}
+use Rattle.wesl_json_form.specs.Units.{IsBrokenUnit, IsNoUnit}
+use Rattle.wesl_json_read.specs.Faults.{IfPlace}
 use Rattle.wesl_json.proofs.unit.unit_of_value.Goals as goal
 
 pub returns-clause-place : goal.returns-clause-place

@@ -1,9 +1,9 @@
 use Rattle.std.proofs.Common.{inr, refl}
 use Rattle.std.proofs.lemmas.Result.{IfErr-weaker}
-use Rattle.wesl_base.specs.Borrowed.{texts}
-use Rattle.wesl_linker.specs.Resolved.{module_at}
-use Rattle.wesl_resolutions.specs.Keeping.{modules_of, turns_of}
-use Rattle.wesl_linker.specs.Worlds.{task_of}
+use Rattle.wesl_tree_base.specs.Borrowed.{texts}
+use Rattle.wesl_link_engine.specs.Resolved.{module_at}
+use Rattle.wesl_link_resolutions.specs.Keeping.{modules_of, turns_of}
+use Rattle.wesl_link_engine.specs.Worlds.{task_of}
 use Rattle.wesl_link.specs.Linking.{kept_names}
 use Rattle.wesl_link.proofs.Along.{AreAlike, linked-over, refused-over, both-ok}
 use Rattle.wesl_link.proofs.conditional.link_at.Goals as goal

@@ -1,8 +1,8 @@
 use Rattle.std.proofs.Common.{◌≡◌, ◌↔◌, sym, subst}
 use Rattle.std.proofs.lemmas.Result.{IfOk-weaker, IfErr-weaker}
-use Rattle.wesl_base.specs.Borrowed.{texts}
-use Rattle.wesl_names.specs.Path.{path_view}
-use Rattle.wesl_resolutions.specs.Keeping.{modules_of, turns_of}
+use Rattle.wesl_tree_base.specs.Borrowed.{texts}
+use Rattle.wesl_tree_names.specs.Path.{path_view}
+use Rattle.wesl_link_resolutions.specs.Keeping.{modules_of, turns_of}
 use Rattle.wesl_cond.specs.Conditioned.{IsConditioned}
 use Rattle.wesl_link.proofs.Along.{left-alike, links-over, refuses-over}
 use Rattle.wesl_link.proofs.conditional.link_judged.Goals as goal

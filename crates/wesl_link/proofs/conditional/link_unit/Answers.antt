@@ -1,9 +1,9 @@
 use Rattle.std.proofs.Common.{◌≡◌, Bool, true, false, IfOk, IfErr, sym, subst, rules}
-use Rattle.wesl_base.specs.Borrowed.{texts}
-use Rattle.wesl_linker.specs.Refusal.{TellsOf}
-use Rattle.wesl_linker.specs.Resolved.{module_at}
-use Rattle.wesl_linker.specs.Worlds.{task_of, IsLinked, IsRefused}
-use Rattle.wesl_resolutions.specs.Keeping.{resolved, modules_of, turns_of}
+use Rattle.wesl_tree_base.specs.Borrowed.{texts}
+use Rattle.wesl_link_engine.specs.Refusal.{TellsOf}
+use Rattle.wesl_link_engine.specs.Resolved.{module_at}
+use Rattle.wesl_link_engine.specs.Worlds.{task_of, IsLinked, IsRefused}
+use Rattle.wesl_link_resolutions.specs.Keeping.{resolved, modules_of, turns_of}
 use Rattle.wesl_link.specs.Linking.{kept_names}
 use Rattle.wesl_link.proofs.conditional.link_unit.Goals as goal
 

@@ -1,6 +1,6 @@
 use Rattle.std.proofs.Common.{◌∙◌, sym, string_bytes}
 use Rattle.std.proofs.lemmas.Map.Text.{btree_map_updates_text}
-use Rattle.wesl_item_forms.specs.Items.{item_view}
+use Rattle.wesl_mangle_forms.specs.Items.{item_view}
 use Rattle.wesl_mangle.proofs.Records.{view-update, when-ok}
 use Rattle.wesl_mangle.proofs.cache.record.Goals as goal
 

@@ -1,7 +1,7 @@
 use Rattle.std.proofs.Common.{string_bytes, rules}
 use Rattle.std.proofs.lemmas.Result.{IfOk-weaker}
 use Rattle.serde_json.specs.View.{view}
-use Rattle.wesl_form.specs.Units.{written_as}
+use Rattle.wesl_json_form.specs.Units.{written_as}
 use Rattle.wesl_tree.specs.Translation.{unit_view}
 use Rattle.wesl_program.proofs.AnswerLines.{line-made}
 use Rattle.wesl_program.proofs.answer.answer_line.Goals as goal

@@ -1,4 +1,4 @@
-use Rattle.wesl_form.specs.View.{borrowed_view}
+use Rattle.wesl_json_form.specs.View.{borrowed_view}
 use Rattle.wesl_program.proofs.TreeFaults.{refused-with}
 use Rattle.wesl_program.proofs.bundle_resolver.read_unit.Goals as goal
 

@@ -1,9 +1,9 @@
 use Rattle.std.proofs.Common.{◌≡◌, ◌∙◌, ap, map, string_bytes, refl, inl, rules}
 use Rattle.std.proofs.lemmas.Result.{IfOk-weaker, IfErr-weaker}
-use Rattle.wesl_base.specs.Borrowed.{texts}
-use Rattle.wesl_names.specs.Path.{path_view}
-use Rattle.wesl_names.specs.declared.errors.Error as error
-use Rattle.wesl_names.specs.declared.errors.ResolveError as resolve_error
+use Rattle.wesl_tree_base.specs.Borrowed.{texts}
+use Rattle.wesl_tree_names.specs.Path.{path_view}
+use Rattle.wesl_tree_names.specs.declared.errors.Error as error
+use Rattle.wesl_tree_names.specs.declared.errors.ResolveError as resolve_error
 use Rattle.wesl_tree.specs.Translation.{unit_view}
 use Rattle.wesl_source_map.specs.BasicView.{items}
 use Rattle.wesl_program.specs.Naming.{named_by}

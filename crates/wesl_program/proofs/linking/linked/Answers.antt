@@ -2,11 +2,11 @@ use Rattle.std.proofs.Common.{◌≡◌, refl, ap, subst, inl, rules}
 use Rattle.std.proofs.lemmas.Result.{IfErr-weaker}
 use Rattle.std.specs.Prelude.{option_map}
 use Rattle.serde_json.specs.View.{view}
-use Rattle.wesl_form.specs.Units.{written_as}
-use Rattle.wesl_names.specs.declared.errors.Error as error
+use Rattle.wesl_json_form.specs.Units.{written_as}
+use Rattle.wesl_tree_names.specs.declared.errors.Error as error
 use Rattle.wesl_tree.specs.Translation.{unit_view}
-use Rattle.wesl_bundle.specs.Views.{builtins_view, bundle_view}
-use Rattle.wesl_map_entries.specs.Records.{SameItems}
+use Rattle.wesl_program_bundle.specs.Views.{builtins_view, bundle_view}
+use Rattle.wesl_source_map_entries.specs.Records.{SameItems}
 use Rattle.wesl_source_map.specs.BasicView.{items}
 use Rattle.wesl_program.specs.Fault.{fault_of}
 use Rattle.wesl_program.specs.Linking.{recorded_for}

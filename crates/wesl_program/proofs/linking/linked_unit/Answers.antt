@@ -1,8 +1,8 @@
 use Rattle.std.proofs.Common.{◌≡◌, map, refl, ap, inl, string_bytes, rules}
 use Rattle.std.proofs.lemmas.Result.{IfErr-weaker}
-use Rattle.wesl_names.specs.declared.errors.Error as error
+use Rattle.wesl_tree_names.specs.declared.errors.Error as error
 use Rattle.wesl_tree.specs.Translation.{unit_view}
-use Rattle.wesl_bundle.specs.Views.{bundle_view}
+use Rattle.wesl_program_bundle.specs.Views.{bundle_view}
 use Rattle.wesl_source_map.specs.BasicView.{items}
 use Rattle.wesl_program.specs.Fault.{fault_of}
 use Rattle.wesl_program.specs.Hands.{unit_in}

@@ -1,5 +1,5 @@
 use Rattle.std.proofs.Common.{map}
-use Rattle.wesl_bundle.specs.Views.{module_view}
+use Rattle.wesl_program_bundle.specs.Views.{module_view}
 use Rattle.wesl_program.specs.Holds.{Holds}
 use Rattle.wesl_program.proofs.linking.modules_of.Given as goal
 

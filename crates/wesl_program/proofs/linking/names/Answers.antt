@@ -1,7 +1,7 @@
 use Rattle.std.proofs.Common.{◌≡◌, ◌<◌, List, map, ◌∷◌, [], ◌++◌, take, length, get_or, sym, ap, ◌∙◌, string_bytes, rules}
 use Rattle.std.proofs.lemmas.List.{take_more, map-append}
-use Rattle.wesl_base.specs.Borrowed.{texts}
-use Rattle.wesl_names.specs.Path.{Text}
+use Rattle.wesl_tree_base.specs.Borrowed.{texts}
+use Rattle.wesl_tree_names.specs.Path.{Text}
 use Rattle.wesl_program.proofs.linking.names.Goals as goal
 
 pub loop-name-preserved : goal.loop-name-preserved

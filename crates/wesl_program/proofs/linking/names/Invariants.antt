@@ -1,5 +1,5 @@
 use Rattle.std.proofs.Common.{◌≡◌, map, take, string_bytes}
-use Rattle.wesl_base.specs.Borrowed.{texts}
+use Rattle.wesl_tree_base.specs.Borrowed.{texts}
 use Rattle.wesl_program.proofs.linking.names.Given as goal
 
 abbrev pub invariant-loop-name : goal.invariant-loop-name

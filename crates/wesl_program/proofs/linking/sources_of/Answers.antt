@@ -1,10 +1,10 @@
 use Rattle.std.proofs.Common.{◌≡◌, map, ◌∷◌, [], ◌++◌, sym, subst, rules}
 use Rattle.std.proofs.lemmas.List.{map-append}
-use Rattle.wesl_bundle.specs.PackageViews.{packages_of, package_view}
-use Rattle.wesl_bundle.specs.Views.{module_view}
+use Rattle.wesl_program_bundle.specs.PackageViews.{packages_of, package_view}
+use Rattle.wesl_program_bundle.specs.Views.{module_view}
 use Rattle.wesl_program.specs.Holds.{Holds}
 use Rattle.wesl_program.specs.PackageTexts.{ArePackagesOf}
-use Rattle.wesl_linker.proofs.Told.{ok_so}
+use Rattle.wesl_link_engine.proofs.Told.{ok_so}
 use Rattle.wesl_program.proofs.PackageTexts.{packages-more}
 use Rattle.wesl_program.proofs.linking.sources_of.Goals as goal
 

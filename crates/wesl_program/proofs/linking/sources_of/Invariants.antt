@@ -1,6 +1,6 @@
 use Rattle.std.proofs.Common.{map}
-use Rattle.wesl_bundle.specs.PackageViews.{packages_view}
-use Rattle.wesl_bundle.specs.Views.{module_view}
+use Rattle.wesl_program_bundle.specs.PackageViews.{packages_view}
+use Rattle.wesl_program_bundle.specs.Views.{module_view}
 use Rattle.wesl_program.specs.Holds.{Holds}
 use Rattle.wesl_program.specs.PackageTexts.{ArePackagesOf}
 use Rattle.wesl_program.proofs.linking.sources_of.Given as goal

@@ -6,9 +6,9 @@ use Rattle.serde_json.specs.Data.{put, no_members}
 use Rattle.serde_json.specs.View.{view, members_view}
 use Rattle.serde_json.specs.declared.value.Value.{Object}
 use Rattle.serde_json.proofs.Views.{view-Object}
-use Rattle.wesl_names.specs.Path.{Text, path_view}
-use Rattle.wesl_names.specs.declared.path.ModulePath.{ModulePath}
-use Rattle.wesl_map_entries.specs.Records.{Item}
+use Rattle.wesl_tree_names.specs.Path.{Text, path_view}
+use Rattle.wesl_tree_names.specs.declared.path.ModulePath.{ModulePath}
+use Rattle.wesl_source_map_entries.specs.Records.{Item}
 use Rattle.wesl_source_map.specs.BasicView.{items}
 use Rattle.wesl_program.specs.Line.{IsMapOf, item_value}
 use Rattle.wesl_program.proofs.Maps.{puts, puts_more, map_of_listing, map_whole}

@@ -1,9 +1,9 @@
 use Rattle.std.proofs.Common.{◌≡◌, map, Bor}
 use Rattle.serde_json.specs.Data.{no_members}
 use Rattle.serde_json.specs.View.{members_view}
-use Rattle.wesl_names.specs.Path.{Text, path_view}
-use Rattle.wesl_names.specs.declared.path.ModulePath.{ModulePath}
-use Rattle.wesl_map_entries.specs.Records.{Item}
+use Rattle.wesl_tree_names.specs.Path.{Text, path_view}
+use Rattle.wesl_tree_names.specs.declared.path.ModulePath.{ModulePath}
+use Rattle.wesl_source_map_entries.specs.Records.{Item}
 use Rattle.wesl_program.proofs.Maps.{puts}
 use Rattle.wesl_program.proofs.map_value.map_value.Given as goal
 

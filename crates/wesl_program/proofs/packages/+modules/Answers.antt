@@ -1,6 +1,6 @@
 use Rattle.std.proofs.Common.{map, ◌∷◌, [], ◌++◌, sym, subst}
 use Rattle.std.proofs.lemmas.List.{map-append}
-use Rattle.wesl_bundle.specs.PackageViews.{package_modules, package_module_view}
+use Rattle.wesl_program_bundle.specs.PackageViews.{package_modules, package_module_view}
 use Rattle.wesl_program.specs.PackageTexts.{AreModulesOf}
 use Rattle.wesl_program.proofs.PackageTexts.{modules-more}
 use Rattle.wesl_program.proofs.packages.+modules.Goals as goal

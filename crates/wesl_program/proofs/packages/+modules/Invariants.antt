@@ -1,4 +1,4 @@
-use Rattle.wesl_bundle.specs.PackageViews.{package_modules_view}
+use Rattle.wesl_program_bundle.specs.PackageViews.{package_modules_view}
 use Rattle.wesl_program.specs.PackageTexts.{AreModulesOf}
 use Rattle.wesl_program.proofs.packages.+modules.Given as goal
 

@@ -1,6 +1,6 @@
 use Rattle.std.proofs.Common.{map, ◌∷◌, [], ◌++◌, sym, subst}
 use Rattle.std.proofs.lemmas.List.{map-append}
-use Rattle.wesl_bundle.specs.PackageViews.{packages_of, package_view}
+use Rattle.wesl_program_bundle.specs.PackageViews.{packages_of, package_view}
 use Rattle.wesl_program.specs.PackageTexts.{ArePackagesOf}
 use Rattle.wesl_program.proofs.PackageTexts.{packages-more}
 use Rattle.wesl_program.proofs.packages.+packages.Goals as goal

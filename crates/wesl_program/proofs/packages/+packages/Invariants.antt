@@ -1,4 +1,4 @@
-use Rattle.wesl_bundle.specs.PackageViews.{packages_view}
+use Rattle.wesl_program_bundle.specs.PackageViews.{packages_view}
 use Rattle.wesl_program.specs.PackageTexts.{ArePackagesOf}
 use Rattle.wesl_program.proofs.packages.+packages.Given as goal
 

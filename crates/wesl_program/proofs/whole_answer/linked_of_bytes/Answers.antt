@@ -1,8 +1,8 @@
 use Rattle.std.proofs.Common.{ℕ, List, sym, subst, ◌∙◌, inl, inr}
 use Rattle.std.proofs.lemmas.Result.{IfOk-weaker, IfErr-weaker}
-use Rattle.wesl_names.specs.declared.errors.Error as error
-use Rattle.wesl_bundle.specs.Bundle.{Bundle}
-use Rattle.wesl_bundle.specs.Views.{bundle_view}
+use Rattle.wesl_tree_names.specs.declared.errors.Error as error
+use Rattle.wesl_program_bundle.specs.Bundle.{Bundle}
+use Rattle.wesl_program_bundle.specs.Views.{bundle_view}
 use Rattle.wesl_program.specs.Line.{IsBundleOf, IsRefusal}
 use Rattle.wesl_program.specs.Refused.{IsLinkFault}
 use Rattle.wesl_program.proofs.whole_answer.linked_of_bytes.Goals as goal

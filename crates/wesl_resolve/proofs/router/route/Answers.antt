@@ -1,6 +1,6 @@
 use Rattle.std.proofs.Common.{◌+◌, ℕ, Option, Some, length, subst, sym, ap, ◌∙◌, refl, arith}
 use Rattle.std.proofs.lemmas.Option.{slice_get_read}
-use Rattle.wesl_names.specs.Path.{path_view}
+use Rattle.wesl_tree_names.specs.Path.{path_view}
 use Rattle.wesl_resolve.proofs.RouteLemmas.{IsBest, IsBest-other, IsBest-shorter, IsBest-longer, IsBest-first, IsRoute-from_best, IsRoute-from_none}
 use Rattle.wesl_resolve.proofs.router.route.Goals.{then-starts_with+in-Some, then-starts_with+in_default-2, then-starts_with+in_default, else-starts_with}
 use Rattle.wesl_resolve.proofs.router.route.Goals as goal

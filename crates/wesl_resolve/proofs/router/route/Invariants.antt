@@ -1,4 +1,4 @@
-use Rattle.wesl_names.specs.Path.{path_view}
+use Rattle.wesl_tree_names.specs.Path.{path_view}
 use Rattle.wesl_resolve.proofs.RouteLemmas.{IsBest}
 use Rattle.wesl_resolve.proofs.router.route.Given as goal
 

@@ -1,5 +1,5 @@
 use Rattle.std.proofs.Common.{◌∙◌, ap, sym, subst, string_bytes, List}
-use Rattle.wesl_names.specs.Path.{Text, Path, path_view}
+use Rattle.wesl_tree_names.specs.Path.{Text, Path, path_view}
 use Rattle.wesl_resolve.specs.Texts.{texts_of, IsLast}
 use Rattle.wesl_resolve.proofs.TextsLemmas.{texts_of-insert, text_at-put}
 use Rattle.wesl_resolve.proofs.virtual_resolver.put.Goals as goal

@@ -1,7 +1,7 @@
 use Rattle.std.proofs.Common.{◌+◌, ◌<◌, ◌≤◌, ◌∙◌, ap, map, sym, subst, arith, length}
 use Rattle.std.specs.List.{swap}
-use Rattle.wesl_syntax.specs.Tree.{forest_of, declaration_node}
-use Rattle.wesl_syntax.specs.View.{global_view, placed}
+use Rattle.wesl_tree_syntax.specs.Tree.{forest_of, declaration_node}
+use Rattle.wesl_tree_syntax.specs.View.{global_view, placed}
 use Rattle.wesl_scope.proofs.Stripping.{Compacted, not_begun, goes_over, goes_forward, all_compacted, picked_forest}
 use Rattle.wesl_scope.proofs.strip.keep_marked.Goals.{then-kept-j, else-kept-j}
 use Rattle.wesl_scope.proofs.strip.keep_marked.Goals as goal

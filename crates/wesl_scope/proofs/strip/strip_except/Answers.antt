@@ -1,11 +1,11 @@
 use Rattle.std.proofs.Common.{◌≡◌, ◌∙◌, ap, sym, subst, length, arith, true}
-use Rattle.wesl_syntax.specs.Unit.{unit_below}
-use Rattle.wesl_syntax.specs.Tree.{kind, trees, declaration_node, declarations}
-use Rattle.wesl_syntax.specs.View.{global_view, placed, declarations_tree}
+use Rattle.wesl_tree_syntax.specs.Unit.{unit_below}
+use Rattle.wesl_tree_syntax.specs.Tree.{kind, trees, declaration_node, declarations}
+use Rattle.wesl_tree_syntax.specs.View.{global_view, placed, declarations_tree}
 use Rattle.wesl_tree.specs.Translation.{unit_view}
 use Rattle.wesl_tree.specs.Parts.{parts_view}
 use Rattle.wesl_scope.specs.Strip.{marked}
-use Rattle.wesl_kept.proofs.Keeping.{trees_count}
+use Rattle.wesl_scope_strip.proofs.Keeping.{trees_count}
 use Rattle.wesl_scope.proofs.Stripping.{stripped_below, some_if, some_of}
 use Rattle.wesl_scope.proofs.strip.strip_except.Goals as goal
 

@@ -2,11 +2,11 @@ use Rattle.std.proofs.Common.{◌≡◌, List, map, sym, ap, subst, ◌∙◌, a
 use Rattle.std.specs.Map.Iter.{deref_pair}
 use Rattle.std.proofs.lemmas.Grind.{common_steps}
 use Rattle.std.proofs.lemmas.Map.Iter.{iter_end}
-use Rattle.wesl_names.specs.Path.{Text}
-use Rattle.wesl_map_entries.specs.Records.{Item}
-use Rattle.wesl_map_entries.specs.Listed.{IsListing}
-use Rattle.wesl_map_entries.specs.Tables.{items_in}
-use Rattle.wesl_map_entries.proofs.Items.{entry_seen, items_in-listing}
+use Rattle.wesl_tree_names.specs.Path.{Text}
+use Rattle.wesl_source_map_entries.specs.Records.{Item}
+use Rattle.wesl_source_map_entries.specs.Listed.{IsListing}
+use Rattle.wesl_source_map_entries.specs.Tables.{items_in}
+use Rattle.wesl_source_map_entries.proofs.Items.{entry_seen, items_in-listing}
 use Rattle.wesl_source_map.proofs.basic.list_decls.Goals as goal
 
 pub loop-name-preserved : goal.loop-name-preserved

@@ -1,9 +1,9 @@
 use Rattle.std.proofs.Common.{◌≡◌, map, Bor}
 use Rattle.std.specs.Map.Iter.{deref_pair}
-use Rattle.wesl_names.specs.Path.{Text, path_view}
-use Rattle.wesl_names.specs.declared.path.ModulePath.{ModulePath}
-use Rattle.wesl_map_entries.specs.Records.{Item}
-use Rattle.wesl_map_entries.proofs.Items.{entry_seen}
+use Rattle.wesl_tree_names.specs.Path.{Text, path_view}
+use Rattle.wesl_tree_names.specs.declared.path.ModulePath.{ModulePath}
+use Rattle.wesl_source_map_entries.specs.Records.{Item}
+use Rattle.wesl_source_map_entries.proofs.Items.{entry_seen}
 use Rattle.wesl_source_map.proofs.basic.list_decls.Given as goal
 
 -- the list has the entries so far

@@ -1,7 +1,7 @@
 use Rattle.std.proofs.Common.{◌≡◌, ◌∙◌, string_bytes}
-use Rattle.wesl_names.specs.Path.{Text, path_view}
-use Rattle.wesl_item_forms.specs.Items.{item_view}
-use Rattle.wesl_item_forms.proofs.Writing.{IfOk-to}
+use Rattle.wesl_tree_names.specs.Path.{Text, path_view}
+use Rattle.wesl_mangle_forms.specs.Items.{item_view}
+use Rattle.wesl_mangle_forms.proofs.Writing.{IfOk-to}
 use Rattle.wesl_mangle.proofs.cache.CacheManglerMangler.mangle.Goals as goal
 
 pub returns-clause-named : goal.returns-clause-named

@@ -1,6 +1,6 @@
 use Rattle.std.proofs.Common.{◌≡◌, Option, Some, None, option_map, Bor, refl, sym, ap, ◌∙◌}
-use Rattle.wesl_form.specs.View.{borrowed_view}
-use Rattle.wesl_form.specs.declared.value.BorrowedValue.{BorrowedValue}
+use Rattle.wesl_json_form.specs.View.{borrowed_view}
+use Rattle.wesl_json_form.specs.declared.value.BorrowedValue.{BorrowedValue}
 use Rattle.wesl_program.proofs.Units.{value_at-lookup}
 use Rattle.wesl_program.proofs.modules.BundleUnits.unit_at.Goals as goal
 

@@ -1,5 +1,5 @@
 use Rattle.std.proofs.Common.{◌≡◌, ◌⊎◌, sym, subst, rules}
-use Rattle.wesl_names.specs.declared.errors.Error as error
+use Rattle.wesl_tree_names.specs.declared.errors.Error as error
 use Rattle.wesl_json.specs.UnitTexts as json
 use Rattle.wesl_program.specs.StoredTexts.{IsUnreadable}
 use Rattle.wesl_program.proofs.StoredTexts.{unreadable}

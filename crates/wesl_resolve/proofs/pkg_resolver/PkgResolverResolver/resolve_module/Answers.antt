@@ -1,11 +1,11 @@
 use Rattle.std.proofs.Common.{refl, sym, subst, ap, ◌∙◌, inl, inr, ⊎_elim}
-use Rattle.wesl_names.specs.Path.{Text, path_view}
-use Rattle.wesl_names.specs.Errors.{OrMemory, IsRefusedFor}
-use Rattle.wesl_resolver.specs.Packages.{module_at, IsMissingIn}
-use Rattle.wesl_syntax.specs.Unit.{spelled}
+use Rattle.wesl_tree_names.specs.Path.{Text, path_view}
+use Rattle.wesl_tree_names.specs.Errors.{OrMemory, IsRefusedFor}
+use Rattle.wesl_resolve_base.specs.Packages.{module_at, IsMissingIn}
+use Rattle.wesl_tree_syntax.specs.Unit.{spelled}
 use Rattle.wesl_tree.specs.Translation.{unit_view}
 use Rattle.wesl_tree.specs.declared.unit.TranslationUnit.{TranslationUnit}
-use Rattle.wesl_resolver.proofs.ResultLemmas.{IfOk-to, refused-to}
+use Rattle.wesl_resolve_base.proofs.ResultLemmas.{IfOk-to, refused-to}
 use Rattle.wesl_resolve.proofs.pkg_resolver.PkgResolverResolver.resolve_module.Goals as goal
 
 pub returns-in-Ok-clause-handed : goal.returns-in-Ok-clause-handed

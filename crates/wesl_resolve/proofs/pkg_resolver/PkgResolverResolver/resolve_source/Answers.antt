@@ -1,8 +1,8 @@
 use Rattle.std.proofs.Common.{refl, sym, subst, ap, ◌∙◌, inl}
-use Rattle.wesl_names.specs.Path.{path_view}
-use Rattle.wesl_names.specs.Errors.{OrMemory}
-use Rattle.wesl_resolver.specs.Packages.{module_at, IsMissingIn}
-use Rattle.wesl_resolver.proofs.ResultLemmas.{IfOk-to, IfErr-to}
+use Rattle.wesl_tree_names.specs.Path.{path_view}
+use Rattle.wesl_tree_names.specs.Errors.{OrMemory}
+use Rattle.wesl_resolve_base.specs.Packages.{module_at, IsMissingIn}
+use Rattle.wesl_resolve_base.proofs.ResultLemmas.{IfOk-to, IfErr-to}
 use Rattle.wesl_resolve.proofs.pkg_resolver.PkgResolverResolver.resolve_source.Goals as goal
 
 pub returns-in-Ok-clause-given : goal.returns-in-Ok-clause-given

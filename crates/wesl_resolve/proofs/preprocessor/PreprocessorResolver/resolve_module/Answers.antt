@@ -1,5 +1,5 @@
 use Rattle.std.proofs.Common.{refl, inl, inr, ⊎_elim}
-use Rattle.wesl_names.specs.Path.{path_view}
+use Rattle.wesl_tree_names.specs.Path.{path_view}
 use Rattle.wesl_resolve.proofs.PreprocessorLemmas.{Preprocessor-same, Preprocessor-refuses}
 use Rattle.wesl_resolve.proofs.preprocessor.PreprocessorResolver.resolve_module.Goals as goal
 

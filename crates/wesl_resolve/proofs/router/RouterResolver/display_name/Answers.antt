@@ -1,6 +1,6 @@
 use Rattle.std.proofs.Common.{inl, inr, refl, arith, string_bytes, option_map}
-use Rattle.wesl_names.specs.Path.{path_view}
-use Rattle.wesl_resolver.proofs.ResultLemmas.{IfOk-to}
+use Rattle.wesl_tree_names.specs.Path.{path_view}
+use Rattle.wesl_resolve_base.proofs.ResultLemmas.{IfOk-to}
 use Rattle.wesl_resolve.proofs.RouterLemmas.{Takes-read, Takes-fits, Routed-by, Routed-beside, TakenByNone-read, ready-beside}
 use Rattle.std.proofs.lemmas.Option.{slice_get_within}
 use Rattle.wesl_resolve.proofs.router.RouterResolver.display_name.Goals as goal

@@ -1,9 +1,9 @@
 use Rattle.std.proofs.Common.{inl, inr, ⊎_elim, arith}
-use Rattle.wesl_names.specs.Path.{path_view}
-use Rattle.wesl_syntax.specs.Unit.{spelled}
+use Rattle.wesl_tree_names.specs.Path.{path_view}
+use Rattle.wesl_tree_syntax.specs.Unit.{spelled}
 use Rattle.wesl_tree.specs.Translation.{unit_view}
 use Rattle.wesl_tree.specs.declared.unit.TranslationUnit.{TranslationUnit}
-use Rattle.wesl_resolver.proofs.ResultLemmas.{IfOk-to, refused-to}
+use Rattle.wesl_resolve_base.proofs.ResultLemmas.{IfOk-to, refused-to}
 use Rattle.wesl_resolve.proofs.RouterLemmas.{Takes-read, Takes-fits, Routed-by, RouterMeans-set, RouterMeans-fallback, AllReady-set, LeavesOthers-set, LeavesOthers-fallback, LeavesOthers-same, TakenByNone-read, Routed-beside, AllReady-beside, ready-beside, RouterMeans-same}
 use Rattle.std.proofs.lemmas.Option.{slice_get_within}
 use Rattle.wesl_resolve.proofs.router.RouterResolver.resolve_module.Goals as goal

@@ -1,5 +1,5 @@
 use Rattle.std.proofs.Common.{◌≡◌, None, option_map, string_bytes}
-use Rattle.wesl_names.specs.Path.{path_view}
+use Rattle.wesl_tree_names.specs.Path.{path_view}
 use Rattle.wesl_resolve.proofs.StandardLemmas.{given-in, given-elsewhere}
 use Rattle.wesl_resolve.proofs.standard.StandardResolverResolver.display_name.Goals as goal
 

@@ -1,10 +1,10 @@
 use Rattle.std.proofs.Common.{refl}
-use Rattle.wesl_names.specs.Path.{path_view}
-use Rattle.wesl_syntax.specs.Unit.{spelled}
+use Rattle.wesl_tree_names.specs.Path.{path_view}
+use Rattle.wesl_tree_syntax.specs.Unit.{spelled}
 use Rattle.wesl_tree.specs.Translation.{unit_view}
-use Rattle.wesl_resolver.specs.Packages.{IsReadIn, IsRefusedIn}
+use Rattle.wesl_resolve_base.specs.Packages.{IsReadIn, IsRefusedIn}
 use Rattle.wesl_resolve.specs.StandardMeaning.{standard_packages, standard_reader}
-use Rattle.wesl_resolver.proofs.ResultLemmas.{means-itself}
+use Rattle.wesl_resolve_base.proofs.ResultLemmas.{means-itself}
 use Rattle.wesl_resolve.proofs.StandardLemmas.{Standard-same, Standard-local, in-package, given-in, refused-in, elsewhere, given-elsewhere, refused-elsewhere}
 use Rattle.wesl_resolve.proofs.standard.StandardResolverResolver.resolve_module.Goals as goal
 

@@ -1,8 +1,8 @@
 use Rattle.std.proofs.Common.{string_bytes, refl}
-use Rattle.wesl_names.specs.Path.{path_view}
-use Rattle.wesl_resolver.specs.Packages.{IsMissingIn, IsSourceIn}
+use Rattle.wesl_tree_names.specs.Path.{path_view}
+use Rattle.wesl_resolve_base.specs.Packages.{IsMissingIn, IsSourceIn}
 use Rattle.wesl_resolve.specs.StandardMeaning.{standard_packages}
-use Rattle.wesl_resolver.proofs.ResultLemmas.{means-itself}
+use Rattle.wesl_resolve_base.proofs.ResultLemmas.{means-itself}
 use Rattle.wesl_resolve.proofs.StandardLemmas.{Standard-same, Standard-local, in-package, given-in, refused-in, elsewhere, given-elsewhere, refused-elsewhere}
 use Rattle.wesl_resolve.proofs.standard.StandardResolverResolver.resolve_source.Goals as goal
 

@@ -1,8 +1,8 @@
 use Rattle.std.proofs.Common.{String, string_bytes}
 use Rattle.std.specs.declared.alloc.Global.{Global}
-use Rattle.wesl_syntax.specs.Unit.{spelled}
+use Rattle.wesl_tree_syntax.specs.Unit.{spelled}
 use Rattle.wesl_tree.specs.Translation.{unit_view}
-use Rattle.wesl_resolver.proofs.ResultLemmas.{IfSome-of, OnOk-both}
+use Rattle.wesl_resolve_base.proofs.ResultLemmas.{IfSome-of, OnOk-both}
 use Rattle.wesl_resolve.proofs.virtual_resolver.VirtualResolver.add_translation_unit.Goals as goal
 
 pub add_module-requires : goal.add_module-requires

@@ -1,5 +1,5 @@
 use Rattle.std.proofs.Common.{inl, inr, ⊎_elim}
-use Rattle.wesl_resolver.proofs.ResultLemmas.{IfOk-to, refused-to}
+use Rattle.wesl_resolve_base.proofs.ResultLemmas.{IfOk-to, refused-to}
 use Rattle.wesl_resolve.proofs.virtual_resolver.VirtualResolver.read_at.Goals as goal
 
 pub returns-in-Ok-clause-read : goal.returns-in-Ok-clause-read

@@ -1,5 +1,5 @@
 use Rattle.std.proofs.Common.{refl, sym, ap, ◌∙◌, inl, Some}
-use Rattle.wesl_resolver.proofs.ResultLemmas.{IfOk-to, IfErr-to}
+use Rattle.wesl_resolve_base.proofs.ResultLemmas.{IfOk-to, IfErr-to}
 use Rattle.wesl_resolve.proofs.virtual_resolver.VirtualResolverResolver.resolve_source.Goals as goal
 
 pub returns-in-Ok-clause-given : goal.returns-in-Ok-clause-given

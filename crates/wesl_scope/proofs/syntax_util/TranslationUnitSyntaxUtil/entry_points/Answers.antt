@@ -1,8 +1,8 @@
 use Rattle.std.proofs.Common.{◌≡◌, ◌++◌, map, ap, sym, ◌∙◌}
 use Rattle.std.specs.Option.{option_to_list}
 use Rattle.std.proofs.lemmas.List.{append-nil, drop_all, map_push}
-use Rattle.wesl_names.specs.declared.names.Ident.{Ident}
-use Rattle.wesl_syntax.specs.Tree.{Tree}
+use Rattle.wesl_tree_names.specs.declared.names.Ident.{Ident}
+use Rattle.wesl_tree_syntax.specs.Tree.{Tree}
 use Rattle.wesl_scope.specs.EntryPoints.{entry_points_of}
 use Rattle.wesl_scope.proofs.EntryPoints.{points, point_added}
 use Rattle.wesl_scope.proofs.syntax_util.TranslationUnitSyntaxUtil.entry_points.Goals.{in-Some+in_ok-push, in_default}

@@ -1,6 +1,6 @@
 use Rattle.std.proofs.Common.{ℕ, ◌<◌, ◌↔◌, length, sym, ◌∙◌, subst}
 use Rattle.std.specs.List.{Contains}
-use Rattle.wesl_syntax.specs.Unit.{numbers}
+use Rattle.wesl_tree_syntax.specs.Unit.{numbers}
 use Rattle.wesl_tree.specs.Translation.{unit_view}
 use Rattle.wesl_scope.proofs.syntax_util.TranslationUnitSyntaxUtil.retarget_idents.Goals as goal
 

@@ -1,5 +1,5 @@
 use Rattle.std.proofs.Common.{sym, subst}
-use Rattle.wesl_resolver.specs.Resolver.{MeansTheSame}
+use Rattle.wesl_resolve_base.specs.Resolver.{MeansTheSame}
 use Rattle.wesl_source_map.proofs.mapper.SourceMapper.record_given.Goals as goal
 
 pub returns-in-Ok-clause-same : goal.returns-in-Ok-clause-same

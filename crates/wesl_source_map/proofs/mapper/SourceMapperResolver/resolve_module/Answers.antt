@@ -1,5 +1,5 @@
 use Rattle.std.proofs.Common.{rules, refl}
-use Rattle.wesl_names.specs.Path.{path_view}
+use Rattle.wesl_tree_names.specs.Path.{path_view}
 use Rattle.wesl_source_map.specs.BasicView.{sources}
 use Rattle.wesl_source_map.proofs.Questions.{means-after, given-before}
 use Rattle.wesl_source_map.proofs.mapper.SourceMapperResolver.resolve_module.Goals as goal

@@ -1,5 +1,5 @@
 use Rattle.std.proofs.Common.{refl, sym, subst, rules}
-use Rattle.wesl_resolver.specs.Resolver.{MeansTheSame}
+use Rattle.wesl_resolve_base.specs.Resolver.{MeansTheSame}
 use Rattle.wesl_source_map.proofs.mapper.SourceMapperResolver.resolve_source.Goals as goal
 
 pub returns-in-Ok-recorded-clause-recorded : goal.returns-in-Ok-recorded-clause-recorded

@@ -1,8 +1,8 @@
 use Rattle.std.proofs.Common.{◌≡◌, ◌∙◌, ap, map, length, rules}
 use Rattle.std.proofs.lemmas.Fn.{filter_same}
-use Rattle.wesl_syntax.specs.Tree.{forest_of, tree_below}
-use Rattle.wesl_syntax.specs.Unit.{without_voids}
-use Rattle.wesl_syntax.specs.View.{imports_tree, directives_tree, declarations_tree}
+use Rattle.wesl_tree_syntax.specs.Tree.{forest_of, tree_below}
+use Rattle.wesl_tree_syntax.specs.Unit.{without_voids}
+use Rattle.wesl_tree_syntax.specs.View.{imports_tree, directives_tree, declarations_tree}
 use Rattle.wesl_tree.specs.Translation.{unit_view}
 use Rattle.wesl_tree.proofs.Kept.{node_tree, declares, kept_forest, still_within}
 use Rattle.wesl_tree.proofs.unit.TranslationUnit.remove_voids.Goals as goal

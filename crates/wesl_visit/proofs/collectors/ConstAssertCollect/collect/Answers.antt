@@ -1,6 +1,6 @@
 use Rattle.std.proofs.Common.{refl}
-use Rattle.wesl_syntax.specs.View.{assert_view}
-use Rattle.wesl_collect.proofs.Ends.{listed_below}
+use Rattle.wesl_tree_syntax.specs.View.{assert_view}
+use Rattle.wesl_visit_collect.proofs.Ends.{listed_below}
 use Rattle.wesl_visit.proofs.collectors.ConstAssertCollect.collect.Goals as goal
 
 pub returns-clause-listed : goal.returns-clause-listed

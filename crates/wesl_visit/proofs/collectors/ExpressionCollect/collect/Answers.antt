@@ -1,6 +1,6 @@
-use Rattle.wesl_syntax.specs.View.{expression_view}
-use Rattle.wesl_collect.proofs.Variants.{expression_unpicked}
-use Rattle.wesl_collect.proofs.Ends.{listed_below}
+use Rattle.wesl_tree_syntax.specs.View.{expression_view}
+use Rattle.wesl_visit_collect.proofs.Variants.{expression_unpicked}
+use Rattle.wesl_visit_collect.proofs.Ends.{listed_below}
 use Rattle.wesl_visit.proofs.collectors.ExpressionCollect.collect.Goals as goal
 
 pub returns-clause-listed : goal.returns-clause-listed

@@ -1,6 +1,6 @@
-use Rattle.wesl_syntax.specs.View.{global_view}
-use Rattle.wesl_collect.proofs.Variants.{global_unpicked}
-use Rattle.wesl_collect.proofs.Ends.{listed_below}
+use Rattle.wesl_tree_syntax.specs.View.{global_view}
+use Rattle.wesl_visit_collect.proofs.Variants.{global_unpicked}
+use Rattle.wesl_visit_collect.proofs.Ends.{listed_below}
 use Rattle.wesl_visit.proofs.collectors.GlobalDeclarationCollect.collect.Goals as goal
 
 pub returns-clause-listed : goal.returns-clause-listed

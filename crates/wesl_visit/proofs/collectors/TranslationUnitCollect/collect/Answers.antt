@@ -1,8 +1,8 @@
 use Rattle.std.proofs.Common.{refl, sym}
-use Rattle.wesl_syntax.specs.Tree.{kind, unit}
-use Rattle.wesl_collect.proofs.Adds.{beside, inside, viewed}
-use Rattle.wesl_collect.proofs.Ends.{listed_below}
-use Rattle.wesl_rewrite.specs.Holders.{unit_tree}
+use Rattle.wesl_tree_syntax.specs.Tree.{kind, unit}
+use Rattle.wesl_visit_collect.proofs.Adds.{beside, inside, viewed}
+use Rattle.wesl_visit_collect.proofs.Ends.{listed_below}
+use Rattle.wesl_visit_rewrite.specs.Holders.{unit_tree}
 use Rattle.wesl_tree.specs.Translation.{unit_view}
 use Rattle.wesl_visit.proofs.collectors.TranslationUnitCollect.collect.Goals as goal
 

@@ -1,4 +1,4 @@
-use Rattle.wesl_collect.proofs.Ends.{listed_in_type}
+use Rattle.wesl_visit_collect.proofs.Ends.{listed_in_type}
 use Rattle.wesl_visit.proofs.collectors.TypeExpressionCollect.collect.Goals as goal
 
 pub returns-clause-listed : goal.returns-clause-listed

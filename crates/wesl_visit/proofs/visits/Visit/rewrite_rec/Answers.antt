@@ -1,6 +1,6 @@
 use Rattle.std.proofs.Common.{true, subst}
-use Rattle.wesl_rewrite.specs.Replaced.{rule}
-use Rattle.wesl_rewrite.specs.Went.{WentBelowBy}
+use Rattle.wesl_visit_rewrite.specs.Replaced.{rule}
+use Rattle.wesl_visit_rewrite.specs.Went.{WentBelowBy}
 use Rattle.wesl_visit.proofs.visits.Visit.rewrite_rec.Goals as goal
 
 pub returns-then-replace-clause-replaced : goal.returns-then-replace-clause-replaced

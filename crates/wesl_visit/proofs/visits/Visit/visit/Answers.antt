@@ -1,5 +1,5 @@
 use Rattle.std.proofs.Common.{◌∙◌}
-use Rattle.wesl_collect.proofs.Joined.{outermost_found}
+use Rattle.wesl_visit_collect.proofs.Joined.{outermost_found}
 use Rattle.wesl_visit.proofs.visits.Visit.visit.Goals as goal
 
 pub returns-clause-listed : goal.returns-clause-listed

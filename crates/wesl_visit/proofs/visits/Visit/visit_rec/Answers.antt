@@ -1,11 +1,11 @@
 use Rattle.std.proofs.Common.{◌∙◌, subst, take, true, arith}
 use Rattle.std.proofs.lemmas.List.{take_all}
-use Rattle.wesl_syntax.specs.Nodes.{all_nodes}
+use Rattle.wesl_tree_syntax.specs.Nodes.{all_nodes}
 use Rattle.wesl_visit.specs.Run.{Run, still}
-use Rattle.wesl_collect.specs.Seen.{below}
-use Rattle.wesl_collect.specs.Walk.{strictly}
-use Rattle.wesl_collect.specs.Sought.{test}
-use Rattle.wesl_collect.proofs.Joined.{all_found_below}
+use Rattle.wesl_visit_collect.specs.Seen.{below}
+use Rattle.wesl_visit_collect.specs.Walk.{strictly}
+use Rattle.wesl_visit_collect.specs.Sought.{test}
+use Rattle.wesl_visit_collect.proofs.Joined.{all_found_below}
 use Rattle.wesl_visit.proofs.Runs.{all_met, begun_by, begun_none, on_err, run_more}
 use Rattle.wesl_visit.proofs.visits.Visit.visit_rec.Goals as goal
 

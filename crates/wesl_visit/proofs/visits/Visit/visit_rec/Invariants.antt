@@ -1,5 +1,5 @@
 use Rattle.std.proofs.Common.{take}
-use Rattle.wesl_collect.specs.Lent.{views}
+use Rattle.wesl_visit_collect.specs.Lent.{views}
 use Rattle.wesl_visit.specs.Run.{Run}
 use Rattle.wesl_visit.proofs.visits.Visit.visit_rec.Given as goal
 

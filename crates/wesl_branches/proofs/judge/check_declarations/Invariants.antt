@@ -1,8 +1,0 @@
-use Rattle.wesl_chains.specs.Nodes.{replies}
-use Rattle.wesl_syntax.specs.Tree.{declaration_node}
-use Rattle.wesl_syntax.specs.View.{global_view, placed}
-use Rattle.wesl_branches.proofs.Walked.{IsLeft}
-use Rattle.wesl_branches.proofs.judge.check_declarations.Given as goal
-
-abbrev pub invariant-loop-node : goal.invariant-loop-node
-invariant-loop-node l = IsLeft (replies l.names l.features) (placed global_view declaration_node) l.node-items l.node-index l.chain.kept l.chain.decided

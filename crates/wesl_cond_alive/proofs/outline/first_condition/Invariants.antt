@@ -1,0 +1,7 @@
+use Rattle.std.proofs.Common.{◌≡◌, drop}
+use Rattle.wesl_cond_chains.specs.Conditions.{first_condition}
+use Rattle.wesl_cond_chains.specs.Nodes.{attributes_forest}
+use Rattle.wesl_cond_alive.proofs.outline.first_condition.Given as goal
+
+abbrev pub invariant-loop-attribute : goal.invariant-loop-attribute
+invariant-loop-attribute l = first_condition (attributes_forest (drop l.attribute-index l.attributes)) ≡ first_condition (attributes_forest l.attributes)

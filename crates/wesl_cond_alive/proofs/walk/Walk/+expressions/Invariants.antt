@@ -1,0 +1,11 @@
+use Rattle.wesl_tree_syntax.specs.View.{argument_view, expression_tree}
+use Rattle.wesl_cond_alive.specs.Walk.{leaf}
+use Rattle.wesl_cond_alive.specs.Views.{spot_view}
+use Rattle.wesl_cond_alive.proofs.Steps.{Passed}
+use Rattle.wesl_cond_alive.proofs.walk.Walk.+expressions.Given as goal
+
+abbrev pub invariant-arguments-loop-argument : goal.invariant-arguments-loop-argument
+invariant-arguments-loop-argument l = Passed argument_view (spot_view l.here) (λ i. leaf) l.initial.self l.self l.argument-items l.argument-index
+
+abbrev pub invariant-nodes-loop-node : goal.invariant-nodes-loop-node
+invariant-nodes-loop-node l = Passed expression_tree (spot_view l.here) (λ i. leaf) l.initial.self l.self l.node-items l.node-index

@@ -1,0 +1,22 @@
+use Rattle.std.proofs.Common.{ℕ, refl, arith, ap, ◌∙◌, map, drop, ◌<◌, length}
+use Rattle.wesl_tree_syntax.specs.Tree.{end, declaration_node}
+use Rattle.wesl_tree_syntax.specs.View.{global_view, placed}
+use Rattle.wesl_cond_alive.specs.Views.{here_view, state_of}
+use Rattle.wesl_cond_alive.specs.Walk.{all_choices, in_set, listed, standing}
+use Rattle.wesl_cond_alive.proofs.Steps.{gone_on, judged_passed}
+use Rattle.wesl_cond_alive.proofs.Nodes.{next_listed, in_span, stepped}
+use Rattle.wesl_cond_alive.proofs.walk.Walk.globals.Goals as goal
+
+pub loop-i-preserved : goal.loop-i-preserved
+loop-i-preserved c =
+    let xs = c.args.all.now.items in
+    let i = c.loop-i.i in
+    let x = c.index.result.now in
+    let here = (in_set all_choices) in
+    let hs = map here_view c.judge_list-places.result.items in
+    let bound : i < length xs = omega (arith, c.loop-i-test.true, c.len-i-end.ensures, c.args.all.now.ok.0) in
+    gone_on (placed global_view declaration_node) here x bound c.index.ensures c.loop-i.invariant (next_listed hs i _)
+    (stepped c.global.ensures (in_span here (here_view c.place.result) hs i declaration_node x.span.start x.span.end (state_of c.loop-i.self) (global_view x.node) refl (c.place.ensures ∙ ap (λ ps. standing {I = ℕ} (here_view c.in_set-here.result) (listed (drop i (map here_view ps))) end) c.deref.ensures.value ∙ ap (λ h. standing {I = ℕ} h (listed (drop i hs)) end) c.in_set-here.ensures)))
+
+pub returns-clause-found : goal.returns-clause-found
+returns-clause-found c = judged_passed (placed global_view declaration_node) ((in_set all_choices)) c.judge_list-places.ensures c.loop-i.invariant (omega (arith, c.loop-i-test.false, c.len-i-end.ensures, c.args.all.now.ok.0)) refl

@@ -1,0 +1,126 @@
+//! The faults of a formula.
+ghost use Rattle.std.specs.Prelude.{◌≡◌, ℕ, List, [], ◌∷◌};
+ghost use Rattle.wesl_cond_chains.specs.Evaluation.{Judges, Refuses};
+ghost use Rattle.wesl_cond_chains.specs.FormulaFaults.{formula_faults, invalid_flag, unexpected_flag};
+ghost use Rattle.wesl_cond_features.specs.Features.{answer_to, by_number};
+ghost use Rattle.wesl_cond_chains.specs.Formulas.{form};
+ghost use Rattle.wesl_tree_names.specs.Path.{Text};
+ghost use Rattle.wesl_tree_syntax.specs.Tree.{branch, type_or_identifier};
+ghost use Rattle.wesl_tree_syntax.specs.Unit.{name_in};
+ghost use Rattle.wesl_tree_syntax.specs.View.{expression_view, type_view};
+
+use crate::formula::name_of;
+use std::alloc::Global;
+use wesl_cond_features::{Feature, Features};
+use wesl_tree_names::{CondCompError, Diagnostic, Error, Names, Span};
+use wesl_tree_syntax::{
+    BinaryOperator, Expression, ExpressionNode, Literal, TypeExpression, UnaryOperator,
+};
+
+/// The refusal of a flag with template arguments.
+fn invalid_flag(alloc: Global, name: &str) -> Error
+    ensures { (names : List Text) → (number : ℕ) → name_in names number ≡ name.now → Refuses names (invalid_flag number ∷ []) result }
+{
+    match String::from_str(alloc, name) {
+        Ok(name) => Error::CondComp(CondCompError::InvalidFeatureFlag(name)),
+        Err(_) => Error::Memory,
+    }
+}
+
+/// The refusal of a flag that is answered by one.
+fn unexpected_flag(alloc: Global, name: &str) -> Error
+    ensures { (names : List Text) → (number : ℕ) → name_in names number ≡ name.now → Refuses names (unexpected_flag number ∷ []) result }
+{
+    match String::from_str(alloc, name) {
+        Ok(name) => Error::CondComp(CondCompError::UnexpectedFeatureFlag(name)),
+        Err(_) => Error::Memory,
+    }
+}
+
+/// Judges a name that stands for a flag, with the place of its expression.
+fn check_flag(
+    alloc: Global,
+    ty: &TypeExpression,
+    span: Span,
+    names: &Names,
+    features: &Features,
+) -> Result<(), Diagnostic>
+    ensures { Judges names.now (formula_faults (by_number names.now (answer_to features.now)) (form (branch type_or_identifier (type_view ty.now ∷ [])))) result }
+{
+    let name = name_of(names, ty.ident);
+    if ty.template_args.is_some() {
+        return Err(Diagnostic::at(invalid_flag(alloc, name), span));
+    }
+    match features.answer(name) {
+        Feature::Error => Err(Diagnostic::at(unexpected_flag(alloc, name), span)),
+        Feature::Enable | Feature::Disable | Feature::Keep => Ok(()),
+    }
+}
+
+/// Judges a formula, both sides of `&&` and `||`, and refuses one of its faults where it has one, at the place of the
+/// expression at fault. Memory is taken to tell a fault alone.
+#[cycle(judging)]
+pub fn check_formula(
+    alloc: Global,
+    formula: &ExpressionNode,
+    names: &Names,
+    features: &Features,
+) -> Result<(), Diagnostic>
+    ensures { Judges names.now (formula_faults (by_number names.now (answer_to features.now)) (form (expression_view formula.now.node))) result }
+{
+    match &formula.node {
+        Expression::Literal(Literal::Bool(true)) => Ok(()),
+        Expression::Literal(Literal::Bool(false)) => Ok(()),
+        Expression::Parenthesized { expression } => {
+            check_formula(alloc, expression, names, features)
+        }
+        Expression::Unary {
+            operator: UnaryOperator::LogicalNegation,
+            operand,
+        } => check_formula(alloc, operand, names, features),
+        Expression::Binary {
+            operator,
+            left,
+            right,
+        } => match operator {
+            BinaryOperator::ShortCircuitAnd | BinaryOperator::ShortCircuitOr => {
+                match check_formula(alloc, left, names, features) {
+                    Ok(()) => check_formula(alloc, right, names, features),
+                    Err(fault) => Err(fault),
+                }
+            }
+            BinaryOperator::Addition
+            | BinaryOperator::Subtraction
+            | BinaryOperator::Multiplication
+            | BinaryOperator::Division
+            | BinaryOperator::Remainder
+            | BinaryOperator::Equality
+            | BinaryOperator::Inequality
+            | BinaryOperator::LessThan
+            | BinaryOperator::LessThanEqual
+            | BinaryOperator::GreaterThan
+            | BinaryOperator::GreaterThanEqual
+            | BinaryOperator::BitwiseOr
+            | BinaryOperator::BitwiseAnd
+            | BinaryOperator::BitwiseXor
+            | BinaryOperator::ShiftLeft
+            | BinaryOperator::ShiftRight => {
+                Err(Diagnostic::at(
+                    Error::CondComp(CondCompError::InvalidExpression),
+                    formula.span,
+                ))
+            }
+        },
+        Expression::TypeOrIdentifier(ty) => check_flag(alloc, ty, formula.span, names, features),
+        Expression::Literal(Literal::Text(_))
+        | Expression::NamedComponent { .. }
+        | Expression::Indexing { .. }
+        | Expression::Unary { .. }
+        | Expression::FunctionCall(_) => {
+            Err(Diagnostic::at(
+                Error::CondComp(CondCompError::InvalidExpression),
+                formula.span,
+            ))
+        }
+    }
+}

@@ -1,0 +1,6 @@
+use Rattle.std.proofs.Common.{not, ◌&&◌}
+use Rattle.wesl_cond_choices.proofs.Words.{bit, IsDone}
+use Rattle.wesl_cond_choices.proofs.choices.without_words.Given as goal
+
+abbrev pub invariant-loop-i : goal.invariant-loop-i
+invariant-loop-i l = IsDone (λ x y. x && not y) (bit l.others) l.fn.words l.words l.i

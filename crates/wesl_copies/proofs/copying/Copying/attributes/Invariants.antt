@@ -1,7 +1,0 @@
-use Rattle.wesl_syntax.specs.Tree.{attribute_node}
-use Rattle.wesl_syntax.specs.View.{attribute_view, placed}
-use Rattle.wesl_copies.proofs.Listed.{SoFar}
-use Rattle.wesl_copies.proofs.copying.Copying.attributes.Given as goal
-
-abbrev pub invariant-loop-attribute : goal.invariant-loop-attribute
-invariant-loop-attribute l = SoFar (placed attribute_view attribute_node) (placed attribute_view attribute_node) l.fn.self l.self l.attribute-items l.attribute-index l.copies.items

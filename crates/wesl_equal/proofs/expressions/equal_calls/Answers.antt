@@ -1,6 +1,0 @@
-use Rattle.std.proofs.Common.{rules}
-use Rattle.wesl_equal.proofs.OfExpressions.{calls_decided}
-use Rattle.wesl_equal.proofs.expressions.equal_calls.Goals as goal
-
-pub returns : goal.returns
-returns c = search (rules, calls_decided)

@@ -1,1 +1,0 @@
-pub use Rattle.wesl_equal.specs.Numbered

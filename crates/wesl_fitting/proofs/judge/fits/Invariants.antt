@@ -1,9 +1,0 @@
-use Rattle.std.proofs.Common.{◌≡◌, drop}
-use Rattle.std.specs.List.{list_any}
-use Rattle.wesl_builtins.specs.Builtins.{builtins_view}
-use Rattle.wesl_fitting.specs.Judged.{accepts_at}
-use Rattle.wesl_fitting.specs.Views.{tables_view}
-use Rattle.wesl_fitting.proofs.judge.fits.Given as goal
-
-abbrev pub invariant-loop-number : goal.invariant-loop-number
-invariant-loop-number l = list_any (accepts_at (tables_view l.tables) l.names (builtins_view l.builtins) l.arguments) (drop l.number-index l.numbers.items) ≡ list_any (accepts_at (tables_view l.tables) l.names (builtins_view l.builtins) l.arguments) l.numbers.items

@@ -1,9 +1,0 @@
-use Rattle.std.proofs.Common.{◌≡◌, drop, map, not}
-use Rattle.std.specs.List.{list_any}
-use Rattle.wesl_valid.specs.Calls.{is_plain_alias}
-use Rattle.wesl_fitting.specs.Tables.{shape_at}
-use Rattle.wesl_fitting.specs.Views.{shape_view}
-use Rattle.wesl_fitting.proofs.judge.one_ends.Given as goal
-
-abbrev pub invariant-loop-declaration : goal.invariant-loop-declaration
-invariant-loop-declaration l = list_any (λ j. not (is_plain_alias (shape_at (map shape_view l.shapes.items) j))) (drop l.declaration-index l.declarers.items) ≡ list_any (λ j. not (is_plain_alias (shape_at (map shape_view l.shapes.items) j))) l.declarers.items

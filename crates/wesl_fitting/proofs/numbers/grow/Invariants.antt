@@ -1,9 +1,0 @@
-use Rattle.std.proofs.Common.{◌≡◌, ◌-◌, ℕ, suc, length}
-use Rattle.wesl_kept.specs.Marks.{mark_at}
-use Rattle.wesl_fitting.proofs.numbers.grow.Given as goal
-
-abbrev pub invariant-loop-marks : goal.invariant-loop-marks
-invariant-loop-marks l = (m : ℕ) → mark_at l.marks.items m ≡ mark_at l.initial.marks.items m
-
-abbrev pub decreases-loop-marks : goal.decreases-loop-marks
-decreases-loop-marks l = suc l.place - length l.marks.items

@@ -1,8 +1,0 @@
-use Rattle.std.proofs.Common.{replicate}
-use lib.Chars.{codes}
-use Rattle.wesl_item_forms.specs.Escape.{from_pieces}
-use Rattle.wesl_item_forms.specs.Written.{Adds}
-use Rattle.wesl_item_forms.proofs.escape.push_relative.Given as goal
-
-abbrev pub invariant-loop-done : goal.invariant-loop-done
-invariant-loop-done l = Adds l.fn.text l.text (from_pieces (replicate l._done (codes "super")))

@@ -1,5 +1,0 @@
-use Rattle.std.proofs.Common.{rules}
-use Rattle.wesl_item_forms.proofs.escape.told_part.Goals as goal
-
-pub returns : goal.returns
-returns c = search rules

@@ -1,5 +1,0 @@
-use Rattle.wesl_item_forms.proofs.Words.{unicode_round_trip}
-use Rattle.wesl_item_forms.proofs.laws.unicode_round_trip.Goals as goal
-
-pub returns : goal.returns
-returns c = unicode_round_trip

@@ -1,9 +1,0 @@
-use Rattle.std.proofs.Common.{rules, tests, lit<}
-use Rattle.std.proofs.lemmas.Iterator.Search.{all_from_yields_List}
-use Rattle.std.proofs.lemmas.Iterator.Splits.{YieldsList-from_str_split}
-use Rattle.wesl_item_forms.specs.Escape.{is_plain}
-use Rattle.wesl_item_forms.proofs.reversible.has_plain_parts.Goals as goal
-
-pub returns : goal.returns
-returns c =
-    all_from_yields_List is_plain _ _ c.all.result c.all.ensures.ran (YieldsList-from_str_split 47 c.args.name.now (lit< tt) c.split.ensures.text c.split.ensures.has_more c.split.ensures.pattern) (λ x b q k. search (rules, tests))

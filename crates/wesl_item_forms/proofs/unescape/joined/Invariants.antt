@@ -1,7 +1,0 @@
-use Rattle.std.proofs.Common.{◌≡◌, ◌∷◌, take, string_bytes}
-use Rattle.wesl_item_forms.specs.Escape.{from_pieces}
-use Rattle.wesl_item_forms.specs.Views.{texts}
-use Rattle.wesl_item_forms.proofs.unescape.joined.Given as goal
-
-abbrev pub invariant-loop-piece : goal.invariant-loop-piece
-invariant-loop-piece l = string_bytes l.name ≡ from_pieces (l.first ∷ texts (take l.piece-index l.more))

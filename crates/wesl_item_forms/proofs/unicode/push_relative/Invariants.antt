@@ -1,7 +1,0 @@
-use Rattle.std.proofs.Common.{replicate, codes}
-use Rattle.wesl_item_forms.specs.Unicode.{from_words}
-use Rattle.wesl_item_forms.specs.Written.{Adds}
-use Rattle.wesl_item_forms.proofs.unicode.push_relative.Given as goal
-
-abbrev pub invariant-loop-done : goal.invariant-loop-done
-invariant-loop-done l = Adds l.fn.text l.text (from_words (replicate l._done (codes "super")))

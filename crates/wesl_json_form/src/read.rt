@@ -1,0 +1,106 @@
+//! From a text to a value, in one pass over its tokens.
+ghost use Rattle.std.specs.Prelude.{◌≡◌, ◌<◌, length, Some, None, Err, IfOk, IfErr, OnOk};
+ghost use Rattle.serde_json.specs.Read.{read as read_text};
+ghost use Rattle.wesl_json_form.specs.View.{borrowed_view, items_view, members_view};
+ghost use Rattle.wesl_json_form.specs.Text.{value_at, items_at, members_at};
+ghost use Rattle.wesl_json_form.specs.declared.fault.ReadFault.TheVariants.{NotJson};
+
+use crate::fault::ReadFault;
+use crate::number_text::number_of;
+use crate::value::{BorrowedValue, Members};
+use json::{Reader, Scratch, Token};
+use std::alloc::Global;
+
+// How deep arrays and objects may nest.
+const MAX_DEPTH: usize = 127;
+
+/// The value that a text is, as JSON (RFC 8259) with arrays and objects nested at most 127 deep; of two members of an
+/// object with one key the last counts. Texts without an escape are borrowed from it, the others from the scratch.
+///
+/// Refused with `NotJson` where the text is none, and for want of memory.
+pub fn read_borrowed<'a>(
+    alloc: Global,
+    text: &'a str,
+    scratch: &'a mut Scratch,
+) -> Result<BorrowedValue<'a>, ReadFault>
+    ensures ok { IfOk result (λ v. read_text text.now ≡ Some (borrowed_view v)) }
+    ensures none { IfErr result (λ e. e ≡ NotJson → read_text text.now ≡ None) }
+{
+    let mut reader = Reader::new(text, scratch)?;
+    let value = read(alloc, &mut reader, MAX_DEPTH)?;
+    if reader.next().is_some() {
+        return Err(ReadFault::NotJson);
+    }
+    Ok(value)
+}
+
+// The value that comes next.
+#[cycle(read)]
+#[tactic(auto, using(crate::proofs::Turns::at_tokens, crate::proofs::Views::shown))]
+fn read<'a>(
+    alloc: Global,
+    reader: &mut Reader<'a>,
+    depth: usize,
+) -> Result<BorrowedValue<'a>, ReadFault>
+    ensures ok { IfOk result (λ v. value_at depth reader.old ≡ Some (borrowed_view v, reader.new)) }
+    ensures none { result ≡ Err NotJson → value_at depth reader.old ≡ None }
+    ensures shorter { OnOk result (length reader.new < length reader.old) }
+{
+    let token = reader.next().ok_or(ReadFault::NotJson)?;
+    match token {
+        Token::String(text) => Ok(BorrowedValue::String(text)),
+        Token::Number(text) => match number_of(text) {
+            Some(number) => Ok(BorrowedValue::Number(number)),
+            None => Err(ReadFault::NotJson),
+        },
+        Token::Bool(truth) => Ok(BorrowedValue::Bool(truth)),
+        Token::Null => Ok(BorrowedValue::Null),
+        Token::BeginArray if depth > 0 => {
+            Ok(BorrowedValue::Array(read_items(alloc, reader, depth - 1)?))
+        }
+        Token::BeginObject if depth > 0 => {
+            Ok(BorrowedValue::Object(read_members(alloc, reader, depth - 1)?))
+        }
+        _ => Err(ReadFault::NotJson),
+    }
+}
+
+// The items of an array whose bracket has passed.
+#[cycle(read)]
+#[inline(never)]
+fn read_items<'a>(
+    alloc: Global,
+    reader: &mut Reader<'a>,
+    depth: usize,
+) -> Result<Vec<BorrowedValue<'a>>, ReadFault>
+    ensures ok { IfOk result (λ vs. items_at depth reader.old ≡ Some (items_view vs.items, reader.new)) }
+    ensures none { result ≡ Err NotJson → items_at depth reader.old ≡ None }
+    ensures shorter { OnOk result (length reader.new < length reader.old) }
+{
+    let mut found = Vec::new(alloc);
+    'items: while !reader.take_end_array() {
+        found.push(read(alloc, reader, depth)?)?;
+    }
+    Ok(found)
+}
+
+// The members of an object whose brace has passed.
+#[cycle(read)]
+#[inline(never)]
+fn read_members<'a>(
+    alloc: Global,
+    reader: &mut Reader<'a>,
+    depth: usize,
+) -> Result<Members<'a>, ReadFault>
+    ensures ok { IfOk result
+        (λ ms. members_at depth reader.old ≡ Some (members_view ms.items, reader.new)) }
+    ensures none { result ≡ Err NotJson → members_at depth reader.old ≡ None }
+    ensures shorter { OnOk result (length reader.new < length reader.old) }
+{
+    let mut found = Vec::new(alloc);
+    'members: while let Some(key) = reader.next_key()? {
+        let value = read(alloc, reader, depth)?;
+        found.push((key, value))?;
+    }
+    Ok(found)
+}

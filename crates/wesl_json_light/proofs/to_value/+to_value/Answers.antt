@@ -1,0 +1,21 @@
+use Rattle.std.proofs.Common.{◌≡◌, ◌<◌, length, get_or, sym, ap, ◌∙◌, rules}
+use Rattle.serde_json.specs.Data.{put}
+use Rattle.serde_json.specs.View.{members_view as map_view}
+use Rattle.wesl_json_form.specs.View.{borrowed_view}
+use Rattle.wesl_json_form.proofs.Lists.{Entry, members_view-more}
+use Rattle.wesl_json_light.proofs.Light.{values-turn}
+use Rattle.wesl_json_light.proofs.to_value.+to_value.Goals as goal
+
+pub values_of-loop-item-preserved : goal.values_of-loop-item-preserved
+values_of-loop-item-preserved t c =
+    values-turn c.deref-item-items.result.now c.loop-item.item-index c.item-item.result c.loop-item.values.items c.push.new.self.items c.in_ok-value_of_borrowed.field-0 (search rules) (search rules) (search rules) c.loop-item.invariant c.in_ok-value_of_borrowed.ensures
+
+pub map_of-loop-member-preserved : goal.map_of-loop-member-preserved
+map_of-loop-member-preserved t c =
+    let xs = c.deref-member-items.result.now in
+    let m : Entry = c.member-item.result in
+    let i = c.loop-member.member-index in
+    let inside : i < length xs = search rules in
+    let here : m ≡ get_or xs i m = search rules in
+    c.in_ok-put.ensures.ok ∙ ap (λ d. put m.0.now d (map_view c.loop-member.map.entries)) c.in_ok-value_of_borrowed.ensures ∙ ap (put m.0.now (borrowed_view m.1)) c.loop-member.invariant
+    ∙ sym (members_view-more xs i m inside here)

@@ -1,0 +1,18 @@
+use Rattle.std.proofs.Common.{sym}
+use Rattle.wesl_json_form.specs.View.{borrowed_view}
+use Rattle.wesl_json_form.specs.Reading.{name_in}
+use Rattle.wesl_json_read.proofs.Within.{text-fault, text-inside}
+use Rattle.wesl_json_read.proofs.Places.{text-lacks}
+use Rattle.wesl_json_read.proofs.fields.name_member.Goals as goal
+
+pub returns-in_default-clause-place : goal.returns-in_default-clause-place
+returns-in_default-clause-place c =
+    text-lacks name_in c.args.key.now (borrowed_view c.args.value.now) c.wrong.result (sym c.in_default.ensures) c.wrong.ensures
+
+pub returns-clause-ok : goal.returns-clause-ok
+returns-clause-ok c =
+    text-inside c.args.key.now (borrowed_view c.args.value.now) (borrowed_view c.in-Some.member.now) (sym c.in-Some.ensures) c.name_of.result name_in (λ s. s.now) c.inside.result c.name_of.ensures.ok c.inside.ensures.ok
+
+pub returns-clause-place : goal.returns-clause-place
+returns-clause-place c =
+    text-fault c.args.key.now (borrowed_view c.args.value.now) (borrowed_view c.in-Some.member.now) (sym c.in-Some.ensures) c.name_of.result name_in c.inside.result c.name_of.ensures.place c.inside.ensures.place

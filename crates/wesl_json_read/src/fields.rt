@@ -1,0 +1,280 @@
+//! The members of an object, and the places of faults.
+//!
+//! A fault's place is a JSON Pointer (RFC 6901). It begins empty, at the value that is wrong, and grows on the way
+//! out, by the key or the index of each value round it.
+ghost use Rattle.std.specs.Prelude.{◌≡◌, ◌∷◌, ◌++◌, map, true, false, Some, None, IfOk, IfErr, OnOk, OnErr, option_and_then, option_map, string_bytes};
+ghost use Rattle.std.specs.List.{list_any};
+ghost use Rattle.std.specs.Str.{bytes_eq};
+ghost use Rattle.serde_json.specs.Find.{as_str, get};
+ghost use Rattle.wesl_json_form.specs.View.{borrowed_view};
+ghost use Rattle.wesl_tree_names.specs.Path.{path_view};
+ghost use Rattle.wesl_json_form.specs.Reading.{name_in, literal_in, ordered, path_in, span_in, span_of};
+ghost use Rattle.wesl_json_form.specs.Keys.{all_known, has_only};
+ghost use Rattle.wesl_json_form.specs.Pointer.{escaped};
+ghost use Rattle.wesl_json_read.specs.Faults.{IsAtRoot, IsUnder, IsUnderIndex, LocatesHere, LocatesSpan, LocatesText};
+ghost use Rattle.wesl_json_read.specs.Parts.{IsMemoryOr, IsTextRead};
+
+use crate::joined::inside;
+use std::alloc::Global;
+use wesl_json_form::BorrowedValue;
+use wesl_tree_names::{Error, ModulePath, Span};
+
+/// The value itself is wrong.
+pub fn wrong(alloc: Global) -> Error
+    ensures { IsAtRoot result }
+{
+    Error::BadTree(String::new(alloc))
+}
+
+/// The same fault, told of the object that has the faulty value as its member `key`.
+pub fn under(alloc: Global, error: Error, key: &str) -> Error
+    ensures { IsUnder key.now error result }
+{
+    match error {
+        Error::BadTree(place) => match wesl_json_form::under_key(alloc, key, place.as_str()) {
+            Ok(place) => Error::BadTree(place),
+            Err(_) => Error::Memory,
+        },
+        other => other,
+    }
+}
+
+/// The same fault, told of the list that has the faulty value at `index`.
+pub fn under_index(alloc: Global, error: Error, index: usize) -> Error
+    ensures { IsUnderIndex index error result }
+{
+    match error {
+        Error::BadTree(place) => match wesl_json_form::under_index(alloc, index, place.as_str()) {
+            Ok(place) => Error::BadTree(place),
+            Err(_) => Error::Memory,
+        },
+        other => other,
+    }
+}
+
+/// The object has no keys but these.
+pub fn check_keys(alloc: Global, value: &BorrowedValue<'_>, known: &[&str]) -> Result<(), Error>
+    ensures ok { OnOk result (has_only (map (λ k. k.now) known.now) (borrowed_view value.now) ≡ true) }
+    ensures err { OnErr result (has_only (map (λ k. k.now) known.now) (borrowed_view value.now) ≡ false) }
+    ensures place { IfErr result IsAtRoot }
+{
+    if wesl_json_form::has_only(value, known) {
+        Ok(())
+    } else {
+        Err(wrong(alloc))
+    }
+}
+
+/// The member `key`, which must be there.
+pub fn required<'s, 'a>(
+    alloc: Global,
+    value: &'s BorrowedValue<'a>,
+    key: &str,
+) -> Result<&'s BorrowedValue<'a>, Error>
+    ensures ok { IfOk result (λ v. get key.now (borrowed_view value.now) ≡ Some (borrowed_view v.now)) }
+    ensures err { OnErr result (get key.now (borrowed_view value.now) ≡ None) }
+    ensures place { IfErr result IsAtRoot }
+{
+    value.get(key).ok_or(wrong(alloc))
+}
+
+/// The span at `span`: of no place where there is none, and where spans are not read.
+///
+/// # Errors
+///
+/// `BadTree` at `span`, where that is no list of just two whole numbers that do not fall and are below 2^32.
+pub fn read_span(alloc: Global, spans: bool, value: &BorrowedValue<'_>) -> Result<Span, Error>
+    ensures ok { IfOk result (λ s. span_in spans (borrowed_view value.now) ≡ Some (s.start, s.end)) }
+    ensures place { IfErr result (LocatesSpan spans (borrowed_view value.now)) }
+{
+    if !spans {
+        return Ok(Span { start: 0, end: 0 });
+    }
+    let Some(member) = value.get("span") else {
+        return Ok(Span { start: 0, end: 0 });
+    };
+    match span_of(member) {
+        Some(span) => Ok(span),
+        None => Err(under(alloc, wrong(alloc), "span")),
+    }
+}
+
+// A list of two whole numbers, as a span.
+fn span_of(value: &BorrowedValue<'_>) -> Option<Span>
+    ensures { option_map (λ s. (s.start, s.end)) result ≡ span_of (borrowed_view value.now) }
+{
+    let items = value.as_array()?;
+    if items.len() != 2 {
+        return None;
+    }
+    span_between(items[0].as_u64(), items[1].as_u64())
+}
+
+// The span from one place to another, which both have 32 bits.
+fn span_between(start: Option<u64>, end: Option<u64>) -> Option<Span>
+    ensures { option_map (λ s. (s.start, s.end)) result ≡ option_and_then (λ s. option_and_then (ordered s) end) start }
+{
+    let start = start?;
+    let end = end?;
+    if start <= end && end < 4294967296 {
+        Some(Span {
+            start: start as u32,
+            end: end as u32,
+        })
+    } else {
+        None
+    }
+}
+
+/// The text of a name, which is not empty.
+pub fn name_of<'a>(alloc: Global, value: &BorrowedValue<'a>) -> Result<&'a str, Error>
+    ensures ok { IfOk result (λ s. name_in (borrowed_view value.now) ≡ Some s.now) }
+    ensures place { IfErr result (LocatesHere (name_in (borrowed_view value.now))) }
+{
+    match value.as_str() {
+        Some(text) if !text.is_empty() => Ok(text),
+        _ => Err(wrong(alloc)),
+    }
+}
+
+/// The name at `key`.
+pub fn name_member<'a>(
+    alloc: Global,
+    value: &BorrowedValue<'a>,
+    key: &str,
+) -> Result<&'a str, Error>
+    ensures ok { IfOk result (λ s. option_and_then name_in (get key.now (borrowed_view value.now)) ≡ Some s.now) }
+    ensures place { IfErr result (LocatesText name_in key.now (borrowed_view value.now)) }
+{
+    let Some(member) = value.get(key) else {
+        return Err(wrong(alloc));
+    };
+    inside(alloc, key, name_of(alloc, member))
+}
+
+// The text of a literal, which is not empty and no truth value.
+fn literal_of<'a>(alloc: Global, value: &BorrowedValue<'a>) -> Result<&'a str, Error>
+    ensures ok { IfOk result (λ s. literal_in (borrowed_view value.now) ≡ Some s.now) }
+    ensures place { IfErr result (LocatesHere (literal_in (borrowed_view value.now))) }
+{
+    match value.as_str() {
+        Some(text) if !text.is_empty() && text != "true" && text != "false" => Ok(text),
+        _ => Err(wrong(alloc)),
+    }
+}
+
+/// The text of the literal at `key`.
+pub fn literal_member<'a>(
+    alloc: Global,
+    value: &BorrowedValue<'a>,
+    key: &str,
+) -> Result<&'a str, Error>
+    ensures ok { IfOk result (λ s. option_and_then literal_in (get key.now (borrowed_view value.now)) ≡ Some s.now) }
+    ensures place { IfErr result (LocatesText literal_in key.now (borrowed_view value.now)) }
+{
+    let Some(member) = value.get(key) else {
+        return Err(wrong(alloc));
+    };
+    inside(alloc, key, literal_of(alloc, member))
+}
+
+/// The path that a text says.
+pub(crate) fn path_of(alloc: Global, value: &BorrowedValue<'_>) -> Result<ModulePath, Error>
+    ensures ok { IfOk result (λ p. path_in (borrowed_view value.now) ≡ Some (path_view p)) }
+    ensures place { IfErr result (LocatesHere (path_in (borrowed_view value.now))) }
+{
+    let Some(text) = value.as_str() else {
+        return Err(wrong(alloc));
+    };
+    match ModulePath::parse(alloc, text)? {
+        Some(path) => Ok(path),
+        None => Err(wrong(alloc)),
+    }
+}
+
+/// The path at `key`.
+pub fn path_member(alloc: Global, value: &BorrowedValue<'_>, key: &str) -> Result<ModulePath, Error>
+    ensures ok { IfOk result (λ p. option_and_then path_in (get key.now (borrowed_view value.now)) ≡ Some (path_view p)) }
+    ensures place { IfErr result (LocatesText path_in key.now (borrowed_view value.now)) }
+{
+    let Some(member) = value.get(key) else {
+        return Err(wrong(alloc));
+    };
+    inside(alloc, key, path_of(alloc, member))
+}
+
+// Any text.
+fn text_of<'a>(alloc: Global, value: &BorrowedValue<'a>) -> Result<&'a str, Error>
+    ensures ok { IfOk result (λ s. as_str (borrowed_view value.now) ≡ Some s.now) }
+    ensures place { IfErr result (LocatesHere (as_str (borrowed_view value.now))) }
+{
+    match value.as_str() {
+        Some(text) => Ok(text),
+        None => Err(wrong(alloc)),
+    }
+}
+
+/// The text at `key`, which may be empty.
+pub fn text_member<'a>(
+    alloc: Global,
+    value: &BorrowedValue<'a>,
+    key: &str,
+) -> Result<&'a str, Error>
+    ensures ok { IfOk result (λ s. option_and_then as_str (get key.now (borrowed_view value.now)) ≡ Some s.now) }
+    ensures place { IfErr result (LocatesText as_str key.now (borrowed_view value.now)) }
+{
+    let Some(member) = value.get(key) else {
+        return Err(wrong(alloc));
+    };
+    inside(alloc, key, text_of(alloc, member))
+}
+
+/// What is read, as a text of its own.
+pub fn owned(alloc: Global, read: Result<&str, Error>) -> Result<String, Error>
+    ensures text { IfOk result (λ s. IsTextRead (λ t. t.now) read.entry (string_bytes s)) }
+    ensures place { IfErr result (IsMemoryOr read.entry) }
+{
+    match read {
+        Ok(text) => match String::from_str(alloc, text) {
+            Ok(own) => Ok(own),
+            Err(_) => Err(Error::Memory),
+        },
+        Err(error) => Err(error),
+    }
+}
+
+/// The name that a value is, as a text of its own.
+pub(crate) fn own_name_of(alloc: Global, value: &BorrowedValue<'_>) -> Result<String, Error>
+    ensures ok { IfOk result (λ s. name_in (borrowed_view value.now) ≡ Some (string_bytes s)) }
+    ensures place { IfErr result (LocatesHere (name_in (borrowed_view value.now))) }
+{
+    owned(alloc, name_of(alloc, value))
+}
+
+/// The name at `key`, as a text of its own.
+pub(crate) fn own_name(alloc: Global, value: &BorrowedValue<'_>, key: &str) -> Result<String, Error>
+    ensures ok { IfOk result (λ s. option_and_then name_in (get key.now (borrowed_view value.now)) ≡ Some (string_bytes s)) }
+    ensures place { IfErr result (LocatesText name_in key.now (borrowed_view value.now)) }
+{
+    owned(alloc, name_member(alloc, value, key))
+}
+
+/// The text of the literal at `key`, as a text of its own.
+pub(crate) fn own_literal(
+    alloc: Global,
+    value: &BorrowedValue<'_>,
+    key: &str,
+) -> Result<String, Error>
+    ensures ok { IfOk result (λ s. option_and_then literal_in (get key.now (borrowed_view value.now)) ≡ Some (string_bytes s)) }
+    ensures place { IfErr result (LocatesText literal_in key.now (borrowed_view value.now)) }
+{
+    owned(alloc, literal_member(alloc, value, key))
+}
+
+/// The text at `key`, which may be empty, as a text of its own.
+pub(crate) fn own_text(alloc: Global, value: &BorrowedValue<'_>, key: &str) -> Result<String, Error>
+    ensures ok { IfOk result (λ s. option_and_then as_str (get key.now (borrowed_view value.now)) ≡ Some (string_bytes s)) }
+    ensures place { IfErr result (LocatesText as_str key.now (borrowed_view value.now)) }
+{
+    owned(alloc, text_member(alloc, value, key))
+}

@@ -1,0 +1,33 @@
+use Rattle.wesl_json_form.specs.View.{borrowed_view}
+use Rattle.std.proofs.Common.{codes, false, refl, true, ◌≡◌}
+use Rattle.wesl_json_form.specs.Nodes.{attrs, operand}
+use Rattle.wesl_json_form.specs.Reading.{known_keys}
+use Rattle.wesl_json_form.specs.Keys.{has_only}
+use Rattle.wesl_json_form.specs.Schema.{a_break_if, an_attribute, an_expression, list_of, node}
+use Rattle.wesl_json_read.proofs.Expressions.{bare-keys, bare-place, bare-reads}
+use Rattle.wesl_json_read.proofs.Keyed.{by-keys}
+use Rattle.wesl_json_read.proofs.Places.{row-inside, row-member}
+use Rattle.wesl_json_read.proofs.Steps.{many-then, needs-then, none-then}
+use Rattle.wesl_tree_syntax.specs.Tree.{attributes, break_if}
+use Rattle.wesl_json_read_statements.proofs.selector.read_break_if.Goals as goal
+
+pub returns-in-Err-clause-place : goal.returns-in-Err-clause-place
+returns-in-Err-clause-place c =
+    let d = borrowed_view c.args.value.now in
+    by-keys c.in-Err.ensures.place
+    (λ h. let lacking : has_only (known_keys (attrs operand) d) d ≡ false = h.0 in bare-keys c.args.spans a_break_if break_if (attrs operand) d refl c.in-Err.error refl lacking h.1)
+    (λ h. let known : has_only (known_keys (attrs operand) d) d ≡ true = h.0 in bare-place c.args.spans a_break_if break_if (attrs operand) d refl c.in-Err.error known (row-inside c.args.spans (attrs operand) (codes "attrs") false (list_of attributes an_attribute) d c.in-Err.error refl h.1))
+
+pub returns-in-Err-expression_member-clause-place : goal.returns-in-Err-expression_member-clause-place
+returns-in-Err-expression_member-clause-place c =
+    let d = borrowed_view c.args.value.now in
+    let known : has_only (known_keys (attrs operand) d) d ≡ true = c.in-Ok.ensures.keys in
+    bare-place c.args.spans a_break_if break_if (attrs operand) d refl c.in-Err-expression_member.error known (row-member c.args.spans (attrs operand) (codes "expr") (node an_expression) d c.in-Err-expression_member.error refl c.in-Err-expression_member.ensures.place)
+
+pub returns-in-Ok-expression_member-clause-ok : goal.returns-in-Ok-expression_member-clause-ok
+returns-in-Ok-expression_member-clause-ok c =
+    let d = borrowed_view c.args.value.now in
+    let attributes_read = c.in-Ok.ensures.ok in
+    let expression_read = c.in-Ok-expression_member.ensures.ok in
+    let known : has_only (known_keys (attrs operand) d) d ≡ true = c.in-Ok.ensures.keys in
+    bare-reads c.args.spans a_break_if break_if (attrs operand) d refl _ _ _ known (many-then attributes_read (needs-then expression_read (none-then d _)))

@@ -1,0 +1,164 @@
+-- What is read of an object by the word at `k`.
+use Rattle.std.specs.Prelude.{◌⊎◌, List, Bool, false, Some, None, codes, option_and_then}
+use Rattle.std.specs.Str.{bytes_eq}
+use Rattle.serde_json.specs.Data.{Data}
+use Rattle.serde_json.specs.Find.{get, as_str}
+use Rattle.wesl_tree_names.specs.Path.{Text}
+use Rattle.wesl_tree_names.specs.declared.errors.Error as error
+use Rattle.wesl_tree_syntax.specs.Tree.{Kind, binder, kind, Tree, list, attributes, clauses, statement_node, compound_statement, compound, increment, decrement, if_statement, if_clause, switch, loop, for_loop, while_loop, break, continue, return, discard, call_statement, declaration, const_assert, void, const_kind, override_kind, let_kind, var_kind}
+use Rattle.wesl_json_form.specs.Schema.{Head, fixed, chosen, Row, nothing, needs, may, many, inner, Node, leaf, node, list_of, an_ident, a_type, a_body, a_call, a_clause, a_continuing, an_elif, an_else, a_statement, an_attribute}
+use Rattle.wesl_json_form.specs.Words.{assignment_words}
+use Rattle.wesl_json_form.specs.Nodes.{expression, one_expression, operand, attrs, body_row, condition_row, declared, space_row}
+use Rattle.wesl_json_read.specs.Faults.{LocatesInside, LocatesMember}
+use Rattle.wesl_json_read.specs.Forms.{ReadsWorded, worded_node, worded_row}
+use Rattle.wesl_json_read_statements.specs.declared.words.ValueWord.{ValueWord}
+use Rattle.wesl_json_read_statements.specs.declared.words.ValueWord.TheVariants as values
+use Rattle.wesl_json_read_statements.specs.declared.words.DeclaredWord.{DeclaredWord}
+use Rattle.wesl_json_read_statements.specs.declared.words.DeclaredWord.TheVariants as declareds
+use Rattle.wesl_json_read_statements.specs.declared.words.StatementWord.{StatementWord}
+use Rattle.wesl_json_read_statements.specs.declared.words.StatementWord.TheVariants as stated
+use Rattle.wesl_json_read_statements.specs.declared.words.StepWord.{StepWord}
+use Rattle.wesl_json_read_statements.specs.declared.words.StepWord.TheVariants as steps
+use Rattle.wesl_json_read_statements.specs.declared.words.JumpWord.{JumpWord}
+use Rattle.wesl_json_read_statements.specs.declared.words.JumpWord.TheVariants as jumps
+
+-- ---- what stands in modules and in functions
+
+abbrev pub value_text : ValueWord → Text
+value_text values.Const = codes "const"
+value_text values.Override = codes "override"
+value_text values.Let = codes "let"
+
+abbrev pub value_kind : ValueWord → Kind
+value_kind values.Const = const_kind
+value_kind values.Override = override_kind
+value_kind values.Let = let_kind
+
+abbrev pub declared_text : DeclaredWord → Text
+declared_text (declareds.Value w) = value_text w
+declared_text declareds.Var = codes "var"
+declared_text declareds.Assert = codes "assert"
+declared_text declareds.Void = codes "void"
+
+abbrev pub declared_kind : DeclaredWord → Kind
+declared_kind (declareds.Value w) = declaration
+declared_kind declareds.Var = declaration
+declared_kind declareds.Assert = const_assert
+declared_kind declareds.Void = void
+
+abbrev pub declared_row : DeclaredWord → Row
+declared_row (declareds.Value w) = declared (value_kind w) nothing
+declared_row declareds.Var = declared var_kind space_row
+declared_row declareds.Assert = attrs operand
+declared_row declareds.Void = nothing
+
+-- the members of a declaration after its attributes and its address space
+abbrev pub typed_members : Row
+typed_members = needs (codes "name") (leaf (an_ident binder)) (may (codes "ty") (node a_type) (may (codes "init") expression nothing))
+
+module _ (spans : Bool) where
+  -- its name lacks or is broken, or its type, or its initial value
+  abbrev pub LocatesTyped : Data → error.Error → Type 0
+  LocatesTyped d e = LocatesMember spans (codes "name") (leaf (an_ident binder)) d e ⊎ LocatesInside spans (codes "ty") (node a_type) d e ⊎ LocatesInside spans (codes "init") expression d e
+
+  abbrev pub declared_of : Kind → DeclaredWord → Node
+  declared_of outer w = worded_node spans outer (declared_text w) (fixed (kind (declared_kind w))) (declared_row w)
+
+  abbrev pub ReadsDeclared : DeclaredWord → Data → Tree → List Text → List Text → Type 0
+  ReadsDeclared w = ReadsWorded spans (declared_text w) (fixed (kind (declared_kind w))) (declared_row w)
+
+  abbrev pub declared_worded : DeclaredWord → Row
+  declared_worded w = worded_row spans (declared_text w) (fixed (kind (declared_kind w))) (declared_row w)
+
+-- ---- statements
+
+abbrev pub statement_text : StatementWord → Text
+statement_text stated.Block = codes "block"
+statement_text stated.Assign = codes "assign"
+statement_text stated.Increment = codes "inc"
+statement_text stated.Decrement = codes "dec"
+statement_text stated.If = codes "if"
+statement_text stated.Switch = codes "switch"
+statement_text stated.Loop = codes "loop"
+statement_text stated.For = codes "for"
+statement_text stated.While = codes "while"
+statement_text stated.Break = codes "break"
+statement_text stated.Continue = codes "continue"
+statement_text stated.Discard = codes "discard"
+statement_text stated.Return = codes "return"
+statement_text stated.Call = codes "call"
+statement_text (stated.Declared w) = declared_text w
+
+abbrev pub statement_head : StatementWord → Head
+statement_head stated.Block = fixed (kind compound_statement)
+statement_head stated.Assign = chosen (codes "op") assignment_words
+statement_head stated.Increment = fixed (kind increment)
+statement_head stated.Decrement = fixed (kind decrement)
+statement_head stated.If = fixed (kind if_statement)
+statement_head stated.Switch = fixed (kind switch)
+statement_head stated.Loop = fixed (kind loop)
+statement_head stated.For = fixed (kind for_loop)
+statement_head stated.While = fixed (kind while_loop)
+statement_head stated.Break = fixed (kind break)
+statement_head stated.Continue = fixed (kind continue)
+statement_head stated.Discard = fixed (kind discard)
+statement_head stated.Return = fixed (kind return)
+statement_head stated.Call = fixed (kind call_statement)
+statement_head (stated.Declared w) = fixed (kind (declared_kind w))
+
+abbrev pub statement_row : StatementWord → Row
+statement_row stated.Block = inner (fixed (kind compound)) body_row nothing
+statement_row stated.Assign = attrs (needs (codes "lhs") expression (one_expression (codes "rhs")))
+statement_row stated.Increment = attrs operand
+statement_row stated.Decrement = attrs operand
+statement_row stated.If = attrs (inner (fixed (kind if_clause)) condition_row (many (codes "elifs") (list_of list an_elif) (may (codes "else") (node an_else) nothing)))
+statement_row stated.Switch = attrs (needs (codes "expr") expression (many (codes "body_attrs") (list_of attributes an_attribute) (many (codes "clauses") (list_of clauses a_clause) nothing)))
+statement_row stated.Loop = attrs (needs (codes "body") (node a_body) (may (codes "continuing") (node a_continuing) nothing))
+statement_row stated.For = attrs (may (codes "init") (node a_statement) (may (codes "cond") expression (may (codes "update") (node a_statement) (needs (codes "body") (node a_body) nothing))))
+statement_row stated.While = attrs condition_row
+statement_row stated.Break = attrs nothing
+statement_row stated.Continue = attrs nothing
+statement_row stated.Discard = attrs nothing
+statement_row stated.Return = attrs (may (codes "expr") expression nothing)
+statement_row stated.Call = attrs (needs (codes "call") (node a_call) nothing)
+statement_row (stated.Declared w) = declared_row w
+
+module _ (spans : Bool) where
+  abbrev pub statement_of : StatementWord → Node
+  statement_of w = worded_node spans statement_node (statement_text w) (statement_head w) (statement_row w)
+
+  abbrev pub ReadsStatement : StatementWord → Data → Tree → List Text → List Text → Type 0
+  ReadsStatement w = ReadsWorded spans (statement_text w) (statement_head w) (statement_row w)
+
+  abbrev pub statement_worded : StatementWord → Row
+  statement_worded w = worded_row spans (statement_text w) (statement_head w) (statement_row w)
+
+-- the words of statements with attributes and an operand, and of those with attributes alone
+abbrev pub step_word : StepWord → StatementWord
+step_word steps.Increment = stated.Increment
+step_word steps.Decrement = stated.Decrement
+
+abbrev pub jump_word : JumpWord → StatementWord
+jump_word jumps.Break = stated.Break
+jump_word jumps.Continue = stated.Continue
+jump_word jumps.Discard = stated.Discard
+
+module _ (spans : Bool) where
+  -- a condition lacks or is broken, or the block that it decides on
+  abbrev pub LocatesCondition : Data → error.Error → Type 0
+  LocatesCondition d e = LocatesMember spans (codes "cond") expression d e ⊎ LocatesMember spans (codes "body") (node a_body) d e
+
+-- the members that each turn of a `for` takes
+abbrev pub turn_members : Row
+turn_members = may (codes "cond") expression (may (codes "update") (node a_statement) (needs (codes "body") (node a_body) nothing))
+
+module _ (spans : Bool) where
+  -- its condition is broken, or its update, or its block lacks or is broken
+  abbrev pub LocatesTurn : Data → error.Error → Type 0
+  LocatesTurn d e = LocatesInside spans (codes "cond") expression d e ⊎ LocatesInside spans (codes "update") (node a_statement) d e ⊎ LocatesMember spans (codes "body") (node a_body) d e
+
+-- ---- the values of `case`
+
+-- the word at `k` is `default`
+abbrev pub has_default : Data → Bool
+has_default d = elim (option_and_then as_str (get (codes "k") d)) as (λ _. Bool) [ None ↦ false | Some s ↦ bytes_eq s (codes "default") ]

@@ -1,0 +1,101 @@
+-- What is read of a declaration or a directive by its word at `k`.
+use Rattle.std.specs.Prelude.{◌≡◌, Bool, true, false, List, [], ◌∷◌, Some, None, codes}
+use Rattle.serde_json.specs.Data.{Data}
+use Rattle.serde_json.specs.Find.{get}
+use Rattle.wesl_tree_names.specs.Path.{Text}
+use Rattle.wesl_tree_names.specs.declared.errors.Error as error
+use Rattle.wesl_tree_syntax.specs.Tree.{Kind, kind, Tree, before, end, binder, members, declaration_node, directive_node, type_alias, struct, function, enable_directive, requires_directive, diagnostic_directive}
+use Rattle.wesl_json_form.specs.Schema.{fixed, Row, nothing, needs, may, many, inner, beside, a_span, second_form, Node, leaf, list_of, node, an_ident, a_content, a_member, a_path}
+use Rattle.wesl_json_form.specs.Nodes.{attrs, typed_row, function_row, names_row, severity_row}
+use Rattle.wesl_json_form.specs.Reading.{is_extra, known_keys}
+use Rattle.wesl_json_form.specs.Keys.{has_only}
+use Rattle.wesl_json_form.specs.Pointer.{key, pointer_text}
+use Rattle.wesl_json_read.specs.Faults.{IfPlace}
+use Rattle.wesl_json_read.specs.Forms.{ReadsWorded, worded_node, worded_row}
+use Rattle.wesl_json_read.specs.Numbers.{ReadsRows}
+use Rattle.wesl_json_read_statements.specs.Forms.{declared_text, declared_kind, declared_row}
+use Rattle.wesl_json_read_unit.specs.declared.words.DeclarationWord.{DeclarationWord}
+use Rattle.wesl_json_read_unit.specs.declared.words.DeclarationWord.TheVariants as globals
+use Rattle.wesl_json_read_unit.specs.declared.words.DirectiveWord.{DirectiveWord}
+use Rattle.wesl_json_read_unit.specs.declared.words.DirectiveWord.TheVariants as directed
+
+-- ---- declarations
+
+abbrev pub declaration_text : DeclarationWord → Text
+declaration_text globals.Alias = codes "alias"
+declaration_text globals.Struct = codes "struct"
+declaration_text globals.Function = codes "fn"
+declaration_text (globals.Declared w) = declared_text w
+
+abbrev pub declaration_kind : DeclarationWord → Kind
+declaration_kind globals.Alias = type_alias
+declaration_kind globals.Struct = struct
+declaration_kind globals.Function = function
+declaration_kind (globals.Declared w) = declared_kind w
+
+abbrev pub declaration_row : DeclarationWord → Row
+declaration_row globals.Alias = typed_row (an_ident binder)
+declaration_row globals.Struct = attrs (needs (codes "name") (leaf (an_ident binder)) (many (codes "members") (list_of members a_member) nothing))
+declaration_row globals.Function = function_row
+declaration_row (globals.Declared w) = declared_row w
+
+module _ (spans : Bool) where
+  abbrev pub declaration_of : DeclarationWord → Node
+  declaration_of w = worded_node spans declaration_node (declaration_text w) (fixed (kind (declaration_kind w))) (declaration_row w)
+
+  abbrev pub ReadsDeclaration : DeclarationWord → Data → Tree → List Text → List Text → Type 0
+  ReadsDeclaration w = ReadsWorded spans (declaration_text w) (fixed (kind (declaration_kind w))) (declaration_row w)
+
+  abbrev pub declaration_worded : DeclarationWord → Row
+  declaration_worded w = worded_row spans (declaration_text w) (fixed (kind (declaration_kind w))) (declaration_row w)
+
+-- ---- directives
+
+abbrev pub directive_text : DirectiveWord → Text
+directive_text directed.Enable = codes "enable"
+directive_text directed.Requires = codes "requires"
+directive_text directed.Diagnostic = codes "diagnostic"
+
+abbrev pub directive_kind : DirectiveWord → Kind
+directive_kind directed.Enable = enable_directive
+directive_kind directed.Requires = requires_directive
+directive_kind directed.Diagnostic = diagnostic_directive
+
+abbrev pub directive_row : DirectiveWord → Row
+directive_row directed.Enable = attrs names_row
+directive_row directed.Requires = attrs names_row
+directive_row directed.Diagnostic = attrs severity_row
+
+module _ (spans : Bool) where
+  abbrev pub directive_of : DirectiveWord → Node
+  directive_of w = worded_node spans directive_node (directive_text w) (fixed (kind (directive_kind w))) (directive_row w)
+
+  abbrev pub ReadsDirective : DirectiveWord → Data → Tree → List Text → List Text → Type 0
+  ReadsDirective w = ReadsWorded spans (directive_text w) (fixed (kind (directive_kind w))) (directive_row w)
+
+  abbrev pub directive_worded : DirectiveWord → Row
+  directive_worded w = worded_row spans (directive_text w) (fixed (kind (directive_kind w))) (directive_row w)
+
+-- ---- objects without a word, in a node that has a span
+
+abbrev pub import_row : Row
+import_row = attrs (may (codes "path") (leaf a_path) (needs (codes "content") (node a_content) nothing))
+
+module _ (spans : Bool) (k : Kind) (row : Row) where
+  -- its row: a span where spans are read, and the members of the node in it
+  abbrev pub spanned_row : Row
+  spanned_row = beside spans a_span (inner (fixed (kind k)) row nothing)
+
+  -- an object has only these members, and they are read as the tree
+  pub record ReadsSpanned (d : Data) (t : Tree) (old new : List Text) : Type 0 where
+    pub known : has_only (known_keys spanned_row d) d ≡ true
+    pub inside : ReadsRows spans (inner (fixed (kind k)) row nothing) d (before t end) old new
+
+-- ---- units
+
+-- what stands at `form` is 2, where the value says its form
+abbrev pub has_its_form : Data → Bool
+has_its_form d = elim (get (codes "form") d) as (λ _. Bool) [ None ↦ true | Some v ↦ is_extra second_form v ]
+
+abbrev pub LocatesForm : Data → error.Error → Type 0
+LocatesForm d e = IfPlace e (λ place. (place ≡ pointer_text (key (codes "form") ∷ [])) × (has_its_form d ≡ false))

@@ -1,6 +1,0 @@
-use Rattle.wesl_linker.specs.GivenView.{given}
-use Rattle.wesl_laws.proofs.Links.{links_faithful}
-use Rattle.wesl_laws.proofs.laws.law_of_apart_names.Goals as goal
-
-pub returns : goal.returns
-returns c = λ r unit sound entered assembled apart. links_faithful c.law_of_ways.ensures c.law_of_occurrences.ensures.identifiers r.found.link (given r.found.given) unit sound entered assembled apart

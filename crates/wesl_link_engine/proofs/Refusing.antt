@@ -1,0 +1,177 @@
+-- What a refused link tells.
+use Rattle.std.proofs.Common.{◌≡◌, inl, inr, ℕ, Bool, List, All, false, refl, sym, subst, ap, ◌∙◌}
+use Rattle.std.specs.Prelude.{string_bytes}
+use Rattle.wesl_tree_names.specs.Path.{Text, Path, path_view, is_relative}
+use Rattle.wesl_tree_names.specs.Errors.{error_of_resolve, IsBare}
+use Rattle.wesl_tree_names.specs.declared.errors.ResolveError as resolve_error
+use Rattle.wesl_tree_names.specs.declared.errors.Error as error
+use Rattle.wesl_tree_names.specs.declared.errors.Diagnostic.{Diagnostic, out-Diagnostic}
+use Rattle.wesl_tree_syntax.specs.Unit.{UnitOf}
+use Rattle.wesl_link_symbols.specs.declared.ids.PathId.{PathId}
+use Rattle.wesl_link_symbols.specs.declared.ids.NameId.{NameId}
+use Rattle.wesl_link_reach.specs.declared.error.LinkError.{LinkError}
+use Rattle.wesl_link_reach.specs.declared.error.LinkError.TheVariants as faults
+use Rattle.wesl_link_symbols.specs.Tables.{Table}
+use Rattle.wesl_link_reach.specs.Faults.{Fault, duplicate, refused, missing, private, too_many, ambiguous, too_many_flags, Explained}
+use Rattle.wesl_link_reach.specs.Linking as linking
+use Rattle.wesl_link_reach.specs.Refusal.{IsExplained}
+use Rattle.wesl_link_tables.specs.Numbering.{AreRelated, SameTable, Numbering, NameAt, PathAt, AreDifferent}
+use Rattle.wesl_link_engine.specs.Handing.{HaveOne, IsHandedTable}
+use Rattle.wesl_link_engine.specs.Worlds.{Module, table, task_of, IsRefused}
+use Rattle.wesl_link_engine.specs.Refusal.{TellsOf, HasNumbers, Tells, IsToldBy}
+use Rattle.wesl_link_engine.specs.declared.loaded.Held.{Held}
+use Rattle.wesl_link_engine.proofs.Carried.{SameFault}
+use Rattle.wesl_link_engine.proofs.Built.{modules, unit_world, refused_world, paths_one, names_one}
+
+-- a diagnostic that says what a fault tells, unless it is want of memory
+pub told_by : (P : Fault Path Text resolve_error.ResolveError → Type 0) (nb : Numbering) (f : LinkError resolve_error.ResolveError) (d : Diagnostic) → IsToldBy nb f d
+    → (Tells nb f (out-Diagnostic d).error → TellsOf P (out-Diagnostic d).error) → TellsOf P (out-Diagnostic d).error
+told_by P nb f d (inl short) to = subst (λ (x : error.Error). TellsOf P x) (sym short) tt
+told_by P nb f d (inr (told, at)) to = to told
+
+pub memory_told : (P : Fault Path Text resolve_error.ResolveError → Type 0) (e : error.Error) (d : Diagnostic) → IsBare e d → e ≡ error.Memory → TellsOf P (out-Diagnostic d).error
+memory_told P e d bare short = subst (λ (x : error.Error). TellsOf P x) (sym (ap (λ r. r.error) bare ∙ short)) tt
+
+-- a fault that says the same in texts is of the same kind
+module _ (nb : Numbering) where
+  abbrev InTexts : Fault PathId NameId resolve_error.ResolveError → Fault Path Text resolve_error.ResolveError → Type 0
+  InTexts = SameFault (PathAt nb) (NameAt nb)
+
+  duplicate_so : (n : NameId) (g : Fault Path Text resolve_error.ResolveError) → InTexts (duplicate n) g → (m : Text) × (g ≡ duplicate m) × NameAt nb n m
+  duplicate_so n (duplicate m) h = (m, refl, h)
+  duplicate_so n (refused f) h = absurd h
+  duplicate_so n (missing q m) h = absurd h
+  duplicate_so n (private m q) h = absurd h
+  duplicate_so n (too_many l) h = absurd h
+  duplicate_so n (ambiguous m) h = absurd h
+  duplicate_so n (too_many_flags q) h = absurd h
+
+  refused_so : (e : resolve_error.ResolveError) (g : Fault Path Text resolve_error.ResolveError) → InTexts (refused e) g → g ≡ refused e
+  refused_so e (refused f) h = ap refused (sym h)
+  refused_so e (duplicate m) h = absurd h
+  refused_so e (missing q m) h = absurd h
+  refused_so e (private m q) h = absurd h
+  refused_so e (too_many l) h = absurd h
+  refused_so e (ambiguous m) h = absurd h
+  refused_so e (too_many_flags q) h = absurd h
+
+  missing_so : (p : PathId) (n : NameId) (g : Fault Path Text resolve_error.ResolveError) → InTexts (missing p n) g → (q : Path) × (m : Text) × (g ≡ missing q m) × PathAt nb p q × NameAt nb n m
+  missing_so p n (missing q m) h = (q, m, refl, h.0, h.1)
+  missing_so p n (duplicate m) h = absurd h
+  missing_so p n (refused f) h = absurd h
+  missing_so p n (private m q) h = absurd h
+  missing_so p n (too_many l) h = absurd h
+  missing_so p n (ambiguous m) h = absurd h
+  missing_so p n (too_many_flags q) h = absurd h
+
+  private_so : (n : NameId) (p : PathId) (g : Fault Path Text resolve_error.ResolveError) → InTexts (private n p) g → (m : Text) × (q : Path) × (g ≡ private m q) × NameAt nb n m × PathAt nb p q
+  private_so n p (private m q) h = (m, q, refl, h.0, h.1)
+  private_so n p (duplicate m) h = absurd h
+  private_so n p (refused f) h = absurd h
+  private_so n p (missing q m) h = absurd h
+  private_so n p (too_many l) h = absurd h
+  private_so n p (ambiguous m) h = absurd h
+  private_so n p (too_many_flags q) h = absurd h
+
+  too_many_so : (k : ℕ) (g : Fault Path Text resolve_error.ResolveError) → InTexts (too_many k) g → g ≡ too_many k
+  too_many_so k (too_many l) h = ap too_many (sym h)
+  too_many_so k (duplicate m) h = absurd h
+  too_many_so k (refused f) h = absurd h
+  too_many_so k (missing q m) h = absurd h
+  too_many_so k (private m q) h = absurd h
+  too_many_so k (ambiguous m) h = absurd h
+  too_many_so k (too_many_flags q) h = absurd h
+
+  ambiguous_so : (n : NameId) (g : Fault Path Text resolve_error.ResolveError) → InTexts (ambiguous n) g → (m : Text) × (g ≡ ambiguous m) × NameAt nb n m
+  ambiguous_so n (ambiguous m) h = (m, refl, h)
+  ambiguous_so n (duplicate m) h = absurd h
+  ambiguous_so n (refused f) h = absurd h
+  ambiguous_so n (missing q m) h = absurd h
+  ambiguous_so n (private m q) h = absurd h
+  ambiguous_so n (too_many l) h = absurd h
+  ambiguous_so n (too_many_flags q) h = absurd h
+
+  too_many_flags_so : (p : PathId) (g : Fault Path Text resolve_error.ResolveError) → InTexts (too_many_flags p) g → (q : Path) × (g ≡ too_many_flags q) × PathAt nb p q
+  too_many_flags_so p (too_many_flags q) h = (q, refl, h)
+  too_many_flags_so p (duplicate m) h = absurd h
+  too_many_flags_so p (refused f) h = absurd h
+  too_many_flags_so p (missing q m) h = absurd h
+  too_many_flags_so p (private m q) h = absurd h
+  too_many_flags_so p (too_many l) h = absurd h
+  too_many_flags_so p (ambiguous m) h = absurd h
+
+module _ (nb : Numbering) (hands : Path → UnitOf Text → Type 0) (units : List (PathId × Held)) (one : HaveOne units) (rt : Table PathId NameId) (rm : Module) (root_same : SameTable (PathAt nb) (NameAt nb) rt (table rm))
+    (different_paths : AreDifferent nb.paths) (different_names : AreDifferent nb.names) (asked : All (λ p. is_relative p ≡ false) nb.paths)
+    (kept : List NameId) (keep : List Text) (kept_same : AreRelated (NameAt nb) kept keep) (is_eager : Bool) (refuses : Path → resolve_error.ResolveError → Type 0) (refuses_id : PathId → resolve_error.ResolveError → Type 0)
+    (to : (p : PathId) (q : Path) (e : resolve_error.ResolveError) → PathAt nb p q → refuses_id p e → refuses q e) (limit : ℕ) where
+  -- the fault stands among units too
+  stands_there : (f : Fault PathId NameId resolve_error.ResolveError) → Explained (IsHandedTable hands nb units) refuses_id rt (linking.task_of rt kept is_eager) limit f
+      → (g : Fault Path Text resolve_error.ResolveError) × SameFault (PathAt nb) (NameAt nb) f g × IsRefused hands refuses rm (task_of rm keep is_eager) limit g
+  stands_there f (w, is_world, stands) =
+      let (ms, rel) = modules nb hands units one rt rm root_same different_paths different_names asked w is_world in
+      let (g, same, there) = refused_world nb hands units one rt rm root_same different_paths different_names asked w is_world ms rel kept keep kept_same is_eager refuses refuses_id to limit f stands in
+      (g, same, (ms, unit_world nb hands units one rt rm root_same different_paths different_names asked w is_world ms rel, there))
+
+  pub has_numbers : (f : LinkError resolve_error.ResolveError) → IsExplained (IsHandedTable hands nb units) refuses_id rt (linking.task_of rt kept is_eager) limit f → HasNumbers nb f
+  has_numbers (faults.DuplicateSymbol p n) x = let (g, same, there) = stands_there (duplicate n) x in let (m, is, named) = duplicate_so nb n g same in (m, named)
+  has_numbers (faults.Refused r) x = tt
+  has_numbers (faults.MissingDecl p n) x = let (g, same, there) = stands_there (missing p n) x in let (q, m, is, at, named) = missing_so nb p n g same in ((q, at), (m, named))
+  has_numbers (faults.Private n p) x = let (g, same, there) = stands_there (private n p) x in let (m, q, is, named, at) = private_so nb n p g same in ((m, named), (q, at))
+  has_numbers (faults.AmbiguousSymbol n) x = let (g, same, there) = stands_there (ambiguous n) x in let (m, is, named) = ambiguous_so nb n g same in (m, named)
+  has_numbers (faults.TooManyFlags p) x = let (g, same, there) = stands_there (too_many_flags p) x in let (q, is, at) = too_many_flags_so nb p g same in (q, at)
+  has_numbers (faults.ModuleLimit k) x = tt
+  has_numbers faults.Memory x = tt
+
+  abbrev Refused : Fault Path Text resolve_error.ResolveError → Type 0
+  Refused = IsRefused hands refuses rm (task_of rm keep is_eager) limit
+
+  abbrev Told : error.Error → Type 0
+  Told = TellsOf Refused
+
+  resolve_told : (r : resolve_error.ResolveError) → Refused (refused r) → Told (error_of_resolve r)
+  resolve_told (resolve_error.FileNotFound f m) h = (λ e. cc, h)
+  resolve_told (resolve_error.ModuleNotFound p m) h = (λ e. cc, h)
+  resolve_told (resolve_error.Error' p i d m s x z) h = (λ e. cc, h)
+  resolve_told resolve_error.Memory h = tt
+
+  name_one : (n : NameId) (x y : Text) → NameAt nb n x → NameAt nb n y → x ≡ y
+  name_one = (names_one nb different_names).one
+
+  path_one : (p : PathId) (q r : Path) → PathAt nb p q → PathAt nb p r → q ≡ r
+  path_one = (paths_one nb different_paths).one
+
+  pub refusal_told : (f : LinkError resolve_error.ResolveError) (e : error.Error) → IsExplained (IsHandedTable hands nb units) refuses_id rt (linking.task_of rt kept is_eager) limit f → Tells nb f e → Told e
+  refusal_told (faults.DuplicateSymbol p n) e x (y, is, named) =
+      let (g, same, there) = stands_there (duplicate n) x in
+      let (m, kind, named2) = duplicate_so nb n g same in
+      let P : error.Error → Type 0 = Told in
+      subst P (sym is) (subst Refused (kind ∙ ap duplicate (name_one n m (string_bytes y) named2 named)) there)
+  refusal_told (faults.Refused r) e x is =
+      let (g, same, there) = stands_there (refused r) x in
+      let P : error.Error → Type 0 = Told in
+      subst P (sym is) (resolve_told r (subst Refused (refused_so nb r g same) there))
+  refusal_told (faults.MissingDecl p n) e x (path, y, is, at, named) =
+      let (g, same, there) = stands_there (missing p n) x in
+      let (q, m, kind, at2, named2) = missing_so nb p n g same in
+      let P : error.Error → Type 0 = Told in
+      subst P (sym is) (subst Refused (kind ∙ (ap (λ (z : Path). missing z m) (path_one p q (path_view path) at2 at) ∙ ap (missing (path_view path)) (name_one n m (string_bytes y) named2 named))) there)
+  refusal_told (faults.Private n p) e x (y, path, is, named, at) =
+      let (g, same, there) = stands_there (private n p) x in
+      let (m, q, kind, named2, at2) = private_so nb n p g same in
+      let P : error.Error → Type 0 = Told in
+      subst P (sym is) (subst Refused (kind ∙ (ap (λ (z : Text). private z q) (name_one n m (string_bytes y) named2 named) ∙ ap (private (string_bytes y)) (path_one p q (path_view path) at2 at))) there)
+  refusal_told (faults.AmbiguousSymbol n) e x (y, is, named) =
+      let (g, same, there) = stands_there (ambiguous n) x in
+      let (m, kind, named2) = ambiguous_so nb n g same in
+      let P : error.Error → Type 0 = Told in
+      subst P (sym is) (subst Refused (kind ∙ ap ambiguous (name_one n m (string_bytes y) named2 named)) there)
+  refusal_told (faults.TooManyFlags p) e x (path, is, at) =
+      let (g, same, there) = stands_there (too_many_flags p) x in
+      let (q, kind, at2) = too_many_flags_so nb p g same in
+      let P : error.Error → Type 0 = Told in
+      subst P (sym is) (subst Refused (kind ∙ ap too_many_flags (path_one p q (path_view path) at2 at)) there)
+  refusal_told (faults.ModuleLimit k) e x is =
+      let (g, same, there) = stands_there (too_many k) x in
+      let P : error.Error → Type 0 = Told in
+      subst P (sym is) (subst Refused (too_many_so nb k g same) there)
+  refusal_told faults.Memory e x is = let P : error.Error → Type 0 = Told in subst P (sym is) tt

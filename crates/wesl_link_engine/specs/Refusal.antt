@@ -1,0 +1,73 @@
+-- Why a link is refused.
+use Rattle.std.specs.Prelude.{◌≡◌, ◌≢◌, ◌⊎◌, Option, Some, None, slice_get, string_bytes, String}
+use Rattle.std.specs.declared.alloc.Global.{Global}
+use Rattle.wesl_tree_names.specs.Path.{Text, Path, path_view}
+use Rattle.wesl_tree_names.specs.Errors.{error_of_resolve}
+use Rattle.wesl_tree_names.specs.declared.errors.ImportError as import_error
+use Rattle.wesl_tree_names.specs.declared.errors.ResolveError as resolve_error
+use Rattle.wesl_tree_names.specs.declared.errors.Error as error
+use Rattle.wesl_tree_names.specs.declared.errors.Diagnostic.{Diagnostic, out-Diagnostic}
+use Rattle.wesl_tree_names.specs.declared.path.ModulePath.{ModulePath}
+use Rattle.wesl_link_symbols.specs.declared.ids.PathId.{PathId}
+use Rattle.wesl_link_reach.specs.declared.error.LinkError.{LinkError}
+use Rattle.wesl_link_reach.specs.declared.error.LinkError.TheVariants as faults
+use Rattle.wesl_link_reach.specs.Faults.{Fault, duplicate, refused, missing, private, too_many, ambiguous, too_many_flags}
+use Rattle.wesl_link_tables.specs.Numbering.{Numbering, NameAt, PathAt}
+
+-- the fault that an error of an import tells is one of which P holds; want of memory is no such error
+abbrev pub TellsOfImport : (Fault Path Text resolve_error.ResolveError → Type 0) → import_error.ImportError → Type 0
+TellsOfImport P (import_error.DuplicateSymbol n) = P (duplicate (string_bytes n))
+TellsOfImport P (import_error.ResolveError e) = (e ≢ resolve_error.Memory) × P (refused e)
+TellsOfImport P (import_error.MissingDecl p n) = P (missing (path_view p) (string_bytes n))
+TellsOfImport P (import_error.Private n p) = P (private (string_bytes n) (path_view p))
+TellsOfImport P (import_error.AmbiguousSymbol n) = P (ambiguous (string_bytes n))
+TellsOfImport P (import_error.TooManyFlags p) = P (too_many_flags (path_view p))
+
+-- the error tells a fault of which P holds, or want of memory
+abbrev pub TellsOf : (Fault Path Text resolve_error.ResolveError → Type 0) → error.Error → Type 0
+TellsOf P (error.Import e) = TellsOfImport P e
+TellsOf P (error.ModuleLimit k) = P (too_many k)
+TellsOf P error.Memory = Unit {0}
+TellsOf P _ = ⊥
+
+-- the names and paths of the fault have these numbers
+abbrev pub HasNumbers : Numbering → LinkError resolve_error.ResolveError → Type 0
+HasNumbers numbering (faults.DuplicateSymbol p n) = (x : Text) × NameAt numbering n x
+HasNumbers numbering (faults.Refused r) = Unit {0}
+HasNumbers numbering (faults.MissingDecl p n) = ((q : Path) × PathAt numbering p q) × ((x : Text) × NameAt numbering n x)
+HasNumbers numbering (faults.Private n p) = ((x : Text) × NameAt numbering n x) × ((q : Path) × PathAt numbering p q)
+HasNumbers numbering (faults.AmbiguousSymbol n) = (x : Text) × NameAt numbering n x
+HasNumbers numbering (faults.TooManyFlags p) = (q : Path) × PathAt numbering p q
+HasNumbers numbering (faults.ModuleLimit k) = Unit {0}
+HasNumbers numbering faults.Memory = Unit {0}
+
+-- the error tells the fault: that of a resolver as it is, any other with the names and paths of its numbers
+abbrev pub Tells : Numbering → LinkError resolve_error.ResolveError → error.Error → Type 0
+Tells numbering (faults.DuplicateSymbol p n) e = (x : String Global) × (e ≡ error.Import (import_error.DuplicateSymbol x)) × NameAt numbering n (string_bytes x)
+Tells numbering (faults.Refused r) e = e ≡ error_of_resolve r
+Tells numbering (faults.MissingDecl p n) e =
+    (q : ModulePath) × (x : String Global) × (e ≡ error.Import (import_error.MissingDecl q x)) × PathAt numbering p (path_view q) × NameAt numbering n (string_bytes x)
+Tells numbering (faults.Private n p) e =
+    (x : String Global) × (q : ModulePath) × (e ≡ error.Import (import_error.Private x q)) × NameAt numbering n (string_bytes x) × PathAt numbering p (path_view q)
+Tells numbering (faults.AmbiguousSymbol n) e = (x : String Global) × (e ≡ error.Import (import_error.AmbiguousSymbol x)) × NameAt numbering n (string_bytes x)
+Tells numbering (faults.TooManyFlags p) e = (q : ModulePath) × (e ≡ error.Import (import_error.TooManyFlags q)) × PathAt numbering p (path_view q)
+Tells numbering (faults.ModuleLimit k) e = e ≡ error.ModuleLimit k
+Tells numbering faults.Memory e = e ≡ error.Memory
+
+-- the module that holds the fault, where one does: it has the two targets, or it lacks the name or hides it
+abbrev pub holder_of : LinkError resolve_error.ResolveError → Option PathId
+holder_of (faults.DuplicateSymbol p n) = Some p
+holder_of (faults.MissingDecl p n) = Some p
+holder_of (faults.Private n p) = Some p
+holder_of _ = None
+
+-- the path of a number, if it has one
+abbrev pub IsModuleAt : Numbering → Option PathId → Option ModulePath → Type 0
+IsModuleAt numbering None m = m ≡ None
+IsModuleAt numbering (Some p) None = slice_get numbering.paths p.0 ≡ None
+IsModuleAt numbering (Some p) (Some m) = PathAt numbering p (path_view m)
+
+-- the diagnostic tells the fault and the module that holds it, or want of memory
+abbrev pub IsToldBy : Numbering → LinkError resolve_error.ResolveError → Diagnostic → Type 0
+IsToldBy numbering fault d =
+    ((out-Diagnostic d).error ≡ error.Memory) ⊎ (Tells numbering fault (out-Diagnostic d).error × IsModuleAt numbering (holder_of fault) (out-Diagnostic d).«module»)

@@ -1,0 +1,49 @@
+//! Worked rows of the definitions: whether the names of small units read as their numbers say.
+ghost use Rattle.wesl_link_laws.specs.Faith.{shadowed_row, parameter_clash_row, parameter_apart_row, free_clash_row, free_apart_row, unmangled_row, free_mangled_row, body_0_row, body_1_row, body_2_row, body_3_row, body_4_row, free_with_binders_number_row, two_locals_one_after_row, two_locals_both_before_row, two_module_names_row, first_of_two_locals_row, global_before_use_row, free_with_a_later_local_number_row, two_parameters_row, shadowed_retargeted, parameter_clash_retargeted, parameter_apart_retargeted, free_clash_retargeted, free_apart_retargeted, unmangled_retargeted, free_mangled_retargeted, body_0_retargeted, body_1_retargeted, body_2_retargeted, body_3_retargeted, body_4_retargeted, free_with_binders_number_retargeted, two_locals_both_before_retargeted, two_module_names_retargeted, first_of_two_locals_retargeted, global_before_use_retargeted, free_with_a_later_local_number_retargeted, two_parameters_retargeted};
+
+/// Whether the names of small units read as their numbers say.
+pub fn faith_of_rows()
+    ensures shadowed { shadowed_row }
+    ensures parameter_clash { parameter_clash_row }
+    ensures parameter_apart { parameter_apart_row }
+    ensures free_clash { free_clash_row }
+    ensures free_apart { free_apart_row }
+    ensures unmangled { unmangled_row }
+    ensures free_mangled { free_mangled_row }
+    ensures body_0 { body_0_row }
+    ensures body_1 { body_1_row }
+    ensures body_2 { body_2_row }
+    ensures body_3 { body_3_row }
+    ensures body_4 { body_4_row }
+    ensures free_with_binders_number { free_with_binders_number_row }
+    ensures two_locals_one_after { two_locals_one_after_row }
+    ensures two_locals_both_before { two_locals_both_before_row }
+    ensures two_module_names { two_module_names_row }
+    ensures first_of_two_locals { first_of_two_locals_row }
+    ensures global_before_use { global_before_use_row }
+    ensures free_with_a_later_local_number { free_with_a_later_local_number_row }
+    ensures two_parameters { two_parameters_row }
+{}
+
+/// New numbers by meaning are those of these units exactly where their names do not clash.
+pub fn numbers_of_faithful_rows()
+    ensures shadowed { shadowed_retargeted }
+    ensures parameter_clash { parameter_clash_retargeted }
+    ensures parameter_apart { parameter_apart_retargeted }
+    ensures free_clash { free_clash_retargeted }
+    ensures free_apart { free_apart_retargeted }
+    ensures unmangled { unmangled_retargeted }
+    ensures free_mangled { free_mangled_retargeted }
+    ensures body_0 { body_0_retargeted }
+    ensures body_1 { body_1_retargeted }
+    ensures body_2 { body_2_retargeted }
+    ensures body_3 { body_3_retargeted }
+    ensures body_4 { body_4_retargeted }
+    ensures free_with_binders_number { free_with_binders_number_retargeted }
+    ensures two_locals_both_before { two_locals_both_before_retargeted }
+    ensures two_module_names { two_module_names_retargeted }
+    ensures first_of_two_locals { first_of_two_locals_retargeted }
+    ensures global_before_use { global_before_use_retargeted }
+    ensures free_with_a_later_local_number { free_with_a_later_local_number_retargeted }
+    ensures two_parameters { two_parameters_retargeted }
+{}

@@ -1,0 +1,56 @@
+-- A link whose printed names are recorded.
+use Rattle.std.specs.Prelude.{ℕ, Bool, true, List, Option}
+use Rattle.wesl_tree_names.specs.Path.{Text, Path, path_view}
+use Rattle.wesl_tree_names.specs.declared.errors.Diagnostic.{Diagnostic}
+use Rattle.wesl_tree_names.specs.declared.errors.ResolveError.{ResolveError}
+use Rattle.wesl_tree_syntax.specs.Unit.{UnitOf, UnitView}
+use Rattle.wesl_tree.specs.Translation.{unit_view}
+use Rattle.wesl_link_reach.specs.World.{Task}
+use Rattle.wesl_link_engine.specs.Recorded.{Record, IsRecordedBy}
+use Rattle.wesl_link_engine.specs.Worlds.{Module}
+use Rattle.wesl_link_engine.specs.Linked.{IsAssembled}
+use Rattle.wesl_link_engine.specs.Resolved.{mangled, NamesAgree, writes}
+use Rattle.wesl_cond_features.specs.declared.features.Features.{Features}
+use Rattle.wesl_link.specs.Linking.{Links, TellsRefusalLeft, kept_names, hands_left, refuses_left}
+use Rattle.wesl_source_map.specs.BasicView.{items}
+use Rattle.wesl_source_map.specs.declared.mapper.SourceMapper.{SourceMapper}
+use Rattle.wesl_link_mapped.specs.declared.mapped.Mapped.{Mapped}
+
+-- the names that are kept of the root, or all that is declared
+abbrev pub task_at : Path → List Text → Bool → Task Path Text
+task_at root keep is_eager = record { root = root; kept = kept_names is_eager keep; is_eager = is_eager }
+
+-- The modules are linked from the root, and the unit is their linked form under the names of the mangler, the root's own
+-- unless it is mangled. The record is what it was before with a write for each name that they declare, in module order, those
+-- of the root only where it is mangled: of several for one name the last counts.
+abbrev pub MapsLink : (Path → UnitOf Text → Type 0) → (Path → ResolveError → Type 0) → (Path → Text → Text) → Path → List Text → Bool → Bool → ℕ → Record → Record → UnitView → Type 0
+MapsLink hands refuses name_of root keep is_eager mangle_root limit before after unit =
+    (turns : ℕ) × (w : List Module) × (names : Path → Text → Text)
+    × Links hands refuses root keep is_eager limit turns w
+    × NamesAgree w names (mangled root mangle_root name_of)
+    × IsAssembled w (task_at root keep is_eager) names unit
+    × IsRecordedBy true (writes name_of mangle_root w) before after
+
+-- the same of the units as the features leave them
+abbrev pub MapsLinkLeft : (Path → UnitOf Text → Type 0) → (Path → ResolveError → Type 0) → Option Features → (Path → Text → Text) → Path → List Text → Bool → Bool → ℕ → Record → Record → UnitView → Type 0
+MapsLinkLeft hands refuses features name_of root keep is_eager mangle_root limit before after unit =
+    MapsLink (hands_left hands refuses features) (refuses_left hands refuses features) name_of root keep is_eager mangle_root limit before after unit
+
+module _ {R M : Type 0} (hands : R → Path → UnitOf Text → Type 0) (refuses : R → Path → ResolveError → Type 0) (name_of : M → Path → Text → Text) where
+  -- what is made is a link by the mapper: its resolver hands out the units, its mangler names, and its record goes on
+  abbrev pub MapsBy : SourceMapper R M → List Text → Bool → Bool → ℕ → Mapped → Type 0
+  MapsBy mapper keep is_eager mangle_root limit made =
+      MapsLink (hands mapper.resolver) (refuses mapper.resolver) (name_of mapper.mangler) (path_view mapper.root) keep is_eager mangle_root limit
+      (items mapper.sourcemap) (items made.map) (unit_view made.unit)
+
+  -- the same of the units as the features leave them
+  abbrev pub MapsByLeft : Option Features → SourceMapper R M → List Text → Bool → Bool → ℕ → Mapped → Type 0
+  MapsByLeft features mapper keep is_eager mangle_root limit made =
+      MapsLinkLeft (hands mapper.resolver) (refuses mapper.resolver) features (name_of mapper.mangler) (path_view mapper.root) keep is_eager mangle_root limit
+      (items mapper.sourcemap) (items made.map) (unit_view made.unit)
+
+module _ {R M : Type 0} (hands : R → Path → UnitOf Text → Type 0) (refuses : R → Path → ResolveError → Type 0) where
+  -- the error of the diagnostic tells why such a link by the mapper is refused
+  abbrev pub RefusesByLeft : Option Features → SourceMapper R M → List Text → Bool → ℕ → Diagnostic → Type 0
+  RefusesByLeft features mapper keep is_eager limit d =
+      TellsRefusalLeft (hands mapper.resolver) (refuses mapper.resolver) features mapper.root keep is_eager limit d

@@ -1,0 +1,4 @@
+use Rattle.wesl_link_reach.proofs.run.asked_by_symbol.Goals as goal
+
+pub unreachable-requires : goal.unreachable-requires
+unreachable-requires c = let (t, at) = c.requires.there in c.in-None.ensures.none t at

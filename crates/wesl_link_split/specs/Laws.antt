@@ -1,0 +1,40 @@
+-- What names ask for in a module that is known by numbers is what they ask for by its paths and texts.
+use Rattle.std.specs.Prelude.{◌≡◌, List}
+use Rattle.wesl_tree_names.specs.Path.{Text, Path}
+use Rattle.wesl_cond_choices.specs.declared.place.Place.{Place}
+use Rattle.wesl_link_symbols.specs.declared.ids.PathId.{PathId}
+use Rattle.wesl_link_symbols.specs.declared.ids.NameId.{NameId}
+use Rattle.wesl_link_symbols.specs.declared.symbols.Import.{Import}
+use Rattle.wesl_link_split.specs.Different.{AreDifferent}
+use Rattle.wesl_link_split.specs.Grouped.{ids}
+use Rattle.wesl_link_split.specs.Numbering.{Numbering, NameAt, PathAt, IsNumberedImport, IsNumberedReference, AreNumberedReferences, AreNumberedBinders, IsNumberedScope}
+use Rattle.wesl_link_split.specs.Split as split
+use Rattle.wesl_link_split.specs.Split.{Binder, Scope}
+use Rattle.wesl_link_split.specs.Uses.{texts}
+
+module _ (k : Numbering) (s : Scope PathId NameId) (t : Scope Path Text) where
+  -- what a name asks for that is used at a place, in the module `s` by its number, and in `t` by its text
+  pub record NameAsksAlike (n : NameId) (x : Text) (here : Place) : Type 0 where
+    pub place : split.place_at ids s n here ≡ split.place_at texts t x here
+    pub under : (p : PathId) (q : Path) → PathAt k p q → IsNumberedReference k (split.under ids s n here p) (split.under texts t x here q)
+    pub plain : AreNumberedReferences k (split.asked_plain ids s n here) (split.asked_plain texts t x here)
+    pub unclear : split.is_unclear_plain ids s n here ≡ split.is_unclear_plain texts t x here
+    pub imports : AreNumberedBinders k (split.seen_imports ids s n here) (split.seen_imports texts t x here)
+
+  -- all names, and what the imports of the table find
+  pub record AskAlike : Type 0 where
+    pub has_split : split.has_split ids s.binders ≡ split.has_split texts t.binders
+    pub names : (n : NameId) (x : Text) (here : Place) → NameAt k n x → NameAsksAlike n x here
+    pub settled : (i : Import PathId NameId) (j : Import Path Text) → IsNumberedImport k i j → IsNumberedImport k (split.settled ids s i) (split.settled texts t j)
+
+-- where different names have different numbers, and different paths: a module asks alike by both
+abbrev pub NumbersAskAlike : Type 0
+NumbersAskAlike =
+    (k : Numbering) → AreDifferent k.names → AreDifferent k.paths
+    → (s : Scope PathId NameId) (t : Scope Path Text) → IsNumberedScope k s t → AskAlike k s t
+
+-- and binders have two targets by both, or by none
+abbrev pub NumbersDifferAlike : Type 0
+NumbersDifferAlike =
+    (k : Numbering) → AreDifferent k.names → AreDifferent k.paths
+    → (bs : List (Binder PathId NameId)) (cs : List (Binder Path Text)) → AreNumberedBinders k bs cs → split.has_two_targets ids bs ≡ split.has_two_targets texts cs

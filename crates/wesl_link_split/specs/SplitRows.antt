@@ -1,0 +1,52 @@
+-- Rows of split names.
+use Rattle.std.specs.Prelude.{◌≡◌, ℕ, true, false, [], ◌∷◌}
+use Rattle.wesl_tree_names.specs.Path.{Text, Path, from_package, root_path}
+use Rattle.wesl_cond_choices.specs.declared.place.Place.TheVariants.{Always, Import, Name}
+use Rattle.wesl_link_split.specs.Split.{Binder, Scope, is_split, finding, order_of, from_of}
+use Rattle.wesl_link_split.specs.Uses.{texts, refers, unclear, plain_use, path_use}
+
+abbrev pub at_p : Path
+at_p = record { origin = root_path.origin; components = (112 ∷ []) ∷ [] }
+
+abbrev pub at_q : Path
+at_q = record { origin = root_path.origin; components = (113 ∷ []) ∷ [] }
+
+abbrev pub f : Text
+f = 102 ∷ []
+
+abbrev pub g : Text
+g = 103 ∷ []
+
+abbrev pub import_at : Text → Path → Text → ℕ → Binder Path Text
+import_at n path item j = record { bound = n; path = path; item = item; declares = false; stands = Import j }
+
+-- `@if(X) import p::f; @else import q::f;`, a use 10 under X, a use 20 always, and a dead use 30
+abbrev pub either : Scope Path Text
+either = record { own = root_path; binders = import_at f at_p f 0 ∷ import_at f at_q f 1 ∷ []; alive = (Import 1 ∷ Name 20 ∷ []) ∷ (Import 0 ∷ Name 10 ∷ Name 20 ∷ []) ∷ [] }
+
+-- two imports f of one target, a split name g of their own module: the first sees one binder of g, the second both
+abbrev pub g1 : Binder Path Text
+g1 = import_at f root_path g 0
+
+abbrev pub g2 : Binder Path Text
+g2 = import_at f root_path g 1
+
+abbrev pub through : Scope Path Text
+through = record { own = root_path; binders = g1 ∷ g2 ∷ import_at g at_p f 2 ∷ import_at g at_q f 3 ∷ []; alive = (Import 0 ∷ Import 1 ∷ Import 2 ∷ []) ∷ (Import 1 ∷ Import 3 ∷ []) ∷ [] }
+
+-- the path of `f::g`
+abbrev pub through_f : Path
+through_f = record { origin = from_package f; components = [] }
+
+pub record SplitRows : Type 0 where
+  pub split : is_split texts either.binders f ≡ true
+  pub under : plain_use either (Name 10) f ≡ refers f (record { path = at_p; name = f; from = Always } ∷ [])
+  pub everywhere : plain_use either (Name 20) f ≡ unclear f f
+  pub dead : plain_use either (Name 30) f ≡ refers f []
+  pub path_under : path_use either (Name 10) through_f g ≡ refers g (record { path = record { origin = root_path.origin; components = (112 ∷ []) ∷ f ∷ [] }; name = g; from = Always } ∷ [])
+  pub path_everywhere : path_use either (Name 20) through_f g ≡ unclear g f
+  pub path_dead : path_use either (Name 30) through_f g ≡ refers g (record { path = record { origin = from_package f; components = [] }; name = g; from = Always } ∷ [])
+  pub first_order : order_of texts (finding texts through g1) ≡ 2
+  pub second_order : order_of texts (finding texts through g2) ≡ 1
+  pub second_from : from_of texts through g2 ≡ Import 1
+  pub asked : plain_use through (Name 7) f ≡ refers f (record { path = root_path; name = g; from = Import 1 } ∷ [])

@@ -1,0 +1,238 @@
+//! The binders of a module, by the numbers of paths and names, and how an import finds what it aims at.
+ghost use Rattle.std.specs.Prelude.{◌≡◌, ◌++◌, ⊤, nat_lt, not, map, if◌then◌else◌, OnOk};
+ghost use Rattle.std.specs.List.{list_any};
+ghost use Rattle.wesl_cond_choices.specs.declared.place.Place.TheVariants as places;
+ghost use Rattle.wesl_link_split.specs.Grouped as grouped;
+ghost use Rattle.wesl_link_split.specs.Grouped.{ids, finding_view};
+ghost use Rattle.wesl_link_split.specs.Split as split;
+
+use std::alloc::AllocError;
+use wesl_cond_choices::place::Place;
+use wesl_link_symbols::ids::{NameId, PathId};
+use wesl_link_symbols::symbols::{Import, Reference};
+
+/// A binder of a module, for any kind of path `P` and of name `N`.
+#[derive(Copy, Drop)]
+pub struct Binder<P, N> {
+    /// The name that it binds.
+    pub bound: N,
+    /// The module that it aims at, which for a declaration is its own.
+    pub path: P,
+    /// The name there.
+    pub item: N,
+    /// Whether it is a declaration.
+    pub declares: bool,
+    /// Where it stands.
+    pub stands: Place,
+}
+
+// By hand, since a derived copy asks each part for one, which may be refused.
+impl<P: Copy, N: Copy> Clone for Binder<P, N> {
+    ghost is_clone = { λ old new. new ≡ old };
+
+    ghost is_infallible = { λ _. ⊤ };
+
+    fn clone(&self) -> Result<Binder<P, N>, AllocError> {
+        Ok(*self)
+    }
+}
+
+/// Whether two binders aim at one thing.
+pub(crate) fn has_one_target(a: &Binder<PathId, NameId>, b: &Binder<PathId, NameId>) -> bool
+    ensures { result ≡ split.same_target ids a.now b.now }
+{
+    a.path == b.path && a.item == b.item
+}
+
+/// Whether one of these binders aims at another thing than the first.
+fn differs(first: &Binder<PathId, NameId>, binders: &[Binder<PathId, NameId>]) -> bool
+    ensures { result ≡ list_any (λ b. not (split.same_target ids first.now b)) binders.now }
+{
+    for binder in binders {
+        if !has_one_target(first, binder) {
+            return true;
+        }
+    }
+    false
+}
+
+/// Whether two of these binders aim at different things.
+pub fn has_two_targets(binders: &[Binder<PathId, NameId>]) -> bool
+    ensures { result ≡ split.has_two_targets ids binders.now }
+{
+    match binders.first() {
+        Some(first) => differs(first, binders),
+        None => false,
+    }
+}
+
+/// Adds the binder if it is kept.
+pub(crate) fn keep(
+    found: &mut Vec<Binder<PathId, NameId>>,
+    binder: &Binder<PathId, NameId>,
+    is_kept: bool,
+) -> Result<(), AllocError>
+    ensures { OnOk result (found.new.items ≡ found.old.items ++ grouped.kept_if is_kept binder.now) }
+{
+    if is_kept {
+        found.push(*binder)?;
+    }
+    Ok(())
+}
+
+/// Where a binder is seen from that stands there, by whether its name has several targets.
+pub(crate) fn placed(is_split: bool, stands: Place) -> Place
+    ensures { result ≡ (if is_split then stands else places.Always) }
+{
+    if is_split { stands } else { Place::Always }
+}
+
+/// How an import finds what it aims at, where that has several targets in its own module.
+#[derive(Drop)]
+pub(crate) enum Finding {
+    /// It sees no binder of it.
+    Nothing,
+    /// It sees two targets.
+    Several,
+    /// It sees one, the item of the module at a path; and which binders of that it sees, where it has several targets too.
+    One(PathId, NameId, Vec<bool>),
+}
+
+/// Whether two lists are equal.
+fn is_same_sight(a: &[bool], b: &[bool]) -> bool
+    ensures { result ≡ split.same_sight a.now b.now }
+{
+    a == b
+}
+
+impl Finding {
+    /// Which imports are asked before others.
+    pub(crate) fn order(&self) -> usize
+        ensures { result ≡ split.order_of ids (finding_view self.now) }
+    {
+        match self {
+            Finding::Nothing => 0,
+            Finding::Several => 1,
+            Finding::One(_, _, _) => 2,
+        }
+    }
+
+    /// Whether two imports find alike.
+    fn is_like(&self, other: &Finding) -> bool
+        ensures { result ≡ split.same_finding ids (finding_view self.now) (finding_view other.now) }
+    {
+        match (self, other) {
+            (Finding::Nothing, Finding::Nothing) => true,
+            (Finding::Several, Finding::Several) => true,
+            (Finding::One(path, item, sight), Finding::One(other_path, other_item, other_sight)) =>
+                { path == other_path && item == other_item && is_same_sight(sight, other_sight) }
+            _ => false,
+        }
+    }
+}
+
+/// Whether the other binder asks for the first: an import with the same target that finds it alike.
+pub(crate) fn asks_for(
+    binder: &Binder<PathId, NameId>,
+    finding: &Finding,
+    other: &Binder<PathId, NameId>,
+    found: &Finding,
+) -> bool
+    ensures { result ≡ grouped.asks_for binder.now (finding_view finding.now) other.now (finding_view found.now) }
+{
+    !other.declares && has_one_target(binder, other) && finding.is_like(found)
+}
+
+/// Whether one of these binders is a declaration.
+pub fn has_declaration(binders: &[Binder<PathId, NameId>]) -> bool
+    ensures { result ≡ grouped.has_declaration binders.now }
+{
+    for binder in binders {
+        if binder.declares {
+            return true;
+        }
+    }
+    false
+}
+
+/// The lower of two numbers.
+fn lower(a: usize, b: usize) -> usize
+    ensures { result ≡ (if nat_lt b a then b else a) }
+{
+    if b < a { b } else { a }
+}
+
+/// The lowest of the orders of these, and the highest that there is where there are none.
+pub(crate) fn least_order(findings: &[Finding]) -> usize
+    ensures { grouped.IsLeast (map finding_view findings.now) result }
+{
+    let mut least = 2;
+    for finding in findings {
+        least = lower(least, finding.order());
+    }
+    least
+}
+
+/// Whether two references ask for one thing.
+fn is_like(a: &Reference<PathId, NameId>, b: &Reference<PathId, NameId>) -> bool
+    ensures { result ≡ split.same_reference ids a.now b.now }
+{
+    a.path == b.path && a.name == b.name && a.from == b.from
+}
+
+/// Whether one of these references asks for another thing than the first.
+fn asks_otherwise(
+    first: &Reference<PathId, NameId>,
+    references: &[Reference<PathId, NameId>],
+) -> bool
+    ensures { result ≡ list_any (λ r. not (split.same_reference ids first.now r)) references.now }
+{
+    for reference in references {
+        if !is_like(first, reference) {
+            return true;
+        }
+    }
+    false
+}
+
+/// Whether two of these references ask for different things.
+pub(crate) fn are_unlike(references: &[Reference<PathId, NameId>]) -> bool
+    ensures { result ≡ grouped.are_unlike references.now }
+{
+    match references.first() {
+        Some(first) => asks_otherwise(first, references),
+        None => false,
+    }
+}
+
+/// Adds what a binder aims at, asked for from a place, if it is asked.
+pub(crate) fn keep_aim(
+    found: &mut Vec<Reference<PathId, NameId>>,
+    binder: &Binder<PathId, NameId>,
+    from: Place,
+    is_asked: bool,
+) -> Result<(), AllocError>
+    ensures { OnOk result (found.new.items ≡ found.old.items ++ grouped.aim_if is_asked binder.now from) }
+{
+    if is_asked {
+        found.push(Reference {
+            path: binder.path,
+            name: binder.item,
+            from,
+        })?;
+    }
+    Ok(())
+}
+
+/// An import as a binder.
+pub(crate) fn binder_of(import: &Import<PathId, NameId>) -> Binder<PathId, NameId>
+    ensures { result ≡ split.binder_of import.now }
+{
+    Binder {
+        bound: import.bound,
+        path: import.path,
+        item: import.item,
+        declares: false,
+        stands: import.place,
+    }
+}

@@ -1,0 +1,14 @@
+//! Laws and rows of split names, each the contract of a function that does nothing.
+ghost use Rattle.wesl_link_split.specs.Laws.{NumbersAskAlike, NumbersDifferAlike};
+ghost use Rattle.wesl_link_split.specs.SplitRows.{SplitRows};
+
+/// The rows of split names hold.
+pub fn law_of_rows()
+    ensures { SplitRows }
+{}
+
+/// What names ask for in a module that is known by numbers is what they ask for by its paths and texts.
+pub fn law_of_numbers()
+    ensures names { NumbersAskAlike }
+    ensures targets { NumbersDifferAlike }
+{}

@@ -1,0 +1,553 @@
+//! Names with several targets in one module, and what its names ask for, by numbers (WESL, "Imports" and
+//! "ConditionalTranslation").
+ghost use Rattle.std.specs.Prelude.{◌≡◌, ◌++◌, [], length, map, IfOk, OnOk, All};
+ghost use Rattle.std.specs.List.{list_any};
+ghost use Rattle.wesl_link_split.specs.Grouped.{ids, finding_view, AreGrouped, GroupsNext, AddsUnless};
+ghost use Rattle.wesl_link_split.specs.Split as split;
+
+use crate::binders::{
+    Binder, Finding, are_unlike, asks_for, binder_of, has_declaration, has_two_targets, keep,
+    keep_aim, least_order, placed,
+};
+use indexmap::IndexSet;
+use std::alloc::{AllocError, Global};
+use wesl_cond_choices::alive::Alive;
+use wesl_cond_choices::place::Place;
+use wesl_link_symbols::ids::{NameId, PathId};
+use wesl_link_symbols::symbols::{Import, Reference};
+
+/// Puts a binder to those of its name.
+fn add_to_group(
+    alloc: Global,
+    names: &mut IndexSet<NameId>,
+    groups: &mut Vec<Vec<Binder<PathId, NameId>>>,
+    binder: &Binder<PathId, NameId>,
+) -> Result<(), AllocError>
+    requires { length groups.old.items ≡ length names.old.keys }
+    ensures { OnOk result (GroupsNext names.old.keys groups.old.items binder.now names.new.keys groups.new.items) }
+{
+    if let Some(index) = names.get_index_of(&binder.bound) {
+        groups[index].push(*binder)?;
+        return Ok(());
+    }
+    let mut group = Vec::new(alloc);
+    group.push(*binder)?;
+    names.insert(binder.bound)?;
+    groups.push(group)?;
+    Ok(())
+}
+
+/// Adds references.
+fn add_references(
+    found: &mut Vec<Reference<PathId, NameId>>,
+    more: &[Reference<PathId, NameId>],
+) -> Result<(), AllocError>
+    ensures { OnOk result (found.new.items ≡ found.old.items ++ more.now) }
+{
+    for reference in more {
+        found.push(*reference)?;
+    }
+    Ok(())
+}
+
+/// The binders of a module: its declarations in order, then its imports in order, found by their names; and which places
+/// some choice of flags keeps together.
+#[derive(Drop)]
+pub struct Scope {
+    own: PathId,
+    binders: Vec<Binder<PathId, NameId>>,
+    // Each bound name once, and of each the binders, in order.
+    names: IndexSet<NameId>,
+    groups: Vec<Vec<Binder<PathId, NameId>>>,
+    is_any_split: bool,
+    alive: Alive,
+    pub ghost grouped: { AreGrouped binders.items names.keys groups.items },
+    pub ghost split: { is_any_split ≡ split.has_split ids binders.items },
+}
+
+/// Puts each of these binders to those of its name. It holds nothing, so where memory is wanting nothing is let go.
+fn add_groups(
+    alloc: Global,
+    names: &mut IndexSet<NameId>,
+    groups: &mut Vec<Vec<Binder<PathId, NameId>>>,
+    binders: &[Binder<PathId, NameId>],
+) -> Result<(), AllocError>
+    requires names { names.old.keys ≡ [] }
+    requires groups { groups.old.items ≡ [] }
+    ensures { OnOk result (AreGrouped binders.now names.new.keys groups.new.items) }
+{
+    for binder in binders {
+        add_to_group(alloc, names, groups, binder)?;
+    }
+    Ok(())
+}
+
+/// Whether the binders of some name have several targets.
+fn is_any_split(groups: &[Vec<Binder<PathId, NameId>>]) -> bool
+    ensures { result ≡ list_any (λ g. split.has_two_targets ids g.items) groups.now }
+{
+    for group in groups {
+        if has_two_targets(group) {
+            return true;
+        }
+    }
+    false
+}
+
+impl Scope {
+    ghost use Rattle.wesl_link_split.specs.ScopeView.{scope_view, whole};
+
+    /// The module with this path and these binders, of which no choice of flags is known yet. Refused for want of memory
+    /// alone.
+    pub fn new(
+        alloc: Global,
+        own: PathId,
+        binders: Vec<Binder<PathId, NameId>>,
+    ) -> Result<Scope, AllocError>
+        ensures { IfOk result (λ s. scope_view s ≡ record { own = own; binders = binders.items; alive = [] }) }
+    {
+        let mut names = IndexSet::new(alloc);
+        let mut groups = Vec::new(alloc);
+        add_groups(alloc, &mut names, &mut groups, &binders)?;
+        let is_any_split = is_any_split(&groups);
+        Ok(Scope {
+            own,
+            binders,
+            names,
+            groups,
+            is_any_split,
+            alive: Alive::none(),
+        })
+    }
+
+    /// The same module, of which some choice of flags keeps these places together.
+    pub fn with_alive(self, alive: Alive) -> Scope
+        ensures { scope_view result ≡ record { own = (scope_view self).own; binders = (scope_view self).binders; alive = alive } }
+    {
+        let Scope {
+            own,
+            binders,
+            names,
+            groups,
+            is_any_split,
+            alive: _,
+        } = self;
+        Scope {
+            own,
+            binders,
+            names,
+            groups,
+            is_any_split,
+            alive,
+        }
+    }
+
+    /// What some choice of flags keeps together.
+    pub fn into_alive(self) -> Alive
+        ensures { result ≡ (scope_view self).alive }
+    {
+        self.alive
+    }
+
+    /// Whether a name of the module has several targets.
+    pub fn has_split(&self) -> bool
+        ensures { result ≡ split.has_split ids (scope_view self.now).binders }
+    {
+        self.is_any_split
+    }
+
+    /// The binders of a name.
+    fn group(&self, name: NameId) -> &[Binder<PathId, NameId>]
+        ensures { result.now ≡ split.of_name ids name (scope_view self.now).binders }
+    {
+        match self.names.get_index_of(&name) {
+            Some(index) => &self.groups[index],
+            None => &[],
+        }
+    }
+
+    /// Whether the binders of a name have several targets.
+    fn is_split(&self, name: NameId) -> bool
+        ensures { result ≡ split.is_split ids (scope_view self.now).binders name }
+    {
+        has_two_targets(self.group(name))
+    }
+
+    /// Where a binder of a name is seen from that stands there: everywhere, where the name has one target.
+    pub fn place_at(&self, name: NameId, stands: Place) -> Place
+        ensures { result ≡ split.place_at ids (scope_view self.now) name stands }
+    {
+        placed(self.is_split(name), stands)
+    }
+
+    /// Where a declaration is seen from that stands there, and binds this name, if it binds one.
+    pub fn place_of(&self, name: Option<NameId>, stands: Place) -> Place
+        ensures { result ≡ split.place_of ids (scope_view self.now) name stands }
+    {
+        match name {
+            Some(name) => self.place_at(name, stands),
+            None => Place::Always,
+        }
+    }
+
+    /// Whether what stands at a place is seen from another.
+    fn sees(&self, from: Place, place: Place) -> bool
+        ensures { result ≡ split.sees ids (scope_view self.now) from place }
+    {
+        place == Place::Always || self.alive.together(from, place)
+    }
+
+    /// Adds the binders of a name that are seen from a place.
+    fn add_seen(
+        &self,
+        found: &mut Vec<Binder<PathId, NameId>>,
+        name: NameId,
+        from: Place,
+    ) -> Result<(), AllocError>
+        requires { found.old.items ≡ [] }
+        ensures { OnOk result (found.new.items ≡ split.seen ids (scope_view self.now) name from) }
+    {
+        let group = self.group(name);
+        let is_split = has_two_targets(group);
+        for binder in group {
+            let is_seen = self.sees(from, placed(is_split, binder.stands));
+            keep(found, binder, is_seen)?;
+        }
+        Ok(())
+    }
+
+    /// The binders of a name that are seen from a place.
+    fn seen(
+        &self,
+        alloc: Global,
+        name: NameId,
+        from: Place,
+    ) -> Result<Vec<Binder<PathId, NameId>>, AllocError>
+        ensures { IfOk result (λ v. v.items ≡ split.seen ids (scope_view self.now) name from) }
+    {
+        let mut found = Vec::new(alloc);
+        self.add_seen(&mut found, name, from)?;
+        Ok(found)
+    }
+
+    /// Adds of each binder of a name whether it is seen from a place.
+    fn add_sight(&self, found: &mut Vec<bool>, name: NameId, from: Place) -> Result<(), AllocError>
+        requires { found.old.items ≡ [] }
+        ensures { OnOk result (found.new.items ≡ split.sight ids (scope_view self.now) name from) }
+    {
+        let group = self.group(name);
+        let is_split = has_two_targets(group);
+        for binder in group {
+            found.push(self.sees(from, placed(is_split, binder.stands)))?;
+        }
+        Ok(())
+    }
+
+    /// Whether a name has several targets in this very module, and the path is its own.
+    fn is_own_split(&self, path: PathId, name: NameId) -> bool
+        ensures { result ≡ split.is_own_split ids (scope_view self.now) path name }
+    {
+        path == self.own && self.is_split(name)
+    }
+
+    /// Where a name is asked for from that is used at `here`, in the module at a path.
+    pub fn asked_at(&self, path: PathId, name: NameId, here: Place) -> Place
+        ensures { result ≡ split.asked_at ids (scope_view self.now) path name here }
+    {
+        if self.is_own_split(path, name) {
+            here
+        } else {
+            Place::Always
+        }
+    }
+
+    // ---- what the imports of the module find
+
+    /// Which binders of its target a binder sees, where it is an import whose target has several in this module.
+    fn sight_of(
+        &self,
+        alloc: Global,
+        binder: &Binder<PathId, NameId>,
+    ) -> Result<Vec<bool>, AllocError>
+        ensures { IfOk result (λ v. v.items ≡ split.sight_of ids (scope_view self.now) binder.now) }
+    {
+        let mut sight = Vec::new(alloc);
+        if !binder.declares && self.is_own_split(binder.path, binder.item) {
+            self.add_sight(&mut sight, binder.item, binder.stands)?;
+        }
+        Ok(sight)
+    }
+
+    /// What it is to see these binders of a name.
+    fn found_of(
+        &self,
+        alloc: Global,
+        seen: &[Binder<PathId, NameId>],
+    ) -> Result<Finding, AllocError>
+        ensures { IfOk result (λ f. finding_view f ≡ split.found_of ids (scope_view self.now) seen.now) }
+    {
+        let Some(first) = seen.first() else {
+            return Ok(Finding::Nothing);
+        };
+        if has_two_targets(seen) {
+            return Ok(Finding::Several);
+        }
+        let sight = self.sight_of(alloc, first)?;
+        Ok(Finding::One(first.path, first.item, sight))
+    }
+
+    /// How a binder finds what it aims at.
+    fn finding(&self, alloc: Global, binder: &Binder<PathId, NameId>) -> Result<Finding, AllocError>
+        ensures { IfOk result (λ f. finding_view f ≡ split.finding ids (scope_view self.now) binder.now) }
+    {
+        if !self.is_own_split(binder.path, binder.item) {
+            return Ok(Finding::One(binder.path, binder.item, Vec::new(alloc)));
+        }
+        let seen = self.seen(alloc, binder.item, binder.stands)?;
+        self.found_of(alloc, &seen)
+    }
+
+    /// Adds how each of these binders finds what it aims at.
+    fn add_findings(
+        &self,
+        alloc: Global,
+        found: &mut Vec<Finding>,
+        group: &[Binder<PathId, NameId>],
+    ) -> Result<(), AllocError>
+        requires { found.old.items ≡ [] }
+        ensures { OnOk result (map finding_view found.new.items ≡ map (split.finding ids (scope_view self.now)) group.now) }
+    {
+        for binder in group {
+            let finding = self.finding(alloc, binder)?;
+            found.push(finding)?;
+        }
+        Ok(())
+    }
+
+    /// Where the first import stands that asks for a binder of its name which finds what it aims at so: itself at the latest.
+    fn asker_stands(
+        &self,
+        group: &[Binder<PathId, NameId>],
+        findings: &[Finding],
+        binder: &Binder<PathId, NameId>,
+        finding: &Finding,
+    ) -> Place
+        requires group { group.now ≡ split.of_name ids binder.now.bound (scope_view self.now).binders }
+        requires findings { map finding_view findings.now ≡ map (split.finding ids (scope_view self.now)) group.now }
+        requires finding { finding_view finding.now ≡ split.finding ids (scope_view self.now) binder.now }
+        ensures { result ≡ (split.asker_of ids (scope_view self.now) binder.now).stands }
+    {
+        for i in 0..group.len() {
+            if asks_for(binder, finding, &group[i], &findings[i]) {
+                return group[i].stands;
+            }
+        }
+        binder.stands
+    }
+
+    /// Where a binder asks from that finds what it aims at so, among the binders of its name and what they find.
+    fn from_of(
+        &self,
+        group: &[Binder<PathId, NameId>],
+        findings: &[Finding],
+        binder: &Binder<PathId, NameId>,
+        finding: &Finding,
+    ) -> Place
+        requires group { group.now ≡ split.of_name ids binder.now.bound (scope_view self.now).binders }
+        requires findings { map finding_view findings.now ≡ map (split.finding ids (scope_view self.now)) group.now }
+        requires finding { finding_view finding.now ≡ split.finding ids (scope_view self.now) binder.now }
+        ensures { result ≡ split.from_of ids (scope_view self.now) binder.now }
+    {
+        if self.is_own_split(binder.path, binder.item) {
+            self.asker_stands(group, findings, binder, finding)
+        } else {
+            Place::Always
+        }
+    }
+
+    /// How each of these binders finds what it aims at.
+    fn findings(
+        &self,
+        alloc: Global,
+        group: &[Binder<PathId, NameId>],
+    ) -> Result<Vec<Finding>, AllocError>
+        ensures { IfOk result (λ v. map finding_view v.items ≡ map (split.finding ids (scope_view self.now)) group.now) }
+    {
+        let mut found = Vec::new(alloc);
+        self.add_findings(alloc, &mut found, group)?;
+        Ok(found)
+    }
+
+    /// Adds what the imports among these binders of a name aim at, of those that are asked first.
+    fn add_aims(
+        &self,
+        alloc: Global,
+        found: &mut Vec<Reference<PathId, NameId>>,
+        name: NameId,
+        seen: &[Binder<PathId, NameId>],
+    ) -> Result<(), AllocError>
+        requires named { All (λ b. b.bound ≡ name) seen.now }
+        requires empty { found.old.items ≡ [] }
+        ensures { OnOk result (found.new.items ≡ map (split.aim_of ids (scope_view self.now)) (split.lowest ids (scope_view self.now) seen.now)) }
+    {
+        let group = self.group(name);
+        let all = self.findings(alloc, group)?;
+        let findings = self.findings(alloc, seen)?;
+        let least = least_order(&findings);
+        for i in 0..seen.len() {
+            let from = self.from_of(group, &all, &seen[i], &findings[i]);
+            keep_aim(found, &seen[i], from, findings[i].order() == least)?;
+        }
+        Ok(())
+    }
+
+    /// Adds what a name without a path asks for, of these binders of it that are seen from `here`.
+    fn add_asked(
+        &self,
+        alloc: Global,
+        found: &mut Vec<Reference<PathId, NameId>>,
+        name: NameId,
+        here: Place,
+        seen: &[Binder<PathId, NameId>],
+    ) -> Result<(), AllocError>
+        requires seen { seen.now ≡ split.seen ids (scope_view self.now) name here }
+        requires empty { found.old.items ≡ [] }
+        ensures { OnOk result (found.new.items ≡ split.asked_plain ids (scope_view self.now) name here) }
+    {
+        if has_declaration(seen) {
+            found.push(Reference {
+                path: self.own,
+                name,
+                from: self.asked_at(self.own, name, here),
+            })?;
+            return Ok(());
+        }
+        self.add_aims(alloc, found, name, seen)
+    }
+
+    /// Adds what a name without a path asks for that is used at `here`, unless it stands for two things there.
+    fn add_split(
+        &self,
+        alloc: Global,
+        found: &mut Vec<Reference<PathId, NameId>>,
+        name: NameId,
+        here: Place,
+    ) -> Result<bool, AllocError>
+        ensures { IfOk result (λ b. AddsUnless b (split.is_unclear_plain ids (scope_view self.now) name here) found.old.items found.new.items (split.asked_plain ids (scope_view self.now) name here)) }
+    {
+        let seen = self.seen(alloc, name, here)?;
+        if has_two_targets(&seen) {
+            return Ok(true);
+        }
+        let mut asked = Vec::new(alloc);
+        self.add_asked(alloc, &mut asked, name, here, &seen)?;
+        if are_unlike(&asked) {
+            return Ok(true);
+        }
+        add_references(found, &asked)?;
+        Ok(false)
+    }
+
+    /// Adds what a name without a path asks for where each name has one target: its module's own declaration, else what the
+    /// imports of the name aim at.
+    fn add_whole(
+        &self,
+        found: &mut Vec<Reference<PathId, NameId>>,
+        name: NameId,
+    ) -> Result<(), AllocError>
+        ensures { OnOk result (found.new.items ≡ found.old.items ++ whole (scope_view self.now) name) }
+    {
+        let group = self.group(name);
+        if has_declaration(group) {
+            found.push(Reference {
+                path: self.own,
+                name,
+                from: Place::Always,
+            })?;
+            return Ok(());
+        }
+        for binder in group {
+            found.push(Reference {
+                path: binder.path,
+                name: binder.item,
+                from: Place::Always,
+            })?;
+        }
+        Ok(())
+    }
+
+    /// Adds what a name without a path asks for that is used at `here`, unless it stands for two things there; and answers
+    /// whether it does. Refused for want of memory alone.
+    pub fn add_plain(
+        &self,
+        alloc: Global,
+        found: &mut Vec<Reference<PathId, NameId>>,
+        name: NameId,
+        here: Place,
+    ) -> Result<bool, AllocError>
+        ensures { IfOk result (λ b. AddsUnless b (split.is_unclear_plain ids (scope_view self.now) name here) found.old.items found.new.items (split.asked_plain ids (scope_view self.now) name here)) }
+    {
+        if self.is_any_split {
+            return self.add_split(alloc, found, name, here);
+        }
+        self.add_whole(found, name)?;
+        Ok(false)
+    }
+
+    /// Adds the imports of a name that are seen from a place.
+    fn add_imports(
+        &self,
+        found: &mut Vec<Binder<PathId, NameId>>,
+        name: NameId,
+        here: Place,
+    ) -> Result<(), AllocError>
+        requires { found.old.items ≡ [] }
+        ensures { OnOk result (found.new.items ≡ split.seen_imports ids (scope_view self.now) name here) }
+    {
+        let group = self.group(name);
+        let is_split = has_two_targets(group);
+        for binder in group {
+            let is_seen = self.sees(here, placed(is_split, binder.stands));
+            keep(found, binder, is_seen && !binder.declares)?;
+        }
+        Ok(())
+    }
+
+    /// The imports of a name that are seen from a place, with which a path may begin. Refused for want of memory alone.
+    pub fn seen_imports(
+        &self,
+        alloc: Global,
+        name: NameId,
+        here: Place,
+    ) -> Result<Vec<Binder<PathId, NameId>>, AllocError>
+        ensures { IfOk result (λ v. v.items ≡ split.seen_imports ids (scope_view self.now) name here) }
+    {
+        let mut found = Vec::new(alloc);
+        self.add_imports(&mut found, name, here)?;
+        Ok(found)
+    }
+
+    /// An import of the module with where it stands, where it asks from and what it finds there. Refused for want of memory
+    /// alone.
+    pub fn settled(
+        &self,
+        alloc: Global,
+        import: &Import<PathId, NameId>,
+    ) -> Result<Import<PathId, NameId>, AllocError>
+        ensures { IfOk result (λ i. i ≡ split.settled ids (scope_view self.now) import.now) }
+    {
+        let binder = binder_of(import);
+        let group = self.group(import.bound);
+        let all = self.findings(alloc, group)?;
+        let finding = self.finding(alloc, &binder)?;
+        Ok(Import {
+            bound: import.bound,
+            path: import.path,
+            item: import.item,
+            published: import.published,
+            place: self.place_at(import.bound, import.place),
+            from: self.from_of(group, &all, &binder, &finding),
+            order: finding.order(),
+        })
+    }
+}

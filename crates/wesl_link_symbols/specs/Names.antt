@@ -1,0 +1,73 @@
+-- What a name means inside one module (WESL, "Imports", "Visibility" and "ConditionalTranslation").
+use Rattle.std.specs.Prelude.{◌≡◌, ◌⊎◌, ◌≤◌, true, Option, Some, Contains}
+use Rattle.wesl_cond_choices.specs.declared.place.Place.TheVariants.{Always}
+use Rattle.wesl_link_symbols.specs.declared.symbols.Answer.TheVariants.{Declared, Next, Missing, Private, Ambiguous}
+use Rattle.wesl_cond_choices.specs.Places.{together}
+use Rattle.wesl_link_symbols.specs.Tables.{Place, Import, Reference, LookUp, Answer, Declaration, Table}
+
+module _ {P N : Type 0} where
+  abbrev pub Declares : Table P N → N → Type 0
+  Declares t n = (d : Declaration P N) × Contains t.declarations d × (d.name ≡ Some n)
+
+  abbrev pub Imports : Table P N → N → Import P N → Type 0
+  Imports t n i = Contains t.imports i × (i.bound ≡ n)
+
+  abbrev pub SameTarget : Import P N → Import P N → Type 0
+  SameTarget i j = (i.path ≡ j.path) × (i.item ≡ j.item)
+
+  -- the import aims at the module's own declaration of the name that it binds
+  abbrev pub IsOwn : P → Import P N → Type 0
+  IsOwn p i = (i.path ≡ p) × (i.item ≡ i.bound)
+
+  -- what a reference asks for, and an import
+  abbrev pub asked_for : Table P N → Reference P N → LookUp P N
+  asked_for t r = record { asker = Some t.path; path = r.path; name = r.name; from = r.from }
+
+  abbrev pub asked_by : Table P N → Import P N → LookUp P N
+  asked_by t i = record { asker = Some t.path; path = i.path; name = i.item; from = i.from }
+
+  -- the reference stands in a declaration of that name, or where there is none in a const_assert
+  abbrev pub RefersFrom : Table P N → Option N → Reference P N → Type 0
+  RefersFrom t name r = (d : Declaration P N) × Contains t.declarations d × (d.name ≡ name) × Contains d.references r
+
+  -- such a reference asks for it
+  abbrev pub AsksFrom : Table P N → Option N → LookUp P N → Type 0
+  AsksFrom t name l = (r : Reference P N) × RefersFrom t name r × (l ≡ asked_for t r)
+
+  -- the name is used in such a declaration, and stands for two things there
+  abbrev pub IsUnclearFrom : Table P N → Option N → N → Type 0
+  IsUnclearFrom t name n = (d : Declaration P N) × Contains t.declarations d × (d.name ≡ name) × Contains d.unclear n
+
+  -- from another module an import must be published
+  abbrev pub Shows : Option P → P → Import P N → Type 0
+  Shows asker p i = (i.published ≡ true) ⊎ (asker ≡ Some p)
+
+  -- What stands at `place` is seen from there: its name has one target, or some choice of flags keeps both.
+  abbrev pub Sees : Table P N → Place → Place → Type 0
+  Sees t from place = (place ≡ Always) ⊎ (together t.alive from place ≡ true)
+
+  abbrev pub DeclaresTo : Table P N → LookUp P N → Type 0
+  DeclaresTo t l = (d : Declaration P N) × Contains t.declarations d × (d.name ≡ Some l.name) × Sees t l.from d.place
+
+  -- the imports that a look-up may follow, and those that are not shown to it, alive or dead
+  abbrev pub IsOpenTo : Table P N → LookUp P N → Import P N → Type 0
+  IsOpenTo t l i = Imports t l.name i × Shows l.asker t.path i × Sees t l.from i.place
+
+  abbrev pub IsHiddenFrom : Table P N → LookUp P N → Import P N → Type 0
+  IsHiddenFrom t l i = Imports t l.name i × (Shows l.asker t.path i → ⊥)
+
+  -- of these, those that are asked: the ones whose look-up ends in a fault, where there are some
+  abbrev pub IsAskedTo : Table P N → LookUp P N → Import P N → Type 0
+  IsAskedTo t l i = IsOpenTo t l i × ((j : Import P N) → IsOpenTo t l j → i.order ≤ j.order)
+
+  abbrev pub Answers : Table P N → LookUp P N → Answer P N → Type 0
+  Answers t l Declared = DeclaresTo t l × ((i : Import P N) → IsOpenTo t l i → IsOwn t.path i)
+  Answers t l (Next n) =
+      (DeclaresTo t l → ⊥) × ((i j : Import P N) → IsOpenTo t l i → IsOpenTo t l j → SameTarget i j)
+      × ((i : Import P N) × IsAskedTo t l i × (n ≡ asked_by t i)) × ((i : Import P N) → IsAskedTo t l i → n ≡ asked_by t i)
+  Answers t l Missing = (DeclaresTo t l → ⊥) × ((i : Import P N) → IsOpenTo t l i → ⊥) × ((i : Import P N) → IsHiddenFrom t l i → ⊥)
+  Answers t l Private = (DeclaresTo t l → ⊥) × ((i : Import P N) → IsOpenTo t l i → ⊥) × ((i : Import P N) × IsHiddenFrom t l i)
+  Answers t l Ambiguous =
+      (DeclaresTo t l × (i : Import P N) × IsOpenTo t l i × (IsOwn t.path i → ⊥))
+      ⊎ (((DeclaresTo t l → ⊥) × (i : Import P N) × (j : Import P N) × IsOpenTo t l i × IsOpenTo t l j × (SameTarget i j → ⊥))
+      ⊎ ((DeclaresTo t l → ⊥) × (i : Import P N) × (j : Import P N) × IsAskedTo t l i × IsAskedTo t l j × (asked_by t i ≡ asked_by t j → ⊥)))

@@ -1,0 +1,55 @@
+-- Lists that grow by one element at a time.
+use Rattle.std.proofs.Common.{◌≡◌, ℕ, zero, suc, ◌≤◌, ◌<◌, ◌+◌, Some, List, [], ◌∷◌, ◌++◌, map, length, take, get_or, arith, refl, sym, ap, ◌∙◌, append_assoc, append-nil}
+use Rattle.std.specs.Prelude.{slice_get}
+use Rattle.std.proofs.lemmas.List.{map-append}
+use Rattle.wesl_link_tables.specs.Numbering.{IsLonger, AreRelated}
+
+pub longer_itself : {X : Type 0} (xs : List X) → IsLonger xs xs
+longer_itself xs = ([], sym (append-nil xs))
+
+pub longer_trans : {X : Type 0} (xs ys zs : List X) → IsLonger xs ys → IsLonger ys zs → IsLonger xs zs
+longer_trans xs ys zs (a, e) (b, f) = (a ++ b, f ∙ (ap (λ l. l ++ b) e ∙ append_assoc xs a b))
+
+pub get_longer : {X : Type 0} (xs more : List X) (i : ℕ) (x : X) → slice_get xs i ≡ Some x → slice_get (xs ++ more) i ≡ Some x
+get_longer [] more i x h = absurd (cc)
+get_longer (y ∷ xs) more zero x h = h
+get_longer (y ∷ xs) more (suc i) x h = get_longer xs more i x h
+
+pub get_in : {X : Type 0} (xs ys : List X) (i : ℕ) (x : X) → IsLonger xs ys → slice_get xs i ≡ Some x → slice_get ys i ≡ Some x
+get_in xs ys i x (more, e) h = rw e (get_longer xs more i x h)
+
+-- the taken elements and the next one
+pub take_next : {X : Type 0} (xs : List X) (i : ℕ) (x : X) → i < length xs → x ≡ get_or xs i x → take (i + 1) xs ≡ take i xs ++ x ∷ []
+take_next [] i x b e = absurd (omega arith)
+take_next (y ∷ xs) zero x b e = let f : x ≡ y = e in rw f refl
+take_next (y ∷ xs) (suc i) x b e = let n : suc i + 1 ≡ suc (i + 1) = omega arith in rw n (ap (λ l. y ∷ l) (take_next xs i x (omega arith) e))
+
+pub taken_all : {X : Type 0} (xs : List X) (n : ℕ) → length xs ≤ n → take n xs ≡ xs
+taken_all [] zero b = refl
+taken_all [] (suc n) b = refl
+taken_all (x ∷ xs) zero b = absurd (omega arith)
+taken_all (x ∷ xs) (suc n) b = ap (λ l. x ∷ l) (taken_all xs n (omega arith))
+
+-- what is made of each element as they are gone over
+module _ {X Y Z : Type 0} (g : Z → Y) (f : X → Y) (xs : List X) (i : ℕ) where
+  pub mapped_next : (x : X) (old new : List Z) (z : Z) → i < length xs → x ≡ get_or xs i x → map g old ≡ map f (take i xs) → new ≡ old ++ z ∷ [] → g z ≡ f x → map g new ≡ map f (take (i + 1) xs)
+  mapped_next x old new z b at so_far new_is e =
+      ap (map g) new_is
+      ∙ (map-append g old (z ∷ [])
+      ∙ (ap (λ l. l ++ g z ∷ []) so_far ∙ (ap (λ y. map f (take i xs) ++ y ∷ []) e ∙ sym (ap (map f) (take_next xs i x b at) ∙ map-append f (take i xs) (x ∷ [])))))
+
+  pub mapped_all : (ys : List X) (found : List Z) → xs ≡ ys → length xs ≤ i → map g found ≡ map f (take i xs) → map g found ≡ map f ys
+  mapped_all ys found e b h = h ∙ ap (map f) (taken_all xs i b ∙ e)
+
+module _ {X Y : Type 0} (R S : X → Y → Type 0) (more : (x : X) (y : Y) → R x y → S x y) where
+  pub related_more : (xs : List X) (ys : List Y) → AreRelated R xs ys → AreRelated S xs ys
+  related_more [] [] h = tt
+  related_more (x ∷ xs) (y ∷ ys) h = (more x y h.0, related_more xs ys h.1)
+  related_more [] (y ∷ ys) h = h
+  related_more (x ∷ xs) [] h = h
+
+  pub related_append : (xs us : List X) (ys vs : List Y) → AreRelated R xs ys → AreRelated S us vs → AreRelated S (xs ++ us) (ys ++ vs)
+  related_append [] us [] vs h k = k
+  related_append (x ∷ xs) us (y ∷ ys) vs h k = (more x y h.0, related_append xs us ys vs h.1 k)
+  related_append [] us (y ∷ ys) vs h k = absurd h
+  related_append (x ∷ xs) us [] vs h k = absurd h

@@ -1,7 +1,0 @@
-use Rattle.std.proofs.Common.{Option, subst}
-use Rattle.wesl_linker.specs.Keeping.{IsSoundLink}
-use Rattle.wesl_linker.specs.declared.link.Link.{Link}
-use Rattle.wesl_linker.proofs.resolutions.Resolutions.assemble.Goals as goal
-
-pub assembled-requires : goal.assembled-requires
-assembled-requires c = record { sound = subst (λ (o : Option Link). IsSoundLink o) c.in-Some.is c.requires.sound }

@@ -1,5 +1,0 @@
-use Rattle.wesl_occurrences.proofs.Cutting.{pieces_are}
-use Rattle.wesl_occurrences.proofs.laws.law_of_pieces.Goals as goal
-
-pub returns : goal.returns
-returns c = λ u label. pieces_are u label

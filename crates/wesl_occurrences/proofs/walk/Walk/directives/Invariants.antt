@@ -1,8 +1,0 @@
-use Rattle.wesl_syntax.specs.Tree.{directive_node}
-use Rattle.wesl_syntax.specs.View.{directive_view, placed}
-use Rattle.wesl_occurrences.specs.Views.{here_view}
-use Rattle.wesl_occurrences.proofs.Steps.{Passed}
-use Rattle.wesl_occurrences.proofs.walk.Walk.directives.Given as goal
-
-abbrev pub invariant-loop-directive : goal.invariant-loop-directive
-invariant-loop-directive l = Passed (placed directive_view directive_node) (here_view l.here) l.initial.self l.self l.directive-items l.directive-index

@@ -1,8 +1,0 @@
-use Rattle.wesl_syntax.specs.Tree.{import_node}
-use Rattle.wesl_syntax.specs.View.{import_view, placed}
-use Rattle.wesl_occurrences.specs.Views.{here_view}
-use Rattle.wesl_occurrences.proofs.Steps.{Passed}
-use Rattle.wesl_occurrences.proofs.walk.Walk.imports.Given as goal
-
-abbrev pub invariant-loop-import : goal.invariant-loop-import
-invariant-loop-import l = Passed (placed import_view import_node) (here_view l.here) l.initial.self l.self l.import-items l.import-index

@@ -1,7 +1,0 @@
-use Rattle.wesl_syntax.specs.View.{parameter_view}
-use Rattle.wesl_occurrences.specs.Views.{here_view}
-use Rattle.wesl_occurrences.proofs.Steps.{Passed}
-use Rattle.wesl_occurrences.proofs.walk.Walk.parameters.Given as goal
-
-abbrev pub invariant-loop-parameter : goal.invariant-loop-parameter
-invariant-loop-parameter l = Passed parameter_view (here_view l.here) l.initial.self l.self l.parameter-items l.parameter-index

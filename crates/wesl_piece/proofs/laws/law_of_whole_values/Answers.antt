@@ -1,5 +1,0 @@
-use Rattle.wesl_piece.proofs.Whole.{have_no_float}
-use Rattle.wesl_piece.proofs.laws.law_of_whole_values.Goals as goal
-
-pub returns : goal.returns
-returns c = have_no_float

@@ -1,0 +1,17 @@
+use Rattle.std.proofs.Common.{option_map, sym}
+use Rattle.serde_json.specs.Find.{get}
+use Rattle.wesl_json_form.specs.View.{borrowed_view}
+use Rattle.wesl_program_bundle.specs.Features.{features_in}
+use Rattle.wesl_program_bundle.specs.Reading.{optional_in}
+use Rattle.wesl_program_bundle.specs.Views.{features_view}
+use Rattle.wesl_program_bundle.specs.Forms.{some_features, optional}
+use Rattle.wesl_program_bundle.proofs.Together.{of-inside, there-read}
+use Rattle.wesl_program_bundle.proofs.features.features_member.Goals as goal
+
+pub returns-in-Some-clause-ok : goal.returns-in-Some-clause-ok
+returns-in-Some-clause-ok c =
+    there-read (optional_in features_in) (option_map features_view) (get c.args.key.now (borrowed_view c.args.value.now)) (borrowed_view c.in-Some.found.now) c.inside.result c.features_of.result (sym c.in-Some.ensures) c.inside.ensures.ok c.features_of.ensures.ok
+
+pub returns-in-Some-clause-place : goal.returns-in-Some-clause-place
+returns-in-Some-clause-place c =
+    of-inside (optional c.args.key.now (some_features)) (borrowed_view c.args.value.now) (borrowed_view c.in-Some.found.now) c.inside.result c.features_of.result (sym c.in-Some.ensures) c.inside.ensures.place c.features_of.ensures.place

@@ -1,6 +1,0 @@
-use Rattle.wesl_form.specs.View.{borrowed_view}
-use Rattle.wesl_reading.proofs.NameLists.{AreNamesRead}
-use Rattle.wesl_reading.proofs.names.read_names.Given as goal
-
-abbrev pub invariant-loop-index : goal.invariant-loop-index
-invariant-loop-index l = AreNamesRead (borrowed_view l.value) l.item-items l.index l.texts

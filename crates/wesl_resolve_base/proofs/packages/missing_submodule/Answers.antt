@@ -1,0 +1,16 @@
+use Rattle.std.proofs.Common.{◌≡◌, ◌++◌, ◌∙◌, ap, codes}
+use Rattle.std.proofs.lemmas.List.{append_assoc}
+use Rattle.wesl_tree_names.specs.Path.{Text, path_view}
+use Rattle.wesl_resolve_base.specs.Packages.{no_submodule, module_name}
+use Rattle.wesl_resolve_base.proofs.ResultLemmas.{IfOk-to, said-as}
+use Rattle.wesl_resolve_base.proofs.packages.missing_submodule.Goals as goal
+
+joined : (name component : Text) → codes "in module `" ++ (name ++ (codes "`, no submodule named `" ++ (component ++ codes "`"))) ≡ no_submodule name component
+joined name component = simp append_assoc
+
+pub returns : goal.returns
+returns c =
+    let message = c.format-message.result in
+    let named : Text → Text = λ name. no_submodule name c.args.component.now in
+    said-as (path_view c.args.path.now) (no_submodule (module_name c.args.«module».now) c.args.component.now) c.not_found_for.result message
+    (IfOk-to _ _ (λ text is. is ∙ joined c.as_str-name.result.now c.args.component.now ∙ ap named c.as_str-name.ensures.value) message c.format-message.ensures.ok) c.not_found_for.ensures

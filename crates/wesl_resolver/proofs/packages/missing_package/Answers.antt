@@ -1,8 +1,0 @@
-use Rattle.wesl_names.specs.Path.{path_view}
-use Rattle.wesl_resolver.specs.Packages.{no_package}
-use Rattle.wesl_resolver.proofs.ResultLemmas.{said-as}
-use Rattle.wesl_resolver.proofs.packages.missing_package.Goals as goal
-
-pub returns : goal.returns
-returns c =
-    said-as (path_view c.args.path.now) (no_package c.args.whole.now) c.not_found_for.result c.format.result c.format.ensures.ok c.not_found_for.ensures

@@ -1,8 +1,0 @@
-use Rattle.std.proofs.Common.{◌≡◌, drop}
-use Rattle.wesl_base.specs.Borrowed.{texts}
-use Rattle.wesl_resolver.specs.Packages.{package_below}
-use Rattle.wesl_resolver.proofs.packages.package_below.Given as goal
-
--- what is left leads on from the package that was come to
-abbrev pub invariant-loop-part : goal.invariant-loop-part
-invariant-loop-part l = package_below l.whole l.first (texts l.parts) ≡ package_below l.whole l.package (texts (drop l.part-index l.parts))

@@ -1,8 +1,0 @@
-//! Replacing the nodes of a syntax tree.
-#![tactic(auto)]
-
-mod holders;
-mod replace;
-
-pub use holders::Holder;
-pub use wesl_collect::{Kind, Node, Replace, Rewrite};

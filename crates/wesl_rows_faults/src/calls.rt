@@ -1,0 +1,28 @@
+//! The calls by their names.
+use crate::{asks, deep, endless, errors, nodes, resolvers, streams};
+use serde_json::Value;
+use wesl_rows_base::Row;
+
+/// What the call of a row answers. What is not among the calls here is looked up among those on deep units.
+pub fn answered(row: Row<'_>) -> Value {
+    match row.text("call") {
+        "resolve_lazy, how often it asks for each path" => asks::counted(row),
+        "a link by a resolver without end" => endless::linked_by(row, false),
+        "a link by a resolver without memory" => endless::linked_by(row, true),
+        "a link by a function without memory" => endless::refused_by_function(row),
+        "Error::of_resolve" => errors::converted(row),
+        "ImportError, ResolveError as texts" => errors::told(row),
+        "Diagnostic as a text" => errors::told_where(row),
+        "TryClone::try_clone of a node with a span" => nodes::copied(row),
+        "TranslationUnit::from_parts of a constant" => nodes::made(row),
+        "Router::resolve_source of boxes" => resolvers::routed(row),
+        "Preprocessor::resolve_module" => resolvers::preprocessed(row),
+        "VirtualResolver::resolve_module without memory" => resolvers::unread(row),
+        "wesl::run on a reader that fails" => streams::unread(row),
+        "wesl::run a byte at a time" => streams::slow(row),
+        "wesl::run on a writer that fails" => streams::unwritten(row),
+        "wesl::run on bytes that are no text" => streams::no_text(row),
+        "JsonText::print of parentheses" => deep::parentheses_printed(row),
+        call => Value::Bool(deep::is_right(row, call)),
+    }
+}

@@ -1,0 +1,27 @@
+//! Rows of what inputs as data cannot say: readers and writers that fail, resolvers of a caller's own, nodes with spans or
+//! nameless identifiers, units that are deeper than JSON, and errors that stand for want of memory. `wesl_rows` reads the
+//! rows.
+#![tactic(auto)]
+
+mod asks;
+mod calls;
+mod deep;
+mod endless;
+mod errors;
+mod nodes;
+mod resolvers;
+mod streams;
+
+use serde_json::Value;
+use std::alloc::Global;
+use std::cell::Cell;
+use wesl_rows_base::{Row, line};
+
+/// The line that is written for the text of a row, of which this crate has the call. Refused where something is noted of
+/// it. Only texts go in and out, so that a crate above proves nothing of what a row holds.
+pub fn line_of(alloc: Global, text: &str) -> Result<String, anyhow::Error> {
+    let value = Value::from_str(alloc, text)?;
+    let note = Cell::new("");
+    let row = Row::new(alloc, &value, &note);
+    line(row, calls::answered(row))
+}

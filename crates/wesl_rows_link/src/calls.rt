@@ -1,0 +1,59 @@
+//! The calls by their names: what is not among the calls of one list is looked up in the next.
+use crate::{chains, links, manglers, names, packages, resolvers, tables};
+use serde_json::Value;
+use wesl_mangle::{EscapeMangler, UnicodeMangler};
+use wesl_rows_base::Row;
+
+/// What the call of a row answers.
+pub fn answered(row: Row<'_>) -> Value {
+    match row.text("call") {
+        "resolve_lazy" => links::mangled(row, false),
+        "resolve_eager" => links::mangled(row, true),
+        "Resolutions::new_uninit" => links::nothing(row),
+        "Resolutions::mangle, or what stands" => links::mangled_or_left(row),
+        "resolve_lazy of a chain" => chains::counted(row, false),
+        "resolve_eager of a chain" => chains::counted(row, true),
+        "wesl_link_reach::link_lazily" => tables::linked(row, false),
+        "wesl_link_reach::link_eagerly" => tables::linked(row, true),
+        "Interner::intern, or what stands" => names::interned_or_left(row),
+        "Names::add, or what stands" => names::added_or_left(row),
+        call => of_manglers(row, call),
+    }
+}
+
+/// Calls of manglers.
+fn of_manglers(row: Row<'_>, call: &str) -> Value {
+    match call {
+        "EscapeMangler::mangle" => manglers::named(row, &mut EscapeMangler),
+        "EscapeMangler::unmangle" => manglers::read(row, &EscapeMangler, row.text("name")),
+        "EscapeMangler::is_reversible" => manglers::reversible(row),
+        "UnicodeMangler::mangle" => manglers::named(row, &mut UnicodeMangler),
+        "UnicodeMangler::unmangle" => manglers::read(row, &UnicodeMangler, row.text("name")),
+        "UnicodeMangler::mangle_types" => manglers::written_variant(row),
+        "HashMangler::mangle" => manglers::numbered(row),
+        "NoMangler::mangle_types" => manglers::numbered_variant(row),
+        "CacheMangler::unmangle" => manglers::remembered(row),
+        "CacheMangler::mangle, or what stands" => manglers::remembered_or_left(row),
+        _ => of_resolvers(row, call),
+    }
+}
+
+/// Calls of resolvers.
+fn of_resolvers(row: Row<'_>, call: &str) -> Value {
+    match call {
+        "VirtualResolver::modules" => resolvers::listed(row, resolvers::holding(row)),
+        "VirtualResolver::get_module" => resolvers::stored(row),
+        "VirtualResolver::resolve_module" => resolvers::module(row, resolvers::holding(row)),
+        "VirtualResolver::add_module, or what stands" => resolvers::added_or_left(row),
+        "Router::resolve_source" => resolvers::routed(row),
+        "Router::display_name" => resolvers::name(row, resolvers::unrouting(row)),
+        "Router::resolve_module" => resolvers::module(row, resolvers::unrouting(row)),
+        "Router::mount_resolver, or what stands" => resolvers::mounted_or_left(row),
+        "PkgResolver::resolve_source" => resolvers::source(row, packages::packages(row)),
+        "PkgResolver::resolve_module" => resolvers::module(row, packages::packages(row)),
+        "PkgResolver::add_package, or what stands" => packages::added_or_left(row),
+        "StandardResolver::resolve_source" => resolvers::source(row, packages::standard(row)),
+        "StandardResolver::display_name" => resolvers::name(row, packages::standard(row)),
+        _ => row.text_value("no such row"),
+    }
+}

@@ -1,0 +1,12 @@
+pub mod Faithful
+pub mod Test
+pub mod Agreement
+pub mod Retargeted
+pub mod Laws
+pub mod ByEntries
+pub mod Canonical
+pub mod NumberLaws
+pub mod Leaves
+pub mod Nodes
+pub mod Numbering
+pub use Rattle.wesl_tree_copies.specs.Renumbered

@@ -1,0 +1,179 @@
+-- Keys of the code, and the entries that say what is visible.
+use Rattle.std.proofs.Common.{◌≡◌, ℕ, ◌+◌, ◌<◌, ◌≤◌, Bool, true, false, cond, ◌&&◌, ◌||◌, ◌==◌, List, [], ◌∷◌, length, get_or, map, drop, drop-cons, add-one, refl, sym, ◌∙◌, ap}
+use Rattle.std.specs.List.{list_any}
+use Rattle.std.proofs.lemmas.List.{drop_all}
+use Rattle.std.specs.Prelude.{bytes_eq, nat_le, Option, Some, None, if◌then◌else◌}
+use Rattle.std.specs.Map.{lookup}
+use Rattle.std.specs.Bool.{Decides}
+use Rattle.std.proofs.lemmas.Bool.Decides.{Decides-and, Decides-eqb}
+use Rattle.std.proofs.lemmas.Slice.Eq.{bytes_eq-Decides}
+use Rattle.indexmap.specs.IndexMap.{insert_entry}
+use Rattle.wesl_tree_names.specs.Path.{Text, Path, Origin, absolute, relative, from_package, same_origin, path_view}
+use Rattle.wesl_tree_names.specs.PathLaws.{Equality, path_eq}
+use Rattle.wesl_scope_meanings.specs.Scopes as scopes
+use Rattle.wesl_scope_meanings.specs.Scopes.{same_key}
+use Rattle.wesl_tree_names.specs.PathOrder.{same_components, same_path}
+use Rattle.wesl_scope_meanings.specs.Keys.{flat, opened, open_at}
+use Rattle.wesl_scope_meanings.specs.contracts.keys.KeyPartialEq.TheImpl as equality
+use Rattle.wesl_scope_meanings.specs.declared.keys.Key.{Key}
+use Rattle.wesl_scope_meanings.specs.declared.keys.Key.TheVariants as made
+
+-- two tests that decide one fact are one
+pub one_test : {P : Type 0} (r s : Bool) → Decides r P → Decides s P → r ≡ s
+one_test true true d e = refl
+one_test false false d e = refl
+one_test true false d e = sym (e.1 (d.0 refl))
+one_test false true d e = d.1 (e.0 refl)
+
+along : {P Q : Type 0} {r : Bool} → Decides r P → (P → Q) → (Q → P) → Decides r Q
+along d f g = (λ e. f (d.0 e), λ q. d.1 (g q))
+
+texts_decide : (xs ys : List Text) → Decides (same_components xs ys) (xs ≡ ys)
+texts_decide [] [] = (λ e. refl, λ e. refl)
+texts_decide [] (y ∷ ys) = (λ e. cc, λ e. cc)
+texts_decide (x ∷ xs) [] = (λ e. cc, λ e. cc)
+texts_decide (x ∷ xs) (y ∷ ys) = along (Decides-and (bytes_eq x y) (same_components xs ys) (bytes_eq-Decides x y) (texts_decide xs ys)) (λ h. let p = h.0 in let q = h.1 in cc (p, q)) (λ e. (let p : x ≡ y = cc in p, let q : xs ≡ ys = cc in q))
+
+origins_decide : (o p : Origin) → Decides (same_origin o p) (o ≡ p)
+origins_decide absolute absolute = (λ e. refl, λ e. refl)
+origins_decide (relative m) (relative n) = along (Decides-eqb m n) (λ e. ap relative e) (λ e. let p : m ≡ n = cc in p)
+origins_decide (from_package x) (from_package y) = along (bytes_eq-Decides x y) (λ e. ap from_package e) (λ e. let p : x ≡ y = cc in p)
+origins_decide _ _ = (λ e. cc, λ e. cc)
+
+paths_decide : (p q : Path) → Decides (same_path p q) (p ≡ q)
+paths_decide p q =
+    along (Decides-and (same_origin p.origin q.origin) (same_components p.components q.components) (origins_decide p.origin q.origin) (texts_decide p.components q.components))
+    (λ h. let x = h.0 in let y = h.1 in ap (λ o. record { origin = o; components = p.components }) x ∙ ap (λ c. record { origin = q.origin; components = c }) y)
+    (λ e. (ap (λ r. r.origin) e, ap (λ r. r.components) e))
+
+pub keys_decide : (k l : scopes.Key) → Decides (same_key k l) (k ≡ l)
+keys_decide (scopes.bound a m) (scopes.bound b n) = along (Decides-and (bytes_eq a b) (bytes_eq m n) (bytes_eq-Decides a b) (bytes_eq-Decides m n)) (λ h. let p = h.0 in let q = h.1 in cc (p, q)) (λ e. (let p : a ≡ b = cc in p, let q : m ≡ n = cc in q))
+keys_decide (scopes.free m) (scopes.free n) = along (bytes_eq-Decides m n) (λ e. ap scopes.free e) (λ e. let p : m ≡ n = cc in p)
+keys_decide (scopes.qualified p m) (scopes.qualified q n) =
+    along (Decides-and (same_path p q) (bytes_eq m n) (paths_decide p q) (bytes_eq-Decides m n))
+    (λ h. let x = h.0 in let y = h.1 in cc (x, y)) (λ e. (let x : p ≡ q = cc in x, let y : m ≡ n = cc in y))
+keys_decide _ _ = (λ e. cc, λ e. cc)
+
+-- what `==` of two keys answers
+abbrev pub key_eq : Key → Key → Bool
+key_eq = (equality.ghosts).eq
+
+module _ (law : Equality) where
+  pub key_decides : (k l : Key) → Decides (key_eq k l) (flat k ≡ flat l)
+  key_decides (made.Bound b n) (made.Bound c m) =
+      along (Decides-and (b == c) (bytes_eq n.now m.now) (Decides-eqb b c) (bytes_eq-Decides n.now m.now))
+      (λ h. let x = h.0 in let y = h.1 in cc (x, y)) (λ e. (let x : b ≡ c = cc in x, let y : n.now ≡ m.now = cc in y))
+  key_decides (made.Free n) (made.Free m) = along (bytes_eq-Decides n.now m.now) (λ e. ap scopes.free e) (λ e. let x : n.now ≡ m.now = cc in x)
+  key_decides (made.Qualified p n) (made.Qualified q m) =
+      along (Decides-and (path_eq p.now q.now) (bytes_eq n.now m.now) (law.by_view p.now q.now) (bytes_eq-Decides n.now m.now))
+      (λ h. let x = h.0 in let y = h.1 in cc (x, y)) (λ e. (let x : path_view p.now ≡ path_view q.now = cc in x, let y : n.now ≡ m.now = cc in y))
+  key_decides (made.Bound b n) (made.Free m) = (λ e. cc, λ e. cc)
+  key_decides (made.Bound b n) (made.Qualified q m) = (λ e. cc, λ e. cc)
+  key_decides (made.Free n) (made.Bound c m) = (λ e. cc, λ e. cc)
+  key_decides (made.Free n) (made.Qualified q m) = (λ e. cc, λ e. cc)
+  key_decides (made.Qualified p n) (made.Bound c m) = (λ e. cc, λ e. cc)
+  key_decides (made.Qualified p n) (made.Free m) = (λ e. cc, λ e. cc)
+
+  -- the test by which a look-up compares
+  pub key_test : (k x : Key) → key_eq k x ≡ same_key (flat x) (flat k)
+  key_test k x = one_test _ _ (key_decides k x) (along (keys_decide (flat x) (flat k)) sym sym)
+
+-- look-ups by tests that agree
+pub same_lookup : {K X : Type 0} (s t : K → Bool) → ((k : K) → s k ≡ t k) → (es : List (K × X)) → lookup s es ≡ lookup t es
+same_lookup s t same [] = refl
+same_lookup s t same (e ∷ es) = ap (λ b. cond b (Some e.1) (lookup s es)) (same e.0) ∙ ap (λ o. cond (t e.0) (Some e.1) o) (same_lookup s t same es)
+
+-- what a look-up finds once an entry is put
+module _ {K X : Type 0} (eq : K → K → Bool) (t : K → Bool) (k : K) (v : X) (same : (x : K) → eq k x ≡ true → t k ≡ t x) (one : (x : K) → t k ≡ true → t x ≡ true → eq k x ≡ true) where
+  pulled : (e : K × X) (es : List (K × X)) (b : Bool) → lookup t (if b then (e.0, v) ∷ es else e ∷ insert_entry eq es k v) ≡ (if b then cond (t e.0) (Some v) (lookup t es) else cond (t e.0) (Some e.1) (lookup t (insert_entry eq es k v)))
+  pulled e es true = refl
+  pulled e es false = refl
+
+  chosen : (b p q : Bool) (l i : Option X) (w : X) → (b ≡ true → p ≡ q) → (p ≡ true → q ≡ true → b ≡ true) → i ≡ (if p then Some v else l)
+      → (if b then cond q (Some v) l else cond q (Some w) i) ≡ (if p then Some v else cond q (Some w) l)
+  chosen true true true l i w s o h = refl
+  chosen true true false l i w s o h = absurd (let x : true ≡ false = s refl in let y : ⊥ = cc in y)
+  chosen true false true l i w s o h = absurd (let x : false ≡ true = s refl in let y : ⊥ = cc in y)
+  chosen true false false l i w s o h = refl
+  chosen false true true l i w s o h = absurd (let x : false ≡ true = o refl refl in let y : ⊥ = cc in y)
+  chosen false true false l i w s o h = h
+  chosen false false true l i w s o h = refl
+  chosen false false false l i w s o h = h
+
+  pub inserted : (es : List (K × X)) → lookup t (insert_entry eq es k v) ≡ (if t k then Some v else lookup t es)
+  inserted [] = start (t k)
+    where
+      start : (b : Bool) → cond b (Some v) None ≡ (if b then Some v else None)
+      start true = refl
+      start false = refl
+  inserted (e ∷ es) = pulled e es (eq k e.0) ∙ chosen (eq k e.0) (t k) (t e.0) (lookup t es) (lookup t (insert_entry eq es k v)) e.1 (same e.0) (one e.0) (inserted es)
+
+or_nothing : (a b : Bool) → a ≡ (a || (b && false))
+or_nothing true b = refl
+or_nothing false true = refl
+or_nothing false false = refl
+
+or_all : (a b : Bool) → (a || b) ≡ (a || (b && true))
+or_all true b = refl
+or_all false true = refl
+or_all false false = refl
+
+-- one more binder
+pub added : (law : Equality) (es new : List (Key × ℕ)) (k : Key) (from v : ℕ) (old : Option ℕ) → new ≡ insert_entry key_eq es k v → old ≡ lookup (key_eq k) es → ((p : ℕ) → nat_le v p ≡ (opened old p || nat_le from p))
+    → (b : ℕ) (n : Text) (p : ℕ) → open_at new b n p ≡ (open_at es b n p || (nat_le from p && same_key (flat k) (scopes.bound (b ∷ []) n)))
+added law es new k from v old new_is old_is v_is b n p =
+    ap (λ x. open_at x b n p) new_is
+    ∙ (ap (λ o. opened o p) (inserted key_eq (λ x. same_key (flat x) (scopes.bound (b ∷ []) n)) k v (λ x e. ap (λ y. same_key y (scopes.bound (b ∷ []) n)) ((key_decides law k x).0 e)) (λ x e f. (key_decides law k x).1 ((keys_decide (flat k) (scopes.bound (b ∷ []) n)).0 e ∙ sym ((keys_decide (flat x) (scopes.bound (b ∷ []) n)).0 f))) es)
+    ∙ at (same_key (flat k) (scopes.bound (b ∷ []) n)) (λ e. (keys_decide (flat k) (scopes.bound (b ∷ []) n)).0 e))
+  where
+    at : (d : Bool) → (d ≡ true → flat k ≡ scopes.bound (b ∷ []) n) → opened (if d then Some v else lookup (λ x. same_key (flat x) (scopes.bound (b ∷ []) n)) es) p ≡ (open_at es b n p || (nat_le from p && d))
+    at true e =
+        v_is p
+        ∙ (ap (λ o. opened o p || nat_le from p) (old_is ∙ same_lookup (key_eq k) (λ x. same_key (flat x) (scopes.bound (b ∷ []) n)) (λ x. key_test law k x ∙ ap (same_key (flat x)) (e refl)) es)
+        ∙ or_all (open_at es b n p) (nat_le from p))
+    at false e = or_nothing (open_at es b n p) (nat_le from p)
+
+one_block : (x y : ℕ) → bytes_eq (x ∷ []) (y ∷ []) ≡ (x == y)
+one_block x y = one_test _ _ (bytes_eq-Decides (x ∷ []) (y ∷ [])) (along (Decides-eqb x y) (λ e. ap (λ z. z ∷ []) e) (λ e. let p : x ≡ y = cc in p))
+
+turned : (a b c : Bool) → (a && (b && c)) ≡ (a && (c && b))
+turned true true true = refl
+turned true true false = refl
+turned true false true = refl
+turned true false false = refl
+turned false b c = refl
+
+-- an identifier as a binder
+pub met : (visible from : Bool) (x b : ℕ) (m n : Text) → visible ≡ from → (from && same_key (scopes.bound (x ∷ []) m) (scopes.bound (b ∷ []) n)) ≡ (visible && (bytes_eq m n && x == b))
+met visible from x b m n e = ap (λ v. v && (bytes_eq (x ∷ []) (b ∷ []) && bytes_eq m n)) (sym e) ∙ (ap (λ t. visible && (t && bytes_eq m n)) (one_block x b) ∙ turned visible (x == b) (bytes_eq m n))
+
+-- whether a name is visible, by the entry that is found
+pub found_open : (law : Equality) (es : List (Key × ℕ)) (k : Key) (b : ℕ) (n : Text) (o : Option ℕ) (p : ℕ) → flat k ≡ scopes.bound (b ∷ []) n → o ≡ lookup (key_eq k) es → opened o p ≡ open_at es b n p
+found_open law es k b n o p k_is o_is =
+    ap (λ x. opened x p) (o_is ∙ same_lookup (key_eq k) (λ x. same_key (flat x) (scopes.bound (b ∷ []) n)) (λ x. key_test law k x ∙ ap (same_key (flat x)) k_is) es)
+
+-- what is no binder
+pub unmet : (a v r : Bool) → false ≡ v → a ≡ (a || (v && r))
+unmet true v r e = refl
+unmet false v r e = ap (λ x. x && r) e
+
+-- one identifier after the other
+or_assoc : (a b c : Bool) → ((a || b) || c) ≡ (a || (b || c))
+or_assoc true b c = refl
+or_assoc false b c = refl
+
+module _ {A B : Type 0} (open_now open_then : Bool) (f : A → B) (p : B → Bool) (xs : List A) where
+  pub next_bound : (i : ℕ) (x : A) (z : Bool) → i < length xs → x ≡ get_or xs i x → open_then ≡ (open_now || p (f x)) → (open_now || list_any p (map f (drop i xs))) ≡ z → (open_then || list_any p (map f (drop (i + 1) xs))) ≡ z
+  next_bound i x z h is e inv =
+      ap (λ o. o || list_any p (map f (drop (i + 1) xs))) e
+      ∙ (or_assoc open_now (p (f x)) (list_any p (map f (drop (i + 1) xs))) ∙ (ap (λ o. open_now || o) next ∙ inv))
+    where
+      next : (p (f x) || list_any p (map f (drop (i + 1) xs))) ≡ list_any p (map f (drop i xs))
+      next = rw (drop-cons xs i x h, ← is, add-one) refl
+
+or_false : (a : Bool) → a ≡ (a || false)
+or_false true = refl
+or_false false = refl
+
+pub all_bound : {A B : Type 0} (open_now : Bool) (f : A → B) (p : B → Bool) (xs : List A) (i : ℕ) (z : Bool) → length xs ≤ i → (open_now || list_any p (map f (drop i xs))) ≡ z → open_now ≡ z
+all_bound open_now f p xs i z h inv = or_false open_now ∙ (ap (λ ys. open_now || list_any p (map f ys)) (sym (drop_all i xs h)) ∙ inv)

@@ -1,0 +1,28 @@
+-- What the walk's values stand for.
+use Rattle.std.specs.Prelude.{ℕ, map}
+use Rattle.std.specs.Option.{option_map}
+use Rattle.wesl_tree_names.specs.Path.{path_view}
+use Rattle.wesl_scope_occurrences.specs.Occurrences as spec
+use Rattle.wesl_scope_occurrences.specs.Occurrences.{Surroundings}
+use Rattle.wesl_scope_occurrences.specs.Walk.{State, Found}
+use Rattle.wesl_scope_occurrences.specs.declared.occurrence.Standing.{Standing}
+use Rattle.wesl_scope_occurrences.specs.declared.occurrence.Standing.TheVariants as standings
+use Rattle.wesl_scope_occurrences.specs.declared.occurrence.Occurrence.{Occurrence}
+use Rattle.wesl_scope_occurrences.specs.declared.walk.Here.{Here}
+use Rattle.wesl_scope_occurrences.specs.declared.walk.Walk.{Walk}
+
+abbrev pub standing_view : Standing → spec.Standing
+standing_view standings.ModuleName = spec.module_name
+standing_view standings.Parameter = spec.parameter
+standing_view (standings.Local e) = spec.local e
+standing_view (standings.Reference p) = spec.reference (option_map (λ r. path_view r.now) p)
+standing_view standings.Word = spec.word
+
+abbrev pub occurrence_view : Occurrence → Found
+occurrence_view o = record { role = standing_view o.standing; name = o.ident.0; place = o.place; block = o.block; declaration = o.declaration; excused = o.is_excused }
+
+abbrev pub here_view : Here → Surroundings ℕ
+here_view h = record { block = h.block; held_block = h.held_block; is_local = h.is_local; declaration = h.declaration; words = h.words; excused = h.excused }
+
+abbrev pub state_of : Walk → State
+state_of w = record { found = map occurrence_view w.found.items; outer = w.outer.items }

@@ -1,0 +1,78 @@
+//! The identifiers of declarations.
+ghost use Rattle.wesl_tree_syntax.specs.Tree.{members, member_node, parameters};
+ghost use Rattle.wesl_tree_syntax.specs.View.{listed, placed, declaration_view, alias_view, member_view, struct_view, parameter_view, assert_view};
+ghost use Rattle.wesl_scope_occurrences.specs.Views.{here_view};
+ghost use Rattle.wesl_scope_occurrences.specs.Noted.{Walks};
+
+use crate::occurrence::Standing;
+use crate::walk::{Here, Walk};
+use wesl_tree::{
+    ConstAssert, Declaration, FormalParameter, Struct, StructMember, StructMemberNode, TypeAlias,
+};
+
+impl<'a> Walk<'a> {
+    pub fn declaration(&mut self, here: &Here, declaration: &'a Declaration)
+        ensures { Walks (here_view here.now) self.old self.new (declaration_view declaration.now) }
+    {
+        self.attributes(here, &declaration.attributes);
+        let name = self.found.len();
+        self.add(here, here.value_name(), declaration.ident);
+        self.optional_type(here, &declaration.ty);
+        self.optional_node(here, &declaration.initializer);
+        self.end(name);
+    }
+
+    pub fn alias(&mut self, here: &Here, alias: &'a TypeAlias)
+        ensures { Walks (here_view here.now) self.old self.new (alias_view alias.now) }
+    {
+        self.attributes(here, &alias.attributes);
+        self.add(here, Standing::ModuleName, alias.ident);
+        self.type_expression(here, &alias.ty);
+    }
+
+    fn member(&mut self, here: &Here, member: &'a StructMember)
+        ensures { Walks (here_view here.now) self.old self.new (member_view member.now) }
+    {
+        self.attributes(here, &member.attributes);
+        self.type_expression(here, &member.ty);
+    }
+
+    fn members(&mut self, here: &Here, all: &'a Vec<StructMemberNode>)
+        ensures { Walks (here_view here.now) self.old self.new (listed (placed member_view member_node) members all.now) }
+    {
+        for member in all {
+            self.member(here, &member.node);
+        }
+    }
+
+    pub fn structure(&mut self, here: &Here, structure: &'a Struct)
+        ensures { Walks (here_view here.now) self.old self.new (struct_view structure.now) }
+    {
+        self.attributes(here, &structure.attributes);
+        self.add(here, Standing::ModuleName, structure.ident);
+        self.members(here, &structure.members);
+    }
+
+    fn parameter(&mut self, here: &Here, parameter: &'a FormalParameter)
+        ensures { Walks (here_view here.now) self.old self.new (parameter_view parameter.now) }
+    {
+        self.attributes(&here.in_module(), &parameter.attributes);
+        self.add(here, Standing::Parameter, parameter.ident);
+        self.type_expression(&here.in_module(), &parameter.ty);
+    }
+
+    pub fn parameters(&mut self, here: &Here, all: &'a Vec<FormalParameter>)
+        ensures { Walks (here_view here.now) self.old self.new (listed parameter_view parameters all.now) }
+    {
+        for parameter in all {
+            self.parameter(here, parameter);
+        }
+    }
+
+    pub fn assertion(&mut self, here: &Here, assertion: &'a ConstAssert)
+        ensures { Walks (here_view here.now) self.old self.new (assert_view assertion.now) }
+    {
+        self.attributes(here, &assertion.attributes);
+        self.node(here, &assertion.expression);
+    }
+}

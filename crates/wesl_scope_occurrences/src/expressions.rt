@@ -1,0 +1,101 @@
+//! The identifiers of expressions and types.
+ghost use Rattle.std.specs.Option.{option_map};
+ghost use Rattle.wesl_tree_names.specs.Path.{path_view};
+ghost use Rattle.wesl_scope_occurrences.specs.Occurrences.{referring};
+ghost use Rattle.wesl_tree_syntax.specs.Tree.{list};
+ghost use Rattle.wesl_tree_syntax.specs.View.{expression_view, type_view, argument_view, call_view, expression_tree, listed};
+ghost use Rattle.wesl_scope_occurrences.specs.Views.{state_of, here_view};
+ghost use Rattle.wesl_scope_occurrences.specs.Noted.{Walks, Becomes, added};
+
+use crate::occurrence::Standing;
+use crate::walk::{Here, Walk};
+use wesl_tree::{
+    Expression, ExpressionNode, FunctionCall, Ident, ModulePath, TemplateArg, TypeExpression,
+};
+
+impl<'a> Walk<'a> {
+    #[cycle(expressions)]
+    pub fn expression(&mut self, here: &Here, expression: &'a Expression)
+        ensures { Walks (here_view here.now) self.old self.new (expression_view expression.now) }
+    {
+        match expression {
+            Expression::Literal(_) => {}
+            Expression::Parenthesized { expression } => self.node(here, expression),
+            Expression::NamedComponent { base, component: _ } => self.node(here, base),
+            Expression::Indexing { base, index } => {
+                self.node(here, base);
+                self.node(here, index);
+            }
+            Expression::Unary {
+                operator: _,
+                operand,
+            } => self.node(here, operand),
+            Expression::Binary {
+                operator: _,
+                left,
+                right,
+            } => {
+                self.node(here, left);
+                self.node(here, right);
+            }
+            Expression::FunctionCall(call) => self.call(here, call),
+            Expression::TypeOrIdentifier(ty) => self.type_expression(here, ty),
+        }
+    }
+
+    #[cycle(expressions)]
+    pub fn node(&mut self, here: &Here, node: &'a ExpressionNode)
+        ensures { Walks (here_view here.now) self.old self.new (expression_tree node.now) }
+    {
+        self.expression(here, &node.node)
+    }
+
+    #[cycle(expressions)]
+    pub fn nodes(&mut self, here: &Here, nodes: &'a Vec<ExpressionNode>)
+        ensures { Walks (here_view here.now) self.old self.new (listed expression_tree list nodes.now) }
+    {
+        for node in nodes {
+            self.expression(here, &node.node);
+        }
+    }
+
+    #[cycle(expressions)]
+    #[tactic(auto, using(crate::proofs::Views::view_call))]
+    pub fn call(&mut self, here: &Here, call: &'a FunctionCall)
+        ensures { Walks (here_view here.now) self.old self.new (call_view call.now) }
+    {
+        self.type_expression(here, &call.ty);
+        self.nodes(here, &call.arguments);
+    }
+
+    #[cycle(expressions)]
+    pub fn type_expression(&mut self, here: &Here, ty: &'a TypeExpression)
+        ensures { Walks (here_view here.now) self.old self.new (type_view ty.now) }
+    {
+        self.reference(here, &ty.path, ty.ident);
+        match &ty.template_args {
+            None => {}
+            Some(arguments) => self.arguments(here, arguments),
+        }
+    }
+
+    #[cycle(expressions)]
+    pub fn arguments(&mut self, here: &Here, arguments: &'a Vec<TemplateArg>)
+        ensures { Walks (here_view here.now) self.old self.new (listed argument_view list arguments.now) }
+    {
+        for argument in arguments {
+            self.node(here, &argument.expression);
+        }
+    }
+
+    /// A reference, or a word where names are words.
+    fn reference(&mut self, here: &Here, path: &'a Option<ModulePath>, ident: Ident)
+        ensures { Becomes self.old self.new (added (here_view here.now) (referring here.now.words (option_map path_view path.now)) ident.0 (state_of self.old)) }
+    {
+        if here.words {
+            self.add(here, Standing::Word, ident)
+        } else {
+            self.add(here, Standing::Reference(path.as_ref()), ident)
+        }
+    }
+}

@@ -1,0 +1,81 @@
+//! The identifiers of imports and directives.
+ghost use Rattle.wesl_tree_syntax.specs.Tree.{list};
+ghost use Rattle.wesl_tree_syntax.specs.View.{listed, item_view, content_view, entry_view, import_view, directive_view, imports_tree, directives_tree};
+ghost use Rattle.wesl_scope_occurrences.specs.Views.{here_view};
+ghost use Rattle.wesl_scope_occurrences.specs.Noted.{Walks};
+
+use crate::occurrence::Standing;
+use crate::walk::{Here, Walk};
+use wesl_tree::{
+    GlobalDirective, GlobalDirectiveNode, Import, ImportContent, ImportItem, ImportStatement,
+    ImportStatementNode,
+};
+
+impl<'a> Walk<'a> {
+    fn item(&mut self, here: &Here, item: &'a ImportItem)
+        ensures { Walks (here_view here.now) self.old self.new (item_view item.now) }
+    {
+        match item.rename {
+            None => self.add(here, Standing::ModuleName, item.ident),
+            Some(rename) => {
+                self.add(here, Standing::Word, item.ident);
+                self.add(here, Standing::ModuleName, rename);
+            }
+        }
+    }
+
+    #[cycle(imports)]
+    fn content(&mut self, here: &Here, content: &'a ImportContent)
+        ensures { Walks (here_view here.now) self.old self.new (content_view content.now) }
+    {
+        match content {
+            ImportContent::Item(item) => self.item(here, item),
+            ImportContent::Collection(entries) => self.entries(here, entries),
+        }
+    }
+
+    #[cycle(imports)]
+    fn entries(&mut self, here: &Here, entries: &'a Vec<Import>)
+        ensures { Walks (here_view here.now) self.old self.new (listed entry_view list entries.now) }
+    {
+        for entry in entries {
+            self.content(here, &entry.content);
+        }
+    }
+
+    fn import(&mut self, here: &Here, import: &'a ImportStatement)
+        ensures { Walks (here_view here.now) self.old self.new (import_view import.now) }
+    {
+        let here = here.in_words();
+        self.attributes(&here, &import.attributes);
+        self.content(&here, &import.content);
+    }
+
+    pub fn imports(&mut self, here: &Here, imports: &'a Vec<ImportStatementNode>)
+        ensures { Walks (here_view here.now) self.old self.new (imports_tree imports.now) }
+    {
+        for import in imports {
+            self.import(here, &import.node);
+        }
+    }
+
+    pub fn directive(&mut self, here: &Here, directive: &'a GlobalDirective)
+        ensures { Walks (here_view here.now) self.old self.new (directive_view directive.now) }
+    {
+        match directive {
+            GlobalDirective::Diagnostic { attributes, .. }
+            | GlobalDirective::Enable { attributes, .. }
+            | GlobalDirective::Requires { attributes, .. } => {
+                self.attributes(&here.in_words(), attributes);
+            }
+        }
+    }
+
+    pub fn directives(&mut self, here: &Here, directives: &'a Vec<GlobalDirectiveNode>)
+        ensures { Walks (here_view here.now) self.old self.new (directives_tree directives.now) }
+    {
+        for directive in directives {
+            self.directive(here, &directive.node);
+        }
+    }
+}

@@ -1,0 +1,270 @@
+//! The identifiers of statements.
+ghost use Rattle.std.specs.Box.{box_value};
+ghost use Rattle.wesl_tree_syntax.specs.Tree.{list, clauses, statements};
+ghost use Rattle.wesl_tree_syntax.specs.View.{statement_view, compound_view, continuing_view, else_view, else_if_view, if_view, clause_view, selector_view, break_if_view, statement_tree, listed, optional};
+ghost use Rattle.wesl_scope_occurrences.specs.Views.{here_view};
+ghost use Rattle.wesl_scope_occurrences.specs.Noted.{Walks};
+
+use crate::walk::{Here, Walk};
+use wesl_tree::{
+    BreakIfStatement, CaseSelector, CompoundStatement, ContinuingStatement, ElseClause,
+    ElseIfClause, IfClause, Statement, StatementNode, SwitchClause,
+};
+
+impl<'a> Walk<'a> {
+    fn selector(&mut self, here: &Here, selector: &'a CaseSelector)
+        ensures { Walks (here_view here.now) self.old self.new (selector_view selector.now) }
+    {
+        match selector {
+            CaseSelector::Default => {}
+            CaseSelector::Expression(e) => self.node(here, e),
+        }
+    }
+
+    fn selectors(&mut self, here: &Here, selectors: &'a Vec<CaseSelector>)
+        ensures { Walks (here_view here.now) self.old self.new (listed selector_view list selectors.now) }
+    {
+        for selector in selectors {
+            self.selector(here, selector);
+        }
+    }
+
+    fn break_if(&mut self, here: &Here, break_if: &'a BreakIfStatement)
+        ensures { Walks (here_view here.now) self.old self.new (break_if_view break_if.now) }
+    {
+        self.attributes(here, &break_if.attributes);
+        self.node(here, &break_if.expression);
+    }
+
+    fn optional_break_if(&mut self, here: &Here, break_if: &'a Option<BreakIfStatement>)
+        ensures { Walks (here_view here.now) self.old self.new (optional break_if_view break_if.now) }
+    {
+        match break_if {
+            None => {}
+            Some(break_if) => self.break_if(here, break_if),
+        }
+    }
+
+    #[cycle(statements)]
+    #[tactic(auto, using(crate::proofs::Views::view_if, crate::proofs::Views::view_switch, crate::proofs::Views::view_for))]
+    pub fn statement(&mut self, here: &Here, statement: &'a Statement)
+        ensures { Walks (here_view here.now) self.old self.new (statement_view statement.now) }
+    {
+        match statement {
+            Statement::Void => {}
+            Statement::Compound(body) => {
+                let here = self.open(here);
+                self.compound(&here, body);
+            }
+            Statement::Assignment {
+                attributes,
+                operator: _,
+                lhs,
+                rhs,
+            } => {
+                self.attributes(here, attributes);
+                self.node(here, lhs);
+                self.node(here, rhs);
+            }
+            Statement::Increment {
+                attributes,
+                expression,
+            }
+            | Statement::Decrement {
+                attributes,
+                expression,
+            } => {
+                self.attributes(here, attributes);
+                self.node(here, expression);
+            }
+            Statement::If {
+                attributes,
+                if_clause,
+                else_if_clauses,
+                else_clause,
+            } => {
+                self.attributes(here, attributes);
+                self.if_clause(here, if_clause);
+                self.else_if_clauses(here, else_if_clauses);
+                self.optional_else_clause(here, else_clause);
+            }
+            Statement::Switch {
+                attributes,
+                expression,
+                body_attributes,
+                clauses,
+            } => {
+                self.attributes(here, attributes);
+                self.node(here, expression);
+                self.attributes(here, body_attributes);
+                self.clauses(here, clauses);
+            }
+            Statement::Loop {
+                attributes,
+                body,
+                continuing,
+            } => {
+                let here = self.open(here);
+                self.attributes(&here, attributes);
+                self.compound(&here, body);
+                self.optional_continuing(&here.inside(), continuing);
+            }
+            Statement::For {
+                attributes,
+                initializer,
+                condition,
+                update,
+                body,
+            } => {
+                let here = self.open(here);
+                let inner = here.inside();
+                let below = self.open(&inner);
+                self.attributes(&here, attributes);
+                self.optional_statement(&inner, initializer);
+                self.optional_node(&inner, condition);
+                self.optional_statement(&below.inside(), update);
+                self.compound(&inner, body);
+            }
+            Statement::While {
+                attributes,
+                condition,
+                body,
+            } => {
+                let here = self.open(here);
+                self.attributes(&here, attributes);
+                self.node(&here, condition);
+                self.compound(&here, body);
+            }
+            Statement::Break { attributes }
+            | Statement::Continue { attributes }
+            | Statement::Discard { attributes } => self.attributes(here, attributes),
+            Statement::Return {
+                attributes,
+                expression,
+            } => {
+                self.attributes(here, attributes);
+                self.optional_node(here, expression);
+            }
+            Statement::FunctionCall { attributes, call } => {
+                self.attributes(here, attributes);
+                self.call(here, call);
+            }
+            Statement::ConstAssert(assertion) => self.assertion(here, assertion),
+            Statement::Declaration(declaration) => self.declaration(here, declaration),
+        }
+    }
+
+    #[cycle(statements)]
+    fn optional_statement(&mut self, here: &Here, node: &'a Option<Box<StatementNode>>)
+        ensures { Walks (here_view here.now) self.old self.new (optional (λ s. statement_tree (box_value s)) node.now) }
+    {
+        match node {
+            None => {}
+            Some(node) => self.statement(here, &node.node),
+        }
+    }
+
+    #[cycle(statements)]
+    #[tactic(auto, using(crate::proofs::Views::view_compound))]
+    pub fn compound(&mut self, here: &Here, body: &'a CompoundStatement)
+        ensures { Walks (here_view here.now) self.old self.new (compound_view body.now) }
+    {
+        self.attributes(here, &body.attributes);
+        self.statements(&here.inside(), &body.statements);
+    }
+
+    #[cycle(statements)]
+    fn statements(&mut self, here: &Here, nodes: &'a Vec<StatementNode>)
+        ensures { Walks (here_view here.now) self.old self.new (listed statement_tree statements nodes.now) }
+    {
+        for node in nodes {
+            self.statement(here, &node.node);
+        }
+    }
+
+    #[cycle(statements)]
+    fn if_clause(&mut self, here: &Here, clause: &'a IfClause)
+        ensures { Walks (here_view here.now) self.old self.new (if_view clause.now) }
+    {
+        let here = self.open(here);
+        self.node(&here, &clause.expression);
+        self.compound(&here, &clause.body);
+    }
+
+    #[cycle(statements)]
+    fn else_if_clause(&mut self, here: &Here, clause: &'a ElseIfClause)
+        ensures { Walks (here_view here.now) self.old self.new (else_if_view clause.now) }
+    {
+        let here = self.open(here);
+        self.attributes(&here, &clause.attributes);
+        self.node(&here, &clause.expression);
+        self.compound(&here, &clause.body);
+    }
+
+    #[cycle(statements)]
+    fn else_if_clauses(&mut self, here: &Here, all: &'a Vec<ElseIfClause>)
+        ensures { Walks (here_view here.now) self.old self.new (listed else_if_view list all.now) }
+    {
+        for clause in all {
+            self.else_if_clause(here, clause);
+        }
+    }
+
+    #[cycle(statements)]
+    fn optional_else_clause(&mut self, here: &Here, clause: &'a Option<ElseClause>)
+        ensures { Walks (here_view here.now) self.old self.new (optional else_view clause.now) }
+    {
+        match clause {
+            None => {}
+            Some(clause) => self.else_clause(here, clause),
+        }
+    }
+
+    #[cycle(statements)]
+    fn else_clause(&mut self, here: &Here, clause: &'a ElseClause)
+        ensures { Walks (here_view here.now) self.old self.new (else_view clause.now) }
+    {
+        let here = self.open(here);
+        self.attributes(&here, &clause.attributes);
+        self.compound(&here, &clause.body);
+    }
+
+    #[cycle(statements)]
+    fn clause(&mut self, here: &Here, clause: &'a SwitchClause)
+        ensures { Walks (here_view here.now) self.old self.new (clause_view clause.now) }
+    {
+        let here = self.open(here);
+        self.attributes(&here, &clause.attributes);
+        self.selectors(&here, &clause.case_selectors);
+        self.compound(&here, &clause.body);
+    }
+
+    #[cycle(statements)]
+    fn clauses(&mut self, here: &Here, all: &'a Vec<SwitchClause>)
+        ensures { Walks (here_view here.now) self.old self.new (listed clause_view clauses all.now) }
+    {
+        for clause in all {
+            self.clause(here, clause);
+        }
+    }
+
+    #[cycle(statements)]
+    fn optional_continuing(&mut self, here: &Here, continuing: &'a Option<ContinuingStatement>)
+        ensures { Walks (here_view here.now) self.old self.new (optional continuing_view continuing.now) }
+    {
+        match continuing {
+            None => {}
+            Some(continuing) => self.continuing(here, continuing),
+        }
+    }
+
+    #[cycle(statements)]
+    fn continuing(&mut self, here: &Here, continuing: &'a ContinuingStatement)
+        ensures { Walks (here_view here.now) self.old self.new (continuing_view continuing.now) }
+    {
+        let here = self.open(here);
+        self.attributes(&here, &continuing.attributes);
+        self.compound(&here, &continuing.body);
+        self.optional_break_if(&here.inside(), &continuing.break_if);
+    }
+}

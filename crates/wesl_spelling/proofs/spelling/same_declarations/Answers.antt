@@ -1,9 +1,0 @@
-use Rattle.wesl_syntax.specs.Unit.{name_in}
-use Rattle.wesl_syntax.specs.View.{declarations_tree}
-use Rattle.wesl_spelling.proofs.Shown.{spelling_Decides}
-use Rattle.wesl_spelling.proofs.spelling.same_declarations.Goals as goal
-
-pub returns : goal.returns
-returns c =
-    rw c.same_declarations.ensures
-    (spelling_Decides (name_in c.args.left_names.now) (name_in c.args.right_names.now) (declarations_tree c.args.left.now) (declarations_tree c.args.right.now))

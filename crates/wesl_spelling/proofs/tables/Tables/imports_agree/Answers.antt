@@ -1,9 +1,0 @@
-use Rattle.wesl_syntax.specs.View.{imports_tree}
-use Rattle.wesl_spelling.proofs.Chains.{left_by, right_by}
-use Rattle.wesl_spelling.proofs.Respelled.{tree_Decides}
-use Rattle.wesl_spelling.proofs.tables.Tables.imports_agree.Goals as goal
-
-pub returns : goal.returns
-returns c =
-    rw c.same_imports.ensures
-    (tree_Decides c.args.self.now.places (left_by c.args.self.now) (right_by c.args.self.now) (imports_tree c.args.left.now) (imports_tree c.args.right.now))

@@ -1,7 +1,0 @@
-use Rattle.wesl_syntax.specs.Tree.{attribute_node}
-use Rattle.wesl_syntax.specs.View.{attribute_view, placed}
-use Rattle.wesl_spelling.proofs.Pairs.{Compared, all_same}
-use Rattle.wesl_spelling.proofs.tables.Tables.same_attributes.Given as goal
-
-abbrev pub invariant-loop-i : goal.invariant-loop-i
-invariant-loop-i l = Compared (all_same (placed attribute_view attribute_node) l.self) l.left l.right l.i

@@ -1,5 +1,0 @@
-use Rattle.wesl_symbols.proofs.Whole.{has_answers}
-use Rattle.wesl_symbols.proofs.laws.law_of_all.Goals as goal
-
-pub returns : goal.returns
-returns g c = has_answers

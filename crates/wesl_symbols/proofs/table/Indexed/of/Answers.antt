@@ -1,4 +1,0 @@
-use Rattle.wesl_symbols.proofs.table.Indexed.of.Goals as goal
-
-pub returns-in-Ok : goal.returns-in-Ok
-returns-in-Ok c = c.in-Ok.ensures

@@ -1,8 +1,0 @@
-use Rattle.std.proofs.Common.{◌≡◌, take, map}
-use Rattle.wesl_names.specs.Path.{path_view}
-use Rattle.wesl_table.specs.Walks.{import_view}
-use Rattle.wesl_table.proofs.Nodes.{imports_from}
-use Rattle.wesl_table.proofs.imports.imports.Given as goal
-
-abbrev pub invariant-loop-i : goal.invariant-loop-i
-invariant-loop-i l = map import_view l.found.items ≡ imports_from (path_view l.own) 0 (take l.i l.statements.items)

@@ -1,7 +1,0 @@
-use Rattle.std.proofs.Common.{◌∙◌, sym}
-use Rattle.wesl_split.specs.ScopeView.{scope_view}
-use Rattle.wesl_table.proofs.Unsplit.{settled_plain}
-use Rattle.wesl_table.proofs.table.settled.Goals as goal
-
-pub returns : goal.returns
-returns c = settled_plain (scope_view c.args.scope.now) (sym c.has_split.ensures ∙ c.if-has_split.false) c.args.import.now

@@ -1,0 +1,66 @@
+-- The tree of a node, level by level.
+use Rattle.std.proofs.Common.{◌≡◌, ℕ, [], ◌∷◌, refl, sym, ◌∙◌, ap, ◌&&◌, rules, Option}
+use mathlib.Core.List.{map-map}
+use Rattle.wesl_tree_syntax.specs.Tree.{branch, call, list, compound, statements, Tree, tree_below, if_statement, switch, clauses}
+use Rattle.wesl_tree_syntax.specs.View.{argument_view, entry_view, content_view, content_step, entry_step, call_view, type_view, expression_tree, listed, attributes_tree, expression_step, call_step, argument_step, type_step, compound_view, statement_tree, statement_step, compound_step, continuing_step, else_step, else_if_step, if_step, clause_step, statement_view, if_view, else_if_view, else_view, clause_view, optional}
+use Rattle.wesl_tree_syntax.specs.declared.statement.CompoundStatement.{CompoundStatement, out-CompoundStatement}
+use Rattle.wesl_tree_syntax.specs.declared.statement.Statement.TheFolds.{fold_out-CompoundStatement}
+use Rattle.std.specs.Global.{Vec}
+use Rattle.wesl_tree_syntax.specs.declared.attribute.Attribute.{Attribute}
+use Rattle.wesl_tree_syntax.specs.declared.statement.ElseClause.{ElseClause}
+use Rattle.wesl_tree_syntax.specs.declared.statement.ElseIfClause.{ElseIfClause}
+use Rattle.wesl_tree_syntax.specs.declared.statement.IfClause.{IfClause}
+use Rattle.wesl_tree_syntax.specs.declared.statement.SwitchClause.{SwitchClause}
+use Rattle.wesl_tree_syntax.specs.declared.statement.Statement.{Statement, the_lemmas}
+use Rattle.wesl_tree_syntax.specs.declared.statement.Statement as made
+use Rattle.wesl_tree_syntax.specs.declared.span.Spanned.{Spanned}
+use Rattle.wesl_tree_syntax.specs.declared.expression.Expression.{Expression}
+use Rattle.wesl_tree_syntax.specs.declared.expression.TypeExpression.{TypeExpression}
+use Rattle.wesl_tree_syntax.specs.declared.expression.FunctionCall.{FunctionCall, out-FunctionCall}
+use Rattle.wesl_tree_syntax.specs.declared.expression.TemplateArg.{TemplateArg, out-TemplateArg}
+use Rattle.wesl_tree_syntax.specs.declared.expression.Expression.TheFolds.{fold_out-FunctionCall, fold_out-TemplateArg}
+use Rattle.wesl_tree_syntax.specs.declared.import.Import.{Import, out-Import}
+use Rattle.wesl_tree_syntax.specs.declared.import.ImportContent.TheFolds.{fold_out-Import}
+use Rattle.wesl_tree_bounds.proofs.Below.{and_true, four}
+
+pub view_call : (c : FunctionCall) → call_view c ≡ branch call (type_view (out-FunctionCall c).ty ∷ listed expression_tree list (out-FunctionCall c).arguments ∷ [])
+view_call c = fold_out-FunctionCall Tree Tree Tree Tree expression_step call_step argument_step type_step c ∙ simp map-map
+
+pub view_compound : (b : CompoundStatement) → compound_view b ≡ branch compound (attributes_tree (out-CompoundStatement b).attributes ∷ listed statement_tree statements (out-CompoundStatement b).statements ∷ [])
+view_compound b = fold_out-CompoundStatement Tree Tree Tree Tree Tree Tree Tree statement_step compound_step continuing_step else_step else_if_step if_step clause_step b ∙ simp map-map
+
+calls : (a b c d : Tree) → a ≡ b → c ≡ d → branch call (a ∷ c ∷ []) ≡ branch call (b ∷ d ∷ [])
+calls a b c d e f = rw (e, f) refl
+
+-- a call made of copies of a call's parts
+pub copied_call : (c d : FunctionCall) (t : TypeExpression) (v : Vec (Spanned Expression)) → out-FunctionCall c ≡ record { ty = t; arguments = v }
+    → type_view t ≡ type_view (out-FunctionCall d).ty → listed expression_tree list v ≡ listed expression_tree list (out-FunctionCall d).arguments → call_view c ≡ call_view d
+copied_call c d t v is e f =
+    view_call c ∙ calls _ _ _ _ (ap (λ r. type_view r.ty) is ∙ e) (ap (λ r. listed expression_tree list r.arguments) is ∙ f) ∙ sym (view_call d)
+
+-- an argument lies below where its expression does
+pub argument_below : (n : ℕ) (a : TemplateArg) → tree_below n (argument_view a) ≡ tree_below n (expression_tree (out-TemplateArg a).expression)
+argument_below n a = ap (tree_below n) (fold_out-TemplateArg Tree Tree Tree Tree expression_step call_step argument_step type_step a) ∙ and_true _
+
+-- an entry lies below where its content does
+pub entry_below : (n : ℕ) (i : Import) → tree_below n (entry_view i) ≡ tree_below n (content_view (out-Import i).content)
+entry_below n i = ap (tree_below n) (fold_out-Import Tree Tree content_step entry_step i) ∙ and_true _
+
+view_if : (a : Vec (Spanned Attribute)) (i : IfClause) (es : Vec ElseIfClause) (e : Option ElseClause) → statement_view (made.If a i es e) ≡ branch if_statement (attributes_tree a ∷ if_view i ∷ listed else_if_view list es ∷ optional else_view e ∷ [])
+view_if a i es e = search (rules, the_lemmas, map-map)
+
+view_switch : (a : Vec (Spanned Attribute)) (e : Spanned Expression) (b : Vec (Spanned Attribute)) (cs : Vec SwitchClause) → statement_view (made.Switch a e b cs) ≡ branch switch (attributes_tree a ∷ expression_tree e ∷ attributes_tree b ∷ listed clause_view clauses cs ∷ [])
+view_switch a e b cs = search (rules, the_lemmas, map-map)
+
+-- the tests of a statement with `if`, and of one with `switch`
+pub if_below : (n : ℕ) (s : Statement) (a : Vec (Spanned Attribute)) (i : IfClause) (es : Vec ElseIfClause) (e : Option ElseClause) → s ≡ made.If a i es e
+    → tree_below n (statement_view s) ≡ (((tree_below n (attributes_tree a) && tree_below n (if_view i)) && tree_below n (listed else_if_view list es)) && tree_below n (optional else_view e))
+if_below n s a i es e is =
+    ap (λ t. tree_below n (statement_view t)) is
+    ∙ (ap (tree_below n) (view_if a i es e) ∙ four (tree_below n (attributes_tree a)) (tree_below n (if_view i)) (tree_below n (listed else_if_view list es)) (tree_below n (optional else_view e)))
+
+pub switch_below : (n : ℕ) (s : Statement) (a : Vec (Spanned Attribute)) (e : Spanned Expression) (b : Vec (Spanned Attribute)) (cs : Vec SwitchClause) → s ≡ made.Switch a e b cs
+    → tree_below n (statement_view s) ≡ (((tree_below n (attributes_tree a) && tree_below n (expression_tree e)) && tree_below n (attributes_tree b)) && tree_below n (listed clause_view clauses cs))
+switch_below n s a e b cs is =
+    ap (λ t. tree_below n (statement_view t)) is
+    ∙ (ap (tree_below n) (view_switch a e b cs) ∙ four (tree_below n (attributes_tree a)) (tree_below n (expression_tree e)) (tree_below n (attributes_tree b)) (tree_below n (listed clause_view clauses cs)))

@@ -1,0 +1,1 @@
+pub use Rattle.wesl_tree_equality.specs.Numbered

@@ -1,0 +1,5 @@
+use Rattle.std.proofs.Common.{rules}
+use Rattle.wesl_tree_names.proofs.errors.DiagnosticFromAllocFailed.from.Goals as goal
+
+pub returns : goal.returns
+returns g c = search rules

@@ -1,0 +1,44 @@
+-- The texts of paths (WESL, "Imports").
+use Rattle.std.specs.Prelude.{ℕ, suc, Bool, true, not, ◌&&◌, if◌then◌else◌, Option, Some, None, List, [], ◌∷◌, ◌++◌, bytes_eq, codes}
+use Rattle.wesl_tree_base.specs.Pieces.{Text, has, slash, is_keyword, is_package_name, pieces, relative_pieces, joined}
+use Rattle.wesl_tree_names.specs.Path.{Origin, absolute, relative, from_package, Path}
+
+abbrev pub is_component : Text → Bool
+is_component t = not (has slash t) && not (is_keyword t)
+
+abbrev pub are_components : List Text → Bool
+are_components [] = true
+are_components (t ∷ ts) = is_component t && are_components ts
+
+abbrev pub path_with : Origin → List Text → Option Path
+path_with o ts = if are_components ts then Some (record { origin = o; components = ts }) else None
+
+-- after a run of n leading `super`
+abbrev pub after_super : ℕ → List Text → Option Path
+after_super n [] = path_with (relative n) []
+after_super n (t ∷ ts) = if bytes_eq t (codes "super") then after_super (suc n) ts else path_with (relative n) (t ∷ ts)
+
+abbrev pub path_of_pieces : List Text → Option Path
+path_of_pieces [] = None
+path_of_pieces (t ∷ ts) =
+    if bytes_eq t (codes "package") then path_with absolute ts
+    else if bytes_eq t (codes "self") then path_with (relative 0) ts
+    else if bytes_eq t (codes "super") then after_super 1 ts
+    else if is_package_name t then path_with (from_package t) ts
+    else None
+
+abbrev pub parsed_pieces : Option (List Text) → Option Path
+parsed_pieces None = None
+parsed_pieces (Some ts) = path_of_pieces ts
+
+-- the path that a text says, if it says one
+abbrev pub parse : Text → Option Path
+parse text = parsed_pieces (pieces text)
+
+abbrev pub origin_pieces : Origin → List Text
+origin_pieces absolute = codes "package" ∷ []
+origin_pieces (relative n) = relative_pieces n
+origin_pieces (from_package name) = name ∷ []
+
+abbrev pub to_text : Path → Text
+to_text p = joined (origin_pieces p.origin ++ p.components)

@@ -1,0 +1,7 @@
+use Rattle.wesl_tree_syntax.specs.Tree.{declaration_node}
+use Rattle.wesl_tree_syntax.specs.View.{global_view, placed}
+use Rattle.wesl_tree_spelling.proofs.Pairs.{Compared, all_same}
+use Rattle.wesl_tree_spelling.proofs.tables.Tables.same_declarations.Given as goal
+
+abbrev pub invariant-loop-i : goal.invariant-loop-i
+invariant-loop-i l = Compared (all_same (placed global_view declaration_node) l.self) l.left l.right l.i

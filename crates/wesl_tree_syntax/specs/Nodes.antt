@@ -1,0 +1,54 @@
+-- Nodes and identifiers of a tree, in document order: a node before its children, children in the order of their fields.
+use Rattle.std.specs.Prelude.{Bool, true, false, List, [], ◌∷◌, ◌++◌, if◌then◌else◌}
+use Rattle.wesl_tree_syntax.specs.Tree.{LabelOf, ForestOf, TreeOf, end, tree, kind, at, attributes, type_expression, expression_node, statement_node, if_attribute, elif_attribute, import_statement, diagnostic_directive, enable_directive, requires_directive}
+
+module _ {I : Type 0} where
+  abbrev pub is_type : LabelOf I → Bool
+  is_type (kind type_expression) = true
+  is_type _ = false
+
+  abbrev pub is_expression : LabelOf I → Bool
+  is_expression (at expression_node _ _) = true
+  is_expression _ = false
+
+  abbrev pub is_statement : LabelOf I → Bool
+  is_statement (at statement_node _ _) = true
+  is_statement _ = false
+
+  abbrev pub is_attributes : LabelOf I → Bool
+  is_attributes (kind attributes) = true
+  is_attributes _ = false
+
+  -- the formula of a conditional attribute
+  abbrev pub is_formula : LabelOf I → Bool
+  is_formula (kind if_attribute) = true
+  is_formula (kind elif_attribute) = true
+  is_formula _ = false
+
+  abbrev pub is_import_or_directive : LabelOf I → Bool
+  is_import_or_directive (kind import_statement) = true
+  is_import_or_directive (kind diagnostic_directive) = true
+  is_import_or_directive (kind enable_directive) = true
+  is_import_or_directive (kind requires_directive) = true
+  is_import_or_directive _ = false
+
+  -- the outermost nodes that a test picks
+  abbrev pub outermost : (LabelOf I → Bool) → ForestOf I → List (TreeOf I)
+  outermost p end = []
+  outermost p (tree l children others) = (if p l then record { label = l; children = children } ∷ [] else outermost p children) ++ outermost p others
+
+  -- all of them, a node before the nodes in it
+  abbrev pub all_nodes : (LabelOf I → Bool) → ForestOf I → List (TreeOf I)
+  all_nodes p end = []
+  all_nodes p (tree l children others) = (if p l then record { label = l; children = children } ∷ [] else []) ++ all_nodes p children ++ all_nodes p others
+
+  -- attributes lists emptied
+  abbrev pub without_attributes : ForestOf I → ForestOf I
+  without_attributes end = end
+  without_attributes (tree l children others) = tree l (if is_attributes l then end else children) (without_attributes others)
+
+  -- only what is no word: no formulas, and no attributes of imports and directives
+  abbrev pub without_words : ForestOf I → ForestOf I
+  without_words end = end
+  without_words (tree l children others) =
+      tree l (if is_formula l then end else if is_import_or_directive l then without_attributes (without_words children) else without_words children) (without_words others)

@@ -1,0 +1,26 @@
+-- What is built in: names that the caller hands in.
+use Rattle.std.specs.Prelude.{bytes_eq, Bool, ◌||◌, Option, List, map, string_bytes}
+use Rattle.std.specs.List.{list_any, find}
+use Rattle.wesl_tree_names.specs.Path.{Text}
+use Rattle.wesl_validate_builtins.specs.declared.builtins.Builtins.{Builtins}
+
+pub record BuiltinNames : Type 0 where
+  -- those that are defined
+  pub names : List Text
+  -- those that a call may name
+  pub functions : List Text
+  pub constructors : List Text
+
+abbrev pub builtins_view : Builtins → BuiltinNames
+builtins_view b = record { names = map string_bytes b.names.items; functions = map string_bytes b.functions.items; constructors = map string_bytes b.constructors.items }
+
+abbrev pub is_among : Text → List Text → Bool
+is_among n ns = list_any (λ m. bytes_eq m n) ns
+
+-- the name as it is stored, where it is one of those that are defined
+abbrev pub stored : BuiltinNames → Text → Option Text
+stored b n = find (λ m. bytes_eq m n) b.names
+
+-- whether a call may name it
+abbrev pub is_callable : BuiltinNames → Text → Bool
+is_callable b n = is_among n b.functions || is_among n b.constructors

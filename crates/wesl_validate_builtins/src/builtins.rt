@@ -1,0 +1,71 @@
+//! Names that are built in.
+ghost use Rattle.std.specs.Prelude.{◌≡◌, map, string_bytes};
+ghost use Rattle.std.specs.Option.{option_map};
+ghost use Rattle.wesl_validate_builtins.specs.Builtins.{is_among, is_callable, stored, builtins_view};
+
+/// The names that are built in, which the caller hands in: `names` are defined, and of these a call may name
+/// `functions` and `constructors`.
+#[derive(Drop)]
+pub struct Builtins {
+    /// the names that are defined
+    pub(crate) names: Vec<String>,
+    /// functions
+    pub(crate) functions: Vec<String>,
+    /// types and other names that construct a value
+    pub(crate) constructors: Vec<String>,
+}
+
+impl Builtins {
+    /// These names.
+    pub fn new(names: Vec<String>, functions: Vec<String>, constructors: Vec<String>) -> Builtins
+        ensures names { (builtins_view result).names ≡ map string_bytes names.items }
+        ensures functions { (builtins_view result).functions ≡ map string_bytes functions.items }
+        ensures constructors { (builtins_view result).constructors ≡ map string_bytes constructors.items }
+    {
+        Builtins {
+            names,
+            functions,
+            constructors,
+        }
+    }
+
+    /// The stored name, where it is among `names`.
+    #[tactic(auto, using(crate::proofs::Strings::find_map, crate::proofs::Strings::find_map_next))]
+    pub fn builtin_ident(&self, name: &str) -> Option<&str>
+        ensures { option_map (λ s. s.now) result ≡ stored (builtins_view self.now) name.now }
+    {
+        for stored in &self.names {
+            if stored.as_str() == name {
+                return Some(stored.as_str());
+            }
+        }
+        None
+    }
+
+    /// Whether it is defined: it is among `names`.
+    pub fn is_defined(&self, name: &str) -> bool
+        ensures { result ≡ is_among name.now (builtins_view self.now).names }
+    {
+        is_among(&self.names, name)
+    }
+
+    /// Whether a call may name it: it is among `functions` or `constructors`.
+    pub fn is_callable(&self, name: &str) -> bool
+        ensures { result ≡ is_callable (builtins_view self.now) name.now }
+    {
+        is_among(&self.functions, name) || is_among(&self.constructors, name)
+    }
+}
+
+/// Whether one of these is the name.
+#[tactic(auto, using(crate::proofs::Strings::any_map, crate::proofs::Strings::any_map_next))]
+fn is_among(names: &Vec<String>, name: &str) -> bool
+    ensures { result ≡ is_among name.now (map string_bytes names.now.items) }
+{
+    for stored in names {
+        if stored.as_str() == name {
+            return true;
+        }
+    }
+    false
+}

@@ -1,0 +1,60 @@
+-- What a module is to its calls, as tables tell it.
+use Rattle.std.specs.Prelude.{◌≡◌, ◌↔◌, ℕ, Bool, ◌&&◌, ◌==◌, Option, Some, None, List, [], ◌∷◌, flat_map, get_or, if◌then◌else◌}
+use Rattle.wesl_tree_syntax.specs.Unit.{UnitView}
+use Rattle.wesl_scope_occurrences.specs.Occurrences.{OccurrenceIn, is_module_name, is_binder}
+use Rattle.wesl_scope_strip.specs.Marks.{mark_at}
+use Rattle.wesl_validate_rules.specs.Graphs.{Graph, Leads, IsClosed}
+use Rattle.wesl_validate_rules.specs.Calls.{ShapeOf, alias_of, other}
+use Rattle.wesl_validate_rules.specs.Valid.{is_bound, shape_of, Declares}
+
+pub record Tables : Type 0 where
+  -- of each declaration what it is to a call
+  pub shapes : List (ShapeOf ℕ)
+  -- of each number the declarations that declare it
+  pub declarers : Graph
+  -- of each number the names for which its aliases stand
+  pub aliases : Graph
+  -- of each number whether a binder has it
+  pub bound : List Bool
+
+abbrev pub shape_at : List (ShapeOf ℕ) → ℕ → ShapeOf ℕ
+shape_at shapes j = get_or shapes j other
+
+-- they tell what the module is
+pub record AreTables (u : UnitView) (t : Tables) : Type 0 where
+  pub shaped : (j : ℕ) → shape_at t.shapes j ≡ shape_of u j
+  pub declared : (m j : ℕ) → Leads t.declarers m j ↔ Declares u j m
+  pub aliased : (a b : ℕ) → Leads t.aliases a b ↔ ((j : ℕ) × Declares u j a × (shape_of u j ≡ alias_of b))
+  pub closed : IsClosed t.aliases
+  pub bounded : (m : ℕ) → mark_at t.bound m ≡ is_bound u m
+
+abbrev pub target_of : ShapeOf ℕ → Option ℕ
+target_of (alias_of t) = Some t
+target_of _ = None
+
+abbrev pub one_or_none : Option ℕ → List ℕ
+one_or_none None = []
+one_or_none (Some x) = x ∷ []
+
+-- the name for which a declaration stands, if it is an alias of a plain one
+abbrev pub target_at : List (ShapeOf ℕ) → Option ℕ → Option ℕ
+target_at shapes None = None
+target_at shapes (Some j) = target_of (shape_at shapes j)
+
+module _ {B : Type 0} where
+  -- the declaration of which it is the name, if it is the name of one
+  abbrev pub declaration_named : OccurrenceIn ℕ B → Option ℕ
+  declaration_named o = if is_module_name o.role then o.declaration else None
+
+  abbrev pub alias_named : List (ShapeOf ℕ) → OccurrenceIn ℕ B → Option ℕ
+  alias_named shapes o = target_at shapes (declaration_named o)
+
+  -- the edge from the number m that an identifier makes
+  abbrev pub edges_here : (OccurrenceIn ℕ B → Option ℕ) → ℕ → OccurrenceIn ℕ B → List ℕ
+  edges_here f m o = if o.name == m then one_or_none (f o) else []
+
+  abbrev pub edges_of : (OccurrenceIn ℕ B → Option ℕ) → ℕ → List (OccurrenceIn ℕ B) → List ℕ
+  edges_of f m os = flat_map (edges_here f m) os
+
+  abbrev pub binds_here : ℕ → OccurrenceIn ℕ B → Bool
+  binds_here m o = is_binder o.role && o.name == m

@@ -1,0 +1,146 @@
+//! Calls that fit nothing.
+ghost use Rattle.std.specs.Prelude.{◌≡◌, ◌<◌, length, get_or, map, All, IfOk, IfErr, IfSome, IfNone};
+ghost use Rattle.wesl_tree_names.specs.declared.errors.Error as error;
+ghost use Rattle.wesl_tree_syntax.specs.Tree.{before, end};
+ghost use Rattle.wesl_tree_syntax.specs.View.{global_view};
+ghost use Rattle.wesl_tree.specs.Translation.{unit_view};
+ghost use Rattle.wesl_scope_occurrences.specs.Identified.{identified};
+ghost use Rattle.wesl_scope_strip.specs.Declarations.{all};
+ghost use Rattle.wesl_validate_builtins.specs.Builtins.{builtins_view};
+ghost use Rattle.wesl_validate_rules.specs.Calls.{calls_in};
+ghost use Rattle.wesl_validate_rules.specs.Valid.{IsFitting};
+ghost use Rattle.wesl_validate_calls.specs.Made.{call_told};
+ghost use Rattle.wesl_validate_calls.specs.Misfits.{Misses, Passes, MissesIn, MissesAmong};
+ghost use Rattle.wesl_validate_calls.specs.Reached.{IsClear};
+ghost use Rattle.wesl_validate_calls.specs.Tables.{AreTables};
+ghost use Rattle.wesl_validate_calls.specs.Views.{tables_view};
+
+use crate::calls::{Call, calls_of};
+use crate::judge::judged;
+use crate::misfit::Misfit;
+use crate::reach::reached;
+use crate::tables::{Tables, tables_of};
+use std::alloc::{AllocError, Global};
+use wesl_scope_occurrences::Identifiers;
+use wesl_tree::TranslationUnit;
+use wesl_tree_names::Error;
+use wesl_tree_syntax::GlobalDeclaration;
+use wesl_validate_builtins::Builtins;
+
+/// What is wrong with a call, if it fits nothing of what its aliases end in. `marks` are those of `reached`.
+fn call_misfit(
+    alloc: Global,
+    unit: &TranslationUnit,
+    builtins: &Builtins,
+    tables: &Tables,
+    marks: &mut [bool],
+    call: Call,
+) -> Result<Option<Misfit>, AllocError>
+    requires tables { AreTables (unit_view unit.now) (tables_view tables.now) }
+    requires clear { IsClear (tables_view tables.now).aliases marks.old }
+    ensures misfit { IfOk result (λ r. IfSome r (Misses (unit_view unit.now) (builtins_view builtins.now) (call_told call))) }
+    ensures none { IfOk result (λ r. IfNone r (Passes (unit_view unit.now) (builtins_view builtins.now) (call_told call))) }
+    ensures clear { IfOk result (λ _. IsClear (tables_view tables.now).aliases marks.new) }
+{
+    let numbers = reached(alloc, &tables.aliases, marks, call.callee)?;
+    let misfit = judged(tables, unit.names(), builtins, call.arguments, &numbers);
+    Ok(misfit)
+}
+
+/// The call at a place of the list.
+#[tactic(auto, using(crate::proofs::Shaping::at_itself))]
+fn call_at(calls: &Vec<Call>, place: usize) -> Call
+    requires { place < length calls.now.items }
+    ensures { result ≡ get_or calls.now.items place result }
+{
+    calls[place]
+}
+
+fn misfit_among(
+    alloc: Global,
+    unit: &TranslationUnit,
+    builtins: &Builtins,
+    tables: &Tables,
+    marks: &mut [bool],
+    calls: &Vec<Call>,
+) -> Result<Option<Misfit>, AllocError>
+    requires tables { AreTables (unit_view unit.now) (tables_view tables.now) }
+    requires clear { IsClear (tables_view tables.now).aliases marks.old }
+    ensures misfit { IfOk result (λ r. IfSome r (MissesAmong (unit_view unit.now) (builtins_view builtins.now) (map call_told calls.now.items))) }
+    ensures none { IfOk result (λ r. IfNone r (All (Passes (unit_view unit.now) (builtins_view builtins.now)) (map call_told calls.now.items))) }
+    ensures clear { IfOk result (λ _. IsClear (tables_view tables.now).aliases marks.new) }
+{
+    for place in 0..calls.len() {
+        let call = call_at(calls, place);
+        match call_misfit(alloc, unit, builtins, tables, marks, call)? {
+            Some(misfit) => return Ok(Some(misfit)),
+            None => {}
+        }
+    }
+    Ok(None)
+}
+
+fn misfit_in(
+    alloc: Global,
+    unit: &TranslationUnit,
+    builtins: &Builtins,
+    tables: &Tables,
+    marks: &mut [bool],
+    declaration: &GlobalDeclaration,
+) -> Result<Option<Misfit>, Error>
+    requires tables { AreTables (unit_view unit.now) (tables_view tables.now) }
+    requires clear { IsClear (tables_view tables.now).aliases marks.old }
+    ensures misfit { IfOk result (λ r. IfSome r (MissesAmong (unit_view unit.now) (builtins_view builtins.now) (calls_in (before (global_view declaration.now) end)))) }
+    ensures none { IfOk result (λ r. IfNone r (All (Passes (unit_view unit.now) (builtins_view builtins.now)) (calls_in (before (global_view declaration.now) end)))) }
+    ensures clear { IfOk result (λ _. IsClear (tables_view tables.now).aliases marks.new) }
+    ensures refused { IfErr result (λ e. e ≡ error.Memory) }
+{
+    let calls = calls_of(alloc, declaration)?;
+    Ok(misfit_among(alloc, unit, builtins, tables, marks, &calls)?)
+}
+
+/// The same, in all declarations.
+fn misfit_of(
+    alloc: Global,
+    unit: &TranslationUnit,
+    builtins: &Builtins,
+    tables: &Tables,
+    marks: &mut [bool],
+) -> Result<Option<(usize, Misfit)>, Error>
+    requires tables { AreTables (unit_view unit.now) (tables_view tables.now) }
+    requires clear { IsClear (tables_view tables.now).aliases marks.old }
+    ensures misfit { IfOk result (λ r. IfSome r (λ p. MissesIn (unit_view unit.now) (builtins_view builtins.now) p.0 p.1)) }
+    ensures none { IfOk result (λ r. IfNone r (IsFitting (unit_view unit.now) (builtins_view builtins.now))) }
+    ensures refused { IfErr result (λ e. e ≡ error.Memory) }
+{
+    let declarations = unit.global_declarations();
+    for j in 0..declarations.len() {
+        let declaration = &declarations[j];
+        match misfit_in(alloc, unit, builtins, tables, marks, &declaration.node)? {
+            Some(misfit) => return Ok(Some((j, misfit))),
+            None => {}
+        }
+    }
+    Ok(None)
+}
+
+/// The first call that fits nothing of what its aliases end in: the number of the declaration that holds it, and what
+/// is wrong with it. None where each call fits whose aliases end anywhere.
+///
+/// `found` are the identifiers of the unit. It goes over the calls and their aliases once. Refused for want of memory
+/// alone.
+pub fn first_misfit(
+    alloc: Global,
+    unit: &TranslationUnit,
+    found: &Identifiers<'_>,
+    builtins: &Builtins,
+) -> Result<Option<(usize, Misfit)>, Error>
+    requires { identified found.now ≡ all (unit_view unit.now) }
+    ensures misfit { IfOk result (λ r. IfSome r (λ p. MissesIn (unit_view unit.now) (builtins_view builtins.now) p.0 p.1)) }
+    ensures none { IfOk result (λ r. IfNone r (IsFitting (unit_view unit.now) (builtins_view builtins.now))) }
+    ensures refused { IfErr result (λ e. e ≡ error.Memory) }
+{
+    let tables = tables_of(alloc, unit, found)?;
+    let mut marks = vec![in alloc; false; tables.aliases.len()]?;
+    misfit_of(alloc, unit, builtins, &tables, &mut marks)
+}

@@ -1,0 +1,42 @@
+-- What a search along edges has found so far.
+use Rattle.std.specs.Prelude.{◌≡◌, ◌⊎◌, ℕ, ◌<◌, ◌≤◌, Option, Some, None, List, [], ◌∷◌, length, get_or}
+use Rattle.wesl_validate_rules.specs.Graphs.{Graph, edges_at, Leads, IsGrounded}
+use Rattle.wesl_validate_rules.specs.declared.graph.Mark.{Mark}
+use Rattle.wesl_validate_rules.specs.declared.graph.Mark.TheVariants.{New, Open, Done}
+
+abbrev pub target_at : Graph → ℕ → ℕ → ℕ
+target_at g a k = get_or (edges_at g a) k 0
+
+abbrev pub mark_at : List Mark → ℕ → Mark
+mark_at ms a = get_or ms a New
+
+abbrev pub left_at : List ℕ → ℕ → ℕ
+left_at ls a = get_or ls a 0
+
+abbrev pub OnWay : ℕ → List ℕ → Type 0
+OnWay a [] = ⊥
+OnWay a (b ∷ ws) = (b ≡ a) ⊎ OnWay a ws
+
+-- marks, how many edges of each node are left to look at, and the way: open nodes, the newest first
+module _ (g : Graph) (ms : List Mark) (ls : List ℕ) where
+  -- each edge that was looked at leads to a node that is done or to the next on the way
+  abbrev pub Looked : ℕ → Option ℕ → Type 0
+  Looked a above = (k : ℕ) → left_at ls a ≤ k → k < length (edges_at g a) → (mark_at ms (target_at g a k) ≡ Done) ⊎ (above ≡ Some (target_at g a k))
+
+  abbrev pub Onward : ℕ → Option ℕ → Type 0
+  Onward a None = Unit {0}
+  Onward a (Some b) = Leads g a b
+
+  abbrev pub AreWay : Option ℕ → List ℕ → Type 0
+  AreWay above [] = Unit {0}
+  AreWay above (a ∷ ws) = (a < length g) × Looked a above × Onward a above × (OnWay a ws → ⊥) × AreWay (Some a) ws
+
+  pub record IsSearch (ws : List ℕ) : Type 0 where
+    pub marks_sized : length ms ≡ length g
+    pub left_sized : length ls ≡ length g
+    pub fresh : (a : ℕ) → a < length g → mark_at ms a ≡ New → left_at ls a ≡ length (edges_at g a)
+    pub within : (a : ℕ) → a < length g → left_at ls a ≤ length (edges_at g a)
+    pub done : (a : ℕ) → mark_at ms a ≡ Done → IsGrounded g a
+    pub on_way : (a : ℕ) → mark_at ms a ≡ Open → OnWay a ws
+    pub opened : (a : ℕ) → OnWay a ws → mark_at ms a ≡ Open
+    pub way : AreWay None ws

@@ -1,0 +1,21 @@
+-- A step of the rewriting walk: what it made of a forest, and whether it goes on. Once a rewriter has refused, the rest stands as it was.
+use Rattle.std.specs.Prelude.{◌≡◌, Bool, true, false}
+use Rattle.wesl_tree_syntax.specs.Tree.{Forest, Tree}
+use Rattle.wesl_visit_rewrite.specs.Replaced.{Rule, Replaced, ReplacedBelow, Stopped, StoppedBelow}
+
+abbrev pub WentBy : Rule → Bool → Forest → Bool → Forest → Type 0
+WentBy k true f true g = Replaced k f g
+WentBy k true f false g = Stopped k f g
+WentBy k false f true g = ⊥
+WentBy k false f false g = g ≡ f
+
+pub record Went (k : Rule) (a : Bool) (f : Forest) (b : Bool) (g : Forest) : Type 0 where
+  pub went : WentBy k a f b g
+
+-- the same strictly below a node, where none refused before
+abbrev pub WentBelowBy : Rule → Tree → Bool → Tree → Type 0
+WentBelowBy k s true t = ReplacedBelow k s t
+WentBelowBy k s false t = StoppedBelow k s t
+
+pub record WentBelow (k : Rule) (s : Tree) (b : Bool) (t : Tree) : Type 0 where
+  pub went : WentBelowBy k s b t

@@ -1,0 +1,100 @@
+//! What is replaced in attributes, and in fields that may be absent.
+ghost use Rattle.wesl_visit_rewrite.specs.Replaced.{rule};
+ghost use Rattle.wesl_visit_rewrite.specs.Went.{Went};
+ghost use Rattle.std.specs.Prelude.{map};
+ghost use Rattle.wesl_tree_syntax.specs.Tree.{attribute_node, before, end, forest_of};
+ghost use Rattle.wesl_tree_syntax.specs.View.{attribute_view, attributes_tree, expression_tree, optional, placed, type_view};
+
+use crate::replace::expression::{at_expression, at_expressions, at_type};
+use wesl_tree_syntax::{Attribute, AttributeNode, Attributes, ExpressionNode, TypeExpression};
+use wesl_visit_collect::{Replace, Rewrite, law_of_words};
+
+pub(crate) fn at_optional_expression<T: Replace, R: Rewrite<T>>(
+    node: &mut Option<ExpressionNode>,
+    deep: bool,
+    rewriter: &mut R,
+    goes: bool,
+) -> bool
+    ensures { Went (rule T.Kind.sought R.rewrites deep) goes (before (optional expression_tree node.old) end) result (before (optional expression_tree node.new) end) }
+{
+    match node {
+        None => goes,
+        Some(node) => at_expression(node, deep, rewriter, goes),
+    }
+}
+
+pub(crate) fn at_optional_type<T: Replace, R: Rewrite<T>>(
+    ty: &mut Option<TypeExpression>,
+    deep: bool,
+    rewriter: &mut R,
+    goes: bool,
+) -> bool
+    ensures { Went (rule T.Kind.sought R.rewrites deep) goes (before (optional type_view ty.old) end) result (before (optional type_view ty.new) end) }
+{
+    match ty {
+        None => goes,
+        Some(ty) => at_type(ty, deep, rewriter, goes),
+    }
+}
+
+/// The formulas of conditional attributes are passed over.
+pub(crate) fn in_attribute<T: Replace, R: Rewrite<T>>(
+    attribute: &mut Attribute,
+    deep: bool,
+    rewriter: &mut R,
+    goes: bool,
+) -> bool
+    ensures { Went (rule T.Kind.sought R.rewrites deep) goes (before (attribute_view attribute.old) end) result (before (attribute_view attribute.new) end) }
+{
+    law_of_words();
+    match attribute {
+        Attribute::Align(operand) => at_expression(operand, deep, rewriter, goes),
+        Attribute::Binding(operand) => at_expression(operand, deep, rewriter, goes),
+        Attribute::BlendSrc(operand) => at_expression(operand, deep, rewriter, goes),
+        Attribute::Group(operand) => at_expression(operand, deep, rewriter, goes),
+        Attribute::Id(operand) => at_expression(operand, deep, rewriter, goes),
+        Attribute::Location(operand) => at_expression(operand, deep, rewriter, goes),
+        Attribute::Size(operand) => at_expression(operand, deep, rewriter, goes),
+        Attribute::WorkgroupSize { x, y, z } => {
+            let goes = at_expression(x, deep, rewriter, goes);
+            let goes = at_optional_expression(y, deep, rewriter, goes);
+            at_optional_expression(z, deep, rewriter, goes)
+        }
+        Attribute::Custom { name: _, arguments } => match arguments {
+            None => goes,
+            Some(arguments) => at_expressions(arguments, deep, rewriter, goes),
+        },
+        _ => goes,
+    }
+}
+
+pub(crate) fn in_attributes<T: Replace, R: Rewrite<T>>(
+    attributes: &mut [AttributeNode],
+    deep: bool,
+    rewriter: &mut R,
+    goes: bool,
+) -> bool
+    ensures { Went (rule T.Kind.sought R.rewrites deep) goes (forest_of (map (placed attribute_view attribute_node) attributes.old)) result (forest_of (map (placed attribute_view attribute_node) attributes.new)) }
+{
+    let mut goes = goes;
+    for i in 0..attributes.len() {
+        goes = in_attribute(&mut attributes[i].node, deep, rewriter, goes);
+    }
+    goes
+}
+
+pub(crate) fn at_attributes<T: Replace, R: Rewrite<T>>(
+    attributes: &mut Attributes,
+    deep: bool,
+    rewriter: &mut R,
+    goes: bool,
+) -> bool
+    ensures { Went (rule T.Kind.sought R.rewrites deep) goes (before (attributes_tree attributes.old) end) result (before (attributes_tree attributes.new) end) }
+{
+    if T::takes_whole_attributes(deep) {
+        T::finish_attributes(attributes, rewriter, goes)
+    } else {
+        let goes = in_attributes(attributes, deep, rewriter, goes);
+        T::finish_attributes(attributes, rewriter, goes)
+    }
+}

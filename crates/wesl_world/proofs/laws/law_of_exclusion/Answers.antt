@@ -1,5 +1,0 @@
-use Rattle.wesl_world.proofs.Exclusive.{exclude}
-use Rattle.wesl_world.proofs.laws.law_of_exclusion.Goals as goal
-
-pub returns : goal.returns
-returns g c = exclude (g.L.Loader.hands c.args.loader.now) (g.L.Loader.refuses c.args.loader.now)

@@ -1,5 +1,0 @@
-use Rattle.wesl_world.proofs.Least.{least}
-use Rattle.wesl_world.proofs.laws.law_of_least_sets.Goals as goal
-
-pub returns : goal.returns
-returns g c = least

@@ -1,5 +1,0 @@
-use Rattle.wesl_world.proofs.Walks.{leads_to_one}
-use Rattle.wesl_world.proofs.laws.law_of_look_ups.Goals as goal
-
-pub returns : goal.returns
-returns g c = leads_to_one

@@ -1,5 +1,0 @@
-use Rattle.wesl_world.proofs.Settled.{enough}
-use Rattle.wesl_world.proofs.laws.law_of_worklists.Goals as goal
-
-pub returns : goal.returns
-returns g c = enough (g.L.Loader.refuses c.args.loader.now)
