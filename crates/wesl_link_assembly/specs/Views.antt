@@ -1,7 +1,7 @@
 -- What the values of the code stand for.
 use Rattle.std.specs.Prelude.{ℕ}
 use Rattle.wesl_link_symbols.specs.declared.ids.PathId.{PathId}
-use Rattle.wesl_link_symbols.specs.declared.ids.NameId.{NameId}
+use Rattle.wesl_tree_base.specs.declared.ids.NameId.{NameId}
 use Rattle.wesl_link_assembly.specs.Denotations.{DenotationOf, symbol, local, free_name}
 use Rattle.wesl_link_assembly.specs.declared.denotation.Denotation.{Denotation}
 use Rattle.wesl_link_assembly.specs.declared.denotation.Denotation.TheVariants as made

@@ -2,7 +2,7 @@
 ghost use Rattle.std.specs.Prelude.{◌≡◌};
 ghost use Rattle.wesl_tree_names.specs.Path.{Text};
 ghost use Rattle.wesl_link_symbols.specs.declared.ids.PathId as path_id;
-ghost use Rattle.wesl_link_symbols.specs.declared.ids.NameId as name_id;
+ghost use Rattle.wesl_tree_base.specs.declared.ids.NameId as name_id;
 
 use wesl_link_symbols::ids::{NameId, PathId};
 use wesl_link_symbols::symbols::Symbol;

@@ -6,7 +6,7 @@ use Rattle.wesl_tree_names.specs.Path.{Text, Path, is_relative}
 use Rattle.wesl_tree_syntax.specs.Unit.{UnitOf, spelled}
 use Rattle.wesl_tree.specs.Translation.{unit_view}
 use Rattle.wesl_link_symbols.specs.declared.ids.PathId.{PathId}
-use Rattle.wesl_link_symbols.specs.declared.ids.NameId.{NameId}
+use Rattle.wesl_tree_base.specs.declared.ids.NameId.{NameId}
 use Rattle.wesl_link_symbols.specs.declared.symbols.Symbol.{Symbol}
 use Rattle.wesl_link_symbols.specs.Tables.{Table}
 use Rattle.wesl_link_reach.specs.World as world

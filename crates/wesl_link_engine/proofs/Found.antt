@@ -10,7 +10,7 @@ use Rattle.wesl_tree_names.proofs.Order.{before-total}
 use Rattle.wesl_tree_syntax.specs.Unit.{UnitOf, spelled}
 use Rattle.wesl_tree.specs.Translation.{unit_view}
 use Rattle.wesl_link_symbols.specs.declared.ids.PathId.{PathId}
-use Rattle.wesl_link_symbols.specs.declared.ids.NameId.{NameId}
+use Rattle.wesl_tree_base.specs.declared.ids.NameId.{NameId}
 use Rattle.wesl_link_symbols.specs.Tables.{Table}
 use Rattle.wesl_link_reach.specs.Linking as linking
 use Rattle.wesl_link_reach.specs.Faults.{AreDistinct}

@@ -2,7 +2,7 @@
 use Rattle.std.proofs.Common.{◌≡◌, ℕ, Option, Some, None, refl, sym, subst, ap}
 use Rattle.wesl_tree_names.specs.Path.{Text, Path}
 use Rattle.wesl_link_symbols.specs.declared.ids.PathId.{PathId}
-use Rattle.wesl_link_symbols.specs.declared.ids.NameId.{NameId}
+use Rattle.wesl_tree_base.specs.declared.ids.NameId.{NameId}
 use Rattle.wesl_link_symbols.specs.declared.symbols.Symbol.{Symbol}
 use Rattle.wesl_link_engine.specs.Given.{Given}
 use Rattle.wesl_link_engine.specs.GivenView.{given}

@@ -6,7 +6,7 @@ use Rattle.wesl_tree_syntax.specs.Tree.{TreeOf}
 use Rattle.wesl_tree_syntax.specs.Unit.{UnitOf}
 use Rattle.wesl_tree_syntax.specs.declared.declaration.GlobalDeclaration.{GlobalDeclaration}
 use Rattle.wesl_link_symbols.specs.declared.ids.PathId.{PathId}
-use Rattle.wesl_link_symbols.specs.declared.ids.NameId.{NameId}
+use Rattle.wesl_tree_base.specs.declared.ids.NameId.{NameId}
 use Rattle.wesl_link_symbols.specs.declared.symbols.Reference.{Reference}
 use Rattle.wesl_link_symbols.specs.declared.symbols.LookUp.{LookUp}
 use Rattle.wesl_link_symbols.specs.declared.symbols.Symbol.{Symbol}

@@ -2,7 +2,7 @@
 use Rattle.std.specs.Prelude.{◌≡◌, Some, None, List, Contains}
 use Rattle.wesl_tree_names.specs.Path.{Text, Path, path_view}
 use Rattle.wesl_link_symbols.specs.declared.ids.PathId.{PathId}
-use Rattle.wesl_link_symbols.specs.declared.ids.NameId.{NameId}
+use Rattle.wesl_tree_base.specs.declared.ids.NameId.{NameId}
 use Rattle.wesl_link_symbols.specs.Names.{Declares}
 use Rattle.wesl_link_tables.specs.Numbering.{Numbering, NameAt, PathAt}
 use Rattle.wesl_link_engine.specs.Given.{Given}

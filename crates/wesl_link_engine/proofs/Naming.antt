@@ -6,7 +6,7 @@ use Rattle.wesl_tree_names.specs.Path.{Text, Path, path_view}
 use Rattle.wesl_tree_names.specs.PathOrder.{same_path}
 use Rattle.wesl_tree_names.proofs.Order.{same_path-decides}
 use Rattle.wesl_link_symbols.specs.declared.ids.PathId.{PathId}
-use Rattle.wesl_link_symbols.specs.declared.ids.NameId.{NameId}
+use Rattle.wesl_tree_base.specs.declared.ids.NameId.{NameId}
 use Rattle.wesl_link_symbols.specs.Tables.{Table}
 use Rattle.wesl_link_symbols.specs.Names.{Declares}
 use Rattle.wesl_link_reach.specs.Faults.{AreDistinct}

@@ -8,7 +8,7 @@ use Rattle.wesl_tree_names.specs.declared.errors.Error as error
 use Rattle.wesl_tree_names.specs.declared.errors.Diagnostic.{Diagnostic, out-Diagnostic}
 use Rattle.wesl_tree_syntax.specs.Unit.{UnitOf}
 use Rattle.wesl_link_symbols.specs.declared.ids.PathId.{PathId}
-use Rattle.wesl_link_symbols.specs.declared.ids.NameId.{NameId}
+use Rattle.wesl_tree_base.specs.declared.ids.NameId.{NameId}
 use Rattle.wesl_link_reach.specs.declared.error.LinkError.{LinkError}
 use Rattle.wesl_link_reach.specs.declared.error.LinkError.TheVariants as faults
 use Rattle.wesl_link_symbols.specs.Tables.{Table}

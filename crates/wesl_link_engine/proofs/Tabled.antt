@@ -2,7 +2,7 @@
 use Rattle.std.proofs.Common.{◌≡◌, Some, subst, Contains}
 use Rattle.std.specs.Prelude.{slice_get}
 use Rattle.wesl_link_symbols.specs.declared.ids.PathId.{PathId}
-use Rattle.wesl_link_symbols.specs.declared.ids.NameId.{NameId}
+use Rattle.wesl_tree_base.specs.declared.ids.NameId.{NameId}
 use Rattle.wesl_link_symbols.specs.Tables.{Table}
 use Rattle.wesl_link_tables.specs.Numbering.{IsNumbered}
 use Rattle.wesl_link_tables.specs.TextsView.{numbering_of_texts as numbering}

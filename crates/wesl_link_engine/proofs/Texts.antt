@@ -7,7 +7,7 @@ use Rattle.wesl_tree_names.specs.Path.{Text, Path, root_path}
 use Rattle.wesl_tree_names.specs.PathOrder.{same_path}
 use Rattle.wesl_tree_names.proofs.Order.{same_path-decides}
 use Rattle.wesl_link_symbols.specs.declared.ids.PathId.{PathId}
-use Rattle.wesl_link_symbols.specs.declared.ids.NameId.{NameId}
+use Rattle.wesl_tree_base.specs.declared.ids.NameId.{NameId}
 use Rattle.wesl_link_tables.specs.Numbering.{Numbering, NameAt, PathAt, AreDifferent}
 use Rattle.wesl_link_engine.specs.Given.{Given}
 use Rattle.wesl_link_assembly.specs.Denotations.{symbol, local, free_name}

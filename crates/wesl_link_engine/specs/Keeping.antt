@@ -3,7 +3,7 @@ use Rattle.std.specs.Prelude.{◌≡◌, ◌↔◌, ℕ, suc, Bool, false, if◌
 use Rattle.wesl_tree_names.specs.Path.{Text, Path, root_path, path_view, is_relative}
 use Rattle.wesl_tree_names.specs.PathOrder.{same_path}
 use Rattle.wesl_link_symbols.specs.declared.ids.PathId.{PathId}
-use Rattle.wesl_link_symbols.specs.declared.ids.NameId.{NameId}
+use Rattle.wesl_tree_base.specs.declared.ids.NameId.{NameId}
 use Rattle.wesl_link_symbols.specs.declared.symbols.Symbol.{Symbol}
 use Rattle.wesl_link_symbols.specs.Tables.{Table}
 use Rattle.wesl_link_symbols.specs.Names.{IsUnclearFrom}

@@ -3,7 +3,7 @@ use Rattle.std.specs.Prelude.{◌≡◌, Bool, not, Option, Some, None, List, []
 use Rattle.wesl_tree_names.specs.Path.{Text, Path}
 use Rattle.wesl_mangle_forms.specs.Mangler.{written_if}
 use Rattle.wesl_link_symbols.specs.declared.ids.PathId.{PathId}
-use Rattle.wesl_link_symbols.specs.declared.ids.NameId.{NameId}
+use Rattle.wesl_tree_base.specs.declared.ids.NameId.{NameId}
 use Rattle.wesl_link_symbols.specs.Tables.{Declaration}
 use Rattle.wesl_link_tables.specs.Numbering.{Numbering}
 use Rattle.wesl_link_engine.specs.Given.{Given}

@@ -1,7 +1,7 @@
 -- Modules that were loaded, and where their symbol tables stand.
 use Rattle.std.specs.Prelude.{◌≡◌, Some, List, slice_get}
 use Rattle.wesl_link_symbols.specs.declared.ids.PathId.{PathId}
-use Rattle.wesl_link_symbols.specs.declared.ids.NameId.{NameId}
+use Rattle.wesl_tree_base.specs.declared.ids.NameId.{NameId}
 use Rattle.wesl_link_symbols.specs.Tables.{Table}
 use Rattle.wesl_link_tables.specs.Marks.{AreMarked}
 use Rattle.wesl_link_tables.specs.Numbering.{Numbering, IsNumbered}

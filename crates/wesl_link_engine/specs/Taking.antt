@@ -6,7 +6,7 @@ use Rattle.std.specs.Map.{lookup}
 use Rattle.wesl_tree_names.specs.Path.{Path, path_view}
 use Rattle.wesl_tree_names.specs.PathOrder.{path_before}
 use Rattle.wesl_link_symbols.specs.declared.ids.PathId.{PathId}
-use Rattle.wesl_link_symbols.specs.declared.ids.NameId.{NameId}
+use Rattle.wesl_tree_base.specs.declared.ids.NameId.{NameId}
 use Rattle.wesl_link_symbols.specs.contracts.ids.PathIdPartialEq.TheImpl as equality
 use Rattle.wesl_link_symbols.specs.Tables.{Table}
 use Rattle.wesl_link_tables.specs.Numbering.{Numbering, AreRelated, PathAt}

@@ -2,7 +2,7 @@
 use Rattle.std.proofs.Common.{◌≡◌, ◌↔◌, inl, inr, ℕ, ◌≤◌, ◌+◌, Option, Some, None, List, ◌∷◌, length, take, slice_get, Contains, arith, subst, sym, refl, ap, ◌∙◌}
 use Rattle.std.proofs.lemmas.List.{take_all}
 use Rattle.wesl_link_symbols.specs.declared.ids.PathId.{PathId}
-use Rattle.wesl_link_symbols.specs.declared.ids.NameId.{NameId}
+use Rattle.wesl_tree_base.specs.declared.ids.NameId.{NameId}
 use Rattle.wesl_link_reach.specs.declared.request.Request.{Request}
 use Rattle.wesl_link_reach.specs.declared.request.Loaded.{Loaded}
 use Rattle.wesl_link_symbols.specs.declared.symbols.LookUp.{LookUp}

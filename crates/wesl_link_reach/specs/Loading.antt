@@ -2,7 +2,7 @@
 use Rattle.std.specs.Prelude.{◌≡◌, ◌⊎◌, ℕ, ◌≤◌, length, take, slice_get, true, Some, None, List, ◌∷◌, ◌++◌, Contains}
 use Rattle.wesl_cond_choices.specs.declared.place.Place.TheVariants.{Always}
 use Rattle.wesl_link_symbols.specs.declared.ids.PathId.{PathId}
-use Rattle.wesl_link_symbols.specs.declared.ids.NameId.{NameId}
+use Rattle.wesl_tree_base.specs.declared.ids.NameId.{NameId}
 use Rattle.wesl_link_reach.specs.declared.request.Request.{Request}
 use Rattle.wesl_link_reach.specs.declared.request.Loaded.{Loaded}
 use Rattle.wesl_link_symbols.specs.declared.symbols.Import.{Import}

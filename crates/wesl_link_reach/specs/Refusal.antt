@@ -1,7 +1,7 @@
 -- What an error of a link says.
 use Rattle.std.specs.Prelude.{ℕ}
 use Rattle.wesl_link_symbols.specs.declared.ids.PathId.{PathId}
-use Rattle.wesl_link_symbols.specs.declared.ids.NameId.{NameId}
+use Rattle.wesl_tree_base.specs.declared.ids.NameId.{NameId}
 use Rattle.wesl_link_reach.specs.declared.error.LinkError.{LinkError}
 use Rattle.wesl_link_reach.specs.declared.error.LinkError.TheVariants.{DuplicateSymbol, Refused, MissingDecl, Private, ModuleLimit, AmbiguousSymbol, TooManyFlags, Memory}
 use Rattle.wesl_link_symbols.specs.Tables.{Table}

@@ -1,7 +1,7 @@
 //! What an eager link takes of each module besides: the modules that it imports from, and all that it declares.
 ghost use Rattle.std.specs.Prelude.{◌≡◌, ◌<◌, length, map, IfOk, OnOk, IfErr, Contains, true, []};
 ghost use Rattle.wesl_link_symbols.specs.declared.ids.PathId.{PathId};
-ghost use Rattle.wesl_link_symbols.specs.declared.ids.NameId.{NameId};
+ghost use Rattle.wesl_tree_base.specs.declared.ids.NameId.{NameId};
 ghost use Rattle.wesl_link_symbols.specs.Tables as tables;
 ghost use Rattle.wesl_link_symbols.specs.declared.symbols.Symbol.{Symbol};
 ghost use Rattle.wesl_link_reach.specs.World.{IsAt, Entered, Reached};

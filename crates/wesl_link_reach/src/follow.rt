@@ -1,7 +1,7 @@
 //! Following look-ups from module to module.
 ghost use Rattle.std.specs.Prelude.{◌≡◌, ◌↔◌, Some, IsTrue, IfSome, IfNone, IfOk, OnOk, IfErr, Contains};
 ghost use Rattle.wesl_link_symbols.specs.declared.ids.PathId.{PathId};
-ghost use Rattle.wesl_link_symbols.specs.declared.ids.NameId.{NameId};
+ghost use Rattle.wesl_tree_base.specs.declared.ids.NameId.{NameId};
 ghost use Rattle.wesl_link_symbols.specs.Tables as tables;
 ghost use Rattle.wesl_link_symbols.specs.declared.symbols.LookUp.{LookUp};
 ghost use Rattle.wesl_link_reach.specs.World.{IsAt, Hops, HasMet, Followed};

@@ -1,5 +1,5 @@
 //! Laws of worlds, of any kind of paths and names.
-ghost use Rattle.wesl_link_symbols.specs.declared.ids.NameId.{NameId};
+ghost use Rattle.wesl_tree_base.specs.declared.ids.NameId.{NameId};
 ghost use Rattle.wesl_link_reach.specs.Laws.{OnlyGrows, LeadsToOne, AreLeast, AreExclusive, WorklistIsEnough};
 
 use crate::loader::Loader;

@@ -1,7 +1,7 @@
 //! Linking: what a root module reaches.
 ghost use Rattle.std.specs.Prelude.{◌≡◌, ◌↔◌, ◌<◌, ◌∷◌, [], true, false, IsTrue, IfOk, IfErr, Contains};
 ghost use Rattle.wesl_link_symbols.specs.declared.ids.PathId.{PathId};
-ghost use Rattle.wesl_link_symbols.specs.declared.ids.NameId.{NameId};
+ghost use Rattle.wesl_tree_base.specs.declared.ids.NameId.{NameId};
 ghost use Rattle.wesl_link_symbols.specs.declared.symbols.Symbol.{Symbol};
 ghost use Rattle.wesl_link_symbols.specs.Names.{asked_for};
 ghost use Rattle.wesl_link_reach.specs.World.{LeadsTo};
@@ -49,7 +49,7 @@ impl Model for Linked {
     ghost use Rattle.wesl_link_reach.specs.Linking.{Linking};
     ghost use Rattle.wesl_link_reach.specs.Keeping.{IsKept};
     ghost use Rattle.wesl_link_symbols.specs.declared.ids.PathId.{PathId};
-    ghost use Rattle.wesl_link_symbols.specs.declared.ids.NameId.{NameId};
+    ghost use Rattle.wesl_tree_base.specs.declared.ids.NameId.{NameId};
 
     ghost Value = { Linking PathId NameId };
 

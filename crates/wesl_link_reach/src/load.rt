@@ -1,7 +1,7 @@
 //! Loading the modules of entered paths.
 ghost use Rattle.std.specs.Prelude.{◌≡◌, ◌<◌, length, IfSome, IfNone, OnOk, IfErr};
 ghost use Rattle.wesl_link_symbols.specs.declared.ids.PathId.{PathId};
-ghost use Rattle.wesl_link_symbols.specs.declared.ids.NameId.{NameId};
+ghost use Rattle.wesl_tree_base.specs.declared.ids.NameId.{NameId};
 ghost use Rattle.wesl_link_symbols.specs.Tables as tables;
 ghost use Rattle.wesl_link_reach.specs.World.{IsAt, Entered};
 ghost use Rattle.wesl_link_reach.specs.Loader.{IsReady, OnlyAdds};

@@ -1,7 +1,7 @@
 //! What a name means inside one module.
 ghost use Rattle.std.specs.Prelude.{◌≡◌, ◌⊎◌, ◌↔◌, Some, IsTrue, IsFalse, IfSome, IfNone, IfOk, OnOk, Contains};
 ghost use Rattle.wesl_link_symbols.specs.declared.ids.PathId.{PathId};
-ghost use Rattle.wesl_link_symbols.specs.declared.ids.NameId.{NameId};
+ghost use Rattle.wesl_tree_base.specs.declared.ids.NameId.{NameId};
 ghost use Rattle.wesl_link_symbols.specs.declared.symbols.LookUp.{LookUp};
 ghost use Rattle.wesl_link_symbols.specs.Names.{SameTarget, IsOwn, AsksFrom, asked_for};
 ghost use Rattle.wesl_link_reach.specs.Clashing.{AreApart, IsAlone, IsLikeLast, MeetsDeclaration, MeetsNoDeclaration, MeetsOther, MeetsNoOther};

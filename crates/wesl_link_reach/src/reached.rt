@@ -1,7 +1,7 @@
 //! The symbols that are reached.
 ghost use Rattle.std.specs.Prelude.{◌≡◌, ◌↔◌, ◌<◌, ◌^◌, [], length, IsTrue, OnOk, Contains};
 ghost use Rattle.wesl_link_symbols.specs.declared.ids.PathId.{PathId};
-ghost use Rattle.wesl_link_symbols.specs.declared.ids.NameId.{NameId};
+ghost use Rattle.wesl_tree_base.specs.declared.ids.NameId.{NameId};
 ghost use Rattle.wesl_link_symbols.specs.Keyed.{PutsKey};
 
 use std::alloc::{AllocError, Global};
@@ -27,7 +27,7 @@ impl Drop for Symbols {
 impl Model for Symbols {
     ghost use Rattle.wesl_link_symbols.specs.Keyed.{HaveTheSame};
     ghost use Rattle.wesl_link_symbols.specs.declared.ids.PathId.{PathId};
-    ghost use Rattle.wesl_link_symbols.specs.declared.ids.NameId.{NameId};
+    ghost use Rattle.wesl_tree_base.specs.declared.ids.NameId.{NameId};
     ghost use Rattle.wesl_link_reach.specs.Reached.{SymbolKeys};
 
     ghost Value = { SymbolKeys PathId NameId };

@@ -1,7 +1,7 @@
 //! What is to be linked, and what is loaded so far.
 ghost use Rattle.std.specs.Prelude.{◌≡◌, ◌<◌, length, slice_get, Some, IfSome, IfNone, [], ◌∷◌};
 ghost use Rattle.wesl_link_symbols.specs.declared.ids.PathId.{PathId};
-ghost use Rattle.wesl_link_symbols.specs.declared.ids.NameId.{NameId};
+ghost use Rattle.wesl_tree_base.specs.declared.ids.NameId.{NameId};
 ghost use Rattle.wesl_link_symbols.specs.Tables as tables;
 ghost use Rattle.wesl_link_reach.specs.World.{IsAt};
 ghost use Rattle.wesl_link_reach.specs.Loading.{ArePlaced, world_of};

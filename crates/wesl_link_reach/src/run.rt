@@ -1,7 +1,7 @@
 //! The worklist: each module and each reached symbol is taken once.
 ghost use Rattle.std.specs.Prelude.{◌≡◌, ◌≤◌, ◌<◌, ◌+◌, length, slice_get, Some, None, IfOk, OnOk, IfErr, Contains, false};
 ghost use Rattle.wesl_link_symbols.specs.declared.ids.PathId.{PathId};
-ghost use Rattle.wesl_link_symbols.specs.declared.ids.NameId.{NameId};
+ghost use Rattle.wesl_tree_base.specs.declared.ids.NameId.{NameId};
 ghost use Rattle.wesl_link_symbols.specs.Tables as tables;
 ghost use Rattle.wesl_link_symbols.specs.declared.symbols.LookUp.{LookUp};
 ghost use Rattle.wesl_link_reach.specs.World.{IsAt};

@@ -8,8 +8,8 @@ use Rattle.wesl_tree_names.specs.PathOrder.{same_path}
 use Rattle.wesl_tree_names.proofs.Order.{same_path-decides}
 use Rattle.wesl_cond_choices.specs.declared.place.Place.{Place}
 use Rattle.wesl_link_symbols.specs.declared.ids.PathId.{PathId}
-use Rattle.wesl_link_symbols.specs.declared.ids.NameId.{NameId}
-use Rattle.wesl_link_split.specs.Different.{AreDifferent}
+use Rattle.wesl_tree_base.specs.declared.ids.NameId.{NameId}
+use Rattle.wesl_tree_interner.specs.Different.{AreDifferent}
 use Rattle.wesl_link_split.specs.Grouped.{ids, same_id}
 use Rattle.wesl_link_split.specs.Laws.{NameAsksAlike, AskAlike, NumbersAskAlike, NumbersDifferAlike}
 use Rattle.wesl_link_split.specs.Numbering.{Numbering, NameAt, PathAt, IsNumberedScope}

@@ -6,12 +6,12 @@ use Rattle.std.specs.List.{filter, list_any, position}
 use Rattle.std.proofs.lemmas.Bool.Decides.{Decides-eqb}
 use Rattle.std.proofs.lemmas.List.Folds.{list_any-append}
 use Rattle.std.proofs.lemmas.List.Quantifiers.{position-Some}
-use Rattle.wesl_link_symbols.specs.declared.ids.NameId.{NameId}
+use Rattle.wesl_tree_base.specs.declared.ids.NameId.{NameId}
 use Rattle.wesl_link_symbols.specs.declared.ids.PathId.{PathId}
 use Rattle.wesl_link_split.specs.Grouped.{ids, same_id, AreGrouped}
 use Rattle.wesl_link_split.specs.Split as split
 use Rattle.wesl_link_split.specs.Split.{Binder}
-use Rattle.wesl_link_split.proofs.Different.{added, get_cases, none_passes}
+use Rattle.wesl_tree_interner.proofs.Different.{added, get_cases, none_passes}
 use Rattle.wesl_link_split.proofs.Targets.{found_true, any_there, same_bool}
 
 abbrev Ours : Type 0

@@ -1,7 +1,6 @@
 pub mod Alike
 pub mod Agreed
 pub mod Lists
-pub mod Different
 pub mod Targets
 pub mod Grouping
 pub mod Orders

@@ -4,7 +4,7 @@ use Rattle.std.specs.Prelude.{Contains, nat_lt, not, ◌&&◌, ◌==◌, flat_ma
 use Rattle.std.specs.List.{filter, list_any}
 use Rattle.std.proofs.lemmas.Bool.Decides.{Decides-eqb, Decides-ltb}
 use Rattle.wesl_cond_choices.specs.declared.place.Place.{Place}
-use Rattle.wesl_link_symbols.specs.declared.ids.NameId.{NameId}
+use Rattle.wesl_tree_base.specs.declared.ids.NameId.{NameId}
 use Rattle.wesl_link_symbols.specs.declared.ids.PathId.{PathId}
 use Rattle.wesl_link_symbols.specs.declared.symbols.Reference.{Reference}
 use Rattle.wesl_link_split.specs.Grouped.{ids, IsLeast, kept_if, aim_if}

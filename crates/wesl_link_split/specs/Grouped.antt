@@ -4,9 +4,9 @@ use Rattle.std.specs.Global.{Vec}
 use Rattle.std.specs.List.{list_any}
 use Rattle.wesl_cond_choices.specs.declared.place.Place.{Place}
 use Rattle.wesl_link_symbols.specs.declared.ids.PathId.{PathId}
-use Rattle.wesl_link_symbols.specs.declared.ids.NameId.{NameId}
+use Rattle.wesl_tree_base.specs.declared.ids.NameId.{NameId}
 use Rattle.wesl_link_symbols.specs.declared.symbols.Reference.{Reference}
-use Rattle.wesl_link_split.specs.Different.{AreDifferent}
+use Rattle.wesl_tree_interner.specs.Different.{AreDifferent}
 use Rattle.wesl_link_split.specs.Split as split
 use Rattle.wesl_link_split.specs.Split.{Binder, Equality}
 use Rattle.wesl_link_split.specs.declared.binders.Finding.{Finding}

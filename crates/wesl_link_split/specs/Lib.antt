@@ -1,4 +1,3 @@
-pub mod Different
 pub mod Numbering
 pub mod Split
 pub mod Uses

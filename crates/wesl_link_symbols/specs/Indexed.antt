@@ -1,7 +1,7 @@
 -- The indexes of a module, as the code keeps them while it makes them.
 use Rattle.std.specs.Prelude.{◌≡◌, List, []}
 use Rattle.wesl_link_symbols.specs.declared.ids.PathId.{PathId}
-use Rattle.wesl_link_symbols.specs.declared.ids.NameId.{NameId}
+use Rattle.wesl_tree_base.specs.declared.ids.NameId.{NameId}
 use Rattle.wesl_link_symbols.specs.declared.table.Indexed.{Indexed}
 use Rattle.wesl_link_symbols.specs.Index.{IsIndexed}
 use Rattle.wesl_link_symbols.specs.Tables.{Import, Declaration}

@@ -1,7 +1,7 @@
 -- What the imports of a look-up's name are searched for.
 use Rattle.std.specs.Prelude.{◌≡◌, ◌⊎◌, ◌≤◌, Option, Some, None}
 use Rattle.wesl_link_symbols.specs.declared.ids.PathId.{PathId}
-use Rattle.wesl_link_symbols.specs.declared.ids.NameId.{NameId}
+use Rattle.wesl_tree_base.specs.declared.ids.NameId.{NameId}
 use Rattle.wesl_link_symbols.specs.declared.answer.Sought.{Sought}
 use Rattle.wesl_link_symbols.specs.declared.answer.Sought.TheVariants.{Hidden, Foreign, Rival}
 use Rattle.wesl_link_symbols.specs.Tables.{Import, LookUp, Table}

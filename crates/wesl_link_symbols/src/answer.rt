@@ -1,7 +1,7 @@
 //! What a module answers to a look-up.
 ghost use Rattle.std.specs.Prelude.{◌≡◌, ◌⊎◌, ◌↔◌, ◌<◌, ◌≤◌, Some, IsTrue, IsFalse, IfSome, IfNone};
 ghost use Rattle.wesl_link_symbols.specs.declared.ids.PathId.{PathId};
-ghost use Rattle.wesl_link_symbols.specs.declared.ids.NameId.{NameId};
+ghost use Rattle.wesl_tree_base.specs.declared.ids.NameId.{NameId};
 ghost use Rattle.wesl_link_symbols.specs.Names.{Imports, SameTarget, IsOwn, Shows, DeclaresTo, IsOpenTo, IsAskedTo, Answers, asked_by};
 ghost use Rattle.wesl_link_symbols.specs.Searching.{IsShownAndSeen, IsRival, IsNoRival, IsNoHigher, IsSought, IsPassed};
 ghost use Rattle.wesl_link_symbols.specs.Tables as tables;

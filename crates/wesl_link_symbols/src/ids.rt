@@ -3,14 +3,11 @@ ghost use Rattle.std.proofs.Common.{rules};
 
 use crate::keyed::Identity;
 use crate::symbols::{LookUp, Symbol};
+pub use wesl_tree_base::NameId;
 
 /// The number of a module path.
 #[derive(Clone, Copy, PartialEq, Eq, Hash, Drop)]
 pub struct PathId(pub usize);
-
-/// The number of a name.
-#[derive(Clone, Copy, PartialEq, Eq, Hash, Drop)]
-pub struct NameId(pub usize);
 
 impl Identity for PathId {
     ghost same = { Prim.search rules };

@@ -36,7 +36,7 @@ impl Drop for Declaration {
 impl Model for Declaration {
     ghost use Rattle.wesl_link_symbols.specs.Tables as tables;
     ghost use Rattle.wesl_link_symbols.specs.declared.ids.PathId.{PathId};
-    ghost use Rattle.wesl_link_symbols.specs.declared.ids.NameId.{NameId};
+    ghost use Rattle.wesl_tree_base.specs.declared.ids.NameId.{NameId};
 
     ghost Value = { tables.Declaration PathId NameId };
 
@@ -128,7 +128,7 @@ impl Model for Table {
     ghost use Rattle.wesl_link_symbols.specs.Tables as tables;
     ghost use Rattle.wesl_link_symbols.specs.Index.{IsIndexed};
     ghost use Rattle.wesl_link_symbols.specs.declared.ids.PathId.{PathId};
-    ghost use Rattle.wesl_link_symbols.specs.declared.ids.NameId.{NameId};
+    ghost use Rattle.wesl_tree_base.specs.declared.ids.NameId.{NameId};
 
     ghost Value = { tables.Table PathId NameId };
 

@@ -15,4 +15,3 @@ pub mod Pieced
 pub mod Marking
 pub mod Scoping
 pub mod Tabling
-pub mod Interning

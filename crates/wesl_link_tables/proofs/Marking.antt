@@ -5,7 +5,7 @@ use Rattle.wesl_tree_names.specs.Path.{Text, Origin, from_package, absolute, rel
 use Rattle.wesl_tree_names.specs.declared.path.ModulePath.{ModulePath}
 use Rattle.wesl_cond_choices.specs.declared.place.Place.{Place}
 use Rattle.wesl_link_symbols.specs.declared.ids.PathId.{PathId}
-use Rattle.wesl_link_symbols.specs.declared.ids.NameId.{NameId}
+use Rattle.wesl_tree_base.specs.declared.ids.NameId.{NameId}
 use Rattle.wesl_link_symbols.specs.declared.symbols.Reference.{Reference}
 use Rattle.wesl_link_split.specs.Grouped.{ids}
 use Rattle.wesl_link_split.specs.Laws.{AskAlike}

@@ -9,7 +9,7 @@ use Rattle.wesl_tree_syntax.specs.Unit.{name_in}
 use Rattle.wesl_tree_syntax.specs.View.{global_view, placed}
 use Rattle.wesl_tree_syntax.specs.declared.span.Spanned.{Spanned}
 use Rattle.wesl_tree_syntax.specs.declared.declaration.GlobalDeclaration.{GlobalDeclaration}
-use Rattle.wesl_link_symbols.specs.declared.ids.NameId.{NameId}
+use Rattle.wesl_tree_base.specs.declared.ids.NameId.{NameId}
 use Rattle.wesl_link_tables.specs.Numbering.{Numbering, AreRelated, IsRelatedOption, Grows, NameAt}
 use Rattle.wesl_link_tables.specs.Tables.{declared_name, name_of}
 use Rattle.wesl_link_tables.proofs.Declared.{name_respelled, trees_respelled}

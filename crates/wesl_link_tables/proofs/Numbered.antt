@@ -5,10 +5,10 @@ use Rattle.std.specs.List.{list_any}
 use Rattle.std.proofs.lemmas.List.{map-append}
 use Rattle.std.proofs.lemmas.List.Elements.{All-append}
 use Rattle.wesl_tree_names.specs.Path.{Text}
-use Rattle.wesl_link_split.specs.Different.{AreDifferent}
-use Rattle.wesl_link_tables.specs.Interned.{with_text}
-use Rattle.wesl_link_split.proofs.Different.{none_passes, added}
-use Rattle.wesl_link_tables.proofs.Interning.{get_unmap}
+use Rattle.wesl_tree_interner.specs.Different.{AreDifferent}
+use Rattle.wesl_tree_interner.specs.Interned.{with_text}
+use Rattle.wesl_tree_interner.proofs.Different.{none_passes, added}
+use Rattle.wesl_tree_interner.proofs.Interning.{get_unmap}
 use Rattle.wesl_link_tables.specs.Numbering.{IsLonger, Puts}
 use Rattle.wesl_link_tables.proofs.Lists.{longer_itself}
 

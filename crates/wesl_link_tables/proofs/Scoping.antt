@@ -5,7 +5,7 @@ use Rattle.wesl_tree_names.specs.Path.{Text, Path}
 use Rattle.wesl_tree_syntax.specs.Unit.{UnitOf, UnitView, spelled}
 use Rattle.wesl_scope_occurrences.specs.Pieces.{declarations_in}
 use Rattle.wesl_link_symbols.specs.declared.ids.PathId.{PathId}
-use Rattle.wesl_link_symbols.specs.declared.ids.NameId.{NameId}
+use Rattle.wesl_tree_base.specs.declared.ids.NameId.{NameId}
 use Rattle.wesl_link_symbols.specs.declared.symbols.Import.{Import}
 use Rattle.wesl_link_symbols.specs.Tables.{Declaration, Table}
 use Rattle.wesl_link_split.specs.Grouped.{ids}

@@ -7,7 +7,7 @@ use Rattle.wesl_tree_names.specs.declared.path.ModulePath.{ModulePath}
 use Rattle.wesl_tree_syntax.specs.Unit.{name_in}
 use Rattle.wesl_cond_choices.specs.declared.place.Place.{Place}
 use Rattle.wesl_cond_choices.specs.declared.place.Place.TheVariants.{Name}
-use Rattle.wesl_link_symbols.specs.declared.ids.NameId.{NameId}
+use Rattle.wesl_tree_base.specs.declared.ids.NameId.{NameId}
 use Rattle.wesl_scope_occurrences.specs.Laws.{renamed, SpellingKeepsOccurrences}
 use Rattle.wesl_scope_occurrences.specs.Occurrences as spec
 use Rattle.wesl_scope_occurrences.specs.Occurrences.{occurrences}

@@ -8,7 +8,7 @@ use Rattle.wesl_tree_syntax.specs.Tree.{TreeOf, end, kind, void, declarations, r
 use Rattle.wesl_tree_syntax.specs.Unit.{name_in}
 use Rattle.wesl_cond_choices.specs.declared.place.Place.TheVariants as places
 use Rattle.wesl_link_symbols.specs.declared.ids.PathId.{PathId}
-use Rattle.wesl_link_symbols.specs.declared.ids.NameId.{NameId}
+use Rattle.wesl_tree_base.specs.declared.ids.NameId.{NameId}
 use Rattle.wesl_link_symbols.specs.Tables.{Declaration}
 use Rattle.wesl_scope_occurrences.specs.Laws.{SpellingKeepsOccurrences}
 use Rattle.wesl_scope_occurrences.specs.Occurrences.{occurrences}

@@ -2,7 +2,7 @@
 use Rattle.std.specs.Prelude.{◌<◌, [], length, get_or}
 use Rattle.wesl_tree_names.specs.Path.{Text, Path, root_path}
 use Rattle.wesl_link_symbols.specs.declared.ids.PathId.{PathId}
-use Rattle.wesl_link_symbols.specs.declared.ids.NameId.{NameId}
+use Rattle.wesl_tree_base.specs.declared.ids.NameId.{NameId}
 use Rattle.wesl_link_split.specs.declared.binders.Binder.{Binder}
 use Rattle.wesl_link_tables.specs.Numbering.{Numbering}
 

@@ -13,5 +13,3 @@ pub mod Base
 pub mod Laws
 pub mod Parts
 pub mod TextsView
-pub mod Interned
-pub mod Interning

@@ -5,10 +5,10 @@ use Rattle.wesl_tree_names.specs.Path.{Text, Path}
 use Rattle.wesl_cond_choices.specs.declared.place.Place.{Place}
 use Rattle.wesl_cond_choices.specs.Places.{together}
 use Rattle.wesl_link_symbols.specs.declared.ids.PathId.{PathId}
-use Rattle.wesl_link_symbols.specs.declared.ids.NameId.{NameId}
+use Rattle.wesl_tree_base.specs.declared.ids.NameId.{NameId}
 use Rattle.wesl_link_symbols.specs.declared.symbols.Import.{Import}
 use Rattle.wesl_link_symbols.specs.Tables.{Declaration, Table}
-pub use Rattle.wesl_link_split.specs.Different.{AreDifferent}
+pub use Rattle.wesl_tree_interner.specs.Different.{AreDifferent}
 pub use Rattle.wesl_link_split.specs.Numbering.{AreRelated, SameImport, SameReference, SameBinder, SameScope, Numbering, NameAt, PathAt, IsNumberedImport, IsNumberedReference, AreNumberedReferences, AreNumberedBinders, IsNumberedScope}
 
 -- ---- tables over paths `P` and names `N`, and over `Q` and `M`, that say the same

@@ -3,7 +3,7 @@ use Rattle.std.specs.Prelude.{List, map}
 use Rattle.wesl_tree_names.specs.Path.{Path, path_view}
 use Rattle.wesl_link_tables.specs.Numbering.{Numbering}
 use Rattle.wesl_link_tables.specs.declared.numbers.Numbers.{Numbers}
-pub use Rattle.wesl_link_tables.specs.Interned.{texts_of as names_of}
+pub use Rattle.wesl_tree_interner.specs.Interned.{texts_of as names_of}
 use Rattle.wesl_link_tables.specs.declared.numbers.PathNumbers.{PathNumbers}
 
 abbrev pub paths_of : PathNumbers → List Path

@@ -12,7 +12,7 @@ use Rattle.wesl_tree_syntax.specs.declared.span.Spanned.{Spanned}
 use Rattle.wesl_tree.specs.Translation.{unit_view}
 use Rattle.wesl_cond_choices.specs.declared.place.Place.{Place}
 use Rattle.wesl_link_symbols.specs.declared.ids.PathId.{PathId}
-use Rattle.wesl_link_symbols.specs.declared.ids.NameId.{NameId}
+use Rattle.wesl_tree_base.specs.declared.ids.NameId.{NameId}
 use Rattle.wesl_link_symbols.specs.declared.symbols.Reference.{Reference}
 use Rattle.wesl_scope_occurrences.specs.Occurrences.{occurrences}
 use Rattle.wesl_scope_occurrences.specs.Identified.{identified}

@@ -4,7 +4,6 @@
 
 pub mod aims;
 pub mod imports;
-pub mod interner;
 pub mod laws;
 pub mod marks;
 mod memory;

@@ -2,16 +2,16 @@
 ghost use Rattle.std.specs.Prelude.{◌≡◌, ◌<◌, ℕ, [], length, true, false, All, IfOk, IfSome, IfNone, Some, None, map, slice_get, string_bytes};
 ghost use Rattle.wesl_tree_names.specs.Path.{path_view, is_relative};
 ghost use Rattle.wesl_tree_syntax.specs.Unit.{name_in};
-ghost use Rattle.wesl_link_split.specs.Different.{AreDifferent};
+ghost use Rattle.wesl_tree_interner.specs.Different.{AreDifferent};
 ghost use Rattle.wesl_link_tables.specs.Numbering.{IsLonger, Puts, Grows, NameAt, PathAt};
 
-use crate::interner::Interner;
 use crate::memory::copied;
 use crate::texts::{NameTexts, NumberTexts, PathTexts};
 use indexmap::IndexSet;
 use std::alloc::{AllocError, Global};
 use std::hash::Hash;
 use wesl_link_symbols::ids::{NameId, PathId};
+use wesl_tree_interner::Interner;
 use wesl_tree_names::{Ident, ModulePath, Names, law_of_equality};
 
 /// The index of a key, which goes last unless one equal to it is there.

@@ -4,7 +4,7 @@
 //! them.
 ghost use Rattle.std.specs.Prelude.{◌≡◌, false, All, IfSome, IfNone, Some, None, map, slice_get, string_bytes};
 ghost use Rattle.wesl_tree_names.specs.Path.{path_view, is_relative};
-ghost use Rattle.wesl_link_split.specs.Different.{AreDifferent};
+ghost use Rattle.wesl_tree_interner.specs.Different.{AreDifferent};
 
 use wesl_link_symbols::ids::NameId;
 use wesl_tree_names::ModulePath;

@@ -1,7 +1,7 @@
 //! Tables of names: what they hold after a call that adds to them, and after one that was refused.
 use serde_json::Value;
 use wesl_link_symbols::ids::NameId;
-use wesl_link_tables::interner::Interner;
+use wesl_tree_interner::Interner;
 use wesl_rows_base::{List, Row, is_refused, names_value, stands, text_of};
 
 /// The names of an interner.

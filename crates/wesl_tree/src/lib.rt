@@ -5,6 +5,8 @@ mod clone;
 mod unit;
 
 pub use unit::TranslationUnit;
+pub use wesl_tree_copies::TryClone;
+pub use wesl_tree_interner::{Interner, NameId, law_of_ids};
 pub use wesl_tree_names::{
     CondCompError, Diagnostic, Error, Ident, ImportError, ModulePath, Names, PathOrigin,
     ResolveError, Span, ValidateError, law_of_equality as law_of_path_equality, law_of_order,

@@ -2,7 +2,7 @@ use Rattle.std.proofs.Common.{◌≡◌, List, drop, subst, sym, ap, ◌∙◌}
 use Rattle.wesl_tree_names.specs.Path.{path_view}
 use Rattle.wesl_tree_syntax.specs.Unit.{spelled}
 use Rattle.wesl_tree.specs.Translation.{unit_view}
-use Rattle.wesl_link_symbols.specs.declared.ids.NameId.{NameId}
+use Rattle.wesl_tree_base.specs.declared.ids.NameId.{NameId}
 use Rattle.wesl_link_symbols.specs.Tables.{Table}
 use Rattle.wesl_link_tables.specs.Tables.{table_at}
 use Rattle.wesl_link_tables.specs.Numbering.{Numbering, Grows, AreRelated}

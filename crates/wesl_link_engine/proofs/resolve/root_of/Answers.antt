@@ -8,7 +8,7 @@ use Rattle.wesl_tree_syntax.specs.Unit.{spelled}
 use Rattle.wesl_tree.specs.Translation.{unit_view}
 use Rattle.wesl_link_tables.specs.Marks.{AreMarked}
 use Rattle.wesl_link_tables.specs.Tables.{table_at, uses}
-use Rattle.wesl_link_symbols.specs.declared.ids.NameId.{NameId}
+use Rattle.wesl_tree_base.specs.declared.ids.NameId.{NameId}
 use Rattle.wesl_link_tables.specs.Numbering.{AreRelated, NameAt, IsNumbered}
 use Rattle.wesl_link_tables.specs.declared.table.Tabled.{Tabled}
 use Rattle.wesl_link_tables.specs.NumbersView.{numbering}

@@ -1,7 +1,7 @@
 use Rattle.std.proofs.Common.{Contains, refl}
 use Rattle.std.proofs.lemmas.List.{take_all}
 use Rattle.wesl_link_symbols.specs.declared.ids.PathId.{PathId}
-use Rattle.wesl_link_symbols.specs.declared.ids.NameId.{NameId}
+use Rattle.wesl_tree_base.specs.declared.ids.NameId.{NameId}
 use Rattle.wesl_link_symbols.specs.declared.symbols.Symbol.{Symbol}
 use Rattle.wesl_link_reach.proofs.Growth.{reached_more, at_more}
 use Rattle.wesl_link_reach.proofs.Growing.{first_more, element_of, within_on, goes_on_itself}

@@ -1,6 +1,6 @@
 use Rattle.std.proofs.Common.{take, Contains}
 use Rattle.wesl_link_symbols.specs.declared.ids.PathId.{PathId}
-use Rattle.wesl_link_symbols.specs.declared.ids.NameId.{NameId}
+use Rattle.wesl_tree_base.specs.declared.ids.NameId.{NameId}
 use Rattle.wesl_link_symbols.specs.declared.symbols.Symbol.{Symbol}
 use Rattle.wesl_link_reach.specs.Loading.{IsSound, Grows}
 use Rattle.wesl_link_reach.proofs.eager.hold_all.Given as goal

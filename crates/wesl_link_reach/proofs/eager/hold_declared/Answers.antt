@@ -1,6 +1,6 @@
 use Rattle.std.proofs.Common.{Contains, subst, sym}
 use Rattle.wesl_link_symbols.specs.declared.ids.PathId.{PathId}
-use Rattle.wesl_link_symbols.specs.declared.ids.NameId.{NameId}
+use Rattle.wesl_tree_base.specs.declared.ids.NameId.{NameId}
 use Rattle.wesl_link_symbols.specs.Tables.{Table}
 use Rattle.wesl_link_symbols.specs.Names.{Declares}
 use Rattle.wesl_link_reach.specs.Loading.{world_of}

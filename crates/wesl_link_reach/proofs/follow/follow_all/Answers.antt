@@ -1,7 +1,7 @@
 use Rattle.std.proofs.Common.{refl}
 use Rattle.std.proofs.lemmas.List.{take_all}
 use Rattle.wesl_link_symbols.specs.declared.ids.PathId.{PathId}
-use Rattle.wesl_link_symbols.specs.declared.ids.NameId.{NameId}
+use Rattle.wesl_tree_base.specs.declared.ids.NameId.{NameId}
 use Rattle.wesl_link_symbols.specs.declared.symbols.LookUp.{LookUp}
 use Rattle.wesl_link_reach.specs.Loading.{IsAnswered}
 use Rattle.wesl_link_reach.proofs.Growth.{followed_more}

@@ -1,5 +1,5 @@
 use Rattle.std.proofs.Common.{Contains}
-use Rattle.wesl_link_symbols.specs.declared.ids.NameId.{NameId}
+use Rattle.wesl_tree_base.specs.declared.ids.NameId.{NameId}
 use Rattle.wesl_link_symbols.specs.Index.{IsNamed}
 use Rattle.wesl_link_symbols.proofs.Indexing.{over_start, over_read, over_next, over_all}
 use Rattle.wesl_link_reach.proofs.names.unclear_from.Goals as goal

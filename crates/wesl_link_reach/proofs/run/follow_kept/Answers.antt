@@ -1,6 +1,6 @@
 use Rattle.std.proofs.Common.{refl, inr, sym}
 use Rattle.std.proofs.lemmas.List.{take_all}
-use Rattle.wesl_link_symbols.specs.declared.ids.NameId.{NameId}
+use Rattle.wesl_tree_base.specs.declared.ids.NameId.{NameId}
 use Rattle.wesl_link_reach.specs.World.Followed.{kept}
 use Rattle.wesl_link_reach.specs.Loading.{IsAnswered, kept_look_up}
 use Rattle.wesl_link_symbols.proofs.Lists.{contains_first, contains_nil}

@@ -1,5 +1,5 @@
 use Rattle.std.proofs.Common.{take, Contains}
-use Rattle.wesl_link_symbols.specs.declared.ids.NameId.{NameId}
+use Rattle.wesl_tree_base.specs.declared.ids.NameId.{NameId}
 use Rattle.wesl_link_reach.specs.Loader.{OnlyAdds}
 use Rattle.wesl_link_reach.specs.Loading.{IsSound, Grows, IsAnswered, kept_look_up}
 use Rattle.wesl_link_reach.proofs.run.follow_kept.Given as goal

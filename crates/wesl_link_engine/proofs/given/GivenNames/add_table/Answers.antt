@@ -7,7 +7,7 @@ use Rattle.wesl_link_engine.specs.GivenView.{given}
 use Rattle.wesl_link_engine.specs.Recorded.{all_written, writes_of, firsts, declared_texts}
 use Rattle.wesl_link_engine.proofs.Recording as recording
 use Rattle.wesl_link_symbols.specs.declared.ids.PathId.{PathId}
-use Rattle.wesl_link_symbols.specs.declared.ids.NameId.{NameId}
+use Rattle.wesl_tree_base.specs.declared.ids.NameId.{NameId}
 use Rattle.wesl_link_symbols.specs.declared.symbols.Symbol.{Symbol}
 use Rattle.wesl_link_engine.proofs.given.GivenNames.add_table.Goals as goal
 use Rattle.wesl_link_engine.proofs.given.GivenNames.add_table.Goals.{in-Some+in-Some-name+in_ok-add_name, in_default}

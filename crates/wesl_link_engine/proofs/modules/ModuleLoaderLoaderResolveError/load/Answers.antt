@@ -3,7 +3,7 @@ use Rattle.wesl_tree_names.specs.Path.{Text, Path, path_view}
 use Rattle.wesl_tree_syntax.specs.Unit.{spelled}
 use Rattle.wesl_tree.specs.Translation.{unit_view}
 use Rattle.wesl_link_symbols.specs.declared.ids.PathId.{PathId}
-use Rattle.wesl_link_symbols.specs.declared.ids.NameId.{NameId}
+use Rattle.wesl_tree_base.specs.declared.ids.NameId.{NameId}
 use Rattle.wesl_link_symbols.specs.Tables.{Table}
 use Rattle.wesl_link_reach.specs.Loader.{IsReady}
 use Rattle.wesl_link_tables.specs.Tables.{table_at}

@@ -2,7 +2,7 @@ use Rattle.std.proofs.Common.{◌∙◌, ap, ap₂, Bool, List}
 use Rattle.std.specs.Prelude.{flat_map, not, ◌&&◌, if◌then◌else◌}
 use Rattle.std.specs.List.{filter}
 use Rattle.wesl_cond_choices.specs.declared.place.Place.TheVariants.{Always}
-use Rattle.wesl_link_symbols.specs.declared.ids.NameId.{NameId}
+use Rattle.wesl_tree_base.specs.declared.ids.NameId.{NameId}
 use Rattle.wesl_link_symbols.specs.declared.ids.PathId.{PathId}
 use Rattle.wesl_link_split.specs.Grouped.{ids, kept_if}
 use Rattle.wesl_link_split.specs.ScopeView.{scope_view}

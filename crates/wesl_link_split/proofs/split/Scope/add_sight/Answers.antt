@@ -1,7 +1,7 @@
 use Rattle.std.proofs.Common.{◌∙◌, ap, ap₂, Bool, List, map}
 use Rattle.std.specs.Prelude.{if◌then◌else◌}
 use Rattle.wesl_cond_choices.specs.declared.place.Place.TheVariants.{Always}
-use Rattle.wesl_link_symbols.specs.declared.ids.NameId.{NameId}
+use Rattle.wesl_tree_base.specs.declared.ids.NameId.{NameId}
 use Rattle.wesl_link_symbols.specs.declared.ids.PathId.{PathId}
 use Rattle.wesl_link_split.specs.Grouped.{ids}
 use Rattle.wesl_link_split.specs.ScopeView.{scope_view}

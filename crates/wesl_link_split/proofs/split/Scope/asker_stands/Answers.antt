@@ -1,7 +1,7 @@
 use Rattle.std.proofs.Common.{◌≡◌, ◌∙◌, ◌∷◌, ◌+◌, Bool, false, List, ℕ, ap, ap₂, sym, get_or, drop}
 use Rattle.std.specs.List.{filter}
 use Rattle.wesl_cond_choices.specs.declared.place.Place.TheVariants.{Always}
-use Rattle.wesl_link_symbols.specs.declared.ids.NameId.{NameId}
+use Rattle.wesl_tree_base.specs.declared.ids.NameId.{NameId}
 use Rattle.wesl_link_symbols.specs.declared.ids.PathId.{PathId}
 use Rattle.wesl_link_split.specs.Grouped.{ids, asks_for, finding_view}
 use Rattle.wesl_link_split.specs.ScopeView.{scope_view}

@@ -1,7 +1,7 @@
 use Rattle.std.proofs.Common.{sym}
 use Rattle.wesl_tree_names.specs.Path.{path_view}
 use Rattle.wesl_tree_names.specs.PathLaws.{path_eq}
-use Rattle.wesl_link_tables.proofs.Interning.{position_held, none_held}
+use Rattle.wesl_tree_interner.proofs.Interning.{position_held, none_held}
 use Rattle.wesl_link_tables.proofs.numbers.PathNumbers.find.Goals as goal
 
 pub returns-in-Some-clause-found : goal.returns-in-Some-clause-found

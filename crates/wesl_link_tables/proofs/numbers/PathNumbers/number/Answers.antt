@@ -1,7 +1,7 @@
 use Rattle.std.proofs.Common.{◌≡◌, ◌∙◌, sym, ap, Some, false}
 use Rattle.wesl_tree_names.specs.Path.{path_view, is_relative, Path}
 use Rattle.wesl_tree_names.specs.PathLaws.{path_eq}
-use Rattle.wesl_link_tables.proofs.Interning.{position_held, get_map}
+use Rattle.wesl_tree_interner.proofs.Interning.{position_held, get_map}
 use Rattle.wesl_link_tables.proofs.Numbered.{different_put, all_put}
 use Rattle.wesl_link_tables.proofs.numbers.PathNumbers.number.Goals as goal
 

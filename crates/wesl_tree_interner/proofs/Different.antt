@@ -2,7 +2,7 @@
 use Rattle.std.proofs.Common.{◌≡◌, ◌⊎◌, inl, inr, ℕ, zero, suc, Bool, true, false, ◌||◌, Some, List, [], ◌∷◌, ◌++◌, length, refl, sym, ap, ◌∙◌, true≢false}
 use Rattle.std.specs.Prelude.{slice_get}
 use Rattle.std.specs.List.{list_any}
-use Rattle.wesl_link_split.specs.Different.{AreDifferent}
+use Rattle.wesl_tree_interner.specs.Different.{AreDifferent}
 
 pub none_passes : {K : Type 0} (p : K → Bool) (xs : List K) (i : ℕ) (k : K) → list_any p xs ≡ false → slice_get xs i ≡ Some k → p k ≡ true → ⊥
 none_passes p [] i k n h e = cc

@@ -3,12 +3,12 @@ ghost use Rattle.std.specs.Prelude.{◌≡◌, ◌<◌, ℕ, [], true, length, S
 ghost use Rattle.std.specs.Global.{Global};
 ghost use Rattle.indexmap.specs.IndexSet.{insert_key};
 ghost use Rattle.wesl_tree_names.specs.declared.errors.Error as error;
-ghost use Rattle.wesl_link_split.specs.Different.{AreDifferent};
-ghost use Rattle.wesl_link_tables.specs.Interning.{PutsOrKeeps};
+ghost use Rattle.wesl_tree_interner.specs.Different.{AreDifferent};
+ghost use Rattle.wesl_tree_interner.specs.Interning.{PutsOrKeeps};
 
 use indexmap::IndexSet;
 use std::alloc::{AllocError, Global};
-use wesl_link_symbols::ids::NameId;
+use wesl_tree_base::NameId;
 use wesl_tree_names::Error;
 
 /// The index of a name, which goes last unless it is there.
@@ -36,7 +36,7 @@ impl Drop for Interner {
 }
 
 impl Interner {
-    ghost use Rattle.wesl_link_tables.specs.Interned.{texts_of, with_text};
+    ghost use Rattle.wesl_tree_interner.specs.Interned.{texts_of, with_text};
 
     /// No names. It takes no memory.
     pub fn new(alloc: Global) -> Interner
@@ -58,8 +58,8 @@ impl Interner {
         Ok(self.number(name)?)
     }
 
-    /// The same, as the numbers of a link ask for it.
-    pub(crate) fn number(&mut self, name: &str) -> Result<NameId, AllocError>
+    /// The same for callers that know no other refusal than want of memory.
+    pub fn number(&mut self, name: &str) -> Result<NameId, AllocError>
         ensures held { IfOk result (λ i. slice_get (texts_of self.new) i.0 ≡ Some name.now) }
         ensures texts { OnOk result (texts_of self.new ≡ with_text (texts_of self.old) name.now) }
         ensures unchanged { OnErr result (texts_of self.new ≡ texts_of self.old) }

@@ -2,7 +2,7 @@
 use Rattle.std.specs.Prelude.{bytes_eq, List, [], ◌∷◌, ◌++◌, if◌then◌else◌, map, string_bytes}
 use Rattle.std.specs.List.{list_any}
 use Rattle.wesl_tree_names.specs.Path.{Text}
-use Rattle.wesl_link_tables.specs.declared.interner.Interner.{Interner}
+use Rattle.wesl_tree_interner.specs.declared.interner.Interner.{Interner}
 
 -- the texts that have numbers, in their order
 abbrev pub texts_of : Interner → List Text

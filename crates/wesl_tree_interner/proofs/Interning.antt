@@ -7,10 +7,10 @@ use Rattle.std.proofs.lemmas.List.{map-append}
 use Rattle.std.proofs.lemmas.List.Quantifiers.{position-Some}
 use Rattle.std.proofs.lemmas.Slice.Eq.{bytes_eq-Decides}
 use Rattle.indexmap.specs.IndexSet.{insert_key}
-use Rattle.wesl_link_split.specs.Different.{AreDifferent}
-use Rattle.wesl_link_split.proofs.Different.{none_passes, added}
-use Rattle.wesl_link_tables.specs.Interning.{PutsOrKeeps}
-use Rattle.wesl_link_tables.specs.Interned.{with_text}
+use Rattle.wesl_tree_interner.specs.Different.{AreDifferent}
+use Rattle.wesl_tree_interner.proofs.Different.{none_passes, added}
+use Rattle.wesl_tree_interner.specs.Interning.{PutsOrKeeps}
+use Rattle.wesl_tree_interner.specs.Interned.{with_text}
 
 pub get_map : {K X : Type 0} (f : K → X) (xs : List K) (i : ℕ) (k : K) → slice_get xs i ≡ Some k → slice_get (map f xs) i ≡ Some (f k)
 get_map f [] i k h = absurd (cc)

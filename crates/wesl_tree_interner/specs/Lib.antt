@@ -1,0 +1,3 @@
+pub mod Different
+pub mod Interned
+pub mod Interning
