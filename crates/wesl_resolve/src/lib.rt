@@ -1,4 +1,4 @@
-//! Resolvers: where the modules of a link come from.
+//! Resolvers: where the modules of a link come from. With manglers and source maps, which it re-exports.
 #![tactic(auto)]
 
 mod pkg_resolver;
@@ -12,4 +12,8 @@ pub use preprocessor::Preprocessor;
 pub use router::Router;
 pub use standard::StandardResolver;
 pub use virtual_resolver::VirtualResolver;
+pub use wesl_mangle::{
+    CacheMangler, EscapeMangler, HashMangler, Mangler, NoMangler, PathHash, UnicodeMangler,
+};
 pub use wesl_resolve_base::{CodegenModule, CodegenPkg, NoResolver, Resolver, UnitText};
+pub use wesl_source_map::{Asked, BasicSourceMap, NoSourceMap, SourceMap, SourceMapper, Start};

@@ -6,7 +6,8 @@ use Rattle.wesl_tree_syntax.specs.View.{attribute_view, global_view, placed}
 use Rattle.wesl_tree_syntax.specs.declared.span.Spanned.{Spanned}
 use Rattle.wesl_tree_syntax.specs.declared.attribute.Attribute.{Attribute}
 use Rattle.wesl_tree_syntax.specs.declared.declaration.GlobalDeclaration.{GlobalDeclaration}
-use Rattle.wesl_scope.specs.EntryPoints.{is_stage, begins, one_begins, entry_points_of, entry_points_in}
+use Rattle.wesl_scope_strip.specs.Forests.{begins, one_begins}
+use Rattle.wesl_scope.specs.EntryPoints.{is_stage, entry_points_of, entry_points_in}
 
 abbrev pub one_stage : List (Spanned Attribute) → Bool
 one_stage xs = one_begins is_stage (forest_of (map (placed attribute_view attribute_node) xs))

@@ -1,6 +1,7 @@
 -- The entry points of a module (WGSL, "Entry Points").
-use Rattle.std.specs.Prelude.{Bool, true, false, ◌&&◌, ◌||◌, List, [], ◌∷◌, ◌++◌, if◌then◌else◌}
-use Rattle.wesl_tree_syntax.specs.Tree.{LabelOf, ForestOf, end, tree, kind, ident, function, vertex, fragment, compute}
+use Rattle.std.specs.Prelude.{Bool, true, false, ◌&&◌, List, [], ◌++◌, if◌then◌else◌}
+use Rattle.wesl_tree_syntax.specs.Tree.{LabelOf, ForestOf, end, tree, kind, function, vertex, fragment, compute}
+use Rattle.wesl_scope_strip.specs.Forests.{begins, first_children, one_begins, own_identifiers}
 
 module _ {I : Type 0} where
   -- whether a label is that of @vertex, @fragment or @compute
@@ -13,26 +14,6 @@ module _ {I : Type 0} where
   abbrev pub is_function : LabelOf I → Bool
   is_function (kind function) = true
   is_function _ = false
-
-  -- whether the first tree's label passes
-  abbrev pub begins : (LabelOf I → Bool) → ForestOf I → Bool
-  begins p end = false
-  begins p (tree l children others) = p l
-
-  abbrev pub first_children : ForestOf I → ForestOf I
-  first_children end = end
-  first_children (tree l children others) = children
-
-  -- whether one of these trees holds a tree whose label passes as its first
-  abbrev pub one_begins : (LabelOf I → Bool) → ForestOf I → Bool
-  one_begins p end = false
-  one_begins p (tree l children others) = begins p children || one_begins p others
-
-  -- the identifiers that stand side by side here
-  abbrev pub own_identifiers : ForestOf I → List I
-  own_identifiers end = []
-  own_identifiers (tree (ident r x) children others) = x ∷ own_identifiers others
-  own_identifiers (tree l children others) = own_identifiers others
 
   -- whether a declaration is a function with an attribute of a stage, where the attributes are the first field
   abbrev pub is_entry_point : ForestOf I → Bool

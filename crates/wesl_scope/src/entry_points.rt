@@ -3,7 +3,8 @@ ghost use Rattle.std.specs.Prelude.{◌≡◌, ◌∷◌, [], map};
 ghost use Rattle.std.specs.Option.{option_to_list};
 ghost use Rattle.wesl_tree_syntax.specs.Tree.{forest_of};
 ghost use Rattle.wesl_tree_syntax.specs.View.{attribute_view, attributes_tree, global_view};
-ghost use Rattle.wesl_scope.specs.EntryPoints.{is_stage, begins, one_begins, entry_points_in};
+ghost use Rattle.wesl_scope_strip.specs.Forests.{begins, one_begins};
+ghost use Rattle.wesl_scope.specs.EntryPoints.{is_stage, entry_points_in};
 
 use wesl_tree::{Attribute, AttributeNode, GlobalDeclaration, Ident};
 

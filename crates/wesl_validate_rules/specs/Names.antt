@@ -3,7 +3,7 @@ use Rattle.std.specs.Prelude.{ℕ, Bool, true, false, List, [], ◌∷◌, ◌++
 use Rattle.wesl_tree_names.specs.Path.{Text}
 use Rattle.wesl_tree_syntax.specs.Tree.{LabelOf, ForestOf, end, tree, kind, ident, binder, if_attribute, elif_attribute, else_attribute}
 use Rattle.wesl_tree_syntax.specs.Unit.{UnitView, name_in}
-use Rattle.wesl_scope.specs.EntryPoints.{first_children, one_begins, own_identifiers}
+use Rattle.wesl_scope_strip.specs.Forests.{first_children, one_begins, own_identifiers}
 
 module _ {I : Type 0} where
   abbrev pub is_condition : LabelOf I → Bool

@@ -1,6 +1,6 @@
 //! The names that imports without a condition bind.
 ghost use Rattle.std.specs.Prelude.{◌≡◌, ◌++◌, flat_map, OnOk};
-ghost use Rattle.wesl_scope.specs.EntryPoints.{one_begins};
+ghost use Rattle.wesl_scope_strip.specs.Forests.{one_begins};
 ghost use Rattle.wesl_tree_syntax.specs.Tree.{before, end};
 ghost use Rattle.wesl_tree_syntax.specs.View.{attribute_view, attributes_tree, content_view, item_view, import_view, imports_tree};
 ghost use Rattle.wesl_validate_rules.specs.Names.{is_condition, imported_in, imported};

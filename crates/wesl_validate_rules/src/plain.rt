@@ -1,6 +1,6 @@
 //! The names that a module declares for itself without a condition.
 ghost use Rattle.std.specs.Prelude.{◌≡◌, ◌++◌, [], ◌∷◌, if◌then◌else◌, IfOk, OnOk};
-ghost use Rattle.wesl_scope.specs.EntryPoints.{one_begins};
+ghost use Rattle.wesl_scope_strip.specs.Forests.{one_begins};
 ghost use Rattle.wesl_tree_syntax.specs.Tree.{before, end};
 ghost use Rattle.wesl_tree_syntax.specs.View.{attributes_tree, global_view, declarations_tree};
 ghost use Rattle.wesl_tree.specs.Translation.{unit_view};

@@ -1,5 +1,5 @@
 use Rattle.std.proofs.Common.{◌≡◌, ◌∙◌, ◌++◌, sym}
-use Rattle.wesl_scope.specs.EntryPoints.{one_begins}
+use Rattle.wesl_scope_strip.specs.Forests.{one_begins}
 use Rattle.wesl_tree_syntax.specs.Tree.{before, end}
 use Rattle.wesl_tree_syntax.specs.View.{attributes_tree, content_view, import_view}
 use Rattle.wesl_validate_rules.specs.Names.{is_condition, imported_in}

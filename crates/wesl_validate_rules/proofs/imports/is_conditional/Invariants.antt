@@ -1,5 +1,5 @@
 use Rattle.std.proofs.Common.{◌≡◌, drop, map}
-use Rattle.wesl_scope.specs.EntryPoints.{one_begins}
+use Rattle.wesl_scope_strip.specs.Forests.{one_begins}
 use Rattle.wesl_tree_syntax.specs.Tree.{forest_of, attribute_node}
 use Rattle.wesl_tree_syntax.specs.View.{attribute_view, placed}
 use Rattle.wesl_validate_rules.specs.Names.{is_condition}
