@@ -10,17 +10,29 @@ use std::collections::BTreeMap;
 use wesl_tree_names::Error;
 
 /// What becomes of a feature flag.
-#[derive(Clone, Copy, Debug, Default, PartialEq, Eq, Drop)]
+#[derive(Clone, Copy, Debug, PartialEq, Eq, Drop)]
 pub enum Feature {
     /// The flag is true.
     Enable,
     /// The flag is false.
-    #[default]
     Disable,
     /// The flag is left for a later stage.
     Keep,
     /// The flag is refused.
     Error,
+}
+
+// By hand, so that it says which answer it is: a derived one does not.
+impl Default for Feature {
+    ghost use Rattle.std.specs.Prelude.{◌≡◌};
+    ghost use Rattle.wesl_cond_features.specs.declared.features.Feature.TheVariants.{Disable};
+
+    ghost is_default = { λ answer. answer ≡ Disable };
+
+    /// A flag of which nothing is said is disabled.
+    fn default() -> Feature {
+        Feature::Disable
+    }
 }
 
 impl From<bool> for Feature {
