@@ -1,5 +1,6 @@
 //! What has nodes below it.
-ghost use Rattle.std.specs.Prelude.{◌≡◌, List, None, Option, Some, length};
+ghost use Rattle.std.specs.Prelude.{[], ◌∷◌, ◌≡◌, List, None, Option, Some, length};
+ghost use Rattle.wesl_tree_base.specs.declared.span.Span.{Span};
 ghost use Rattle.wesl_tree_names.specs.Path.{Text};
 ghost use Rattle.wesl_visit_rewrite.specs.Holders.{KeepsNumbers, unit_tree};
 ghost use Rattle.wesl_visit_rewrite.specs.Replaced.{rule};
@@ -20,11 +21,14 @@ use wesl_visit_collect::{Replace, Rewrite, law_of_variants};
 
 /// A part of a tree that has nodes below it.
 ///
-/// `tree` is what it says. `table` is its table of names, where it has one.
+/// `tree` is what it says. `table` is its table of names, where it has one. `spans` are those that it carries itself, the
+/// outermost first: none where it is a plain node.
 pub trait Holder {
     ghost tree: { Self → Tree };
 
     ghost table: { Self → Option (List Text) };
+
+    ghost spans: { Self → List Span };
 
     /// Replaces the nodes of a kind that lie strictly below: the outermost ones as they stand, or with `deep` all of
     /// them, those inside a node before it. Answers whether the rewriter refused none.
@@ -36,13 +40,16 @@ pub trait Holder {
     ) -> bool
         requires numbers { KeepsNumbers (table self.old) R.rewrites }
         ensures replaced { WentBelow (rule T.Kind.sought R.rewrites deep) (tree self.old) result (tree self.new) }
-        ensures named { table self.new ≡ table self.old };
+        ensures named { table self.new ≡ table self.old }
+        ensures same_spans { spans self.new ≡ spans self.old };
 }
 
 impl Holder for Expression {
     ghost tree = { expression_view };
 
     ghost table = { λ _. None };
+
+    ghost spans = { λ _. [] };
 
     fn replace<T: Replace, R: Rewrite<T>>(
         &mut self,
@@ -60,6 +67,8 @@ impl Holder for TypeExpression {
 
     ghost table = { λ _. None };
 
+    ghost spans = { λ _. [] };
+
     fn replace<T: Replace, R: Rewrite<T>>(
         &mut self,
         _: Global,
@@ -74,6 +83,8 @@ impl Holder for Statement {
     ghost tree = { statement_view };
 
     ghost table = { λ _. None };
+
+    ghost spans = { λ _. [] };
 
     fn replace<T: Replace, R: Rewrite<T>>(
         &mut self,
@@ -91,6 +102,8 @@ impl Holder for Attribute {
 
     ghost table = { λ _. None };
 
+    ghost spans = { λ _. [] };
+
     fn replace<T: Replace, R: Rewrite<T>>(
         &mut self,
         _: Global,
@@ -106,6 +119,8 @@ impl Holder for GlobalDeclaration {
     ghost tree = { global_view };
 
     ghost table = { λ _. None };
+
+    ghost spans = { λ _. [] };
 
     fn replace<T: Replace, R: Rewrite<T>>(
         &mut self,
@@ -123,6 +138,8 @@ impl Holder for Declaration {
 
     ghost table = { λ _. None };
 
+    ghost spans = { λ _. [] };
+
     fn replace<T: Replace, R: Rewrite<T>>(
         &mut self,
         _: Global,
@@ -137,6 +154,8 @@ impl Holder for TypeAlias {
     ghost tree = { alias_view };
 
     ghost table = { λ _. None };
+
+    ghost spans = { λ _. [] };
 
     fn replace<T: Replace, R: Rewrite<T>>(
         &mut self,
@@ -153,6 +172,8 @@ impl Holder for Struct {
 
     ghost table = { λ _. None };
 
+    ghost spans = { λ _. [] };
+
     fn replace<T: Replace, R: Rewrite<T>>(
         &mut self,
         _: Global,
@@ -167,6 +188,8 @@ impl Holder for StructMember {
     ghost tree = { member_view };
 
     ghost table = { λ _. None };
+
+    ghost spans = { λ _. [] };
 
     fn replace<T: Replace, R: Rewrite<T>>(
         &mut self,
@@ -183,6 +206,8 @@ impl Holder for Function {
 
     ghost table = { λ _. None };
 
+    ghost spans = { λ _. [] };
+
     fn replace<T: Replace, R: Rewrite<T>>(
         &mut self,
         _: Global,
@@ -197,6 +222,8 @@ impl Holder for ConstAssert {
     ghost tree = { assert_view };
 
     ghost table = { λ _. None };
+
+    ghost spans = { λ _. [] };
 
     fn replace<T: Replace, R: Rewrite<T>>(
         &mut self,
@@ -214,6 +241,8 @@ impl<N: Holder> Holder for Spanned<N> {
 
     ghost table = { λ n. N.table n.node };
 
+    ghost spans = { λ n. n.span ∷ N.spans n.node };
+
     fn replace<T: Replace, R: Rewrite<T>>(
         &mut self,
         alloc: Global,
@@ -229,6 +258,8 @@ impl Holder for TranslationUnit {
     ghost tree = { λ u. unit_tree (unit_view u) };
 
     ghost table = { λ u. Some (unit_view u).names };
+
+    ghost spans = { λ _. [] };
 
     fn replace<T: Replace, R: Rewrite<T>>(
         &mut self,
