@@ -78,6 +78,7 @@ pub trait Visit<T: Replace>: Collect {
         ensures replaced { IfOk result (λ _. ReplacedBelow (rule T.sought R.rewrites false) (Self.tree self.old) (Self.tree self.new)) }
         ensures stopped { IfErr result (λ _. StoppedBelow (rule T.sought R.rewrites false) (Self.tree self.old) (Self.tree self.new)) }
         ensures named { Self.table self.new ≡ Self.table self.old }
+        ensures same_spans { Self.spans self.new ≡ Self.spans self.old }
         ensures refused { IfErr result (λ e. e ≡ error.Memory) }
     {
         if self.replace(alloc, false, rewriter) {
@@ -100,6 +101,7 @@ pub trait Visit<T: Replace>: Collect {
         ensures replaced { IfOk result (λ _. ReplacedBelow (rule T.sought R.rewrites true) (Self.tree self.old) (Self.tree self.new)) }
         ensures stopped { IfErr result (λ _. StoppedBelow (rule T.sought R.rewrites true) (Self.tree self.old) (Self.tree self.new)) }
         ensures named { Self.table self.new ≡ Self.table self.old }
+        ensures same_spans { Self.spans self.new ≡ Self.spans self.old }
         ensures refused { IfErr result (λ e. e ≡ error.Memory) }
     {
         if self.replace(alloc, true, rewriter) {
