@@ -3,3 +3,4 @@ pub mod RouterLemmas
 pub mod TextsLemmas
 pub mod PreprocessorLemmas
 pub mod StandardLemmas
+pub mod OfPackages

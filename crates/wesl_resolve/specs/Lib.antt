@@ -5,3 +5,4 @@ pub mod ByOrigin
 pub mod Held
 pub mod RouterMeaning
 pub mod StandardMeaning
+pub mod PackageViews

@@ -1,12 +1,15 @@
-//! Resolvers: where the modules of a link come from. With manglers and source maps, which it re-exports.
+//! Resolvers: where the modules of a link come from; and equality of packages. With manglers and source maps, which it
+//! re-exports.
 #![tactic(auto)]
 
+mod packages;
 mod pkg_resolver;
 mod preprocessor;
 mod router;
 mod standard;
 mod virtual_resolver;
 
+pub use packages::{equal_modules, equal_packages};
 pub use pkg_resolver::PkgResolver;
 pub use preprocessor::Preprocessor;
 pub use router::Router;
