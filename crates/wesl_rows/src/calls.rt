@@ -16,6 +16,7 @@ pub fn answered(row: Row<'_>) -> Value {
     match row.text("call") {
         "wesl::run" => program::ran(row),
         "wesl::run on each beginning" => program::refused_beginnings(row),
+        "wesl::line_of_bytes" => program::line_of_text(row),
         "wesl_example::told" => row.printed(wesl_example::told(alloc, row.text("text"))),
         "BuiltinType::Mat, builtin_ident" => {
             let matrix = BuiltinType::Mat(size(row, "columns"), size(row, "rows"));

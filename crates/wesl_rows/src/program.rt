@@ -1,6 +1,6 @@
 //! The program as one call: bundles and their lines.
 use serde_json::Value;
-use wesl::{Outcome, run};
+use wesl::{Outcome, line_of_bytes, run};
 use wesl_rows_base::Row;
 
 /// What comes of a run over these bytes, which adds to what is `written`.
@@ -16,25 +16,28 @@ fn outcome(row: Row<'_>, bundle: &[u8], written: &mut Vec<u8>) -> Outcome {
     }
 }
 
-/// The line that a run over these bytes writes, null where it is no compact line of the kind that its outcome tells.
+/// The line that these bytes are, null where they are no compact line of the kind that an outcome tells.
+fn compact_line(row: Row<'_>, outcome: Outcome, bytes: &[u8]) -> Value {
+    match bytes.split_last() {
+        Some((b'\n', text)) => {
+            let line = row.or(Value::from_slice(row.alloc, text), Value::Null);
+            let compact = row.or(line.to_string(row.alloc), String::new(row.alloc));
+            let is_of_kind = (outcome == Outcome::Linked) == line.get("unit").is_some();
+            if is_of_kind && compact.as_bytes() == text {
+                line
+            } else {
+                Value::Null
+            }
+        }
+        _ => Value::Null,
+    }
+}
+
+/// The line that a run over these bytes writes.
 fn line_of(row: Row<'_>, bundle: &[u8]) -> Value {
     let mut written = Vec::new(row.alloc);
     let outcome = outcome(row, bundle, &mut written);
-    if written.pop() == Some(b'\n') {
-        let line = row.or(
-            Value::from_slice(row.alloc, written.as_slice()),
-            Value::Null,
-        );
-        let text = row.or(line.to_string(row.alloc), String::new(row.alloc));
-        let is_of_kind = (outcome == Outcome::Linked) == line.get("unit").is_some();
-        if is_of_kind && text.as_bytes() == written.as_slice() {
-            line
-        } else {
-            Value::Null
-        }
-    } else {
-        Value::Null
-    }
+    compact_line(row, outcome, written.as_slice())
 }
 
 /// The line of the bundle of a row, or of its text.
@@ -45,6 +48,12 @@ pub fn ran(row: Row<'_>) -> Value {
     } else {
         line_of(row, row.text("text").as_bytes())
     }
+}
+
+/// The line that is made of the bytes of the text of a row.
+pub fn line_of_text(row: Row<'_>) -> Value {
+    let (outcome, line) = line_of_bytes(row.alloc, row.text("text").as_bytes());
+    compact_line(row, outcome, line.as_bytes())
 }
 
 /// How many beginnings of the text of a row, the whole not among them, are told to be no JSON.

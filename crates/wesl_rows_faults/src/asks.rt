@@ -1,11 +1,12 @@
-//! Which paths a link asks its resolver for.
+//! Which paths a link asks its resolver for, and which names it asks its mangler for.
 use serde_json::Value;
 use std::alloc::Global;
 use wesl_link::resolve_lazy;
+use wesl_resolve::{EscapeMangler, Mangler};
 use wesl_resolve_base::Resolver;
-use wesl_rows_base::{Object, Row};
-use wesl_tree::TranslationUnit;
-use wesl_tree_names::{ModulePath, ResolveError};
+use wesl_rows_base::{List, Object, Row};
+use wesl_tree::{TranslationUnit, TypeExpression};
+use wesl_tree_names::{Error, ModulePath, Names, ResolveError};
 
 /// Asks another resolver, and keeps the paths that it was asked for. That memory was wanting for one is noted in the row.
 #[derive(Drop)]
@@ -90,5 +91,85 @@ pub fn counted(row: Row<'_>) -> Value {
             answer.end(row)
         }
         Err(fault) => fault,
+    }
+}
+
+/// Asks another mangler, and keeps the items that it was asked for, as texts. That memory was wanting for one is noted in
+/// the row.
+#[derive(Drop)]
+struct NameLog<'a, M> {
+    row: Row<'a>,
+    inner: M,
+    asked: Vec<String>,
+}
+
+impl<M: Mangler> Mangler for NameLog<'_, M> {
+    ghost name_of = { λ s p i. M.name_of s.inner p i };
+
+    ghost recorded = { λ s name. M.recorded s.inner name };
+
+    ghost writes = { M.writes };
+
+    ghost item_of = { λ s name. M.item_of s.inner name };
+
+    ghost variant_of = { λ s names i n ts. M.variant_of s.inner names i n ts };
+
+    fn mangle(&mut self, alloc: Global, path: &ModulePath, item: &str) -> Result<String, Error> {
+        let module = self.row.or(path.to_text(alloc), String::new(alloc));
+        let text = self
+            .row
+            .or(format!(in alloc; "{module}::{item}"), String::new(alloc));
+        self.row.push(&mut self.asked, text);
+        self.inner.mangle(alloc, path, item)
+    }
+
+    fn unmangle(
+        &self,
+        alloc: Global,
+        mangled: &str,
+    ) -> Result<Option<(ModulePath, String)>, Error> {
+        self.inner.unmangle(alloc, mangled)
+    }
+
+    fn mangle_types(
+        &self,
+        alloc: Global,
+        names: &Names,
+        item: &str,
+        variant: u32,
+        types: &[TypeExpression],
+    ) -> Result<String, Error> {
+        self.inner.mangle_types(alloc, names, item, variant, types)
+    }
+}
+
+/// Texts as a value.
+fn text_list(row: Row<'_>, texts: &[String]) -> Value {
+    let mut list = List::new(row.alloc);
+    for text in texts {
+        list.text(text.as_str());
+    }
+    list.end(row)
+}
+
+/// The items whose names the lazy link of a row's modules asks its mangler for, each as often as it asks, or how the link is
+/// refused. The root is mangled where the row has `mangle_root`.
+pub fn names_asked(row: Row<'_>) -> Value {
+    let keep = row.texts("keep");
+    let path = row.rooted("path");
+    let root = row.unit("unit");
+    let mut modules = row.modules("modules");
+    match resolve_lazy(row.alloc, keep.as_slice(), root, &path, &mut modules, 1000) {
+        Ok(found) => {
+            let mut found = found;
+            let mut log = NameLog {
+                row,
+                inner: EscapeMangler,
+                asked: Vec::new(row.alloc),
+            };
+            row.done(found.mangle(row.alloc, &mut log, row.has("mangle_root")));
+            text_list(row, log.asked.as_slice())
+        }
+        Err(refusal) => row.answer_of(refusal),
     }
 }

@@ -7,6 +7,7 @@ use wesl_rows_base::Row;
 pub fn answered(row: Row<'_>) -> Value {
     match row.text("call") {
         "resolve_lazy, how often it asks for each path" => asks::counted(row),
+        "Resolutions::mangle, the names that it asks for" => asks::names_asked(row),
         "a link by a resolver without end" => endless::linked_by(row, false),
         "a link by a resolver without memory" => endless::linked_by(row, true),
         "a link by a function without memory" => endless::refused_by_function(row),
@@ -15,7 +16,9 @@ pub fn answered(row: Row<'_>) -> Value {
         "Diagnostic as a text" => errors::told_where(row),
         "TryClone::try_clone of a node with a span" => nodes::copied(row),
         "TranslationUnit::from_parts of a constant" => nodes::made(row),
+        "== of spans" => nodes::spans_are_equal(row),
         "Router::resolve_source of boxes" => resolvers::routed(row),
+        "Resolver of a box, display_name" => resolvers::boxed_name(row),
         "Preprocessor::resolve_module" => resolvers::preprocessed(row),
         "VirtualResolver::resolve_module without memory" => resolvers::unread(row),
         "wesl::run on a reader that fails" => streams::unread(row),

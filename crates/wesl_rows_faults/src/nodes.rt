@@ -55,3 +55,16 @@ pub fn made(row: Row<'_>) -> Value {
     let unit = TranslationUnit::from_parts(names, Vec::new(alloc), Vec::new(alloc), declarations);
     row.text_value(if unit.is_some() { "a unit" } else { "none" })
 }
+
+/// The span of the first byte `start` of a row, and of the byte `end` after the last one.
+fn span(row: Row<'_>) -> Span {
+    Span {
+        start: u32::try_from(row.number("start", 0)).unwrap_or(0),
+        end: u32::try_from(row.number("end", 0)).unwrap_or(0),
+    }
+}
+
+/// Whether the spans `one` and `other` of a row are equal.
+pub fn spans_are_equal(row: Row<'_>) -> Value {
+    Value::Bool(span(row.part("one")) == span(row.part("other")))
+}

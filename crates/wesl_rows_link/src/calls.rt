@@ -1,7 +1,7 @@
 //! The calls by their names: what is not among the calls of one list is looked up in the next.
 use crate::{chains, links, manglers, names, packages, resolvers, tables};
 use serde_json::Value;
-use wesl_mangle::{EscapeMangler, UnicodeMangler};
+use wesl_mangle::{EscapeMangler, NoMangler, UnicodeMangler};
 use wesl_rows_base::Row;
 
 /// What the call of a row answers.
@@ -11,6 +11,7 @@ pub fn answered(row: Row<'_>) -> Value {
         "resolve_eager" => links::mangled(row, true),
         "Resolutions::new_uninit" => links::nothing(row),
         "Resolutions::mangle, or what stands" => links::mangled_or_left(row),
+        "resolve_lazy, then names_clash" => links::clash(row),
         "resolve_lazy of a chain" => chains::counted(row, false),
         "resolve_eager of a chain" => chains::counted(row, true),
         "wesl_link_reach::link_lazily" => tables::linked(row, false),
@@ -31,7 +32,12 @@ fn of_manglers(row: Row<'_>, call: &str) -> Value {
         "UnicodeMangler::unmangle" => manglers::read(row, &UnicodeMangler, row.text("name")),
         "UnicodeMangler::mangle_types" => manglers::written_variant(row),
         "HashMangler::mangle" => manglers::numbered(row),
-        "NoMangler::mangle_types" => manglers::numbered_variant(row),
+        "EscapeMangler::mangle_types" => manglers::variant(row, &EscapeMangler),
+        "NoMangler::mangle_types" => manglers::variant(row, &NoMangler),
+        "HashMangler::mangle_types" => manglers::variant_of_numbers(row),
+        "CacheMangler::mangle_types" => manglers::variant_of_record(row),
+        "Mangler of a box" => manglers::boxed_mangler(row),
+        "Mangler of a reference" => manglers::lent_mangler(row),
         "CacheMangler::unmangle" => manglers::remembered(row),
         "CacheMangler::mangle, or what stands" => manglers::remembered_or_left(row),
         _ => of_resolvers(row, call),
@@ -53,7 +59,13 @@ fn of_resolvers(row: Row<'_>, call: &str) -> Value {
         "PkgResolver::resolve_module" => resolvers::module(row, packages::packages(row)),
         "PkgResolver::add_package, or what stands" => packages::added_or_left(row),
         "StandardResolver::resolve_source" => resolvers::source(row, packages::standard(row)),
+        "StandardResolver::resolve_module" => resolvers::module(row, packages::standard(row)),
         "StandardResolver::display_name" => resolvers::name(row, packages::standard(row)),
+        "StandardResolver::add_package, or what stands" => packages::added_beside_or_left(row),
+        "Resolver of a box, resolve_source" => resolvers::boxed_source(row),
+        "Resolver of a box, resolve_module" => resolvers::boxed_module(row),
+        "equal_modules" => packages::modules_are_equal(row),
+        "equal_packages" => packages::packages_are_equal(row),
         _ => row.text_value("no such row"),
     }
 }

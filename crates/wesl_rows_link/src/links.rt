@@ -9,6 +9,7 @@ use wesl_link::{Resolutions, resolve_eager, resolve_lazy};
 use wesl_mangle::EscapeMangler;
 use wesl_resolve::VirtualResolver;
 use wesl_rows_base::{List, Object, Row, is_refused, stands};
+use wesl_scope::names_clash;
 use wesl_tree::{Diagnostic, ModulePath, TranslationUnit};
 
 /// The linked unit as a tree: of an eager link the whole one, else the stripped one.
@@ -84,6 +85,23 @@ pub fn mangled(row: Row<'_>, is_eager: bool) -> Value {
             let mut found = found;
             row.done(found.mangle(row.alloc, &mut EscapeMangler, false));
             told(row, found)
+        }
+        Err(refusal) => row.answer_of(refusal),
+    }
+}
+
+/// Whether the names of the unit of the lazy link of a row's modules are read otherwise than its numbers say, and that
+/// unit, under the names of the escape mangler but for the root's.
+pub fn clash(row: Row<'_>) -> Value {
+    match linked(row, false) {
+        Ok(found) => {
+            let mut found = found;
+            row.done(found.mangle(row.alloc, &mut EscapeMangler, false));
+            let unit = row.unit_or_none(found.assemble(row.alloc, true));
+            let mut answer = Object::new(row.alloc);
+            answer.flag("clash", row.is(names_clash(row.alloc, &unit)));
+            answer.put("unit", row.tree_of(&unit));
+            answer.end(row)
         }
         Err(refusal) => row.answer_of(refusal),
     }

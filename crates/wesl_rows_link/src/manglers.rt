@@ -9,7 +9,7 @@ use std::slice::from_ref;
 use wesl_mangle::{
     CacheMangler, EscapeMangler, HashMangler, Mangler, NoMangler, PathHash, UnicodeMangler,
 };
-use wesl_rows_base::{Row, is_refused, item_value, stands, text_of};
+use wesl_rows_base::{Object, Row, is_refused, item_value, stands, text_of};
 use wesl_tree::{
     BinaryOperator, Expression, ExpressionNode, Ident, Literal, ModulePath, Names, Span, Spanned,
     TemplateArg, TypeExpression,
@@ -164,11 +164,57 @@ pub fn written_variant(row: Row<'_>) -> Value {
     }
 }
 
-/// The name of a variant of the item of a row by its number.
-pub fn numbered_variant(row: Row<'_>) -> Value {
+/// The name that a mangler gives to the variant of a row's `number` of its item, without types.
+pub fn variant<M: Mangler>(row: Row<'_>, mangler: &M) -> Value {
     let number = u32::try_from(row.number("number", 0)).unwrap_or(0);
     let names = Names::new(row.alloc);
-    row.printed(NoMangler.mangle_types(row.alloc, &names, row.text("item"), number, &[]))
+    row.printed(mangler.mangle_types(row.alloc, &names, row.text("item"), number, &[]))
+}
+
+/// The same of a mangler of numbers, whose number of each item is 7.
+pub fn variant_of_numbers(row: Row<'_>) -> Value {
+    variant(row, &HashMangler::new(Always(7)))
+}
+
+/// The same of a mangler with a record, of one that writes types.
+pub fn variant_of_record(row: Row<'_>) -> Value {
+    variant(row, &CacheMangler::new(row.alloc, UnicodeMangler))
+}
+
+/// The name that a mangler gives to the item of a row, what it reads that name as, and the name of a variant of the item.
+fn answers<M: Mangler>(row: Row<'_>, mangler: &mut M) -> Value {
+    let path = row.path("path");
+    let name = row.or(
+        mangler.mangle(row.alloc, &path, row.text("item")),
+        String::new(row.alloc),
+    );
+    let mut answer = Object::new(row.alloc);
+    answer.put("read", read(row, mangler, name.as_str()));
+    answer.put("variant", variant(row, mangler));
+    answer.put("name", Value::String(name));
+    answer.end(row)
+}
+
+/// What a mangler in a box answers, one with a record, which names an item by itself.
+pub fn boxed_mangler(row: Row<'_>) -> Value {
+    match row.boxed(CacheMangler::new(row.alloc, NoMangler)) {
+        Some(mangler) => {
+            let mut mangler = mangler;
+            answers(row, &mut mangler)
+        }
+        None => Value::Null,
+    }
+}
+
+/// What such a mangler answers where it is lent, and what it reads the item as when it is given back.
+pub fn lent_mangler(row: Row<'_>) -> Value {
+    let mut mangler = CacheMangler::new(row.alloc, NoMangler);
+    let mut lent = &mut mangler;
+    let answers = answers(row, &mut lent);
+    let mut answer = Object::new(row.alloc);
+    answer.put("lent", answers);
+    answer.put("given_back", read(row, &mangler, row.text("item")));
+    answer.end(row)
 }
 
 /// Whether the escape form of the item of a row is read back.

@@ -1,8 +1,8 @@
 //! Tables of names: what they hold after a call that adds to them, and after one that was refused.
 use serde_json::Value;
 use wesl_link_symbols::ids::NameId;
-use wesl_tree_interner::Interner;
 use wesl_rows_base::{List, Row, is_refused, names_value, stands, text_of};
+use wesl_tree_interner::Interner;
 
 /// The names of an interner.
 fn listed(row: Row<'_>, interner: &Interner) -> Value {

@@ -103,6 +103,22 @@ pub fn holding(row: Row<'_>) -> VirtualResolver<JsonText> {
     modules
 }
 
+/// The source that a resolver in a box gives for the path of a row.
+pub fn boxed_source(row: Row<'_>) -> Value {
+    match row.boxed(holding(row)) {
+        Some(modules) => source(row, modules),
+        None => Value::Null,
+    }
+}
+
+/// The unit that a resolver in a box gives for the path of a row.
+pub fn boxed_module(row: Row<'_>) -> Value {
+    match row.boxed(holding(row)) {
+        Some(modules) => module(row, modules),
+        None => Value::Null,
+    }
+}
+
 /// The stored text of the module at the path of a row.
 pub fn stored(row: Row<'_>) -> Value {
     let path = row.rooted("path");
