@@ -1,11 +1,13 @@
 //! Visits and rewriting of the nodes of a kind below a holder.
 //!
 //! A row has a unit. Its holder is the unit, its first global declaration or a part of that; its kind is one of types,
-//! expressions, statements and lists of attributes. The answer lists the nodes that are met.
+//! expressions, statements and lists of attributes. The answer lists the nodes that are met, and has the unit afterwards,
+//! with its places where the row's unit has them.
 ghost use Rattle.std.specs.Prelude.{◌≡◌};
 
 use serde_json::Value;
 use std::mem;
+use wesl_json::value_of_unit_2;
 use wesl_rows_base::{List, Object, Row, is_refused};
 use wesl_tree::{
     Attributes, Declaration, Error, Expression, ExpressionNode, GlobalDeclaration,
@@ -243,28 +245,41 @@ impl Rewrite<TypeExpression> for Wrap<'_> {
     }
 }
 
-/// Wraps the types below a type alias, or a declaration or its first attribute, as the call of the row does.
-fn wrapped(row: Row<'_>, global: &mut GlobalDeclaration) -> bool {
+/// Wraps the types below a global declaration with its span, or below a part of it, as the call of the row does.
+fn wrapped(row: Row<'_>, global: &mut GlobalDeclarationNode) -> bool {
     let alloc = row.alloc;
     let mut wrap = Wrap {
         row,
         name: Ident(0),
         left: row.number("wrap_at_most", 0),
     };
+    if row.text("holder") != "global declaration" {
+        wrapped_part(&mut global.node, &mut wrap)
+    } else if row.text("call") == "Visit::rewrite" {
+        is_refused(global.rewrite(alloc, &mut wrap))
+    } else {
+        is_refused(global.rewrite_rec(alloc, &mut wrap))
+    }
+}
+
+/// Wraps the types below a type alias, or a declaration or its first attribute, as the call of the row does.
+fn wrapped_part(global: &mut GlobalDeclaration, wrap: &mut Wrap) -> bool {
+    let row = wrap.row;
+    let alloc = row.alloc;
     match global {
         GlobalDeclaration::TypeAlias(alias) => {
             if row.text("call") == "Visit::rewrite" {
-                is_refused(alias.rewrite(alloc, &mut wrap))
+                is_refused(alias.rewrite(alloc, wrap))
             } else {
-                is_refused(alias.rewrite_rec(alloc, &mut wrap))
+                is_refused(alias.rewrite_rec(alloc, wrap))
             }
         }
         GlobalDeclaration::Declaration(declaration) => {
             if row.text("holder") == "declaration" {
-                is_refused(declaration.rewrite(alloc, &mut wrap))
+                is_refused(declaration.rewrite(alloc, wrap))
             } else {
                 match declaration.attributes.first_mut() {
-                    Some(first) => is_refused(first.node.rewrite(alloc, &mut wrap)),
+                    Some(first) => is_refused(first.node.rewrite(alloc, wrap)),
                     None => false,
                 }
             }
@@ -276,11 +291,20 @@ fn wrapped(row: Row<'_>, global: &mut GlobalDeclaration) -> bool {
 /// Meets or wraps the nodes of a kind below a global declaration or a part of it.
 fn walk_global(global: &mut GlobalDeclarationNode, met: &mut Met) -> bool {
     if met.row.has("wrap_at_most") {
-        wrapped(met.row, &mut global.node)
+        wrapped(met.row, global)
     } else if met.row.text("holder") == "global declaration" {
         walk_kinds(global, met)
     } else {
         walk_part(&mut global.node, met)
+    }
+}
+
+/// What is written of the unit that a row's became: with its places where the row's unit has them.
+fn written(row: Row<'_>, unit: &TranslationUnit) -> Value {
+    if row.part("unit").number("form", 1) == 2 {
+        row.or(value_of_unit_2(row.alloc, unit), Value::Null)
+    } else {
+        row.tree_of(unit)
     }
 }
 
@@ -308,7 +332,7 @@ pub fn answered(row: Row<'_>) -> Value {
     }
     let mut answer = Object::new(row.alloc);
     answer.put("met", Value::Array(met.nodes));
-    answer.put("unit", row.tree_of(&unit));
+    answer.put("unit", written(row, &unit));
     if is_refused {
         answer.put("args", Value::Array(Vec::new(row.alloc)));
         answer.text("fault", "Memory");
