@@ -1,0 +1,47 @@
+"""The links that a `project.json` describes: each of its feature sets under each of its manglers, and its single bundles."""
+
+import json
+
+from .link import TOP
+
+
+class Case:
+    """One link of a project: its name, the feature set and the mangler in words, and its bundle."""
+
+    def __init__(self, name, features, mangler, root, bundle, marked):
+        self.name, self.features, self.mangler = name, features, mangler
+        self.root, self.bundle, self.marked = root, bundle, marked
+
+
+def builtins():
+    return json.loads((TOP / "docs/wgsl_builtins.json").read_text(encoding="utf-8"))
+
+
+def case_of(project, name, options):
+    """The case of the options of one bundle: `root`, `keep`, `features` (the name of a set, or null), `mangler` and so on."""
+    described = project.description
+    sets = described.get("features", {})
+    chosen = options.get("features", next(iter(sets), None))
+    features = sets[chosen] if chosen is not None else None if "features" in options else {}
+    root = options.get("root", project.default_root())
+    keep = options.get("keep", described.get("keep"))
+    if keep is None:
+        keep = project.entry_points(root, features)
+    mangler = options.get("mangler", "escape")
+    more = {key: value for key, value in options.items() if key in ("mangle_root", "eager", "max_modules")}
+    if options.get("validate", True):
+        more["builtins"] = builtins()
+    marked = described.get("not_compiling", {}).get(name)
+    shown = chosen if chosen is not None else "unjudged" if "features" in options else "none named"
+    return Case(name, shown, mangler, root, project.bundle(root, keep, features, mangler=mangler, **more), marked)
+
+
+def cases_of(project):
+    """All cases; where no feature set is named, every flag is disabled, and where no mangler is, `escape` is taken."""
+    described = project.description
+    for features in described.get("features", {}) or {"plain": {}}:
+        for mangler in described.get("manglers", ["escape"]):
+            options = {"features": features} if "features" in described else {}
+            yield case_of(project, f"{features}-{mangler}", {**options, "mangler": mangler})
+    for name, options in described.get("bundles", {}).items():
+        yield case_of(project, name, options)

@@ -1,0 +1,173 @@
+"""The run of the program `wesl-link`, and its faults told by file, line and column."""
+
+import json
+import os
+import pathlib
+import shutil
+import subprocess
+
+from .places import binders_of, places_of_name, places_that_ask, reachable
+from .project import ProjectFault
+
+TOP = pathlib.Path(__file__).resolve().parent.parent.parent
+PROVED, UNPROVED = TOP / "crates/wesl_cli/out/wesl_cli", TOP / "out/wesl-link-unproved"
+MOST_NOTES = 5
+DEEPEST = 127
+
+TEXTS = {
+    "InvalidFeatureFlag": "the flag `{0}` has template arguments",
+    "UnexpectedFeatureFlag": "no answer is given to the flag `{0}`; answer it by --feature {0}=enable or {0}=disable",
+    "InvalidExpression": "a condition holds flags, `true`, `false`, `!`, `&&`, `||` and parentheses, and nothing else",
+    "NoPrecedingIf": "`@elif` or `@else` without an `@if` directly before it",
+    "DuplicateIf": "two of `@if`, `@elif` and `@else` on one element",
+    "DuplicateSymbol": "`{0}` stands for two different things in this module",
+    "AmbiguousSymbol": "`{0}` may stand for two different things where it is used",
+    "TooManyFlags": "`{0}` has a name with two meanings and more than 16 flags; decide some by --feature",
+    "ModuleNotFound": "there is no module `{0}` ({1})",
+    "MissingDecl": "the module `{0}` has nothing named `{1}`, as the features leave it",
+    "Private": "the module `{1}` imports `{0}` and does not publish it",
+    "ModuleLimit": "more than {0} modules are needed",
+    "UndefinedSymbol": "nothing declares `{0}`",
+    "Duplicate": "`{0}` is declared twice",
+    "NotCallable": "`{0}` is called, and is no function and no type",
+    "ParamCount": "`{0}` takes {1}, and is called with {2}",
+    "Cycle": "`{0}` needs itself, by way of `{1}`",
+    "Memory": "there was no memory",
+    "NotJson": "the bundle is nested more than 127 levels deep",
+    "BadBundle": "the bundle is of a wrong form at `{0}`",
+    "BadTree": "the tree is of a wrong form at `{0}`",
+}
+
+
+def find_program(named=None):
+    """The program: the one that is named, by the command line or by WESL_LINK, else the proved one of this repository, the unproved
+    one, or `wesl-link` on the path."""
+    named = named or os.environ.get("WESL_LINK")
+    if named:
+        found = shutil.which(named)
+        if found is None:
+            raise ProjectFault(f"the program {named} is not there")
+        return found
+    for one in [PROVED, UNPROVED]:
+        if os.access(one, os.X_OK):
+            return str(one)
+    found = shutil.which("wesl-link")
+    if found is None:
+        raise ProjectFault("the program wesl-link is not there; ./build --unproved makes one in four minutes, or name one by --linker")
+    return found
+
+
+def text_of(bundle):
+    """The bytes of a bundle: the same for the same bundle."""
+    return json.dumps(bundle, ensure_ascii=False, separators=(",", ":")).encode("utf-8", "surrogatepass") + b"\n"
+
+
+def run(program, bundle):
+    """What the program answers to the bundle, read."""
+    ran = subprocess.run([program], input=text_of(bundle), capture_output=True, check=False)
+    if ran.returncode not in (0, 1):
+        raise ProjectFault(f"{program} ended with status {ran.returncode}")
+    return json.loads(ran.stdout)
+
+
+def too_deep(tree, depth, span):
+    """The span round the first part of a tree that lies deeper than JSON may; None where none does."""
+    left = [(tree, depth, span)]
+    while left:
+        value, depth, span = left.pop()
+        if not isinstance(value, (dict, list)):
+            continue
+        if depth > DEEPEST:
+            return span
+        if isinstance(value, dict):
+            span = value.get("span", span)
+        left += [(one, depth + 1, span) for one in (value.values() if isinstance(value, dict) else value)]
+    return None
+
+
+class Told:
+    """The lines that tell a fault of a project."""
+
+    def __init__(self, project, root, fault):
+        self.project, self.root = project, root
+        self.name, self.args, self.fault = fault["fault"], fault["args"], fault
+        self.modules = [one for one in project.all_modules() if one.fault is None]
+
+    def place(self, kind, module, span, text):
+        shown = module.source.shown(*span)
+        return [f"{module.source.at_offset(span[0])}: {kind}: {text}"] + ([shown] if shown and kind == "error" else [])
+
+    def lines(self):
+        module = self.project.module_at(self.fault.get("module", ""))
+        if self.name == "BadTree" and module is not None and module.fault is not None:
+            return [str(module.fault)]
+        text = TEXTS.get(self.name, self.name).format(*self.args)
+        if module is not None and self.fault.get("span"):
+            return self.place("error", module, self.fault["span"], text)
+        if self.name == "NotJson":
+            return self.deep(text)
+        places = list(self.places())
+        if not places:
+            where = module.source.name if module is not None else self.project.folder
+            return [f"{where}: error: {text}"]
+        lines = self.place("error", *places[0], text)
+        for one in places[1:MOST_NOTES]:
+            lines += self.place("note", *one, "and here")
+        return lines
+
+    def places(self):
+        """The likely places of a fault that has none in its line."""
+        among = [one for one in self.modules if one.path in reachable(self.root, self.modules)]
+        if self.name in ("MissingDecl", "Private"):
+            path, name = self.args if self.name == "MissingDecl" else self.args[::-1]
+            return places_that_ask(among, lambda *one: one == (path, name))
+        if self.name == "ModuleNotFound":
+            return places_that_ask(among, lambda path, _: path == self.args[0])
+        if self.name == "DuplicateSymbol":
+            return (place for one in among if one.path == self.fault.get("module") for place in binders_of(one, self.args[0]))
+        if self.name == "AmbiguousSymbol":
+            return (place for one in among for place in binders_of(one, self.args[0]) if len(list(binders_of(one, self.args[0]))) > 1)
+        if self.name in ("UndefinedSymbol", "NotCallable", "ParamCount", "Cycle", "Duplicate"):
+            return self.places_of_printed(among)
+        return ()
+
+    def places_of_printed(self, among):
+        """Where a name of the linked unit is declared, and where it is used, by the names that the modules print under."""
+        printed = self.args[0]
+        for module in among:
+            for one in module.declarations():
+                if one.get("name") and printed in (one["name"], *printed_names(module.path, one["name"])):
+                    yield module, one["span"]
+        if self.name != "Duplicate":
+            yield from places_of_name(among, printed)
+
+    def deep(self, text):
+        for module in self.modules:
+            outside = 4 if module.path.startswith("package") else 5 + 2 * module.path.count("::") + 2 * module.path.count("/")
+            span = too_deep(module.unit, outside, [0, 0])
+            if span is not None:
+                return self.place("error", module, span, f"{text} here: each operation, each pair of parentheses and each block counts")
+        return [f"{self.project.folder}: error: {text}"]
+
+
+def escaped(name):
+    count = name.count("_")
+    return f"_{count}{name}" if count else name
+
+
+def printed_names(path, item):
+    """The names that the manglers `escape` and `unicode` give."""
+    pieces = [*path.split("::"), item]
+    first = pieces[0].split("/")
+    head = escaped(first[0]) if len(first) == 1 else "_".join(["import", str(len(first)), *map(escaped, first)])
+    return "_".join([head, *map(escaped, pieces[1:])]), "\u02d0\u02d0".join(pieces)
+
+
+def loaded_files(project, root, answer):
+    """The files of the modules on which an answer depends: of all whose names it lists, of the root, and of those below the root
+    which have no name to be listed for certain."""
+    listed = {path for path, _ in answer["map"].values()} | {root}
+    modules = list(project.all_modules())
+    may_be_loaded = reachable(root, modules)
+    files = [one.file for one in modules if one.path in listed or one.path in may_be_loaded and not one.is_told_by_names()]
+    return [*files, project.description_file] if project.description else files
