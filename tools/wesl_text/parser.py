@@ -111,7 +111,9 @@ class Parser:
         """One more piece of a path: `package` and `self` at its beginning, `super` behind others, else a name."""
         text = self.peek().text
         is_origin = text in ("package", "self") and not pieces or text == "super" and all(one == "super" for one in pieces)
-        if self.peek().kind == "name" and is_origin and self.sees("::", ahead=1):
+        if self.peek().kind == "name" and is_origin:
+            if not self.sees("::", ahead=1):
+                raise self.fault(f"expected `::` and a name behind `{text}`")
             return self.take().text
         return self.name(what)
 
@@ -150,10 +152,7 @@ class Parser:
         """What is imported: a collection, or the last of the pieces."""
         if self.takes("{"):
             return {"list": self.listed("}", self.import_entry)}
-        item = pieces.pop()
-        if item in ("package", "self", "super"):
-            raise self.fault(f"expected `::` and an item behind `{item}`", self.tokens[self.at - 1])
-        return node(item=item, **({"as": self.name("the new name")} if self.takes("as") else {}))
+        return node(item=pieces.pop(), **({"as": self.name("the new name")} if self.takes("as") else {}))
 
     def import_entry(self):
         pieces = []
@@ -367,9 +366,9 @@ class Parser:
         return node(attrs, k="block", stmts=self.nested(self.statements) or None, span=self.span(begin))
 
     def jump(self, begin, attrs):
-        word = self.take().text
-        if word == "break" and self.sees("if"):
+        if self.sees("break") and self.sees("if", ahead=1):
             raise self.fault("`break if` here; it is the last of a `continuing`")
+        word = self.take().text
         self.expect(";")
         return node(attrs, k=word, span=self.span(begin))
 
@@ -493,7 +492,7 @@ class Parser:
             left = {"name": "_", "span": self.span(target)}
             if not self.sees("="):
                 raise self.expected("`=` behind `_`")
-        elif token.kind == "number" or token.kind == "end" or self.sees("}"):
+        elif token.kind in ("number", "end") or token.text in KEYWORDS or self.sees("}"):
             raise self.expected("a statement")
         else:
             left = self.unary()
