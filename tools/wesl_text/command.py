@@ -157,7 +157,8 @@ def write(options, text):
 
 def linked(options, project, root, bundle):
     """Links, prints and warns; answers the status."""
-    answer = run(find_program(options.linker), bundle)
+    program = find_program(options.linker)
+    answer = run(program, bundle)
     if "fault" in answer:
         print("\n".join(Told(project, root, answer).lines()), file=sys.stderr)
         return 1
@@ -165,7 +166,7 @@ def linked(options, project, root, bundle):
     write(options, print_unit(answer["unit"], comment))
     if options.depfile is not None:
         target = options.output or options.depfile.with_suffix("")
-        options.depfile.write_text(rule(target, loaded_files(project, root, answer)), encoding="utf-8")
+        options.depfile.write_text(rule(target, loaded_files(program, project, bundle)), encoding="utf-8")
     warnings = warnings_of(answer)
     for one in warnings:
         print(f"{options.project}: warning: {one}", file=sys.stderr)

@@ -163,11 +163,34 @@ def printed_names(path, item):
     return "_".join([head, *map(escaped, pieces[1:])]), "\u02d0\u02d0".join(pieces)
 
 
-def loaded_files(project, root, answer):
-    """The files of the modules on which an answer depends: of all whose names it lists, of the root, and of those below the root
-    which have no name to be listed for certain."""
-    listed = {path for path, _ in answer["map"].values()} | {root}
-    modules = list(project.all_modules())
-    may_be_loaded = reachable(root, modules)
-    files = [one.file for one in modules if one.path in listed or one.path in may_be_loaded and not one.is_told_by_names()]
-    return [*files, project.description_file] if project.description else files
+def marked(unit):
+    """A unit with one more declaration, under a name that no text has; one that is no tree stays so."""
+    if "syntax error" in unit:
+        return unit
+    return {**unit, "declarations": [*unit.get("declarations", []), {"k": "const", "name": "a mark"}]}
+
+
+def marked_modules(modules):
+    """The modules, of a bundle or of a package, with marks in all units."""
+    found = []
+    for one in modules:
+        inner = {key: marked_modules(one[key]) for key in ("modules", "dependencies") if key in one}
+        found.append({**one, "unit": marked(one["unit"]), **inner})
+    return found
+
+
+def loaded_paths(program, bundle):
+    """The paths of the modules that a link loads. A link lists the names that each loaded module declares, so that a mark in each
+    module tells which they are; nothing refers to a mark, and nothing else depends on one. Under `escape` no two marks are alike."""
+    wanted = {key: value for key, value in bundle.items() if key not in ("builtins", "form")}
+    wanted.update(modules=marked_modules(bundle["modules"]), mangler="escape", mangle_root=True)
+    if "packages" in bundle:
+        wanted["packages"] = marked_modules(bundle["packages"])
+    return {path for path, _ in run(program, wanted)["map"].values()}
+
+
+def loaded_files(program, project, bundle):
+    """The files on which an answer depends: those of the modules that are loaded, and what describes the project."""
+    paths = loaded_paths(program, bundle)
+    files = [one.file for one in project.all_modules() if one.path in paths]
+    return list(dict.fromkeys([*files, project.description_file] if project.description else files))

@@ -61,10 +61,9 @@ def references_of(module):
     for path, name, span in named_parts(module.unit.get("declarations", []), [0, 0]):
         if path is not None:
             first, *rest = path.split("::")
-            for start in bound.get(first) or [joined(first, module.path)] if first not in ("super", "self", "package") else []:
+            for start in bound.get(first, []):
                 yield "::".join([start, *rest]), name, span
-            if first in ("super", "self", "package"):
-                yield joined(path, module.path), name, span
+            yield joined(path, module.path), name, span
 
 
 def places_that_ask(modules, is_asked):

@@ -10,7 +10,6 @@ ENDINGS = [".wesl", ".wgsl"]
 ROOT_FILES = ["package", "lib"]
 ORIGINS = ["package", "self", "super"]
 ENTRY_POINTS = ["vertex", "fragment", "compute"]
-NAMELESS = ["void", "assert"]
 
 
 class ProjectFault(Exception):
@@ -32,17 +31,9 @@ class Module:
     def declarations(self):
         return self.unit.get("declarations", [])
 
-    def is_told_by_names(self):
-        """Whether a link that loads it lists one of its names, whatever the features are."""
-        return any("k" in one and one["k"] not in NAMELESS and not has_condition(one) for one in self.declarations())
-
 
 def words_of_attributes(tree):
     return [one if isinstance(one, str) else one["k"] for one in tree.get("attrs", [])]
-
-
-def has_condition(tree):
-    return any(word in ("if", "elif", "else") for word in words_of_attributes(tree))
 
 
 def read_json(file):
