@@ -5,7 +5,7 @@ import json
 import pathlib
 import sys
 
-from .link import TOP, Told, find_program, loaded_files, run, text_of
+from .link import TOP, Told, clash_notes, find_program, loaded_files, origin, run, text_of
 from .printer import NoText, is_identifier, print_unit
 from .project import Project, ProjectFault
 from .source import SyntaxFault
@@ -19,8 +19,8 @@ in it, is `package`. Where PROJECT is a file, its folder is taken, and the file 
 --root says otherwise, and its entry points are kept unless --keep does. A file project.json in the folder may say `root`, `keep`,
 `packages` (in the folder `packages`) and `features` (sets of flags by name, for --set); the options here come before it.
 
-The reader follows WGSL's grammar with WESL's imports, paths and conditions. Each declaration is printed below a comment
-with its module, item, file and line. Nothing of this tool is proved."""
+The reader follows WGSL's grammar with WESL's imports, paths and conditions; a file that the link does not load may break it.
+Each declaration is printed below a comment with its module, item, file and line. Nothing of this tool is proved."""
 STATUS = """\
 status: 0 linked; 1 a fault, on standard error as FILE:LINE:COLUMN: error: TEXT; 2 wrong use; 3 printed, but the names clash, or
 one of them is no identifier, so that the text is not what the modules mean."""
@@ -83,17 +83,14 @@ def features_of(options, project):
 
 def comments_of(project, root, answer):
     """What `print_unit` asks for: module, item, file and line of a declaration."""
-    names = {name: tuple(symbol) for name, symbol in answer["map"].items()}
-
     def comment(tree):
         if "name" not in tree:
             return []
-        path, item = names.get(tree["name"], (root, tree["name"]))
-        module = project.module_at(path)
-        if module is None or "span" not in tree:
-            return [f"{path}::{item}"]
+        module, item = origin(project, root, answer, tree)
+        if module is None:
+            return ["::".join(answer["map"].get(tree["name"], [root, item]))]
         line = module.source.line_and_column(module.source.index(tree["span"][0]))[0]
-        return [f"{path}::{item}, {module.shown}:{line}"]
+        return [f"{module.path}::{item}, {module.shown}:{line}"]
 
     return comment
 
@@ -106,10 +103,10 @@ def warnings_of(answer):
     """What keeps the text from being what the modules mean."""
     found = []
     if answer["clash"]:
-        found.append("the printed names clash: the text does not mean what the modules do; take another --mangler, or rename")
+        found.append("warning: the printed names clash: the text does not mean what the modules do; take another --mangler, or rename")
     wrong = [name for name in declared_names(answer["unit"]) if not is_identifier(name)]
     if wrong:
-        found.append(f"`{wrong[0]}` is no identifier, so that the text is no WGSL; take --mangler escape")
+        found.append(f"warning: `{wrong[0]}` is no identifier, so that the text is no WGSL; take --mangler escape")
     return found
 
 
@@ -168,8 +165,8 @@ def linked(options, project, root, bundle):
         target = options.output or options.depfile.with_suffix("")
         options.depfile.write_text(rule(target, loaded_files(program, project, bundle)), encoding="utf-8")
     warnings = warnings_of(answer)
-    for one in warnings:
-        print(f"{options.project}: warning: {one}", file=sys.stderr)
+    for one in warnings + (clash_notes(project, root, answer) if answer["clash"] else []):
+        print(one, file=sys.stderr)
     return 3 if warnings else 0
 
 
@@ -182,7 +179,7 @@ def work(options):
         return linked(options, project, root, bundle)
     wrong = [one.fault for one in project.all_modules() if one.fault is not None]
     for one in wrong:
-        print(one, file=sys.stderr)
+        print(one.told(), file=sys.stderr)
     if not wrong:
         write(options, text_of(bundle).decode("utf-8", "surrogatepass"))
     return 1 if wrong else 0
@@ -196,5 +193,5 @@ def main(arguments=None):
     except (ProjectFault, NoText, OSError) as fault:
         print(f"wesl-text: {fault}", file=sys.stderr)
     except SyntaxFault as fault:
-        print(fault, file=sys.stderr)
+        print(fault.told(), file=sys.stderr)
     return 1

@@ -182,6 +182,8 @@ def tokens(source):
             found.append(Token("symbol", "<T" if begin in opened else "T>", begin, scan.at))
             continue
         symbol = next((one for one in SYMBOLS if scan.text.startswith(one, begin)), None)
+        if symbol is None and scan.text[begin] == "\ufeff":
+            raise scan.fault(begin, "a byte order mark, which WGSL does not take; save the file without")
         if symbol is None:
             raise scan.fault(begin, f"the character `{scan.text[begin]}` (U+{ord(scan.text[begin]):04X}) begins no token")
         scan.at += len(symbol)

@@ -6,7 +6,7 @@ import pathlib
 import shutil
 import subprocess
 
-from .places import binders_of, places_of_name, places_that_ask, reachable
+from .places import binders_of, local_names, places_of_calls, places_of_name, places_that_ask, reachable
 from .project import ProjectFault
 
 TOP = pathlib.Path(__file__).resolve().parent.parent.parent
@@ -30,7 +30,7 @@ TEXTS = {
     "UndefinedSymbol": "nothing declares `{0}`",
     "Duplicate": "`{0}` is declared twice",
     "NotCallable": "`{0}` is called, and is no function and no type",
-    "ParamCount": "`{0}` takes {1}, and is called with {2}",
+    "ParamCount": "`{0}` is called with the wrong number of arguments, {2}; it takes {1}",
     "Cycle": "`{0}` needs itself, by way of `{1}`",
     "Memory": "there was no memory",
     "NotJson": "the bundle is nested more than 127 levels deep",
@@ -100,7 +100,7 @@ class Told:
     def lines(self):
         module = self.project.module_at(self.fault.get("module", ""))
         if self.name == "BadTree" and module is not None and module.fault is not None:
-            return [str(module.fault)]
+            return [module.fault.told()]
         text = TEXTS.get(self.name, self.name).format(*self.args)
         if module is not None and self.fault.get("span"):
             return self.place("error", module, self.fault["span"], text)
@@ -134,6 +134,12 @@ class Told:
     def places_of_printed(self, among):
         """Where a name of the linked unit is declared, and where it is used, by the names that the modules print under."""
         printed = self.args[0]
+        if self.name in ("ParamCount", "NotCallable"):
+            count = int(self.args[2]) if self.name == "ParamCount" else None
+            for module in among:
+                for one in module.declarations():
+                    if one.get("name") and printed in (one["name"], *printed_names(module.path, one["name"])):
+                        yield from places_of_calls(among, (module.path, one["name"]), count)
         for module in among:
             for one in module.declarations():
                 if one.get("name") and printed in (one["name"], *printed_names(module.path, one["name"])):
@@ -143,11 +149,48 @@ class Told:
 
     def deep(self, text):
         for module in self.modules:
-            outside = 4 if module.path.startswith("package") else 5 + 2 * module.path.count("::") + 2 * module.path.count("/")
+            is_own = module.path.split("::")[0] == "package"
+            outside = 4 if is_own else 4 + 2 * (module.path.count("::") + module.path.count("/"))
             span = too_deep(module.unit, outside, [0, 0])
             if span is not None:
                 return self.place("error", module, span, f"{text} here: each operation, each pair of parentheses and each block counts")
         return [f"{self.project.folder}: error: {text}"]
+
+
+def origin(project, root, answer, tree):
+    """The module and the item of a declaration of the linked unit; the module is None where it cannot be told.
+
+    Where two modules print one name, the map has one of them, so that the place in the source decides.
+    """
+    path, item = answer["map"].get(tree["name"], (root, tree["name"]))
+    modules = sorted(project.all_modules(), key=lambda module: module.path != path)
+    for module in modules:
+        wanted = item if module.path == path else tree["name"]
+        if any(one.get("name") == wanted and one.get("span") == tree.get("span") for one in module.declarations()):
+            return module, wanted
+    return None, item
+
+
+def clash_notes(project, root, answer):
+    """The likely reasons of a clash: a local name that is a printed one, a name of the root that is built in, a name printed twice."""
+    declared = [one for one in answer["unit"].get("declarations", []) if "name" in one]
+    names = [one["name"] for one in declared]
+    built_in = set(json.loads((TOP / "docs/wgsl_builtins.json").read_text(encoding="utf-8"))["names"])
+    found = []
+    for one in declared:
+        module, item = origin(project, root, answer, one)
+        if module is None:
+            continue
+        place = module.source.at_offset(one["span"][0])
+        if one["name"] in built_in:
+            found.append(f"{place}: note: `{item}` is the name of something that is built in, which other modules may use")
+        if names.count(one["name"]) > 1:
+            found.append(f"{place}: note: `{one['name']}` is what this is printed as, and something else too")
+        for local, span in local_names(one) if one["k"] == "fn" else ():
+            if local in answer["map"] and names.count(local) == 1:
+                other = "::".join(answer["map"][local])
+                found.append(f"{module.source.at_offset(span[0])}: note: `{local}` is a local name here, and what `{other}` is printed as")
+    return found[:MOST_NOTES]
 
 
 def escaped(name):

@@ -74,6 +74,45 @@ def places_that_ask(modules, is_asked):
                 yield module, span
 
 
+def calls_of(tree, span):
+    """Each call in a tree: what is called, with how many arguments, and the span round it."""
+    if isinstance(tree, list):
+        for one in tree:
+            yield from calls_of(one, span)
+    elif isinstance(tree, dict):
+        span = tree.get("span", span)
+        if "ty" in tree and "name" not in tree:
+            yield tree["ty"], len(tree.get("args", [])), span
+        for value in tree.values():
+            yield from calls_of(value, span)
+
+
+def places_of_calls(modules, symbol, count):
+    """The places where a module calls an item, by its own name, by an import's or by a path, with so many arguments."""
+    for module in modules:
+        own = {symbol[1]} if module.path == symbol[0] else set()
+        names = own | {bound for path, item, bound, _ in imports_of(module) if (path, item) == symbol}
+        for ty, args, span in calls_of(module.unit.get("declarations", []), [0, 0]):
+            called = {"name": ty} if isinstance(ty, str) else ty
+            is_meant = called["name"] in names if "path" not in called else (joined(called["path"], module.path), called["name"]) == symbol
+            if is_meant and count in (None, args):
+                yield module, span
+
+
+def local_names(tree):
+    """The names that a function declares, parameters too, each with the span round it."""
+    left = [(tree, tree.get("span", [0, 0]))]
+    while left:
+        value, span = left.pop()
+        if isinstance(value, list):
+            left += [(one, span) for one in value]
+        elif isinstance(value, dict):
+            span = value.get("span", span)
+            if value is not tree and "name" in value and ("ty" in value or "init" in value) and value.get("k") != "call":
+                yield value["name"], span
+            left += [(one, span) for one in value.values()]
+
+
 def places_of_name(modules, wanted):
     """The places where a name without a path is used."""
     for module in modules:

@@ -1,5 +1,6 @@
 """Texts of shaders and the places in them."""
 
+MOST_SHOWN = 300  # characters of a line that is shown
 LINE_BREAKS = "\n\v\f\r\x85\u2028\u2029"
 
 
@@ -12,6 +13,11 @@ class SyntaxFault(Exception):
 
     def __str__(self):
         return f"{self.source.at(self.index)}: error: {self.message}"
+
+    def told(self):
+        """The fault, and below it the line in which it stands, with a mark."""
+        offset = self.source.offset(self.index)
+        return "\n".join(filter(None, [str(self), self.source.shown(offset, offset)]))
 
 
 class Source:
@@ -63,12 +69,12 @@ class Source:
         first, last = self.index(start), self.index(end)
         line, column = self.line_and_column(first)
         begin = self.line_starts[line - 1]
-        text = self.text[begin:].splitlines()[:1]
-        if not text:
+        text = next(iter(self.text[begin:].splitlines()), "")
+        if len(text) > MOST_SHOWN:
             return ""
-        covered = max(1, min(last, begin + len(text[0])) - first)
-        pad = "".join("\t" if char == "\t" else " " for char in text[0][:column - 1])
-        return f"    {text[0]}\n    {pad}{'^' * covered}"
+        covered = max(1, min(last, begin + len(text)) - first)
+        pad = "".join("\t" if char == "\t" else " " for char in text[:column - 1])
+        return f"    {text}\n    {pad}{'^' * covered}"
 
 
 def read_source(path, name=None):
