@@ -102,6 +102,8 @@ class Told:
         if self.name == "BadTree" and module is not None and module.fault is not None:
             return [module.fault.told()]
         text = TEXTS.get(self.name, self.name).format(*self.args)
+        if self.name == "ModuleNotFound" and self.args[1].startswith("dependency"):
+            text += "; give a package by --package NAME=FOLDER, one that another package uses by --package OTHER/NAME=FOLDER"
         if module is not None and self.fault.get("span"):
             return self.place("error", module, self.fault["span"], text)
         if self.name == "NotJson":
