@@ -51,13 +51,12 @@ class Folder:
         self.modules = {}
         if not folder.is_dir():
             raise ProjectFault(f"{folder}: no such folder")
-        for file in sorted(folder.rglob("*"), key=lambda file: (file.parts[:-1], file.stem, ENDINGS.index(file.suffix) if file.suffix in ENDINGS else 9)):
+        found = [file for file in folder.rglob("*") if file.suffix in ENDINGS and file.is_file()]
+        for file in sorted(found, key=lambda file: (file.parts[:-1], file.stem, ENDINGS.index(file.suffix))):
             inside = file.relative_to(folder).parts
-            if file.suffix not in ENDINGS or not file.is_file() or any(one.startswith(".") for one in inside):
-                continue
-            if any(left in file.resolve().parents for left in left_out):
-                continue
-            self.add(file, (*inside[:-1], file.stem), shown_from or folder)
+            is_hidden = any(one.startswith(".") for one in inside)
+            if not is_hidden and not any(left in file.resolve().parents for left in left_out):
+                self.add(file, (*inside[:-1], file.stem), shown_from or folder)
 
     def add(self, file, components, shown_from):
         if len(components) == 1 and components[0] in ROOT_FILES:
