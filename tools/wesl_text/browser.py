@@ -24,13 +24,35 @@ async function judge(device, unit) {
     }
     return found;
 }
+async function results(device, unit) {
+    const shader = device.createShaderModule({code: unit.text});
+    const pipeline = await device.createComputePipelineAsync({layout: "auto", compute: {module: shader, entryPoint: unit.run.entry}});
+    const size = 4096, use = GPUBufferUsage;
+    const data = device.createBuffer({size, usage: use.STORAGE | use.COPY_SRC | use.COPY_DST});
+    device.queue.writeBuffer(data, 0, new Uint32Array(unit.run.input));
+    const group = device.createBindGroup({layout: pipeline.getBindGroupLayout(0), entries: [{binding: 0, resource: {buffer: data}}]});
+    const encoder = device.createCommandEncoder();
+    const pass = encoder.beginComputePass();
+    pass.setPipeline(pipeline);
+    pass.setBindGroup(0, group);
+    pass.dispatchWorkgroups(1);
+    pass.end();
+    const copy = device.createBuffer({size, usage: use.MAP_READ | use.COPY_DST});
+    encoder.copyBufferToBuffer(data, 0, copy, 0, size);
+    device.queue.submit([encoder.finish()]);
+    await copy.mapAsync(GPUMapMode.READ);
+    return [...new Uint32Array(copy.getMappedRange())];
+}
 async function all() {
-    const told = {messages: {}};
+    const told = {messages: {}, results: {}};
     try {
         const adapter = await navigator.gpu.requestAdapter();
         told.adapter = `${adapter.info.vendor} ${adapter.info.architecture}`;
         const device = await adapter.requestDevice({requiredFeatures: [...adapter.features]});
-        for (const unit of await (await fetch("/units")).json()) told.messages[unit.name] = await judge(device, unit);
+        for (const unit of await (await fetch("/units")).json()) {
+            const found = told.messages[unit.name] = await judge(device, unit);
+            if (unit.run && !found.some(one => one.type === "error")) told.results[unit.name] = await results(device, unit);
+        }
     } catch (fault) {
         told.fault = String(fault);
     }
@@ -70,8 +92,8 @@ class BrowserFault(Exception):
 
 
 def judged(browser, units):
-    """What the compiler says of each unit (`name`, `text`, and the names of its entry points of `compute`): its messages by the name,
-    and which adapter it was."""
+    """What the compiler says of each unit (`name`, `text`, the names of its entry points of `compute`, and perhaps a `run`): its
+    `messages` by the name, what the buffer at group 0, binding 0 holds after the run in `results`, and the `adapter`."""
     server = http.server.ThreadingHTTPServer(("127.0.0.1", 0), Served)
     server.units, server.told, server.done = units, None, threading.Event()
     threading.Thread(target=server.serve_forever, daemon=True).start()

@@ -8,9 +8,11 @@ from .link import TOP
 class Case:
     """One link of a project: its name, the feature set and the mangler in words, and its bundle."""
 
-    def __init__(self, name, features, mangler, root, bundle, marked):
+    def __init__(self, name, features, mangler, root, bundle, described):
         self.name, self.features, self.mangler = name, features, mangler
-        self.root, self.bundle, self.marked = root, bundle, marked
+        self.root, self.bundle = root, bundle
+        self.marked = described.get("not_compiling", {}).get(name)
+        self.results, self.input = described.get("run", {}).get(name), described.get("run_input", [])
 
 
 def builtins():
@@ -31,9 +33,8 @@ def case_of(project, name, options):
     more = {key: value for key, value in options.items() if key in ("mangle_root", "eager", "max_modules")}
     if options.get("validate", True):
         more["builtins"] = builtins()
-    marked = described.get("not_compiling", {}).get(name)
     shown = chosen if chosen is not None else "unjudged" if "features" in options else "none named"
-    return Case(name, shown, mangler, root, project.bundle(root, keep, features, mangler=mangler, **more), marked)
+    return Case(name, shown, mangler, root, project.bundle(root, keep, features, mangler=mangler, **more), described)
 
 
 def cases_of(project):
