@@ -115,11 +115,16 @@ class Told:
         lines = self.place("error", *places[0], text)
         for one in places[1:MOST_NOTES]:
             lines += self.place("note", *one, "and here")
+        if self.name == "UndefinedSymbol":
+            for module in self.modules:
+                for one in binders_of(module, self.args[0]):
+                    lines += self.place("note", *one, f"`{module.path}` has something of this name, which is not imported there")
         return lines
 
     def places(self):
         """The likely places of a fault that has none in its line."""
-        among = [one for one in self.modules if one.path in reachable(self.root, self.modules)]
+        paths = reachable(self.root, self.modules)
+        among = [one for one in self.modules if one.path in paths]
         if self.name in ("MissingDecl", "Private"):
             path, name = self.args if self.name == "MissingDecl" else self.args[::-1]
             return places_that_ask(among, lambda *one: one == (path, name))
@@ -129,25 +134,23 @@ class Told:
             return (place for one in among if one.path == self.fault.get("module") for place in binders_of(one, self.args[0]))
         if self.name == "AmbiguousSymbol":
             return (place for one in among for place in binders_of(one, self.args[0]) if len(list(binders_of(one, self.args[0]))) > 1)
-        if self.name in ("UndefinedSymbol", "NotCallable", "ParamCount", "Cycle", "Duplicate"):
+        if self.name == "UndefinedSymbol":
+            return places_of_name([one for one in among if not any(binders_of(one, self.args[0]))], self.args[0])
+        if self.name in ("NotCallable", "ParamCount", "Cycle", "Duplicate"):
             return self.places_of_printed(among)
         return ()
 
     def places_of_printed(self, among):
-        """Where a name of the linked unit is declared, and where it is used, by the names that the modules print under."""
+        """Where what is printed under a name is called, where calls are at fault, and where it is declared."""
         printed = self.args[0]
+        declared = [(module, one) for module in among for one in module.declarations()
+                    if "name" in one and printed in (one["name"], *printed_names(module.path, one["name"]))]
         if self.name in ("ParamCount", "NotCallable"):
             count = int(self.args[2]) if self.name == "ParamCount" else None
-            for module in among:
-                for one in module.declarations():
-                    if one.get("name") and printed in (one["name"], *printed_names(module.path, one["name"])):
-                        yield from places_of_calls(among, (module.path, one["name"]), count)
-        for module in among:
-            for one in module.declarations():
-                if one.get("name") and printed in (one["name"], *printed_names(module.path, one["name"])):
-                    yield module, one["span"]
-        if self.name != "Duplicate":
-            yield from places_of_name(among, printed)
+            for module, one in declared:
+                yield from places_of_calls(among, (module.path, one["name"]), count)
+        for module, one in declared:
+            yield module, one["span"]
 
     def deep(self, text):
         for module in self.modules:
