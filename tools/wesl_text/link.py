@@ -53,7 +53,7 @@ def find_program(named=None):
             return str(one)
     found = shutil.which("wesl-link")
     if found is None:
-        raise ProjectFault("the program wesl-link is not there; ./build --unproved makes one in four minutes, or name one by --linker")
+        raise ProjectFault("the program wesl-link is not there; ./build --unproved makes one in a few minutes, or name one by --linker")
     return found
 
 
