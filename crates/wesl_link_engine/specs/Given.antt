@@ -1,6 +1,7 @@
 -- Names that are given to symbols (WESL, "NameMangling").
-use Rattle.std.specs.Prelude.{◌≡◌, Option, Some, None}
+use Rattle.std.specs.Prelude.{◌≡◌, ℕ, Option, Some, None, List}
 use Rattle.wesl_tree_names.specs.Path.{Text}
+use Rattle.wesl_tree_syntax.specs.Tree.{Tree}
 use Rattle.wesl_link_symbols.specs.declared.ids.PathId.{PathId}
 use Rattle.wesl_tree_base.specs.declared.ids.NameId.{NameId}
 use Rattle.wesl_link_symbols.specs.declared.symbols.Symbol.{Symbol}
@@ -36,3 +37,11 @@ AreNamed numbering t = (n : NameId) → Declares t n → (x : Text) × NameAt nu
 abbrev pub GivesNames : Numbering → (Text → Text) → Table PathId NameId → Given → Given → Type 0
 GivesNames numbering name_of t old new =
     (n : NameId) (x : Text) → Declares t n → NameAt numbering n x → GivesName (name_of x) (record { path = t.path; name = n }) old new
+
+-- the name of each variant of an item, by the names of a table, the item, the variant's number and its types
+abbrev pub VariantNames : Type 0
+VariantNames = List Text → Text → ℕ → List Tree → Option Text
+
+-- each variant has the name that it had
+abbrev pub SameVariants : VariantNames → VariantNames → Type 0
+SameVariants old new = (names : List Text) (item : Text) (number : ℕ) (types : List Tree) → new names item number types ≡ old names item number types

@@ -29,6 +29,6 @@ module _ (hands : Path → UnitOf Text → Type 0) (refuses : Path → ResolveEr
   abbrev pub RefusesRoot : Diagnostic → Type 0
   RefusesRoot d = TellsFault (out-Diagnostic d).error
 
-  -- no fault can stand in a world of the root
+  -- no fault can stand in a world of the root, but that the resolver wants memory
   abbrev pub IsFaultlessRoot : Type 0
   IsFaultlessRoot = IsFaultless hands refuses (module_at path unit) (task_of (module_at path unit) keep is_eager) limit

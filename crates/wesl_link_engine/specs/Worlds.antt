@@ -3,11 +3,12 @@ use Rattle.std.specs.Prelude.{◌≡◌, ◌⊎◌, ◌↔◌, ℕ, ◌+◌, len
 use Rattle.std.specs.List.{AllAdjacentBelow}
 use Rattle.wesl_tree_names.specs.Path.{Text, Path, is_relative}
 use Rattle.wesl_tree_names.specs.PathOrder.{path_before}
+use Rattle.wesl_tree_names.specs.declared.errors.ResolveError as resolve_error
 use Rattle.wesl_tree_syntax.specs.Unit.{UnitOf}
 use Rattle.wesl_link_symbols.specs.declared.symbols.Symbol.{Symbol}
 use Rattle.wesl_link_symbols.specs.Tables.{Table}
 use Rattle.wesl_link_reach.specs.World.{Task, Entered, Reached}
-use Rattle.wesl_link_reach.specs.Faults.{Fault, Stands, AreDistinct}
+use Rattle.wesl_link_reach.specs.Faults.{Fault, refused, Stands, AreDistinct}
 use Rattle.wesl_link_tables.specs.Tables.{table_at}
 
 -- a unit that stands at a path
@@ -32,6 +33,10 @@ pub record IsWorld (hands : Path → UnitOf Text → Type 0) (root : Module) (w 
 abbrev pub task_of : Module → List Text → Bool → Task Path Text
 task_of root keep is_eager = record { root = root.path; kept = keep; is_eager = is_eager }
 
+-- as many were taken as there are modules and reached symbols, each counted once
+abbrev pub TakesTurns : List Module → Task Path Text → ℕ → Type 0
+TakesTurns w task taken = (ss : List (Symbol Path Text)) × AreDistinct ss × ((s : Symbol Path Text) → Contains ss s ↔ Reached (tables w) task s) × (taken ≡ length w + length ss)
+
 -- A link that succeeds: a world of exactly the entered paths, in which no fault stands. Each module and each reached symbol
 -- was taken once.
 pub record IsLinked {E : Type 0} (hands : Path → UnitOf Text → Type 0) (refuses : Path → E → Type 0) (root : Module) (task : Task Path Text) (limit taken : ℕ) (w : List Module) : Type 0 where
@@ -39,7 +44,7 @@ pub record IsLinked {E : Type 0} (hands : Path → UnitOf Text → Type 0) (refu
   pub once : AreDistinct (map (λ m. m.path) w)
   pub paths : (p : Path) → ((m : Module) × Contains w m × (m.path ≡ p)) ↔ Entered (tables w) task p
   pub no_fault : (fault : Fault Path Text E) → Stands refuses task limit (tables w) fault → ⊥
-  pub turns : (ss : List (Symbol Path Text)) × AreDistinct ss × ((s : Symbol Path Text) → Contains ss s ↔ Reached (tables w) task s) × (taken ≡ length w + length ss)
+  pub turns : TakesTurns w task taken
 
 -- the root first, and then the others, each before the next in path order
 abbrev pub IsModuleOrder : Module → List Module → Type 0
@@ -49,6 +54,7 @@ IsModuleOrder root w = (others : List Module) × (w ≡ root ∷ others) × AllA
 abbrev pub IsRefused : {E : Type 0} → (Path → UnitOf Text → Type 0) → (Path → E → Type 0) → Module → Task Path Text → ℕ → Fault Path Text E → Type 0
 IsRefused hands refuses root task limit fault = (w : List Module) × IsWorld hands root w × Stands refuses task limit (tables w) fault
 
--- no fault can stand, whatever is handed out
-abbrev pub IsFaultless : {E : Type 0} → (Path → UnitOf Text → Type 0) → (Path → E → Type 0) → Module → Task Path Text → ℕ → Type 0
-IsFaultless {E} hands refuses root task limit = (fault : Fault Path Text E) → IsRefused hands refuses root task limit fault → ⊥
+-- no fault can stand, whatever is handed out, but that the resolver wants memory
+abbrev pub IsFaultless : (Path → UnitOf Text → Type 0) → (Path → resolve_error.ResolveError → Type 0) → Module → Task Path Text → ℕ → Type 0
+IsFaultless hands refuses root task limit =
+    (fault : Fault Path Text resolve_error.ResolveError) → IsRefused hands refuses root task limit fault → fault ≡ refused resolve_error.Memory

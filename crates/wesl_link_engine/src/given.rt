@@ -5,7 +5,7 @@ ghost use Rattle.wesl_link_symbols.specs.declared.ids.PathId.{PathId};
 ghost use Rattle.wesl_tree_base.specs.declared.ids.NameId.{NameId};
 ghost use Rattle.wesl_link_symbols.specs.declared.symbols.Symbol as symbols;
 ghost use Rattle.wesl_link_tables.specs.TextsView.{numbering_of_texts as numbering};
-ghost use Rattle.wesl_link_engine.specs.Given.{AreNamed, GivesName, GivesNames, Keeps, KeepsOthers, KeepsUndeclared};
+ghost use Rattle.wesl_link_engine.specs.Given.{AreNamed, GivesName, GivesNames, Keeps, KeepsOthers, KeepsUndeclared, SameVariants};
 ghost use Rattle.wesl_link_engine.specs.Recording.{RecordsName, RecordsTable};
 
 use std::alloc::{AllocError, Global};
@@ -58,6 +58,7 @@ impl GivenNames {
         ensures others { (s : symbols.Symbol PathId NameId) → (s ≡ symbol → ⊥) → given self.new s ≡ given self.old s }
         ensures keeps { Keeps (given self.old) (given self.new) }
         ensures same { (p : Path) (i : Text) → M.name_of mangler.new p i ≡ M.name_of mangler.old p i }
+        ensures same_variants { SameVariants (M.variant_of mangler.old) (M.variant_of mangler.new) }
         ensures recorded { OnOk result (RecordsName M.writes (M.name_of mangler.old) path.now item.now (given self.old symbol) (M.recorded mangler.old) (M.recorded mangler.new)) }
     {
         if self.get(symbol).is_some() {
@@ -90,6 +91,7 @@ impl GivenNames {
         ensures undeclared { KeepsUndeclared table.now (given self.old) (given self.new) }
         ensures keeps { Keeps (given self.old) (given self.new) }
         ensures same { (p : Path) (i : Text) → M.name_of mangler.new p i ≡ M.name_of mangler.old p i }
+        ensures same_variants { SameVariants (M.variant_of mangler.old) (M.variant_of mangler.new) }
         ensures recorded { OnOk result (RecordsTable M.writes (M.name_of mangler.old) path.now numbers.now table.now self.old (M.recorded mangler.old) (M.recorded mangler.new)) }
     {
         for declaration in table.declarations() {

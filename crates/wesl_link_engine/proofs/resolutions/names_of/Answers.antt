@@ -1,4 +1,4 @@
-use Rattle.std.proofs.Common.{◌≡◌, [], Bool, true, false, List, Contains, sym, subst, ◌∙◌, rules}
+use Rattle.std.proofs.Common.{◌≡◌, [], Bool, true, false, List, Contains, refl, sym, subst, ◌∙◌, rules}
 use Rattle.std.proofs.lemmas.List.{take_all}
 use Rattle.wesl_link_symbols.proofs.Lists.{contains_first, contains_later}
 use Rattle.wesl_link_tables.specs.TextsView.{numbering_of_texts as numbering}
@@ -33,18 +33,24 @@ loop-module-init g c =
           let is : c.args.mangle_root ≡ true = search rules in
           let t = w.table_at-table.result.now in
           let new = w.add_table.new in
-          rw (w.mangler-is, w.given-is) (subst (λ (b : Bool). Mangles l b f writes start [] (given new.self) (g.M.Mangler.name_of new.mangler) (g.M.Mangler.recorded new.mangler)) (sym is)
-          (begins_root l f writes old (given new.self) (λ p n. c.new-given.ensures (record { path = p; name = n })) (g.M.Mangler.name_of new.mangler) w.add_table.ensures.same start (g.M.Mangler.recorded new.mangler) (record {
-            t = t;
-            numbered = numbered_there l c.requires.sound l.root (contains_first l.root l.others.items) t w.table_at-table.ensures;
-            gives = w.in_ok-add_table.ensures.given;
-            others = w.add_table.ensures.others;
-            keeps = w.add_table.ensures.keeps;
-            wrote = w.in_ok-add_table.ensures.recorded;
-          })))
+          rw (w.mangler-is, w.given-is) (record {
+            mangles = subst (λ (b : Bool). Mangles l b f writes start [] (given new.self) (g.M.Mangler.name_of new.mangler) (g.M.Mangler.recorded new.mangler)) (sym is)
+                (begins_root l f writes old (given new.self) (λ p n. c.new-given.ensures (record { path = p; name = n })) (g.M.Mangler.name_of new.mangler) w.add_table.ensures.same start (g.M.Mangler.recorded new.mangler) (record {
+                  t = t;
+                  numbered = numbered_there l c.requires.sound l.root (contains_first l.root l.others.items) t w.table_at-table.ensures;
+                  gives = w.in_ok-add_table.ensures.given;
+                  others = w.add_table.ensures.others;
+                  keeps = w.add_table.ensures.keeps;
+                  wrote = w.in_ok-add_table.ensures.recorded;
+                }));
+            same_variants = w.add_table.ensures.same_variants;
+          })
       | else-mangle_root w ↦
           let is : c.args.mangle_root ≡ false = search rules in
-          rw (w.mangler-is, w.given-is) (subst (λ (b : Bool). Mangles l b f writes start [] old f start) (sym is) (begins l f writes old (λ p n. c.new-given.ensures (record { path = p; name = n })) start))
+          rw (w.mangler-is, w.given-is) (record {
+            mangles = subst (λ (b : Bool). Mangles l b f writes start [] old f start) (sym is) (begins l f writes old (λ p n. c.new-given.ensures (record { path = p; name = n })) start);
+            same_variants = λ ns i n ts. refl;
+          })
     ]
 
 pub table_at-table-requires-in-loop-module : goal.table_at-table-requires-in-loop-module
@@ -72,26 +78,32 @@ loop-module-preserved g c =
     let new = c.add_table-in-loop-module.new in
     let inside : Contains (all_loaded l) m =
     contains_later l.root m l.others.items (subst (λ (ms : List LoadedModule). Contains ms m) c.deref-module-items.ensures.value (item_held c.deref-module-items.result.now c.loop-module.module-index m c.loop-module-test.true c.module-item.is)) in
-    goes_on l (g.M.Mangler.name_of c.args.mangler.now) g.M.Mangler.writes c.requires.sound.once c.args.mangle_root (g.M.Mangler.recorded c.args.mangler.now)
-    c.deref-module-items.result.now c.deref-module-items.ensures.value c.loop-module.module-index m c.loop-module-test.true c.module-item.is
-    (given c.loop-module.given) (given new.self) (g.M.Mangler.name_of now) (g.M.Mangler.name_of new.mangler) c.add_table-in-loop-module.ensures.same (g.M.Mangler.recorded now) (g.M.Mangler.recorded new.mangler) (record {
-      t = t;
-      numbered = numbered_there l c.requires.sound m inside t c.table_at-table-in-loop-module.ensures;
-      gives = c.in_ok-add_table-2.ensures.given;
-      others = c.add_table-in-loop-module.ensures.others;
-      keeps = c.add_table-in-loop-module.ensures.keeps;
-      wrote = c.in_ok-add_table-2.ensures.recorded;
-    }) c.loop-module.invariant
+    record {
+      mangles = goes_on l (g.M.Mangler.name_of c.args.mangler.now) g.M.Mangler.writes c.requires.sound.once c.args.mangle_root (g.M.Mangler.recorded c.args.mangler.now)
+          c.deref-module-items.result.now c.deref-module-items.ensures.value c.loop-module.module-index m c.loop-module-test.true c.module-item.is
+          (given c.loop-module.given) (given new.self) (g.M.Mangler.name_of now) (g.M.Mangler.name_of new.mangler) c.add_table-in-loop-module.ensures.same (g.M.Mangler.recorded now) (g.M.Mangler.recorded new.mangler) (record {
+            t = t;
+            numbered = numbered_there l c.requires.sound m inside t c.table_at-table-in-loop-module.ensures;
+            gives = c.in_ok-add_table-2.ensures.given;
+            others = c.add_table-in-loop-module.ensures.others;
+            keeps = c.add_table-in-loop-module.ensures.keeps;
+            wrote = c.in_ok-add_table-2.ensures.recorded;
+          }) c.loop-module.invariant.mangles;
+      same_variants = λ ns i n ts. c.add_table-in-loop-module.ensures.same_variants ns i n ts ∙ c.loop-module.invariant.same_variants ns i n ts;
+    }
 
 pub returns-clause-given : goal.returns-clause-given
 returns-clause-given g c =
     ends c.args.link.now (g.M.Mangler.name_of c.args.mangler.now) g.M.Mangler.writes c.requires.sound.once c.args.mangle_root (g.M.Mangler.recorded c.args.mangler.now) _
-    (take_all c.loop-module.module-index c.deref-module-items.result.now c.loop-module-test.false ∙ c.deref-module-items.ensures.value) (given c.loop-module.given) (g.M.Mangler.name_of c.loop-module.mangler) (g.M.Mangler.recorded c.loop-module.mangler) c.loop-module.invariant
+    (take_all c.loop-module.module-index c.deref-module-items.result.now c.loop-module-test.false ∙ c.deref-module-items.ensures.value) (given c.loop-module.given) (g.M.Mangler.name_of c.loop-module.mangler) (g.M.Mangler.recorded c.loop-module.mangler) c.loop-module.invariant.mangles
 
 pub returns-clause-recorded : goal.returns-clause-recorded
 returns-clause-recorded g c =
     ends_recorded c.args.link.now (g.M.Mangler.name_of c.args.mangler.now) g.M.Mangler.writes c.requires.sound.once c.args.mangle_root (g.M.Mangler.recorded c.args.mangler.now) _
-    (take_all c.loop-module.module-index c.deref-module-items.result.now c.loop-module-test.false ∙ c.deref-module-items.ensures.value) (given c.loop-module.given) (g.M.Mangler.name_of c.loop-module.mangler) (g.M.Mangler.recorded c.loop-module.mangler) c.loop-module.invariant
+    (take_all c.loop-module.module-index c.deref-module-items.result.now c.loop-module-test.false ∙ c.deref-module-items.ensures.value) (given c.loop-module.given) (g.M.Mangler.name_of c.loop-module.mangler) (g.M.Mangler.recorded c.loop-module.mangler) c.loop-module.invariant.mangles
 
 pub returns-clause-same : goal.returns-clause-same
-returns-clause-same g c = c.loop-module.invariant.same
+returns-clause-same g c = c.loop-module.invariant.mangles.same
+
+pub returns-clause-same_variants : goal.returns-clause-same_variants
+returns-clause-same_variants g c = c.loop-module.invariant.same_variants

@@ -31,6 +31,7 @@ loop-declaration-preserved g c =
                 (recording.texts_of (numbering c.args.numbers.now) c.args.table.now c.requires.numbered _ c.loop-declaration.declaration-index c.declarations-declaration-items.ensures)
                 _ _ c.loop-declaration.invariant.names _ _ _ (c.loop-declaration.invariant.same _ _) w.in_ok-add_name.ensures.recorded (c.loop-declaration.invariant.recorded none);
             same = λ p i. w.in_ok-add_name.ensures.same p i ∙ c.loop-declaration.invariant.same p i;
+            same_variants = λ ns i n ts. w.in_ok-add_name.ensures.same_variants ns i n ts ∙ c.loop-declaration.invariant.same_variants ns i n ts;
           })
       | in_default w ↦
           rw (w.self-is, w.mangler-is) (record {
@@ -39,6 +40,7 @@ loop-declaration-preserved g c =
                 recording.more_unnamed (numbering c.args.numbers.now) c.args.numbers.now.names.different (g.M.Mangler.name_of c.args.mangler.now) (path_view c.args.path.now) c.args.table.now.path g.M.Mangler.writes (g.M.Mangler.recorded c.args.mangler.now) (given c.args.self.now) none
                 _ _ _ c.loop-declaration-test.true c.declaration-item.is _ w.in_default.ensures (c.loop-declaration.invariant.recorded none);
             same = c.loop-declaration.invariant.same;
+            same_variants = c.loop-declaration.invariant.same_variants;
           })
     ]
 
@@ -52,7 +54,7 @@ returns-clause-recorded g c = λ none x.
     (take_all c.loop-declaration.declaration-index _ c.loop-declaration-test.false ∙ c.declarations-declaration-items.ensures)
 
 pub loop-declaration-init : goal.loop-declaration-init
-loop-declaration-init g c = record { names = names_none (numbering c.args.numbers.now) (g.M.Mangler.name_of c.args.mangler.now (path_view c.args.path.now)) c.args.table.now.path (given c.args.self.now); recorded = λ none x. refl; same = λ p i. refl }
+loop-declaration-init g c = record { names = names_none (numbering c.args.numbers.now) (g.M.Mangler.name_of c.args.mangler.now (path_view c.args.path.now)) c.args.table.now.path (given c.args.self.now); recorded = λ none x. refl; same = λ p i. refl; same_variants = λ ns i n ts. refl }
 
 pub returns-clause-undeclared : goal.returns-clause-undeclared
 returns-clause-undeclared g c = undeclared_stay _ _ c.args.table.now _ _ _ _ c.declarations-declaration-items.ensures c.loop-declaration.invariant.names
@@ -70,3 +72,6 @@ returns-in_err-add_name-clause-others g c = λ s no. c.add_name.ensures.others s
 
 pub returns-in_err-add_name-clause-same : goal.returns-in_err-add_name-clause-same
 returns-in_err-add_name-clause-same g c = λ p i. c.add_name.ensures.same p i ∙ c.loop-declaration.invariant.same p i
+
+pub returns-in_err-add_name-clause-same_variants : goal.returns-in_err-add_name-clause-same_variants
+returns-in_err-add_name-clause-same_variants g c = λ ns i n ts. c.add_name.ensures.same_variants ns i n ts ∙ c.loop-declaration.invariant.same_variants ns i n ts

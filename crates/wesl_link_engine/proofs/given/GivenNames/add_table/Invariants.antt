@@ -1,6 +1,7 @@
 use Rattle.std.proofs.Common.{◌≡◌, take}
 use Rattle.wesl_tree_names.specs.Path.{Text, Path, path_view}
 use Rattle.wesl_link_tables.specs.TextsView.{numbering_of_texts as numbering}
+use Rattle.wesl_link_engine.specs.Given.{SameVariants}
 use Rattle.wesl_link_engine.specs.GivenView.{given}
 use Rattle.wesl_link_engine.specs.Recorded.{HasNone, all_written, writes_of, firsts, declared_texts}
 use Rattle.wesl_link_engine.proofs.Giving.{Names}
@@ -12,4 +13,5 @@ invariant-loop-declaration g l = record {
   recorded : HasNone l.table.path (given l.initial.self) → (x : Text) → g.M.Mangler.recorded l.mangler x
       ≡ all_written g.M.Mangler.writes (writes_of (g.M.Mangler.name_of l.initial.mangler) (path_view l.path) (firsts (declared_texts (numbering l.numbers) (take l.declaration-index l.declaration-items)))) (g.M.Mangler.recorded l.initial.mangler) x;
   same : (p : Path) (i : Text) → g.M.Mangler.name_of l.mangler p i ≡ g.M.Mangler.name_of l.initial.mangler p i;
+  same_variants : SameVariants (g.M.Mangler.variant_of l.initial.mangler) (g.M.Mangler.variant_of l.mangler);
 }
