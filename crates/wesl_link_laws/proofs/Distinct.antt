@@ -14,7 +14,7 @@ use Rattle.wesl_link_engine.specs.Linked.{Denotation}
 use Rattle.wesl_link_laws.specs.Apart.{OfLocalsAndFree, SpellsNoGlobal, SpellsNone}
 use Rattle.wesl_link_laws.proofs.Symbols.{IsHeldSymbol}
 
-not_so : {X : Type 0} (x y : X) → x ≢ y → x ≡ y → ⊥
+pub not_so : {X : Type 0} (x y : X) → x ≢ y → x ≡ y → ⊥
 not_so x y d e = d e
 
 module _ (w : List Module) (task : Task Path Text) (means : ℕ → Denotation) (all : List (Occurrence ℕ)) (globals : (o : Occurrence ℕ) → Contains all o → is_global o ≡ true → IsHeldSymbol w task (means o.name))

@@ -1,15 +1,14 @@
 -- What the names of a linked unit's module block stand for: symbols that the link reaches.
-use Rattle.std.proofs.Common.{◌≡◌, ◌⊎◌, inl, inr, ℕ, Bool, true, false, ◌&&◌, Some, List, [], ◌∷◌, map, Contains, refl, sym, subst}
+use Rattle.std.proofs.Common.{◌≡◌, ◌⊎◌, inl, inr, ℕ, Bool, true, false, ◌&&◌, Some, List, [], ◌∷◌, Contains, refl, subst}
 use Rattle.std.specs.Prelude.{bytes_eq}
 use Rattle.std.proofs.lemmas.List.Elements.{Contains-append_cases}
 use Rattle.std.proofs.lemmas.Slice.Eq.{bytes_eq-Decides}
 use Rattle.wesl_tree_names.specs.Path.{Text, Path}
 use Rattle.wesl_link_symbols.specs.Names.{Declares}
 use Rattle.wesl_link_reach.specs.World.{Task, Entered, Reached}
-use Rattle.wesl_link_reach.proofs.Lists.{map_contains}
 use Rattle.wesl_scope_occurrences.specs.Occurrences.{Block, Standing, module_name, parameter, local as local_name, reference, word, Occurrence, is_binder}
 use Rattle.wesl_scope_clash.specs.Faithful.{is_global}
-use Rattle.wesl_link_tables.specs.Tables.{name_of, declaration_of}
+use Rattle.wesl_link_tables.specs.Tables.{name_of}
 use Rattle.wesl_link_assembly.specs.Denotations.{symbol}
 use Rattle.wesl_link_engine.specs.Worlds.{Module, table, tables}
 use Rattle.wesl_link_engine.specs.Linked.{Denotation, Placed, IsHeldAs}

@@ -1,36 +1,41 @@
 //! Laws of linked units.
-ghost use Rattle.wesl_link_laws.specs.Laws.{LinkedIsCanonical, ApartIsFaithful, EscapedIsFaithful};
+ghost use Rattle.wesl_link_laws.specs.Laws.{LinkedIsCanonical, ApartIsFaithful, EscapedIsFaithful, ResolvedIsCanonical, ResolvedIsFaithful, MangledIsFaithful};
 
 use wesl_mangle_forms::escape_round_trip;
 use wesl_scope_clash::law_of_canonical_numbers;
 use wesl_scope_occurrences::{law_of_occurrences, law_of_ways};
 
-/// The unit of `Resolutions::assemble` is faithful exactly where its numbers are the canonical numbers of plain scoping on
-/// it: `retarget_idents` would then change none, and the unit printed, read again and retargeted has the same numbers.
-/// Each module of the link is entered, as the clauses of `resolve_lazy` and `resolve_eager` say.
+/// A linked unit is faithful exactly where its numbers are the canonical numbers of plain scoping on it: `retarget_idents`
+/// would then change none, and the unit printed, read again and retargeted has the same numbers. It speaks of the units of
+/// `Resolutions::assemble`, of `link_mapped` and of a bundle's line: each is the linked form of a link's modules, which are
+/// units of code, no path twice, each of them entered.
 pub fn law_of_canonical_links()
-    ensures { LinkedIsCanonical }
+    ensures linked { LinkedIsCanonical }
+    ensures resolved { ResolvedIsCanonical }
 {
     law_of_ways();
     law_of_occurrences();
     law_of_canonical_numbers();
 }
 
-/// The unit of `Resolutions::assemble` is faithful where binders of its module block that are spelled alike have one number,
-/// and no parameter, no local declaration and no free reference of it is spelled as one of them. Each module of the link
-/// is entered, as the clauses of `resolve_lazy` and `resolve_eager` say.
+/// A linked unit is faithful where binders of its module block that are spelled alike have one number, and no parameter, no
+/// local declaration and no free reference of it is spelled as one of them. It speaks of the same units.
 pub fn law_of_apart_names()
-    ensures { ApartIsFaithful }
+    ensures linked { ApartIsFaithful }
+    ensures resolved { ResolvedIsFaithful }
 {
     law_of_ways();
     law_of_occurrences();
 }
 
-/// A unit linked under the names of `EscapeMangler`, those of the root too, is faithful where `EscapeMangler::is_reversible`
-/// holds of every held symbol, and no parameter, no local declaration and no free reference of it is spelled as the mangled
-/// name of one. `before` is what `resolve_lazy` or `resolve_eager` answers, `after` what `Resolutions::mangle` leaves of it.
+/// A unit linked under the names of `EscapeMangler`, those of the root too, is faithful where each held symbol is read back
+/// from its escape name, and no parameter, no local declaration and no free reference of it is spelled as the escape name of
+/// one. It speaks of the same units. `escape_round_trip` says which symbols are read back: in the unit of a `Resolutions`
+/// those that `EscapeMangler::is_reversible` holds of. There `before` is what `resolve_lazy` or `resolve_eager` answers,
+/// `after` what `Resolutions::mangle` leaves of it.
 pub fn law_of_escape_names()
-    ensures { EscapedIsFaithful }
+    ensures linked { EscapedIsFaithful }
+    ensures mangled { MangledIsFaithful }
 {
     law_of_ways();
     law_of_occurrences();
