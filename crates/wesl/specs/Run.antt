@@ -1,8 +1,10 @@
--- What a run wrote, of what the reader had.
-use Rattle.std.specs.Prelude.{◌≡◌, ℕ, List, take, Option, Some, None}
+-- What a run wrote, of what the reader had, and why it ended.
+use Rattle.std.specs.Prelude.{◌≡◌, ℕ, List, take, Option, Some, None, Result, Ok, Err, Bool, true, false}
 use Rattle.std.specs.Io.KnownBytes.{Appends}
 use Rattle.wesl.specs.declared.program.Outcome.{Outcome}
 use Rattle.wesl.specs.declared.program.Outcome.TheVariants.{Linked, Refused}
+use Rattle.wesl.specs.declared.program.RunError.{RunError}
+use Rattle.wesl.specs.declared.program.RunError.TheVariants.{Input, Output}
 use Rattle.wesl_program.specs.Line.{IsAnswerLine, IsFaultLine}
 
 -- the line that an outcome has for these bytes
@@ -26,3 +28,15 @@ Wrote had old new outcome = (line : List ℕ) × IsLineFor had outcome line × A
 -- a beginning of that line was written, and nothing else
 abbrev pub WroteBeginning : Option (List ℕ) → Option (List ℕ) → Option (List ℕ) → Type 0
 WroteBeginning had old new = (outcome : Outcome) × (line : List ℕ) × (n : ℕ) × IsLineFor had outcome line × Appends old new (take n line)
+
+-- it ends with the error of a failed read
+abbrev pub ends_by_read : Result Outcome RunError → Bool
+ends_by_read (Ok outcome) = false
+ends_by_read (Err Input) = true
+ends_by_read (Err Output) = false
+
+-- it ends with the error of a write that failed or took no byte
+abbrev pub ends_by_write : Result Outcome RunError → Bool
+ends_by_write (Ok outcome) = false
+ends_by_write (Err Input) = false
+ends_by_write (Err Output) = true

@@ -1,12 +1,14 @@
 //! The program: the bytes of a bundle in, one line out.
-ghost use Rattle.std.specs.Prelude.{◌≡◌, Err, IfOk, IfErr, OnErr, true};
+ghost use Rattle.std.specs.Prelude.{◌≡◌, ◌||◌, Err, IfOk, IfErr, is_err};
 ghost use Rattle.wesl_program.specs.Made.{bytes_of};
-ghost use Rattle.wesl.specs.Run.{IsLine, IsLineFor, Wrote, WroteBeginning};
+ghost use Rattle.wesl_program.specs.Streams.{IsSameLoan, has_failed, inner};
+ghost use Rattle.wesl.specs.Run.{IsLine, IsLineFor, Wrote, WroteBeginning, ends_by_read, ends_by_write};
 
 use std::alloc::Global;
 use std::io::{Read, Write};
 use wesl_program::{
-    Failures, Line, ReadFault, answer_of_bytes, memory_line, read_whole, refusal_line, write_whole,
+    Line, NotedStream, ReadFault, answer_of_bytes, memory_line, read_whole, refusal_line,
+    write_whole,
 };
 
 /// What a line says: the linked unit, whether its names clash and what they stand for, or why there is none.
@@ -38,28 +40,30 @@ pub fn run<R: Read, W: Write>(
     ensures input { result ≡ Err RunError.Input → W.contents writer.new ≡ W.contents writer.old }
     ensures output { result ≡ Err RunError.Output → WroteBeginning (R.remaining reader.old) (W.contents writer.old) (W.contents writer.new) }
 {
-    let mut failures = Failures {
-        read: false,
-        write: false,
-    };
-    run_noting(alloc, reader, writer, &mut failures)
+    let mut reader = NotedStream::new(reader);
+    let mut writer = NotedStream::new(writer);
+    run_noting(alloc, &mut reader, &mut writer)
 }
 
-/// The same as `run`, and notes which calls of the reader and the writer failed: with an error one of that side did.
+/// The same as `run`, of a reader and a writer that note which of their calls failed.
+///
+/// Where nothing was noted before, the reader notes a failed read exactly with `RunError::Input`, and the writer a write that
+/// failed or took no byte exactly with `RunError::Output`.
 pub fn run_noting<R: Read, W: Write>(
     alloc: Global,
-    reader: &mut R,
-    writer: &mut W,
-    failures: &mut Failures,
+    reader: &mut NotedStream<'_, R>,
+    writer: &mut NotedStream<'_, W>,
 ) -> Result<Outcome, RunError>
-    ensures line { IfOk result (Wrote (R.remaining reader.old) (W.contents writer.old) (W.contents writer.new)) }
-    ensures input { result ≡ Err RunError.Input → W.contents writer.new ≡ W.contents writer.old }
-    ensures output { result ≡ Err RunError.Output → WroteBeginning (R.remaining reader.old) (W.contents writer.old) (W.contents writer.new) }
-    ensures read_failed { result ≡ Err RunError.Input → failures.new.read ≡ true }
-    ensures write_failed { result ≡ Err RunError.Output → failures.new.write ≡ true }
+    ensures line { IfOk result (Wrote (R.remaining (inner reader.old)) (W.contents (inner writer.old)) (W.contents (inner writer.new))) }
+    ensures input { result ≡ Err RunError.Input → W.contents (inner writer.new) ≡ W.contents (inner writer.old) }
+    ensures output { result ≡ Err RunError.Output → WroteBeginning (R.remaining (inner reader.old)) (W.contents (inner writer.old)) (W.contents (inner writer.new)) }
+    ensures read_failed { has_failed reader.new ≡ (has_failed reader.old || ends_by_read result) }
+    ensures write_failed { has_failed writer.new ≡ (has_failed writer.old || ends_by_write result) }
+    ensures same_reader { IsSameLoan reader.old reader.new }
+    ensures same_writer { IsSameLoan writer.old writer.new }
 {
-    let (outcome, line) = line_for(alloc, reader, failures)?;
-    if write_whole(writer, line.as_bytes(), failures) {
+    let (outcome, line) = line_for(alloc, reader)?;
+    if write_whole(writer, line.as_bytes()) {
         Ok(outcome)
     } else {
         Err(RunError::Output)
@@ -81,14 +85,14 @@ pub fn line_of_bytes(alloc: Global, bytes: &[u8]) -> (Outcome, Line)
 // The line of what the reader has.
 fn line_for<R: Read>(
     alloc: Global,
-    reader: &mut R,
-    failures: &mut Failures,
+    reader: &mut NotedStream<'_, R>,
 ) -> Result<(Outcome, Line), RunError>
-    ensures line { IfOk result (λ made. IsLineFor (R.remaining reader.old) made.0 (bytes_of made.1)) }
+    ensures line { IfOk result (λ made. IsLineFor (R.remaining (inner reader.old)) made.0 (bytes_of made.1)) }
     ensures error { IfErr result (λ e. e ≡ RunError.Input) }
-    ensures failed { OnErr result (failures.new.read ≡ true) }
+    ensures failed { has_failed reader.new ≡ (has_failed reader.old || is_err result) }
+    ensures same { IsSameLoan reader.old reader.new }
 {
-    match read_whole(alloc, reader, failures) {
+    match read_whole(alloc, reader) {
         Ok(bytes) => Ok(line_of_bytes(alloc, &bytes)),
         Err(ReadFault::Input) => Err(RunError::Input),
         Err(ReadFault::Memory) => Ok((Outcome::Refused, memory_line())),

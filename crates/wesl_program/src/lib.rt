@@ -23,5 +23,5 @@ mod whole_answer;
 
 pub use lines::{Line, memory_line, refusal_line};
 pub use refusal::Refusal;
-pub use streams::{Failures, ReadFault, read_whole, write_whole};
+pub use streams::{NotedStream, ReadFault, read_whole, write_whole};
 pub use whole_answer::answer_of_bytes;
