@@ -13,3 +13,5 @@ pub mod Looped
 pub mod Declared
 pub mod Judged
 pub mod Whole
+pub mod LeftFormulas
+pub mod LeftClear

@@ -4,7 +4,9 @@
 mod checks;
 mod declarations;
 mod judge;
+mod laws;
 mod statements;
 mod unit;
 
+pub use laws::law_of_repetition;
 pub use unit::{check, resolve};
