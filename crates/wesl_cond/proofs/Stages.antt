@@ -6,6 +6,7 @@ use Rattle.wesl_cond_chains.specs.Laws.{RunsInStages, TwiceIsOnce, PicksTheSame,
 use Rattle.wesl_cond_chains.specs.Picked.{picked_unit}
 use Rattle.wesl_cond_chains.specs.Residual.{residual_unit}
 use Rattle.wesl_cond.specs.Units.{left_of, GoesOn, IsFaultlessUnit, IsLeftOver, AreTwoStages, Picks}
+use Rattle.wesl_cond_unit.specs.Left.{LeavesNoFault}
 use Rattle.wesl_cond_features.specs.Features.{Replies, known, by_number, HoldsNoError, then_replies}
 use Rattle.wesl_tree_names.specs.Path.{Text}
 use Rattle.wesl_tree_names.specs.declared.errors.Diagnostic.{Diagnostic, out-Diagnostic}
@@ -55,3 +56,6 @@ two_stages_faultless both reply u stages =
     let second = stages.1 in
     subst (λ r. IsFaultlessUnit r u) (sym (fun_ext stages.5))
     (both (by_number u.names first) (by_number u.names second) (trees_of u) (λ i. stages.2 (name_in u.names i)) (λ i. stages.3 (name_in u.names i)) stages.4)
+
+pub settled_faultless_is : LeavesNoFault → (reply : Replies Text) (before after : UnitView) → after ≡ left_of reply before → IsFaultlessUnit reply before → IsFaultlessUnit reply after
+settled_faultless_is leaves reply before after e faultless = subst (IsFaultlessUnit reply) (sym e) (leaves (by_number before.names reply) (trees_of before) faultless)

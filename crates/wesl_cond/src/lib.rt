@@ -18,3 +18,4 @@ pub use wesl_cond_chains::{
     law_of_then, law_of_twice,
 };
 pub use wesl_cond_features::{Feature, Features};
+pub use wesl_cond_unit::law_of_repetition;

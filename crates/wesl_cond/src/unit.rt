@@ -11,7 +11,7 @@ use wesl_cond_chains::{
     law_of_then, law_of_twice,
 };
 use wesl_cond_features::Features;
-use wesl_cond_unit::{check, resolve};
+use wesl_cond_unit::{check, law_of_repetition, resolve};
 use wesl_tree::TranslationUnit;
 use wesl_tree_names::Diagnostic;
 
@@ -26,6 +26,9 @@ use wesl_tree_names::Diagnostic;
 /// diagnostic tells the span of the expression at fault, or of the node in the last two cases. Memory is taken to tell such
 /// a fault alone, so a unit without one is never refused.
 ///
+/// Where it succeeds, it succeeds again on what it left, under the same features, and changes nothing more: no flag that they
+/// refuse is left in a formula that is judged.
+///
 /// Runs may come in stages: what one run left is taken by the next, and the two leave what one run with
 /// [`Features::then`] of their features leaves. Where neither refuses a flag and the first met no fault, the next meets
 /// none, and no more does the one run. Spans and numbers do not count there: what the first run left may be printed and
@@ -34,6 +37,7 @@ pub fn run(alloc: Global, unit: &mut TranslationUnit, features: &Features) -> Re
     ensures faultless { IfOk result (λ _. IsFaultlessUnit (answer_to features.now) (unit_view unit.old)) }
     ensures left { IfOk result (λ _. unit_view unit.new ≡ left_of (answer_to features.now) (unit_view unit.old)) }
     ensures settled { IfOk result (λ _. left_of (answer_to features.now) (unit_view unit.new) ≡ unit_view unit.new) }
+    ensures settled_faultless { IfOk result (λ _. IsFaultlessUnit (answer_to features.now) (unit_view unit.new)) }
     ensures staged { IfOk result (λ _. GoesOn (answer_to features.now) (unit_view unit.old) (unit_view unit.new)) }
     ensures staged_spelled { IfOk result (λ _. GoesOnSpelled (answer_to features.now) (unit_view unit.old) (unit_view unit.new)) }
     ensures picks { IfOk result (λ _. Picks (answer_to features.now) (unit_view unit.old) (unit_view unit.new)) }
@@ -52,6 +56,7 @@ pub fn run(alloc: Global, unit: &mut TranslationUnit, features: &Features) -> Re
     law_of_later_stages();
     law_of_both_stages();
     law_of_faults();
+    law_of_repetition();
     check(alloc, unit, features)?;
     resolve(alloc, unit, features);
     Ok(())

@@ -1,13 +1,18 @@
+use Rattle.std.proofs.Common.{rules}
 use Rattle.wesl_cond_chains.specs.Nodes.{replies}
 use Rattle.wesl_tree_syntax.specs.Unit.{forest_of_unit, trees_of}
 use Rattle.wesl_cond_features.specs.Features.{answer_to}
 use Rattle.wesl_tree.specs.Translation.{unit_view}
-use Rattle.wesl_cond.proofs.Stages.{settled_is, goes_on, picks_same, err_not_clear, left_over_faultless, two_stages_faultless}
+use Rattle.wesl_cond.proofs.Stages.{settled_is, settled_faultless_is, goes_on, picks_same, err_not_clear, left_over_faultless, two_stages_faultless}
 use Rattle.wesl_cond.proofs.Spelled.{goes_on_spelled, spelled_left_over_faultless, spelled_two_stages_faultless}
 use Rattle.wesl_cond.proofs.unit.run.Goals as goal
 
 pub returns-clause-settled : goal.returns-clause-settled
 returns-clause-settled c = settled_is c.law_of_twice.ensures (answer_to c.args.features.now) (unit_view c.args.unit.now) (unit_view c.resolve.new.unit) c.resolve.ensures
+
+pub returns-clause-settled_faultless : goal.returns-clause-settled_faultless
+returns-clause-settled_faultless c =
+    settled_faultless_is c.law_of_repetition.ensures (answer_to c.args.features.now) (unit_view c.args.unit.now) (unit_view c.resolve.new.unit) c.resolve.ensures (search rules)
 
 pub returns-clause-staged : goal.returns-clause-staged
 returns-clause-staged c = goes_on c.law_of_stages.ensures c.law_of_then.ensures (answer_to c.args.features.now) (unit_view c.args.unit.now) (unit_view c.resolve.new.unit) c.resolve.ensures
