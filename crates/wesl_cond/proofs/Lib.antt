@@ -1,3 +1,4 @@
 mod HandedOn
 mod Stages
 mod Spelled
+mod OfFeatures

@@ -4,12 +4,14 @@
 
 mod alive;
 mod conditioned;
+mod equality;
 mod evaluate;
 mod laws;
 mod unit;
 
 pub use alive::{alive_together, flag_count};
 pub use conditioned::condition;
+pub use equality::{equal_feature, equal_features};
 pub use evaluate::eval_attr;
 pub use laws::law_of_spelling;
 pub use unit::run;
