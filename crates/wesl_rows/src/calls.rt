@@ -8,6 +8,7 @@ use wesl::{
     BasicSourceMap, BuiltinIdent, BuiltinType, Builtins, Feature, Features, ModulePath,
     NoSourceMap, PathOrigin, flag_count,
 };
+use wesl_cond::equal_features;
 use wesl_rows_base::Row;
 
 /// What the call of a row answers. Here are those of the program, of the caller of the linker and of built-in names.
@@ -57,6 +58,10 @@ fn of_conditions(row: Row<'_>, call: &str) -> Value {
             let some = features(row, "features");
             let copy = row.or(some.try_clone(row.alloc), Features::new(row.alloc));
             Value::Bool(copy == features(row, "other"))
+        }
+        "equal_features" => {
+            let (some, other) = (features(row, "features"), features(row, "other"));
+            Value::Bool(equal_features(&some, &other))
         }
         _ => of_paths(row, call),
     }
