@@ -3,6 +3,7 @@ ghost use Rattle.std.specs.Prelude.{◌≡◌, ◌⊎◌, true, IsTrue, OnOk, On
 ghost use Rattle.wesl_tree_names.specs.declared.errors.Error as error;
 ghost use Rattle.wesl_tree_names.specs.Path.{Text, Path, path_view};
 ghost use Rattle.wesl_tree.specs.Translation.{unit_view};
+ghost use Rattle.wesl_link_engine.specs.Given.{SameVariants};
 ghost use Rattle.wesl_link_engine.specs.Recorded.{IsRecordedBy};
 ghost use Rattle.wesl_link_engine.specs.Resolved.{paths_of, paths_told, first_path, IsNothing, IsMangled, AssemblesTo, writes};
 ghost use Rattle.wesl_link_resolutions.specs.Keeping.{IsSound, resolved, modules_of, turns_of};
@@ -78,6 +79,7 @@ impl Resolutions {
         ensures mangled { OnOk result (IsMangled (M.name_of mangler.old) mangle_root (resolved self.old) (resolved self.new)) }
         ensures recorded { OnOk result (IsRecordedBy M.writes (writes (M.name_of mangler.old) mangle_root (modules_of self.old)) (M.recorded mangler.old) (M.recorded mangler.new)) }
         ensures same { (p : Path) (x : Text) → M.name_of mangler.new p x ≡ M.name_of mangler.old p x }
+        ensures same_variants { SameVariants (M.variant_of mangler.old) (M.variant_of mangler.new) }
         ensures unchanged { OnErr result (self.new ≡ self.old) }
         ensures refused { IfErr result (λ e. e ≡ error.Memory) }
     {

@@ -6,7 +6,7 @@ ghost use Rattle.wesl_resolve_base.specs.Resolver.{MeansTheSame};
 ghost use Rattle.wesl_link_engine.specs.Linking.{LinksRoot, RefusesRoot, IsFaultlessRoot, TellsMemory};
 ghost use Rattle.wesl_link_engine.specs.Resolved.{module_at};
 ghost use Rattle.wesl_link_engine.specs.Worlds as worlds;
-ghost use Rattle.wesl_link_resolutions.specs.Keeping.{IsSound, resolved, modules_of};
+ghost use Rattle.wesl_link_resolutions.specs.Keeping.{IsSound, resolved, modules_of, turns_of};
 
 use crate::resolutions::Resolutions;
 use std::alloc::Global;
@@ -36,6 +36,7 @@ pub fn resolve_lazy<R: Resolver>(
     ensures order { IfOk result (λ r. worlds.IsModuleOrder (module_at path.now unit) (modules_of r)) }
     ensures kept { IfOk result (λ r. (resolved r).kept ≡ texts keep.now) }
     ensures lazy { IfOk result (λ r. (resolved r).is_eager ≡ false) }
+    ensures turns { IfOk result (λ r. worlds.TakesTurns (modules_of r) (worlds.task_of (module_at path.now unit) (texts keep.now) false) (turns_of r)) }
     ensures sound { IfOk result IsSound }
     ensures names { IfOk result (λ r. (p : Path) (n : Text) → (resolved r).names p n ≡ n) }
     ensures refused { IfErr result (RefusesRoot (R.hands resolver.old) (R.refuses resolver.old) path.now unit (texts keep.now) false max_modules) }
@@ -66,6 +67,7 @@ pub fn resolve_eager<R: Resolver>(
     ensures order { IfOk result (λ r. worlds.IsModuleOrder (module_at path.now unit) (modules_of r)) }
     ensures kept { IfOk result (λ r. (resolved r).kept ≡ []) }
     ensures eager { IfOk result (λ r. (resolved r).is_eager ≡ true) }
+    ensures turns { IfOk result (λ r. worlds.TakesTurns (modules_of r) (worlds.task_of (module_at path.now unit) [] true) (turns_of r)) }
     ensures sound { IfOk result IsSound }
     ensures names { IfOk result (λ r. (p : Path) (n : Text) → (resolved r).names p n ≡ n) }
     ensures refused { IfErr result (RefusesRoot (R.hands resolver.old) (R.refuses resolver.old) path.now unit [] true max_modules) }

@@ -12,6 +12,9 @@ returns-in-Ok-clause-kept g c = c.in-Ok.ensures.kept
 pub returns-in-Ok-clause-eager : goal.returns-in-Ok-clause-eager
 returns-in-Ok-clause-eager g c = c.in-Ok.ensures.eager
 
+pub returns-in-Ok-clause-turns : goal.returns-in-Ok-clause-turns
+returns-in-Ok-clause-turns g c = c.in-Ok.ensures.linked.turns
+
 pub returns-in-Ok-clause-sound : goal.returns-in-Ok-clause-sound
 returns-in-Ok-clause-sound g c = c.in-Ok.ensures.sound
 

@@ -12,6 +12,9 @@ returns-in-Ok-clause-kept g c = c.in-Ok.ensures.kept
 pub returns-in-Ok-clause-lazy : goal.returns-in-Ok-clause-lazy
 returns-in-Ok-clause-lazy g c = c.in-Ok.ensures.lazy
 
+pub returns-in-Ok-clause-turns : goal.returns-in-Ok-clause-turns
+returns-in-Ok-clause-turns g c = c.in-Ok.ensures.linked.turns
+
 pub returns-in-Ok-clause-sound : goal.returns-in-Ok-clause-sound
 returns-in-Ok-clause-sound g c = c.in-Ok.ensures.sound
 

@@ -12,5 +12,8 @@ returns-clause-recorded g c = c.mangle.ensures.recorded
 pub returns-clause-same : goal.returns-clause-same
 returns-clause-same g c = c.mangle.ensures.same
 
+pub returns-clause-same_variants : goal.returns-clause-same_variants
+returns-clause-same_variants g c = c.mangle.ensures.same_variants
+
 pub returns-clause-refused : goal.returns-clause-refused
 returns-clause-refused g c = c.mangle.ensures.refused
