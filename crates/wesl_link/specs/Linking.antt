@@ -8,7 +8,8 @@ use Rattle.wesl_tree_names.specs.declared.errors.ResolveError.{ResolveError}
 use Rattle.wesl_tree_names.specs.declared.path.ModulePath.{ModulePath}
 use Rattle.wesl_tree_syntax.specs.Unit.{UnitOf}
 use Rattle.wesl_cond_features.specs.declared.features.Features.{Features}
-use Rattle.wesl_link_engine.specs.Worlds.{Module, task_of, IsLinked, IsRefused, IsModuleOrder}
+use Rattle.wesl_link_reach.specs.World.{Task}
+use Rattle.wesl_link_engine.specs.Worlds.{Module, task_of, IsLinked, IsRefused, IsModuleOrder, TakesTurns}
 use Rattle.wesl_link_engine.specs.Refusal.{TellsOf}
 use Rattle.wesl_link_resolutions.specs.Keeping.{modules_of, turns_of}
 use Rattle.wesl_link_resolutions.specs.declared.resolutions.Resolutions.{Resolutions}
@@ -18,6 +19,14 @@ use Rattle.wesl_link.specs.Conditions.{HandsLeft, RefusesLeft}
 abbrev pub kept_names : Bool → List Text → List Text
 kept_names true keep = []
 kept_names false keep = keep
+
+-- what is linked: the names that are kept of the module at the path, or all that is declared
+abbrev pub task_at : Path → List Text → Bool → Task Path Text
+task_at path keep is_eager = record { root = path; kept = kept_names is_eager keep; is_eager = is_eager }
+
+-- the link took as many turns as it has modules and reached symbols
+abbrev pub CountsTurns : ModulePath → List Text → Bool → Resolutions → Type 0
+CountsTurns path keep is_eager r = TakesTurns (modules_of r) (task_at (path_view path) keep is_eager) (turns_of r)
 
 module _ (hands : Path → UnitOf Text → Type 0) (refuses : Path → ResolveError → Type 0) where
   -- the root's unit is handed out at its path

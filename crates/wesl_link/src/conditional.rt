@@ -6,7 +6,7 @@ ghost use Rattle.wesl_tree_base.specs.Borrowed.{texts};
 ghost use Rattle.wesl_tree_names.specs.Path.{Text, Path, path_view, is_relative};
 ghost use Rattle.wesl_resolve_base.specs.Resolver.{MeansTheSame};
 ghost use Rattle.wesl_cond.specs.Conditioned.{IsConditioned};
-ghost use Rattle.wesl_link.specs.Linking.{FindsLink, FindsLinkLeft, TellsRefusal, TellsRefusalLeft, kept_names};
+ghost use Rattle.wesl_link.specs.Linking.{CountsTurns, FindsLink, FindsLinkLeft, TellsRefusal, TellsRefusalLeft, kept_names};
 ghost use Rattle.wesl_link_engine.specs.Linking.{LinksRoot, RefusesRoot};
 ghost use Rattle.wesl_link_engine.specs.Resolved.{module_at};
 ghost use Rattle.wesl_link_engine.specs.Worlds as worlds;
@@ -39,6 +39,7 @@ pub fn link_under<R: Resolver + Drop>(
     ensures linked { IfOk result (FindsLinkLeft (R.hands resolver) (R.refuses resolver) features.now path.now (texts keep.now) is_eager max_modules) }
     ensures kept { IfOk result (λ r. (resolved r).kept ≡ kept_names is_eager (texts keep.now)) }
     ensures eager { IfOk result (λ r. (resolved r).is_eager ≡ is_eager) }
+    ensures turns { IfOk result (CountsTurns path.now (texts keep.now) is_eager) }
     ensures names { IfOk result (λ r. (p : Path) (n : Text) → (resolved r).names p n ≡ n) }
     ensures sound { IfOk result IsSound }
     ensures refused { IfErr result (TellsRefusalLeft (R.hands resolver) (R.refuses resolver) features.now path.now (texts keep.now) is_eager max_modules) }
@@ -76,6 +77,7 @@ fn link_judged<R: Resolver + Drop, F: Fn(TranslationUnit) -> Result<TranslationU
     ensures linked { IfOk result (FindsLinkLeft (R.hands resolver) (R.refuses resolver) features.now path.now (texts keep.now) is_eager max_modules) }
     ensures kept { IfOk result (λ r. (resolved r).kept ≡ kept_names is_eager (texts keep.now)) }
     ensures eager { IfOk result (λ r. (resolved r).is_eager ≡ is_eager) }
+    ensures turns { IfOk result (CountsTurns path.now (texts keep.now) is_eager) }
     ensures names { IfOk result (λ r. (p : Path) (n : Text) → (resolved r).names p n ≡ n) }
     ensures sound { IfOk result IsSound }
     ensures refused { IfErr result (TellsRefusalLeft (R.hands resolver) (R.refuses resolver) features.now path.now (texts keep.now) is_eager max_modules) }
@@ -102,6 +104,7 @@ pub fn link_at<R: Resolver>(
     ensures linked { IfOk result (FindsLink (R.hands resolver.old) (R.refuses resolver.old) path.now (texts keep.now) is_eager max_modules) }
     ensures kept { IfOk result (λ r. (resolved r).kept ≡ kept_names is_eager (texts keep.now)) }
     ensures eager { IfOk result (λ r. (resolved r).is_eager ≡ is_eager) }
+    ensures turns { IfOk result (CountsTurns path.now (texts keep.now) is_eager) }
     ensures names { IfOk result (λ r. (p : Path) (n : Text) → (resolved r).names p n ≡ n) }
     ensures sound { IfOk result IsSound }
     ensures refused { IfErr result (TellsRefusal (R.hands resolver.old) (R.refuses resolver.old) path.now (texts keep.now) is_eager max_modules) }
@@ -130,6 +133,7 @@ fn link_unit<R: Resolver>(
     ensures order { IfOk result (λ r. worlds.IsModuleOrder (module_at path.now unit) (modules_of r)) }
     ensures kept { IfOk result (λ r. (resolved r).kept ≡ kept_names is_eager (texts keep.now)) }
     ensures eager { IfOk result (λ r. (resolved r).is_eager ≡ is_eager) }
+    ensures turns { IfOk result (CountsTurns path.now (texts keep.now) is_eager) }
     ensures names { IfOk result (λ r. (p : Path) (n : Text) → (resolved r).names p n ≡ n) }
     ensures sound { IfOk result IsSound }
     ensures refused { IfErr result (RefusesRoot (R.hands resolver.old) (R.refuses resolver.old) path.now unit (kept_names is_eager (texts keep.now)) is_eager max_modules) }

@@ -34,6 +34,9 @@ returns-in-Ok-clause-kept g c = c.link_unit.ensures.kept
 pub returns-in-Ok-clause-eager : goal.returns-in-Ok-clause-eager
 returns-in-Ok-clause-eager g c = c.link_unit.ensures.eager
 
+pub returns-in-Ok-clause-turns : goal.returns-in-Ok-clause-turns
+returns-in-Ok-clause-turns g c = c.link_unit.ensures.turns
+
 pub returns-in-Ok-clause-names : goal.returns-in-Ok-clause-names
 returns-in-Ok-clause-names g c = c.link_unit.ensures.names
 
