@@ -6,11 +6,15 @@ use Rattle.wesl_tree_names.specs.declared.errors.ResolveError.{ResolveError}
 use Rattle.wesl_tree_names.specs.declared.errors.ResolveError as resolve_error
 use Rattle.wesl_tree_syntax.specs.Unit.{UnitOf, UnitView}
 use Rattle.wesl_link_engine.specs.Recorded.{Record, IsRecordedBy}
-use Rattle.wesl_link.specs.Linking.{Links, RefusesLink, kept_names}
+use Rattle.wesl_link.specs.Linking.{Links, RefusesLink, kept_names, task_at}
 use Rattle.wesl_link_engine.specs.Worlds.{Module}
 use Rattle.wesl_link_engine.specs.Linked.{IsAssembled}
 use Rattle.wesl_link_engine.specs.Resolved.{Resolved, IsMangled, AssemblesTo, IsAssembledOf, NamesAgree, first_path, mangled, writes}
-use Rattle.wesl_link_mapped.specs.Mapping.{MapsLink, task_at}
+use Rattle.wesl_source_map_entries.specs.Records.{SameSources}
+use Rattle.wesl_source_map_entries.specs.Held.{source_or}
+use Rattle.wesl_source_map.specs.BasicView.{sources, default_text}
+use Rattle.wesl_source_map.specs.declared.basic.BasicSourceMap.{BasicSourceMap}
+use Rattle.wesl_link_mapped.specs.Mapping.{MapsLink, ShowsRoot}
 
 module _ (hands : Path → UnitOf Text → Type 0) (refuses : Path → ResolveError → Type 0) (at : Path) (keep : List Text) (is_eager : Bool) (limit : ℕ)
     (r : Resolved) (links : Links hands refuses at keep is_eager limit r.turns r.modules) (keeps : r.kept ≡ kept_names is_eager keep) (eager : r.is_eager ≡ is_eager)
@@ -59,3 +63,7 @@ maps_link_as hands refuses at keep is_eager mangle_root limit name_of others bef
 -- want of memory is always told
 pub memory_refuses : (hands : Path → UnitOf Text → Type 0) (refuses : Path → ResolveError → Type 0) (at : Path) (keep : List Text) (is_eager : Bool) (limit : ℕ) (e : error.Error) → e ≡ error.Memory → RefusesLink hands refuses at keep is_eager limit e
 memory_refuses hands refuses at keep is_eager limit e is = inl (resolve_error.Memory, inl refl, is)
+
+-- a mapper that is done with shows the root's source
+pub shows_root : (before after : BasicSourceMap) (root : Path) → SameSources (sources before) (sources after) → default_text after ≡ source_or (sources before root) (default_text before) → ShowsRoot root after
+shows_root before after root same default source is = default ∙ ap (λ s. source_or s (default_text before)) (sym (same root) ∙ is)

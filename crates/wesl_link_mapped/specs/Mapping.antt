@@ -1,24 +1,22 @@
 -- A link whose printed names are recorded.
-use Rattle.std.specs.Prelude.{ℕ, Bool, true, List, Option}
+use Rattle.std.specs.Prelude.{◌≡◌, ℕ, Bool, true, List, Option, Some}
 use Rattle.wesl_tree_names.specs.Path.{Text, Path, path_view}
 use Rattle.wesl_tree_names.specs.declared.errors.Diagnostic.{Diagnostic}
 use Rattle.wesl_tree_names.specs.declared.errors.ResolveError.{ResolveError}
 use Rattle.wesl_tree_syntax.specs.Unit.{UnitOf, UnitView}
 use Rattle.wesl_tree.specs.Translation.{unit_view}
-use Rattle.wesl_link_reach.specs.World.{Task}
 use Rattle.wesl_link_engine.specs.Recorded.{Record, IsRecordedBy}
 use Rattle.wesl_link_engine.specs.Worlds.{Module}
 use Rattle.wesl_link_engine.specs.Linked.{IsAssembled}
 use Rattle.wesl_link_engine.specs.Resolved.{mangled, NamesAgree, writes}
 use Rattle.wesl_cond_features.specs.declared.features.Features.{Features}
-use Rattle.wesl_link.specs.Linking.{Links, TellsRefusalLeft, kept_names, hands_left, refuses_left}
-use Rattle.wesl_source_map.specs.BasicView.{items}
+use Rattle.wesl_link.specs.Linking.{Links, TellsRefusalLeft, hands_left, refuses_left}
+pub use Rattle.wesl_link.specs.Linking.{task_at}
+use Rattle.wesl_source_map_entries.specs.Records.{Source}
+use Rattle.wesl_source_map.specs.BasicView.{items, sources, default_text}
+use Rattle.wesl_source_map.specs.declared.basic.BasicSourceMap.{BasicSourceMap}
 use Rattle.wesl_source_map.specs.declared.mapper.SourceMapper.{SourceMapper}
 use Rattle.wesl_link_mapped.specs.declared.mapped.Mapped.{Mapped}
-
--- the names that are kept of the root, or all that is declared
-abbrev pub task_at : Path → List Text → Bool → Task Path Text
-task_at root keep is_eager = record { root = root; kept = kept_names is_eager keep; is_eager = is_eager }
 
 -- The modules are linked from the root, and the unit is their linked form under the names of the mangler, the root's own
 -- unless it is mangled. The record is what it was before with a write for each name that they declare, in module order, those
@@ -54,3 +52,7 @@ module _ {R M : Type 0} (hands : R → Path → UnitOf Text → Type 0) (refuses
   abbrev pub RefusesByLeft : Option Features → SourceMapper R M → List Text → Bool → ℕ → Diagnostic → Type 0
   RefusesByLeft features mapper keep is_eager limit d =
       TellsRefusalLeft (hands mapper.resolver) (refuses mapper.resolver) features mapper.root keep is_eager limit d
+
+-- where the map has a source of the root, that is its default source
+abbrev pub ShowsRoot : Path → BasicSourceMap → Type 0
+ShowsRoot root map = (source : Source) → sources map root ≡ Some source → default_text map ≡ Some source.1

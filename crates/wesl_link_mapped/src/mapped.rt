@@ -13,7 +13,7 @@ ghost use Rattle.wesl_link_engine.specs.Resolved.{Resolved, IsMangled, Assembles
 ghost use Rattle.wesl_link_engine.specs.Recorded.{IsRecordedBy};
 ghost use Rattle.wesl_source_map_entries.specs.Records.{SameItems};
 ghost use Rattle.wesl_source_map.specs.BasicView.{items};
-ghost use Rattle.wesl_link_mapped.specs.Mapping.{MapsBy, MapsByLeft, RefusesByLeft};
+ghost use Rattle.wesl_link_mapped.specs.Mapping.{MapsBy, MapsByLeft, RefusesByLeft, ShowsRoot};
 
 use std::alloc::Global;
 use std::marker::{Brand, PhantomData};
@@ -38,9 +38,10 @@ pub struct Mapped {
 /// Links the module at the mapper's root as `link_under` does, and gives its unit the names of the mapper's mangler (WESL,
 /// "NameMangling").
 ///
-/// The mapper is the resolver of the link, the root's too, and then its mangler. So its record has, beside what it had, the
-/// source of each module that is read, and a name for each declared name of each module of the link, in module order; those
-/// of the root only with `mangle_root`. The default source is the root's.
+/// The mapper is the resolver of the link, the root's too, and then its mangler. So its record has, beside what it had, a name
+/// for each declared name of each module of the link, in module order; those of the root only with `mangle_root`. Where it has
+/// a source of the root, that is the default source. Which sources it has is not said here: the mapper records that of each
+/// module that it is asked for, where the resolver gives one.
 ///
 /// Refused as `link_under` is: where the resolver refuses a path, where a fault of a condition stands in a unit, where a link
 /// is refused, and for want of memory. The diagnostic tells the place of the fault as far as it is known.
@@ -56,6 +57,7 @@ pub fn link_mapped<R: Resolver + Drop, M: Mangler + Drop>(
     requires ready { R.ready mapper.resolver }
     requires asked { is_relative (path_view mapper.root) ≡ false }
     ensures mapped { IfOk result (MapsByLeft R.hands R.refuses M.name_of features.now mapper (texts keep.now) is_eager mangle_root max_modules) }
+    ensures default { IfOk result (λ made. ShowsRoot (path_view mapper.root) made.map) }
     ensures refused { IfErr result (RefusesByLeft R.hands R.refuses features.now mapper (texts keep.now) is_eager max_modules) }
 {
     let judge = |unit: TranslationUnit|
@@ -93,6 +95,7 @@ fn link_judged<
     requires callable { F.IsAlwaysCallable judge }
     requires judges { (given : TranslationUnit) (answer : Result TranslationUnit error.Error) → F.post judge given answer ↔ IsConditioned features.now given answer }
     ensures mapped { IfOk result (MapsByLeft R.hands R.refuses M.name_of features.now mapper (texts keep.now) is_eager mangle_root max_modules) }
+    ensures default { IfOk result (λ made. ShowsRoot (path_view mapper.root) made.map) }
     ensures refused { IfErr result (RefusesByLeft R.hands R.refuses features.now mapper (texts keep.now) is_eager max_modules) }
 {
     let SourceMapper {
@@ -123,11 +126,12 @@ fn link_through<R: Resolver + Drop, M: Mangler + Drop>(
     requires ready { R.ready mapper.resolver }
     requires asked { is_relative (path_view mapper.root) ≡ false }
     ensures mapped { IfOk result (MapsBy R.hands R.refuses M.name_of mapper (texts keep.now) is_eager mangle_root max_modules) }
+    ensures default { IfOk result (λ made. ShowsRoot (path_view mapper.root) made.map) }
     ensures refused { IfErr result (TellsRefusal (R.hands mapper.resolver) (R.refuses mapper.resolver) mapper.root (texts keep.now) is_eager max_modules) }
 {
     let path = mapper.root.try_clone(alloc)?;
     match found::<R, M, Brand>(alloc, keep, is_eager, &path, mapper, max_modules) {
-        Ok(found) => named(alloc, found, mangle_root),
+        Ok(found) => named(alloc, found, path, mangle_root),
         Err(diagnostic) => Err(diagnostic),
     }
 }
@@ -192,15 +196,18 @@ fn without_resolver<R: Drop, M>(mapper: SourceMapper<R, M>) -> SourceMapper<NoRe
     }
 }
 
-// The unit of a link under the names of the mapper, which records them.
+// The unit of a link under the names of the mapper, which records them. The root is told again: what is generic in the mapper
+// says nothing of the path that it has.
 fn named<M: Mangler + Drop>(
     alloc: Global,
     found: MapperLink<M>,
+    root: ModulePath,
     mangle_root: bool,
 ) -> Result<Mapped, Diagnostic>
     requires sound { IsSound found.resolutions }
     ensures named { IfOk result (λ made. (r : Resolved) × IsMangled (M.name_of found.mapper.mangler) mangle_root (resolved found.resolutions) r × AssemblesTo r (unit_view made.unit)) }
     ensures recorded { IfOk result (λ made. IsRecordedBy true (writes (M.name_of found.mapper.mangler) mangle_root (modules_of found.resolutions)) (items found.mapper.sourcemap) (items made.map)) }
+    ensures default { IfOk result (λ made. ShowsRoot (path_view root) made.map) }
     ensures refused { IfErr result (λ d. (out-Diagnostic d).error ≡ error.Memory) }
 {
     let MapperLink {
@@ -209,6 +216,7 @@ fn named<M: Mangler + Drop>(
     } = found;
     resolutions.mangle(alloc, &mut mapper, mangle_root)?;
     let unit = resolutions.assemble(alloc, true)?;
+    mapper.root = root;
     match mapper.finish(alloc) {
         Ok(map) => Ok(Mapped { unit, map }),
         Err(_) => Err(Diagnostic::of(Error::Memory)),

@@ -7,7 +7,7 @@ use Rattle.wesl_tree.specs.Translation.{unit_view}
 use Rattle.wesl_link_resolutions.specs.Keeping.{resolved}
 use Rattle.wesl_source_map.specs.BasicView.{items}
 use Rattle.wesl_link.proofs.Along.{both-ok}
-use Rattle.wesl_link_mapped.specs.Mapping.{MapsLink}
+use Rattle.wesl_link_mapped.specs.Mapping.{MapsLink, ShowsRoot}
 use Rattle.wesl_link_mapped.proofs.Recorded.{maps_link, maps_link_as, memory_refuses}
 use Rattle.wesl_link_mapped.proofs.mapped.link_through.Goals as goal
 
@@ -33,3 +33,6 @@ returns-in_err-path-clause-refused g c =
     let hands = g.R.Resolver.hands mapper.resolver in
     let refuses = g.R.Resolver.refuses mapper.resolver in
     IfErr-weaker c.from_residual.result (λ d. d.error ≡ error.Memory) _ (λ d is. memory_refuses hands refuses (path_view mapper.root) (texts c.args.keep.now) c.args.is_eager c.args.max_modules d.error is) (search rules)
+
+pub returns-in-Ok-clause-default : goal.returns-in-Ok-clause-default
+returns-in-Ok-clause-default g c = subst (λ q. IfOk c.named.result (λ made. ShowsRoot q made.map)) c.in_ok-path.ensures.equal c.named.ensures.default
