@@ -1,0 +1,9 @@
+pub mod Decidable
+pub mod Finite
+pub mod Chains
+pub mod Together
+pub mod Paths
+pub mod Leading
+pub mod Reaching
+pub mod Numbered
+pub mod Sound
