@@ -1,5 +1,5 @@
 -- What a look-up leads to is decided.
-use Rattle.std.proofs.Common.{◌≡◌, ◌⊎◌, inl, inr, ℕ, ◌≤◌, List, [], ◌∷◌, length, map, Contains, arith, subst, sym, refl, ap, ◌∙◌}
+use Rattle.std.proofs.Common.{◌≡◌, ◌⊎◌, inl, inr, ◌≤◌, List, [], ◌∷◌, length, map, Contains, arith, subst, sym, refl, ap, ◌∙◌}
 use Rattle.wesl_link_symbols.specs.declared.symbols.Answer.TheVariants.{Declared, Next, Missing, Private, Ambiguous}
 use Rattle.wesl_link_symbols.specs.declared.symbols.Import.{Import}
 use Rattle.wesl_link_symbols.specs.declared.symbols.LookUp.{LookUp}
@@ -19,9 +19,9 @@ use Rattle.wesl_link_reach.specs.Faults.AreDistinct.{none as none_distinct, one_
 use Rattle.wesl_link_reach.proofs.Lists.{contains_map, map_contains, distinct_length, length_map}
 use Rattle.wesl_link_reach.proofs.Exclusive.{comes_on}
 use Rattle.wesl_link_sound.proofs.Decidable.{IsDecidable, decided_by, both, either, negated, some_of, same_look_up}
-use Rattle.wesl_link_sound.proofs.Finite.{IsFinite, finite_list, finite_one, finite_or, finite_within, finite_image, finite_each, some_finite, IsListOf, finite_lists}
+use Rattle.wesl_link_sound.proofs.Finite.{IsFinite, finite_list, finite_one, finite_or, finite_image, finite_each, some_finite, IsListOf, finite_lists}
 use Rattle.wesl_link_sound.proofs.Chains.{Chain, chain_on, along, chain_decided}
-use Rattle.wesl_link_sound.proofs.Chains.Chain.{one, more}
+use Rattle.wesl_link_sound.proofs.Chains.Chain.{one}
 
 module _ {P N : Type 0} (w : List (Table P N)) where
   -- some import asks for it

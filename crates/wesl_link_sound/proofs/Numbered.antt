@@ -1,15 +1,14 @@
 -- Whether a table has the numbers of another's names and paths is decided.
-use Rattle.std.proofs.Common.{◌≡◌, ◌⊎◌, inl, inr, Bool, Option, Some, None, List, [], ◌∷◌, slice_get, Contains, sym, refl, ap, ◌∙◌}
+use Rattle.std.proofs.Common.{inl, inr, Option, Some, None, List, [], ◌∷◌, slice_get}
 use Rattle.std.specs.Global.{Vec}
 use Rattle.wesl_tree_names.specs.Path.{Text, Path}
-use Rattle.wesl_cond_choices.specs.declared.place.Place.{Place}
 use Rattle.wesl_cond_choices.specs.Places.{together}
 use Rattle.wesl_link_symbols.specs.declared.ids.PathId.{PathId}
 use Rattle.wesl_tree_base.specs.declared.ids.NameId.{NameId}
 use Rattle.wesl_link_symbols.specs.declared.symbols.Reference.{Reference}
 use Rattle.wesl_link_symbols.specs.declared.symbols.Import.{Import}
 use Rattle.wesl_link_symbols.specs.Tables.{Declaration, Table}
-use Rattle.wesl_link_tables.specs.Numbering.{AreRelated, IsRelatedOption, SameImport, SameReference, SameDeclaration, SameTable, Numbering, NameAt, PathAt, IsNumbered, IsNumberedReference}
+use Rattle.wesl_link_tables.specs.Numbering.{AreRelated, IsRelatedOption, SameImport, SameReference, SameDeclaration, Numbering, NameAt, PathAt, IsNumbered, IsNumberedReference}
 use Rattle.wesl_link_tables.specs.Uses.{Use, declares, refers, unclear, local}
 use Rattle.wesl_link_tables.specs.Marks.{IsMark, AreMarked}
 use Rattle.wesl_link_tables.specs.declared.marks.Mark.{Mark}

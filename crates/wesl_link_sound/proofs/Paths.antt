@@ -1,5 +1,5 @@
 -- Whether texts and paths are equal is decided.
-use Rattle.std.proofs.Common.{◌≡◌, ◌⊎◌, inl, inr, ℕ, List, [], ◌∷◌, Contains, subst, sym, refl, ap, ◌∙◌}
+use Rattle.std.proofs.Common.{◌≡◌, inl, inr, ℕ, List, [], ◌∷◌, Contains, subst, refl, ap, ◌∙◌}
 use Rattle.wesl_tree_names.specs.Path.{Text, Path, Origin, absolute, relative, from_package}
 use Rattle.wesl_link_symbols.specs.Laws.{IsDecided}
 use Rattle.wesl_link_sound.proofs.Decidable.{IsDecidable, decided_by, both, some_of, same_number}

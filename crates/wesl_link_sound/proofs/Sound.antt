@@ -1,5 +1,5 @@
 -- That what a link keeps says what it found can be had of a truncated fact.
-use Rattle.std.proofs.Common.{◌≡◌, ◌⊎◌, inl, inr, ◌↔◌, false, Option, Some, None, List, [], ◌∷◌, map, slice_get, Contains, subst, sym, refl, ap, ◌∙◌}
+use Rattle.std.proofs.Common.{◌≡◌, inr, ◌↔◌, false, Option, Some, None, List, [], ◌∷◌, slice_get, Contains, subst, sym, refl, ap, ◌∙◌}
 use Rattle.std.proofs.lemmas.Grind.{not_there}
 use Rattle.wesl_tree_names.specs.Path.{Text, Path, path_view, is_relative}
 use Rattle.wesl_link_symbols.specs.declared.ids.PathId.{PathId}
@@ -10,12 +10,12 @@ use Rattle.wesl_link_symbols.specs.Laws.{IsDecided}
 use Rattle.wesl_link_reach.specs.World.{Task, Reached}
 use Rattle.wesl_link_reach.specs.Faults.{AreDistinct}
 use Rattle.wesl_link_reach.specs.Faults.AreDistinct.{none as none_distinct, one_more as one_distinct}
-use Rattle.wesl_link_tables.specs.Numbering.{Numbering, NameAt, PathAt, IsNumbered}
+use Rattle.wesl_link_tables.specs.Numbering.{Numbering, IsNumbered}
 use Rattle.wesl_link_tables.specs.Tables.{uses}
 use Rattle.wesl_link_tables.specs.TextsView.{numbering_of_texts as numbering}
-use Rattle.wesl_link_engine.specs.Worlds.{Module, table, tables}
+use Rattle.wesl_link_engine.specs.Worlds.{table, tables}
 use Rattle.wesl_link_engine.specs.Resolved.{paths_of}
-use Rattle.wesl_link_engine.specs.Tabled.{module_of, IsTabled, IsMarked}
+use Rattle.wesl_link_engine.specs.Tabled.{module_of, IsTabled}
 use Rattle.wesl_link_engine.specs.Keeping.{all_loaded, modules_in, IsCovered, IsLinkOf, IsSoundLink, task_in}
 use Rattle.wesl_link_engine.specs.declared.loaded.LoadedModule.{LoadedModule}
 use Rattle.wesl_link_engine.specs.declared.link.Link.{Link}
