@@ -1,0 +1,3 @@
+mod Faith
+mod Misread
+pub mod Steps

@@ -1,0 +1,4 @@
+pub mod Clashes
+pub mod Sightings
+pub mod ByMeaning
+pub mod Laws
