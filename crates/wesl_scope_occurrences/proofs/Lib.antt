@@ -1,4 +1,5 @@
 pub mod Bounds
+pub mod Collecting
 pub mod Cutting
 pub mod Ended
 pub mod Found
@@ -7,7 +8,11 @@ pub mod Listed
 pub mod Names
 pub mod Nodes
 pub mod Outers
+pub mod Patching
 pub mod Respelled
-pub mod Views
+pub mod Showing
+pub mod Starting
 pub mod Steps
-pub mod Unit
+pub mod Telling
+pub mod Module
+pub mod Views

@@ -1,18 +1,18 @@
 -- The walk opens the blocks of the module, and no others.
 use Rattle.std.proofs.Common.{◌≡◌, ℕ, zero, suc, ◌+◌, ◌≤◌, List, [], ◌∷◌, ◌++◌, length, refl, sym, ap, ◌∙◌, arith, append_assoc, append-nil, length-append}
 use Rattle.wesl_tree_syntax.specs.Tree.{Label, Forest, end, tree, kind, at, ident, text, texts, truth, unary, binary, assignment, space, access, path}
-use Rattle.wesl_scope_occurrences.specs.Occurrences.{node_of, here_in, after_field, opened_by, blocks_in, shape_of}
+use Rattle.wesl_scope_occurrences.specs.Occurrences.{Node, node_of, here_in, after_field, opened_by, blocks_in, shape_of}
 use Rattle.wesl_scope_occurrences.specs.Outer.{outers_of, outers_from}
 use Rattle.wesl_scope_occurrences.specs.Walk.{State, Fields, numbers_at, opening, closed, stepped, or_found, walk}
 use Rattle.wesl_scope_occurrences.proofs.Joined.{opens_few}
 
-few_length : (n q b : ℕ) → n ≤ 2 → length (outers_of n q b) ≡ n
+pub few_length : (n q b : ℕ) → n ≤ 2 → length (outers_of n q b) ≡ n
 few_length zero q b h = refl
 few_length (suc zero) q b h = refl
 few_length (suc (suc zero)) q b h = refl
 few_length (suc (suc (suc n))) q b h = absurd (omega arith)
 
-opened_few : (l : Label) → opened_by l ≤ 2
+pub opened_few : (l : Label) → opened_by l ≤ 2
 opened_few (kind k) = opens_few (shape_of k)
 opened_few (ident r x) = omega arith
 opened_few (at k i j) = omega arith
@@ -26,7 +26,7 @@ opened_few (space v) = omega arith
 opened_few (access v) = omega arith
 opened_few (path v) = omega arith
 
-opening_outers : (n b : ℕ) (s : State) → (opening n b s).outer ≡ s.outer ++ outers_of n (length s.outer) b
+pub opening_outers : (n b : ℕ) (s : State) → (opening n b s).outer ≡ s.outer ++ outers_of n (length s.outer) b
 opening_outers zero b s = sym (append-nil s.outer)
 opening_outers (suc zero) b s = refl
 opening_outers (suc (suc n)) b s = append_assoc s.outer (b ∷ []) (length s.outer ∷ [])
@@ -129,3 +129,6 @@ opens_all (tree (path v) children others) fs s = record { many = all_many (path 
 
 pub walk_outers : (f : Forest) (fs : Fields) (s : State) → (walk fs s f).outer ≡ s.outer ++ outers_from fs.node (length s.outer) f
 walk_outers f fs s = (opens_all f fs s).outers
+
+pub outers_many : (f : Forest) (node : Node ℕ) (outer : List ℕ) → length (outers_from node (length outer) f) ≡ blocks_in f
+outers_many f node outer = (opens_all f (record { node = node; named = [] }) (record { found = []; outer = outer })).many

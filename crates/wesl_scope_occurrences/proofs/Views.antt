@@ -1,18 +1,22 @@
 -- The trees of nodes, by the trees of their parts.
-use Rattle.std.proofs.Common.{◌≡◌, [], ◌∷◌, rules, ◌∙◌, String, Global, refl}
+use Rattle.std.proofs.Common.{◌≡◌, List, [], ◌∷◌, rules, ◌∙◌, String, Global, refl}
 use mathlib.Core.List.{map-map}
 use Rattle.std.specs.Prelude.{Option, Some, None}
 use Rattle.std.specs.Box.{box_value}
 use Rattle.std.specs.Global.{Box, Vec}
-use Rattle.wesl_tree_syntax.specs.Tree.{assignment, binary, branch, call, call_expression, call_statement, clauses, compound, compound_statement, continuing, else_clause, else_if_clause, for_loop, forest_of, if_clause, if_statement, indexing, list, loop, named_component, parenthesized, return, statements, switch, switch_clause, Tree, type_or_identifier, unary, while_loop, template_argument, import_entry, reference, type_expression}
-use Rattle.wesl_tree_syntax.specs.View.{text_tree, break_if_view, continuing_view, expression_view, selector_view, argument_step, attributes_tree, call_step, call_view, clause_step, clause_view, compound_step, compound_view, continuing_step, else_if_step, else_if_view, else_step, else_view, expression_step, expression_tree, if_step, if_view, listed, optional, statement_step, statement_tree, statement_view, type_step, type_view, argument_view, entry_view, content_view, content_step, entry_step, names_tree, path_tree, ident_tree, declaration_view, assert_view}
+use Rattle.wesl_tree_syntax.specs.Tree.{assignment, binary, branch, call, call_expression, call_statement, clauses, compound, compound_statement, continuing, else_clause, else_if_clause, for_loop, forest_of, if_clause, if_statement, indexing, list, literal, loop, named_component, parenthesized, return, statements, switch, switch_clause, Tree, type_or_identifier, unary, while_loop, template_argument, binder, word, leaf, kind, absent, present, import_item, import_collection, void, increment, decrement, import_entry, reference, type_expression}
+use Rattle.wesl_tree_syntax.specs.View.{item_view, literal_tree, text_tree, break_if_view, continuing_view, expression_view, selector_view, argument_step, attributes_tree, call_step, call_view, clause_step, clause_view, compound_step, compound_view, continuing_step, else_if_step, else_if_view, else_step, else_view, expression_step, expression_tree, if_step, if_view, listed, optional, statement_step, statement_tree, statement_view, type_step, type_view, argument_view, entry_view, content_view, content_step, entry_step, names_tree, path_tree, ident_tree, declaration_view, assert_view}
 use Rattle.wesl_tree_syntax.specs.declared.attribute.Attribute.{Attribute}
 use Rattle.wesl_tree_syntax.specs.declared.expression.Expression.{Expression}
+use Rattle.wesl_tree_syntax.specs.declared.expression.Literal.{Literal}
 use Rattle.wesl_tree_syntax.specs.declared.expression.Expression as expressions
 use Rattle.wesl_tree_syntax.specs.declared.expression.Expression.TheFolds.{fold_out-FunctionCall, fold_out-TemplateArg, fold_out-TypeExpression}
 use Rattle.wesl_tree_syntax.specs.declared.expression.TemplateArg.{TemplateArg, out-TemplateArg}
 use Rattle.wesl_tree_syntax.specs.declared.import.Import.{Import, out-Import}
 use Rattle.wesl_tree_syntax.specs.declared.import.ImportContent.TheFolds.{fold_out-Import}
+use Rattle.wesl_tree_syntax.specs.declared.import.ImportContent as contents
+use Rattle.wesl_tree_syntax.specs.declared.import.ImportItem.{ImportItem}
+use Rattle.wesl_tree_names.specs.declared.names.Ident.{Ident}
 use Rattle.wesl_tree_syntax.specs.declared.expression.FunctionCall.{FunctionCall, out-FunctionCall}
 use Rattle.wesl_tree_syntax.specs.declared.expression.UnaryOperator.{UnaryOperator}
 use Rattle.wesl_tree_syntax.specs.declared.expression.BinaryOperator.{BinaryOperator}
@@ -56,6 +60,9 @@ pub view_for : (a : Vec (Spanned Attribute)) (i : Option (Box (Spanned Statement
 view_for a i c u b = search (rules, the_lemmas)
 
 -- expressions
+
+pub view_literal : (l : Literal) → expression_view (expressions.Literal l) ≡ branch literal (literal_tree l ∷ [])
+view_literal l = search (rules, expressions.the_lemmas)
 
 pub view_parenthesized : (e : Box (Spanned Expression)) → expression_view (expressions.Parenthesized e) ≡ branch parenthesized (expression_tree (box_value e) ∷ [])
 view_parenthesized e = search (rules, expressions.the_lemmas)
@@ -124,8 +131,37 @@ pub view_type : (t : TypeExpression) (o : Option (Vec TemplateArg)) → (out-Typ
 view_type t None is = fold_out-TypeExpression Tree Tree Tree Tree expression_step call_step argument_step type_step t ∙ rw is refl
 view_type t (Some v) is = fold_out-TypeExpression Tree Tree Tree Tree expression_step call_step argument_step type_step t ∙ rw is (simp map-map)
 
+abbrev pub type_fields : TypeExpression → List Tree
+type_fields t = optional path_tree (out-TypeExpression t).path ∷ ident_tree reference (out-TypeExpression t).ident ∷ optional (listed argument_view list) (out-TypeExpression t).template_args ∷ []
+
+pub view_any_type : (t : TypeExpression) → type_view t ≡ branch type_expression (type_fields t)
+view_any_type t = view_type t (out-TypeExpression t).template_args refl
+
 pub view_asserted : (a : ConstAssert) → statement_view (made.ConstAssert a) ≡ assert_view a
 view_asserted a = search (rules, the_lemmas)
 
 pub view_declared : (d : Declaration) → statement_view (made.Declaration d) ≡ declaration_view d
 view_declared d = search (rules, the_lemmas)
+
+pub view_void : statement_view made.Void ≡ branch void []
+view_void = search (rules, the_lemmas)
+
+pub view_increment : (a : Vec (Spanned Attribute)) (e : Spanned Expression) → statement_view (made.Increment a e) ≡ branch increment (attributes_tree a ∷ expression_tree e ∷ [])
+view_increment a e = search (rules, the_lemmas)
+
+pub view_decrement : (a : Vec (Spanned Attribute)) (e : Spanned Expression) → statement_view (made.Decrement a e) ≡ branch decrement (attributes_tree a ∷ expression_tree e ∷ [])
+view_decrement a e = search (rules, the_lemmas)
+
+-- imports
+
+pub item_none : (i : ImportItem) → i.rename ≡ None → item_view i ≡ branch import_item (ident_tree binder i.ident ∷ leaf (kind absent) ∷ [])
+item_none i e = rw e refl
+
+pub item_some : (i : ImportItem) (r : Ident) → i.rename ≡ Some r → item_view i ≡ branch import_item (ident_tree word i.ident ∷ branch present (ident_tree binder r ∷ []) ∷ [])
+item_some i r e = rw e refl
+
+pub view_item : (i : ImportItem) → content_view (contents.Item i) ≡ item_view i
+view_item i = search (rules, contents.the_lemmas)
+
+pub view_collection : (is : Vec Import) → content_view (contents.Collection is) ≡ branch import_collection (listed entry_view list is ∷ [])
+view_collection is = search (rules, contents.the_lemmas, map-map)

@@ -7,3 +7,8 @@ pub mod Pieces
 pub mod Laws
 pub mod Outer
 pub mod Noted
+pub mod Events
+pub mod Collected
+pub mod Bare
+pub mod Shown
+pub mod EventLaws

@@ -1,34 +1,43 @@
 -- Memory may be wanting at each step of the walk. The walk notes it and goes on, and a note stays: what is said of a
 -- step holds where nothing is noted after it.
-use Rattle.std.specs.Prelude.{◌≡◌, ℕ, false, [], ◌∷◌, ◌++◌, length}
-use Rattle.wesl_tree_syntax.specs.Tree.{Tree}
-use Rattle.wesl_scope_occurrences.specs.Occurrences.{Standing}
-use Rattle.wesl_scope_occurrences.specs.Walk.{Here, State, walked, ended_at}
-use Rattle.wesl_scope_occurrences.specs.Views.{state_of}
+use Rattle.std.specs.Prelude.{◌≡◌, ℕ, true, false, List, [], ◌∷◌, ◌++◌, length, map}
+use Rattle.wesl_tree_names.specs.Path.{Path, path_view}
+use Rattle.wesl_tree_syntax.specs.Tree.{Tree, before, end}
+use Rattle.wesl_scope_occurrences.specs.Walk.{Here}
+use Rattle.wesl_scope_occurrences.specs.Outer.{outers_in}
+use Rattle.wesl_scope_occurrences.specs.Events.{Event, within, paths_met, events_in, events_from, plain_level, of_module}
 use Rattle.wesl_scope_occurrences.specs.declared.walk.Walk.{Walk}
 
--- unless memory was wanting
-abbrev pub IfKept : Walk → Type 0 → Type 0
-IfKept w P = w.is_refused ≡ false → P
+module _ {H : Type 0} where
+  -- unless memory was wanting
+  abbrev pub IfKept : Walk H → Type 0 → Type 0
+  IfKept w P = w.is_refused ≡ false → P
 
--- a step after which the walk has found this
-pub record Becomes (old new : Walk) (s : State) : Type 0 where
-  pub noted : IfKept new (old.is_refused ≡ false)
-  pub found : IfKept new (state_of new ≡ s)
+  abbrev pub paths_of : Walk H → List Path
+  paths_of w = map (λ p. path_view p.now) w.paths.items
 
--- the steps over one tree, in these surroundings
-pub record Walks (here : Here) (old new : Walk) (t : Tree) : Type 0 where
-  pub noted : IfKept new (old.is_refused ≡ false)
-  pub found : IfKept new (state_of new ≡ walked here (state_of old) t)
+  -- these paths were noted, and nothing else changed
+  pub record Notes (old new : Walk H) (more : List Path) : Type 0 where
+    pub noted : IfKept new (old.is_refused ≡ false)
+    pub paths : IfKept new (paths_of new ≡ paths_of old ++ more)
+    pub outer : new.outer.items ≡ old.outer.items
+    pub handler : new.handler ≡ old.handler
 
--- an identifier more
-abbrev pub added : Here → Standing → ℕ → State → State
-added here r x s = record s { found = s.found ++ record { role = r; name = x; place = length s.found; block = here.block; declaration = here.declaration; excused = here.excused } ∷ [] }
+  -- the handler was told these events, and blocks opened that have these round them
+  pub record Steps (after : List Event → H → H → Type 0) (old new : Walk H) (es : List Event) (more : List ℕ) : Type 0 where
+    pub noted : IfKept new (old.is_refused ≡ false)
+    pub outer : IfKept new (new.outer.items ≡ old.outer.items ++ more)
+    pub paths : IfKept new (paths_of new ≡ paths_of old ++ paths_met es)
+    pub told : IfKept new (after es old.handler new.handler)
 
--- a block more
-abbrev pub opened : Here → State → State
-opened here s = record s { outer = s.outer ++ here.block ∷ [] }
+  -- the steps over one tree, in these surroundings
+  pub record Walks (after : List Event → H → H → Type 0) (here : Here) (old new : Walk H) (t : Tree) : Type 0 where
+    pub steps : Steps after old new (events_in here (length old.outer.items) t) (outers_in here (length old.outer.items) t)
 
--- the declaration of the name at this place has ended
-abbrev pub ended : ℕ → State → State
-ended name s = record s { found = ended_at (length s.found) name s.found }
+  -- the same, with a block round it
+  pub record WalksWithin (after : List Event → H → H → Type 0) (here : Here) (old new : Walk H) (t : Tree) : Type 0 where
+    pub steps : Steps after old new (within true (events_in here (length old.outer.items) t)) (outers_in here (length old.outer.items) t)
+
+  -- the same, where the tree holds the global declarations of the module
+  pub record WalksModule (after : List Event → H → H → Type 0) (here : Here) (old new : Walk H) (t : Tree) : Type 0 where
+    pub steps : Steps after old new (events_from (plain_level here (of_module ∷ [])) (length old.outer.items) (before t end)) (outers_in here (length old.outer.items) t)

@@ -1,15 +1,14 @@
 -- What the walk's values stand for.
-use Rattle.std.specs.Prelude.{ℕ, map}
+use Rattle.std.specs.Prelude.{ℕ}
 use Rattle.std.specs.Option.{option_map}
 use Rattle.wesl_tree_names.specs.Path.{path_view}
 use Rattle.wesl_scope_occurrences.specs.Occurrences as spec
 use Rattle.wesl_scope_occurrences.specs.Occurrences.{Surroundings}
-use Rattle.wesl_scope_occurrences.specs.Walk.{State, Found}
+use Rattle.wesl_scope_occurrences.specs.Walk.{Found}
 use Rattle.wesl_scope_occurrences.specs.declared.occurrence.Standing.{Standing}
 use Rattle.wesl_scope_occurrences.specs.declared.occurrence.Standing.TheVariants as standings
 use Rattle.wesl_scope_occurrences.specs.declared.occurrence.Occurrence.{Occurrence}
-use Rattle.wesl_scope_occurrences.specs.declared.walk.Here.{Here}
-use Rattle.wesl_scope_occurrences.specs.declared.walk.Walk.{Walk}
+use Rattle.wesl_scope_occurrences.specs.declared.here.Here.{Here}
 
 abbrev pub standing_view : Standing → spec.Standing
 standing_view standings.ModuleName = spec.module_name
@@ -23,6 +22,3 @@ occurrence_view o = record { role = standing_view o.standing; name = o.ident.0; 
 
 abbrev pub here_view : Here → Surroundings ℕ
 here_view h = record { block = h.block; held_block = h.held_block; is_local = h.is_local; declaration = h.declaration; words = h.words; excused = h.excused }
-
-abbrev pub state_of : Walk → State
-state_of w = record { found = map occurrence_view w.found.items; outer = w.outer.items }

@@ -4,12 +4,14 @@ ghost use Rattle.wesl_tree_syntax.specs.View.{type_view, expression_tree, attrib
 ghost use Rattle.wesl_scope_occurrences.specs.Views.{here_view};
 ghost use Rattle.wesl_scope_occurrences.specs.Noted.{Walks};
 
-use crate::walk::{Here, Walk};
+use crate::handler::Handler;
+use crate::here::Here;
+use crate::walk::Walk;
 use wesl_tree::{Attribute, AttributeNode, ExpressionNode, TypeExpression};
 
-impl<'a> Walk<'a> {
+impl<'a, H: Handler> Walk<'a, H> {
     pub fn optional_node(&mut self, here: &Here, node: &'a Option<ExpressionNode>)
-        ensures { Walks (here_view here.now) self.old self.new (optional expression_tree node.now) }
+        ensures { Walks H.after (here_view here.now) self.old self.new (optional expression_tree node.now) }
     {
         match node {
             None => {}
@@ -18,7 +20,7 @@ impl<'a> Walk<'a> {
     }
 
     pub fn optional_type(&mut self, here: &Here, ty: &'a Option<TypeExpression>)
-        ensures { Walks (here_view here.now) self.old self.new (optional type_view ty.now) }
+        ensures { Walks H.after (here_view here.now) self.old self.new (optional type_view ty.now) }
     {
         match ty {
             None => {}
@@ -27,7 +29,7 @@ impl<'a> Walk<'a> {
     }
 
     pub fn optional_nodes(&mut self, here: &Here, nodes: &'a Option<Vec<ExpressionNode>>)
-        ensures { Walks (here_view here.now) self.old self.new (optional (listed expression_tree list) nodes.now) }
+        ensures { Walks H.after (here_view here.now) self.old self.new (optional (listed expression_tree list) nodes.now) }
     {
         match nodes {
             None => {}
@@ -36,7 +38,7 @@ impl<'a> Walk<'a> {
     }
 
     fn attribute(&mut self, here: &Here, attribute: &'a Attribute)
-        ensures { Walks (here_view here.now) self.old self.new (attribute_view attribute.now) }
+        ensures { Walks H.after (here_view here.now) self.old self.new (attribute_view attribute.now) }
     {
         match attribute {
             Attribute::Align(e)
@@ -74,7 +76,7 @@ impl<'a> Walk<'a> {
     }
 
     pub fn attributes(&mut self, here: &Here, attributes: &'a Vec<AttributeNode>)
-        ensures { Walks (here_view here.now) self.old self.new (attributes_tree attributes.now) }
+        ensures { Walks H.after (here_view here.now) self.old self.new (attributes_tree attributes.now) }
     {
         for attribute in attributes {
             self.attribute(here, &attribute.node);

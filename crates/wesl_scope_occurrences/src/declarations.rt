@@ -4,41 +4,42 @@ ghost use Rattle.wesl_tree_syntax.specs.View.{listed, placed, declaration_view, 
 ghost use Rattle.wesl_scope_occurrences.specs.Views.{here_view};
 ghost use Rattle.wesl_scope_occurrences.specs.Noted.{Walks};
 
+use crate::handler::Handler;
+use crate::here::Here;
 use crate::occurrence::Standing;
-use crate::walk::{Here, Walk};
+use crate::walk::Walk;
 use wesl_tree::{
     ConstAssert, Declaration, FormalParameter, Struct, StructMember, StructMemberNode, TypeAlias,
 };
 
-impl<'a> Walk<'a> {
+impl<'a, H: Handler> Walk<'a, H> {
     pub fn declaration(&mut self, here: &Here, declaration: &'a Declaration)
-        ensures { Walks (here_view here.now) self.old self.new (declaration_view declaration.now) }
+        ensures { Walks H.after (here_view here.now) self.old self.new (declaration_view declaration.now) }
     {
         self.attributes(here, &declaration.attributes);
-        let name = self.found.len();
-        self.add(here, here.value_name(), declaration.ident);
+        self.meet(here, here.value_name(), declaration.ident);
         self.optional_type(here, &declaration.ty);
         self.optional_node(here, &declaration.initializer);
-        self.end(name);
+        self.end(here, declaration.ident);
     }
 
     pub fn alias(&mut self, here: &Here, alias: &'a TypeAlias)
-        ensures { Walks (here_view here.now) self.old self.new (alias_view alias.now) }
+        ensures { Walks H.after (here_view here.now) self.old self.new (alias_view alias.now) }
     {
         self.attributes(here, &alias.attributes);
-        self.add(here, Standing::ModuleName, alias.ident);
+        self.meet(here, Standing::ModuleName, alias.ident);
         self.type_expression(here, &alias.ty);
     }
 
     fn member(&mut self, here: &Here, member: &'a StructMember)
-        ensures { Walks (here_view here.now) self.old self.new (member_view member.now) }
+        ensures { Walks H.after (here_view here.now) self.old self.new (member_view member.now) }
     {
         self.attributes(here, &member.attributes);
         self.type_expression(here, &member.ty);
     }
 
     fn members(&mut self, here: &Here, all: &'a Vec<StructMemberNode>)
-        ensures { Walks (here_view here.now) self.old self.new (listed (placed member_view member_node) members all.now) }
+        ensures { Walks H.after (here_view here.now) self.old self.new (listed (placed member_view member_node) members all.now) }
     {
         for member in all {
             self.member(here, &member.node);
@@ -46,23 +47,24 @@ impl<'a> Walk<'a> {
     }
 
     pub fn structure(&mut self, here: &Here, structure: &'a Struct)
-        ensures { Walks (here_view here.now) self.old self.new (struct_view structure.now) }
+        ensures { Walks H.after (here_view here.now) self.old self.new (struct_view structure.now) }
     {
         self.attributes(here, &structure.attributes);
-        self.add(here, Standing::ModuleName, structure.ident);
+        self.meet(here, Standing::ModuleName, structure.ident);
         self.members(here, &structure.members);
     }
 
     fn parameter(&mut self, here: &Here, parameter: &'a FormalParameter)
-        ensures { Walks (here_view here.now) self.old self.new (parameter_view parameter.now) }
+        ensures { Walks H.after (here_view here.now) self.old self.new (parameter_view parameter.now) }
     {
-        self.attributes(&here.in_module(), &parameter.attributes);
-        self.add(here, Standing::Parameter, parameter.ident);
-        self.type_expression(&here.in_module(), &parameter.ty);
+        let outside = here.in_module();
+        self.attributes(&outside, &parameter.attributes);
+        self.meet(here, Standing::Parameter, parameter.ident);
+        self.type_expression(&outside, &parameter.ty);
     }
 
     pub fn parameters(&mut self, here: &Here, all: &'a Vec<FormalParameter>)
-        ensures { Walks (here_view here.now) self.old self.new (listed parameter_view parameters all.now) }
+        ensures { Walks H.after (here_view here.now) self.old self.new (listed parameter_view parameters all.now) }
     {
         for parameter in all {
             self.parameter(here, parameter);
@@ -70,7 +72,7 @@ impl<'a> Walk<'a> {
     }
 
     pub fn assertion(&mut self, here: &Here, assertion: &'a ConstAssert)
-        ensures { Walks (here_view here.now) self.old self.new (assert_view assertion.now) }
+        ensures { Walks H.after (here_view here.now) self.old self.new (assert_view assertion.now) }
     {
         self.attributes(here, &assertion.attributes);
         self.node(here, &assertion.expression);

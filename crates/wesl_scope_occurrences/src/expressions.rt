@@ -1,22 +1,25 @@
 //! The identifiers of expressions and types.
+ghost use Rattle.std.specs.Prelude.{◌∷◌, []};
 ghost use Rattle.std.specs.Option.{option_map};
 ghost use Rattle.wesl_tree_names.specs.Path.{path_view};
 ghost use Rattle.wesl_scope_occurrences.specs.Occurrences.{referring};
 ghost use Rattle.wesl_tree_syntax.specs.Tree.{list};
 ghost use Rattle.wesl_tree_syntax.specs.View.{expression_view, type_view, argument_view, call_view, expression_tree, listed};
-ghost use Rattle.wesl_scope_occurrences.specs.Views.{state_of, here_view};
-ghost use Rattle.wesl_scope_occurrences.specs.Noted.{Walks, Becomes, added};
+ghost use Rattle.wesl_scope_occurrences.specs.Events.{meets};
+ghost use Rattle.wesl_scope_occurrences.specs.Views.{here_view};
+ghost use Rattle.wesl_scope_occurrences.specs.Noted.{Walks, Steps};
 
-use crate::occurrence::Standing;
-use crate::walk::{Here, Walk};
+use crate::handler::Handler;
+use crate::here::Here;
+use crate::walk::Walk;
 use wesl_tree::{
     Expression, ExpressionNode, FunctionCall, Ident, ModulePath, TemplateArg, TypeExpression,
 };
 
-impl<'a> Walk<'a> {
+impl<'a, H: Handler> Walk<'a, H> {
     #[cycle(expressions)]
     pub fn expression(&mut self, here: &Here, expression: &'a Expression)
-        ensures { Walks (here_view here.now) self.old self.new (expression_view expression.now) }
+        ensures { Walks H.after (here_view here.now) self.old self.new (expression_view expression.now) }
     {
         match expression {
             Expression::Literal(_) => {}
@@ -45,14 +48,14 @@ impl<'a> Walk<'a> {
 
     #[cycle(expressions)]
     pub fn node(&mut self, here: &Here, node: &'a ExpressionNode)
-        ensures { Walks (here_view here.now) self.old self.new (expression_tree node.now) }
+        ensures { Walks H.after (here_view here.now) self.old self.new (expression_tree node.now) }
     {
         self.expression(here, &node.node)
     }
 
     #[cycle(expressions)]
     pub fn nodes(&mut self, here: &Here, nodes: &'a Vec<ExpressionNode>)
-        ensures { Walks (here_view here.now) self.old self.new (listed expression_tree list nodes.now) }
+        ensures { Walks H.after (here_view here.now) self.old self.new (listed expression_tree list nodes.now) }
     {
         for node in nodes {
             self.expression(here, &node.node);
@@ -62,7 +65,7 @@ impl<'a> Walk<'a> {
     #[cycle(expressions)]
     #[tactic(auto, using(crate::proofs::Views::view_call))]
     pub fn call(&mut self, here: &Here, call: &'a FunctionCall)
-        ensures { Walks (here_view here.now) self.old self.new (call_view call.now) }
+        ensures { Walks H.after (here_view here.now) self.old self.new (call_view call.now) }
     {
         self.type_expression(here, &call.ty);
         self.nodes(here, &call.arguments);
@@ -70,7 +73,7 @@ impl<'a> Walk<'a> {
 
     #[cycle(expressions)]
     pub fn type_expression(&mut self, here: &Here, ty: &'a TypeExpression)
-        ensures { Walks (here_view here.now) self.old self.new (type_view ty.now) }
+        ensures { Walks H.after (here_view here.now) self.old self.new (type_view ty.now) }
     {
         self.reference(here, &ty.path, ty.ident);
         match &ty.template_args {
@@ -81,7 +84,7 @@ impl<'a> Walk<'a> {
 
     #[cycle(expressions)]
     pub fn arguments(&mut self, here: &Here, arguments: &'a Vec<TemplateArg>)
-        ensures { Walks (here_view here.now) self.old self.new (listed argument_view list arguments.now) }
+        ensures { Walks H.after (here_view here.now) self.old self.new (listed argument_view list arguments.now) }
     {
         for argument in arguments {
             self.node(here, &argument.expression);
@@ -90,12 +93,8 @@ impl<'a> Walk<'a> {
 
     /// A reference, or a word where names are words.
     fn reference(&mut self, here: &Here, path: &'a Option<ModulePath>, ident: Ident)
-        ensures { Becomes self.old self.new (added (here_view here.now) (referring here.now.words (option_map path_view path.now)) ident.0 (state_of self.old)) }
+        ensures { Steps H.after self.old self.new (meets (here_view here.now) (referring here.now.words (option_map path_view path.now)) ident.0 ∷ []) [] }
     {
-        if here.words {
-            self.add(here, Standing::Word, ident)
-        } else {
-            self.add(here, Standing::Reference(path.as_ref()), ident)
-        }
+        self.meet(here, here.referring(path), ident);
     }
 }

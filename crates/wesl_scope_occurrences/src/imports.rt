@@ -4,29 +4,31 @@ ghost use Rattle.wesl_tree_syntax.specs.View.{listed, item_view, content_view, e
 ghost use Rattle.wesl_scope_occurrences.specs.Views.{here_view};
 ghost use Rattle.wesl_scope_occurrences.specs.Noted.{Walks};
 
+use crate::handler::Handler;
+use crate::here::Here;
 use crate::occurrence::Standing;
-use crate::walk::{Here, Walk};
+use crate::walk::Walk;
 use wesl_tree::{
     GlobalDirective, GlobalDirectiveNode, Import, ImportContent, ImportItem, ImportStatement,
     ImportStatementNode,
 };
 
-impl<'a> Walk<'a> {
+impl<'a, H: Handler> Walk<'a, H> {
     fn item(&mut self, here: &Here, item: &'a ImportItem)
-        ensures { Walks (here_view here.now) self.old self.new (item_view item.now) }
+        ensures { Walks H.after (here_view here.now) self.old self.new (item_view item.now) }
     {
         match item.rename {
-            None => self.add(here, Standing::ModuleName, item.ident),
+            None => self.meet(here, Standing::ModuleName, item.ident),
             Some(rename) => {
-                self.add(here, Standing::Word, item.ident);
-                self.add(here, Standing::ModuleName, rename);
+                self.meet(here, Standing::Word, item.ident);
+                self.meet(here, Standing::ModuleName, rename);
             }
         }
     }
 
     #[cycle(imports)]
     fn content(&mut self, here: &Here, content: &'a ImportContent)
-        ensures { Walks (here_view here.now) self.old self.new (content_view content.now) }
+        ensures { Walks H.after (here_view here.now) self.old self.new (content_view content.now) }
     {
         match content {
             ImportContent::Item(item) => self.item(here, item),
@@ -36,7 +38,7 @@ impl<'a> Walk<'a> {
 
     #[cycle(imports)]
     fn entries(&mut self, here: &Here, entries: &'a Vec<Import>)
-        ensures { Walks (here_view here.now) self.old self.new (listed entry_view list entries.now) }
+        ensures { Walks H.after (here_view here.now) self.old self.new (listed entry_view list entries.now) }
     {
         for entry in entries {
             self.content(here, &entry.content);
@@ -44,7 +46,7 @@ impl<'a> Walk<'a> {
     }
 
     fn import(&mut self, here: &Here, import: &'a ImportStatement)
-        ensures { Walks (here_view here.now) self.old self.new (import_view import.now) }
+        ensures { Walks H.after (here_view here.now) self.old self.new (import_view import.now) }
     {
         let here = here.in_words();
         self.attributes(&here, &import.attributes);
@@ -52,7 +54,7 @@ impl<'a> Walk<'a> {
     }
 
     pub fn imports(&mut self, here: &Here, imports: &'a Vec<ImportStatementNode>)
-        ensures { Walks (here_view here.now) self.old self.new (imports_tree imports.now) }
+        ensures { Walks H.after (here_view here.now) self.old self.new (imports_tree imports.now) }
     {
         for import in imports {
             self.import(here, &import.node);
@@ -60,7 +62,7 @@ impl<'a> Walk<'a> {
     }
 
     pub fn directive(&mut self, here: &Here, directive: &'a GlobalDirective)
-        ensures { Walks (here_view here.now) self.old self.new (directive_view directive.now) }
+        ensures { Walks H.after (here_view here.now) self.old self.new (directive_view directive.now) }
     {
         match directive {
             GlobalDirective::Diagnostic { attributes, .. }
@@ -72,7 +74,7 @@ impl<'a> Walk<'a> {
     }
 
     pub fn directives(&mut self, here: &Here, directives: &'a Vec<GlobalDirectiveNode>)
-        ensures { Walks (here_view here.now) self.old self.new (directives_tree directives.now) }
+        ensures { Walks H.after (here_view here.now) self.old self.new (directives_tree directives.now) }
     {
         for directive in directives {
             self.directive(here, &directive.node);

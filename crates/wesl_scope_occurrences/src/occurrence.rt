@@ -2,6 +2,7 @@
 ghost use Rattle.std.specs.Prelude.{◌≡◌};
 ghost use Rattle.wesl_scope_occurrences.specs.Occurrences.{is_module_name, is_binder, is_reference, is_unqualified};
 ghost use Rattle.wesl_scope_occurrences.specs.Walk.{ended_as};
+ghost use Rattle.wesl_scope_occurrences.specs.Bare.{bare_as};
 ghost use Rattle.wesl_scope_occurrences.specs.Views.{standing_view};
 
 use wesl_tree::{Ident, ModulePath};
@@ -65,6 +66,19 @@ impl<'a> Standing<'a> {
         match self {
             Standing::Reference(None) => true,
             _ => false,
+        }
+    }
+
+    /// The same, where a reference has no path.
+    pub(crate) fn without_path<'b>(&self) -> Standing<'b>
+        ensures { standing_view result ≡ bare_as (standing_view self.now) }
+    {
+        match self {
+            Standing::ModuleName => Standing::ModuleName,
+            Standing::Parameter => Standing::Parameter,
+            Standing::Local { end } => Standing::Local { end: *end },
+            Standing::Reference(_) => Standing::Reference(None),
+            Standing::Word => Standing::Word,
         }
     }
 

@@ -3,17 +3,19 @@ ghost use Rattle.std.specs.Box.{box_value};
 ghost use Rattle.wesl_tree_syntax.specs.Tree.{list, clauses, statements};
 ghost use Rattle.wesl_tree_syntax.specs.View.{statement_view, compound_view, continuing_view, else_view, else_if_view, if_view, clause_view, selector_view, break_if_view, statement_tree, listed, optional};
 ghost use Rattle.wesl_scope_occurrences.specs.Views.{here_view};
-ghost use Rattle.wesl_scope_occurrences.specs.Noted.{Walks};
+ghost use Rattle.wesl_scope_occurrences.specs.Noted.{Walks, WalksWithin};
 
-use crate::walk::{Here, Walk};
+use crate::handler::Handler;
+use crate::here::Here;
+use crate::walk::Walk;
 use wesl_tree::{
     BreakIfStatement, CaseSelector, CompoundStatement, ContinuingStatement, ElseClause,
     ElseIfClause, IfClause, Statement, StatementNode, SwitchClause,
 };
 
-impl<'a> Walk<'a> {
+impl<'a, H: Handler> Walk<'a, H> {
     fn selector(&mut self, here: &Here, selector: &'a CaseSelector)
-        ensures { Walks (here_view here.now) self.old self.new (selector_view selector.now) }
+        ensures { Walks H.after (here_view here.now) self.old self.new (selector_view selector.now) }
     {
         match selector {
             CaseSelector::Default => {}
@@ -22,7 +24,7 @@ impl<'a> Walk<'a> {
     }
 
     fn selectors(&mut self, here: &Here, selectors: &'a Vec<CaseSelector>)
-        ensures { Walks (here_view here.now) self.old self.new (listed selector_view list selectors.now) }
+        ensures { Walks H.after (here_view here.now) self.old self.new (listed selector_view list selectors.now) }
     {
         for selector in selectors {
             self.selector(here, selector);
@@ -30,14 +32,14 @@ impl<'a> Walk<'a> {
     }
 
     fn break_if(&mut self, here: &Here, break_if: &'a BreakIfStatement)
-        ensures { Walks (here_view here.now) self.old self.new (break_if_view break_if.now) }
+        ensures { Walks H.after (here_view here.now) self.old self.new (break_if_view break_if.now) }
     {
         self.attributes(here, &break_if.attributes);
         self.node(here, &break_if.expression);
     }
 
     fn optional_break_if(&mut self, here: &Here, break_if: &'a Option<BreakIfStatement>)
-        ensures { Walks (here_view here.now) self.old self.new (optional break_if_view break_if.now) }
+        ensures { Walks H.after (here_view here.now) self.old self.new (optional break_if_view break_if.now) }
     {
         match break_if {
             None => {}
@@ -48,13 +50,14 @@ impl<'a> Walk<'a> {
     #[cycle(statements)]
     #[tactic(auto, using(crate::proofs::Views::view_if, crate::proofs::Views::view_switch, crate::proofs::Views::view_for))]
     pub fn statement(&mut self, here: &Here, statement: &'a Statement)
-        ensures { Walks (here_view here.now) self.old self.new (statement_view statement.now) }
+        ensures { Walks H.after (here_view here.now) self.old self.new (statement_view statement.now) }
     {
         match statement {
             Statement::Void => {}
             Statement::Compound(body) => {
                 let here = self.open(here);
                 self.compound(&here, body);
+                self.close();
             }
             Statement::Assignment {
                 attributes,
@@ -108,6 +111,7 @@ impl<'a> Walk<'a> {
                 self.attributes(&here, attributes);
                 self.compound(&here, body);
                 self.optional_continuing(&here.inside(), continuing);
+                self.close();
             }
             Statement::For {
                 attributes,
@@ -118,12 +122,13 @@ impl<'a> Walk<'a> {
             } => {
                 let here = self.open(here);
                 let inner = here.inside();
-                let below = self.open(&inner);
+                let below = self.number(&inner);
                 self.attributes(&here, attributes);
                 self.optional_statement(&inner, initializer);
                 self.optional_node(&inner, condition);
-                self.optional_statement(&below.inside(), update);
+                self.update(&below.inside(), update);
                 self.compound(&inner, body);
+                self.close();
             }
             Statement::While {
                 attributes,
@@ -134,6 +139,7 @@ impl<'a> Walk<'a> {
                 self.attributes(&here, attributes);
                 self.node(&here, condition);
                 self.compound(&here, body);
+                self.close();
             }
             Statement::Break { attributes }
             | Statement::Continue { attributes }
@@ -156,7 +162,7 @@ impl<'a> Walk<'a> {
 
     #[cycle(statements)]
     fn optional_statement(&mut self, here: &Here, node: &'a Option<Box<StatementNode>>)
-        ensures { Walks (here_view here.now) self.old self.new (optional (λ s. statement_tree (box_value s)) node.now) }
+        ensures { Walks H.after (here_view here.now) self.old self.new (optional (λ s. statement_tree (box_value s)) node.now) }
     {
         match node {
             None => {}
@@ -164,10 +170,20 @@ impl<'a> Walk<'a> {
         }
     }
 
+    /// The update of a loop, which stands in a block of its own.
+    #[cycle(statements)]
+    fn update(&mut self, here: &Here, node: &'a Option<Box<StatementNode>>)
+        ensures { WalksWithin H.after (here_view here.now) self.old self.new (optional (λ s. statement_tree (box_value s)) node.now) }
+    {
+        self.enter();
+        self.optional_statement(here, node);
+        self.close();
+    }
+
     #[cycle(statements)]
     #[tactic(auto, using(crate::proofs::Views::view_compound))]
     pub fn compound(&mut self, here: &Here, body: &'a CompoundStatement)
-        ensures { Walks (here_view here.now) self.old self.new (compound_view body.now) }
+        ensures { Walks H.after (here_view here.now) self.old self.new (compound_view body.now) }
     {
         self.attributes(here, &body.attributes);
         self.statements(&here.inside(), &body.statements);
@@ -175,7 +191,7 @@ impl<'a> Walk<'a> {
 
     #[cycle(statements)]
     fn statements(&mut self, here: &Here, nodes: &'a Vec<StatementNode>)
-        ensures { Walks (here_view here.now) self.old self.new (listed statement_tree statements nodes.now) }
+        ensures { Walks H.after (here_view here.now) self.old self.new (listed statement_tree statements nodes.now) }
     {
         for node in nodes {
             self.statement(here, &node.node);
@@ -184,26 +200,28 @@ impl<'a> Walk<'a> {
 
     #[cycle(statements)]
     fn if_clause(&mut self, here: &Here, clause: &'a IfClause)
-        ensures { Walks (here_view here.now) self.old self.new (if_view clause.now) }
+        ensures { Walks H.after (here_view here.now) self.old self.new (if_view clause.now) }
     {
         let here = self.open(here);
         self.node(&here, &clause.expression);
         self.compound(&here, &clause.body);
+        self.close();
     }
 
     #[cycle(statements)]
     fn else_if_clause(&mut self, here: &Here, clause: &'a ElseIfClause)
-        ensures { Walks (here_view here.now) self.old self.new (else_if_view clause.now) }
+        ensures { Walks H.after (here_view here.now) self.old self.new (else_if_view clause.now) }
     {
         let here = self.open(here);
         self.attributes(&here, &clause.attributes);
         self.node(&here, &clause.expression);
         self.compound(&here, &clause.body);
+        self.close();
     }
 
     #[cycle(statements)]
     fn else_if_clauses(&mut self, here: &Here, all: &'a Vec<ElseIfClause>)
-        ensures { Walks (here_view here.now) self.old self.new (listed else_if_view list all.now) }
+        ensures { Walks H.after (here_view here.now) self.old self.new (listed else_if_view list all.now) }
     {
         for clause in all {
             self.else_if_clause(here, clause);
@@ -212,7 +230,7 @@ impl<'a> Walk<'a> {
 
     #[cycle(statements)]
     fn optional_else_clause(&mut self, here: &Here, clause: &'a Option<ElseClause>)
-        ensures { Walks (here_view here.now) self.old self.new (optional else_view clause.now) }
+        ensures { Walks H.after (here_view here.now) self.old self.new (optional else_view clause.now) }
     {
         match clause {
             None => {}
@@ -222,26 +240,28 @@ impl<'a> Walk<'a> {
 
     #[cycle(statements)]
     fn else_clause(&mut self, here: &Here, clause: &'a ElseClause)
-        ensures { Walks (here_view here.now) self.old self.new (else_view clause.now) }
+        ensures { Walks H.after (here_view here.now) self.old self.new (else_view clause.now) }
     {
         let here = self.open(here);
         self.attributes(&here, &clause.attributes);
         self.compound(&here, &clause.body);
+        self.close();
     }
 
     #[cycle(statements)]
     fn clause(&mut self, here: &Here, clause: &'a SwitchClause)
-        ensures { Walks (here_view here.now) self.old self.new (clause_view clause.now) }
+        ensures { Walks H.after (here_view here.now) self.old self.new (clause_view clause.now) }
     {
         let here = self.open(here);
         self.attributes(&here, &clause.attributes);
         self.selectors(&here, &clause.case_selectors);
         self.compound(&here, &clause.body);
+        self.close();
     }
 
     #[cycle(statements)]
     fn clauses(&mut self, here: &Here, all: &'a Vec<SwitchClause>)
-        ensures { Walks (here_view here.now) self.old self.new (listed clause_view clauses all.now) }
+        ensures { Walks H.after (here_view here.now) self.old self.new (listed clause_view clauses all.now) }
     {
         for clause in all {
             self.clause(here, clause);
@@ -250,7 +270,7 @@ impl<'a> Walk<'a> {
 
     #[cycle(statements)]
     fn optional_continuing(&mut self, here: &Here, continuing: &'a Option<ContinuingStatement>)
-        ensures { Walks (here_view here.now) self.old self.new (optional continuing_view continuing.now) }
+        ensures { Walks H.after (here_view here.now) self.old self.new (optional continuing_view continuing.now) }
     {
         match continuing {
             None => {}
@@ -260,11 +280,12 @@ impl<'a> Walk<'a> {
 
     #[cycle(statements)]
     fn continuing(&mut self, here: &Here, continuing: &'a ContinuingStatement)
-        ensures { Walks (here_view here.now) self.old self.new (continuing_view continuing.now) }
+        ensures { Walks H.after (here_view here.now) self.old self.new (continuing_view continuing.now) }
     {
         let here = self.open(here);
         self.attributes(&here, &continuing.attributes);
         self.compound(&here, &continuing.body);
         self.optional_break_if(&here.inside(), &continuing.break_if);
+        self.close();
     }
 }

@@ -11,8 +11,12 @@ ghost use Rattle.wesl_scope_occurrences.specs.Pieces.{starts};
 ghost use Rattle.wesl_scope_occurrences.specs.Ways.{AreNested};
 ghost use Rattle.wesl_scope_occurrences.specs.Outer.{outers};
 
+use crate::collector::Collector;
+use crate::here::Here;
 use crate::occurrence::Occurrence;
-use crate::walk::{Here, Walk};
+use crate::paths::with_paths;
+use crate::unit::walk_unit;
+use crate::walk::Walk;
 use std::alloc::{AllocError, Global};
 use wesl_tree::{GlobalDirectiveNode, Ident, TranslationUnit};
 
@@ -40,18 +44,15 @@ pub fn occurrences<'a>(
     ensures starts { IfOk result (λ found. found.starts.items ≡ starts (trees_of (unit_view unit.now))) }
     ensures names { IfOk result (λ found. All (λ o. o.ident.0 < length (unit_view unit.now).names) found.all.items) }
 {
-    let here = Here::outermost();
-    let mut walk = Walk::new(alloc);
-    walk.imports(&here, unit.imports());
-    walk.directives(&here, unit.global_directives());
-    let starts = walk.globals(alloc, &here, unit.global_declarations());
-    if walk.is_refused {
+    let walked = walk_unit(alloc, unit, Collector::new(alloc))?;
+    let collector = walked.handler;
+    if collector.is_refused {
         return Err(AllocError);
     }
     Ok(Identifiers {
-        all: walk.found,
-        outer: walk.outer,
-        starts,
+        all: with_paths(collector.found, &collector.qualified, &walked.paths),
+        outer: walked.outer,
+        starts: collector.starts,
     })
 }
 
@@ -74,10 +75,13 @@ fn idents(alloc: Global, found: &[Occurrence<'_>]) -> Result<Vec<Ident>, AllocEr
 pub fn words_of(alloc: Global, directive: &GlobalDirectiveNode) -> Result<Vec<Ident>, AllocError>
     ensures { IfOk result (λ found. map (λ i. i.0) found.items ≡ identifiers (before (placed directive_view directive_node directive.now) end)) }
 {
-    let mut walk = Walk::new(alloc);
+    let mut walk = Walk::new(alloc, Collector::new(alloc));
     walk.directive(&Here::outermost(), &directive.node);
     if walk.is_refused {
         return Err(AllocError);
     }
-    idents(alloc, &walk.found)
+    if walk.handler.is_refused {
+        return Err(AllocError);
+    }
+    idents(alloc, &walk.handler.found)
 }

@@ -4,7 +4,7 @@ use Rattle.wesl_scope_occurrences.proofs.Steps.{Passed}
 use Rattle.wesl_scope_occurrences.proofs.walk.Walk.+expressions.Given as goal
 
 abbrev pub invariant-arguments-loop-argument : goal.invariant-arguments-loop-argument
-invariant-arguments-loop-argument l = Passed argument_view (here_view l.here) l.initial.self l.self l.argument-items l.argument-index
+invariant-arguments-loop-argument g l = Passed g.H.Handler.after argument_view (here_view l.here) l.initial.self l.self l.argument-items l.argument-index
 
 abbrev pub invariant-nodes-loop-node : goal.invariant-nodes-loop-node
-invariant-nodes-loop-node l = Passed expression_tree (here_view l.here) l.initial.self l.self l.node-items l.node-index
+invariant-nodes-loop-node g l = Passed g.H.Handler.after expression_tree (here_view l.here) l.initial.self l.self l.node-items l.node-index

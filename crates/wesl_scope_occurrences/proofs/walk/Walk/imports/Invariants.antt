@@ -5,4 +5,4 @@ use Rattle.wesl_scope_occurrences.proofs.Steps.{Passed}
 use Rattle.wesl_scope_occurrences.proofs.walk.Walk.imports.Given as goal
 
 abbrev pub invariant-loop-import : goal.invariant-loop-import
-invariant-loop-import l = Passed (placed import_view import_node) (here_view l.here) l.initial.self l.self l.import-items l.import-index
+invariant-loop-import g l = Passed g.H.Handler.after (placed import_view import_node) (here_view l.here) l.initial.self l.self l.import-items l.import-index

@@ -4,4 +4,4 @@ use Rattle.wesl_scope_occurrences.proofs.Steps.{Passed}
 use Rattle.wesl_scope_occurrences.proofs.walk.Walk.parameters.Given as goal
 
 abbrev pub invariant-loop-parameter : goal.invariant-loop-parameter
-invariant-loop-parameter l = Passed parameter_view (here_view l.here) l.initial.self l.self l.parameter-items l.parameter-index
+invariant-loop-parameter g l = Passed g.H.Handler.after parameter_view (here_view l.here) l.initial.self l.self l.parameter-items l.parameter-index

@@ -1,0 +1,9 @@
+use Rattle.std.proofs.Common.{refl}
+use Rattle.wesl_scope_occurrences.specs.Views.{here_view}
+use Rattle.wesl_scope_occurrences.proofs.Steps.{lawful, next, none, over, tells}
+use Rattle.wesl_scope_occurrences.proofs.walk.Walk.alias.Goals as goal
+
+pub returns : goal.returns
+returns g c =
+    let l = lawful g.met.H.Handler.none g.met.H.Handler.more in
+    over (here_view c.args.here.now) (next l (tells l (next l (none l c.args.self.now) c.attributes.ensures) c.meet.ensures) c.type_expression.ensures) refl refl

@@ -1,0 +1,7 @@
+use Rattle.std.proofs.Common.{refl}
+use Rattle.wesl_scope_occurrences.proofs.Steps.{alone}
+use Rattle.wesl_scope_occurrences.proofs.walk.Walk.close.Goals as goal
+
+pub returns : goal.returns
+returns g c =
+    alone refl c.close.ensures

@@ -1,0 +1,16 @@
+use Rattle.std.proofs.Common.{refl, ap}
+use Rattle.wesl_scope_occurrences.specs.Views.{here_view}
+use Rattle.wesl_scope_occurrences.proofs.Steps.{lawful, next, none, over}
+use Rattle.wesl_tree_syntax.specs.Tree.{list}
+use Rattle.wesl_tree_syntax.specs.View.{optional, listed, expression_tree}
+use Rattle.wesl_scope_occurrences.proofs.walk.Walk.optional_nodes.Goals as goal
+
+pub returns-in-None : goal.returns-in-None
+returns-in-None g c =
+    let l = lawful g.met.H.Handler.none g.met.H.Handler.more in
+    over (here_view c.args.here.now) (none l c.args.self.now) (ap (optional (listed expression_tree list)) c.in-None.is) refl
+
+pub returns-in-Some : goal.returns-in-Some
+returns-in-Some g c =
+    let l = lawful g.met.H.Handler.none g.met.H.Handler.more in
+    over (here_view c.args.here.now) (next l (none l c.args.self.now) c.nodes.ensures) (ap (optional (listed expression_tree list)) c.in-Some.is) refl
