@@ -1,0 +1,17 @@
+pub mod Runs
+pub mod Good
+pub mod Still
+pub mod Blocks
+pub mod Forests
+pub mod Around
+pub mod Lively
+pub mod Functions
+pub mod Modules
+pub mod Units
+pub mod Typed
+pub mod Respelled
+pub mod Whole
+pub mod Tables
+pub mod Named
+pub mod Matched
+pub mod Told

@@ -1,0 +1,6 @@
+pub mod Open
+pub mod Table
+pub mod Named
+pub mod Matched
+pub mod Told
+pub mod Laws
