@@ -1,7 +1,8 @@
 -- What the marks of a module's declarations reach is what is kept.
-use Rattle.std.proofs.Common.{◌≡◌, ℕ, zero, suc, ◌<◌, Bool, true, false, not, ◌&&◌, ◌||◌, ◌==◌, cond, List, [], ◌∷◌, length, get_or, map, refl, sym, ◌∙◌, ap, subst, arith, ◌⊎◌, inl, inr, ◌↔◌}
+use Rattle.std.proofs.Common.{◌≡◌, ℕ, zero, suc, ◌<◌, Bool, true, false, not, ◌&&◌, ◌||◌, ◌==◌, cond, List, [], ◌∷◌, length, get_or, map, take, ◌++◌, refl, sym, ◌∙◌, ap, subst, arith, ◌⊎◌, inl, inr, ◌↔◌}
 use Rattle.std.specs.Prelude.{Option, Some, None, bytes_eq}
 use Rattle.std.specs.List.{list_any, filter, Contains, All}
+use Rattle.std.proofs.lemmas.List.{get_or-take}
 use Rattle.std.proofs.lemmas.List.Folds.{list_any_at}
 use Rattle.std.proofs.lemmas.Bool.Decides.{Decides-eqb}
 use Rattle.std.proofs.lemmas.Slice.Eq.{bytes_eq-Decides}
@@ -12,8 +13,11 @@ use Rattle.wesl_scope_occurrences.specs.Occurrences.{Block, Occurrence, occurren
 use Rattle.wesl_scope_occurrences.specs.Walk.{Found}
 use Rattle.wesl_scope_occurrences.specs.Ways.{told}
 use Rattle.wesl_scope_strip.specs.Declarations.{lies_in, count, declared_in, referred_in, IsKept, named, nameless, reached}
-use Rattle.wesl_scope_strip.specs.Marks.{mark_at, has_name, names_here, Reached, kept_first, wanted_first, referred, declared}
-use Rattle.wesl_scope_strip.proofs.Reaching.{both, and_true, found}
+use Rattle.wesl_scope_strip.specs.Marks.{mark_at, has_name, names_here}
+use Rattle.wesl_scope_strip.proofs.Reaching.{both, and_true, found, reached_node, Reached, kept_first, wanted_first, referred, declared}
+use Rattle.wesl_scope_graph.specs.Graphs as graphs
+use Rattle.wesl_scope_graph.specs.Graphs.{Graph, Leads}
+use Rattle.wesl_scope_strip.specs.Steps.{IsStepOf}
 use Rattle.wesl_scope_strip.proofs.Reaching as reaching
 
 contains_here : {A : Type 0} (x : A) (xs : List A) → Contains (x ∷ xs) x
@@ -223,8 +227,8 @@ names_within view n [] h k d l = absurd (omega arith)
 names_within view n (x ∷ xs) h zero d l = h 0 x (omega arith)
 names_within view n (x ∷ xs) h (suc k) d l = names_within view n xs (λ i e m. h (suc i) e (omega arith)) k d (omega arith)
 
--- all together
-pub least_kept : {A : Type 0} (text : A → Text) (u : UnitView) (ks : List A) (w : ℕ → Block) (os : List Found) (kept0 wanted0 kept : List Bool) → map (told w) os ≡ occurrences (trees_of u)
+-- marks of what is reached are marks of what is kept
+least_kept : {A : Type 0} (text : A → Text) (u : UnitView) (ks : List A) (w : ℕ → Block) (os : List Found) (kept0 wanted0 kept : List Bool) → map (told w) os ≡ occurrences (trees_of u)
     → length kept0 ≡ count u → ((j : ℕ) → j < count u → mark_at kept0 j ≡ not (has_name os j))
     → length wanted0 ≡ length u.names → ((m : ℕ) → m < length u.names → mark_at wanted0 m ≡ list_any (λ k. bytes_eq (text k) (name_in u.names m)) ks)
     → All (λ o. o.name < length wanted0) os → ((j : ℕ) → j < length kept0 → (mark_at kept j ≡ true) ↔ Reached os kept0 wanted0 true j)
@@ -235,3 +239,19 @@ least_kept text u ks w os kept0 wanted0 kept all_is lk mk lw mw within marked j 
       λ h. reached_kept u (map text ks) w os all_is kept0 wanted0 lk mk lw wanted_is within true j ((marked j l).0 h),
       λ h. (marked j l).1 (kept_reached u (map text ks) w os all_is kept0 wanted0 lk mk lw wanted_is within j h),
     )
+
+-- the first marks, where the marks reach what they reach in the graph
+pub least_taken : {A : Type 0} (text : A → Text) (u : UnitView) (ks : List A) (w : ℕ → Block) (os : List Found) (g : Graph) (n : ℕ) (kept wanted marks : List Bool) → map (told w) os ≡ occurrences (trees_of u)
+    → n ≡ count u → length kept ≡ n → ((j : ℕ) → j < n → mark_at kept j ≡ not (has_name os j))
+    → length wanted ≡ length u.names → ((m : ℕ) → m < length u.names → mark_at wanted m ≡ list_any (λ k. bytes_eq (text k) (name_in u.names m)) ks)
+    → All (λ o. o.name < length wanted) os → ((a b : ℕ) → Leads g a b ↔ IsStepOf n a b os) → ((a : ℕ) → (mark_at marks a ≡ true) ↔ graphs.Reached g (kept ++ wanted) a)
+    → (j : ℕ) → j < n → (mark_at (take n marks) j ≡ true) ↔ IsKept u (map text ks) j
+least_taken text u ks w os g n kept wanted marks all_is total lk mk lw mw within steps all j l =
+    least_kept text u ks w os kept wanted (take n marks) all_is (lk ∙ total) (λ i h. mk i (omega (arith, h, total))) lw mw within
+    (λ i h. both_ways i (omega (arith, h, lk))) j (omega (arith, l, lk))
+  where
+    both_ways : (i : ℕ) → i < n → (mark_at (take n marks) i ≡ true) ↔ Reached os kept wanted true i
+    both_ways i h =
+        let same : mark_at (take n marks) i ≡ mark_at marks i = get_or-take n marks i false h in
+        let r = reached_node n g os kept wanted lk within steps i h in
+        (λ e. r.0 ((all i).0 (sym same ∙ e)), λ e. same ∙ (all i).1 (r.1 e))

@@ -1,3 +1,4 @@
-pub mod Keeping
 pub mod Marking
+pub mod Stepping
 pub mod Reaching
+pub mod Keeping

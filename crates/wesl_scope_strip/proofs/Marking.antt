@@ -1,11 +1,10 @@
 -- Marks of declarations and of numbers.
 use Rattle.std.proofs.Common.{◌≡◌, ◌≢◌, ℕ, ◌+◌, ◌<◌, ◌≤◌, Bool, true, false, not, ◌&&◌, ◌||◌, ◌==◌, List, length, get_or, set, map, drop, refl, sym, ◌∙◌, ap, subst, arith, add-one, drop-cons, get_or-set_same, get_or-set_other}
-use Rattle.std.specs.Prelude.{if◌then◌else◌}
 use Rattle.std.specs.List.{list_any}
 use Rattle.std.proofs.lemmas.List.{drop_all}
-use Rattle.std.proofs.lemmas.List.Sums.{sum_by-set}
 use Rattle.std.proofs.lemmas.Bool.Decides.{Decides-eqb}
-use Rattle.wesl_scope_strip.specs.Marks.{mark_at, unmarked}
+use Rattle.wesl_scope_strip.specs.Marks.{mark_at}
+pub use Rattle.wesl_scope_graph.proofs.Meeting.{one_fewer}
 
 pub or_assoc : (a b c : Bool) → ((a || b) || c) ≡ (a || (b || c))
 or_assoc true b c = refl
@@ -37,22 +36,9 @@ set_marked ms p m h = at (p == m) (Decides-eqb p m)
         false_true : false ≡ true → ⊥
         false_true e = cc
 
--- a place that has its mark, and one past the end
-pub mark_stays : (ms : List Bool) (p m : ℕ) → mark_at ms p ≡ true → mark_at ms m ≡ (mark_at ms m || p == m)
-mark_stays ms p m h = at (p == m) (Decides-eqb p m)
-  where
-    at : (t : Bool) → ((t ≡ true → p ≡ m) × (p ≡ m → t ≡ true)) → mark_at ms m ≡ (mark_at ms m || t)
-    at true d = let e : mark_at ms m ≡ true = subst (λ k. mark_at ms k ≡ true) (d.0 refl) h in rw e refl
-    at false d = sym (or_false (mark_at ms m))
-
+-- a place past the end
 pub mark_past : (ms : List Bool) (p m : ℕ) → m < length ms → length ms ≤ p → mark_at ms m ≡ (mark_at ms m || p == m)
 mark_past ms p m h le = let e : (p == m) ≡ false = same_test p m (λ q. absurd (omega arith)) in rw e (sym (or_false (mark_at ms m)))
-
-pub one_fewer : (ms : List Bool) (p : ℕ) → p < length ms → mark_at ms p ≡ false → unmarked (set ms p true) + 1 ≡ unmarked ms
-one_fewer ms p h e =
-    let s : unmarked (set ms p true) + (if mark_at ms p then 0 else 1) ≡ unmarked ms + 0 = sum_by-set (λ (m : Bool). if m then 0 else 1) ms p true false h in
-    let t : unmarked (set ms p true) + 1 ≡ unmarked ms + 0 = subst (λ (b : Bool). unmarked (set ms p true) + (if b then 0 else 1) ≡ unmarked ms + 0) e s in
-    omega (arith, t)
 
 -- one mark is taken away
 pub and_true_right : (a : Bool) → (a && true) ≡ a
@@ -98,17 +84,3 @@ module _ {A B : Type 0} (f : A → B) (p : B → Bool) where
   -- and past the last
   pub marked_all : (xs : List A) (i : ℕ) (first old : Bool) → length xs ≤ i → (old || list_any p (map f (drop i xs))) ≡ first → old ≡ first
   marked_all xs i first old h so = sym (or_false old) ∙ (ap (λ ys. old || list_any p (map f ys)) (sym (drop_all i xs h)) ∙ so)
-
--- where a mark is new, at this item or before, fewer are not marked
-pub fewer_next : (here before now : Bool) (a b c : ℕ) → now ≡ (here || before) → (here ≡ true → c < b) → (here ≡ false → c ≡ b) → (before ≡ true → b < a) → (before ≡ false → b ≡ a) → now ≡ true → c < a
-fewer_next true true now a b c e f s g t n = omega (arith, f refl, g refl)
-fewer_next true false now a b c e f s g t n = omega (arith, f refl, t refl)
-fewer_next false true now a b c e f s g t n = omega (arith, s refl, g refl)
-fewer_next false false now a b c e f s g t n = absurd (let q : false ≡ true = sym e ∙ n in cc)
-
--- and where none is, they are as they were
-pub same_next : {A : Type 0} (here before now : Bool) (a b c : A) → now ≡ (here || before) → (here ≡ false → c ≡ b) → (before ≡ false → b ≡ a) → now ≡ false → c ≡ a
-same_next true true now a b c e s t n = absurd (let q : true ≡ false = sym e ∙ n in cc)
-same_next true false now a b c e s t n = absurd (let q : true ≡ false = sym e ∙ n in cc)
-same_next false true now a b c e s t n = absurd (let q : true ≡ false = sym e ∙ n in cc)
-same_next false false now a b c e s t n = s refl ∙ t refl

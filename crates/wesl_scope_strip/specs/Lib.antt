@@ -1,3 +1,4 @@
 pub mod Declarations
 pub mod Marks
+pub mod Steps
 pub mod Forests

@@ -5,118 +5,14 @@ ghost use Rattle.wesl_tree_syntax.specs.Tree.{trees};
 ghost use Rattle.wesl_tree_syntax.specs.Unit.{name_in};
 ghost use Rattle.wesl_scope_occurrences.specs.Views.{occurrence_view};
 ghost use Rattle.wesl_scope_strip.specs.Declarations.{IsKept};
-ghost use Rattle.wesl_scope_strip.specs.Marks.{Reached, mark_at, mark_of, unmarked, refers, declares, has_name, refers_here, declares_here, names_here};
+ghost use Rattle.wesl_scope_strip.specs.Marks.{mark_at, has_name, names_here};
 ghost use Rattle.wesl_tree.specs.Translation.{unit_view};
 
+use crate::steps::steps_of;
 use std::alloc::{AllocError, Global};
+use wesl_scope_graph::reach;
 use wesl_scope_occurrences::{Occurrence, occurrences};
 use wesl_tree::{Ident, Names, TranslationUnit};
-
-fn either(first: bool, second: bool) -> bool
-    ensures { result ≡ first || second }
-{
-    first || second
-}
-
-/// Sets a mark, and answers whether a mark is new. A place past the end has none.
-fn mark(marks: &mut [bool], place: usize) -> bool
-    ensures marked { (m : ℕ) → m < length marks.old → mark_at marks.new m ≡ mark_at marks.old m || place == m }
-    ensures fewer { result ≡ true → unmarked marks.new < unmarked marks.old }
-    ensures same { result ≡ false → marks.new ≡ marks.old }
-{
-    if place >= marks.len() {
-        return false;
-    }
-    if marks[place] {
-        return false;
-    }
-    marks[place] = true;
-    true
-}
-
-/// Whether the declaration of this number is marked, if there is one.
-fn is_marked(marks: &[bool], declaration: Option<usize>) -> bool
-    ensures { result ≡ mark_of marks.now declaration }
-{
-    match declaration {
-        None => false,
-        Some(declaration) => declaration < marks.len() && marks[declaration],
-    }
-}
-
-#[tactic(auto, using(crate::proofs::Marking::or_false))]
-fn mark_reference(occurrence: &Occurrence<'_>, kept: &[bool], wanted: &mut [bool]) -> bool
-    ensures marked { (m : ℕ) → m < length wanted.old → mark_at wanted.new m ≡ mark_at wanted.old m || refers_here kept.now m (occurrence_view occurrence.now) }
-    ensures fewer { result ≡ true → unmarked wanted.new < unmarked wanted.old }
-    ensures same { result ≡ false → wanted.new ≡ wanted.old }
-{
-    if occurrence.standing.is_reference() && is_marked(kept, occurrence.declaration) {
-        mark(wanted, occurrence.ident.0)
-    } else {
-        false
-    }
-}
-
-/// Marks the numbers to which kept declarations refer, and answers whether a mark is new.
-#[tactic(auto, using(crate::proofs::Marking::any_next, crate::proofs::Marking::or_assoc, crate::proofs::Marking::or_false))]
-fn mark_references(all: &[Occurrence<'_>], kept: &[bool], wanted: &mut [bool]) -> bool
-    ensures marked { (m : ℕ) → m < length wanted.old → mark_at wanted.new m ≡ mark_at wanted.old m || refers kept.now (map occurrence_view all.now) m }
-    ensures fewer { result ≡ true → unmarked wanted.new < unmarked wanted.old }
-    ensures same { result ≡ false → wanted.new ≡ wanted.old }
-{
-    let mut changed = false;
-    for occurrence in all {
-        changed = either(mark_reference(occurrence, kept, wanted), changed);
-    }
-    changed
-}
-
-#[tactic(auto, using(crate::proofs::Marking::or_false))]
-fn mark_declaration(occurrence: &Occurrence<'_>, wanted: &[bool], kept: &mut [bool]) -> bool
-    ensures marked { (j : ℕ) → j < length kept.old → mark_at kept.new j ≡ mark_at kept.old j || declares_here wanted.now j (occurrence_view occurrence.now) }
-    ensures fewer { result ≡ true → unmarked kept.new < unmarked kept.old }
-    ensures same { result ≡ false → kept.new ≡ kept.old }
-{
-    match occurrence.declaration {
-        None => false,
-        Some(declaration) => {
-            if occurrence.standing.is_module_name() && is_marked(wanted, Some(occurrence.ident.0)) {
-                mark(kept, declaration)
-            } else {
-                false
-            }
-        }
-    }
-}
-
-/// Marks the declarations of wanted numbers, and answers whether a mark is new.
-#[tactic(auto, using(crate::proofs::Marking::any_next, crate::proofs::Marking::or_assoc, crate::proofs::Marking::or_false))]
-fn mark_declarations(all: &[Occurrence<'_>], wanted: &[bool], kept: &mut [bool]) -> bool
-    ensures marked { (j : ℕ) → j < length kept.old → mark_at kept.new j ≡ mark_at kept.old j || declares wanted.now (map occurrence_view all.now) j }
-    ensures fewer { result ≡ true → unmarked kept.new < unmarked kept.old }
-    ensures same { result ≡ false → kept.new ≡ kept.old }
-{
-    let mut changed = false;
-    for occurrence in all {
-        changed = either(mark_declaration(occurrence, wanted, kept), changed);
-    }
-    changed
-}
-
-/// Marks what the marked declarations reach: the numbers to which they refer, and the declarations of those.
-///
-/// It goes over the identifiers until nothing is new, at most once for each mark.
-fn spread(all: &[Occurrence<'_>], kept: &mut [bool], wanted: &mut [bool])
-    requires { All (λ o. o.ident.0 < length wanted.old) all.now }
-    ensures marked { (j : ℕ) → j < length kept.old → (mark_at kept.new j ≡ true) ↔ Reached (map occurrence_view all.now) kept.old wanted.old true j }
-{
-    let mut changed = true;
-    while changed {
-        let numbers = mark_references(all, kept, wanted);
-        let declarations = mark_declarations(all, wanted, kept);
-        changed = either(numbers, declarations);
-    }
-}
 
 /// Whether one of these is the name.
 fn is_among(keep: &[&str], name: &str) -> bool
@@ -182,8 +78,12 @@ pub fn kept_declarations(
     ensures least { IfOk result (λ kept. (j : ℕ) → j < length kept.items → (mark_at kept.items j ≡ true) ↔ IsKept (unit_view unit.now) (map (λ k. k.now) keep.now) j) }
 {
     let found = occurrences(alloc, unit)?;
-    let mut kept = nameless(alloc, unit.global_declarations().len(), &found.all)?;
-    let mut wanted = named(alloc, unit.names(), keep)?;
-    spread(&found.all, &mut kept, &mut wanted);
-    Ok(kept)
+    let count = unit.global_declarations().len();
+    let mut marks = nameless(alloc, count, &found.all)?;
+    let wanted = named(alloc, unit.names(), keep)?;
+    marks.extend_from_slice(&wanted)?;
+    let graph = steps_of(alloc, count, &found.all)?;
+    reach(alloc, &graph, &mut marks)?;
+    marks.truncate(count);
+    Ok(marks)
 }

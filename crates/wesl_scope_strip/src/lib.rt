@@ -3,5 +3,6 @@
 #![tactic(auto)]
 
 mod kept;
+mod steps;
 
 pub use kept::kept_declarations;

@@ -11,9 +11,9 @@ ghost use Rattle.wesl_validate_calls.specs.Views.{shape_view, tables_view};
 use crate::numbers::bound_numbers;
 use crate::shape::{Shape, shape_at, shapes_of};
 use std::alloc::{AllocError, Global};
+use wesl_scope_graph::add_edge;
 use wesl_scope_occurrences::{Identifiers, Occurrence, Standing};
 use wesl_tree::TranslationUnit;
-use wesl_validate_rules::add_edge;
 
 /// What a module's numbers are to calls.
 #[derive(Drop)]

@@ -13,16 +13,16 @@ use Rattle.wesl_validate_builtins.specs.Builtins.{BuiltinNames}
 use Rattle.wesl_validate_rules.specs.Valid.{is_bound, is_known, is_undefined}
 use Rattle.wesl_validate_rules.specs.Known.{is_meant, binds, is_unknown, IsUndefinedAt}
 
-contains_here : {A : Type 0} (x : A) (xs : List A) → Contains (x ∷ xs) x
+pub contains_here : {A : Type 0} (x : A) (xs : List A) → Contains (x ∷ xs) x
 contains_here x xs = (0, omega arith, refl)
 
-contains_later : {A : Type 0} (x m : A) (xs : List A) → Contains xs m → Contains (x ∷ xs) m
+pub contains_later : {A : Type 0} (x m : A) (xs : List A) → Contains xs m → Contains (x ∷ xs) m
 contains_later x m xs c = (suc c.0, omega (arith, c.1), c.2)
 
-contains_none : {A : Type 0} (m : A) → Contains [] m → ⊥
+pub contains_none : {A : Type 0} (m : A) → Contains [] m → ⊥
 contains_none m c = let l : c.0 < 0 = c.1 in omega (arith, l)
 
-contains_cases : {A : Type 0} (x m : A) (xs : List A) → Contains (x ∷ xs) m → (x ≡ m) ⊎ Contains xs m
+pub contains_cases : {A : Type 0} (x m : A) (xs : List A) → Contains (x ∷ xs) m → (x ≡ m) ⊎ Contains xs m
 contains_cases x m xs (zero, l, e) = inl e
 contains_cases x m xs (suc k, l, e) = inr (k, omega (arith, l), e)
 
@@ -46,7 +46,7 @@ module _ {A : Type 0} (p : A → Bool) where
       by false h e r = let s = r e in (contains_later y x xs s.0, s.1)
 
 module _ {A B : Type 0} (f : A → B) where
-  from_mapped : (xs : List A) (y : B) → Contains (map f xs) y → (x : A) × (Contains xs x × (f x ≡ y))
+  pub from_mapped : (xs : List A) (y : B) → Contains (map f xs) y → (x : A) × (Contains xs x × (f x ≡ y))
   from_mapped [] y c = absurd (contains_none y c)
   from_mapped (x ∷ xs) y c = by (contains_cases (f x) y (map f xs) c) (from_mapped xs y)
     where
@@ -54,7 +54,7 @@ module _ {A B : Type 0} (f : A → B) where
       by (inl e) r = (x, (contains_here x xs, e))
       by (inr d) r = let s = r d in (s.0, (contains_later x s.0 xs s.1.0, s.1.1))
 
-  to_mapped : (xs : List A) (x : A) → Contains xs x → Contains (map f xs) (f x)
+  pub to_mapped : (xs : List A) (x : A) → Contains xs x → Contains (map f xs) (f x)
   to_mapped [] x c = absurd (contains_none x c)
   to_mapped (z ∷ xs) x c = by (contains_cases z x xs c) (to_mapped xs x)
     where
@@ -89,7 +89,7 @@ module _ (u : UnitView) (b : BuiltinNames) (names : List Text) (w : ℕ → Bloc
       ∙ (or_comm (binds os m) (is_meant b (name_in u.names m))
       ∙ (ap (λ ns. is_meant b (name_in ns m) || binds os m) (sym same) ∙ sym (known_is m l)))
 
-  test_is : (o : Found) → Contains os o → is_undefined u b (told w o) ≡ is_unknown known o
+  pub test_is : (o : Found) → Contains os o → is_undefined u b (told w o) ≡ is_unknown known o
   test_is o c = ap (λ t. is_unqualified o.role && (not o.excused && not t)) (is_marked o.name (within o c))
 
   pub none_undefined : find (is_unknown known) os ≡ None → (o : Occurrence ℕ) → Contains (occurrences (trees_of u)) o → is_undefined u b o ≡ false

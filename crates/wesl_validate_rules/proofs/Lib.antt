@@ -2,7 +2,6 @@ pub mod Faults
 pub mod Finding
 pub mod Gathering
 pub mod Graphs
-pub mod Growing
 pub mod Stepping
 pub mod Turns
 pub mod Twice

@@ -5,7 +5,6 @@
 #![tactic(auto)]
 
 mod distinct;
-mod edges;
 mod graph;
 mod imports;
 mod known;
@@ -16,8 +15,8 @@ mod steps;
 mod unknown;
 
 pub use distinct::duplicate;
-pub use edges::add_edge;
 pub use graph::ring;
+pub use known::known_numbers;
 pub use laws::{law_of_faults, law_of_graphs};
 pub use rings::cycle;
-pub use unknown::undefined;
+pub use unknown::{is_unknown, undefined};

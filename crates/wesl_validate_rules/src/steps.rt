@@ -4,8 +4,8 @@ ghost use Rattle.wesl_scope_occurrences.specs.Views.{occurrence_view};
 ghost use Rattle.wesl_validate_rules.specs.Graphs.{graph_view, edges_at, IsClosed};
 ghost use Rattle.wesl_validate_rules.specs.Steps.{referred_here, referred, used_by, steps_here, steps};
 
-use crate::edges::add_edge;
 use std::alloc::{AllocError, Global};
+use wesl_scope_graph::add_edge;
 use wesl_scope_occurrences::{Identifiers, Occurrence};
 
 /// Adds what an identifier refers to, if it is a reference in a declaration.

@@ -17,7 +17,7 @@ use wesl_tree_names::Names;
 use wesl_validate_builtins::Builtins;
 
 /// Whether it is a reference without a path, in no argument of a custom attribute, to a number that is not marked.
-fn is_unknown(occurrence: &Occurrence<'_>, known: &Vec<bool>) -> bool
+pub fn is_unknown(occurrence: &Occurrence<'_>, known: &Vec<bool>) -> bool
     ensures { result ≡ is_unknown known.now.items (occurrence_view occurrence.now) }
 {
     let number = occurrence.ident.0;

@@ -1,6 +1,6 @@
 use Rattle.std.proofs.Common.{◌≡◌, ◌≤◌, ◌-◌, ℕ, suc, length}
-use Rattle.wesl_validate_rules.specs.Graphs.{graph_view, edges_at}
-use Rattle.wesl_validate_rules.proofs.edges.grow.Given as goal
+use Rattle.wesl_scope_graph.specs.Graphs.{graph_view, edges_at}
+use Rattle.wesl_scope_graph.proofs.edges.grow.Given as goal
 
 abbrev pub invariant-loop-alloc : goal.invariant-loop-alloc
 invariant-loop-alloc l = record {

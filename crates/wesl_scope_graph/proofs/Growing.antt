@@ -5,7 +5,7 @@ use Rattle.std.specs.List.{Contains}
 use Rattle.std.proofs.lemmas.Bool.Decides.{Decides-eqb}
 use Rattle.std.proofs.lemmas.List.{append-nil, get_or-set_same, get_or-set_other}
 use Rattle.std.proofs.lemmas.List.Elements.{Contains-append_cases}
-use Rattle.wesl_validate_rules.specs.Graphs.{Graph, graph_view, edges_at, IsClosed}
+use Rattle.wesl_scope_graph.specs.Graphs.{Graph, graph_view, edges_at, IsClosed}
 
 -- a node without edges
 pub one_more : (g : Graph) (xs : List ℕ) (a : ℕ) → xs ≡ [] → edges_at (g ++ xs ∷ []) a ≡ edges_at g a
@@ -50,11 +50,11 @@ pushed_at graph from to a v w h e f =
     ap (λ g. edges_at g a) (view_set graph from w)
     ∙ pushed (graph_view graph) from to a w.items (subst (λ n. from < n) (sym (length_view graph)) h) (f ∙ ap (λ xs. xs ++ to ∷ []) (items_at graph from v h e))
 
-contains_one : (x y : ℕ) → Contains (x ∷ []) y → x ≡ y
+pub contains_one : (x y : ℕ) → Contains (x ∷ []) y → x ≡ y
 contains_one x y (zero, l, e) = e
 contains_one x y (suc k, l, e) = absurd (omega (arith, l))
 
-contains_none : (y : ℕ) → Contains {X = ℕ} [] y → ⊥
+pub contains_none : (y : ℕ) → Contains {X = ℕ} [] y → ⊥
 contains_none y c = let l : c.0 < 0 = c.1 in omega (arith, l)
 
 -- an edge to a node of the graph leads out of it nowhere

@@ -1,7 +1,7 @@
 use Rattle.std.proofs.Common.{◌∙◌, ◌<◌, ◌≤◌, ◌++◌, ◌==◌, ◌∷◌, [], length, ap, arith}
 use Rattle.std.specs.Prelude.{if◌then◌else◌}
-use Rattle.wesl_validate_rules.proofs.Growing.{pushed_at, closed_at}
-use Rattle.wesl_validate_rules.proofs.edges.add_edge.Goals as goal
+use Rattle.wesl_scope_graph.proofs.Growing.{pushed_at, closed_at}
+use Rattle.wesl_scope_graph.proofs.edges.add_edge.Goals as goal
 
 pub returns-clause-added : goal.returns-clause-added
 returns-clause-added c =
