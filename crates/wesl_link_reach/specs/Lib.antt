@@ -3,6 +3,7 @@ pub mod Asked
 pub mod Loader
 pub mod Refusal
 pub mod Loading
+pub mod OverLoader
 pub mod Keeping
 pub mod Eager
 pub mod Faults

@@ -102,6 +102,18 @@ world_of r s = r.root ∷ s.others.items
 abbrev pub task_at : Request → Task PathId NameId
 task_at r = task_of r.root r.kept.items r.is_eager
 
+-- the path has a module
+abbrev pub IsLoaded : Request → Loaded → PathId → Type 0
+IsLoaded r s p = (t : Table PathId NameId) × IsAt (world_of r s) p t
+
+-- there is a module at the path, and Q holds of it
+abbrev pub HoldsAtPath : Request → Loaded → PathId → (Table PathId NameId → Type 0) → Type 0
+HoldsAtPath r s p Q = (t : Table PathId NameId) × IsAt (world_of r s) p t × Q t
+
+-- there is a module at the place, and Q holds of it
+abbrev pub HoldsAtPlace : Request → Loaded → ℕ → (Table PathId NameId → Type 0) → Type 0
+HoldsAtPlace r s place Q = (t : Table PathId NameId) × (slice_get (world_of r s) place ≡ Some t) × Q t
+
 abbrev pub IsSound : (PathId → Table PathId NameId → Type 0) → (PathId → Type 0) → Request → Loaded → Type 0
 IsSound hands ready r s = IsSoundIn hands ready r.root (task_at r) r.max_modules s.others.items s.symbols.keys s.places.entries s.answers.entries
 

@@ -2,14 +2,12 @@
 ghost use Rattle.std.specs.Prelude.{◌≡◌, ◌<◌, length, map, IfOk, OnOk, IfErr, Contains, true, []};
 ghost use Rattle.wesl_link_symbols.specs.declared.ids.PathId.{PathId};
 ghost use Rattle.wesl_tree_base.specs.declared.ids.NameId.{NameId};
-ghost use Rattle.wesl_link_symbols.specs.Tables as tables;
 ghost use Rattle.wesl_link_symbols.specs.declared.symbols.Symbol.{Symbol};
-ghost use Rattle.wesl_link_reach.specs.World.{IsAt, Entered, Reached};
+ghost use Rattle.wesl_link_reach.specs.World.{Entered, Reached};
 ghost use Rattle.wesl_link_reach.specs.Asked.{Gains};
 ghost use Rattle.wesl_link_reach.specs.Eager.{IsDeclaredAmong, with_named};
-ghost use Rattle.wesl_link_reach.specs.Loader.{OnlyAdds};
-ghost use Rattle.wesl_link_reach.specs.Refusal.{IsExplained};
-ghost use Rattle.wesl_link_reach.specs.Loading.{IsSound, Grows, CanEnter, HasImported, HoldsDeclared, OfModuleAt, world_of, task_at};
+ghost use Rattle.wesl_link_reach.specs.Loading.{Grows, HasImported, HoldsDeclared, OfModuleAt, IsLoaded, world_of, task_at};
+ghost use Rattle.wesl_link_reach.specs.OverLoader.{LoaderAdds, IsSoundOver, CanLoad, RefusesRequest};
 
 use crate::error::LinkError;
 use crate::load::load;
@@ -39,14 +37,14 @@ fn enter_all<E, L: Loader<E>>(
     loader: &mut L,
     paths: &[PathId],
 ) -> Result<(), LinkError<E>>
-    requires sound { IsSound (L.hands loader.old) (L.ready loader.old) request.now loaded.old }
+    requires sound { IsSoundOver L.Loader loader.old request.now loaded.old }
     requires entered { (p : PathId) → Contains paths.now p → Entered (world_of request.now loaded.old) (task_at request.now) p }
-    requires can { (p : PathId) → Contains paths.now p → CanEnter (L.ready loader.old) (world_of request.now loaded.old) p }
-    ensures sound { OnOk result (IsSound (L.hands loader.new) (L.ready loader.new) request.now loaded.new) }
+    requires can { (p : PathId) → Contains paths.now p → CanLoad L.Loader loader.old request.now loaded.old p }
+    ensures sound { OnOk result (IsSoundOver L.Loader loader.new request.now loaded.new) }
     ensures grows { OnOk result (Grows loaded.old loaded.new) }
-    ensures there { OnOk result ((p : PathId) → Contains paths.now p → (t : tables.Table PathId NameId) × IsAt (world_of request.now loaded.new) p t) }
-    ensures refused { IfErr result (IsExplained (L.hands loader.new) (L.refuses loader.new) request.now.root (task_at request.now) request.now.max_modules) }
-    ensures adds { OnlyAdds (L.hands loader.old) (L.refuses loader.old) (L.ready loader.old) (L.hands loader.new) (L.refuses loader.new) (L.ready loader.new) }
+    ensures there { OnOk result ((p : PathId) → Contains paths.now p → IsLoaded request.now loaded.new p) }
+    ensures refused { IfErr result (RefusesRequest L.Loader loader.new request.now) }
+    ensures adds { LoaderAdds L.Loader loader.old loader.new }
 {
     for path in paths {
         load(alloc, request, loaded, loader, *path)?;
@@ -63,13 +61,13 @@ pub fn enter_imports<E, L: Loader<E>>(
     place: usize,
 ) -> Result<(), LinkError<E>>
     requires eager { request.now.is_eager ≡ true }
-    requires sound { IsSound (L.hands loader.old) (L.ready loader.old) request.now loaded.old }
+    requires sound { IsSoundOver L.Loader loader.old request.now loaded.old }
     requires within { place < length (world_of request.now loaded.old) }
-    ensures sound { OnOk result (IsSound (L.hands loader.new) (L.ready loader.new) request.now loaded.new) }
+    ensures sound { OnOk result (IsSoundOver L.Loader loader.new request.now loaded.new) }
     ensures grows { OnOk result (Grows loaded.old loaded.new) }
     ensures there { OnOk result (OfModuleAt (world_of request.now loaded.old) place (HasImported (world_of request.now loaded.new))) }
-    ensures refused { IfErr result (IsExplained (L.hands loader.new) (L.refuses loader.new) request.now.root (task_at request.now) request.now.max_modules) }
-    ensures adds { OnlyAdds (L.hands loader.old) (L.refuses loader.old) (L.ready loader.old) (L.hands loader.new) (L.refuses loader.new) (L.ready loader.new) }
+    ensures refused { IfErr result (RefusesRequest L.Loader loader.new request.now) }
+    ensures adds { LoaderAdds L.Loader loader.old loader.new }
 {
     let paths = imported_paths(alloc, table_at(request, loaded, place))?;
     enter_all(alloc, request, loaded, loader, &paths)?;
@@ -108,13 +106,13 @@ fn hold_all<E, L: Loader<E>>(
     loader: &L,
     symbols: &[Symbol<PathId, NameId>],
 ) -> Result<(), LinkError<E>>
-    requires sound { IsSound (L.hands loader.now) (L.ready loader.now) request.now loaded.old }
+    requires sound { IsSoundOver L.Loader loader.now request.now loaded.old }
     requires reached { (s : Symbol PathId NameId) → Contains symbols.now s → Reached (world_of request.now loaded.old) (task_at request.now) s }
-    requires placed { (s : Symbol PathId NameId) → Contains symbols.now s → (t : tables.Table PathId NameId) × IsAt (world_of request.now loaded.old) s.path t }
-    ensures sound { OnOk result (IsSound (L.hands loader.now) (L.ready loader.now) request.now loaded.new) }
+    requires placed { (s : Symbol PathId NameId) → Contains symbols.now s → IsLoaded request.now loaded.old s.path }
+    ensures sound { OnOk result (IsSoundOver L.Loader loader.now request.now loaded.new) }
     ensures grows { OnOk result (Grows loaded.old loaded.new) }
     ensures held { OnOk result ((s : Symbol PathId NameId) → Contains symbols.now s → Contains loaded.new.symbols.keys s) }
-    ensures refused { IfErr result (IsExplained (L.hands loader.now) (L.refuses loader.now) request.now.root (task_at request.now) request.now.max_modules) }
+    ensures refused { IfErr result (RefusesRequest L.Loader loader.now request.now) }
 {
     for symbol in symbols {
         loaded.symbols.put(*symbol)?;
@@ -131,12 +129,12 @@ pub fn hold_declared<E, L: Loader<E>>(
     place: usize,
 ) -> Result<(), LinkError<E>>
     requires eager { request.now.is_eager ≡ true }
-    requires sound { IsSound (L.hands loader.now) (L.ready loader.now) request.now loaded.old }
+    requires sound { IsSoundOver L.Loader loader.now request.now loaded.old }
     requires within { place < length (world_of request.now loaded.old) }
-    ensures sound { OnOk result (IsSound (L.hands loader.now) (L.ready loader.now) request.now loaded.new) }
+    ensures sound { OnOk result (IsSoundOver L.Loader loader.now request.now loaded.new) }
     ensures grows { OnOk result (Grows loaded.old loaded.new) }
     ensures held { OnOk result (OfModuleAt (world_of request.now loaded.old) place (HoldsDeclared loaded.new.symbols.keys)) }
-    ensures refused { IfErr result (IsExplained (L.hands loader.now) (L.refuses loader.now) request.now.root (task_at request.now) request.now.max_modules) }
+    ensures refused { IfErr result (RefusesRequest L.Loader loader.now request.now) }
 {
     let symbols = declared_symbols(alloc, table_at(request, loaded, place))?;
     hold_all(request, loaded, loader, &symbols)?;

@@ -2,13 +2,11 @@
 ghost use Rattle.std.specs.Prelude.{◌≡◌, ◌↔◌, Some, IsTrue, IfSome, IfNone, IfOk, OnOk, IfErr, Contains};
 ghost use Rattle.wesl_link_symbols.specs.declared.ids.PathId.{PathId};
 ghost use Rattle.wesl_tree_base.specs.declared.ids.NameId.{NameId};
-ghost use Rattle.wesl_link_symbols.specs.Tables as tables;
 ghost use Rattle.wesl_link_symbols.specs.declared.symbols.LookUp.{LookUp};
-ghost use Rattle.wesl_link_reach.specs.World.{IsAt, Hops, HasMet, Followed};
+ghost use Rattle.wesl_link_reach.specs.World.{Hops, HasMet, Followed};
 ghost use Rattle.wesl_link_symbols.specs.Names.{Answers};
-ghost use Rattle.wesl_link_reach.specs.Loader.{OnlyAdds};
-ghost use Rattle.wesl_link_reach.specs.Refusal.{IsExplained};
-ghost use Rattle.wesl_link_reach.specs.Loading.{IsSound, Grows, ArePlaced, CanEnter, IsAnswered, IsWalked, HasFound, world_of, task_at};
+ghost use Rattle.wesl_link_reach.specs.Loading.{Grows, ArePlaced, IsAnswered, IsWalked, HasFound, HoldsAtPath, IsLoaded, world_of, task_at};
+ghost use Rattle.wesl_link_reach.specs.OverLoader.{LoaderAdds, IsSoundOver, CanLoad, RefusesRequest};
 
 use crate::error::LinkError;
 use crate::load::load;
@@ -26,8 +24,8 @@ fn answer_at(
     look_up: LookUp<PathId, NameId>,
 ) -> Answer<PathId, NameId>
     requires placed { ArePlaced loaded.now.others.items loaded.now.places.entries }
-    requires there { (t : tables.Table PathId NameId) × IsAt (world_of request.now loaded.now) look_up.path t }
-    ensures { (t : tables.Table PathId NameId) × IsAt (world_of request.now loaded.now) look_up.path t × Answers t look_up result }
+    requires there { IsLoaded request.now loaded.now look_up.path }
+    ensures { HoldsAtPath request.now loaded.now look_up.path (λ t. Answers t look_up result) }
 {
     match loaded_table(request, loaded, look_up.path) {
         Some(table) => table.answer(look_up),
@@ -43,16 +41,16 @@ fn hop<E, L: Loader<E>>(
     loader: &mut L,
     look_up: LookUp<PathId, NameId>,
 ) -> Result<Option<LookUp<PathId, NameId>>, LinkError<E>>
-    requires sound { IsSound (L.hands loader.old) (L.ready loader.old) request.now loaded.old }
+    requires sound { IsSoundOver L.Loader loader.old request.now loaded.old }
     requires walked { IsWalked (world_of request.now loaded.old) (task_at request.now) look_up }
-    requires can { CanEnter (L.ready loader.old) (world_of request.now loaded.old) look_up.path }
-    ensures sound { OnOk result (IsSound (L.hands loader.new) (L.ready loader.new) request.now loaded.new) }
+    requires can { CanLoad L.Loader loader.old request.now loaded.old look_up.path }
+    ensures sound { OnOk result (IsSoundOver L.Loader loader.new request.now loaded.new) }
     ensures grows { OnOk result (Grows loaded.old loaded.new) }
     ensures next { IfOk result (λ o. IfSome o (λ n. Hops (world_of request.now loaded.new) look_up n)) }
-    ensures can { IfOk result (λ o. IfSome o (λ n. CanEnter (L.ready loader.new) (world_of request.now loaded.new) n.path)) }
+    ensures can { IfOk result (λ o. IfSome o (λ n. CanLoad L.Loader loader.new request.now loaded.new n.path)) }
     ensures found { IfOk result (λ o. IfNone o (HasFound (world_of request.now loaded.new) loaded.new.symbols.keys look_up)) }
-    ensures refused { IfErr result (IsExplained (L.hands loader.new) (L.refuses loader.new) request.now.root (task_at request.now) request.now.max_modules) }
-    ensures adds { OnlyAdds (L.hands loader.old) (L.refuses loader.old) (L.ready loader.old) (L.hands loader.new) (L.refuses loader.new) (L.ready loader.new) }
+    ensures refused { IfErr result (RefusesRequest L.Loader loader.new request.now) }
+    ensures adds { LoaderAdds L.Loader loader.old loader.new }
 {
     load(alloc, request, loaded, loader, look_up.path)?;
     match answer_at(request, loaded, look_up) {
@@ -91,14 +89,14 @@ pub fn follow<E, L: Loader<E>>(
     loader: &mut L,
     start: LookUp<PathId, NameId>,
 ) -> Result<(), LinkError<E>>
-    requires sound { IsSound (L.hands loader.old) (L.ready loader.old) request.now loaded.old }
+    requires sound { IsSoundOver L.Loader loader.old request.now loaded.old }
     requires followed { Followed (world_of request.now loaded.old) (task_at request.now) start }
-    requires can { CanEnter (L.ready loader.old) (world_of request.now loaded.old) start.path }
-    ensures sound { OnOk result (IsSound (L.hands loader.new) (L.ready loader.new) request.now loaded.new) }
+    requires can { CanLoad L.Loader loader.old request.now loaded.old start.path }
+    ensures sound { OnOk result (IsSoundOver L.Loader loader.new request.now loaded.new) }
     ensures grows { OnOk result (Grows loaded.old loaded.new) }
     ensures answered { OnOk result (IsAnswered loaded.new.answers.entries start) }
-    ensures refused { IfErr result (IsExplained (L.hands loader.new) (L.refuses loader.new) request.now.root (task_at request.now) request.now.max_modules) }
-    ensures adds { OnlyAdds (L.hands loader.old) (L.refuses loader.old) (L.ready loader.old) (L.hands loader.new) (L.refuses loader.new) (L.ready loader.new) }
+    ensures refused { IfErr result (RefusesRequest L.Loader loader.new request.now) }
+    ensures adds { LoaderAdds L.Loader loader.old loader.new }
 {
     match keyed::value_at(&loaded.answers, start) {
         Some(_) => Ok(()),
@@ -114,14 +112,14 @@ fn follow_new<E, L: Loader<E>>(
     loader: &mut L,
     start: LookUp<PathId, NameId>,
 ) -> Result<(), LinkError<E>>
-    requires sound { IsSound (L.hands loader.old) (L.ready loader.old) request.now loaded.old }
+    requires sound { IsSoundOver L.Loader loader.old request.now loaded.old }
     requires followed { Followed (world_of request.now loaded.old) (task_at request.now) start }
-    requires can { CanEnter (L.ready loader.old) (world_of request.now loaded.old) start.path }
-    ensures sound { OnOk result (IsSound (L.hands loader.new) (L.ready loader.new) request.now loaded.new) }
+    requires can { CanLoad L.Loader loader.old request.now loaded.old start.path }
+    ensures sound { OnOk result (IsSoundOver L.Loader loader.new request.now loaded.new) }
     ensures grows { OnOk result (Grows loaded.old loaded.new) }
     ensures answered { OnOk result (IsAnswered loaded.new.answers.entries start) }
-    ensures refused { IfErr result (IsExplained (L.hands loader.new) (L.refuses loader.new) request.now.root (task_at request.now) request.now.max_modules) }
-    ensures adds { OnlyAdds (L.hands loader.old) (L.refuses loader.old) (L.ready loader.old) (L.hands loader.new) (L.refuses loader.new) (L.ready loader.new) }
+    ensures refused { IfErr result (RefusesRequest L.Loader loader.new request.now) }
+    ensures adds { LoaderAdds L.Loader loader.old loader.new }
 {
     let mut trail: Vec<LookUp<PathId, NameId>> = Vec::new(alloc);
     let mut current = start;
@@ -154,14 +152,14 @@ pub fn follow_all<E, L: Loader<E>>(
     loader: &mut L,
     asked: &[LookUp<PathId, NameId>],
 ) -> Result<(), LinkError<E>>
-    requires sound { IsSound (L.hands loader.old) (L.ready loader.old) request.now loaded.old }
+    requires sound { IsSoundOver L.Loader loader.old request.now loaded.old }
     requires followed { (l : LookUp PathId NameId) → Contains asked.now l → Followed (world_of request.now loaded.old) (task_at request.now) l }
-    requires can { (l : LookUp PathId NameId) → Contains asked.now l → CanEnter (L.ready loader.old) (world_of request.now loaded.old) l.path }
-    ensures sound { OnOk result (IsSound (L.hands loader.new) (L.ready loader.new) request.now loaded.new) }
+    requires can { (l : LookUp PathId NameId) → Contains asked.now l → CanLoad L.Loader loader.old request.now loaded.old l.path }
+    ensures sound { OnOk result (IsSoundOver L.Loader loader.new request.now loaded.new) }
     ensures grows { OnOk result (Grows loaded.old loaded.new) }
     ensures answered { OnOk result ((l : LookUp PathId NameId) → Contains asked.now l → IsAnswered loaded.new.answers.entries l) }
-    ensures refused { IfErr result (IsExplained (L.hands loader.new) (L.refuses loader.new) request.now.root (task_at request.now) request.now.max_modules) }
-    ensures adds { OnlyAdds (L.hands loader.old) (L.refuses loader.old) (L.ready loader.old) (L.hands loader.new) (L.refuses loader.new) (L.ready loader.new) }
+    ensures refused { IfErr result (RefusesRequest L.Loader loader.new request.now) }
+    ensures adds { LoaderAdds L.Loader loader.old loader.new }
 {
     for look_up in asked {
         follow(alloc, request, loaded, loader, *look_up)?;

@@ -1,15 +1,16 @@
 //! Linking: what a root module reaches.
-ghost use Rattle.std.specs.Prelude.{◌≡◌, ◌↔◌, ◌<◌, ◌∷◌, [], true, false, IsTrue, IfOk, IfErr, Contains};
+ghost use Rattle.std.specs.Prelude.{◌≡◌, ◌↔◌, ◌<◌, ◌∷◌, IsTrue, IfOk, IfErr, Contains};
 ghost use Rattle.wesl_link_symbols.specs.declared.ids.PathId.{PathId};
 ghost use Rattle.wesl_tree_base.specs.declared.ids.NameId.{NameId};
 ghost use Rattle.wesl_link_symbols.specs.declared.symbols.Symbol.{Symbol};
 ghost use Rattle.wesl_link_symbols.specs.Names.{asked_for};
 ghost use Rattle.wesl_link_reach.specs.World.{LeadsTo};
 ghost use Rattle.wesl_link_reach.specs.Faults.{IsAdmitted};
-ghost use Rattle.wesl_link_reach.specs.Linking.{IsLinked, task_of};
-ghost use Rattle.wesl_link_reach.specs.Loader.{IsReady, OnlyAdds};
-ghost use Rattle.wesl_link_reach.specs.Refusal.{IsExplained};
+ghost use Rattle.wesl_link_reach.specs.Linking.{task_of};
+ghost use Rattle.wesl_link_reach.specs.Loader.{IsReady};
 ghost use Rattle.wesl_link_reach.specs.Keeping.{StandsHeld};
+ghost use Rattle.wesl_link_reach.specs.Loading.{task_at};
+ghost use Rattle.wesl_link_reach.specs.OverLoader.{LoaderAdds, IsLinkedOver, IsExplainedOver, RefusesRequest};
 
 use crate::error::LinkError;
 use crate::loader::Loader;
@@ -124,9 +125,9 @@ fn link<E, L: Loader<E>>(
     requires admitted { IsAdmitted request.root }
     requires ready_paths { IsReady (L.ready loader.old) request.root }
     requires room { 0 < request.max_modules }
-    ensures linked { IfOk result (IsLinked (L.hands loader.new) (L.refuses loader.new) request.root (task_of request.root request.kept.items request.is_eager) request.max_modules) }
-    ensures refused { IfErr result (IsExplained (L.hands loader.new) (L.refuses loader.new) request.root (task_of request.root request.kept.items request.is_eager) request.max_modules) }
-    ensures adds { OnlyAdds (L.hands loader.old) (L.refuses loader.old) (L.ready loader.old) (L.hands loader.new) (L.refuses loader.new) (L.ready loader.new) }
+    ensures linked { IfOk result (IsLinkedOver L.Loader loader.new request.root (task_at request) request.max_modules) }
+    ensures refused { IfErr result (RefusesRequest L.Loader loader.new request) }
+    ensures adds { LoaderAdds L.Loader loader.old loader.new }
 {
     let mut reach = run::reach_all(alloc, &request, loader)?;
     let Request {
@@ -151,8 +152,15 @@ fn link<E, L: Loader<E>>(
     })
 }
 
-/// Links a root.
-fn resolve<E, L: Loader<E>>(
+/// Loads the modules that the kept names of the root and the const_asserts reach, and no others; or, of an eager link, the
+/// modules that the root imports from, and those that they import from, and holds all that they declare too.
+///
+/// `loader` hands out each module but the root, once a path at most; no more than `max_modules` are loaded, the root counted.
+/// It is refused where binders of one name with different targets are there at once, where a name stands for two things
+/// where it is used or where a look-up comes to it, where a module with such a name has more than 16 flags, where the loader
+/// refuses a path, where a look-up finds nothing or nothing that it may see, and where there are more modules than may be
+/// (WESL, "Imports", "Visibility" and "ConditionalTranslation").
+pub fn link_table<E, L: Loader<E>>(
     alloc: Global,
     root: Table,
     kept: Vec<NameId>,
@@ -161,9 +169,9 @@ fn resolve<E, L: Loader<E>>(
     max_modules: usize,
 ) -> Result<Linked, LinkError<E>>
     requires { IsReady (L.ready loader.old) root }
-    ensures linked { IfOk result (IsLinked (L.hands loader.new) (L.refuses loader.new) root (task_of root kept.items is_eager) max_modules) }
-    ensures refused { IfErr result (IsExplained (L.hands loader.new) (L.refuses loader.new) root (task_of root kept.items is_eager) max_modules) }
-    ensures adds { OnlyAdds (L.hands loader.old) (L.refuses loader.old) (L.ready loader.old) (L.hands loader.new) (L.refuses loader.new) (L.ready loader.new) }
+    ensures linked { IfOk result (IsLinkedOver L.Loader loader.new root (task_of root kept.items is_eager) max_modules) }
+    ensures refused { IfErr result (IsExplainedOver L.Loader loader.new root (task_of root kept.items is_eager) max_modules) }
+    ensures adds { LoaderAdds L.Loader loader.old loader.new }
 {
     if max_modules == 0 {
         return Err(LinkError::ModuleLimit(0));
@@ -181,44 +189,4 @@ fn resolve<E, L: Loader<E>>(
         max_modules,
     };
     link(alloc, request, loader)
-}
-
-/// Loads the modules that the kept names of the root and the const_asserts reach, and no others.
-///
-/// `loader` hands out each module but the root, once a path at most; no more than `max_modules` are loaded, the root counted.
-/// It is refused where binders of one name with different targets are there at once, where a name stands for two things
-/// where it is used or where a look-up comes to it, where a module with such a name has more than 16 flags, where the loader
-/// refuses a path, where a look-up finds nothing or nothing that it may see, and where there are more modules than may be
-/// (WESL, "Imports", "Visibility" and "ConditionalTranslation").
-pub fn link_lazily<E, L: Loader<E>>(
-    alloc: Global,
-    root: Table,
-    keep: Vec<NameId>,
-    loader: &mut L,
-    max_modules: usize,
-) -> Result<Linked, LinkError<E>>
-    requires { IsReady (L.ready loader.old) root }
-    ensures linked { IfOk result (IsLinked (L.hands loader.new) (L.refuses loader.new) root (task_of root keep.items false) max_modules) }
-    ensures refused { IfErr result (IsExplained (L.hands loader.new) (L.refuses loader.new) root (task_of root keep.items false) max_modules) }
-    ensures adds { OnlyAdds (L.hands loader.old) (L.refuses loader.old) (L.ready loader.old) (L.hands loader.new) (L.refuses loader.new) (L.ready loader.new) }
-{
-    resolve(alloc, root, keep, false, loader, max_modules)
-}
-
-/// Loads the modules that the root imports from, and those that they import from, and holds all that they declare.
-///
-/// The loader, the limit and the refusals are those of `link_lazily`.
-pub fn link_eagerly<E, L: Loader<E>>(
-    alloc: Global,
-    root: Table,
-    loader: &mut L,
-    max_modules: usize,
-) -> Result<Linked, LinkError<E>>
-    requires { IsReady (L.ready loader.old) root }
-    ensures linked { IfOk result (IsLinked (L.hands loader.new) (L.refuses loader.new) root (task_of root [] true) max_modules) }
-    ensures refused { IfErr result (IsExplained (L.hands loader.new) (L.refuses loader.new) root (task_of root [] true) max_modules) }
-    ensures adds { OnlyAdds (L.hands loader.old) (L.refuses loader.old) (L.ready loader.old) (L.hands loader.new) (L.refuses loader.new) (L.ready loader.new) }
-{
-    let kept = Vec::new(alloc);
-    resolve(alloc, root, kept, true, loader, max_modules)
 }

@@ -4,9 +4,9 @@ ghost use Rattle.wesl_link_symbols.specs.declared.ids.PathId.{PathId};
 ghost use Rattle.wesl_tree_base.specs.declared.ids.NameId.{NameId};
 ghost use Rattle.wesl_link_symbols.specs.Tables as tables;
 ghost use Rattle.wesl_link_reach.specs.World.{IsAt, Entered};
-ghost use Rattle.wesl_link_reach.specs.Loader.{IsReady, OnlyAdds};
-ghost use Rattle.wesl_link_reach.specs.Refusal.{IsExplained};
-ghost use Rattle.wesl_link_reach.specs.Loading.{IsSound, Grows, CanEnter, world_of, task_at};
+ghost use Rattle.wesl_link_reach.specs.Loader.{IsReady};
+ghost use Rattle.wesl_link_reach.specs.Loading.{Grows, IsLoaded, world_of, task_at};
+ghost use Rattle.wesl_link_reach.specs.OverLoader.{LoaderAdds, IsSoundOver, CanLoad, RefusesRequest};
 
 use crate::error::LinkError;
 use crate::loader::{LoadError, Loader};
@@ -24,16 +24,16 @@ fn add<E, L: Loader<E>>(
     loader: &L,
     table: Table,
 ) -> Result<(), LinkError<E>>
-    requires sound { IsSound (L.hands loader.now) (L.ready loader.now) request.now loaded.old }
+    requires sound { IsSoundOver L.Loader loader.now request.now loaded.old }
     requires handed { L.hands loader.now table.path table }
     requires ready_paths { IsReady (L.ready loader.now) table }
     requires entered { Entered (world_of request.now loaded.old) (task_at request.now) table.path }
     requires absent { (t : tables.Table PathId NameId) → IsAt (world_of request.now loaded.old) table.path t → ⊥ }
     requires room { length (world_of request.now loaded.old) < request.now.max_modules }
-    ensures sound { OnOk result (IsSound (L.hands loader.now) (L.ready loader.now) request.now loaded.new) }
+    ensures sound { OnOk result (IsSoundOver L.Loader loader.now request.now loaded.new) }
     ensures grows { OnOk result (Grows loaded.old loaded.new) }
-    ensures there { OnOk result ((t : tables.Table PathId NameId) × IsAt (world_of request.now loaded.new) table.path t) }
-    ensures refused { IfErr result (IsExplained (L.hands loader.now) (L.refuses loader.now) request.now.root (task_at request.now) request.now.max_modules) }
+    ensures there { OnOk result (IsLoaded request.now loaded.new table.path) }
+    ensures refused { IfErr result (RefusesRequest L.Loader loader.now request.now) }
 {
     if table.is_crowded() {
         return Err(LinkError::TooManyFlags(table.path()));
@@ -54,15 +54,15 @@ fn fetch<E, L: Loader<E>>(
     loader: &mut L,
     path: PathId,
 ) -> Result<(), LinkError<E>>
-    requires sound { IsSound (L.hands loader.old) (L.ready loader.old) request.now loaded.old }
+    requires sound { IsSoundOver L.Loader loader.old request.now loaded.old }
     requires entered { Entered (world_of request.now loaded.old) (task_at request.now) path }
     requires ready_path { L.ready loader.old path }
     requires absent { (t : tables.Table PathId NameId) → IsAt (world_of request.now loaded.old) path t → ⊥ }
-    ensures sound { OnOk result (IsSound (L.hands loader.new) (L.ready loader.new) request.now loaded.new) }
+    ensures sound { OnOk result (IsSoundOver L.Loader loader.new request.now loaded.new) }
     ensures grows { OnOk result (Grows loaded.old loaded.new) }
-    ensures there { OnOk result ((t : tables.Table PathId NameId) × IsAt (world_of request.now loaded.new) path t) }
-    ensures refused { IfErr result (IsExplained (L.hands loader.new) (L.refuses loader.new) request.now.root (task_at request.now) request.now.max_modules) }
-    ensures adds { OnlyAdds (L.hands loader.old) (L.refuses loader.old) (L.ready loader.old) (L.hands loader.new) (L.refuses loader.new) (L.ready loader.new) }
+    ensures there { OnOk result (IsLoaded request.now loaded.new path) }
+    ensures refused { IfErr result (RefusesRequest L.Loader loader.new request.now) }
+    ensures adds { LoaderAdds L.Loader loader.old loader.new }
 {
     if loaded.others.len() >= request.max_modules - 1 {
         return Err(LinkError::ModuleLimit(request.max_modules));
@@ -82,14 +82,14 @@ pub fn load<E, L: Loader<E>>(
     loader: &mut L,
     path: PathId,
 ) -> Result<(), LinkError<E>>
-    requires sound { IsSound (L.hands loader.old) (L.ready loader.old) request.now loaded.old }
+    requires sound { IsSoundOver L.Loader loader.old request.now loaded.old }
     requires entered { Entered (world_of request.now loaded.old) (task_at request.now) path }
-    requires can { CanEnter (L.ready loader.old) (world_of request.now loaded.old) path }
-    ensures sound { OnOk result (IsSound (L.hands loader.new) (L.ready loader.new) request.now loaded.new) }
+    requires can { CanLoad L.Loader loader.old request.now loaded.old path }
+    ensures sound { OnOk result (IsSoundOver L.Loader loader.new request.now loaded.new) }
     ensures grows { OnOk result (Grows loaded.old loaded.new) }
-    ensures there { OnOk result ((t : tables.Table PathId NameId) × IsAt (world_of request.now loaded.new) path t) }
-    ensures refused { IfErr result (IsExplained (L.hands loader.new) (L.refuses loader.new) request.now.root (task_at request.now) request.now.max_modules) }
-    ensures adds { OnlyAdds (L.hands loader.old) (L.refuses loader.old) (L.ready loader.old) (L.hands loader.new) (L.refuses loader.new) (L.ready loader.new) }
+    ensures there { OnOk result (IsLoaded request.now loaded.new path) }
+    ensures refused { IfErr result (RefusesRequest L.Loader loader.new request.now) }
+    ensures adds { LoaderAdds L.Loader loader.old loader.new }
 {
     match loaded_table(request, loaded, path) {
         Some(_) => Ok(()),

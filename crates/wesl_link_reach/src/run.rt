@@ -1,15 +1,13 @@
 //! The worklist: each module and each reached symbol is taken once.
-ghost use Rattle.std.specs.Prelude.{◌≡◌, ◌≤◌, ◌<◌, ◌+◌, length, slice_get, Some, None, IfOk, OnOk, IfErr, Contains, false};
+ghost use Rattle.std.specs.Prelude.{◌≡◌, ◌≤◌, ◌<◌, ◌+◌, length, Some, None, IfOk, OnOk, IfErr, Contains, false};
 ghost use Rattle.wesl_link_symbols.specs.declared.ids.PathId.{PathId};
 ghost use Rattle.wesl_tree_base.specs.declared.ids.NameId.{NameId};
-ghost use Rattle.wesl_link_symbols.specs.Tables as tables;
 ghost use Rattle.wesl_link_symbols.specs.declared.symbols.LookUp.{LookUp};
-ghost use Rattle.wesl_link_reach.specs.World.{IsAt};
 ghost use Rattle.wesl_link_reach.specs.Asked.{AreAsked, IsUnclearName};
 ghost use Rattle.wesl_link_reach.specs.Faults.{IsAdmitted};
-ghost use Rattle.wesl_link_reach.specs.Loader.{IsReady, OnlyAdds};
-ghost use Rattle.wesl_link_reach.specs.Refusal.{IsExplained};
-ghost use Rattle.wesl_link_reach.specs.Loading.{IsSound, Grows, ArePlaced, HasClearAsserts, AnswersAsserts, AnswersKept, IsDoneIn, IsSymbolDone, ModulesDone, OfModuleAt, SymbolsDone, world_of, task_at};
+ghost use Rattle.wesl_link_reach.specs.Loader.{IsReady};
+ghost use Rattle.wesl_link_reach.specs.Loading.{Grows, ArePlaced, HasClearAsserts, AnswersAsserts, AnswersKept, IsDoneIn, IsSymbolDone, ModulesDone, OfModuleAt, HoldsAtPlace, HoldsAtPath, SymbolsDone, IsLoaded, world_of};
+ghost use Rattle.wesl_link_reach.specs.OverLoader.{LoaderAdds, IsSoundOver, RefusesRequest};
 
 use crate::eager::{enter_imports, hold_declared};
 use crate::error::LinkError;
@@ -30,7 +28,7 @@ fn asked_by_module(
     place: usize,
 ) -> Result<Vec<LookUp<PathId, NameId>>, AllocError>
     requires { place < length (world_of request.now loaded.now) }
-    ensures { IfOk result (λ v. (t : tables.Table PathId NameId) × (slice_get (world_of request.now loaded.now) place ≡ Some t) × AreAsked t None v.items) }
+    ensures { IfOk result (λ v. HoldsAtPlace request.now loaded.now place (λ t. AreAsked t None v.items)) }
 {
     let table = table_at(request, loaded, place);
     let asked = names::asked_from(alloc, table, None)?;
@@ -40,7 +38,7 @@ fn asked_by_module(
 /// A name used in the const_asserts of the module at a place that stands for two things.
 fn unclear_in_module(request: &Request, loaded: &Loaded, place: usize) -> Option<NameId>
     requires { place < length (world_of request.now loaded.now) }
-    ensures { (t : tables.Table PathId NameId) × (slice_get (world_of request.now loaded.now) place ≡ Some t) × IsUnclearName t None result }
+    ensures { HoldsAtPlace request.now loaded.now place (λ t. IsUnclearName t None result) }
 {
     names::unclear_from(table_at(request, loaded, place), None)
 }
@@ -53,14 +51,14 @@ fn answer_asserts<E, L: Loader<E>>(
     loader: &mut L,
     place: usize,
 ) -> Result<(), LinkError<E>>
-    requires sound { IsSound (L.hands loader.old) (L.ready loader.old) request.now loaded.old }
+    requires sound { IsSoundOver L.Loader loader.old request.now loaded.old }
     requires within { place < length (world_of request.now loaded.old) }
-    ensures sound { OnOk result (IsSound (L.hands loader.new) (L.ready loader.new) request.now loaded.new) }
+    ensures sound { OnOk result (IsSoundOver L.Loader loader.new request.now loaded.new) }
     ensures grows { OnOk result (Grows loaded.old loaded.new) }
     ensures clear { OnOk result (OfModuleAt (world_of request.now loaded.old) place HasClearAsserts) }
     ensures answered { OnOk result (OfModuleAt (world_of request.now loaded.old) place (AnswersAsserts loaded.new.answers.entries)) }
-    ensures refused { IfErr result (IsExplained (L.hands loader.new) (L.refuses loader.new) request.now.root (task_at request.now) request.now.max_modules) }
-    ensures adds { OnlyAdds (L.hands loader.old) (L.refuses loader.old) (L.ready loader.old) (L.hands loader.new) (L.refuses loader.new) (L.ready loader.new) }
+    ensures refused { IfErr result (RefusesRequest L.Loader loader.new request.now) }
+    ensures adds { LoaderAdds L.Loader loader.old loader.new }
 {
     if let Some(name) = unclear_in_module(request, loaded, place) {
         return Err(LinkError::AmbiguousSymbol(name));
@@ -79,13 +77,13 @@ fn take_module<E, L: Loader<E>>(
     loader: &mut L,
     place: usize,
 ) -> Result<(), LinkError<E>>
-    requires sound { IsSound (L.hands loader.old) (L.ready loader.old) request.now loaded.old }
+    requires sound { IsSoundOver L.Loader loader.old request.now loaded.old }
     requires within { place < length (world_of request.now loaded.old) }
-    ensures sound { OnOk result (IsSound (L.hands loader.new) (L.ready loader.new) request.now loaded.new) }
+    ensures sound { OnOk result (IsSoundOver L.Loader loader.new request.now loaded.new) }
     ensures grows { OnOk result (Grows loaded.old loaded.new) }
     ensures done { OnOk result (OfModuleAt (world_of request.now loaded.old) place (IsDoneIn request.now loaded.new)) }
-    ensures refused { IfErr result (IsExplained (L.hands loader.new) (L.refuses loader.new) request.now.root (task_at request.now) request.now.max_modules) }
-    ensures adds { OnlyAdds (L.hands loader.old) (L.refuses loader.old) (L.ready loader.old) (L.hands loader.new) (L.refuses loader.new) (L.ready loader.new) }
+    ensures refused { IfErr result (RefusesRequest L.Loader loader.new request.now) }
+    ensures adds { LoaderAdds L.Loader loader.old loader.new }
 {
     answer_asserts(alloc, request, loaded, loader, place)?;
     if !request.is_eager {
@@ -104,15 +102,15 @@ fn take_modules<E, L: Loader<E>>(
     loader: &mut L,
     start: usize,
 ) -> Result<usize, LinkError<E>>
-    requires sound { IsSound (L.hands loader.old) (L.ready loader.old) request.now loaded.old }
+    requires sound { IsSoundOver L.Loader loader.old request.now loaded.old }
     requires within { start ≤ length (world_of request.now loaded.old) }
     requires done { ModulesDone request.now loaded.old start }
-    ensures sound { OnOk result (IsSound (L.hands loader.new) (L.ready loader.new) request.now loaded.new) }
+    ensures sound { OnOk result (IsSoundOver L.Loader loader.new request.now loaded.new) }
     ensures grows { OnOk result (Grows loaded.old loaded.new) }
     ensures done { IfOk result (ModulesDone request.now loaded.new) }
     ensures all { IfOk result (λ n. n ≡ length (world_of request.now loaded.new)) }
-    ensures refused { IfErr result (IsExplained (L.hands loader.new) (L.refuses loader.new) request.now.root (task_at request.now) request.now.max_modules) }
-    ensures adds { OnlyAdds (L.hands loader.old) (L.refuses loader.old) (L.ready loader.old) (L.hands loader.new) (L.refuses loader.new) (L.ready loader.new) }
+    ensures refused { IfErr result (RefusesRequest L.Loader loader.new request.now) }
+    ensures adds { LoaderAdds L.Loader loader.old loader.new }
 {
     let mut place = start;
     'modules: while place <= loaded.others.len() {
@@ -130,8 +128,8 @@ fn asked_by_symbol(
     symbol: Symbol<PathId, NameId>,
 ) -> Result<Vec<LookUp<PathId, NameId>>, AllocError>
     requires placed { ArePlaced loaded.now.others.items loaded.now.places.entries }
-    requires there { (t : tables.Table PathId NameId) × IsAt (world_of request.now loaded.now) symbol.path t }
-    ensures { IfOk result (λ v. (t : tables.Table PathId NameId) × IsAt (world_of request.now loaded.now) symbol.path t × AreAsked t (Some symbol.name) v.items) }
+    requires there { IsLoaded request.now loaded.now symbol.path }
+    ensures { IfOk result (λ v. HoldsAtPath request.now loaded.now symbol.path (λ t. AreAsked t (Some symbol.name) v.items)) }
 {
     match loaded_table(request, loaded, symbol.path) {
         Some(table) => {
@@ -149,8 +147,8 @@ fn unclear_in_symbol(
     symbol: Symbol<PathId, NameId>,
 ) -> Option<NameId>
     requires placed { ArePlaced loaded.now.others.items loaded.now.places.entries }
-    requires there { (t : tables.Table PathId NameId) × IsAt (world_of request.now loaded.now) symbol.path t }
-    ensures { (t : tables.Table PathId NameId) × IsAt (world_of request.now loaded.now) symbol.path t × IsUnclearName t (Some symbol.name) result }
+    requires there { IsLoaded request.now loaded.now symbol.path }
+    ensures { HoldsAtPath request.now loaded.now symbol.path (λ t. IsUnclearName t (Some symbol.name) result) }
 {
     match loaded_table(request, loaded, symbol.path) {
         Some(table) => names::unclear_from(table, Some(symbol.name)),
@@ -166,13 +164,13 @@ fn take_symbol<E, L: Loader<E>>(
     loader: &mut L,
     symbol: Symbol<PathId, NameId>,
 ) -> Result<(), LinkError<E>>
-    requires sound { IsSound (L.hands loader.old) (L.ready loader.old) request.now loaded.old }
+    requires sound { IsSoundOver L.Loader loader.old request.now loaded.old }
     requires held { Contains loaded.old.symbols.keys symbol }
-    ensures sound { OnOk result (IsSound (L.hands loader.new) (L.ready loader.new) request.now loaded.new) }
+    ensures sound { OnOk result (IsSoundOver L.Loader loader.new request.now loaded.new) }
     ensures grows { OnOk result (Grows loaded.old loaded.new) }
     ensures done { OnOk result (IsSymbolDone (world_of request.now loaded.new) loaded.new.answers.entries symbol) }
-    ensures refused { IfErr result (IsExplained (L.hands loader.new) (L.refuses loader.new) request.now.root (task_at request.now) request.now.max_modules) }
-    ensures adds { OnlyAdds (L.hands loader.old) (L.refuses loader.old) (L.ready loader.old) (L.hands loader.new) (L.refuses loader.new) (L.ready loader.new) }
+    ensures refused { IfErr result (RefusesRequest L.Loader loader.new request.now) }
+    ensures adds { LoaderAdds L.Loader loader.old loader.new }
 {
     if let Some(name) = unclear_in_symbol(request, loaded, symbol) {
         return Err(LinkError::AmbiguousSymbol(name));
@@ -189,14 +187,14 @@ fn take_all<E, L: Loader<E>>(
     loaded: &mut Loaded,
     loader: &mut L,
 ) -> Result<usize, LinkError<E>>
-    requires sound { IsSound (L.hands loader.old) (L.ready loader.old) request.now loaded.old }
-    ensures sound { OnOk result (IsSound (L.hands loader.new) (L.ready loader.new) request.now loaded.new) }
+    requires sound { IsSoundOver L.Loader loader.old request.now loaded.old }
+    ensures sound { OnOk result (IsSoundOver L.Loader loader.new request.now loaded.new) }
     ensures grows { OnOk result (Grows loaded.old loaded.new) }
     ensures modules { OnOk result (ModulesDone request.now loaded.new (length (world_of request.now loaded.new))) }
     ensures symbols { OnOk result (SymbolsDone request.now loaded.new (length loaded.new.symbols.keys)) }
     ensures turns { IfOk result (λ n. n ≡ length (world_of request.now loaded.new) + length loaded.new.symbols.keys) }
-    ensures refused { IfErr result (IsExplained (L.hands loader.new) (L.refuses loader.new) request.now.root (task_at request.now) request.now.max_modules) }
-    ensures adds { OnlyAdds (L.hands loader.old) (L.refuses loader.old) (L.ready loader.old) (L.hands loader.new) (L.refuses loader.new) (L.ready loader.new) }
+    ensures refused { IfErr result (RefusesRequest L.Loader loader.new request.now) }
+    ensures adds { LoaderAdds L.Loader loader.old loader.new }
 {
     let mut place = 0;
     let mut turn = 0;
@@ -218,12 +216,12 @@ fn follow_kept<E, L: Loader<E>>(
     loaded: &mut Loaded,
     loader: &mut L,
 ) -> Result<(), LinkError<E>>
-    requires sound { IsSound (L.hands loader.old) (L.ready loader.old) request.now loaded.old }
-    ensures sound { OnOk result (IsSound (L.hands loader.new) (L.ready loader.new) request.now loaded.new) }
+    requires sound { IsSoundOver L.Loader loader.old request.now loaded.old }
+    ensures sound { OnOk result (IsSoundOver L.Loader loader.new request.now loaded.new) }
     ensures grows { OnOk result (Grows loaded.old loaded.new) }
     ensures answered { OnOk result (AnswersKept request.now loaded.new) }
-    ensures refused { IfErr result (IsExplained (L.hands loader.new) (L.refuses loader.new) request.now.root (task_at request.now) request.now.max_modules) }
-    ensures adds { OnlyAdds (L.hands loader.old) (L.refuses loader.old) (L.ready loader.old) (L.hands loader.new) (L.refuses loader.new) (L.ready loader.new) }
+    ensures refused { IfErr result (RefusesRequest L.Loader loader.new request.now) }
+    ensures adds { LoaderAdds L.Loader loader.old loader.new }
 {
     for name in &request.kept {
         let look_up = LookUp {
@@ -253,13 +251,13 @@ pub fn reach_all<E, L: Loader<E>>(
     requires admitted { IsAdmitted request.now.root }
     requires ready_paths { IsReady (L.ready loader.old) request.now.root }
     requires room { 0 < request.now.max_modules }
-    ensures sound { IfOk result (λ r. IsSound (L.hands loader.new) (L.ready loader.new) request.now r.loaded) }
+    ensures sound { IfOk result (λ r. IsSoundOver L.Loader loader.new request.now r.loaded) }
     ensures kept { IfOk result (λ r. AnswersKept request.now r.loaded) }
     ensures modules { IfOk result (λ r. ModulesDone request.now r.loaded (length (world_of request.now r.loaded))) }
     ensures symbols { IfOk result (λ r. SymbolsDone request.now r.loaded (length r.loaded.symbols.keys)) }
     ensures turns { IfOk result (λ r. r.turns ≡ length (world_of request.now r.loaded) + length r.loaded.symbols.keys) }
-    ensures refused { IfErr result (IsExplained (L.hands loader.new) (L.refuses loader.new) request.now.root (task_at request.now) request.now.max_modules) }
-    ensures adds { OnlyAdds (L.hands loader.old) (L.refuses loader.old) (L.ready loader.old) (L.hands loader.new) (L.refuses loader.new) (L.ready loader.new) }
+    ensures refused { IfErr result (RefusesRequest L.Loader loader.new request.now) }
+    ensures adds { LoaderAdds L.Loader loader.old loader.new }
 {
     let mut loaded = request::begin(alloc);
     follow_kept(alloc, request, &mut loaded, loader)?;

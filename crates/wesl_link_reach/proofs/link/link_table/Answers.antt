@@ -1,7 +1,7 @@
 use Rattle.std.proofs.Common.{refl, sym, ◌∙◌}
 use Rattle.wesl_link_reach.specs.Linking.{task_of}
 use Rattle.wesl_link_reach.proofs.Ends.{zero_refused, root_crowded, root_refused}
-use Rattle.wesl_link_reach.proofs.link.resolve.Goals as goal
+use Rattle.wesl_link_reach.proofs.link.link_table.Goals as goal
 
 pub returns-then-max_modules-eq0-clause-refused : goal.returns-then-max_modules-eq0-clause-refused
 returns-then-max_modules-eq0-clause-refused g c =
