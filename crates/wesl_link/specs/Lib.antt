@@ -1,2 +1,5 @@
+pub mod Keeping
 pub mod Conditions
 pub mod Linking
+pub mod Asking
+pub mod Mapping

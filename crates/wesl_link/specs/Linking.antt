@@ -1,5 +1,5 @@
 -- What a link promises whose root is handed out as every other module is.
-use Rattle.std.specs.Prelude.{◌≡◌, ◌⊎◌, ℕ, Bool, true, false, List, [], Option}
+use Rattle.std.specs.Prelude.{◌≡◌, ◌⊎◌, ℕ, Bool, List, Option}
 use Rattle.wesl_tree_names.specs.Path.{Text, Path, path_view}
 use Rattle.wesl_tree_names.specs.Errors.{OrMemory, error_of_resolve}
 use Rattle.wesl_tree_names.specs.declared.errors.Diagnostic.{Diagnostic, out-Diagnostic}
@@ -8,25 +8,10 @@ use Rattle.wesl_tree_names.specs.declared.errors.ResolveError.{ResolveError}
 use Rattle.wesl_tree_names.specs.declared.path.ModulePath.{ModulePath}
 use Rattle.wesl_tree_syntax.specs.Unit.{UnitOf}
 use Rattle.wesl_cond_features.specs.declared.features.Features.{Features}
-use Rattle.wesl_link_reach.specs.World.{Task}
-use Rattle.wesl_link_engine.specs.Worlds.{Module, task_of, IsLinked, IsRefused, IsModuleOrder, TakesTurns}
+pub use Rattle.wesl_link_engine.specs.Asking.{kept_names, task_at}
+use Rattle.wesl_link_engine.specs.Worlds.{Module, task_of, IsLinked, IsRefused, IsModuleOrder}
 use Rattle.wesl_link_engine.specs.Refusal.{TellsOf}
-use Rattle.wesl_link_resolutions.specs.Keeping.{modules_of, turns_of}
-use Rattle.wesl_link_resolutions.specs.declared.resolutions.Resolutions.{Resolutions}
 use Rattle.wesl_link.specs.Conditions.{HandsLeft, RefusesLeft}
-
--- the names that are kept: none where all that is declared is asked for
-abbrev pub kept_names : Bool → List Text → List Text
-kept_names true keep = []
-kept_names false keep = keep
-
--- what is linked: the names that are kept of the module at the path, or all that is declared
-abbrev pub task_at : Path → List Text → Bool → Task Path Text
-task_at path keep is_eager = record { root = path; kept = kept_names is_eager keep; is_eager = is_eager }
-
--- the link took as many turns as it has modules and reached symbols
-abbrev pub CountsTurns : ModulePath → List Text → Bool → Resolutions → Type 0
-CountsTurns path keep is_eager r = TakesTurns (modules_of r) (task_at (path_view path) keep is_eager) (turns_of r)
 
 module _ (hands : Path → UnitOf Text → Type 0) (refuses : Path → ResolveError → Type 0) where
   -- the root's unit is handed out at its path
@@ -42,14 +27,6 @@ module _ (hands : Path → UnitOf Text → Type 0) (refuses : Path → ResolveEr
   RefusesLink p keep is_eager limit e =
       ((fault : ResolveError) × OrMemory (refuses p) fault × (e ≡ error_of_resolve fault))
       ⊎ ((root : Module) × IsRoot p root × TellsOf (IsRefused hands refuses root (task_of root (kept_names is_eager keep) is_eager) limit) e)
-
-  -- what is found is such a link of the module at the path
-  abbrev pub FindsLink : ModulePath → List Text → Bool → ℕ → Resolutions → Type 0
-  FindsLink path keep is_eager limit r = Links (path_view path) keep is_eager limit (turns_of r) (modules_of r)
-
-  -- the error of the diagnostic tells why it is refused
-  abbrev pub TellsRefusal : ModulePath → List Text → Bool → ℕ → Diagnostic → Type 0
-  TellsRefusal path keep is_eager limit d = RefusesLink (path_view path) keep is_eager limit (out-Diagnostic d).error
 
 module _ (hands : Path → UnitOf Text → Type 0) (refuses : Path → ResolveError → Type 0) (features : Option Features) where
   -- what is left of the units that are handed out
@@ -67,10 +44,6 @@ module _ (hands : Path → UnitOf Text → Type 0) (refuses : Path → ResolveEr
   -- such a link is refused with the error, which stands
   abbrev pub RefusesLinkLeft : Path → List Text → Bool → ℕ → error.Error → Type 0
   RefusesLinkLeft p keep is_eager limit e = RefusesLink hands_left refuses_left p keep is_eager limit e
-
-  -- what is found is such a link of the module at the path
-  abbrev pub FindsLinkLeft : ModulePath → List Text → Bool → ℕ → Resolutions → Type 0
-  FindsLinkLeft path keep is_eager limit r = LinksLeft (path_view path) keep is_eager limit (turns_of r) (modules_of r)
 
   -- the error of the diagnostic tells why it is refused
   abbrev pub TellsRefusalLeft : ModulePath → List Text → Bool → ℕ → Diagnostic → Type 0

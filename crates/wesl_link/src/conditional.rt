@@ -4,17 +4,15 @@ ghost use Rattle.wesl_tree_names.specs.declared.errors.Error as error;
 ghost use Rattle.wesl_tree.specs.declared.unit.TranslationUnit.{TranslationUnit};
 ghost use Rattle.wesl_tree_base.specs.Borrowed.{texts};
 ghost use Rattle.wesl_tree_names.specs.Path.{Text, Path, path_view, is_relative};
-ghost use Rattle.wesl_resolve_base.specs.Resolver.{MeansTheSame};
 ghost use Rattle.wesl_cond.specs.Conditioned.{IsConditioned};
-ghost use Rattle.wesl_link.specs.Linking.{CountsTurns, FindsLink, FindsLinkLeft, TellsRefusal, TellsRefusalLeft, kept_names};
-ghost use Rattle.wesl_link_engine.specs.Linking.{LinksRoot, RefusesRoot};
-ghost use Rattle.wesl_link_engine.specs.Resolved.{module_at};
-ghost use Rattle.wesl_link_engine.specs.Worlds as worlds;
-ghost use Rattle.wesl_link_resolutions.specs.Keeping.{IsSound, resolved, modules_of};
+ghost use Rattle.wesl_link_engine.specs.Asking.{request_view, asking, kept_names, kept_of, AnswersTheSame};
+ghost use Rattle.wesl_link.specs.Keeping.{resolved};
+ghost use Rattle.wesl_link.specs.Asking.{FindsLink, FindsLinkLeft, TellsRefusal, TellsRefusalOfLeft, TakesItsTurns};
 
+use crate::resolutions::Resolutions;
 use std::alloc::Global;
 use wesl_cond::{Features, condition};
-use wesl_link_resolutions::{Resolutions, resolve_eager, resolve_lazy};
+use wesl_link_engine::{LinkRequest, link_root};
 use wesl_resolve::Preprocessor;
 use wesl_resolve_base::Resolver;
 use wesl_tree::{Diagnostic, Error, ModulePath, TranslationUnit};
@@ -36,112 +34,74 @@ pub fn link_under<R: Resolver + Drop>(
 ) -> Result<Resolutions, Diagnostic>
     requires ready { R.ready resolver }
     requires asked { is_relative (path_view path.now) ≡ false }
-    ensures linked { IfOk result (FindsLinkLeft (R.hands resolver) (R.refuses resolver) features.now path.now (texts keep.now) is_eager max_modules) }
+    ensures linked { IfOk result (FindsLinkLeft R.Resolver resolver features.now (asking path.now keep.now is_eager max_modules)) }
     ensures kept { IfOk result (λ r. (resolved r).kept ≡ kept_names is_eager (texts keep.now)) }
     ensures eager { IfOk result (λ r. (resolved r).is_eager ≡ is_eager) }
-    ensures turns { IfOk result (CountsTurns path.now (texts keep.now) is_eager) }
+    ensures turns { IfOk result (TakesItsTurns (asking path.now keep.now is_eager max_modules)) }
     ensures names { IfOk result (λ r. (p : Path) (n : Text) → (resolved r).names p n ≡ n) }
-    ensures sound { IfOk result IsSound }
-    ensures refused { IfErr result (TellsRefusalLeft (R.hands resolver) (R.refuses resolver) features.now path.now (texts keep.now) is_eager max_modules) }
+    ensures refused { IfErr result (TellsRefusalOfLeft R.Resolver resolver features.now (asking path.now keep.now is_eager max_modules)) }
 {
     let judge = |unit: TranslationUnit|
         ensures { IsConditioned features.entry.now unit result }
     { condition(alloc, unit, features) };
-    link_judged(
-        alloc,
+    let request = LinkRequest {
+        root: path,
         keep,
         is_eager,
-        path,
-        resolver,
-        judge,
-        features,
         max_modules,
-    )
+    };
+    link_judged(alloc, &request, resolver, judge, features)
 }
 
 // Links what a function leaves of the units that are handed out.
 fn link_judged<R: Resolver + Drop, F: Fn(TranslationUnit) -> Result<TranslationUnit, Error> + Drop>(
     alloc: Global,
-    keep: &[&str],
-    is_eager: bool,
-    path: &ModulePath,
+    request: &LinkRequest<'_>,
     resolver: R,
     judge: F,
     features: &Option<Features>,
-    max_modules: usize,
 ) -> Result<Resolutions, Diagnostic>
     requires ready { R.ready resolver }
-    requires asked { is_relative (path_view path.now) ≡ false }
+    requires asked { is_relative (path_view request.now.root.now) ≡ false }
     requires callable { F.IsAlwaysCallable judge }
     requires judges { (given : TranslationUnit) (answer : Result TranslationUnit error.Error) → F.post judge given answer ↔ IsConditioned features.now given answer }
-    ensures linked { IfOk result (FindsLinkLeft (R.hands resolver) (R.refuses resolver) features.now path.now (texts keep.now) is_eager max_modules) }
-    ensures kept { IfOk result (λ r. (resolved r).kept ≡ kept_names is_eager (texts keep.now)) }
-    ensures eager { IfOk result (λ r. (resolved r).is_eager ≡ is_eager) }
-    ensures turns { IfOk result (CountsTurns path.now (texts keep.now) is_eager) }
+    ensures linked { IfOk result (FindsLinkLeft R.Resolver resolver features.now (request_view request.now)) }
+    ensures kept { IfOk result (λ r. (resolved r).kept ≡ kept_of (request_view request.now)) }
+    ensures eager { IfOk result (λ r. (resolved r).is_eager ≡ request.now.is_eager) }
+    ensures turns { IfOk result (TakesItsTurns (request_view request.now)) }
     ensures names { IfOk result (λ r. (p : Path) (n : Text) → (resolved r).names p n ≡ n) }
-    ensures sound { IfOk result IsSound }
-    ensures refused { IfErr result (TellsRefusalLeft (R.hands resolver) (R.refuses resolver) features.now path.now (texts keep.now) is_eager max_modules) }
+    ensures refused { IfErr result (TellsRefusalOfLeft R.Resolver resolver features.now (request_view request.now)) }
 {
     let mut judged = Preprocessor::new(resolver, judge);
-    link_at(alloc, keep, is_eager, path, &mut judged, max_modules)
+    link_at(alloc, request, &mut judged)
 }
 
-/// Links the module at `path` as `link_under` does, with the units as the resolver hands them out, the root's too: no
-/// condition is judged.
+/// Links the module at the request's root as `link_under` does, with the units as the resolver hands them out, the root's
+/// too: no condition is judged.
 ///
 /// The resolver means afterwards what it meant, whether the link is refused or not. Refused where the resolver refuses a
 /// path, where a link is refused, and for want of memory.
 pub fn link_at<R: Resolver>(
     alloc: Global,
-    keep: &[&str],
-    is_eager: bool,
-    path: &ModulePath,
+    request: &LinkRequest<'_>,
     resolver: &mut R,
-    max_modules: usize,
 ) -> Result<Resolutions, Diagnostic>
     requires ready { R.ready resolver.old }
-    requires asked { is_relative (path_view path.now) ≡ false }
-    ensures linked { IfOk result (FindsLink (R.hands resolver.old) (R.refuses resolver.old) path.now (texts keep.now) is_eager max_modules) }
-    ensures kept { IfOk result (λ r. (resolved r).kept ≡ kept_names is_eager (texts keep.now)) }
-    ensures eager { IfOk result (λ r. (resolved r).is_eager ≡ is_eager) }
-    ensures turns { IfOk result (CountsTurns path.now (texts keep.now) is_eager) }
+    requires asked { is_relative (path_view request.now.root.now) ≡ false }
+    ensures linked { IfOk result (FindsLink R.Resolver resolver.old (request_view request.now)) }
+    ensures kept { IfOk result (λ r. (resolved r).kept ≡ kept_of (request_view request.now)) }
+    ensures eager { IfOk result (λ r. (resolved r).is_eager ≡ request.now.is_eager) }
+    ensures turns { IfOk result (TakesItsTurns (request_view request.now)) }
     ensures names { IfOk result (λ r. (p : Path) (n : Text) → (resolved r).names p n ≡ n) }
-    ensures sound { IfOk result IsSound }
-    ensures refused { IfErr result (TellsRefusal (R.hands resolver.old) (R.refuses resolver.old) path.now (texts keep.now) is_eager max_modules) }
-    ensures same { MeansTheSame R.hands R.refuses R.source R.lacks R.shown resolver.old resolver.new }
+    ensures refused { IfErr result (TellsRefusal R.Resolver resolver.old (request_view request.now)) }
+    ensures same { AnswersTheSame R.Resolver resolver.old resolver.new }
     ensures stays_ready { R.ready resolver.new }
 {
-    match resolver.resolve_module(alloc, path) {
-        Ok(unit) => link_unit(alloc, keep, is_eager, unit, path, resolver, max_modules),
+    match resolver.resolve_module(alloc, request.root) {
+        Ok(unit) => match link_root(alloc, request, unit, resolver) {
+            Ok(found) => Ok(Resolutions { found }),
+            Err(diagnostic) => Err(diagnostic),
+        },
         Err(fault) => Err(Diagnostic::of(Error::of_resolve(fault))),
     }
-}
-
-// Links a root: what its kept names reach, or all that is declared.
-fn link_unit<R: Resolver>(
-    alloc: Global,
-    keep: &[&str],
-    is_eager: bool,
-    unit: TranslationUnit,
-    path: &ModulePath,
-    resolver: &mut R,
-    max_modules: usize,
-) -> Result<Resolutions, Diagnostic>
-    requires ready { R.ready resolver.old }
-    requires asked { is_relative (path_view path.now) ≡ false }
-    ensures linked { IfOk result (λ r. LinksRoot (R.hands resolver.old) (R.refuses resolver.old) path.now unit (kept_names is_eager (texts keep.now)) is_eager max_modules (resolved r)) }
-    ensures order { IfOk result (λ r. worlds.IsModuleOrder (module_at path.now unit) (modules_of r)) }
-    ensures kept { IfOk result (λ r. (resolved r).kept ≡ kept_names is_eager (texts keep.now)) }
-    ensures eager { IfOk result (λ r. (resolved r).is_eager ≡ is_eager) }
-    ensures turns { IfOk result (CountsTurns path.now (texts keep.now) is_eager) }
-    ensures names { IfOk result (λ r. (p : Path) (n : Text) → (resolved r).names p n ≡ n) }
-    ensures sound { IfOk result IsSound }
-    ensures refused { IfErr result (RefusesRoot (R.hands resolver.old) (R.refuses resolver.old) path.now unit (kept_names is_eager (texts keep.now)) is_eager max_modules) }
-    ensures same { MeansTheSame R.hands R.refuses R.source R.lacks R.shown resolver.old resolver.new }
-    ensures stays_ready { R.ready resolver.new }
-{
-    if is_eager {
-        return resolve_eager(alloc, unit, path, resolver, max_modules);
-    }
-    resolve_lazy(alloc, keep, unit, path, resolver, max_modules)
 }

@@ -9,9 +9,3 @@ pub texts_next : (xs : List (Bor Text)) (i : ℕ) (d : Bor Text) → i < length 
 texts_next [] i d b = absurd (omega arith)
 texts_next (x ∷ xs) zero d b = refl
 texts_next (x ∷ xs) (suc i) d b = let n : suc i + 1 ≡ suc (i + 1) = omega arith in rw n (ap (λ (l : List Text). x.now ∷ l) (texts_next xs i d (omega arith)))
-
--- what is related to nothing is nothing
-pub none_related : {X Y : Type 0} (R : X → Y → Type 0) (xs : List X) (ys : List Y) → AreRelated R xs ys → ys ≡ [] → xs ≡ []
-none_related R [] ys h e = refl
-none_related R (x ∷ xs) [] h e = absurd h
-none_related R (x ∷ xs) (y ∷ ys) h e = absurd (let f : ⊥ = cc in f)

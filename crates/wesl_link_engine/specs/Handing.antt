@@ -7,6 +7,7 @@ use Rattle.wesl_tree_syntax.specs.Unit.{UnitOf, spelled}
 use Rattle.wesl_tree.specs.Translation.{unit_view}
 use Rattle.wesl_tree.specs.declared.unit.TranslationUnit.{TranslationUnit}
 use Rattle.wesl_resolve_base.specs.Resolver.{MeansTheSame}
+use Rattle.wesl_resolve_base.specs.declared.resolver.Resolver.{Ghosts}
 use Rattle.wesl_link_symbols.specs.declared.ids.PathId.{PathId}
 use Rattle.wesl_tree_base.specs.declared.ids.NameId.{NameId}
 use Rattle.wesl_link_symbols.specs.Tables.{Table}
@@ -28,6 +29,9 @@ pub record StaysOne {R : Type 0} (hands : R → Path → UnitOf Text → Type 0)
   pub here : these resolver
   pub on : (a b : R) → these a → MeansTheSame hands refuses source lacks shown a b → these b
   pub held : name ≡ loan
+
+abbrev pub StaysLent : {R : Type 0} → Ghosts R → (R → Type 0) → ℕ → R → ℕ → Type 0
+StaysLent g these loan resolver name = StaysOne g.hands g.refuses g.source g.lacks g.shown these loan resolver name
 
 -- no path has two units
 abbrev pub HaveOne : List (PathId × Held) → Type 0
@@ -75,3 +79,11 @@ pub record Keeps (handed : Path → UnitOf Text → Type 0) (refused : Path → 
   pub grows : Grows first numbering
   pub one_unit : HaveOne units
   pub handed_out : AreHanded handed_there numbering units
+
+-- the same of a resolver
+abbrev pub KeepsOf : {R : Type 0} → Ghosts R → R → (Path → UnitOf Text → Type 0) → (Path → ResolveError → Type 0) → Numbering → Numbering → List (PathId × Held) → Type 0
+KeepsOf g resolver handed_there refused_there first numbering units = Keeps (g.hands resolver) (g.refuses resolver) handed_there refused_there first numbering units
+
+-- what the entries had, they have
+abbrev pub StillHold : List (PathId × Held) → List (PathId × Held) → Type 0
+StillHold old new = (p : PathId) (u : Held) → Contains old (p, u) → Contains new (p, u)

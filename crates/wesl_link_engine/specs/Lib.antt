@@ -11,6 +11,7 @@ pub mod Tabled
 pub mod Keeping
 pub mod Holding
 pub mod Refusal
+pub mod Asking
 pub mod Linking
 pub mod Rooted
 pub mod Laws

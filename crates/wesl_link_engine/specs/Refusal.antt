@@ -71,3 +71,7 @@ IsModuleAt numbering (Some p) (Some m) = PathAt numbering p (path_view m)
 abbrev pub IsToldBy : Numbering → LinkError resolve_error.ResolveError → Diagnostic → Type 0
 IsToldBy numbering fault d =
     ((out-Diagnostic d).error ≡ error.Memory) ⊎ (Tells numbering fault (out-Diagnostic d).error × IsModuleAt numbering (holder_of fault) (out-Diagnostic d).«module»)
+
+-- the diagnostic has the error and the path of the number, or tells want of memory
+abbrev pub TellsAt : Numbering → Option PathId → error.Error → Diagnostic → Type 0
+TellsAt numbering id e d = ((out-Diagnostic d).error ≡ error.Memory) ⊎ (((out-Diagnostic d).error ≡ e) × IsModuleAt numbering id (out-Diagnostic d).«module»)

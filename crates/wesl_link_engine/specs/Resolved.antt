@@ -9,7 +9,8 @@ use Rattle.wesl_tree_syntax.specs.Unit.{UnitView, spelled, empty_unit}
 use Rattle.wesl_tree.specs.Translation.{unit_view}
 use Rattle.wesl_tree.specs.declared.unit.TranslationUnit.{TranslationUnit}
 use Rattle.wesl_link_symbols.specs.Names.{Declares}
-use Rattle.wesl_link_engine.specs.Recorded.{Write, firsts, writes_of}
+use Rattle.wesl_mangle_forms.specs.declared.mangler.Mangler.{Ghosts}
+use Rattle.wesl_link_engine.specs.Recorded.{Write, IsRecordedBy, firsts, writes_of}
 use Rattle.wesl_link_engine.specs.Worlds.{Module, table, task_of}
 use Rattle.wesl_link_engine.specs.Linked.{IsAssembled}
 
@@ -80,6 +81,10 @@ abbrev pub writes : (Path → Text → Text) → Bool → List Module → List W
 writes name_of true w = writes_from name_of w
 writes name_of false [] = []
 writes name_of false (root ∷ others) = writes_from name_of others
+
+-- the mangler's record is what it was with a write for each of these names, in module order
+abbrev pub RecordsWrites : {M : Type 0} → Ghosts M → M → M → Bool → List Module → Type 0
+RecordsWrites g old new mangle_root w = IsRecordedBy g.writes (writes (g.name_of old) mangle_root w) (g.recorded old) (g.recorded new)
 
 -- ---- the linked unit
 

@@ -16,6 +16,10 @@ use Rattle.wesl_link_engine.specs.declared.loaded.LoadedModule.{LoadedModule}
 abbrev pub path_eq : PathId → PathId → Bool
 path_eq = (equality.ghosts).eq
 
+-- each path but this one has what it had
+abbrev pub LeavesOthers : {T : Type 0} → PathId → List (PathId × T) → List (PathId × T) → Type 0
+LeavesOthers id old new = (p : PathId) → (p ≡ id → ⊥) → lookup (path_eq p) new ≡ lookup (path_eq p) old
+
 -- the unit that is kept for the path
 abbrev pub unit_at : List (PathId × Held) → PathId → Option Held
 unit_at units p = lookup (path_eq p) units

@@ -8,9 +8,11 @@ mod link;
 mod loaded;
 mod modules;
 mod refusals;
+mod request;
 mod resolutions;
 mod resolve;
 
 pub use laws::{law_of_eager_links, law_of_links};
+pub use request::LinkRequest;
 pub use resolutions::Resolutions;
-pub use resolve::{resolve_eager, resolve_lazy};
+pub use resolve::link_root;

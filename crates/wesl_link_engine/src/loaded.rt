@@ -3,9 +3,8 @@ ghost use Rattle.std.specs.Prelude.{◌≡◌, Some, IfOk};
 ghost use Rattle.std.specs.Map.{lookup};
 ghost use Rattle.wesl_link_reach.specs.Faults.{AreDistinct};
 ghost use Rattle.wesl_link_reach.specs.Linking.{paths};
-ghost use Rattle.wesl_link_symbols.specs.declared.ids.PathId as path_id;
 ghost use Rattle.wesl_link_tables.specs.NumbersView.{numbering};
-ghost use Rattle.wesl_link_engine.specs.Taking.{AreKept, AreTaken, path_eq};
+ghost use Rattle.wesl_link_engine.specs.Taking.{AreKept, AreTaken, LeavesOthers, path_eq};
 
 use crate::refusals::path_of;
 use indexmap::IndexMap;
@@ -38,7 +37,7 @@ pub struct LoadedModule {
 fn take_unit<T>(units: &mut IndexMap<PathId, T>, id: PathId) -> T
     requires { (u : T) × (lookup (path_eq id) units.old.entries ≡ Some u) }
     ensures taken { lookup (path_eq id) units.old.entries ≡ Some result }
-    ensures others { (p : path_id.PathId) → (p ≡ id → ⊥) → lookup (path_eq p) units.new.entries ≡ lookup (path_eq p) units.old.entries }
+    ensures others { LeavesOthers id units.old.entries units.new.entries }
 {
     let Some(unit) = units.swap_remove(&id) else {
         unreachable!()

@@ -3,14 +3,13 @@ ghost use Rattle.std.specs.Prelude.{◌≡◌, ℕ, false, [], IfOk, IfErr, IfSo
 ghost use Rattle.wesl_tree_names.specs.Path.{Text, Path, path_view, is_relative};
 ghost use Rattle.wesl_tree_names.specs.declared.errors.ResolveError.{ResolveError};
 ghost use Rattle.wesl_tree_syntax.specs.Unit.{UnitOf};
-ghost use Rattle.wesl_resolve_base.specs.Resolver.{MeansTheSame};
-ghost use Rattle.wesl_link_symbols.specs.declared.ids.PathId as path_id;
+ghost use Rattle.wesl_link_engine.specs.Asking.{AnswersTheSame};
 ghost use Rattle.wesl_link_reach.specs.Loader.{Explains};
 ghost use Rattle.wesl_link_symbols.specs.Tables as tables;
 ghost use Rattle.wesl_link_reach.specs.declared.loader.LoadError.TheVariants as load_error;
 ghost use Rattle.wesl_link_tables.specs.Numbering.{Numbering, Grows, IsNumbered, PathAt};
 ghost use Rattle.wesl_link_tables.specs.NumbersView.{numbering};
-ghost use Rattle.wesl_link_engine.specs.Handing.{Keeps, StaysOne, IsReadyPath, IsHandedTable, IsRefusedPath, KeepsUnit};
+ghost use Rattle.wesl_link_engine.specs.Handing.{Keeps, KeepsOf, StillHold, StaysOne, IsReadyPath, IsHandedTable, IsRefusedPath, KeepsUnit};
 ghost use Rattle.wesl_link_engine.specs.declared.loaded.Held as held;
 
 use crate::loaded::Held;
@@ -114,16 +113,16 @@ impl<R: Resolver, S: Source<R>> ModuleLoader<'_, '_, R, S> {
         requires asked { is_relative (path_view path.now) ≡ false }
         requires held { PathAt (numbering self.old.numbers.now) id (path_view path.now) }
         requires absent { (u : held.Held) → Contains self.old.units.now.entries (id, u) → ⊥ }
-        requires keeps { Keeps (R.hands self.old.resolver.now) (R.refuses self.old.resolver.now) S.hands S.refuses S.first (numbering self.old.numbers.now) self.old.units.now.entries }
+        requires keeps { KeepsOf R.Resolver self.old.resolver.now S.hands S.refuses S.first (numbering self.old.numbers.now) self.old.units.now.entries }
         ensures handed { IfOk result (IsHandedTable S.hands (numbering self.new.numbers.now) self.new.units.now.entries id) }
         ensures path { IfOk result (λ t. t.path ≡ id) }
         ensures numbered { IfOk result (λ t. (u : tables.Table Path Text) × IsNumbered (numbering self.new.numbers.now) t u) }
         ensures refused { IfErr result (Explains (IsRefusedPath S.refuses (numbering self.new.numbers.now) id)) }
         ensures grows { Grows (numbering self.old.numbers.now) (numbering self.new.numbers.now) }
-        ensures units { (p : path_id.PathId) (u : held.Held) → Contains self.old.units.now.entries (p, u) → Contains self.new.units.now.entries (p, u) }
-        ensures keeps { Keeps (R.hands self.new.resolver.now) (R.refuses self.new.resolver.now) S.hands S.refuses S.first (numbering self.new.numbers.now) self.new.units.now.entries }
+        ensures units { StillHold self.old.units.now.entries self.new.units.now.entries }
+        ensures keeps { KeepsOf R.Resolver self.new.resolver.now S.hands S.refuses S.first (numbering self.new.numbers.now) self.new.units.now.entries }
         ensures stays_ready { R.ready self.new.resolver.now }
-        ensures same { MeansTheSame R.hands R.refuses R.source R.lacks R.shown self.old.resolver.now self.new.resolver.now }
+        ensures same { AnswersTheSame R.Resolver self.old.resolver.now self.new.resolver.now }
         ensures loan { self.new.resolver.ghost_name ≡ self.old.resolver.ghost_name }
     {
         match self.resolver.resolve_module(alloc, path) {

@@ -1,11 +1,9 @@
 //! Why a link was refused, with the paths and names of its numbers.
-ghost use Rattle.std.specs.Prelude.{◌≡◌, ◌⊎◌, IfOk, string_bytes};
-ghost use Rattle.wesl_tree_names.specs.declared.errors.Error as memory;
-ghost use Rattle.wesl_tree_names.specs.declared.errors.Diagnostic.{out-Diagnostic};
+ghost use Rattle.std.specs.Prelude.{◌≡◌, IfOk, string_bytes};
 ghost use Rattle.wesl_tree_names.specs.Path.{Text, Path, path_view};
 ghost use Rattle.wesl_link_tables.specs.Numbering.{NameAt, PathAt};
 ghost use Rattle.wesl_link_tables.specs.NumbersView.{numbering};
-ghost use Rattle.wesl_link_engine.specs.Refusal.{HasNumbers, Tells, IsModuleAt, IsToldBy};
+ghost use Rattle.wesl_link_engine.specs.Refusal.{HasNumbers, Tells, IsModuleAt, TellsAt, IsToldBy};
 ghost use Rattle.wesl_link_engine.specs.Refusal as refusal;
 
 use std::alloc::{AllocError, Global};
@@ -108,7 +106,7 @@ fn module_at(
 
 /// The diagnostic of an error in the module of a number, unless there is no memory to tell it.
 fn in_module(alloc: Global, numbers: &Numbers, error: Error, id: Option<PathId>) -> Diagnostic
-    ensures { ((out-Diagnostic result).error ≡ memory.Memory) ⊎ (((out-Diagnostic result).error ≡ error) × IsModuleAt (numbering numbers.now) id (out-Diagnostic result).«module») }
+    ensures { TellsAt (numbering numbers.now) id error result }
 {
     match module_at(alloc, numbers, id) {
         Ok(module) => Diagnostic {

@@ -5,8 +5,7 @@ ghost use Rattle.wesl_tree_names.specs.Path.{Text, Path, path_view};
 ghost use Rattle.wesl_tree.specs.Translation.{unit_view};
 ghost use Rattle.wesl_link_engine.specs.Given.{SameVariants};
 ghost use Rattle.wesl_link_engine.specs.GivenView.{given as given_names};
-ghost use Rattle.wesl_link_engine.specs.Resolved.{paths_of, paths_told, first_path, IsNothing, IsMangled, AssemblesTo, writes};
-ghost use Rattle.wesl_link_engine.specs.Recorded.{IsRecordedBy};
+ghost use Rattle.wesl_link_engine.specs.Resolved.{paths_of, paths_told, first_path, IsNothing, IsMangled, AssemblesTo, RecordsWrites};
 ghost use Rattle.wesl_link_engine.specs.Keeping.{modules_in, IsLinkOf, task_in, IsSound, resolved, modules_of, turns_of};
 ghost use Rattle.wesl_link_engine.specs.Holding.{IsGivenAll};
 
@@ -40,7 +39,7 @@ fn names_of<M: Mangler>(
 ) -> Result<GivenNames, AllocError>
     requires sound { IsLinkOf (task_in link.now) link.now }
     ensures given { IfOk result (λ names. IsGivenAll link.now mangle_root (M.name_of mangler.old) (given_names names)) }
-    ensures recorded { OnOk result (IsRecordedBy M.writes (writes (M.name_of mangler.old) mangle_root (modules_in link.now)) (M.recorded mangler.old) (M.recorded mangler.new)) }
+    ensures recorded { OnOk result (RecordsWrites M.Mangler mangler.old mangler.new mangle_root (modules_in link.now)) }
     ensures same { (p : Path) (x : Text) → M.name_of mangler.new p x ≡ M.name_of mangler.old p x }
     ensures same_variants { SameVariants (M.variant_of mangler.old) (M.variant_of mangler.new) }
 {
@@ -126,7 +125,7 @@ impl Resolutions {
         requires sound { IsSound self.old }
         ensures sound { IsSound self.new }
         ensures mangled { OnOk result (IsMangled (M.name_of mangler.old) mangle_root (resolved self.old) (resolved self.new)) }
-        ensures recorded { OnOk result (IsRecordedBy M.writes (writes (M.name_of mangler.old) mangle_root (modules_of self.old)) (M.recorded mangler.old) (M.recorded mangler.new)) }
+        ensures recorded { OnOk result (RecordsWrites M.Mangler mangler.old mangler.new mangle_root (modules_of self.old)) }
         ensures same { (p : Path) (x : Text) → M.name_of mangler.new p x ≡ M.name_of mangler.old p x }
         ensures same_variants { SameVariants (M.variant_of mangler.old) (M.variant_of mangler.new) }
         ensures unchanged { OnErr result (self.new ≡ self.old) }

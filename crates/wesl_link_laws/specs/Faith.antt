@@ -1,146 +1,283 @@
 -- Worked rows: whether the names of linked units and of units made by hand read as their numbers say.
 use Rattle.std.specs.Prelude.{◌≡◌, true, false, [], ◌∷◌, codes}
 use Rattle.wesl_tree_syntax.specs.Unit.{UnitView}
-use Rattle.wesl_link_laws.specs.Builders.{none, some, plain_type, of_type, literal_text, plus, called, declare, parameter_of, statement, body, function_of, block, loop_of, continue_with, for_of, call_now, var_of, module_of, const_value, let_value}
+use Rattle.wesl_link_laws.specs.Builders.{
+  none,
+  some,
+  plain_type,
+  of_type,
+  literal_text,
+  plus,
+  called,
+  declare,
+  parameter_of,
+  statement,
+  body,
+  function_of,
+  block,
+  loop_of,
+  continue_with,
+  for_of,
+  call_now,
+  var_of,
+  module_of,
+  const_value,
+  let_value,
+}
 use Rattle.wesl_scope_clash.specs.Test.{is_faithful}
 use Rattle.wesl_link_laws.specs.Units.{unit_of, call_of, is_retargeted}
 
 -- const x = 1; fn f(x: i32) { let y = x; }
 abbrev pub shadowed : UnitView
-shadowed = unit_of ((codes "x") ∷ (codes "f") ∷ (codes "x") ∷ (codes "i32") ∷ (codes "y") ∷ []) (module_of [] [] ((declare [] const_value 0 none (some (literal_text (codes "1")))) ∷ (function_of [] 1 ((parameter_of [] 2 (plain_type 3)) ∷ []) [] none (body [] ((declare [] let_value 4 none (some (of_type (plain_type 2)))) ∷ []))) ∷ []))
+shadowed =
+    unit_of ((codes "x") ∷ (codes "f") ∷ (codes "x") ∷ (codes "i32") ∷ (codes "y") ∷ [])
+    (module_of [] []
+    ((declare [] const_value 0 none (some (literal_text (codes "1"))))
+    ∷ (function_of [] 1 ((parameter_of [] 2 (plain_type 3)) ∷ []) [] none (body [] ((declare [] let_value 4 none (some (of_type (plain_type 2)))) ∷ [])))
+    ∷ []))
 
 abbrev pub shadowed_row : Type 0
 shadowed_row = is_faithful shadowed ≡ true
 
 -- parameter package_a_f
 abbrev pub parameter_clash : UnitView
-parameter_clash = unit_of ((codes "main") ∷ (codes "package_a_f") ∷ (codes "i32") ∷ (codes "package_a_f") ∷ []) (module_of [] [] ((function_of [] 0 ((parameter_of [] 1 (plain_type 2)) ∷ []) [] none (body [] ((call_now [] (called (plain_type 3) [])) ∷ []))) ∷ (function_of [] 3 [] [] none (body [] [])) ∷ []))
+parameter_clash =
+    unit_of ((codes "main") ∷ (codes "package_a_f") ∷ (codes "i32") ∷ (codes "package_a_f") ∷ [])
+    (module_of [] []
+    ((function_of [] 0 ((parameter_of [] 1 (plain_type 2)) ∷ []) [] none (body [] ((call_now [] (called (plain_type 3) [])) ∷ [])))
+    ∷ (function_of [] 3 [] [] none (body [] []))
+    ∷ []))
 
 abbrev pub parameter_clash_row : Type 0
 parameter_clash_row = is_faithful parameter_clash ≡ false
 
 -- parameter q
 abbrev pub parameter_apart : UnitView
-parameter_apart = unit_of ((codes "main") ∷ (codes "q") ∷ (codes "i32") ∷ (codes "package_a_f") ∷ []) (module_of [] [] ((function_of [] 0 ((parameter_of [] 1 (plain_type 2)) ∷ []) [] none (body [] ((call_now [] (called (plain_type 3) [])) ∷ []))) ∷ (function_of [] 3 [] [] none (body [] [])) ∷ []))
+parameter_apart =
+    unit_of ((codes "main") ∷ (codes "q") ∷ (codes "i32") ∷ (codes "package_a_f") ∷ [])
+    (module_of [] []
+    ((function_of [] 0 ((parameter_of [] 1 (plain_type 2)) ∷ []) [] none (body [] ((call_now [] (called (plain_type 3) [])) ∷ [])))
+    ∷ (function_of [] 3 [] [] none (body [] []))
+    ∷ []))
 
 abbrev pub parameter_apart_row : Type 0
 parameter_apart_row = is_faithful parameter_apart ≡ true
 
 -- a free helper, root unmangled
 abbrev pub free_clash : UnitView
-free_clash = unit_of ((codes "helper") ∷ (codes "main") ∷ (codes "package_a_k") ∷ (codes "helper") ∷ []) (module_of [] [] ((declare [] const_value 0 none (some (literal_text (codes "1")))) ∷ (declare [] const_value 1 none (some (plus (of_type (plain_type 0)) (of_type (plain_type 2))))) ∷ (declare [] const_value 2 none (some (of_type (plain_type 3)))) ∷ []))
+free_clash =
+    unit_of ((codes "helper") ∷ (codes "main") ∷ (codes "package_a_k") ∷ (codes "helper") ∷ [])
+    (module_of [] []
+    ((declare [] const_value 0 none (some (literal_text (codes "1"))))
+    ∷ (declare [] const_value 1 none (some (plus (of_type (plain_type 0)) (of_type (plain_type 2)))))
+    ∷ (declare [] const_value 2 none (some (of_type (plain_type 3))))
+    ∷ []))
 
 abbrev pub free_clash_row : Type 0
 free_clash_row = is_faithful free_clash ≡ false
 
 -- a free helper, root mangled
 abbrev pub free_apart : UnitView
-free_apart = unit_of ((codes "package_main_helper") ∷ (codes "package_main_main") ∷ (codes "package_a_k") ∷ (codes "helper") ∷ []) (module_of [] [] ((declare [] const_value 0 none (some (literal_text (codes "1")))) ∷ (declare [] const_value 1 none (some (plus (of_type (plain_type 0)) (of_type (plain_type 2))))) ∷ (declare [] const_value 2 none (some (of_type (plain_type 3)))) ∷ []))
+free_apart =
+    unit_of ((codes "package_main_helper") ∷ (codes "package_main_main") ∷ (codes "package_a_k") ∷ (codes "helper") ∷ [])
+    (module_of [] []
+    ((declare [] const_value 0 none (some (literal_text (codes "1"))))
+    ∷ (declare [] const_value 1 none (some (plus (of_type (plain_type 0)) (of_type (plain_type 2)))))
+    ∷ (declare [] const_value 2 none (some (of_type (plain_type 3))))
+    ∷ []))
 
 abbrev pub free_apart_row : Type 0
 free_apart_row = is_faithful free_apart ≡ true
 
 -- mangler none
 abbrev pub unmangled : UnitView
-unmangled = unit_of ((codes "k") ∷ (codes "k") ∷ []) (module_of [] [] ((declare [] const_value 0 none (some (of_type (plain_type 1)))) ∷ (declare [] const_value 1 none (some (literal_text (codes "1")))) ∷ []))
+unmangled =
+    unit_of ((codes "k") ∷ (codes "k") ∷ [])
+    (module_of [] [] ((declare [] const_value 0 none (some (of_type (plain_type 1)))) ∷ (declare [] const_value 1 none (some (literal_text (codes "1")))) ∷ []))
 
 abbrev pub unmangled_row : Type 0
 unmangled_row = is_faithful unmangled ≡ false
 
 -- a free mangled name
 abbrev pub free_mangled : UnitView
-free_mangled = unit_of ((codes "package_m_k") ∷ (codes "package_a_f") ∷ (codes "package_a_f") ∷ []) (module_of [] [] ((declare [] const_value 0 none (some (plus (of_type (plain_type 1)) (of_type (plain_type 2))))) ∷ (declare [] const_value 2 none (some (literal_text (codes "1")))) ∷ []))
+free_mangled =
+    unit_of ((codes "package_m_k") ∷ (codes "package_a_f") ∷ (codes "package_a_f") ∷ [])
+    (module_of [] []
+    ((declare [] const_value 0 none (some (plus (of_type (plain_type 1)) (of_type (plain_type 2)))))
+    ∷ (declare [] const_value 2 none (some (literal_text (codes "1"))))
+    ∷ []))
 
 abbrev pub free_mangled_row : Type 0
 free_mangled_row = is_faithful free_mangled ≡ false
 
 -- let package_a_f = package::a::f();
 abbrev pub body_0 : UnitView
-body_0 = unit_of ((codes "main") ∷ (codes "package_a_f") ∷ (codes "package_a_f") ∷ []) (module_of [] [] ((function_of [] 0 [] [] none (body [] ((declare [] let_value 1 none (some (call_of (plain_type 2) []))) ∷ []))) ∷ (function_of [] 2 [] [] none (body [] [])) ∷ []))
+body_0 =
+    unit_of ((codes "main") ∷ (codes "package_a_f") ∷ (codes "package_a_f") ∷ [])
+    (module_of [] []
+    ((function_of [] 0 [] [] none (body [] ((declare [] let_value 1 none (some (call_of (plain_type 2) []))) ∷ [])))
+    ∷ (function_of [] 2 [] [] none (body [] []))
+    ∷ []))
 
 abbrev pub body_0_row : Type 0
 body_0_row = is_faithful body_0 ≡ true
 
 -- package::a::f(); let package_a_f = 1;
 abbrev pub body_1 : UnitView
-body_1 = unit_of ((codes "main") ∷ (codes "package_a_f") ∷ (codes "package_a_f") ∷ []) (module_of [] [] ((function_of [] 0 [] [] none (body [] ((call_now [] (called (plain_type 1) [])) ∷ (declare [] let_value 2 none (some (literal_text (codes "1")))) ∷ []))) ∷ (function_of [] 1 [] [] none (body [] [])) ∷ []))
+body_1 =
+    unit_of ((codes "main") ∷ (codes "package_a_f") ∷ (codes "package_a_f") ∷ [])
+    (module_of [] []
+    ((function_of [] 0 [] [] none (body [] ((call_now [] (called (plain_type 1) [])) ∷ (declare [] let_value 2 none (some (literal_text (codes "1")))) ∷ [])))
+    ∷ (function_of [] 1 [] [] none (body [] []))
+    ∷ []))
 
 abbrev pub body_1_row : Type 0
 body_1_row = is_faithful body_1 ≡ true
 
 -- { let package_a_f = 1; } package::a::f();
 abbrev pub body_2 : UnitView
-body_2 = unit_of ((codes "main") ∷ (codes "package_a_f") ∷ (codes "package_a_f") ∷ []) (module_of [] [] ((function_of [] 0 [] [] none (body [] ((block (body [] ((declare [] let_value 1 none (some (literal_text (codes "1")))) ∷ []))) ∷ (call_now [] (called (plain_type 2) [])) ∷ []))) ∷ (function_of [] 2 [] [] none (body [] [])) ∷ []))
+body_2 =
+    unit_of ((codes "main") ∷ (codes "package_a_f") ∷ (codes "package_a_f") ∷ [])
+    (module_of [] []
+    ((function_of [] 0 [] [] none
+    (body [] ((block (body [] ((declare [] let_value 1 none (some (literal_text (codes "1")))) ∷ []))) ∷ (call_now [] (called (plain_type 2) [])) ∷ [])))
+    ∷ (function_of [] 2 [] [] none (body [] []))
+    ∷ []))
 
 abbrev pub body_2_row : Type 0
 body_2_row = is_faithful body_2 ≡ true
 
 -- loop { let package_a_f = 1; continuing { package::a::f(); } }
 abbrev pub body_3 : UnitView
-body_3 = unit_of ((codes "main") ∷ (codes "package_a_f") ∷ (codes "package_a_f") ∷ []) (module_of [] [] ((function_of [] 0 [] [] none (body [] ((loop_of [] (body [] ((declare [] let_value 1 none (some (literal_text (codes "1")))) ∷ [])) (some (continue_with [] (body [] ((call_now [] (called (plain_type 2) [])) ∷ [])) none))) ∷ []))) ∷ (function_of [] 2 [] [] none (body [] [])) ∷ []))
+body_3 =
+    unit_of ((codes "main") ∷ (codes "package_a_f") ∷ (codes "package_a_f") ∷ [])
+    (module_of [] []
+    ((function_of [] 0 [] [] none
+    (body []
+    ((loop_of [] (body [] ((declare [] let_value 1 none (some (literal_text (codes "1")))) ∷ []))
+    (some (continue_with [] (body [] ((call_now [] (called (plain_type 2) [])) ∷ [])) none)))
+    ∷ [])))
+    ∷ (function_of [] 2 [] [] none (body [] []))
+    ∷ []))
 
 abbrev pub body_3_row : Type 0
 body_3_row = is_faithful body_3 ≡ false
 
 -- for (var package_a_f = 0; ; ) { package::a::f(); }
 abbrev pub body_4 : UnitView
-body_4 = unit_of ((codes "main") ∷ (codes "package_a_f") ∷ (codes "package_a_f") ∷ []) (module_of [] [] ((function_of [] 0 [] [] none (body [] ((for_of [] (some (statement (declare [] var_of 1 none (some (literal_text (codes "0")))))) none none (body [] ((call_now [] (called (plain_type 2) [])) ∷ []))) ∷ []))) ∷ (function_of [] 2 [] [] none (body [] [])) ∷ []))
+body_4 =
+    unit_of ((codes "main") ∷ (codes "package_a_f") ∷ (codes "package_a_f") ∷ [])
+    (module_of [] []
+    ((function_of [] 0 [] [] none
+    (body []
+    ((for_of [] (some (statement (declare [] var_of 1 none (some (literal_text (codes "0")))))) none none
+    (body [] ((call_now [] (called (plain_type 2) [])) ∷ [])))
+    ∷ [])))
+    ∷ (function_of [] 2 [] [] none (body [] []))
+    ∷ []))
 
 abbrev pub body_4_row : Type 0
 body_4_row = is_faithful body_4 ≡ false
 
 -- fn f() { { let x = 1; } let y = x; } (numbers changed)
 abbrev pub free_with_binders_number : UnitView
-free_with_binders_number = unit_of ((codes "f") ∷ (codes "x") ∷ (codes "y") ∷ []) (module_of [] [] ((function_of [] 0 [] [] none (body [] ((block (body [] ((declare [] let_value 1 none (some (literal_text (codes "1")))) ∷ []))) ∷ (declare [] let_value 2 none (some (of_type (plain_type 1)))) ∷ []))) ∷ []))
+free_with_binders_number =
+    unit_of ((codes "f") ∷ (codes "x") ∷ (codes "y") ∷ [])
+    (module_of [] []
+    ((function_of [] 0 [] [] none
+    (body []
+    ((block (body [] ((declare [] let_value 1 none (some (literal_text (codes "1")))) ∷ [])))
+    ∷ (declare [] let_value 2 none (some (of_type (plain_type 1))))
+    ∷ [])))
+    ∷ []))
 
 abbrev pub free_with_binders_number_row : Type 0
 free_with_binders_number_row = is_faithful free_with_binders_number ≡ false
 
 -- fn f() { let x = 1; let y = x; let x = 2; } (numbers changed)
 abbrev pub two_locals_one_after : UnitView
-two_locals_one_after = unit_of ((codes "f") ∷ (codes "x") ∷ (codes "y") ∷ (codes "x") ∷ []) (module_of [] [] ((function_of [] 0 [] [] none (body [] ((declare [] let_value 1 none (some (literal_text (codes "1")))) ∷ (declare [] let_value 2 none (some (of_type (plain_type 1)))) ∷ (declare [] let_value 3 none (some (literal_text (codes "2")))) ∷ []))) ∷ []))
+two_locals_one_after =
+    unit_of ((codes "f") ∷ (codes "x") ∷ (codes "y") ∷ (codes "x") ∷ [])
+    (module_of [] []
+    ((function_of [] 0 [] [] none
+    (body []
+    ((declare [] let_value 1 none (some (literal_text (codes "1"))))
+    ∷ (declare [] let_value 2 none (some (of_type (plain_type 1)))) ∷ (declare [] let_value 3 none (some (literal_text (codes "2"))))
+    ∷ [])))
+    ∷ []))
 
 abbrev pub two_locals_one_after_row : Type 0
 two_locals_one_after_row = is_faithful two_locals_one_after ≡ true
 
 -- fn f() { let x = 1; let x = 2; let y = x; } (numbers changed)
 abbrev pub two_locals_both_before : UnitView
-two_locals_both_before = unit_of ((codes "f") ∷ (codes "x") ∷ (codes "x") ∷ (codes "y") ∷ []) (module_of [] [] ((function_of [] 0 [] [] none (body [] ((declare [] let_value 1 none (some (literal_text (codes "1")))) ∷ (declare [] let_value 2 none (some (literal_text (codes "2")))) ∷ (declare [] let_value 3 none (some (of_type (plain_type 2)))) ∷ []))) ∷ []))
+two_locals_both_before =
+    unit_of ((codes "f") ∷ (codes "x") ∷ (codes "x") ∷ (codes "y") ∷ [])
+    (module_of [] []
+    ((function_of [] 0 [] [] none
+    (body []
+    ((declare [] let_value 1 none (some (literal_text (codes "1"))))
+    ∷ (declare [] let_value 2 none (some (literal_text (codes "2")))) ∷ (declare [] let_value 3 none (some (of_type (plain_type 2))))
+    ∷ [])))
+    ∷ []))
 
 abbrev pub two_locals_both_before_row : Type 0
 two_locals_both_before_row = is_faithful two_locals_both_before ≡ false
 
 -- const x = 1; const x = 2; (numbers changed)
 abbrev pub two_module_names : UnitView
-two_module_names = unit_of ((codes "x") ∷ (codes "x") ∷ []) (module_of [] [] ((declare [] const_value 0 none (some (literal_text (codes "1")))) ∷ (declare [] const_value 1 none (some (literal_text (codes "2")))) ∷ []))
+two_module_names =
+    unit_of ((codes "x") ∷ (codes "x") ∷ [])
+    (module_of [] []
+    ((declare [] const_value 0 none (some (literal_text (codes "1")))) ∷ (declare [] const_value 1 none (some (literal_text (codes "2")))) ∷ []))
 
 abbrev pub two_module_names_row : Type 0
 two_module_names_row = is_faithful two_module_names ≡ false
 
 -- fn f() { let x = 1; let x = 2; x(); } (numbers changed: the call has the first x's)
 abbrev pub first_of_two_locals : UnitView
-first_of_two_locals = unit_of ((codes "f") ∷ (codes "x") ∷ (codes "x") ∷ []) (module_of [] [] ((function_of [] 0 [] [] none (body [] ((declare [] let_value 1 none (some (literal_text (codes "1")))) ∷ (declare [] let_value 2 none (some (literal_text (codes "2")))) ∷ (call_now [] (called (plain_type 1) [])) ∷ []))) ∷ []))
+first_of_two_locals =
+    unit_of ((codes "f") ∷ (codes "x") ∷ (codes "x") ∷ [])
+    (module_of [] []
+    ((function_of [] 0 [] [] none
+    (body []
+    ((declare [] let_value 1 none (some (literal_text (codes "1"))))
+    ∷ (declare [] let_value 2 none (some (literal_text (codes "2")))) ∷ (call_now [] (called (plain_type 1) []))
+    ∷ [])))
+    ∷ []))
 
 abbrev pub first_of_two_locals_row : Type 0
 first_of_two_locals_row = is_faithful first_of_two_locals ≡ false
 
 -- const x = k; const y; where k and y have one number, so one name: it is then bound
 abbrev pub global_before_use : UnitView
-global_before_use = unit_of ((codes "x") ∷ (codes "k") ∷ []) (module_of [] [] ((declare [] const_value 0 none (some (of_type (plain_type 1)))) ∷ (declare [] const_value 1 none none) ∷ []))
+global_before_use =
+    unit_of ((codes "x") ∷ (codes "k") ∷ [])
+    (module_of [] [] ((declare [] const_value 0 none (some (of_type (plain_type 1)))) ∷ (declare [] const_value 1 none none) ∷ []))
 
 abbrev pub global_before_use_row : Type 0
 global_before_use_row = is_faithful global_before_use ≡ true
 
 -- fn f() { let y = x; let x = 1; } (numbers changed: the free x has the local's)
 abbrev pub free_with_a_later_local_number : UnitView
-free_with_a_later_local_number = unit_of ((codes "f") ∷ (codes "y") ∷ (codes "x") ∷ []) (module_of [] [] ((function_of [] 0 [] [] none (body [] ((declare [] let_value 1 none (some (of_type (plain_type 2)))) ∷ (declare [] let_value 2 none (some (literal_text (codes "1")))) ∷ []))) ∷ []))
+free_with_a_later_local_number =
+    unit_of ((codes "f") ∷ (codes "y") ∷ (codes "x") ∷ [])
+    (module_of [] []
+    ((function_of [] 0 [] [] none
+    (body [] ((declare [] let_value 1 none (some (of_type (plain_type 2)))) ∷ (declare [] let_value 2 none (some (literal_text (codes "1")))) ∷ [])))
+    ∷ []))
 
 abbrev pub free_with_a_later_local_number_row : Type 0
 free_with_a_later_local_number_row = is_faithful free_with_a_later_local_number ≡ false
 
 -- fn f(x: i32, x: i32) { x(); } (numbers changed: two parameters, two numbers)
 abbrev pub two_parameters : UnitView
-two_parameters = unit_of ((codes "f") ∷ (codes "x") ∷ (codes "i32") ∷ (codes "x") ∷ []) (module_of [] [] ((function_of [] 0 ((parameter_of [] 1 (plain_type 2)) ∷ (parameter_of [] 3 (plain_type 2)) ∷ []) [] none (body [] ((call_now [] (called (plain_type 1) [])) ∷ []))) ∷ []))
+two_parameters =
+    unit_of ((codes "f") ∷ (codes "x") ∷ (codes "i32") ∷ (codes "x") ∷ [])
+    (module_of [] []
+    ((function_of [] 0 ((parameter_of [] 1 (plain_type 2)) ∷ (parameter_of [] 3 (plain_type 2)) ∷ []) [] none
+    (body [] ((call_now [] (called (plain_type 1) [])) ∷ [])))
+    ∷ []))
 
 abbrev pub two_parameters_row : Type 0
 two_parameters_row = is_faithful two_parameters ≡ false

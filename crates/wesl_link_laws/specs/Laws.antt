@@ -12,8 +12,8 @@ use Rattle.wesl_link_reach.specs.World.{Task}
 use Rattle.wesl_link_engine.specs.Worlds.{Module}
 use Rattle.wesl_link_engine.specs.Linked.{IsAssembled}
 use Rattle.wesl_link_engine.specs.Resolved.{AssemblesTo, IsMangled, NamesAgree}
-use Rattle.wesl_link_resolutions.specs.Keeping.{IsSound, resolved}
-use Rattle.wesl_link_resolutions.specs.declared.resolutions.Resolutions.{Resolutions}
+use Rattle.wesl_link.specs.Keeping.{resolved}
+use Rattle.wesl_link.specs.declared.resolutions.Resolutions.{Resolutions}
 use Rattle.wesl_link_laws.specs.Linked.{IsFound, IsEntered}
 use Rattle.wesl_link_laws.specs.Apart.{NamesAreApart}
 use Rattle.wesl_link_laws.specs.Escaped.{Holds, HoldsSymbol, AreReadBack, AreReversible, LeavesEscapes}
@@ -45,13 +45,13 @@ EscapedIsFaithful =
 -- ---- the same of the unit of a `Resolutions`, whose modules are those of code
 
 abbrev pub ResolvedIsCanonical : Type 0
-ResolvedIsCanonical = (r : Resolutions) (unit : UnitView) → IsSound r → IsEntered (resolved r) → AssemblesTo (resolved r) unit → IsFaithful unit ↔ HasCanonicalNumbers unit
+ResolvedIsCanonical = (r : Resolutions) (unit : UnitView) → IsEntered (resolved r) → AssemblesTo (resolved r) unit → IsFaithful unit ↔ HasCanonicalNumbers unit
 
 abbrev pub ResolvedIsFaithful : Type 0
-ResolvedIsFaithful = (r : Resolutions) (unit : UnitView) → IsSound r → IsEntered (resolved r) → AssemblesTo (resolved r) unit → NamesAreApart unit → IsFaithful unit
+ResolvedIsFaithful = (r : Resolutions) (unit : UnitView) → IsEntered (resolved r) → AssemblesTo (resolved r) unit → NamesAreApart unit → IsFaithful unit
 
 -- the names in it are short, as all of code, so that its reversible symbols are read back
 abbrev pub MangledIsFaithful : Type 0
 MangledIsFaithful =
-    (before after : Resolutions) (unit : UnitView) → IsEntered (resolved before) → IsMangled escape true (resolved before) (resolved after) → IsSound after → AssemblesTo (resolved after) unit
+    (before after : Resolutions) (unit : UnitView) → IsEntered (resolved before) → IsMangled escape true (resolved before) (resolved after) → AssemblesTo (resolved after) unit
     → AreReversible (HoldsSymbol (resolved after)) → LeavesEscapes (HoldsSymbol (resolved after)) unit → IsFaithful unit

@@ -1,6 +1,7 @@
 //! Laws of linked units.
 ghost use Rattle.wesl_link_laws.specs.Laws.{LinkedIsCanonical, ApartIsFaithful, EscapedIsFaithful, ResolvedIsCanonical, ResolvedIsFaithful, MangledIsFaithful};
 
+use wesl_link_sound::law_of_sound_links;
 use wesl_mangle_forms::escape_round_trip;
 use wesl_scope_clash::law_of_canonical_numbers;
 use wesl_scope_occurrences::{law_of_occurrences, law_of_ways};
@@ -16,6 +17,7 @@ pub fn law_of_canonical_links()
     law_of_ways();
     law_of_occurrences();
     law_of_canonical_numbers();
+    law_of_sound_links();
 }
 
 /// A linked unit is faithful where binders of its module block that are spelled alike have one number, and no parameter, no
@@ -26,6 +28,7 @@ pub fn law_of_apart_names()
 {
     law_of_ways();
     law_of_occurrences();
+    law_of_sound_links();
 }
 
 /// A unit linked under the names of `EscapeMangler`, those of the root too, is faithful where each held symbol is read back
@@ -40,4 +43,5 @@ pub fn law_of_escape_names()
     law_of_ways();
     law_of_occurrences();
     escape_round_trip();
+    law_of_sound_links();
 }

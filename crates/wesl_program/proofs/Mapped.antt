@@ -10,7 +10,7 @@ use Rattle.wesl_program_bundle.specs.Bundle.{Bundle}
 use Rattle.wesl_link_engine.specs.Worlds.{Module}
 use Rattle.wesl_source_map_entries.specs.Records.{SameItems}
 use Rattle.wesl_link.specs.Linking.{RefusesLink, hands_left, refuses_left}
-use Rattle.wesl_link_mapped.specs.Mapping.{MapsLink}
+use Rattle.wesl_link.specs.Mapping.{MapsLink}
 use Rattle.wesl_program.specs.Linking.{Kept, LinksTo, handed_left, refused_left, recorded_for}
 use Rattle.wesl_program.specs.Naming.{named_by}
 use Rattle.wesl_program.specs.Refused.{IsLinkFault}

@@ -13,7 +13,7 @@ use Rattle.wesl_resolve_base.specs.Packages.{IsReadIn, IsRefusedIn}
 use Rattle.wesl_resolve_base.specs.declared.packages.CodegenPkg.{CodegenPkg}
 use Rattle.wesl_json.specs.UnitTexts.{ReadsAs}
 use Rattle.wesl_link.specs.Linking.{Links, RefusesLink, hands_left, refuses_left}
-use Rattle.wesl_link_mapped.specs.Mapping.{task_at}
+use Rattle.wesl_link.specs.Mapping.{task_at}
 use Rattle.wesl_link_engine.specs.Recorded.{Record, all_written}
 use Rattle.wesl_link_engine.specs.Worlds as worlds
 use Rattle.wesl_link_engine.specs.Linked.{IsAssembled}

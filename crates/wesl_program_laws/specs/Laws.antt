@@ -7,7 +7,7 @@ use Rattle.wesl_tree_syntax.specs.Unit.{UnitOf, UnitView}
 use Rattle.wesl_cond_features.specs.declared.features.Features.{Features}
 use Rattle.wesl_link_engine.specs.Worlds.{Module}
 use Rattle.wesl_link.specs.Linking.{LinksLeft}
-use Rattle.wesl_link_mapped.specs.Mapping.{task_at}
+use Rattle.wesl_link.specs.Mapping.{task_at}
 use Rattle.wesl_link_laws.specs.Linked.{IsFound}
 use Rattle.wesl_link_laws.specs.Escaped.{Holds, AreReadBack, LeavesEscapes}
 use Rattle.wesl_program_bundle.specs.Bundle.{Bundle}

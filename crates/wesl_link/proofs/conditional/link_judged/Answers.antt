@@ -2,7 +2,7 @@ use Rattle.std.proofs.Common.{◌≡◌, ◌↔◌, sym, subst}
 use Rattle.std.proofs.lemmas.Result.{IfOk-weaker, IfErr-weaker}
 use Rattle.wesl_tree_base.specs.Borrowed.{texts}
 use Rattle.wesl_tree_names.specs.Path.{path_view}
-use Rattle.wesl_link_resolutions.specs.Keeping.{modules_of, turns_of}
+use Rattle.wesl_link.specs.Keeping.{modules_of, turns_of}
 use Rattle.wesl_cond.specs.Conditioned.{IsConditioned}
 use Rattle.wesl_link.proofs.Along.{left-alike, links-over, refuses-over}
 use Rattle.wesl_link.proofs.conditional.link_judged.Goals as goal
@@ -19,7 +19,7 @@ returns-clause-linked g c =
     c.args.features.now (λ given answer. g.F.Fn.post c.new-judged.result.preprocess (given, tt) answer)
     (λ given answer. subst (λ f. g.F.Fn.post f (given, tt) answer ↔ IsConditioned c.args.features.now given answer) (sym stored) (c.requires.judges given answer)) in
     IfOk-weaker c.link_at.result _ _
-    (λ r h. links-over _ _ _ _ alike (path_view c.args.path.now) (texts c.args.keep.now) c.args.is_eager c.args.max_modules (turns_of r) (modules_of r) h)
+    (λ r h. links-over _ _ _ _ alike (path_view c.args.request.now.root.now) (texts c.args.request.now.keep.now) c.args.request.now.is_eager c.args.request.now.max_modules (turns_of r) (modules_of r) h)
     c.link_at.ensures.linked
 
 pub returns-clause-refused : goal.returns-clause-refused
@@ -34,5 +34,5 @@ returns-clause-refused g c =
     c.args.features.now (λ given answer. g.F.Fn.post c.new-judged.result.preprocess (given, tt) answer)
     (λ given answer. subst (λ f. g.F.Fn.post f (given, tt) answer ↔ IsConditioned c.args.features.now given answer) (sym stored) (c.requires.judges given answer)) in
     IfErr-weaker c.link_at.result _ _
-    (λ d h. refuses-over _ _ _ _ alike (path_view c.args.path.now) (texts c.args.keep.now) c.args.is_eager c.args.max_modules d.error h)
+    (λ d h. refuses-over _ _ _ _ alike (path_view c.args.request.now.root.now) (texts c.args.request.now.keep.now) c.args.request.now.is_eager c.args.request.now.max_modules d.error h)
     c.link_at.ensures.refused

@@ -1,0 +1,69 @@
+-- A link that was made and mangled, and its record.
+use Rattle.std.proofs.Common.{◌≡◌, ℕ, Bool, true, Some, List, ◌∷◌, refl, sym, subst, ap, ◌∙◌, inl}
+use Rattle.wesl_tree_names.specs.Path.{Text, Path}
+use Rattle.wesl_tree_names.specs.declared.errors.Error as error
+use Rattle.wesl_tree_names.specs.declared.errors.ResolveError.{ResolveError}
+use Rattle.wesl_tree_names.specs.declared.errors.ResolveError as resolve_error
+use Rattle.wesl_tree_syntax.specs.Unit.{UnitOf, UnitView}
+use Rattle.wesl_link_engine.specs.Recorded.{Record, IsRecordedBy}
+use Rattle.wesl_link.specs.Linking.{Links, RefusesLink, kept_names, task_at}
+use Rattle.wesl_link_engine.specs.Worlds.{Module}
+use Rattle.wesl_link_engine.specs.Linked.{IsAssembled}
+use Rattle.wesl_link_engine.specs.Resolved.{Resolved, IsMangled, AssemblesTo, IsAssembledOf, NamesAgree, first_path, mangled, writes}
+use Rattle.wesl_source_map_entries.specs.Records.{SameSources}
+use Rattle.wesl_source_map_entries.specs.Held.{source_or}
+use Rattle.wesl_source_map.specs.BasicView.{sources, default_text}
+use Rattle.wesl_source_map.specs.declared.basic.BasicSourceMap.{BasicSourceMap}
+use Rattle.wesl_link.specs.Mapping.{MapsLink, ShowsRoot}
+
+module _ (hands : Path → UnitOf Text → Type 0) (refuses : Path → ResolveError → Type 0) (at : Path) (keep : List Text) (is_eager : Bool) (limit : ℕ)
+    (r : Resolved) (links : Links hands refuses at keep is_eager limit r.turns r.modules) (keeps : r.kept ≡ kept_names is_eager keep) (eager : r.is_eager ≡ is_eager)
+    (name_of : Path → Text → Text) (mangle_root : Bool) (q : Resolved) (m : IsMangled name_of mangle_root r q) (u : UnitView) (assembled : AssemblesTo q u) where
+  abbrev root : Module
+  root = links.0
+
+  root_at : root.path ≡ at
+  root_at = links.1.0
+
+  abbrev others : List Module
+  others = links.3.0
+
+  in_order : r.modules ≡ root ∷ others
+  in_order = links.3.1
+
+  named : NamesAgree r.modules q.names (mangled at mangle_root name_of)
+  named =
+      let h : NamesAgree q.modules q.names (mangled at mangle_root name_of) = m.names at (ap first_path in_order ∙ ap Some root_at) in
+      subst (λ (w : List Module). NamesAgree w q.names (mangled at mangle_root name_of)) m.modules h
+
+  whole : IsAssembled r.modules (task_at at keep is_eager) q.names u
+  whole =
+      let first : IsAssembledOf q (root ∷ others) u = subst (λ (w : List Module). IsAssembledOf q w u) (m.modules ∙ in_order) assembled in
+      let under : IsAssembled (root ∷ others) (record { root = at; kept = q.kept; is_eager = q.is_eager }) q.names u =
+      subst (λ (p : Path). IsAssembled (root ∷ others) (record { root = p; kept = q.kept; is_eager = q.is_eager }) q.names u) root_at first in
+      let kept : IsAssembled (root ∷ others) (record { root = at; kept = kept_names is_eager keep; is_eager = q.is_eager }) q.names u =
+      subst (λ (ns : List Text). IsAssembled (root ∷ others) (record { root = at; kept = ns; is_eager = q.is_eager }) q.names u) (m.kept ∙ keeps) under in
+      let asked : IsAssembled (root ∷ others) (task_at at keep is_eager) q.names u =
+      subst (λ (all : Bool). IsAssembled (root ∷ others) (record { root = at; kept = kept_names is_eager keep; is_eager = all }) q.names u) (m.eager ∙ eager) kept in
+      subst (λ (w : List Module). IsAssembled w (task_at at keep is_eager) q.names u) (sym in_order) asked
+
+  pub maps_link : (before after : Record) → IsRecordedBy true (writes name_of mangle_root r.modules) before after → MapsLink hands refuses name_of at keep is_eager mangle_root limit before after u
+  maps_link before after recorded = (r.turns, r.modules, q.names, links, named, whole, recorded)
+
+-- the same, where the mangler and the record are told by others that are equal
+pub maps_link_as : (hands : Path → UnitOf Text → Type 0) (refuses : Path → ResolveError → Type 0) (at : Path) (keep : List Text) (is_eager mangle_root : Bool) (limit : ℕ) (name_of others : Path → Text → Text) (before befores after : Record) (u : UnitView)
+    → ((p : Path) (i : Text) → others p i ≡ name_of p i) → ((name : Text) → befores name ≡ before name)
+    → MapsLink hands refuses others at keep is_eager mangle_root limit befores after u → MapsLink hands refuses name_of at keep is_eager mangle_root limit before after u
+maps_link_as hands refuses at keep is_eager mangle_root limit name_of others before befores after u names records h =
+    let same : others ≡ name_of = λ i p y. names p y i in
+    let kept : befores ≡ before = λ i y. records y i in
+    subst (λ (f : Path → Text → Text). MapsLink hands refuses f at keep is_eager mangle_root limit before after u) same
+    (subst (λ (b : Record). MapsLink hands refuses others at keep is_eager mangle_root limit b after u) kept h)
+
+-- want of memory is always told
+pub memory_refuses : (hands : Path → UnitOf Text → Type 0) (refuses : Path → ResolveError → Type 0) (at : Path) (keep : List Text) (is_eager : Bool) (limit : ℕ) (e : error.Error) → e ≡ error.Memory → RefusesLink hands refuses at keep is_eager limit e
+memory_refuses hands refuses at keep is_eager limit e is = inl (resolve_error.Memory, inl refl, is)
+
+-- a mapper that is done with shows the root's source
+pub shows_root : (before after : BasicSourceMap) (root : Path) → SameSources (sources before) (sources after) → default_text after ≡ source_or (sources before root) (default_text before) → ShowsRoot root after
+shows_root before after root same default source is = default ∙ ap (λ s. source_or s (default_text before)) (sym (same root) ∙ is)

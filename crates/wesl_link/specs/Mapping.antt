@@ -1,0 +1,56 @@
+-- A link whose printed names are recorded.
+use Rattle.std.specs.Prelude.{◌≡◌, ℕ, Bool, true, List, Option, Some}
+use denote.Ref.{Bor}
+use Rattle.wesl_tree_base.specs.Borrowed.{texts}
+use Rattle.wesl_tree_names.specs.Path.{Text, Path, path_view}
+use Rattle.wesl_tree_names.specs.declared.errors.Diagnostic.{Diagnostic}
+use Rattle.wesl_tree_names.specs.declared.errors.ResolveError.{ResolveError}
+use Rattle.wesl_tree_syntax.specs.Unit.{UnitOf, UnitView}
+use Rattle.wesl_tree.specs.Translation.{unit_view}
+use Rattle.wesl_mangle_forms.specs.declared.mangler.Mangler as Mangler
+use Rattle.wesl_resolve_base.specs.declared.resolver.Resolver as Resolver
+use Rattle.wesl_link_engine.specs.Recorded.{Record, IsRecordedBy}
+use Rattle.wesl_link_engine.specs.Worlds.{Module}
+use Rattle.wesl_link_engine.specs.Linked.{IsAssembled}
+use Rattle.wesl_link_engine.specs.Resolved.{mangled, NamesAgree, writes}
+use Rattle.wesl_cond_features.specs.declared.features.Features.{Features}
+use Rattle.wesl_link.specs.Linking.{Links, TellsRefusalLeft, hands_left, refuses_left}
+pub use Rattle.wesl_link.specs.Linking.{task_at}
+use Rattle.wesl_source_map_entries.specs.Records.{Source}
+use Rattle.wesl_source_map.specs.BasicView.{items, sources, default_text}
+use Rattle.wesl_source_map.specs.declared.basic.BasicSourceMap.{BasicSourceMap}
+use Rattle.wesl_source_map.specs.declared.mapper.SourceMapper.{SourceMapper}
+use Rattle.wesl_link.specs.declared.mapped.Mapped.{Mapped}
+
+-- The modules are linked from the root, and the unit is their linked form under the names of the mangler, the root's own
+-- unless it is mangled. The record is what it was before with a write for each name that they declare, in module order, those
+-- of the root only where it is mangled: of several for one name the last counts.
+abbrev pub MapsLink : (Path → UnitOf Text → Type 0) → (Path → ResolveError → Type 0) → (Path → Text → Text) → Path → List Text → Bool → Bool → ℕ → Record → Record → UnitView → Type 0
+MapsLink hands refuses name_of root keep is_eager mangle_root limit before after unit =
+    (turns : ℕ) × (w : List Module) × (names : Path → Text → Text)
+    × Links hands refuses root keep is_eager limit turns w
+    × NamesAgree w names (mangled root mangle_root name_of)
+    × IsAssembled w (task_at root keep is_eager) names unit
+    × IsRecordedBy true (writes name_of mangle_root w) before after
+
+-- the same of the units as the features leave them
+abbrev pub MapsLinkLeft : (Path → UnitOf Text → Type 0) → (Path → ResolveError → Type 0) → Option Features → (Path → Text → Text) → Path → List Text → Bool → Bool → ℕ → Record → Record → UnitView → Type 0
+MapsLinkLeft hands refuses features name_of root keep is_eager mangle_root limit before after unit =
+    MapsLink (hands_left hands refuses features) (refuses_left hands refuses features) name_of root keep is_eager mangle_root limit before after unit
+
+module _ {R M : Type 0} (g : Resolver.Ghosts R) (m : Mangler.Ghosts M) (features : Option Features) (mapper : SourceMapper R M) (keep : List (Bor Text)) (is_eager : Bool) where
+  -- What is made is a link by the mapper, of the units as the features leave them: its resolver hands them out, its mangler
+  -- names, and its record goes on.
+  abbrev pub MapsLeft : Bool → ℕ → Mapped → Type 0
+  MapsLeft mangle_root limit made =
+      MapsLinkLeft (g.hands mapper.resolver) (g.refuses mapper.resolver) features (m.name_of mapper.mangler) (path_view mapper.root) (texts keep) is_eager mangle_root limit
+      (items mapper.sourcemap) (items made.map) (unit_view made.unit)
+
+module _ {R M : Type 0} (g : Resolver.Ghosts R) (features : Option Features) (mapper : SourceMapper R M) (keep : List (Bor Text)) (is_eager : Bool) where
+  -- the error of the diagnostic tells why such a link is refused
+  abbrev pub RefusesToMap : ℕ → Diagnostic → Type 0
+  RefusesToMap limit d = TellsRefusalLeft (g.hands mapper.resolver) (g.refuses mapper.resolver) features mapper.root (texts keep) is_eager limit d
+
+-- where the map has a source of the root, that is its default source
+abbrev pub ShowsRoot : Path → BasicSourceMap → Type 0
+ShowsRoot root map = (source : Source) → sources map root ≡ Some source → default_text map ≡ Some source.1

@@ -1,0 +1,207 @@
+//! A link through a mapper, and what it records.
+ghost use Rattle.std.specs.Prelude.{◌≡◌, ◌↔◌, Result, false, true, IfOk, IfErr};
+ghost use Rattle.wesl_tree_names.specs.declared.errors.Error as error;
+ghost use Rattle.wesl_tree_names.specs.declared.errors.Diagnostic.{out-Diagnostic};
+ghost use Rattle.wesl_tree_names.specs.Path.{Text, Path, path_view, is_relative};
+ghost use Rattle.wesl_tree.specs.Translation.{unit_view};
+ghost use Rattle.wesl_tree.specs.declared.unit.TranslationUnit.{TranslationUnit};
+ghost use Rattle.wesl_cond.specs.Conditioned.{IsConditioned};
+ghost use Rattle.wesl_link_engine.specs.Asking.{request_view, kept_of};
+ghost use Rattle.wesl_link.specs.Asking.{FindsLink, TellsRefusal};
+ghost use Rattle.wesl_link.specs.Keeping.{resolved, modules_of};
+ghost use Rattle.wesl_link_engine.specs.Resolved.{Resolved, IsMangled, AssemblesTo, writes};
+ghost use Rattle.wesl_link_engine.specs.Recorded.{IsRecordedBy};
+ghost use Rattle.wesl_source_map_entries.specs.Records.{SameItems};
+ghost use Rattle.wesl_source_map.specs.BasicView.{items};
+ghost use Rattle.wesl_link.specs.Mapping.{MapsLeft, RefusesToMap, ShowsRoot};
+
+use crate::conditional::link_at;
+use crate::resolutions::Resolutions;
+use std::alloc::Global;
+use std::marker::{Brand, PhantomData};
+use wesl_cond::{Features, condition};
+use wesl_link_engine::LinkRequest;
+use wesl_mangle_forms::Mangler;
+use wesl_resolve::Preprocessor;
+use wesl_resolve_base::{NoResolver, Resolver};
+use wesl_source_map::{Asked, BasicSourceMap, SourceMapper, Start};
+use wesl_tree::{Diagnostic, Error, ModulePath, TranslationUnit};
+
+/// A linked unit, and what was recorded while it was linked.
+#[derive(Drop)]
+pub struct Mapped {
+    /// The unit.
+    pub unit: TranslationUnit,
+    /// The items that its names stand for, and the sources that were read.
+    pub map: BasicSourceMap,
+}
+
+/// Links the module at the mapper's root as `link_under` does, and gives its unit the names of the mapper's mangler (WESL,
+/// "NameMangling").
+///
+/// The mapper is the resolver of the link, the root's too, and then its mangler. So its record has, beside what it had, a name
+/// for each declared name of each module of the link, in module order; those of the root only with `mangle_root`. Where it has
+/// a source of the root, that is the default source. Which sources it has is not said here: the mapper records that of each
+/// module that it is asked for, where the resolver gives one.
+///
+/// Refused as `link_under` is: where the resolver refuses a path, where a fault of a condition stands in a unit, where a link
+/// is refused, and for want of memory. The diagnostic tells the place of the fault as far as it is known.
+pub fn link_mapped<R: Resolver + Drop, M: Mangler + Drop>(
+    alloc: Global,
+    keep: &[&str],
+    is_eager: bool,
+    mapper: SourceMapper<R, M>,
+    mangle_root: bool,
+    features: &Option<Features>,
+    max_modules: usize,
+) -> Result<Mapped, Diagnostic>
+    requires ready { R.ready mapper.resolver }
+    requires asked { is_relative (path_view mapper.root) ≡ false }
+    ensures mapped { IfOk result (MapsLeft R.Resolver M.Mangler features.now mapper keep.now is_eager mangle_root max_modules) }
+    ensures default { IfOk result (λ made. ShowsRoot (path_view mapper.root) made.map) }
+    ensures refused { IfErr result (RefusesToMap R.Resolver features.now mapper keep.now is_eager max_modules) }
+{
+    let judge = |unit: TranslationUnit|
+        ensures { IsConditioned features.entry.now unit result }
+    { condition(alloc, unit, features) };
+    link_judged(
+        alloc,
+        keep,
+        is_eager,
+        mapper,
+        mangle_root,
+        judge,
+        features,
+        max_modules,
+    )
+}
+
+// Links what a function leaves of the units that are handed out, the root's too, and records the names of the unit.
+fn link_judged<
+    R: Resolver + Drop,
+    M: Mangler + Drop,
+    F: Fn(TranslationUnit) -> Result<TranslationUnit, Error> + Drop,
+>(
+    alloc: Global,
+    keep: &[&str],
+    is_eager: bool,
+    mapper: SourceMapper<R, M>,
+    mangle_root: bool,
+    judge: F,
+    features: &Option<Features>,
+    max_modules: usize,
+) -> Result<Mapped, Diagnostic>
+    requires ready { R.ready mapper.resolver }
+    requires asked { is_relative (path_view mapper.root) ≡ false }
+    requires callable { F.IsAlwaysCallable judge }
+    requires judges { (given : TranslationUnit) (answer : Result TranslationUnit error.Error) → F.post judge given answer ↔ IsConditioned features.now given answer }
+    ensures mapped { IfOk result (MapsLeft R.Resolver M.Mangler features.now mapper keep.now is_eager mangle_root max_modules) }
+    ensures default { IfOk result (λ made. ShowsRoot (path_view mapper.root) made.map) }
+    ensures refused { IfErr result (RefusesToMap R.Resolver features.now mapper keep.now is_eager max_modules) }
+{
+    let path = mapper.root.try_clone(alloc)?;
+    let SourceMapper {
+        root,
+        resolver,
+        mangler,
+        sourcemap,
+    } = mapper;
+    let judged = SourceMapper {
+        root,
+        resolver: Preprocessor::new(resolver, judge),
+        mangler,
+        sourcemap,
+    };
+    let request = LinkRequest {
+        root: &path,
+        keep,
+        is_eager,
+        max_modules,
+    };
+    match found::<Preprocessor<R, F>, M, Brand>(alloc, &request, judged) {
+        Ok(found) => named(alloc, found, path, mangle_root),
+        Err(diagnostic) => Err(diagnostic),
+    }
+}
+
+// What a link found, and the mapper that it asked, whose resolver was let go, with all that it held.
+struct MapperLink<M> {
+    resolutions: Resolutions,
+    mapper: SourceMapper<NoResolver, M>,
+}
+
+// Links by the mapper as a resolver alone: the names that it has recorded stay, and those that its mangler gives.
+fn found<R: Resolver + Drop, M: Mangler + Drop, S: Start>(
+    alloc: Global,
+    request: &LinkRequest<'_>,
+    mapper: SourceMapper<R, M>,
+) -> Result<MapperLink<M>, Diagnostic>
+    requires ready { R.ready mapper.resolver }
+    requires asked { is_relative (path_view request.now.root.now) ≡ false }
+    requires start { SameItems S.items (items mapper.sourcemap) }
+    requires names { (p : Path) (i : Text) → M.name_of mapper.mangler p i ≡ S.name_of p i }
+    ensures linked { IfOk result (λ f. FindsLink R.Resolver mapper.resolver (request_view request.now) f.resolutions) }
+    ensures kept { IfOk result (λ f. (resolved f.resolutions).kept ≡ kept_of (request_view request.now)) }
+    ensures eager { IfOk result (λ f. (resolved f.resolutions).is_eager ≡ request.now.is_eager) }
+    ensures start { IfOk result (λ f. SameItems S.items (items f.mapper.sourcemap)) }
+    ensures names { IfOk result (λ f. (p : Path) (i : Text) → M.name_of f.mapper.mangler p i ≡ S.name_of p i) }
+    ensures refused { IfErr result (TellsRefusal R.Resolver mapper.resolver (request_view request.now)) }
+{
+    let mut asked = Asked::<R, M, S> {
+        mapper,
+        start: PhantomData,
+    };
+    match link_at(alloc, request, &mut asked) {
+        Ok(resolutions) => Ok(MapperLink {
+            resolutions,
+            mapper: without_resolver(asked.mapper),
+        }),
+        Err(diagnostic) => Err(diagnostic),
+    }
+}
+
+// The mapper once nothing more is asked of its resolver.
+fn without_resolver<R: Drop, M>(mapper: SourceMapper<R, M>) -> SourceMapper<NoResolver, M>
+    ensures mangler { result.mangler ≡ mapper.mangler }
+    ensures record { result.sourcemap ≡ mapper.sourcemap }
+{
+    let SourceMapper {
+        root,
+        resolver,
+        mangler,
+        sourcemap,
+    } = mapper;
+    drop(resolver);
+    SourceMapper {
+        root,
+        resolver: NoResolver,
+        mangler,
+        sourcemap,
+    }
+}
+
+// The unit of a link under the names of the mapper, which records them. The root is told again: what is generic in the mapper
+// says nothing of the path that it has.
+fn named<M: Mangler + Drop>(
+    alloc: Global,
+    found: MapperLink<M>,
+    root: ModulePath,
+    mangle_root: bool,
+) -> Result<Mapped, Diagnostic>
+    ensures named { IfOk result (λ made. (r : Resolved) × IsMangled (M.name_of found.mapper.mangler) mangle_root (resolved found.resolutions) r × AssemblesTo r (unit_view made.unit)) }
+    ensures recorded { IfOk result (λ made. IsRecordedBy true (writes (M.name_of found.mapper.mangler) mangle_root (modules_of found.resolutions)) (items found.mapper.sourcemap) (items made.map)) }
+    ensures default { IfOk result (λ made. ShowsRoot (path_view root) made.map) }
+    ensures refused { IfErr result (λ d. (out-Diagnostic d).error ≡ error.Memory) }
+{
+    let MapperLink {
+        mut resolutions,
+        mut mapper,
+    } = found;
+    resolutions.mangle(alloc, &mut mapper, mangle_root)?;
+    let unit = resolutions.assemble(alloc, true)?;
+    mapper.root = root;
+    match mapper.finish(alloc) {
+        Ok(map) => Ok(Mapped { unit, map }),
+        Err(_) => Err(Diagnostic::of(Error::Memory)),
+    }
+}
