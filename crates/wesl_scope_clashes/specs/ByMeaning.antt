@@ -21,12 +21,16 @@ abbrev pub read_by : Option Binder → Option Binder → Bool → Option Reading
 read_by None other is_bound = if is_bound then Some Unbound else None
 read_by (Some b) other is_bound = option_map Captured other
 
+-- how a reference of the meaning k and the number m at place p is misread
+abbrev pub read_at : Look → (ℕ → Bool) → ℕ → ℕ → ℕ → Option Reading
+read_at visible is_bound k p m = read_by (visible k p None) (visible k p (Some m)) (is_bound m)
+
 -- where `visible` looks among all binders, and `earlier` among those of the module's block
 module _ (visible earlier : Look) (is_bound : ℕ → Bool) where
   -- how an identifier of the meaning k is misread
   abbrev pub reading_by : ℕ → Found → Option Reading
   reading_by k o =
-      if is_unqualified o.role then read_by (visible k o.place None) (visible k o.place (Some o.name)) (is_bound o.name)
+      if is_unqualified o.role then read_at visible is_bound k o.place o.name
       else (if in_module o then option_map Duplicate (earlier k o.place (Some o.name)) else None)
 
   abbrev pub clash_by : List Text → ℕ → Found → Option ClashOf

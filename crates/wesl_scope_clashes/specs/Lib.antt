@@ -1,4 +1,5 @@
 pub mod Clashes
 pub mod Sightings
 pub mod ByMeaning
+pub mod Finding
 pub mod Laws

@@ -1,11 +1,10 @@
 //! The binders of a module, by what they mean.
-ghost use Rattle.std.specs.Prelude.{◌≡◌, ◌<◌, ◌≤◌, ℕ, length, map, Option, IfOk, OnOk};
-ghost use Rattle.std.specs.Option.{option_or};
+ghost use Rattle.std.specs.Prelude.{◌≡◌, ◌<◌, ◌≤◌, ℕ, length, map, IfOk, OnOk};
 ghost use Rattle.wesl_scope_occurrences.specs.Views.{occurrence_view, standing_view};
 ghost use Rattle.wesl_scope_meanings.specs.Scopes.{is_visible};
 ghost use Rattle.wesl_scope_meanings.specs.Keys.{opened};
 ghost use Rattle.wesl_scope_clashes.specs.Clashes.{binder_at};
-ghost use Rattle.wesl_scope_clashes.specs.Sightings.{groups_view, first_in, if_met, is_seen, in_module, is_declared, one_met, first_met};
+ghost use Rattle.wesl_scope_clashes.specs.Sightings.{in_module};
 
 use crate::clash::Binder;
 use crate::sightings::{Sighting, add, first};
@@ -59,10 +58,13 @@ impl Drop for Binders {
 }
 
 impl Binders {
+    ghost use Rattle.wesl_scope_clashes.specs.Sightings.{is_seen, is_declared, first_met};
+    ghost use Rattle.wesl_scope_clashes.specs.Finding.{look, FindsAs, or_else, found_at, seen_at, declared_at};
+
     /// Adds meanings without binders until there is one of this number.
     fn grow(&mut self, alloc: Global, meaning: usize) -> Result<(), AllocError>
         ensures there { OnOk result (meaning < length self.new.of.items) }
-        ensures same { OnOk result ((k p : ℕ) (x : Option ℕ) → first_in (groups_view self.new.of.items) k p x ≡ first_in (groups_view self.old.of.items) k p x) }
+        ensures same { OnOk result (FindsAs (look self.new) (look self.old)) }
     {
         while self.of.len() <= meaning {
             self.of.push(Vec::new(alloc))?;
@@ -72,7 +74,7 @@ impl Binders {
 
     /// One more binder.
     fn add(&mut self, alloc: Global, meaning: usize, next: Sighting) -> Result<(), AllocError>
-        ensures { OnOk result ((k p : ℕ) (x : Option ℕ) → first_in (groups_view self.new.of.items) k p x ≡ option_or (first_in (groups_view self.old.of.items) k p x) (if_met k p x meaning next)) }
+        ensures { OnOk result (FindsAs (look self.new) (or_else (look self.old) (found_at meaning next))) }
     {
         self.grow(alloc, meaning)?;
         add(&mut self.of[meaning], next)?;
@@ -81,7 +83,7 @@ impl Binders {
 
     /// The first binder of a meaning that is there at a place and has no excepted number.
     pub fn first(&self, meaning: usize, place: usize, except: Option<usize>) -> Option<Binder>
-        ensures { result ≡ first_in (groups_view self.now.of.items) meaning place except }
+        ensures { result ≡ look self.now meaning place except }
     {
         if meaning < self.of.len() {
             first(&self.of[meaning], place, except)
@@ -97,7 +99,7 @@ impl Binders {
         meaning: usize,
         occurrence: &Occurrence<'_>,
     ) -> Result<(), AllocError>
-        ensures { OnOk result ((k p : ℕ) (x : Option ℕ) → first_in (groups_view self.new.of.items) k p x ≡ option_or (first_in (groups_view self.old.of.items) k p x) (one_met is_seen k p x meaning (occurrence_view occurrence.now))) }
+        ensures { OnOk result (FindsAs (look self.new) (or_else (look self.old) (seen_at meaning (occurrence_view occurrence.now)))) }
     {
         match visible_from(&occurrence.standing) {
             Some(from) => {
@@ -115,7 +117,7 @@ impl Binders {
         means: &[usize],
     ) -> Result<Binders, AllocError>
         requires { length means.now ≡ length all.now }
-        ensures { IfOk result (λ r. (k p : ℕ) (x : Option ℕ) → first_in (groups_view r.of.items) k p x ≡ first_met is_seen means.now (map occurrence_view all.now) k p x) }
+        ensures { IfOk result (λ r. FindsAs (look r) (first_met is_seen means.now (map occurrence_view all.now))) }
     {
         let mut binders = Binders {
             of: Vec::new(alloc),
@@ -133,7 +135,7 @@ impl Binders {
         meaning: usize,
         occurrence: &Occurrence<'_>,
     ) -> Result<(), AllocError>
-        ensures { OnOk result ((k p : ℕ) (x : Option ℕ) → first_in (groups_view self.new.of.items) k p x ≡ option_or (first_in (groups_view self.old.of.items) k p x) (one_met is_declared k p x meaning (occurrence_view occurrence.now))) }
+        ensures { OnOk result (FindsAs (look self.new) (or_else (look self.old) (declared_at meaning (occurrence_view occurrence.now)))) }
     {
         if is_in_module(occurrence) {
             self.add(alloc, meaning, sighting(occurrence, occurrence.place))?;
@@ -150,7 +152,7 @@ impl Binders {
         means: &[usize],
     ) -> Result<Binders, AllocError>
         requires { length means.now ≡ length all.now }
-        ensures { IfOk result (λ r. (k p : ℕ) (x : Option ℕ) → first_in (groups_view r.of.items) k p x ≡ first_met is_declared means.now (map occurrence_view all.now) k p x) }
+        ensures { IfOk result (λ r. FindsAs (look r) (first_met is_declared means.now (map occurrence_view all.now))) }
     {
         let mut binders = Binders {
             of: Vec::new(alloc),

@@ -1,9 +1,9 @@
 //! The numbers of binders.
-ghost use Rattle.std.specs.Prelude.{◌≡◌, ◌<◌, ◌||◌, ◌==◌, ℕ, false, length, map, replicate, IfOk};
-ghost use Rattle.std.specs.List.{list_any};
+ghost use Rattle.std.specs.Prelude.{◌≡◌, ◌<◌, ◌==◌, ℕ, false, map, replicate, IfOk};
 ghost use Rattle.wesl_scope_occurrences.specs.Views.{occurrence_view};
 ghost use Rattle.wesl_scope_strip.specs.Marks.{mark_at};
 ghost use Rattle.wesl_scope_clash.specs.Test.{has_number};
+ghost use Rattle.wesl_scope_clashes.specs.Finding.{AreMarked, has_binder};
 
 use std::alloc::{AllocError, Global};
 use wesl_scope_occurrences::Occurrence;
@@ -18,7 +18,7 @@ fn unmarked(alloc: Global, count: usize) -> Result<Vec<bool>, AllocError>
 /// Sets a mark. A place past the end has none.
 #[tactic(auto, using(wesl_scope_strip::proofs::Marking::set_marked, wesl_scope_strip::proofs::Marking::mark_past))]
 fn mark(marks: &mut [bool], place: usize)
-    ensures { (m : ℕ) → m < length marks.old → mark_at marks.new m ≡ mark_at marks.old m || place == m }
+    ensures { AreMarked marks.old (λ m. place == m) marks.new }
 {
     if place < marks.len() {
         marks[place] = true;
@@ -28,7 +28,7 @@ fn mark(marks: &mut [bool], place: usize)
 /// Marks the number of an identifier, if it is a binder.
 #[tactic(auto, using(wesl_scope_strip::proofs::Marking::or_false))]
 fn mark_binder(occurrence: &Occurrence<'_>, marks: &mut [bool])
-    ensures { (m : ℕ) → m < length marks.old → mark_at marks.new m ≡ mark_at marks.old m || has_number m (occurrence_view occurrence.now) }
+    ensures { AreMarked marks.old (λ m. has_number m (occurrence_view occurrence.now)) marks.new }
 {
     if occurrence.standing.is_binder() {
         mark(marks, occurrence.ident.0);
@@ -36,8 +36,8 @@ fn mark_binder(occurrence: &Occurrence<'_>, marks: &mut [bool])
 }
 
 /// Marks the numbers that binders among identifiers have. A number past the end has no mark.
-pub fn mark_binders(all: &[Occurrence<'_>], marks: &mut [bool])
-    ensures { (m : ℕ) → m < length marks.old → mark_at marks.new m ≡ mark_at marks.old m || list_any (has_number m) (map occurrence_view all.now) }
+fn mark_binders(all: &[Occurrence<'_>], marks: &mut [bool])
+    ensures { AreMarked marks.old (has_binder (map occurrence_view all.now)) marks.new }
 {
     for occurrence in all {
         mark_binder(occurrence, marks);
@@ -50,7 +50,7 @@ pub fn bound_numbers(
     count: usize,
     all: &[Occurrence<'_>],
 ) -> Result<Vec<bool>, AllocError>
-    ensures { IfOk result (λ bound. (m : ℕ) → m < count → mark_at bound.items m ≡ list_any (has_number m) (map occurrence_view all.now)) }
+    ensures { IfOk result (λ bound. (m : ℕ) → m < count → mark_at bound.items m ≡ has_binder (map occurrence_view all.now) m) }
 {
     let mut bound = unmarked(alloc, count)?;
     mark_binders(all, &mut bound);

@@ -10,7 +10,6 @@ mod reading;
 mod sightings;
 mod whole;
 
-pub use bound::mark_binders;
 pub use clash::{Binder, Clash, Reading};
 pub use laws::law_of_clashes;
 pub use whole::clashes;

@@ -4,8 +4,8 @@ ghost use Rattle.std.specs.Option.{option_map};
 ghost use Rattle.wesl_scope_occurrences.specs.Views.{occurrence_view};
 ghost use Rattle.wesl_scope_strip.specs.Marks.{mark_at};
 ghost use Rattle.wesl_scope_clashes.specs.Clashes.{clash_view};
-ghost use Rattle.wesl_scope_clashes.specs.Sightings.{groups_view, first_in};
-ghost use Rattle.wesl_scope_clashes.specs.ByMeaning.{read_by, reading_by, clash_by};
+ghost use Rattle.wesl_scope_clashes.specs.ByMeaning.{read_at, reading_by};
+ghost use Rattle.wesl_scope_clashes.specs.Finding.{look, one_by_tables};
 
 use crate::binders::{Binders, is_in_module};
 use crate::clash::{Clash, Reading};
@@ -20,7 +20,7 @@ fn reference_reading(
     place: usize,
     meaning: usize,
 ) -> Option<Reading>
-    ensures { result ≡ read_by (first_in (groups_view visible.now.of.items) meaning place None) (first_in (groups_view visible.now.of.items) meaning place (Some number)) (mark_at bound.now number) }
+    ensures { result ≡ read_at (look visible.now) (mark_at bound.now) meaning place number }
 {
     match visible.first(meaning, place, None) {
         Some(_) => match visible.first(meaning, place, Some(number)) {
@@ -45,7 +45,7 @@ fn reading(
     meaning: usize,
     occurrence: &Occurrence<'_>,
 ) -> Option<Reading>
-    ensures { result ≡ reading_by (first_in (groups_view visible.now.of.items)) (first_in (groups_view globals.now.of.items)) (mark_at bound.now) meaning (occurrence_view occurrence.now) }
+    ensures { result ≡ reading_by (look visible.now) (look globals.now) (mark_at bound.now) meaning (occurrence_view occurrence.now) }
 {
     let number = occurrence.ident.0;
     if occurrence.standing.is_unqualified() {
@@ -70,7 +70,7 @@ pub fn clash<'a>(
     occurrence: &Occurrence<'_>,
 ) -> Option<Clash<'a>>
     requires { occurrence.now.ident.0 < length names.now }
-    ensures { option_map clash_view result ≡ clash_by (first_in (groups_view visible.now.of.items)) (first_in (groups_view globals.now.of.items)) (mark_at bound.now) names.now meaning (occurrence_view occurrence.now) }
+    ensures { option_map clash_view result ≡ one_by_tables visible.now globals.now bound.now names.now meaning occurrence.now }
 {
     match reading(visible, globals, bound, meaning, occurrence) {
         Some(reading) => Some(Clash {

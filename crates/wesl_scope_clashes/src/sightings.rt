@@ -1,6 +1,7 @@
 //! Binders of one meaning, each of which is there from some place on.
-ghost use Rattle.std.specs.Prelude.{◌≡◌, ◌++◌, ◌∷◌, [], ℕ, false, Option, OnOk};
+ghost use Rattle.std.specs.Prelude.{◌≡◌, ◌++◌, ◌∷◌, [], false, OnOk};
 ghost use Rattle.wesl_scope_clashes.specs.Sightings.{differs, is_met, first_of};
+ghost use Rattle.wesl_scope_clashes.specs.Finding.{FindAlike};
 
 use crate::clash::Binder;
 use std::alloc::AllocError;
@@ -49,7 +50,7 @@ pub fn first(sightings: &[Sighting], place: usize, except: Option<usize>) -> Opt
 /// Whether a binder is ever the first after these: not where one of them has its number, or two have different ones, and
 /// they are there as soon as it is.
 fn is_needed(before: &[Sighting], next: &Sighting) -> bool
-    ensures { result ≡ false → (p : ℕ) (x : Option ℕ) → first_of p x (before.now ++ next.now ∷ []) ≡ first_of p x before.now }
+    ensures { result ≡ false → FindAlike (before.now ++ next.now ∷ []) before.now }
 {
     match first(before, next.from, None) {
         None => true,
@@ -61,7 +62,7 @@ fn is_needed(before: &[Sighting], next: &Sighting) -> bool
 /// Adds a binder as the last one, if it is ever the first. So of binders that come to be there one after the other at most
 /// two are kept.
 pub fn add(sightings: &mut Vec<Sighting>, next: Sighting) -> Result<(), AllocError>
-    ensures { OnOk result ((p : ℕ) (x : Option ℕ) → first_of p x sightings.new.items ≡ first_of p x (sightings.old.items ++ next ∷ [])) }
+    ensures { OnOk result (FindAlike sightings.new.items (sightings.old.items ++ next ∷ [])) }
 {
     if !is_needed(sightings, &next) {
         return Ok(());

@@ -1,16 +1,12 @@
 //! What clashes in a whole module.
-ghost use Rattle.std.specs.Prelude.{◌≡◌, ◌<◌, ◌↔◌, ◌++◌, ℕ, [], length, map, IfOk, IfErr, OnOk};
-ghost use Rattle.std.specs.Option.{option_map, option_to_list};
-ghost use Rattle.std.specs.List.{All, list_any};
+ghost use Rattle.std.specs.Prelude.{◌≡◌, ◌<◌, ◌↔◌, [], length, map, IfOk, IfErr, OnOk};
+ghost use Rattle.std.specs.List.{All};
 ghost use Rattle.wesl_tree_names.specs.declared.errors.Error as error;
 ghost use Rattle.wesl_tree.specs.Translation.{unit_view};
 ghost use Rattle.wesl_scope_occurrences.specs.Views.{occurrence_view};
-ghost use Rattle.wesl_scope_strip.specs.Marks.{mark_at};
 ghost use Rattle.wesl_scope_clash.specs.Faithful.{IsFaithful};
-ghost use Rattle.wesl_scope_clash.specs.Test.{has_number};
 ghost use Rattle.wesl_scope_clashes.specs.Clashes.{clash_view, clashes};
-ghost use Rattle.wesl_scope_clashes.specs.Sightings.{groups_view, first_in, first_met, is_seen, is_declared};
-ghost use Rattle.wesl_scope_clashes.specs.ByMeaning.{clashes_by};
+ghost use Rattle.wesl_scope_clashes.specs.Finding.{told_with, by_tables, by_identifiers};
 
 use crate::binders::Binders;
 use crate::bound::bound_numbers;
@@ -24,7 +20,7 @@ use wesl_tree::{Error, Names, TranslationUnit};
 
 /// Adds what is told of an identifier, if something is.
 fn keep<'a>(clashes: &mut Vec<Clash<'a>>, found: Option<Clash<'a>>) -> Result<(), AllocError>
-    ensures { OnOk result (map clash_view clashes.new.items ≡ map clash_view clashes.old.items ++ option_to_list (option_map clash_view found.entry)) }
+    ensures { OnOk result (map clash_view clashes.new.items ≡ told_with clashes.old.items found.entry) }
 {
     match found {
         Some(found) => {
@@ -47,7 +43,7 @@ fn clashes_by_tables<'a>(
 ) -> Result<Vec<Clash<'a>>, AllocError>
     requires named { All (λ o. o.ident.0 < length names.now) all.now }
     requires same_length { length means.now ≡ length all.now }
-    ensures { IfOk result (λ r. map clash_view r.items ≡ clashes_by (first_in (groups_view visible.now.of.items)) (first_in (groups_view globals.now.of.items)) (mark_at bound.now) names.now means.now (map occurrence_view all.now)) }
+    ensures { IfOk result (λ r. map clash_view r.items ≡ by_tables visible.now globals.now bound.now names.now means.now all.now) }
 {
     let mut clashes = Vec::new(alloc);
     for i in 0..all.len() {
@@ -66,7 +62,7 @@ fn clashes_among<'a>(
 ) -> Result<Vec<Clash<'a>>, AllocError>
     requires named { All (λ o. o.ident.0 < length names.now) all.now }
     requires same_length { length means.now ≡ length all.now }
-    ensures { let os = map occurrence_view all.now in IfOk result (λ r. map clash_view r.items ≡ clashes_by (first_met is_seen means.now os) (first_met is_declared means.now os) (λ m. list_any (has_number m) os) names.now means.now os) }
+    ensures { IfOk result (λ r. map clash_view r.items ≡ by_identifiers names.now means.now (map occurrence_view all.now)) }
 {
     let visible = Binders::visible(alloc, all, means)?;
     let globals = Binders::of_module(alloc, all, means)?;

@@ -1,0 +1,3 @@
+pub mod Once
+pub mod Gathering
+pub mod Told
