@@ -1,0 +1,98 @@
+-- What is told of some trees, by what is told of their parts.
+use Rattle.std.proofs.Common.{◌≡◌, ℕ, Bool, true, false, List, [], ◌++◌, inl, inr, Result, Ok, Err, is_ok, sym, subst, append_assoc, append-nil}
+use Rattle.wesl_cond_chains.specs.Evaluation.{Judges, Refuses}
+use Rattle.wesl_cond_chains.specs.Faults.{list_faults, list_at}
+use Rattle.wesl_cond_chains.specs.FormulaFaults.{Fault, IsAmong}
+use Rattle.wesl_cond_chains.specs.Lists.{Element, judged, is_entered, holds_body}
+use Rattle.wesl_cond_features.specs.Features.{Replies}
+use Rattle.wesl_cond_faults.proofs.Listing.{stay, joined, own_alone, inside_alone, leaf_alone}
+use Rattle.wesl_cond_faults.proofs.Placed.{no_faults, no_places}
+use Rattle.wesl_cond_faults.specs.Listed.{AreFaults, nothing}
+use Rattle.wesl_cond_faults.specs.Places.{Place, list_places}
+use Rattle.wesl_cond_faults.specs.Telling.{Adds, AddsAll, IsTold}
+use Rattle.wesl_cond_faults.specs.declared.told.Told.{Told}
+use Rattle.wesl_tree_names.specs.Path.{Text}
+use Rattle.wesl_tree_names.specs.declared.errors.Diagnostic.{Diagnostic, out-Diagnostic}
+use Rattle.wesl_tree_names.specs.declared.errors.Error as error
+use Rattle.wesl_tree_syntax.specs.Tree.{Label, Forest, Tree, end, tree, before}
+
+-- A list that was judged has no fault, or one.
+two_ways : (b : Bool) → b ≡ true → b ≡ false → ⊥
+two_ways b e d = cc
+
+module _ (names : List Text) where
+  -- a list that was refused has a fault
+  some_among : (f : Fault ℕ) (fs : List (Fault ℕ)) → IsAmong f fs → fs ≡ [] → ⊥
+  some_among f fs h e = subst (IsAmong f) e h
+
+  pub refused_some : (fs : List (Fault ℕ)) (e : error.Error) → Refuses names fs e → fs ≡ [] → ⊥
+  refused_some fs e (inl h) none = h.1 none
+  refused_some fs e (inr h) none = some_among h.0 fs h.1 none
+
+  pub clear_if : {A : Type 0} (fs : List (Fault ℕ)) (r : Result A Diagnostic) (b : Bool) → Judges names fs r → b ≡ is_ok r → b ≡ true → fs ≡ []
+  clear_if fs (Ok x) b h e t = h
+  clear_if fs (Err d) b h e t = absurd (two_ways b t e)
+
+  pub some_if : {A : Type 0} (fs : List (Fault ℕ)) (r : Result A Diagnostic) (b : Bool) → Judges names fs r → b ≡ is_ok r → b ≡ false → fs ≡ [] → ⊥
+  some_if fs (Ok x) b h e d none = two_ways b e d
+  some_if fs (Err told) b h e d none = refused_some fs (out-Diagnostic told).error h none
+
+module _ (names : List Text) where
+  pub adds_none : (a : Told) → Adds names [] a a
+  adds_none a = λ first h. subst (λ ps. IsTold names ps a) (sym (append-nil first)) h
+
+  pub adds_both : (ps qs : List (Place ℕ)) (a b c : Told) → Adds names ps a b → Adds names qs b c → Adds names (ps ++ qs) a c
+  adds_both ps qs a b c p q = λ first h. subst (λ rs. IsTold names rs c) (append_assoc first ps qs) (q (first ++ ps) (p first h))
+
+  pub adds_same : (ps qs : List (Place ℕ)) (a b : Told) → ps ≡ qs → Adds names ps a b → Adds names qs a b
+  adds_same ps qs a b e h = subst (λ rs. Adds names rs a b) e h
+
+  module _ (reply : Replies ℕ) where
+    pub some_place : (xs : List (Element ℕ)) → (list_faults reply false xs ≡ [] → ⊥) → list_places reply false xs ≡ [] → ⊥
+    some_place xs some none = some (no_faults reply false xs none)
+
+    pub adds_nothing : (a : Told) → AddsAll names reply end a a
+    adds_nothing a = ([], nothing, adds_none a)
+
+    pub adds_then : (t : Tree) (o : Forest) (a b c : Told) → AddsAll names reply (before t end) a b → AddsAll names reply o b c → AddsAll names reply (before t o) a c
+    adds_then t o a b c p q = (p.0 ++ q.0, joined reply false t.label t.children o p.0 q.0 p.1 q.1, adds_both p.0 q.0 a b c p.2 q.2)
+
+    -- a first tree without a fault
+    pub adds_past : (t : Tree) (o : Forest) (a b : Told) → AreFaults reply false (before t end) [] → AddsAll names reply o a b → AddsAll names reply (before t o) a b
+    adds_past t o a b clear h = (h.0, joined reply false t.label t.children o [] h.0 clear h.1, h.2)
+
+    pub adds_skip : (t : Tree) (o : Forest) (a b : Told) → is_entered t.label ≡ false → AddsAll names reply o a b → AddsAll names reply (before t o) a b
+    adds_skip t o a b e h = adds_past t o a b (leaf_alone reply false t.label t.children e) h
+
+    -- a first tree, and one without a fault
+    pub adds_before : (t u : Tree) (a b : Told) → AddsAll names reply (before t end) a b → AreFaults reply false (before u end) [] → AddsAll names reply (before t (before u end)) a b
+    adds_before t u a b h clear = (h.0, subst (AreFaults reply false (before t (before u end))) (append-nil h.0) (joined reply false t.label t.children (before u end) h.0 [] h.1 clear), h.2)
+
+    -- the list of a node has a fault
+    pub adds_own : (l : Label) (c : Forest) (a b : Told) → is_entered l ≡ true → (list_faults reply false (list_at false l c) ≡ [] → ⊥) → Adds names (list_places reply false (list_at false l c)) a b → AddsAll names reply (tree l c end) a b
+    adds_own l c a b en some h = (list_places reply false (list_at false l c), own_alone reply false l c en (some_place (list_at false l c) some), h)
+
+    -- it has none
+    pub adds_inside : (l : Label) (c : Forest) (a b : Told) → is_entered l ≡ true → list_faults reply false (list_at false l c) ≡ [] → holds_body false l ≡ false → AddsAll names reply (judged (stay reply) false l c) a b → AddsAll names reply (tree l c end) a b
+    adds_inside l c a b en none apart h =
+        (h.0, inside_alone reply false l c h.0 en (no_places reply false (list_at false l c) none) (subst (λ held. AreFaults reply held (judged (stay reply) false l c) h.0) (sym apart) h.1), h.2)
+
+    pub adds_in : (s t : Forest) (a b : Told) → s ≡ t → AddsAll names reply s a b → AddsAll names reply t a b
+    adds_in s t a b e h = subst (λ r. AddsAll names reply r a b) e h
+
+    -- Faults of the whole of which those of the rest are still to be told.
+    abbrev pub Owes : Forest → Told → Told → Forest → Type 0
+    Owes whole a b rest = (ps : List (Place ℕ)) × Adds names ps a b × ((qs : List (Place ℕ)) → AreFaults reply false rest qs → AreFaults reply false whole (ps ++ qs))
+
+    pub owes_all : (whole rest : Forest) (a : Told) → whole ≡ rest → Owes whole a a rest
+    owes_all whole rest a e = ([], adds_none a, λ qs h. subst (λ t. AreFaults reply false t qs) (sym e) h)
+
+    pub owes_same : (whole rest more : Forest) (a b : Told) → rest ≡ more → Owes whole a b rest → Owes whole a b more
+    owes_same whole rest more a b e h = subst (Owes whole a b) e h
+
+    pub owes_next : (whole : Forest) (t : Tree) (o : Forest) (a b c : Told) → Owes whole a b (before t o) → AddsAll names reply (before t end) b c → Owes whole a c o
+    owes_next whole t o a b c h k =
+        (h.0 ++ k.0, adds_both h.0 k.0 a b c h.1 k.2, λ qs f. subst (AreFaults reply false whole) (sym (append_assoc h.0 k.0 qs)) (h.2 (k.0 ++ qs) (joined reply false t.label t.children o k.0 qs k.1 f)))
+
+    pub owes_none : (whole : Forest) (a b : Told) → Owes whole a b end → AddsAll names reply whole a b
+    owes_none whole a b h = (h.0, subst (AreFaults reply false whole) (append-nil h.0) (h.2 [] nothing), h.1)

@@ -1,0 +1,67 @@
+//! All faults of conditions in imports, directives and declarations. Nodes that do not stay are not entered, and neither are
+//! those of a list that has a fault.
+ghost use Rattle.std.specs.Prelude.{map};
+ghost use Rattle.wesl_cond_chains.specs.Chains.{staying};
+ghost use Rattle.wesl_cond_chains.specs.Lists.{alone, element};
+ghost use Rattle.wesl_cond_chains.specs.Nodes.{answers, replies};
+ghost use Rattle.wesl_cond_faults.specs.Telling.{AddsAll};
+ghost use Rattle.wesl_tree_syntax.specs.Tree.{before, declaration_node, end, forest_of};
+ghost use Rattle.wesl_tree_syntax.specs.View.{declarations_tree, global_view, placed};
+
+use crate::lists::{is_clear, tell_list};
+use crate::statements::tell_body;
+use crate::told::Told;
+use wesl_cond_chains::{check_list, stays};
+use wesl_cond_features::{Chain, Features};
+use wesl_tree_names::Names;
+use wesl_tree_syntax::{Function, GlobalDeclaration, GlobalDeclarationNode};
+
+/// Tells the faults of the conditions of declarations, or those in the declarations that stay.
+pub fn tell_declarations(
+    told: &mut Told,
+    declarations: &Vec<GlobalDeclarationNode>,
+    names: &Names,
+    features: &Features,
+)
+    ensures { AddsAll names.now (replies names.now features.now) (before (declarations_tree declarations.now) end) told.old told.new }
+{
+    if is_clear(check_list(told.alloc, declarations, names, features)) {
+        tell_in_declarations(told, declarations, names, features);
+    } else {
+        tell_list(told, declarations, names, features);
+    }
+}
+
+/// Tells the faults of conditions in the declarations that stay.
+fn tell_in_declarations(
+    told: &mut Told,
+    declarations: &Vec<GlobalDeclarationNode>,
+    names: &Names,
+    features: &Features,
+)
+    ensures { AddsAll names.now (replies names.now features.now) (alone (staying element (answers names.now features.now)) (forest_of (map (placed global_view declaration_node) declarations.now.items))) told.old told.new }
+{
+    let mut chain = Chain::new();
+    for node in declarations {
+        if stays(node, &mut chain, names, features) {
+            tell_global(told, &node.node, names, features);
+        }
+    }
+}
+
+/// Tells the faults of conditions in a declaration.
+fn tell_global(told: &mut Told, declaration: &GlobalDeclaration, names: &Names, features: &Features)
+    ensures { AddsAll names.now (replies names.now features.now) (before (global_view declaration.now) end) told.old told.new }
+{
+    match declaration {
+        GlobalDeclaration::Struct(structure) => {
+            tell_list(told, &structure.members, names, features);
+        }
+        GlobalDeclaration::Function(function) => {
+            tell_list(told, &function.parameters, names, features);
+            tell_body(told, &function.body, names, features);
+        }
+        // no list lies in the others
+        _ => {}
+    }
+}

@@ -1,0 +1,12 @@
+//! Laws of the definitions.
+ghost use Rattle.wesl_cond_faults.specs.Listed.{IsOneList, ListsAllThatStand};
+
+/// What is listed of some trees is what stands in them.
+pub fn law_of_all()
+    ensures { ListsAllThatStand }
+{}
+
+/// Trees have no two lists of faults.
+pub fn law_of_one()
+    ensures { IsOneList }
+{}

@@ -1,0 +1,84 @@
+//! The faults of the conditions of a list.
+ghost use Rattle.std.specs.Prelude.{◌≡◌, ◌++◌, Bool, false, true, is_ok, map};
+ghost use Rattle.wesl_cond_chains.specs.Lists.{elements};
+ghost use Rattle.wesl_cond_chains.specs.Nodes.{as_element, optional_forest, replies};
+ghost use Rattle.wesl_cond_faults.specs.Places.{list_places, node_places, opened_after, opened_through};
+ghost use Rattle.wesl_cond_faults.specs.Telling.{Adds};
+ghost use Rattle.wesl_tree_syntax.specs.Tree.{forest_of};
+
+use crate::attributes::{opens, tell_formulas, tell_place};
+use crate::nodes::Located;
+use crate::told::Told;
+use wesl_cond_features::Features;
+use wesl_tree_names::{Diagnostic, Names};
+
+/// Tells the faults of the conditions of the next node of a list, and says whether a chain is open after it.
+fn tell_node<T: Located>(
+    told: &mut Told,
+    node: &T,
+    opened: bool,
+    names: &Names,
+    features: &Features,
+) -> bool
+    ensures told { (closes : Bool) → Adds names.now (node_places (replies names.now features.now) opened (as_element closes (T.tree node.now))) told.old told.new }
+    ensures opened { (closes : Bool) → result ≡ opened_after opened (as_element closes (T.tree node.now)) }
+{
+    if node.is_void() {
+        return opened;
+    }
+    let attributes = node.attributes();
+    tell_place(told, attributes, opened, node.place());
+    tell_formulas(told, attributes, names, features);
+    opens(attributes)
+}
+
+/// Tells the faults of the conditions of the nodes at the beginning of a list, and says whether a chain is open after
+/// them.
+fn tell_nodes<T: Located>(
+    told: &mut Told,
+    nodes: &Vec<T>,
+    names: &Names,
+    features: &Features,
+) -> bool
+    ensures told { Adds names.now (list_places (replies names.now features.now) false (elements false (forest_of (map T.tree nodes.now.items)))) told.old told.new }
+    ensures opened { result ≡ opened_through false (elements false (forest_of (map T.tree nodes.now.items))) }
+{
+    let mut opened = false;
+    for node in nodes {
+        opened = tell_node(told, node, opened, names, features);
+    }
+    opened
+}
+
+/// Whether a list was judged to have no fault. The one that was found first is let go: all are told.
+pub fn is_clear(outcome: Result<(), Diagnostic>) -> bool
+    ensures { result ≡ is_ok outcome }
+{
+    outcome.is_ok()
+}
+
+/// Tells the faults of the conditions of the nodes of a list.
+pub fn tell_list<T: Located>(told: &mut Told, nodes: &Vec<T>, names: &Names, features: &Features)
+    ensures { Adds names.now (list_places (replies names.now features.now) false (elements false (forest_of (map T.tree nodes.now.items)))) told.old told.new }
+{
+    let _ = tell_nodes(told, nodes, names, features);
+}
+
+/// Tells the faults of the conditions of the nodes of a list and of what closes it.
+pub fn tell_both<T: Located, L: Located>(
+    told: &mut Told,
+    nodes: &Vec<T>,
+    last: &Option<L>,
+    names: &Names,
+    features: &Features,
+)
+    ensures { Adds names.now (list_places (replies names.now features.now) false (elements false (forest_of (map T.tree nodes.now.items)) ++ elements true (optional_forest L.tree last.now))) told.old told.new }
+{
+    let opened = tell_nodes(told, nodes, names, features);
+    match last {
+        Some(last) => {
+            let _ = tell_node(told, last, opened, names, features);
+        }
+        None => {}
+    }
+}
