@@ -1,0 +1,4 @@
+pub mod Reasons
+pub mod Laws
+pub mod Found
+pub mod Searching
