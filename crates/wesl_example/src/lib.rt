@@ -4,13 +4,16 @@
 //! `main` is kept of it.
 #![tactic(auto)]
 
+mod mapped;
+
+pub use mapped::{MappedLink, link_by, name_all};
 use serde_json::Value;
 use std::alloc::Global;
 use wesl_cond::{Feature, Features};
 use wesl_json::{unit_of_value, value_of_unit};
 use wesl_link::{Resolver, link_under};
 use wesl_mangle::EscapeMangler;
-use wesl_scope::names_clash;
+use wesl_scope::{Builtins, Reading, clashes, free_names, names_clash};
 use wesl_tree::{Diagnostic, Error, ModulePath, ResolveError, TranslationUnit};
 
 /// The trees of modules, each under the text of its path.
@@ -108,4 +111,25 @@ pub fn told(alloc: Global, text: &str) -> Result<String, anyhow::Error> {
         Ok(unit) => lines(alloc, &unit),
         Err(refusal) => Ok(format!(in alloc; "refused: {refusal}")?),
     }
+}
+
+/// A line for each name of a unit that reads otherwise than it is meant, and for each that nothing in it means.
+pub fn warnings(
+    alloc: Global,
+    unit: &TranslationUnit,
+    builtins: &Builtins,
+) -> Result<String, anyhow::Error> {
+    let mut text = String::new(alloc);
+    for clash in clashes(alloc, unit)?.as_slice() {
+        let what = match clash.reading {
+            Reading::Captured(_) => "is captured",
+            Reading::Unbound => "is unbound",
+            Reading::Duplicate(_) => "is there twice",
+        };
+        text.push_str(format!(in alloc; "{} {what}\n", clash.name)?.as_str())?;
+    }
+    for name in free_names(alloc, unit, builtins)?.as_slice() {
+        text.push_str(format!(in alloc; "{name} is free\n")?.as_str())?;
+    }
+    Ok(text)
 }

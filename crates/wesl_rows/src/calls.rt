@@ -19,6 +19,11 @@ pub fn answered(row: Row<'_>) -> Value {
         "wesl::run on each beginning" => program::refused_beginnings(row),
         "wesl::line_of_bytes" => program::line_of_text(row),
         "wesl_example::told" => row.printed(wesl_example::told(alloc, row.text("text"))),
+        "wesl_example::warnings" => {
+            let names = row.owned_texts("names");
+            let builtins = Builtins::new(names, Vec::new(alloc), Vec::new(alloc));
+            row.printed(wesl_example::warnings(alloc, &row.tree(), &builtins))
+        }
         "BuiltinType::Mat, builtin_ident" => {
             let matrix = BuiltinType::Mat(size(row, "columns"), size(row, "rows"));
             row.found_text(matrix.builtin_ident())
@@ -38,6 +43,7 @@ fn of_conditions(row: Row<'_>, call: &str) -> Value {
     match call {
         "wesl_cond::run" => conditions::left(row),
         "wesl_cond::run in stages" => conditions::stages(row),
+        "faults" => conditions::faults_told(row),
         "eval_attr" => conditions::formulas_left(row),
         "alive_together" => conditions::are_together(row),
         "flag_count" => {

@@ -1,11 +1,12 @@
 //! Conditions of units: what is left of them, at once and in stages, and what is left of formulas.
 use crate::features::{both, composed, listed};
 use serde_json::Value;
-use wesl::condcomp::run;
+use wesl::condcomp::{faults, run};
 use wesl::{
-    Feature, Features, GlobalDeclaration, TranslationUnit, alive_together, eval_attr, flag_count,
+    Diagnostic, Error, Feature, Features, GlobalDeclaration, TranslationUnit, alive_together,
+    eval_attr, flag_count,
 };
-use wesl_rows_base::{Row, fault, is_refused};
+use wesl_rows_base::{List, Object, Row, declared, fault, is_refused};
 
 /// What a run under the `features`, and then `next` if they are there, leaves of the unit of the `tree`, or the fault
 /// that it tells, which is to leave the unit as it was.
@@ -23,6 +24,47 @@ pub fn left(row: Row<'_>) -> Value {
             }
         }
     }
+}
+
+/// A fault of a condition, with its span where one is told.
+fn fault_told(row: Row<'_>, told: &Diagnostic) -> Value {
+    let mut answer = Object::new(row.alloc);
+    if let Some(span) = told.span {
+        let mut ends = List::new(row.alloc);
+        ends.put(Value::from(span.start));
+        ends.put(Value::from(span.end));
+        answer.put("span", ends.end(row));
+    }
+    answer.put("told", declared(row, told));
+    answer.end(row)
+}
+
+/// The fault that a run of a unit tells, null where it tells none; want of memory is noted.
+fn run_told(row: Row<'_>, unit: TranslationUnit, features: &Features) -> Value {
+    let mut unit = unit;
+    match run(row.alloc, &mut unit, features) {
+        Ok(()) => Value::Null,
+        Err(told) => {
+            row.refused_if(matches!(told.error, Error::Memory));
+            row.answer_of(told)
+        }
+    }
+}
+
+/// All faults of the conditions of the unit of the `tree` under the `features`, and the one that a run tells, null where it
+/// tells none.
+pub fn faults_told(row: Row<'_>) -> Value {
+    let features = composed(row);
+    let unit = row.tree();
+    let told = row.or(faults(row.alloc, &unit, &features), Vec::new(row.alloc));
+    let mut all = List::new(row.alloc);
+    for fault in &told {
+        all.put(fault_told(row, fault));
+    }
+    let mut answer = Object::new(row.alloc);
+    answer.put("faults", all.end(row));
+    answer.put("run", run_told(row, unit, &features));
+    answer.end(row)
 }
 
 /// One of three answers by a number.

@@ -1,7 +1,6 @@
 //! Links of the modules of a row.
 ghost use Rattle.std.specs.Prelude.{◌≡◌, false, IfOk};
 ghost use Rattle.wesl_tree_names.specs.Path.{path_view, is_relative};
-ghost use Rattle.wesl_link_resolutions.specs.Keeping.{IsSound};
 
 use serde_json::Value;
 use wesl_json::JsonText;
@@ -13,17 +12,13 @@ use wesl_scope::names_clash;
 use wesl_tree::{Diagnostic, ModulePath, TranslationUnit};
 
 /// The linked unit as a tree: of an eager link the whole one, else the stripped one.
-fn unit(row: Row<'_>, found: &Resolutions) -> Value
-    requires { IsSound found.now }
-{
+fn unit(row: Row<'_>, found: &Resolutions) -> Value {
     let strips = !found.is_eager();
     row.tree_of(&row.unit_or_none(found.assemble(row.alloc, strips)))
 }
 
 /// What is told of a link, with the paths of its modules in their order.
-fn told(row: Row<'_>, found: Resolutions) -> Value
-    requires { IsSound found }
-{
+fn told(row: Row<'_>, found: Resolutions) -> Value {
     let order = row.or(found.module_order(row.alloc), Vec::new(row.alloc));
     let mut paths = List::new(row.alloc);
     for path in order.as_slice() {
@@ -51,7 +46,6 @@ pub fn link(
     modules: VirtualResolver<JsonText>,
 ) -> Result<Resolutions, Diagnostic>
     requires { is_relative (path_view path) ≡ false }
-    ensures { IfOk result IsSound }
 {
     let mut modules = modules;
     let limit = row.number("limit", 1000);
@@ -63,9 +57,7 @@ pub fn link(
 }
 
 /// The link of a row's modules, from its `unit` at its `path`: an eager one, or a lazy one with the names `keep`.
-fn linked(row: Row<'_>, is_eager: bool) -> Result<Resolutions, Diagnostic>
-    ensures { IfOk result IsSound }
-{
+fn linked(row: Row<'_>, is_eager: bool) -> Result<Resolutions, Diagnostic> {
     let keep = row.texts("keep");
     let modules = row.modules("modules");
     link(

@@ -6,7 +6,7 @@ use std::alloc::Global;
 use wesl_cond_choices::alive::Alive;
 use wesl_cond_choices::place::Place;
 use wesl_link_reach::error::LinkError;
-use wesl_link_reach::link::{Linked, link_eagerly, link_lazily};
+use wesl_link_reach::link::{Linked, link_table};
 use wesl_link_reach::loader::{LoadError, Loader};
 use wesl_link_symbols::ids::{NameId, PathId};
 use wesl_link_symbols::symbols::{Import, Reference, Symbol};
@@ -246,18 +246,14 @@ fn put_reached(row: Row<'_>, answer: &mut Object, linked: &Linked) {
     answer.number("turns", linked.turns());
 }
 
-/// What a link from a table answers over the tables of a row, with the paths that its loader was asked for: an eager one, or
-/// a lazy one with the kept names.
-fn linked_from(row: Row<'_>, root: Table, is_eager: bool) -> Value {
+/// What a link from a table answers over the tables of a row, with the paths that its loader was asked for: an eager one
+/// where the row has a key `eager`, else a lazy one with the kept names.
+fn linked_from(row: Row<'_>, root: Table) -> Value {
     let alloc = row.alloc;
     let asked = Vec::new(alloc);
     let mut shelf = Shelf { row, asked };
     let limit = row.number("limit", 0);
-    let found = if is_eager {
-        link_eagerly(alloc, root, &mut shelf, limit)
-    } else {
-        link_lazily(alloc, root, kept(row), &mut shelf, limit)
-    };
+    let found = link_table(alloc, root, kept(row), row.has("eager"), &mut shelf, limit);
     let mut answer = Object::new(alloc);
     answer.put("asked", numbers_value(row, shelf.asked.as_slice()));
     match &found {
@@ -268,9 +264,9 @@ fn linked_from(row: Row<'_>, root: Table, is_eager: bool) -> Value {
 }
 
 /// What an eager or a lazy link answers over the tables of a row.
-pub fn linked(row: Row<'_>, is_eager: bool) -> Value {
+pub fn linked(row: Row<'_>) -> Value {
     match table(row.alloc, PathId(0), row) {
-        Ok(root) => linked_from(row, root, is_eager),
+        Ok(root) => linked_from(row, root),
         Err(_) => {
             row.refused_if(true);
             Value::Null

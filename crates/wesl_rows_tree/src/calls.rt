@@ -46,6 +46,8 @@ fn of_scopes(row: Row<'_>, call: &str) -> Value {
         "names_clash" => scopes::clash(row),
         "names_clash of many statements" => scopes::many_clash(row),
         "names_clash, times" => scopes::clash_times(row),
+        "clashes" => scopes::clashes_told(row),
+        "free_names" => validators::free(row),
         "validate_wesl" | "validate_wgsl" => validators::told(row, call),
         _ => row.text_value("no such row"),
     }

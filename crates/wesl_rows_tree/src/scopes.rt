@@ -3,7 +3,7 @@ use serde_json::Value;
 use wesl_rows_base::{
     List, Object, Row, is_refused, names_value, numbers_value, stands, unit_of_one,
 };
-use wesl_scope::{SyntaxUtil, names_clash, strip_except};
+use wesl_scope::{Binder, Clash, Reading, SyntaxUtil, clashes, names_clash, strip_except};
 use wesl_scope_occurrences::{Identifiers, Standing, occurrences};
 use wesl_tree::TranslationUnit;
 
@@ -160,9 +160,9 @@ pub fn stripped(row: Row<'_>) -> Value {
     row.tree_of(&unit)
 }
 
-/// Whether the names of the `tree` clash, and whether new numbers by meaning are the numbers that it has: those that it
-/// was read with, one for each spelling; or, where there are `names`, numbers by meaning, with these names.
-pub fn clash(row: Row<'_>) -> Value {
+/// The `tree` with the numbers that it was read with, one for each spelling; or, where there are `names`, with numbers by
+/// meaning, and these names.
+fn named(row: Row<'_>) -> TranslationUnit {
     let mut unit = row.tree();
     if row.has("names") {
         row.done(unit.retarget_idents(row.alloc));
@@ -170,10 +170,46 @@ pub fn clash(row: Row<'_>) -> Value {
         let names = row.names("names");
         unit = row.made(TranslationUnit::from_parts(names, imports, directives, declarations));
     }
+    unit
+}
+
+/// Whether the names of the `tree` with its `names` clash, and whether new numbers by meaning are the numbers that it has.
+pub fn clash(row: Row<'_>) -> Value {
+    let mut unit = named(row);
     let before = numbers(row, &unit);
     let mut answer = Object::new(row.alloc);
     answer.flag("clash", row.is(names_clash(row.alloc, &unit)));
     answer.flag("same_numbers", renumbered(row, &mut unit) == before);
+    answer.end(row)
+}
+
+/// The number and the place of a binder.
+fn binder_value(row: Row<'_>, binder: Binder) -> Value {
+    numbers_value(row, &[binder.ident.0, binder.place])
+}
+
+/// What is told of an identifier that clashes.
+fn clash_value(row: Row<'_>, clash: &Clash<'_>) -> Value {
+    let mut answer = Object::new(row.alloc);
+    match clash.reading {
+        Reading::Captured(binder) => answer.put("captured", binder_value(row, binder)),
+        Reading::Unbound => answer.flag("unbound", true),
+        Reading::Duplicate(binder) => answer.put("duplicate", binder_value(row, binder)),
+    }
+    answer.number("ident", clash.ident.0);
+    answer.text("name", clash.name);
+    answer.number("place", clash.place);
+    answer.end(row)
+}
+
+/// What clashes in the `tree` with its `names`.
+pub fn clashes_told(row: Row<'_>) -> Value {
+    let unit = named(row);
+    let found = row.or(clashes(row.alloc, &unit), Vec::new(row.alloc));
+    let mut answer = List::new(row.alloc);
+    for clash in found.as_slice() {
+        answer.put(clash_value(row, clash));
+    }
     answer.end(row)
 }
 
