@@ -1,8 +1,7 @@
--- Keys of the code, and the entries that say what is visible.
-use Rattle.std.proofs.Common.{◌≡◌, ℕ, ◌+◌, ◌<◌, ◌≤◌, Bool, true, false, cond, ◌&&◌, ◌||◌, ◌==◌, List, [], ◌∷◌, length, get_or, map, drop, drop-cons, add-one, refl, sym, ◌∙◌, ap}
+-- Keys of the code, and what a look-up by a key finds.
+use Rattle.std.proofs.Common.{◌≡◌, ℕ, ◌+◌, ◌<◌, Bool, true, false, cond, ◌&&◌, ◌||◌, ◌==◌, List, [], ◌∷◌, length, get_or, map, drop, drop-cons, add-one, refl, sym, ◌∙◌, ap}
 use Rattle.std.specs.List.{list_any}
-use Rattle.std.proofs.lemmas.List.{drop_all}
-use Rattle.std.specs.Prelude.{bytes_eq, nat_le, Option, Some, None, if◌then◌else◌}
+use Rattle.std.specs.Prelude.{bytes_eq, Option, Some, None, if◌then◌else◌}
 use Rattle.std.specs.Map.{lookup}
 use Rattle.std.specs.Bool.{Decides}
 use Rattle.std.proofs.lemmas.Bool.Decides.{Decides-and, Decides-eqb}
@@ -13,7 +12,7 @@ use Rattle.wesl_tree_names.specs.PathLaws.{Equality, path_eq}
 use Rattle.wesl_scope_meanings.specs.Scopes as scopes
 use Rattle.wesl_scope_meanings.specs.Scopes.{same_key}
 use Rattle.wesl_tree_names.specs.PathOrder.{same_components, same_path}
-use Rattle.wesl_scope_meanings.specs.Keys.{flat, opened, open_at}
+use Rattle.wesl_scope_meanings.specs.Keys.{flat}
 use Rattle.wesl_scope_meanings.specs.contracts.keys.KeyPartialEq.TheImpl as equality
 use Rattle.wesl_scope_meanings.specs.declared.keys.Key.{Key}
 use Rattle.wesl_scope_meanings.specs.declared.keys.Key.TheVariants as made
@@ -108,50 +107,6 @@ module _ {K X : Type 0} (eq : K → K → Bool) (t : K → Bool) (k : K) (v : X)
       start false = refl
   inserted (e ∷ es) = pulled e es (eq k e.0) ∙ chosen (eq k e.0) (t k) (t e.0) (lookup t es) (lookup t (insert_entry eq es k v)) e.1 (same e.0) (one e.0) (inserted es)
 
-or_nothing : (a b : Bool) → a ≡ (a || (b && false))
-or_nothing true b = refl
-or_nothing false true = refl
-or_nothing false false = refl
-
-or_all : (a b : Bool) → (a || b) ≡ (a || (b && true))
-or_all true b = refl
-or_all false true = refl
-or_all false false = refl
-
--- one more binder
-pub added : (law : Equality) (es new : List (Key × ℕ)) (k : Key) (from v : ℕ) (old : Option ℕ) → new ≡ insert_entry key_eq es k v → old ≡ lookup (key_eq k) es → ((p : ℕ) → nat_le v p ≡ (opened old p || nat_le from p))
-    → (b : ℕ) (n : Text) (p : ℕ) → open_at new b n p ≡ (open_at es b n p || (nat_le from p && same_key (flat k) (scopes.bound (b ∷ []) n)))
-added law es new k from v old new_is old_is v_is b n p =
-    ap (λ x. open_at x b n p) new_is
-    ∙ (ap (λ o. opened o p) (inserted key_eq (λ x. same_key (flat x) (scopes.bound (b ∷ []) n)) k v (λ x e. ap (λ y. same_key y (scopes.bound (b ∷ []) n)) ((key_decides law k x).0 e)) (λ x e f. (key_decides law k x).1 ((keys_decide (flat k) (scopes.bound (b ∷ []) n)).0 e ∙ sym ((keys_decide (flat x) (scopes.bound (b ∷ []) n)).0 f))) es)
-    ∙ at (same_key (flat k) (scopes.bound (b ∷ []) n)) (λ e. (keys_decide (flat k) (scopes.bound (b ∷ []) n)).0 e))
-  where
-    at : (d : Bool) → (d ≡ true → flat k ≡ scopes.bound (b ∷ []) n) → opened (if d then Some v else lookup (λ x. same_key (flat x) (scopes.bound (b ∷ []) n)) es) p ≡ (open_at es b n p || (nat_le from p && d))
-    at true e =
-        v_is p
-        ∙ (ap (λ o. opened o p || nat_le from p) (old_is ∙ same_lookup (key_eq k) (λ x. same_key (flat x) (scopes.bound (b ∷ []) n)) (λ x. key_test law k x ∙ ap (same_key (flat x)) (e refl)) es)
-        ∙ or_all (open_at es b n p) (nat_le from p))
-    at false e = or_nothing (open_at es b n p) (nat_le from p)
-
-one_block : (x y : ℕ) → bytes_eq (x ∷ []) (y ∷ []) ≡ (x == y)
-one_block x y = one_test _ _ (bytes_eq-Decides (x ∷ []) (y ∷ [])) (along (Decides-eqb x y) (λ e. ap (λ z. z ∷ []) e) (λ e. let p : x ≡ y = cc in p))
-
-turned : (a b c : Bool) → (a && (b && c)) ≡ (a && (c && b))
-turned true true true = refl
-turned true true false = refl
-turned true false true = refl
-turned true false false = refl
-turned false b c = refl
-
--- an identifier as a binder
-pub met : (visible from : Bool) (x b : ℕ) (m n : Text) → visible ≡ from → (from && same_key (scopes.bound (x ∷ []) m) (scopes.bound (b ∷ []) n)) ≡ (visible && (bytes_eq m n && x == b))
-met visible from x b m n e = ap (λ v. v && (bytes_eq (x ∷ []) (b ∷ []) && bytes_eq m n)) (sym e) ∙ (ap (λ t. visible && (t && bytes_eq m n)) (one_block x b) ∙ turned visible (x == b) (bytes_eq m n))
-
--- whether a name is visible, by the entry that is found
-pub found_open : (law : Equality) (es : List (Key × ℕ)) (k : Key) (b : ℕ) (n : Text) (o : Option ℕ) (p : ℕ) → flat k ≡ scopes.bound (b ∷ []) n → o ≡ lookup (key_eq k) es → opened o p ≡ open_at es b n p
-found_open law es k b n o p k_is o_is =
-    ap (λ x. opened x p) (o_is ∙ same_lookup (key_eq k) (λ x. same_key (flat x) (scopes.bound (b ∷ []) n)) (λ x. key_test law k x ∙ ap (same_key (flat x)) k_is) es)
-
 -- what is no binder
 pub unmet : (a v r : Bool) → false ≡ v → a ≡ (a || (v && r))
 unmet true v r e = refl
@@ -170,10 +125,3 @@ module _ {A B : Type 0} (open_now open_then : Bool) (f : A → B) (p : B → Boo
     where
       next : (p (f x) || list_any p (map f (drop (i + 1) xs))) ≡ list_any p (map f (drop i xs))
       next = rw (drop-cons xs i x h, ← is, add-one) refl
-
-or_false : (a : Bool) → a ≡ (a || false)
-or_false true = refl
-or_false false = refl
-
-pub all_bound : {A B : Type 0} (open_now : Bool) (f : A → B) (p : B → Bool) (xs : List A) (i : ℕ) (z : Bool) → length xs ≤ i → (open_now || list_any p (map f (drop i xs))) ≡ z → open_now ≡ z
-all_bound open_now f p xs i z h inv = or_false open_now ∙ (ap (λ ys. open_now || list_any p (map f ys)) (sym (drop_all i xs h)) ∙ inv)

@@ -1,3 +1,9 @@
 pub mod Entries
 pub mod Keying
 pub mod Scoping
+pub mod Spelling
+pub mod Reading
+pub mod Walked
+pub mod Within
+pub mod Meant
+pub mod Keyed

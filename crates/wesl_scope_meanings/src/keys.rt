@@ -1,16 +1,15 @@
 //! What identifiers mean.
-ghost use Rattle.std.specs.Prelude.{◌≡◌, ℕ, ◌<◌, ◌||◌, ◌&&◌, ◌∷◌, [], nat_le, length, map, IfOk, OnOk};
-ghost use Rattle.std.specs.List.{All, list_any};
-ghost use Rattle.wesl_tree_names.specs.Path.{Text};
-ghost use Rattle.wesl_scope_occurrences.specs.Views.{occurrence_view, standing_view};
-ghost use Rattle.wesl_scope_occurrences.specs.Ways.{AreNested, way};
-ghost use Rattle.wesl_scope_meanings.specs.Scopes.{bound, is_visible, same_key};
-ghost use Rattle.wesl_scope_meanings.specs.Keys.{key_view, flat, IsKeyBelow, key_name, opened, open_at, binds_at, meaning_in, entry_key};
+ghost use Rattle.std.specs.Prelude.{◌≡◌, ◌<◌, ℕ, length, map, drop, IfOk};
+ghost use Rattle.std.specs.List.{All};
+ghost use Rattle.wesl_tree_names.specs.Path.{path_view};
+ghost use Rattle.wesl_scope_meanings.specs.Keys.{flat, key_name};
+ghost use Rattle.wesl_scope_meanings.specs.Senses.{sense_view, number_in, path_count, first_path, key_in, keys_in};
+ghost use Rattle.wesl_scope_meanings.specs.Known.{is_known};
 
-use indexmap::IndexMap;
+use crate::reader::Reader;
+use crate::sense::Sense;
 use std::alloc::{AllocError, Global};
-use wesl_scope_occurrences::{Occurrence, Standing, law_of_ways};
-use wesl_tree_names::{ModulePath, Names, law_of_equality};
+use wesl_tree_names::{Ident, ModulePath, Names};
 
 /// What an identifier means.
 #[derive(Clone, Copy, PartialEq, Eq, Hash)]
@@ -36,163 +35,75 @@ impl<'a> Key<'a> {
     }
 }
 
-/// From which place on a name that stands so is visible, if it is declared.
-fn visible_from(standing: &Standing<'_>) -> Option<usize>
-    ensures { (p : ℕ) → opened result p ≡ is_visible p (standing_view standing.now) }
+/// How many paths belong to an identifier that is read so.
+fn path_count(sense: &Sense) -> usize
+    ensures { result ≡ path_count (sense_view sense.now) }
 {
-    match standing {
-        Standing::ModuleName => Some(0),
-        Standing::Parameter => Some(0),
-        Standing::Local { end } => Some(*end),
-        Standing::Reference(_) => None,
-        Standing::Word => None,
+    match sense {
+        Sense::ByPath(_) => 1,
+        _ => 0,
     }
 }
 
-/// The earlier of two places, if there is a first one.
-fn earlier(first: Option<usize>, second: usize) -> usize
-    ensures { (p : ℕ) → nat_le result p ≡ (opened first p || nat_le second p) }
-{
-    match first {
-        Some(first) if first < second => first,
-        _ => second,
-    }
-}
-
-/// Whether what is visible from that place on, if it is, is visible at a place.
-fn is_reached(from: Option<usize>, place: usize) -> bool
-    ensures { result ≡ opened from place }
-{
-    match from {
-        Some(from) => from <= place,
-        None => false,
-    }
-}
-
-/// The names that blocks bind.
-pub struct Binders<'a> {
-    /// from which place on each is visible
-    pub from: IndexMap<Key<'a>, usize>,
-}
-
-impl<'a> Drop for Binders<'a> {
-    fn drop(self) {
-        let Binders { from: _ } = self;
-    }
-}
-
-impl<'a> Binders<'a> {
-    /// One more binder, which is visible from that place on.
-    fn add(&mut self, key: Key<'a>, from: usize) -> Result<(), AllocError>
-        ensures { OnOk result ((b : ℕ) (n : Text) (p : ℕ) → open_at self.new.from.entries b n p ≡ (open_at self.old.from.entries b n p || (nat_le from p && same_key (flat key.entry) (bound (b ∷ []) n)))) }
+impl Reader {
+    /// Whether an import or a global declaration declares the name of an identifier.
+    fn is_known(&self, ident: Ident) -> bool
+        ensures { result ≡ is_known self.now ident.0 }
     {
-        law_of_equality();
-        let from = earlier(self.from.get(&key).copied(), from);
-        self.from.insert(key, from)?;
-        Ok(())
-    }
-
-    /// An identifier, if it is a binder.
-    fn meet(&mut self, names: &'a Names, occurrence: &Occurrence<'_>) -> Result<(), AllocError>
-        requires { occurrence.now.ident.0 < length names.now }
-        ensures { OnOk result ((b : ℕ) (n : Text) (p : ℕ) → open_at self.new.from.entries b n p ≡ (open_at self.old.from.entries b n p || binds_at names.now b n p (occurrence_view occurrence.now))) }
-    {
-        match visible_from(&occurrence.standing) {
-            None => Ok(()),
-            Some(from) => {
-                let name = names.name(occurrence.ident);
-                self.add(Key::Bound(occurrence.block, name), from)?;
-                Ok(())
-            }
-        }
-    }
-
-    /// The binders among identifiers.
-    pub fn among(
-        alloc: Global,
-        names: &'a Names,
-        all: &[Occurrence<'_>],
-    ) -> Result<Binders<'a>, AllocError>
-        requires { All (λ o. o.ident.0 < length names.now) all.now }
-        ensures { IfOk result (λ binders. (b : ℕ) (n : Text) (p : ℕ) → open_at binders.from.entries b n p ≡ list_any (binds_at names.now b n p) (map occurrence_view all.now)) }
-    {
-        let mut binders = Binders {
-            from: IndexMap::new(alloc),
-        };
-        for occurrence in all {
-            binders.meet(names, occurrence)?;
-        }
-        Ok(binders)
-    }
-
-    /// Whether a name of a block is visible at a place.
-    fn is_open(&self, block: usize, name: &str, place: usize) -> bool
-        ensures { result ≡ open_at self.now.from.entries block name.now place }
-    {
-        law_of_equality();
-        is_reached(self.from.get(&Key::Bound(block, name)).copied(), place)
-    }
-
-    /// What a name means at a place of a block, where `outer` has of each block the one round it.
-    fn meaning<'b>(&self, outer: &[usize], name: &'b str, place: usize, block: usize) -> Key<'b>
-        requires inside { block < length outer.now }
-        requires nested { AreNested outer.now }
-        ensures meaning { key_view (way outer.now) result ≡ meaning_in self.now.from.entries name.now place (way outer.now block) }
-        ensures below { IsKeyBelow (length outer.now) result }
-    {
-        law_of_ways();
-        let mut block = block;
-        while block > 0 {
-            if self.is_open(block, name, place) {
-                return Key::Bound(block, name);
-            }
-            block = outer[block];
-        }
-        if self.is_open(0, name, place) {
-            Key::Bound(0, name)
+        let name = self.name(ident);
+        if name < self.declared.len() {
+            self.declared[name]
         } else {
-            Key::Free(name)
+            false
         }
     }
 
-    /// What an identifier means.
-    fn key<'b>(&self, names: &'b Names, outer: &[usize], occurrence: &Occurrence<'b>) -> Key<'b>
-        requires named { occurrence.now.ident.0 < length names.now }
-        requires inside { occurrence.now.block < length outer.now }
-        requires nested { AreNested outer.now }
-        ensures key { key_view (way outer.now) result ≡ entry_key self.now.from.entries names.now (way outer.now) (occurrence_view occurrence.now) }
-        ensures below { IsKeyBelow (length outer.now) result }
+    /// What an identifier means that is read so, where the path at `next` is the next one.
+    fn key<'a>(
+        &self,
+        names: &'a Names,
+        sense: &Sense,
+        paths: &[&'a ModulePath],
+        next: usize,
+    ) -> Key<'a>
+        requires { number_in (sense_view sense.now) < length names.now }
+        ensures { flat result ≡ key_in (is_known self.now) names.now (sense_view sense.now) (first_path (drop next (map (λ p. path_view p.now) paths.now))) }
     {
-        let name = names.name(occurrence.ident);
-        match occurrence.standing {
-            Standing::ModuleName => Key::Bound(occurrence.block, name),
-            Standing::Parameter => Key::Bound(occurrence.block, name),
-            Standing::Local { end: _ } => Key::Bound(occurrence.block, name),
-            Standing::Reference(Some(path)) => Key::Qualified(path, name),
-            Standing::Reference(None) => {
-                self.meaning(outer, name, occurrence.place, occurrence.block)
+        match *sense {
+            Sense::OfBlock(block, ident) => Key::Bound(block, names.name(ident)),
+            Sense::OfModule(ident) => {
+                if self.is_known(ident) {
+                    Key::Bound(0, names.name(ident))
+                } else {
+                    Key::Free(names.name(ident))
+                }
             }
-            Standing::Word => Key::Free(name),
+            Sense::OfNone(ident) => Key::Free(names.name(ident)),
+            Sense::ByPath(ident) => {
+                if next < paths.len() {
+                    Key::Qualified(paths[next], names.name(ident))
+                } else {
+                    Key::Free(names.name(ident))
+                }
+            }
         }
     }
 
-    /// What each identifier means.
-    pub fn keys<'b>(
+    /// What the identifiers mean, where these are the paths of those that have one. Refused for want of memory alone.
+    pub fn keys<'a>(
         &self,
         alloc: Global,
-        names: &'b Names,
-        outer: &[usize],
-        all: &[Occurrence<'b>],
-    ) -> Result<Vec<Key<'b>>, AllocError>
-        requires named { All (λ o. o.ident.0 < length names.now) all.now }
-        requires inside { All (λ o. o.block < length outer.now) all.now }
-        requires nested { AreNested outer.now }
-        ensures keys { IfOk result (λ keys. map (key_view (way outer.now)) keys.items ≡ map (entry_key self.now.from.entries names.now (way outer.now)) (map occurrence_view all.now)) }
-        ensures below { IfOk result (λ keys. All (IsKeyBelow (length outer.now)) keys.items) }
+        names: &'a Names,
+        paths: &[&'a ModulePath],
+    ) -> Result<Vec<Key<'a>>, AllocError>
+        requires { All (λ s. number_in (sense_view s) < length names.now) self.now.senses.items }
+        ensures { IfOk result (λ keys. map flat keys.items ≡ keys_in (is_known self.now) names.now (map sense_view self.now.senses.items) (map (λ p. path_view p.now) paths.now)) }
     {
-        let mut keys = Vec::with_capacity(alloc, all.len())?;
-        for occurrence in all {
-            keys.push(self.key(names, outer, occurrence))?;
+        let mut keys = Vec::with_capacity(alloc, self.senses.len())?;
+        let mut next = 0;
+        for sense in &self.senses {
+            keys.push(self.key(names, sense, paths, next))?;
+            next += path_count(sense);
         }
         Ok(keys)
     }

@@ -1,8 +1,13 @@
-//! What each identifier of a module means by plain scoping (WGSL, "Declaration and Scope").
+//! What each identifier of a module means by plain scoping (WGSL, "Declaration and Scope"), by one walk with a table of
+//! open binders.
 #![tactic(auto)]
 
+mod alike;
 mod keys;
+mod reader;
+mod sense;
 mod whole;
 
+pub use alike::spellings;
 pub use keys::Key;
 pub use whole::{Meanings, meanings_of};

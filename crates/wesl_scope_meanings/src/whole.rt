@@ -9,13 +9,17 @@ ghost use Rattle.wesl_scope_occurrences.specs.Pieces.{starts};
 ghost use Rattle.wesl_scope_occurrences.specs.Ways.{AreNested, way};
 ghost use Rattle.wesl_scope_meanings.specs.Scopes.{keys};
 ghost use Rattle.wesl_scope_meanings.specs.Keys.{key_view, IsKeyBelow};
-ghost use Rattle.wesl_scope_meanings.specs.ByBinders.{AreKeysOf};
+ghost use Rattle.wesl_scope_meanings.specs.Spellings.{HasSpellings};
+ghost use Rattle.wesl_scope_meanings.specs.Starts.{IsUnread};
 
-use crate::keys::{Binders, Key};
+use crate::alike::spellings;
+use crate::keys::Key;
+use crate::reader::Reader;
 use std::alloc::{AllocError, Global};
 use wesl_scope_occurrences::{
-    Identifiers, Occurrence, law_of_occurrences, law_of_ways, occurrences,
+    Identifiers, law_of_events, law_of_occurrences, law_of_ways, occurrences_beside,
 };
+use wesl_scope_open::{OpenBinders, law_of_open_binders};
 use wesl_tree::{Names, TranslationUnit};
 
 /// The identifiers of a module, and what they mean.
@@ -25,23 +29,24 @@ pub struct Meanings<'a> {
     pub found: Identifiers<'a>,
     /// what each means, by the numbers of the blocks
     pub keys: Vec<Key<'a>>,
+    /// of each name of the module's table the number of its spelling
+    pub alike: Vec<usize>,
+    /// how many spellings there are
+    pub spellings: usize,
 }
 
-/// What each of the identifiers means, where `outer` has of each block the one round it.
-fn keys_of<'a>(
-    alloc: Global,
-    names: &'a Names,
-    outer: &[usize],
-    all: &[Occurrence<'a>],
-) -> Result<Vec<Key<'a>>, AllocError>
-    requires named { All (λ o. o.ident.0 < length names.now) all.now }
-    requires inside { All (λ o. o.block < length outer.now) all.now }
-    requires nested { AreNested outer.now }
-    ensures keys { IfOk result (λ keys. AreKeysOf names.now outer.now all.now keys.items) }
-    ensures below { IfOk result (λ keys. All (IsKeyBelow (length outer.now)) keys.items) }
+/// A reader of identifiers with these names, which has read none.
+fn unread(alloc: Global, names: &Names) -> Result<Reader, AllocError>
+    ensures { IfOk result (IsUnread names.now) }
 {
-    let binders = Binders::among(alloc, names, all)?;
-    binders.keys(alloc, names, outer, all)
+    let (alike, count) = spellings(alloc, names)?;
+    Ok(Reader {
+        alike,
+        declared: vec![in alloc; false; count]?,
+        binders: OpenBinders::new(alloc, count)?,
+        senses: Vec::new(alloc),
+        is_refused: false,
+    })
 }
 
 /// What each identifier of a module means, in document order. Refused for want of memory alone.
@@ -52,10 +57,27 @@ pub fn meanings_of<'a>(alloc: Global, unit: &'a TranslationUnit) -> Result<Meani
     ensures names { IfOk result (λ m. All (λ o. o.ident.0 < length (unit_view unit.now).names) m.found.all.items) }
     ensures nested { IfOk result (λ m. AreNested m.found.outer.items) }
     ensures below { IfOk result (λ m. All (IsKeyBelow (length m.found.outer.items)) m.keys.items) }
+    ensures spelled { IfOk result (λ m. HasSpellings (unit_view unit.now).names m.alike.items m.spellings) }
 {
     law_of_ways();
     law_of_occurrences();
-    let found = occurrences(alloc, unit)?;
-    let keys = keys_of(alloc, unit.names(), &found.outer, &found.all)?;
-    Ok(Meanings { found, keys })
+    law_of_events();
+    law_of_open_binders();
+    let reader = unread(alloc, unit.names())?;
+    let read = occurrences_beside(alloc, unit, reader)?;
+    let reader = read.handler;
+    if reader.is_refused {
+        return Err(AllocError);
+    }
+    if reader.binders.is_refused {
+        return Err(AllocError);
+    }
+    let keys = reader.keys(alloc, unit.names(), &read.paths)?;
+    let spellings = reader.declared.len();
+    Ok(Meanings {
+        found: read.found,
+        keys,
+        alike: reader.alike,
+        spellings,
+    })
 }

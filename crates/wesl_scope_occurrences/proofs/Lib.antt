@@ -3,6 +3,7 @@ pub mod Collecting
 pub mod Cutting
 pub mod Ended
 pub mod Found
+pub mod Gathered
 pub mod Joined
 pub mod Listed
 pub mod Names

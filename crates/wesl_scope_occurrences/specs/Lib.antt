@@ -12,3 +12,4 @@ pub mod Collected
 pub mod Bare
 pub mod Shown
 pub mod EventLaws
+pub mod Both

@@ -1,12 +1,16 @@
 -- Memory may be wanting at each step of the walk. The walk notes it and goes on, and a note stays: what is said of a
 -- step holds where nothing is noted after it.
-use Rattle.std.specs.Prelude.{◌≡◌, ℕ, true, false, List, [], ◌∷◌, ◌++◌, length, map}
+use Rattle.std.specs.Prelude.{◌≡◌, ℕ, true, false, Some, List, [], ◌∷◌, ◌++◌, length, map}
 use Rattle.wesl_tree_names.specs.Path.{Path, path_view}
 use Rattle.wesl_tree_syntax.specs.Tree.{Tree, before, end}
 use Rattle.wesl_scope_occurrences.specs.Walk.{Here}
 use Rattle.wesl_scope_occurrences.specs.Outer.{outers_in}
-use Rattle.wesl_scope_occurrences.specs.Events.{Event, within, paths_met, events_in, events_from, plain_level, of_module}
+use Rattle.wesl_scope_occurrences.specs.Events.{Event, begins, within, paths_met, events_in, events_from, plain_level, of_module}
 use Rattle.wesl_scope_occurrences.specs.declared.walk.Walk.{Walk}
+
+-- the same surroundings in a global declaration of this number
+abbrev pub in_declaration : ℕ → Here → Here
+in_declaration n here = record here { declaration = Some n }
 
 module _ {H : Type 0} where
   -- unless memory was wanting
@@ -41,3 +45,8 @@ module _ {H : Type 0} where
   -- the same, where the tree holds the global declarations of the module
   pub record WalksModule (after : List Event → H → H → Type 0) (here : Here) (old new : Walk H) (t : Tree) : Type 0 where
     pub steps : Steps after old new (events_from (plain_level here (of_module ∷ [])) (length old.outer.items) (before t end)) (outers_in here (length old.outer.items) t)
+
+  -- the steps over a global declaration of this number, which begins
+  abbrev pub WalksNumbered : (List Event → H → H → Type 0) → Here → ℕ → Walk H → Walk H → Tree → Type 0
+  WalksNumbered after here n old new t =
+      Steps after old new (begins ∷ events_in (in_declaration n here) (length old.outer.items) t) (outers_in (in_declaration n here) (length old.outer.items) t)

@@ -10,6 +10,7 @@ use crate::walk::Walk;
 use wesl_tree::{Attribute, AttributeNode, ExpressionNode, TypeExpression};
 
 impl<'a, H: Handler> Walk<'a, H> {
+    /// An expression, if there is one.
     pub fn optional_node(&mut self, here: &Here, node: &'a Option<ExpressionNode>)
         ensures { Walks H.after (here_view here.now) self.old self.new (optional expression_tree node.now) }
     {
@@ -19,6 +20,7 @@ impl<'a, H: Handler> Walk<'a, H> {
         }
     }
 
+    /// A type, if there is one.
     pub fn optional_type(&mut self, here: &Here, ty: &'a Option<TypeExpression>)
         ensures { Walks H.after (here_view here.now) self.old self.new (optional type_view ty.now) }
     {
@@ -28,6 +30,7 @@ impl<'a, H: Handler> Walk<'a, H> {
         }
     }
 
+    /// The arguments of a custom attribute, if it has any.
     pub fn optional_nodes(&mut self, here: &Here, nodes: &'a Option<Vec<ExpressionNode>>)
         ensures { Walks H.after (here_view here.now) self.old self.new (optional (listed expression_tree list) nodes.now) }
     {
@@ -37,6 +40,7 @@ impl<'a, H: Handler> Walk<'a, H> {
         }
     }
 
+    /// An attribute: in a condition all names are words, and the arguments of a custom one are excused.
     fn attribute(&mut self, here: &Here, attribute: &'a Attribute)
         ensures { Walks H.after (here_view here.now) self.old self.new (attribute_view attribute.now) }
     {
@@ -75,6 +79,7 @@ impl<'a, H: Handler> Walk<'a, H> {
         }
     }
 
+    /// The attributes of a node, in order.
     pub fn attributes(&mut self, here: &Here, attributes: &'a Vec<AttributeNode>)
         ensures { Walks H.after (here_view here.now) self.old self.new (attributes_tree attributes.now) }
     {

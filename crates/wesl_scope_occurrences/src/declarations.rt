@@ -13,6 +13,7 @@ use wesl_tree::{
 };
 
 impl<'a, H: Handler> Walk<'a, H> {
+    /// A declaration of a value: its name is local in a function, and visible once the declaration has ended.
     pub fn declaration(&mut self, here: &Here, declaration: &'a Declaration)
         ensures { Walks H.after (here_view here.now) self.old self.new (declaration_view declaration.now) }
     {
@@ -23,6 +24,7 @@ impl<'a, H: Handler> Walk<'a, H> {
         self.end(here, declaration.ident);
     }
 
+    /// A type alias.
     pub fn alias(&mut self, here: &Here, alias: &'a TypeAlias)
         ensures { Walks H.after (here_view here.now) self.old self.new (alias_view alias.now) }
     {
@@ -31,6 +33,7 @@ impl<'a, H: Handler> Walk<'a, H> {
         self.type_expression(here, &alias.ty);
     }
 
+    /// A member of a struct, whose own name is none that is bound.
     fn member(&mut self, here: &Here, member: &'a StructMember)
         ensures { Walks H.after (here_view here.now) self.old self.new (member_view member.now) }
     {
@@ -38,6 +41,7 @@ impl<'a, H: Handler> Walk<'a, H> {
         self.type_expression(here, &member.ty);
     }
 
+    /// The members of a struct, in order.
     fn members(&mut self, here: &Here, all: &'a Vec<StructMemberNode>)
         ensures { Walks H.after (here_view here.now) self.old self.new (listed (placed member_view member_node) members all.now) }
     {
@@ -46,6 +50,7 @@ impl<'a, H: Handler> Walk<'a, H> {
         }
     }
 
+    /// A struct.
     pub fn structure(&mut self, here: &Here, structure: &'a Struct)
         ensures { Walks H.after (here_view here.now) self.old self.new (struct_view structure.now) }
     {
@@ -54,6 +59,7 @@ impl<'a, H: Handler> Walk<'a, H> {
         self.members(here, &structure.members);
     }
 
+    /// A parameter: its attributes and its type stand in the module's block.
     fn parameter(&mut self, here: &Here, parameter: &'a FormalParameter)
         ensures { Walks H.after (here_view here.now) self.old self.new (parameter_view parameter.now) }
     {
@@ -63,6 +69,7 @@ impl<'a, H: Handler> Walk<'a, H> {
         self.type_expression(&outside, &parameter.ty);
     }
 
+    /// The parameters of a function, in order.
     pub fn parameters(&mut self, here: &Here, all: &'a Vec<FormalParameter>)
         ensures { Walks H.after (here_view here.now) self.old self.new (listed parameter_view parameters all.now) }
     {
@@ -71,6 +78,7 @@ impl<'a, H: Handler> Walk<'a, H> {
         }
     }
 
+    /// A `const_assert`.
     pub fn assertion(&mut self, here: &Here, assertion: &'a ConstAssert)
         ensures { Walks H.after (here_view here.now) self.old self.new (assert_view assertion.now) }
     {

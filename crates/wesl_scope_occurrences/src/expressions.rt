@@ -17,6 +17,7 @@ use wesl_tree::{
 };
 
 impl<'a, H: Handler> Walk<'a, H> {
+    /// An expression, its operands from left to right.
     #[cycle(expressions)]
     pub fn expression(&mut self, here: &Here, expression: &'a Expression)
         ensures { Walks H.after (here_view here.now) self.old self.new (expression_view expression.now) }
@@ -46,6 +47,7 @@ impl<'a, H: Handler> Walk<'a, H> {
         }
     }
 
+    /// An expression with its place.
     #[cycle(expressions)]
     pub fn node(&mut self, here: &Here, node: &'a ExpressionNode)
         ensures { Walks H.after (here_view here.now) self.old self.new (expression_tree node.now) }
@@ -53,6 +55,7 @@ impl<'a, H: Handler> Walk<'a, H> {
         self.expression(here, &node.node)
     }
 
+    /// Expressions, in order.
     #[cycle(expressions)]
     pub fn nodes(&mut self, here: &Here, nodes: &'a Vec<ExpressionNode>)
         ensures { Walks H.after (here_view here.now) self.old self.new (listed expression_tree list nodes.now) }
@@ -62,6 +65,7 @@ impl<'a, H: Handler> Walk<'a, H> {
         }
     }
 
+    /// A call: the name that is called, then its arguments.
     #[cycle(expressions)]
     #[tactic(auto, using(crate::proofs::Views::view_call))]
     pub fn call(&mut self, here: &Here, call: &'a FunctionCall)
@@ -71,6 +75,7 @@ impl<'a, H: Handler> Walk<'a, H> {
         self.nodes(here, &call.arguments);
     }
 
+    /// A type or a name, then its template arguments.
     #[cycle(expressions)]
     pub fn type_expression(&mut self, here: &Here, ty: &'a TypeExpression)
         ensures { Walks H.after (here_view here.now) self.old self.new (type_view ty.now) }
@@ -82,6 +87,7 @@ impl<'a, H: Handler> Walk<'a, H> {
         }
     }
 
+    /// Template arguments, in order.
     #[cycle(expressions)]
     pub fn arguments(&mut self, here: &Here, arguments: &'a Vec<TemplateArg>)
         ensures { Walks H.after (here_view here.now) self.old self.new (listed argument_view list arguments.now) }

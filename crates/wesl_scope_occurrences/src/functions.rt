@@ -1,10 +1,7 @@
 //! The identifiers of functions and of global declarations.
-ghost use Rattle.std.specs.Prelude.{◌∷◌, length, Some};
 ghost use Rattle.wesl_tree_syntax.specs.View.{function_view, global_view, declarations_tree};
-ghost use Rattle.wesl_scope_occurrences.specs.Outer.{outers_in};
-ghost use Rattle.wesl_scope_occurrences.specs.Events.{begins, events_in};
 ghost use Rattle.wesl_scope_occurrences.specs.Views.{here_view};
-ghost use Rattle.wesl_scope_occurrences.specs.Noted.{Walks, WalksModule, Steps};
+ghost use Rattle.wesl_scope_occurrences.specs.Noted.{Walks, WalksModule, WalksNumbered};
 
 use crate::handler::Handler;
 use crate::here::Here;
@@ -13,6 +10,7 @@ use crate::walk::Walk;
 use wesl_tree::{Function, GlobalDeclaration, GlobalDeclarationNode};
 
 impl<'a, H: Handler> Walk<'a, H> {
+    /// A function, which opens a block for its parameters and its body.
     fn function(&mut self, here: &Here, function: &'a Function)
         ensures { Walks H.after (here_view here.now) self.old self.new (function_view function.now) }
     {
@@ -26,6 +24,7 @@ impl<'a, H: Handler> Walk<'a, H> {
         self.close();
     }
 
+    /// What stands in a global declaration.
     fn global(&mut self, here: &Here, declaration: &'a GlobalDeclaration)
         ensures { Walks H.after (here_view here.now) self.old self.new (global_view declaration.now) }
     {
@@ -41,7 +40,7 @@ impl<'a, H: Handler> Walk<'a, H> {
 
     /// The identifiers of a global declaration of this number, which begins.
     fn numbered(&mut self, here: &Here, number: usize, declaration: &'a GlobalDeclaration)
-        ensures { Steps H.after self.old self.new (begins ∷ events_in (record (here_view here.now) { declaration = Some number }) (length self.old.outer.items) (global_view declaration.now)) (outers_in (record (here_view here.now) { declaration = Some number }) (length self.old.outer.items) (global_view declaration.now)) }
+        ensures { WalksNumbered H.after (here_view here.now) number self.old self.new (global_view declaration.now) }
     {
         let here = Here {
             declaration: Some(number),

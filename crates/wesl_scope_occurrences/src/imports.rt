@@ -14,6 +14,7 @@ use wesl_tree::{
 };
 
 impl<'a, H: Handler> Walk<'a, H> {
+    /// An item that is imported: the name that it binds, and its own as a word where it is renamed.
     fn item(&mut self, here: &Here, item: &'a ImportItem)
         ensures { Walks H.after (here_view here.now) self.old self.new (item_view item.now) }
     {
@@ -26,6 +27,7 @@ impl<'a, H: Handler> Walk<'a, H> {
         }
     }
 
+    /// What an import imports: an item, or entries in braces.
     #[cycle(imports)]
     fn content(&mut self, here: &Here, content: &'a ImportContent)
         ensures { Walks H.after (here_view here.now) self.old self.new (content_view content.now) }
@@ -36,6 +38,7 @@ impl<'a, H: Handler> Walk<'a, H> {
         }
     }
 
+    /// The entries of an import, in order.
     #[cycle(imports)]
     fn entries(&mut self, here: &Here, entries: &'a Vec<Import>)
         ensures { Walks H.after (here_view here.now) self.old self.new (listed entry_view list entries.now) }
@@ -45,6 +48,7 @@ impl<'a, H: Handler> Walk<'a, H> {
         }
     }
 
+    /// An import statement.
     fn import(&mut self, here: &Here, import: &'a ImportStatement)
         ensures { Walks H.after (here_view here.now) self.old self.new (import_view import.now) }
     {
@@ -53,6 +57,7 @@ impl<'a, H: Handler> Walk<'a, H> {
         self.content(&here, &import.content);
     }
 
+    /// The import statements of a module, in order.
     pub fn imports(&mut self, here: &Here, imports: &'a Vec<ImportStatementNode>)
         ensures { Walks H.after (here_view here.now) self.old self.new (imports_tree imports.now) }
     {
@@ -61,6 +66,7 @@ impl<'a, H: Handler> Walk<'a, H> {
         }
     }
 
+    /// A directive, in which all names are words.
     pub fn directive(&mut self, here: &Here, directive: &'a GlobalDirective)
         ensures { Walks H.after (here_view here.now) self.old self.new (directive_view directive.now) }
     {
@@ -73,6 +79,7 @@ impl<'a, H: Handler> Walk<'a, H> {
         }
     }
 
+    /// The directives of a module, in order.
     pub fn directives(&mut self, here: &Here, directives: &'a Vec<GlobalDirectiveNode>)
         ensures { Walks H.after (here_view here.now) self.old self.new (directives_tree directives.now) }
     {

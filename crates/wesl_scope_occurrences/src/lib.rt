@@ -3,6 +3,7 @@
 #![tactic(auto)]
 
 mod attributes;
+mod beside;
 mod collector;
 mod declarations;
 mod expressions;
@@ -18,6 +19,7 @@ mod unit;
 mod walk;
 mod whole;
 
+pub use beside::{FoundBeside, occurrences_beside};
 pub use handler::Handler;
 pub use here::Here;
 pub use laws::{law_of_events, law_of_occurrences, law_of_pieces, law_of_ways};

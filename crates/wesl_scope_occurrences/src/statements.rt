@@ -14,6 +14,7 @@ use wesl_tree::{
 };
 
 impl<'a, H: Handler> Walk<'a, H> {
+    /// A selector of a clause.
     fn selector(&mut self, here: &Here, selector: &'a CaseSelector)
         ensures { Walks H.after (here_view here.now) self.old self.new (selector_view selector.now) }
     {
@@ -23,6 +24,7 @@ impl<'a, H: Handler> Walk<'a, H> {
         }
     }
 
+    /// The selectors of a clause, in order.
     fn selectors(&mut self, here: &Here, selectors: &'a Vec<CaseSelector>)
         ensures { Walks H.after (here_view here.now) self.old self.new (listed selector_view list selectors.now) }
     {
@@ -31,6 +33,7 @@ impl<'a, H: Handler> Walk<'a, H> {
         }
     }
 
+    /// A `break if`.
     fn break_if(&mut self, here: &Here, break_if: &'a BreakIfStatement)
         ensures { Walks H.after (here_view here.now) self.old self.new (break_if_view break_if.now) }
     {
@@ -38,6 +41,7 @@ impl<'a, H: Handler> Walk<'a, H> {
         self.node(here, &break_if.expression);
     }
 
+    /// A `break if`, if there is one.
     fn optional_break_if(&mut self, here: &Here, break_if: &'a Option<BreakIfStatement>)
         ensures { Walks H.after (here_view here.now) self.old self.new (optional break_if_view break_if.now) }
     {
@@ -47,6 +51,7 @@ impl<'a, H: Handler> Walk<'a, H> {
         }
     }
 
+    /// A statement.
     #[cycle(statements)]
     #[tactic(auto, using(crate::proofs::Views::view_if, crate::proofs::Views::view_switch, crate::proofs::Views::view_for))]
     pub fn statement(&mut self, here: &Here, statement: &'a Statement)
@@ -160,6 +165,7 @@ impl<'a, H: Handler> Walk<'a, H> {
         }
     }
 
+    /// A statement, if there is one.
     #[cycle(statements)]
     fn optional_statement(&mut self, here: &Here, node: &'a Option<Box<StatementNode>>)
         ensures { Walks H.after (here_view here.now) self.old self.new (optional (λ s. statement_tree (box_value s)) node.now) }
@@ -180,6 +186,7 @@ impl<'a, H: Handler> Walk<'a, H> {
         self.close();
     }
 
+    /// A body: its attributes, then its statements in the block that its holder opens.
     #[cycle(statements)]
     #[tactic(auto, using(crate::proofs::Views::view_compound))]
     pub fn compound(&mut self, here: &Here, body: &'a CompoundStatement)
@@ -189,6 +196,7 @@ impl<'a, H: Handler> Walk<'a, H> {
         self.statements(&here.inside(), &body.statements);
     }
 
+    /// Statements, in order.
     #[cycle(statements)]
     fn statements(&mut self, here: &Here, nodes: &'a Vec<StatementNode>)
         ensures { Walks H.after (here_view here.now) self.old self.new (listed statement_tree statements nodes.now) }
@@ -198,6 +206,7 @@ impl<'a, H: Handler> Walk<'a, H> {
         }
     }
 
+    /// An `if` with its body.
     #[cycle(statements)]
     fn if_clause(&mut self, here: &Here, clause: &'a IfClause)
         ensures { Walks H.after (here_view here.now) self.old self.new (if_view clause.now) }
@@ -208,6 +217,7 @@ impl<'a, H: Handler> Walk<'a, H> {
         self.close();
     }
 
+    /// An `else if` with its body.
     #[cycle(statements)]
     fn else_if_clause(&mut self, here: &Here, clause: &'a ElseIfClause)
         ensures { Walks H.after (here_view here.now) self.old self.new (else_if_view clause.now) }
@@ -219,6 +229,7 @@ impl<'a, H: Handler> Walk<'a, H> {
         self.close();
     }
 
+    /// The `else if` clauses of an `if`, in order.
     #[cycle(statements)]
     fn else_if_clauses(&mut self, here: &Here, all: &'a Vec<ElseIfClause>)
         ensures { Walks H.after (here_view here.now) self.old self.new (listed else_if_view list all.now) }
@@ -228,6 +239,7 @@ impl<'a, H: Handler> Walk<'a, H> {
         }
     }
 
+    /// An `else`, if there is one.
     #[cycle(statements)]
     fn optional_else_clause(&mut self, here: &Here, clause: &'a Option<ElseClause>)
         ensures { Walks H.after (here_view here.now) self.old self.new (optional else_view clause.now) }
@@ -238,6 +250,7 @@ impl<'a, H: Handler> Walk<'a, H> {
         }
     }
 
+    /// An `else` with its body.
     #[cycle(statements)]
     fn else_clause(&mut self, here: &Here, clause: &'a ElseClause)
         ensures { Walks H.after (here_view here.now) self.old self.new (else_view clause.now) }
@@ -248,6 +261,7 @@ impl<'a, H: Handler> Walk<'a, H> {
         self.close();
     }
 
+    /// A clause of a `switch`: its selectors, then its body.
     #[cycle(statements)]
     fn clause(&mut self, here: &Here, clause: &'a SwitchClause)
         ensures { Walks H.after (here_view here.now) self.old self.new (clause_view clause.now) }
@@ -259,6 +273,7 @@ impl<'a, H: Handler> Walk<'a, H> {
         self.close();
     }
 
+    /// The clauses of a `switch`, in order.
     #[cycle(statements)]
     fn clauses(&mut self, here: &Here, all: &'a Vec<SwitchClause>)
         ensures { Walks H.after (here_view here.now) self.old self.new (listed clause_view clauses all.now) }
@@ -268,6 +283,7 @@ impl<'a, H: Handler> Walk<'a, H> {
         }
     }
 
+    /// The continuing block of a loop, if there is one, below the loop's body.
     #[cycle(statements)]
     fn optional_continuing(&mut self, here: &Here, continuing: &'a Option<ContinuingStatement>)
         ensures { Walks H.after (here_view here.now) self.old self.new (optional continuing_view continuing.now) }
@@ -278,6 +294,7 @@ impl<'a, H: Handler> Walk<'a, H> {
         }
     }
 
+    /// A continuing block: its body, then its `break if` below that.
     #[cycle(statements)]
     fn continuing(&mut self, here: &Here, continuing: &'a ContinuingStatement)
         ensures { Walks H.after (here_view here.now) self.old self.new (continuing_view continuing.now) }

@@ -1,20 +1,21 @@
 -- Blocks that open and close.
-use Rattle.std.proofs.Common.{◌≡◌, ℕ, suc, ◌<◌, ◌≤◌, Bool, false, ◌||◌, ◌&&◌, Some, List, [], ◌∷◌, ◌++◌, map, refl, sym, ◌∙◌, ap, ap₂, arith, ◌⊎◌, inl, inr}
+use Rattle.std.proofs.Common.{◌≡◌, ℕ, suc, ◌<◌, ◌≤◌, Bool, false, ◌||◌, ◌&&◌, Some, List, [], ◌∷◌, ◌++◌, map, refl, sym, ◌∙◌, ap, ap₂, subst, arith, ◌⊎◌, inl, inr}
 use Rattle.std.specs.Prelude.{bytes_eq, if◌then◌else◌}
 use Rattle.wesl_tree_names.specs.Path.{Text}
 use Rattle.wesl_scope_occurrences.specs.Occurrences.{Block, Standing, module_name, parameter, local, reference, word}
 use Rattle.wesl_scope_occurrences.specs.Events.{EventOf, opens, closes}
-use Rattle.wesl_scope_meanings.specs.Scopes.{is_visible, binds}
-use Rattle.wesl_scope_open.specs.Open.{Readings, after, keys_met, number_of}
-use Rattle.wesl_scope_open.proofs.Runs.{Every, every_append, every_so, append_end, map_append, Found, shows, first_in, key_at, none_shows, shows_append, elsewhere}
-use Rattle.wesl_scope_open.proofs.Good.{Placed, PlacedAs, wider, none_outside, Among, among_first, among_second, Outwards, Knows, holding, Ran, Outside, Good, after_append, keys_append, ran_then}
+use Rattle.wesl_scope_open.specs.Scopes.{is_visible, binds}
+use Rattle.wesl_scope_open.specs.Open.{Readings, after, number_of}
+use Rattle.wesl_scope_open.proofs.Runs.{Every, every_append, every_so, append_end, map_append, Found, shows, first_in, sights, sight_at, AllWithin, within_append, none_shows, shows_append, elsewhere}
+use Rattle.wesl_scope_open.proofs.Good.{Placed, PlacedAs, wider, none_outside, Among, among_first, among_second, Outwards, Knows, holding, Ran, Outside, Good, after_append, sights_append, ran_then}
 use Rattle.wesl_scope_open.proofs.Still.{Still, calm_shows, calm_places, knows_still}
 
 -- what runs in a block, by what runs in it once it is open
 pub in_block : (all : List Found) (known : Text → Bool) (v w : Readings) (outer : List Readings) (es : List (EventOf Text)) (os : List Found) (b : Block) (x : ℕ)
-    → keys_met known (holding v (v ∷ outer)) es ≡ map (key_at all) os → after (holding v (v ∷ outer)) es ≡ holding w (v ∷ outer) → Knows all v b x → Ran all known v outer (opens ∷ (es ++ closes ∷ [])) os b x
-in_block all known v w outer es os b x keys state knows = record {
-  keys = keys_append known (holding v (v ∷ outer)) es (closes ∷ []) ∙ (append_end (keys_met known (holding v (v ∷ outer)) es) ∙ keys);
+    → ((n : Text) → sights n known (holding v (v ∷ outer)) es ≡ map (sight_at n all) os) → AllWithin (holding v (v ∷ outer)) es → after (holding v (v ∷ outer)) es ≡ holding w (v ∷ outer) → Knows all v b x → Ran all known v outer (opens ∷ (es ++ closes ∷ [])) os b x
+in_block all known v w outer es os b x seen within state knows = record {
+  seen = λ n. sights_append n known (holding v (v ∷ outer)) es (closes ∷ []) ∙ (append_end (sights n known (holding v (v ∷ outer)) es) ∙ seen n);
+  within = (tt, within_append (holding v (v ∷ outer)) es (closes ∷ []) within (tt, tt));
   left = v;
   state = after_append (holding v (v ∷ outer)) es (closes ∷ []) ∙ ap (λ s. after s (closes ∷ [])) state;
   knows = knows;
@@ -58,9 +59,11 @@ module _ (lo : ℕ) (b : Block) (p p1 p2 q r q' : ℕ) (low : lo ≤ q) (some : 
     opened_ran : Ran all known v outer (opens ∷ ((es ++ fs) ++ closes ∷ [])) (os ++ us) b p2
     opened_ran =
         in_block all known v ran.left outer (es ++ fs) (os ++ us) b p2
-        (keys_append known (holding v (v ∷ outer)) es fs
-        ∙ (ap₂ (λ c d. c ++ keys_met known d fs) (s.keys all known out v (v ∷ outer) (λ x i j. knows_before x i (omega (arith, j)))) (s.state v (v ∷ outer))
-        ∙ (ap (λ c. map (key_at all) os ++ c) ran.keys ∙ sym (map_append (key_at all) os us))))
+        (λ n.
+        sights_append n known (holding v (v ∷ outer)) es fs
+        ∙ (ap₂ (λ c d. c ++ sights n known d fs) (s.seen all known out v (v ∷ outer) (λ x i j. knows_before x i (omega (arith, j))) n) (s.state v (v ∷ outer))
+        ∙ (ap (λ c. map (sight_at n all) os ++ c) (ran.seen n) ∙ sym (map_append (sight_at n all) os us))))
+        (within_append (holding v (v ∷ outer)) es fs (s.within v (v ∷ outer)) (subst (λ d. AllWithin d fs) (sym (s.state v (v ∷ outer))) ran.within))
         (after_append (holding v (v ∷ outer)) es fs ∙ (ap (λ d. after d fs) (s.state v (v ∷ outer)) ∙ ran.state))
         knows_after
 
@@ -128,7 +131,7 @@ module _ (lo : ℕ) (c : Block) (p p1 p2 m q1 q2 : ℕ) (low : lo ≤ m) (own : 
       knows_then = knows_still lo c p1 p2 m q2 (omega (arith, nl, nm)) way all us second.grows (λ d n x l h i. none_outside c p1 p2 m q1 q2 nl us g.placed d n x l) w kw p2 om (omega arith)
 
       closed : Ran all known w outer (opens ∷ (fs ++ closes ∷ [])) us c p2
-      closed = in_block all known w ran_second.left outer fs us c p2 ran_second.keys ran_second.state knows_then
+      closed = in_block all known w ran_second.left outer fs us c p2 ran_second.seen ran_second.within ran_second.state knows_then
 
     both_ran : Ran all known v outer (es ++ (opens ∷ (fs ++ closes ∷ []))) (os ++ us) c p2
     both_ran = ran_then all known v outer es (opens ∷ (fs ++ closes ∷ [])) os us c c p1 p2 ran_first closed

@@ -1,5 +1,5 @@
 -- Trees that declare nothing and open no block.
-use Rattle.std.proofs.Common.{◌≡◌, ℕ, suc, ◌+◌, Bool, true, false, ◌&&◌, Option, Some, None, List, [], ◌∷◌, ◌++◌, map, refl, sym, ◌∙◌, ap, subst, arith, ◌⊎◌, inl, inr}
+use Rattle.std.proofs.Common.{◌≡◌, ℕ, suc, ◌+◌, Bool, true, false, ◌&&◌, Option, Some, None, List, [], ◌∷◌, ◌++◌, map, refl, sym, ◌∙◌, ap, ap₂, subst, arith, ◌⊎◌, inl, inr}
 use Rattle.std.specs.Prelude.{if◌then◌else◌}
 use Rattle.wesl_tree_names.specs.Path.{Text, Path}
 use Rattle.wesl_tree_syntax.specs.Tree.{LabelOf, ForestOf, end, tree, kind, at, ident, binder, reference as reference_role, word as word_role, text, texts, truth, unary, binary, assignment, space, access, path}
@@ -208,11 +208,14 @@ module _ (R : List Found → Readings → ℕ → Type 0) (p : ℕ) (s : Surroun
   met_one (reference None) h = record {
     later = omega arith;
     calm = (tt, tt);
-    keys = λ all known out v outer k. ap (λ y. y ∷ []) (ap (or_module (known x) x) (sits all v p x (k p (omega arith) (omega arith))) ∙ sym (key_read all x p (known x) (out x p) s.block));
+    seen = λ all known out v outer k n.
+        ap (λ y. y ∷ [])
+        (ap₂ (λ a b. (a, b)) (ap (or_module (known x) x) (sits all v p x (k p (omega arith) (omega arith))) ∙ sym (key_read all x p (known x) (out x p) s.block)) (sits all v p n (k p (omega arith) (omega arith))));
+    within = λ v outer. (tt, tt);
     state = λ v outer. refl;
   }
-  met_one (reference (Some y)) h = record { later = omega arith; calm = (tt, tt); keys = λ all known out v outer k. refl; state = λ v outer. refl }
-  met_one word h = record { later = omega arith; calm = (tt, tt); keys = λ all known out v outer k. refl; state = λ v outer. refl }
+  met_one (reference (Some y)) h = record { later = omega arith; calm = (tt, tt); seen = λ all known out v outer k n. refl; within = λ v outer. (tt, tt); state = λ v outer. refl }
+  met_one word h = record { later = omega arith; calm = (tt, tt); seen = λ all known out v outer k n. refl; within = λ v outer. (tt, tt); state = λ v outer. refl }
   met_one (local e) h = absurd h
   met_one module_name h = absurd h
   met_one parameter h = absurd h

@@ -6,9 +6,9 @@ use Rattle.wesl_tree_names.specs.Path.{Text}
 use Rattle.wesl_tree_syntax.specs.Tree.{LabelOf, ForestOf, end, tree, kind, ident, binder, parameter as parameter_kind}
 use Rattle.wesl_scope_occurrences.specs.Occurrences.{Block, Standing, module_name, parameter, local, reference, word, of_parameter, globally, node_by, after_field, opens as opens_in, blocks_at, count, blocks_in, occurrences_from}
 use Rattle.wesl_scope_occurrences.specs.Events.{EventOf, meets, of_none, after_level, events_from}
-use Rattle.wesl_scope_open.specs.Open.{Readings, with_visible, after, keys_met}
-use Rattle.wesl_scope_open.proofs.Runs.{Every, every_append, every_so, append_end, map_append, Found, shows, key_at, shows_append, or_none, apart, and_none}
-use Rattle.wesl_scope_open.proofs.Good.{holding, Outside, after_append, keys_append}
+use Rattle.wesl_scope_open.specs.Open.{Readings, with_visible, after}
+use Rattle.wesl_scope_open.proofs.Runs.{Every, every_append, every_so, append_end, map_append, Found, shows, sights, sight_at, ReadWithin, AllWithin, within_append, shows_append, or_none, apart, and_none}
+use Rattle.wesl_scope_open.proofs.Good.{holding, Outside, after_append, sights_append}
 use Rattle.wesl_scope_open.proofs.Still.{by_numbers, IsCalm, StillIn, calm_shows}
 use Rattle.wesl_scope_open.proofs.Forests.{shape_in, level_by, count_unfolds, occurrences_unfold, events_unfold, calm_tree, no_ident_there, simple_node, simple_level, anything, reads_any, calm_tree_still_in}
 use Rattle.wesl_scope_open.proofs.Lively.{stand, round_in, tree_events, tree_found}
@@ -28,10 +28,18 @@ Headed m o = HeadedAs m o.role o.block
 pub record Header (m p p' : ℕ) (es : List (EventOf Text)) (os : List Found) : Type 0 where
   pub later : p ≤ p'
   pub headed : Every (Headed m) os
-  pub keys : (all : List Found) (known : Text → Bool) → Outside all known → (v : Readings) (outer : List Readings) → keys_met known (holding v outer) es ≡ map (key_at all) os
+  pub seen : (all : List Found) (known : Text → Bool) → Outside all known → (v : Readings) (outer : List Readings) → (n : Text) → sights n known (holding v outer) es ≡ map (sight_at n all) os
+  pub within : (v : Readings) (outer : List Readings) → ReadWithin v m → AllWithin (holding v outer) es
   pub left : Readings → Readings
   pub state : (v : Readings) (outer : List Readings) → after (holding v outer) es ≡ holding (left v) outer
   pub reads : (v : Readings) (n : Text) (x : ℕ) → left v n ≡ (if shows os (m ∷ []) n x then Some m else v n)
+
+pub left_within : (m p p' : ℕ) (es : List (EventOf Text)) (os : List Found) (g : Header m p p' es os) (v : Readings) → ReadWithin v m → ReadWithin (g.left v) m
+left_within m p p' es os g v k n c e = by (shows os (m ∷ []) n 0) (sym (g.reads v n 0) ∙ e)
+  where
+    by : (t : Bool) → (if t then Some m else v n) ≡ Some c → c ≤ m
+    by true f = let h : m ≡ c = cc in omega (arith, h)
+    by false f = k n c f
 
 pub header_then : (m p p1 p2 : ℕ) (es fs : List (EventOf Text)) (os us : List Found) → Header m p p1 es os → Header m p1 p2 fs us → Header m p p2 (es ++ fs) (os ++ us)
 header_then m p p1 p2 es fs os us g h =
@@ -40,9 +48,10 @@ header_then m p p1 p2 es fs os us g h =
     record {
       later = omega (arith, pl, pm);
       headed = every_append (Headed m) os us g.headed h.headed;
-      keys = λ all known out v outer.
-          keys_append known (holding v outer) es fs
-          ∙ (ap₂ (λ a s. a ++ keys_met known s fs) (g.keys all known out v outer) (g.state v outer) ∙ (ap (λ a. map (key_at all) os ++ a) (h.keys all known out (g.left v) outer) ∙ sym (map_append (key_at all) os us)));
+      seen = λ all known out v outer n.
+          sights_append n known (holding v outer) es fs
+          ∙ (ap₂ (λ a s. a ++ sights n known s fs) (g.seen all known out v outer n) (g.state v outer) ∙ (ap (λ a. map (sight_at n all) os ++ a) (h.seen all known out (g.left v) outer n) ∙ sym (map_append (sight_at n all) os us)));
+      within = λ v outer k. within_append (holding v outer) es fs (g.within v outer k) (subst (λ s. AllWithin s fs) (sym (g.state v outer)) (h.within (g.left v) outer (left_within m p p1 es os g v k)));
       left = λ v. h.left (g.left v);
       state = λ v outer. after_append (holding v outer) es fs ∙ (ap (λ s. after s fs) (g.state v outer) ∙ h.state (g.left v) outer);
       reads = λ v n x.
@@ -61,7 +70,7 @@ pub header_as : (m p p' : ℕ) (es fs : List (EventOf Text)) (os us : List Found
 header_as m p p' es fs os us e f g = subst (λ xs. Header m p p' xs us) (sym e) (subst (λ ys. Header m p p' es ys) (sym f) g)
 
 pub header_none : (m p p' : ℕ) → p ≤ p' → Header m p p' [] []
-header_none m p p' h = record { later = h; headed = tt; keys = λ all known out v outer. refl; left = λ v. v; state = λ v outer. refl; reads = λ v n x. refl }
+header_none m p p' h = record { later = h; headed = tt; seen = λ all known out v outer n. refl; within = λ v outer k. tt; left = λ v. v; state = λ v outer. refl; reads = λ v n x. refl }
 
 calm_headed : (m : ℕ) (o : Found) (r : Standing) → IsCalm r → HeadedAs m r o.block
 calm_headed m o (reference y) h = tt
@@ -74,7 +83,8 @@ pub header_still : (m p p' : ℕ) (es : List (EventOf Text)) (os : List Found) �
 header_still m p p' es os s = record {
   later = s.later;
   headed = every_so (λ o. IsCalm o.role) (Headed m) (λ o h. calm_headed m o o.role h) os s.calm;
-  keys = λ all known out v outer. s.keys all known out v outer (λ x h i. tt);
+  seen = λ all known out v outer. s.seen all known out v outer (λ x h i. tt);
+  within = λ v outer k. s.within v outer;
   left = λ v. v;
   state = s.state;
   reads = λ v n x. sym (ap (λ t. if t then Some m else v n) (calm_shows os s.calm (m ∷ []) n x));
@@ -87,7 +97,8 @@ pub header_parameter : (m p : ℕ) (x : Text) (d : Option ℕ) (w u : Bool) → 
 header_parameter m p x d w u = record {
   later = omega arith;
   headed = (refl, tt);
-  keys = λ all known out v outer. refl;
+  seen = λ all known out v outer n. refl;
+  within = λ v outer k. (k, tt);
   left = with_visible x m;
   state = λ v outer. refl;
   reads = λ v n y. sym (ap (λ t. if t then Some m else v n) (seen n));
@@ -104,7 +115,8 @@ pub header_name : (m p : ℕ) (x : Text) (h : Block) (d : Option ℕ) (w u : Boo
 header_name m p x h d w u = record {
   later = omega arith;
   headed = (refl, tt);
-  keys = λ all known out v outer. refl;
+  seen = λ all known out v outer n. refl;
+  within = λ v outer k. (tt, tt);
   left = λ v. v;
   state = λ v outer. refl;
   reads = λ v n y. sym (ap (λ t. if t then Some m else v n) (or_none (bytes_eq x n && bytes_eq [] (m ∷ [])) ∙ (ap (λ t. bytes_eq x n && t) (apart [] (m ∷ []) (λ e. let z : ⊥ = cc in z)) ∙ and_none (bytes_eq x n))));

@@ -1,12 +1,12 @@
 -- Events of which references read what plain scoping finds, one after the other and in blocks.
-use Rattle.std.proofs.Common.{◌≡◌, ℕ, suc, ◌<◌, ◌≤◌, Bool, false, ◌||◌, ◌&&◌, Some, List, [], ◌∷◌, ◌++◌, map, refl, sym, ◌∙◌, ap, ap₂, arith, ◌⊎◌, inl, inr}
+use Rattle.std.proofs.Common.{◌≡◌, ℕ, suc, ◌<◌, ◌≤◌, Bool, true, false, ◌||◌, ◌&&◌, Some, List, [], ◌∷◌, ◌++◌, map, refl, sym, ◌∙◌, ap, ap₂, subst, arith, ◌⊎◌, inl, inr}
 use Rattle.std.specs.Prelude.{bytes_eq, if◌then◌else◌}
 use Rattle.wesl_tree_names.specs.Path.{Text}
 use Rattle.wesl_scope_occurrences.specs.Occurrences.{Block, Standing, module_name, parameter, local, reference, word}
 use Rattle.wesl_scope_occurrences.specs.Events.{EventOf}
-use Rattle.wesl_scope_meanings.specs.Scopes.{is_visible, binds}
-use Rattle.wesl_scope_open.specs.Open.{Readings, Open, stepped, after, met, keys_met, number_of}
-use Rattle.wesl_scope_open.proofs.Runs.{Every, every_append, every_so, append_again, map_append, Found, shows, first_in, key_at, none_shows, same_shows, shows_append, or_again, or_none, not_le, is_le, elsewhere}
+use Rattle.wesl_scope_open.specs.Scopes.{is_visible, binds}
+use Rattle.wesl_scope_open.specs.Open.{Readings, Open, stepped, after, number_of}
+use Rattle.wesl_scope_open.proofs.Runs.{Every, every_append, every_so, append_again, map_append, Found, shows, first_in, sight, sights, sight_at, AllWithin, within_append, none_shows, same_shows, shows_append, or_again, or_none, not_le, is_le, elsewhere}
 
 -- ---- where local names are declared: between places p and p', in block b or in those that open there
 abbrev pub PlacedAs : Block → ℕ → ℕ → ℕ → ℕ → Standing → Block → Type 0
@@ -107,12 +107,22 @@ first_same lo q s t same [] o = refl
 first_same lo q s t same (k ∷ up) (l, m, n) =
     ap₂ (λ a r. if a then Some k else r) (same (k ∷ up) l m) (first_same lo k s t (λ w i j. same w i (omega (arith, j, m))) up n)
 
+-- what is found along the way is no later than where it begins
+pub first_within : (lo q : ℕ) (t : Block → Bool) (b : Block) → Outwards lo q b → (c : ℕ) → first_in t b ≡ Some c → c < q
+first_within lo q t [] o c e = absurd (let z : ⊥ = cc in z)
+first_within lo q t (k ∷ up) (l, m, n) c e = by (t (k ∷ up)) e (first_within lo k t up n c)
+  where
+    by : (a : Bool) → (if a then Some k else first_in t up) ≡ Some c → (first_in t up ≡ Some c → c < k) → c < q
+    by true f g = let h : k ≡ c = cc in omega (arith, h, m)
+    by false f g = let h = g f in omega (arith, h, m)
+
 -- ---- runs
 abbrev pub holding : Readings → List Readings → Open
 holding v outer = record { reads = v; outer = outer }
 
 pub record Ran (all : List Found) (known : Text → Bool) (v : Readings) (outer : List Readings) (es : List (EventOf Text)) (os : List Found) (b : Block) (x : ℕ) : Type 0 where
-  pub keys : keys_met known (holding v outer) es ≡ map (key_at all) os
+  pub seen : (n : Text) → sights n known (holding v outer) es ≡ map (sight_at n all) os
+  pub within : AllWithin (holding v outer) es
   pub left : Readings
   pub state : after (holding v outer) es ≡ holding left outer
   pub knows : Knows all left b x
@@ -131,9 +141,9 @@ pub after_append : (s : Open) (es fs : List (EventOf Text)) → after s (es ++ f
 after_append s [] fs = refl
 after_append s (e ∷ es) fs = after_append (stepped s e) es fs
 
-pub keys_append : (known : Text → Bool) (s : Open) (es fs : List (EventOf Text)) → keys_met known s (es ++ fs) ≡ keys_met known s es ++ keys_met known (after s es) fs
-keys_append known s [] fs = refl
-keys_append known s (e ∷ es) fs = ap (λ ks. met known s e ++ ks) (keys_append known (stepped s e) es fs) ∙ sym (append_again (met known s e) (keys_met known (stepped s e) es) (keys_met known (after (stepped s e) es) fs))
+pub sights_append : (m : Text) (known : Text → Bool) (s : Open) (es fs : List (EventOf Text)) → sights m known s (es ++ fs) ≡ sights m known s es ++ sights m known (after s es) fs
+sights_append m known s [] fs = refl
+sights_append m known s (e ∷ es) fs = ap (λ ks. sight m known s e ++ ks) (sights_append m known (stepped s e) es fs) ∙ sym (append_again (sight m known s e) (sights m known (stepped s e) es) (sights m known (after (stepped s e) es) fs))
 
 -- one run after the other
 pub ran_then : (all : List Found) (known : Text → Bool) (v : Readings) (outer : List Readings) (es fs : List (EventOf Text)) (os us : List Found) (b c : Block) (x y : ℕ)
@@ -141,7 +151,8 @@ pub ran_then : (all : List Found) (known : Text → Bool) (v : Readings) (outer 
 ran_then all known v outer es fs os us b c x y r next =
     let n = next r.left r.knows in
     record {
-      keys = keys_append known (holding v outer) es fs ∙ (ap₂ (λ a s. a ++ keys_met known s fs) r.keys r.state ∙ (ap (λ a. map (key_at all) os ++ a) n.keys ∙ sym (map_append (key_at all) os us)));
+      seen = λ m. sights_append m known (holding v outer) es fs ∙ (ap₂ (λ a s. a ++ sights m known s fs) (r.seen m) r.state ∙ (ap (λ a. map (sight_at m all) os ++ a) (n.seen m) ∙ sym (map_append (sight_at m all) os us)));
+      within = within_append (holding v outer) es fs r.within (subst (λ s. AllWithin s fs) (sym r.state) n.within);
       left = n.left;
       state = after_append (holding v outer) es fs ∙ (ap (λ s. after s fs) r.state ∙ n.state);
       knows = n.knows;

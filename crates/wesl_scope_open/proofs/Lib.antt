@@ -10,8 +10,8 @@ pub mod Modules
 pub mod Units
 pub mod Typed
 pub mod Respelled
-pub mod Whole
 pub mod Tables
 pub mod Named
+pub mod Whole
 pub mod Matched
 pub mod Told

@@ -160,7 +160,7 @@ matched_first zero (closes ∷ es) fs h = h
 matched_first (suc d) (closes ∷ es) fs h = matched_first d es fs h
 matched_first d (ends here x ∷ es) fs h = matched_first d es fs h
 
-still_open : (r : Standing) (b : ℕ) (x : Text) (s : Open) → (declaring r b x s).outer ≡ s.outer
+pub still_open : (r : Standing) (b : ℕ) (x : Text) (s : Open) → (declaring r b x s).outer ≡ s.outer
 still_open parameter b x s = refl
 still_open module_name b x s = refl
 still_open (local e) b x s = refl

@@ -1,13 +1,14 @@
 -- Functions and other parts of a module.
 use Rattle.std.proofs.Common.{◌≡◌, ℕ, suc, ◌<◌, ◌≤◌, Bool, true, false, ◌||◌, ◌&&◌, Some, None, List, [], ◌∷◌, ◌++◌, map, refl, sym, ◌∙◌, ap, ap₂, subst, arith, ◌⊎◌, inl, inr}
 use Rattle.std.specs.Prelude.{bytes_eq, if◌then◌else◌}
+use Rattle.std.proofs.lemmas.Slice.Eq.{bytes_eq-Decides}
 use Rattle.wesl_tree_names.specs.Path.{Text}
-use Rattle.wesl_scope_occurrences.specs.Occurrences.{Block, Standing, module_name, parameter, local, reference, word, is_module_name}
+use Rattle.wesl_scope_occurrences.specs.Occurrences.{Block, Standing, module_name, parameter, local, reference, word, is_binder, is_module_name}
 use Rattle.wesl_scope_occurrences.specs.Events.{EventOf, opens, closes}
-use Rattle.wesl_scope_meanings.specs.Scopes.{is_visible, binds}
-use Rattle.wesl_scope_open.specs.Open.{Readings, after, keys_met, number_of, is_declared_by}
-use Rattle.wesl_scope_open.proofs.Runs.{Every, every_append, every_so, append_end, map_append, Found, shows, key_at, none_shows, same_shows, shows_append, or_none, elsewhere}
-use Rattle.wesl_scope_open.proofs.Good.{Placed, PlacedAs, hidden, Among, Knows, holding, Outside, Ran, Good, after_append, keys_append}
+use Rattle.wesl_scope_open.specs.Scopes.{is_visible, binds}
+use Rattle.wesl_scope_open.specs.Open.{Readings, after, number_of, is_declared_by}
+use Rattle.wesl_scope_open.proofs.Runs.{Every, every_append, every_so, append_end, map_append, Found, shows, sights, sight_at, AllWithin, within_append, none_shows, same_shows, shows_append, or_none, apart, elsewhere}
+use Rattle.wesl_scope_open.proofs.Good.{Placed, PlacedAs, hidden, Among, Knows, holding, Outside, Ran, Good, after_append, sights_append}
 use Rattle.wesl_scope_open.proofs.Still.{IsCalm, StillIn}
 use Rattle.wesl_scope_open.proofs.Functions.{Headed, HeadedAs, Header}
 
@@ -35,7 +36,7 @@ pub record Outer (p p' q q' : ℕ) (es : List (EventOf Text)) (os : List Found) 
   pub wider : q ≤ q'
   pub apart : Every (Apart q q') os
   pub runs : (all : List Found) (known : Text → Bool) → Outside all known → AreOwn all os q q' → (v : Readings) (outer : List Readings) → Nothing v
-      → (keys_met known (holding v outer) es ≡ map (key_at all) os) × (after (holding v outer) es ≡ holding v outer)
+      → ((n : Text) → sights n known (holding v outer) es ≡ map (sight_at n all) os) × (after (holding v outer) es ≡ holding v outer) × AllWithin (holding v outer) es
 
 -- ---- one after the other
 module _ (q q' : ℕ) (w : Block) (n : Text) (x : ℕ) where
@@ -79,10 +80,11 @@ outer_then p p1 p2 q q1 q2 es fs os us some g h =
           (every_so (Apart q q1) (Apart q q2) (λ o a. wider_apart q q1 q q2 (omega arith) qm o.block o.role a) os g.apart)
           (every_so (Apart q1 q2) (Apart q q2) (λ o a. wider_apart q1 q2 q q2 ql (omega arith) o.block o.role a) us h.apart);
       runs = λ all known out own v outer no.
-          let (gk, gs) = g.runs all known out (λ b n x i j. own b n x i (omega (arith, j, qm)) ∙ (shows_append os us b n x ∙ (ap (λ t. shows os b n x || t) (early q1 q2 b n x j (omega (arith, some, i)) us h.apart) ∙ or_none (shows os b n x)))) v outer no in
-          let (hk, hs) = h.runs all known out (λ b n x i j. own b n x (omega (arith, i, ql)) j ∙ (shows_append os us b n x ∙ ap (λ t. t || shows us b n x) (late q q1 b n x i (omega (arith, some, ql, i)) os g.apart))) v outer no in (
-            keys_append known (holding v outer) es fs ∙ (ap₂ (λ a t. a ++ keys_met known t fs) gk gs ∙ (ap (λ a. map (key_at all) os ++ a) hk ∙ sym (map_append (key_at all) os us))),
+          let (gk, gs, gw) = g.runs all known out (λ b n x i j. own b n x i (omega (arith, j, qm)) ∙ (shows_append os us b n x ∙ (ap (λ t. shows os b n x || t) (early q1 q2 b n x j (omega (arith, some, i)) us h.apart) ∙ or_none (shows os b n x)))) v outer no in
+          let (hk, hs, hw) = h.runs all known out (λ b n x i j. own b n x (omega (arith, i, ql)) j ∙ (shows_append os us b n x ∙ ap (λ t. t || shows us b n x) (late q q1 b n x i (omega (arith, some, ql, i)) os g.apart))) v outer no in (
+            λ n. sights_append n known (holding v outer) es fs ∙ (ap₂ (λ a t. a ++ sights n known t fs) (gk n) gs ∙ (ap (λ a. map (sight_at n all) os ++ a) (hk n) ∙ sym (map_append (sight_at n all) os us))),
             after_append (holding v outer) es fs ∙ (ap (λ y. after y fs) gs ∙ hs),
+            within_append (holding v outer) es fs gw (subst (λ y. AllWithin y fs) (sym gs) hw),
           );
     }
 
@@ -101,7 +103,7 @@ outer_wider p x p' q y r r' es os e h i g =
     }
 
 pub outer_none : (p p' q q' : ℕ) → p ≤ p' → q ≤ q' → Outer p p' q q' [] []
-outer_none p p' q q' h i = record { later = h; wider = i; apart = tt; runs = λ all known out own v outer no. (refl, refl) }
+outer_none p p' q q' h i = record { later = h; wider = i; apart = tt; runs = λ all known out own v outer no. (λ n. refl, refl, tt) }
 
 calm_apart : (q q' : ℕ) (o : Found) (r : Standing) → IsCalm r → ApartAs q q' r o.block
 calm_apart q q' o (reference y) h = tt
@@ -115,7 +117,7 @@ outer_still R any p p' q q' es os h s = record {
   later = s.later;
   wider = h;
   apart = every_so (λ o. IsCalm o.role) (Apart q q') (λ o c. calm_apart q q' o o.role c) os s.calm;
-  runs = λ all known out own v outer no. (s.keys all known out v outer (λ x i j. any all v x), s.state v outer);
+  runs = λ all known out own v outer no. (s.seen all known out v outer (λ x i j. any all v x), s.state v outer, s.within v outer);
 }
 
 -- ---- functions
@@ -165,12 +167,20 @@ module _ (p p1 p' q q' : ℕ) (some : 1 ≤ q) (es fs : List (EventOf Text)) (os
     ran : Ran all known (head.left v) (v ∷ outer) fs us (q ∷ []) p'
     ran = body.runs all known out among (head.left v) (v ∷ outer) knows_start
 
-    function_keys : keys_met known (holding v outer) (opens ∷ ((es ++ fs) ++ closes ∷ [])) ≡ map (key_at all) (os ++ us)
-    function_keys =
-        keys_append known (holding v (v ∷ outer)) (es ++ fs) (closes ∷ [])
-        ∙ (append_end (keys_met known (holding v (v ∷ outer)) (es ++ fs))
-        ∙ (keys_append known (holding v (v ∷ outer)) es fs
-        ∙ (ap₂ (λ a t. a ++ keys_met known t fs) (head.keys all known out v (v ∷ outer)) (head.state v (v ∷ outer)) ∙ (ap (λ a. map (key_at all) os ++ a) ran.keys ∙ sym (map_append (key_at all) os us)))))
+    function_seen : (n : Text) → sights n known (holding v outer) (opens ∷ ((es ++ fs) ++ closes ∷ [])) ≡ map (sight_at n all) (os ++ us)
+    function_seen n =
+        sights_append n known (holding v (v ∷ outer)) (es ++ fs) (closes ∷ [])
+        ∙ (append_end (sights n known (holding v (v ∷ outer)) (es ++ fs))
+        ∙ (sights_append n known (holding v (v ∷ outer)) es fs
+        ∙ (ap₂ (λ a t. a ++ sights n known t fs) (head.seen all known out v (v ∷ outer) n) (head.state v (v ∷ outer)) ∙ (ap (λ a. map (sight_at n all) os ++ a) (ran.seen n) ∙ sym (map_append (sight_at n all) os us)))))
+
+    function_within : AllWithin (holding v outer) (opens ∷ ((es ++ fs) ++ closes ∷ []))
+    function_within = (
+      tt,
+      within_append (holding v (v ∷ outer)) (es ++ fs) (closes ∷ [])
+          (within_append (holding v (v ∷ outer)) es fs (head.within v (v ∷ outer) (λ n c e. let f = sym (no n) ∙ e in let z : ⊥ = cc in absurd z)) (subst (λ t. AllWithin t fs) (sym (head.state v (v ∷ outer))) ran.within))
+          (tt, tt),
+    )
 
     function_state : after (holding v outer) (opens ∷ ((es ++ fs) ++ closes ∷ [])) ≡ holding v outer
     function_state =
@@ -203,7 +213,7 @@ module _ (p p1 p' q q' : ℕ) (some : 1 ≤ q) (es fs : List (EventOf Text)) (os
     later = omega (arith, pl, pm);
     wider = omega (arith, ql);
     apart = function_apart;
-    runs = λ all known out own v outer no. (function_keys all known out own v outer no, function_state all known out own v outer no);
+    runs = λ all known out own v outer no. (function_seen all known out own v outer no, function_state all known out own v outer no, function_within all known out own v outer no);
   }
 
 -- ---- a whole module
@@ -223,5 +233,24 @@ module _ (q' : ℕ) (n : Text) (x : ℕ) where
   outside [] h = refl
   outside (o ∷ os) h = ap₂ (λ a b. a || b) (outside_one o o.role h.0) (outside os h.1)
 
-pub whole_keys : (p p' q' : ℕ) (es : List (EventOf Text)) (os : List Found) → Outer p p' 1 q' es os → (v : Readings) → Nothing v → keys_met (is_declared_by os) (holding v []) es ≡ map (key_at os) os
-whole_keys p p' q' es os g v none = (g.runs os (is_declared_by os) (λ n x. outside q' n x os g.apart) (λ w n x h i. refl) v [] none).0
+module _ (p p' q' : ℕ) (es : List (EventOf Text)) (os : List Found) (g : Outer p p' 1 q' es os) where
+  pub whole_outside : (n : Text) (x : ℕ) → shows os [] n x ≡ is_declared_by os n
+  whole_outside n x = outside q' n x os g.apart
+
+  global_one : (o : Found) (r : Standing) → ApartAs 1 q' r o.block → (is_binder r && bytes_eq o.block []) ≡ is_module_name r
+  global_one o module_name a = (bytes_eq-Decides o.block []).1 a
+  global_one o parameter (a, b) = apart o.block [] (λ e. let j : number_of o.block ≡ 0 = ap number_of e in omega (arith, a, j))
+  global_one o (local e) (a, b) = apart o.block [] (λ f. let j : number_of o.block ≡ 0 = ap number_of f in omega (arith, a, j))
+  global_one o (reference z) a = refl
+  global_one o word a = refl
+
+  -- what the module's block declares are its imports and global declarations
+  pub whole_globals : Every (λ o. (is_binder o.role && bytes_eq o.block []) ≡ is_module_name o.role) os
+  whole_globals = every_so (Apart 1 q') (λ o. (is_binder o.role && bytes_eq o.block []) ≡ is_module_name o.role) (λ o a. global_one o o.role a) os g.apart
+
+  module _ (v : Readings) (none : Nothing v) where
+    pub whole_seen : (n : Text) → sights n (is_declared_by os) (holding v []) es ≡ map (sight_at n os) os
+    whole_seen = (g.runs os (is_declared_by os) whole_outside (λ w n x h i. refl) v [] none).0
+
+    pub whole_within : AllWithin (holding v []) es
+    whole_within = (g.runs os (is_declared_by os) whole_outside (λ w n x h i. refl) v [] none).2

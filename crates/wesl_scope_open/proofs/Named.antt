@@ -124,7 +124,7 @@ row_declared names apart r v k b h s = record { as_wide = length-set r k (Some b
         get_or-set_other r k j (Some b) None other ∙ (s.reads j i ∙ sym (ap (λ t. if t then Some b else v (name_in names j)) e))
 
 -- ---- what the table does at events is what the events do
-module _ (names : List Text) (old new : OpenBinders) (s : Open) (kept : new.is_refused ≡ false) (is : StandsOpen names (row old) (outer_rows old) s) where
+module _ (names : List Text) (old new : OpenBinders ℕ) (s : Open) (kept : new.is_refused ≡ false) (is : StandsOpen names (row old) (outer_rows old) s) where
   pub at_opening : Opens old new → StandsOpen names (row new) (outer_rows new) (stepped s opens)
   at_opening o = record {
     now = subst (λ r. Stands names r s.reads) (sym o.reads) is.now;

@@ -6,9 +6,11 @@ use Rattle.std.specs.List.{find, list_any}
 use Rattle.std.proofs.lemmas.Bool.Decides.{leb_tells}
 use Rattle.std.proofs.lemmas.Slice.Eq.{bytes_eq-Decides}
 use Rattle.wesl_tree_names.specs.Path.{Text}
-use Rattle.wesl_scope_occurrences.specs.Occurrences.{Block, Occurrence}
-use Rattle.wesl_scope_meanings.specs.Scopes.{Key, is_visible, binds, binder_of, meaning, key_of}
-use Rattle.wesl_scope_open.specs.Open.{of_block, or_module, number_of, by_number}
+use Rattle.wesl_scope_occurrences.specs.Occurrences.{Block, Standing, parameter, local, reference, Occurrence}
+use Rattle.wesl_scope_occurrences.specs.Walk.{Here}
+use Rattle.wesl_scope_occurrences.specs.Events.{EventOf, meets, ends}
+use Rattle.wesl_scope_open.specs.Scopes.{Key, is_visible, binds, binder_of, meaning, key_of}
+use Rattle.wesl_scope_open.specs.Open.{Readings, Open, stepped, after, of_block, or_module, read_in, key_met, number_of, by_number}
 
 abbrev pub Every : {X : Type 0} → (X → Type 0) → List X → Type 0
 Every P [] = Unit {0}
@@ -49,6 +51,52 @@ first_in t (k ∷ up) = if t (k ∷ up) then Some k else first_in t up
 -- what an identifier means by plain scoping
 abbrev pub key_at : List Found → Found → Key
 key_at all o = by_number (key_of all o)
+
+-- ---- what is read at events
+-- what an identifier means, and the block of a function that another name is read as in its place
+abbrev pub Sight : Type 0
+Sight = Key × Option ℕ
+
+-- what the name n is read as where a reference without a path or a local name stands
+abbrev pub read_at : Text → Open → Here → Standing → Option ℕ
+read_at n s here (reference None) = read_in here (s.reads n)
+read_at n s here (local e) = s.reads n
+read_at n s here _ = None
+
+abbrev pub sight : Text → (Text → Bool) → Open → EventOf Text → List Sight
+sight n known s (meets here r x) = (key_met known s here r x, read_at n s here r) ∷ []
+sight n known s _ = []
+
+abbrev pub sights : Text → (Text → Bool) → Open → List (EventOf Text) → List Sight
+sights n known s [] = []
+sights n known s (e ∷ es) = sight n known s e ++ sights n known (stepped s e) es
+
+-- the first block outwards from an identifier that shows the name n there
+abbrev pub shown_at : Text → List Found → Found → Standing → Option ℕ
+shown_at n all o (reference None) = first_in (λ w. shows all w n o.place) o.block
+shown_at n all o (local e) = first_in (λ w. shows all w n o.place) o.block
+shown_at n all o _ = None
+
+abbrev pub sight_at : Text → List Found → Found → Sight
+sight_at n all o = (key_at all o, shown_at n all o o.role)
+
+-- no name is read as of a later block than this one
+abbrev pub ReadWithin : Readings → ℕ → Type 0
+ReadWithin v b = (n : Text) (c : ℕ) → v n ≡ Some c → c ≤ b
+
+-- a name becomes visible in the block of its declaration where none is read as of a later one
+abbrev pub DeclaresWithin : Readings → EventOf Text → Type 0
+DeclaresWithin v (meets here parameter x) = ReadWithin v here.block
+DeclaresWithin v (ends here x) = ReadWithin v here.block
+DeclaresWithin v _ = Unit {0}
+
+abbrev pub AllWithin : Open → List (EventOf Text) → Type 0
+AllWithin s [] = Unit {0}
+AllWithin s (e ∷ es) = DeclaresWithin s.reads e × AllWithin (stepped s e) es
+
+pub within_append : (s : Open) (es fs : List (EventOf Text)) → AllWithin s es → AllWithin (after s es) fs → AllWithin s (es ++ fs)
+within_append s [] fs h k = k
+within_append s (e ∷ es) fs h k = (h.0, within_append (stepped s e) es fs h.1 k)
 
 -- ---- lists of binders
 pub none_shows : (os : List Found) (w : Block) (n : Text) (x : ℕ) → Every (λ o. binds w n x o ≡ false) os → shows os w n x ≡ false

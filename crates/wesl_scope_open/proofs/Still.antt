@@ -1,15 +1,15 @@
 -- Events at which nothing changes, declarations, and blocks.
-use Rattle.std.proofs.Common.{◌≡◌, ℕ, suc, ◌<◌, ◌≤◌, Bool, true, false, ◌||◌, ◌&&◌, Option, Some, List, [], ◌∷◌, ◌++◌, map, refl, sym, ◌∙◌, ap, ap₂, arith, inl}
+use Rattle.std.proofs.Common.{◌≡◌, ℕ, suc, ◌<◌, ◌≤◌, Bool, true, false, ◌||◌, ◌&&◌, Option, Some, List, [], ◌∷◌, ◌++◌, map, refl, sym, ◌∙◌, ap, ap₂, subst, arith, inl}
 use Rattle.std.specs.Prelude.{bytes_eq, if◌then◌else◌}
 use Rattle.std.proofs.lemmas.Slice.Eq.{bytes_eq-Decides}
 use Rattle.wesl_tree_names.specs.Path.{Text}
 use Rattle.wesl_scope_occurrences.specs.Occurrences.{Block, Standing, module_name, parameter, local, reference, word, Surroundings}
 use Rattle.wesl_scope_occurrences.specs.Walk.{Here}
 use Rattle.wesl_scope_occurrences.specs.Events.{EventOf, meets, ends}
-use Rattle.wesl_scope_meanings.specs.Scopes.{Key, is_visible, binds}
-use Rattle.wesl_scope_open.specs.Open.{Readings, with_visible, after, of_block, keys_met, number_of}
-use Rattle.wesl_scope_open.proofs.Runs.{Every, every_append, every_so, map_append, Found, shows, first_in, key_at, none_shows, or_none, is_le, not_le}
-use Rattle.wesl_scope_open.proofs.Good.{Placed, PlacedAs, Among, Outwards, Knows, first_same, holding, Ran, Outside, Good, after_append, keys_append}
+use Rattle.wesl_scope_open.specs.Scopes.{is_visible, binds}
+use Rattle.wesl_scope_open.specs.Open.{Readings, with_visible, after, of_block, number_of}
+use Rattle.wesl_scope_open.proofs.Runs.{Every, every_append, every_so, map_append, append_end, Found, shows, first_in, sights, sight_at, AllWithin, ReadWithin, within_append, none_shows, or_none, is_le, not_le}
+use Rattle.wesl_scope_open.proofs.Good.{Placed, PlacedAs, Among, Outwards, Knows, first_same, first_within, holding, Ran, Outside, Good, after_append, sights_append}
 
 -- surroundings by the numbers of their blocks
 abbrev pub by_numbers : Surroundings Block → Here
@@ -50,7 +50,8 @@ calm_places b p p' q q' os h = every_so Calm (Placed b p p' q q') (λ o k. calm_
 pub record StillIn (R : List Found → Readings → ℕ → Type 0) (p p' : ℕ) (es : List (EventOf Text)) (os : List Found) : Type 0 where
   pub later : p ≤ p'
   pub calm : Every Calm os
-  pub keys : (all : List Found) (known : Text → Bool) → Outside all known → (v : Readings) (outer : List Readings) → ((x : ℕ) → p ≤ x → x < p' → R all v x) → keys_met known (holding v outer) es ≡ map (key_at all) os
+  pub seen : (all : List Found) (known : Text → Bool) → Outside all known → (v : Readings) (outer : List Readings) → ((x : ℕ) → p ≤ x → x < p' → R all v x) → (n : Text) → sights n known (holding v outer) es ≡ map (sight_at n all) os
+  pub within : (v : Readings) (outer : List Readings) → AllWithin (holding v outer) es
   pub state : (v : Readings) (outer : List Readings) → after (holding v outer) es ≡ holding v outer
 
 -- those of block b are known
@@ -62,7 +63,7 @@ Still b = StillIn (knows b)
 
 module _ (R : List Found → Readings → ℕ → Type 0) where
   pub still_none_in : (p p' : ℕ) → p ≤ p' → StillIn R p p' [] []
-  still_none_in p p' h = record { later = h; calm = tt; keys = λ all known out v outer k. refl; state = λ v outer. refl }
+  still_none_in p p' h = record { later = h; calm = tt; seen = λ all known out v outer k n. refl; within = λ v outer. tt; state = λ v outer. refl }
 
   pub still_then_in : (p p1 p2 : ℕ) (es fs : List (EventOf Text)) (os us : List Found) → StillIn R p p1 es os → StillIn R p1 p2 fs us → StillIn R p p2 (es ++ fs) (os ++ us)
   still_then_in p p1 p2 es fs os us g h =
@@ -71,10 +72,11 @@ module _ (R : List Found → Readings → ℕ → Type 0) where
       record {
         later = omega (arith, pl, pm);
         calm = every_append Calm os us g.calm h.calm;
-        keys = λ all known out v outer k.
-            keys_append known (holding v outer) es fs
-            ∙ (ap₂ (λ a s. a ++ keys_met known s fs) (g.keys all known out v outer (λ x i j. k x i (omega (arith, j, pm)))) (g.state v outer)
-            ∙ (ap (λ a. map (key_at all) os ++ a) (h.keys all known out v outer (λ x i j. k x (omega (arith, i, pl)) j)) ∙ sym (map_append (key_at all) os us)));
+        seen = λ all known out v outer k n.
+            sights_append n known (holding v outer) es fs
+            ∙ (ap₂ (λ a s. a ++ sights n known s fs) (g.seen all known out v outer (λ x i j. k x i (omega (arith, j, pm))) n) (g.state v outer)
+            ∙ (ap (λ a. map (sight_at n all) os ++ a) (h.seen all known out v outer (λ x i j. k x (omega (arith, i, pl)) j) n) ∙ sym (map_append (sight_at n all) os us)));
+        within = λ v outer. within_append (holding v outer) es fs (g.within v outer) (subst (λ s. AllWithin s fs) (sym (g.state v outer)) (h.within v outer));
         state = λ v outer. after_append (holding v outer) es fs ∙ (ap (λ s. after s fs) (g.state v outer) ∙ h.state v outer);
       }
 
@@ -102,7 +104,8 @@ still_good lo b p p' q q' es os ql way s = record {
       let pl = s.later in
       let kn = knows_still lo b p p' q q' ql way all os a.grows (λ w n x m h i. calm_shows os s.calm w n x) v k in
       record {
-        keys = s.keys all known out v outer (λ x i j. kn x i (omega (arith, j)));
+        seen = s.seen all known out v outer (λ x i j. kn x i (omega (arith, j)));
+        within = s.within v outer;
         left = v;
         state = s.state v outer;
         knows = kn p' pl (omega arith);
@@ -157,18 +160,19 @@ module _ (lo k : ℕ) (up : Block) (p p' q : ℕ) (way : Outwards lo q (k ∷ up
             (λ w l m. sym (a.grows w n p' (omega (arith, sl)) (omega arith) l m ∙ (ap (λ t. shows all w n p || t) (other w n e) ∙ or_none (shows all w n p)))) b way in
             ap (λ t. if t then Some here.block else v n) e ∙ g
 
+    read_within : ReadWithin v here.block
+    read_within n c e = let l = first_within lo (suc k) (λ w. shows all w n p) b (way.0, omega arith, way.2) c (sym (kn n) ∙ e) in omega (arith, l, at)
+
     declared_ran : Ran all known v outer (meets here (local 0) x ∷ (es ++ ends here x ∷ [])) (o ∷ os) b p'
     declared_ran = record {
-      keys = ap₂ (λ c r. of_block c x ∷ r) at
-          (keys_append known (holding v outer) es (ends here x ∷ []) ∙ (ap (λ r. r ++ []) (s.keys all known out v outer (λ y h i. before_end y (omega (arith, h)) i)) ∙ nothing_more (map (key_at all) os)));
+      seen = λ n.
+          ap₂ (λ c r. c ∷ r) (ap₂ (λ c y. (of_block c x, y)) at (kn n))
+          (sights_append n known (holding v outer) es (ends here x ∷ []) ∙ (append_end (sights n known (holding v outer) es) ∙ s.seen all known out v outer (λ y h i. before_end y (omega (arith, h)) i) n));
+      within = (tt, within_append (holding v outer) es (ends here x ∷ []) (s.within v outer) (subst (λ t. AllWithin t (ends here x ∷ [])) (sym (s.state v outer)) (read_within, tt)));
       left = with_visible x here.block v;
       state = after_append (holding v outer) es (ends here x ∷ []) ∙ ap (λ r. after r (ends here x ∷ [])) (s.state v outer);
       knows = at_end;
     }
-      where
-        nothing_more : (ks : List Key) → ks ++ [] ≡ ks
-        nothing_more [] = refl
-        nothing_more (y ∷ ys) = ap (λ zs. y ∷ zs) (nothing_more ys)
 
   pub declares : Good lo (k ∷ up) p p' q q (meets here (local 0) x ∷ (es ++ ends here x ∷ [])) (the_name p' x p (k ∷ up) d u ∷ os)
   declares = record {

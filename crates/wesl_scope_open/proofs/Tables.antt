@@ -3,7 +3,7 @@ use Rattle.std.proofs.Common.{◌≡◌, Bool, true, false, ◌||◌, ℕ, zero,
 use Rattle.std.specs.Prelude.{Result, Ok, Err, if◌then◌else◌}
 use Rattle.std.specs.Result.{is_err, is_ok}
 use Rattle.std.proofs.lemmas.List.{reverse-append}
-use Rattle.wesl_scope_open.specs.Table.{Row, taken_back_to}
+use Rattle.wesl_scope_open.specs.Table.{RowOf, taken_back_to}
 use Rattle.wesl_scope_open.specs.declared.table.Change.{Change}
 use Rattle.wesl_scope_open.specs.declared.table.Change.TheVariants as changes
 
@@ -16,7 +16,7 @@ put_back [] n x v h e = absurd (omega (arith, h))
 put_back (y ∷ r) zero x v h e = ap (λ z. z ∷ r) e
 put_back (y ∷ r) (suc n) x v h e = ap (λ z. y ∷ z) (put_back r n x v (omega (arith, h)) e)
 
-pub declare_kept : (cs ds : List Change) (r s : Row) (n b : ℕ) (v : Option ℕ) → n < length r → v ≡ get_or r n v → ds ≡ cs ++ changes.Read n v ∷ [] → s ≡ set r n (Some b) → taken_back_to (reverse ds) s ≡ taken_back_to (reverse cs) r
+pub declare_kept : {T : Type 0} (cs ds : List (Change T)) (r s : RowOf T) (n : ℕ) (b : T) (v : Option T) → n < length r → v ≡ get_or r n v → ds ≡ cs ++ changes.Read n v ∷ [] → s ≡ set r n (Some b) → taken_back_to (reverse ds) s ≡ taken_back_to (reverse cs) r
 declare_kept cs ds r s n b v h e f g = ap₂ taken_back_to (popped ds cs (changes.Read n v) f) g ∙ ap (taken_back_to (reverse cs)) (put_back r n (Some b) v h e)
 
 pub first_kept : (a b : Bool) → (a || b) ≡ false → a ≡ false

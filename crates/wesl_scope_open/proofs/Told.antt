@@ -6,14 +6,41 @@ use Rattle.std.specs.List.{find, All}
 use Rattle.wesl_tree_names.specs.Path.{Text}
 use Rattle.wesl_tree_syntax.specs.Numbers.{AreNumbers}
 use Rattle.wesl_scope_occurrences.specs.Occurrences.{Block, Standing, module_name, parameter, local, reference, word}
-use Rattle.wesl_scope_meanings.specs.Scopes.{Key, bound, free, qualified, binds, binder_of, meaning, key_as, key_of, keys}
+use Rattle.wesl_scope_open.specs.Scopes.{Key, bound, free, qualified, binds, binder_of, meaning, key_as, key_of, keys}
 use Rattle.wesl_scope_open.specs.Open.{number_of, by_number}
 use Rattle.wesl_scope_open.specs.Told.{AreToldBy}
 use Rattle.wesl_scope_open.proofs.Runs.{Every, Found}
 
+-- what holds of all identifiers holds of a binder that is found among them
+module _ (P : Found → Type 0) where
+  pub every_of : (xs : List Found) → All P xs → Every P xs
+  every_of [] a = tt
+  every_of (x ∷ xs) a = (a 0 x (omega arith), every_of xs (λ i d h. a (suc i) d (omega (arith, h))))
+
+  -- what is found is such
+  abbrev pub IfThere : Option Found → Type 0
+  IfThere None = Unit {0}
+  IfThere (Some o) = P o
+
+  found_so : (t : Found → Bool) (xs : List Found) → Every P xs → IfThere (find t xs)
+  found_so t [] h = tt
+  found_so t (x ∷ xs) h = by (t x) refl (found_so t xs h.1)
+    where
+      by : (b : Bool) → t x ≡ b → IfThere (find t xs) → IfThere (find t (x ∷ xs))
+      by true e g = rw e h.0
+      by false e g = rw e g
+
+  either_so : (a b : Option Found) → IfThere a → IfThere b → IfThere (option_or a b)
+  either_so (Some o) b g h = g
+  either_so None b g h = h
+
+  pub binder_so : (all : List Found) → Every P all → (n : Text) (p : ℕ) (b : Block) → IfThere (binder_of all n p b)
+  binder_so all h n p [] = found_so (binds [] n p) all h
+  binder_so all h n p (k ∷ up) = either_so (find (binds (k ∷ up) n p) all) (binder_of all n p up) (found_so (binds (k ∷ up) n p) all h) (binder_so all h n p up)
+
 module _ (w : ℕ → Block) where
   -- a block of the number in place of the number
-  abbrev back : Key → Key
+  abbrev pub back : Key → Key
   back (bound [] n) = bound [] n
   back (bound (k ∷ up) n) = bound (w k) n
   back (free n) = free n
@@ -22,32 +49,7 @@ module _ (w : ℕ → Block) where
   abbrev Told : Found → Type 0
   Told o = o.block ≡ w (number_of o.block)
 
-  every_of : (xs : List Found) → All Told xs → Every Told xs
-  every_of [] a = tt
-  every_of (x ∷ xs) a = (a 0 x (omega arith), every_of xs (λ i d h. a (suc i) d (omega (arith, h))))
-
-  -- what is found is among them
-  abbrev IfThere : Option Found → Type 0
-  IfThere None = Unit {0}
-  IfThere (Some o) = Told o
-
-  found_told : (t : Found → Bool) (xs : List Found) → Every Told xs → IfThere (find t xs)
-  found_told t [] h = tt
-  found_told t (x ∷ xs) h = by (t x) refl (found_told t xs h.1)
-    where
-      by : (b : Bool) → t x ≡ b → IfThere (find t xs) → IfThere (find t (x ∷ xs))
-      by true e g = rw e h.0
-      by false e g = rw e g
-
-  either_told : (a b : Option Found) → IfThere a → IfThere b → IfThere (option_or a b)
-  either_told (Some o) b g h = g
-  either_told None b g h = h
-
-  binder_told : (all : List Found) → Every Told all → (n : Text) (p : ℕ) (b : Block) → IfThere (binder_of all n p b)
-  binder_told all h n p [] = found_told (binds [] n p) all h
-  binder_told all h n p (k ∷ up) = either_told (find (binds (k ∷ up) n p) all) (binder_of all n p up) (found_told (binds (k ∷ up) n p) all h) (binder_told all h n p up)
-
-  meaning_back : (n : Text) (o : Option Found) → IfThere o → back (by_number (meaning n o)) ≡ meaning n o
+  meaning_back : (n : Text) (o : Option Found) → IfThere Told o → back (by_number (meaning n o)) ≡ meaning n o
   meaning_back n None h = refl
   meaning_back n (Some o) h = ap (λ b. bound b n) (sym h)
 
@@ -55,7 +57,7 @@ module _ (w : ℕ → Block) where
   key_back all h o t module_name = ap (λ b. bound b o.name) (sym t)
   key_back all h o t parameter = ap (λ b. bound b o.name) (sym t)
   key_back all h o t (local e) = ap (λ b. bound b o.name) (sym t)
-  key_back all h o t (reference None) = meaning_back o.name (binder_of all o.name o.place o.block) (binder_told all h o.name o.place o.block)
+  key_back all h o t (reference None) = meaning_back o.name (binder_of all o.name o.place o.block) (binder_so Told all h o.name o.place o.block)
   key_back all h o t (reference (Some path)) = refl
   key_back all h o t word = refl
 
@@ -64,7 +66,7 @@ module _ (w : ℕ → Block) where
   all_back all (o ∷ os) h g = let e = key_back all h o g.0 o.role in let es = all_back all os h g.1 in rw (e, es) refl
 
   pub keys_back : (all : List Found) → AreToldBy w all → map back (map by_number (keys all)) ≡ keys all
-  keys_back all a = let h = every_of all a in all_back all all h h
+  keys_back all a = let h = every_of Told all a in all_back all all h h
 
 -- ---- numbers for what can be taken back
 module _ {K L : Type 0} (f : K → L) (g : L → K) where

@@ -121,7 +121,7 @@ abbrev pub outer_level : Surroundings Block → Option ℕ → Declares → Opti
 outer_level s k d by g = record { node = outer_node (by_numbers s) k d by; parts = []; is_global = g }
 
 with_beginning : (g : Bool) (p p' q q' : ℕ) (es : List (EventOf Text)) (os : List Found) → Outer p p' q q' es os → Outer p p' q q' (beginning g ++ es) os
-with_beginning true p p' q q' es os h = record { later = h.later; wider = h.wider; apart = h.apart; runs = h.runs }
+with_beginning true p p' q q' es os h = record { later = h.later; wider = h.wider; apart = h.apart; runs = λ all known out own v outer no. let (a, b, c) = h.runs all known out own v outer no in (a, b, (tt, c)) }
 with_beginning false p p' q q' es os h = h
 
 module _ (d : Option ℕ) (w u : Bool) (x : Text) (p p' q q' : ℕ) (some : 1 ≤ q) (es : List (EventOf Text)) (os : List Found) (rest : Outer (suc p) p' q q' es os) where
@@ -130,7 +130,7 @@ module _ (d : Option ℕ) (w u : Bool) (x : Text) (p p' q q' : ℕ) (some : 1 �
       outer_as p p' q q' ((meets (by_numbers (out d w u)) module_name x ∷ []) ++ es) (meets (by_numbers (out d w u)) module_name x ∷ (es ++ [])) (found_in module_name x p [] d u ∷ os) (found_in module_name x p [] d u ∷ os)
       (ap (λ y. meets (by_numbers (out d w u)) module_name x ∷ y) (append_end es)) refl
       (outer_then p (suc p) p' q q q' (meets (by_numbers (out d w u)) module_name x ∷ []) es (found_in module_name x p [] d u ∷ []) os some
-      (record { later = omega arith; wider = omega arith; apart = (refl, tt); runs = λ all known out own v outer none. (refl, refl) }) rest)
+      (record { later = omega arith; wider = omega arith; apart = (refl, tt); runs = λ all known out own v outer none. (λ n. refl, refl, (tt, tt)) }) rest)
 
   calm_outer : (r : Standing) → IsCalm r → Outer p p' q q' (meets (by_numbers (out d w u)) r x ∷ (es ++ ending (by_numbers (out d w u)) r x)) (found_in r x p [] d u ∷ os)
   calm_outer r h =

@@ -6,7 +6,7 @@ use Rattle.wesl_tree.specs.Translation.{unit_view}
 use Rattle.wesl_tree.specs.declared.unit.TranslationUnit.{TranslationUnit}
 use Rattle.wesl_scope_occurrences.specs.Occurrences.{Block, occurrences}
 use Rattle.wesl_scope_occurrences.specs.Events.{events}
-use Rattle.wesl_scope_meanings.specs.Scopes.{Key, keys}
+use Rattle.wesl_scope_open.specs.Scopes.{Key, keys}
 use Rattle.wesl_scope_open.specs.Open.{unopened, keys_met, is_declared_by, by_number}
 use Rattle.wesl_scope_open.specs.Told.{AreToldBy}
 

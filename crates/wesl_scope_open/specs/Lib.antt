@@ -1,3 +1,4 @@
+pub mod Scopes
 pub mod Open
 pub mod Table
 pub mod Named

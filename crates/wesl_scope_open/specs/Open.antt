@@ -6,7 +6,7 @@ use Rattle.wesl_tree_names.specs.Path.{Text}
 use Rattle.wesl_scope_occurrences.specs.Occurrences.{Block, Standing, module_name, parameter, local, reference, word, is_module_name, Occurrence}
 use Rattle.wesl_scope_occurrences.specs.Walk.{Here}
 use Rattle.wesl_scope_occurrences.specs.Events.{EventOf, begins, meets, opens, closes, ends}
-use Rattle.wesl_scope_meanings.specs.Scopes.{Key, bound, free, qualified}
+use Rattle.wesl_scope_open.specs.Scopes.{Key, bound, free, qualified}
 
 -- of each name the block of a function whose declaration of it a reference reads, if one is visible
 abbrev pub Readings : Type 0

@@ -1,11 +1,11 @@
 //! The table of open binders, and what to take back when a block closes.
-ghost use Rattle.std.specs.Prelude.{◌≡◌, ◌<◌, length, get_or, None};
+ghost use Rattle.std.specs.Prelude.{◌≡◌, ◌<◌, length, get_or, None, IfOk};
 
-use std::alloc::Global;
+use std::alloc::{AllocError, Global};
 
 /// What to take back of a table.
 #[derive(Clone, Copy)]
-pub enum Change {
+pub enum Change<T> {
     /// a block opened
     Opened,
     /// a name is read otherwise
@@ -13,23 +13,35 @@ pub enum Change {
         /// the name
         name: usize,
         /// how it was read before
-        before: Option<usize>,
+        before: Option<T>,
     },
 }
 
-/// What references read, by the numbers of names: the block of a function whose declaration of the name is visible.
+/// What references read, by the numbers of names: what a `T` says of the declaration of the name in a function that is
+/// visible, as the number of its block.
 #[derive(Drop)]
-pub struct OpenBinders {
-    /// of each name, by its number, the block whose declaration of it a reference reads
-    pub reads: Vec<Option<usize>>,
+pub struct OpenBinders<T> {
+    /// of each name, by its number, what is said of the declaration that a reference reads
+    pub reads: Vec<Option<T>>,
     /// what to take back, the last change last
-    pub changes: Vec<Change>,
+    pub changes: Vec<Change<T>>,
     /// whether memory was wanting, so that some change cannot be taken back
     pub is_refused: bool,
 }
 
-impl OpenBinders {
-    ghost use Rattle.wesl_scope_open.specs.Table.{Opens, Declares, Closes};
+impl<T: Copy + Drop> OpenBinders<T> {
+    ghost use Rattle.wesl_scope_open.specs.Table.{IsEmpty, Opens, Declares, Closes};
+
+    /// Nothing is open, and of so many names none is declared in a function. Refused for want of memory alone.
+    pub fn new(alloc: Global, names: usize) -> Result<OpenBinders<T>, AllocError>
+        ensures { IfOk result (IsEmpty names) }
+    {
+        Ok(OpenBinders {
+            reads: vec![in alloc; None; names]?,
+            changes: Vec::new(alloc),
+            is_refused: false,
+        })
+    }
 
     /// A block opens.
     pub fn open(&mut self)
@@ -38,19 +50,19 @@ impl OpenBinders {
         self.is_refused |= self.changes.push(Change::Opened).is_err();
     }
 
-    /// A declaration of a name in a block is visible from now on.
-    pub fn declare(&mut self, name: usize, block: usize)
+    /// A declaration of a name is visible from now on, of which this is said.
+    pub fn declare(&mut self, name: usize, read: T)
         requires { name < length self.old.reads.items }
-        ensures { Declares self.old self.new name block }
+        ensures { Declares self.old self.new name read }
     {
         let before = self.reads[name];
         let change = Change::Read { name, before };
         self.is_refused |= self.changes.push(change).is_err();
-        self.reads[name] = Some(block);
+        self.reads[name] = Some(read);
     }
 
-    /// The block whose declaration of a name a reference reads, if there is one in a function.
-    pub fn read(&self, name: usize) -> Option<usize>
+    /// What is said of the declaration of a name that a reference reads, if there is one in a function.
+    pub fn read(&self, name: usize) -> Option<T>
         requires { name < length self.now.reads.items }
         ensures { result ≡ get_or self.now.reads.items name None }
     {

@@ -1,29 +1,31 @@
-use Rattle.std.proofs.Common.{length, subst}
-use Rattle.std.specs.List.{All}
+use Rattle.std.proofs.Common.{◌∙◌, ap, map}
+use Rattle.wesl_tree_names.specs.Path.{path_view}
 use Rattle.wesl_tree.specs.Translation.{unit_view}
-use Rattle.wesl_scope_meanings.specs.Keys.{IsKeyBelow}
-use Rattle.wesl_scope_meanings.proofs.Keying.{meant}
+use Rattle.wesl_scope_meanings.proofs.Meant.{meant, senses_named, spelled_still}
 use Rattle.wesl_scope_meanings.proofs.whole.meanings_of.Goals as goal
+
+pub keys-requires : goal.keys-requires
+keys-requires c =
+    senses_named (unit_view c.args.unit.now) c.in_ok-reader.reader c.in_ok-read.read.handler c.names.result.now c.names-2.result.now c.names.ensures.names c.in_ok-reader.ensures c.in_ok-read.ensures.told
+    c.if-reader.false c.if-reader-2.false c.in_ok-read.ensures.named c.names-2.ensures.names
 
 pub returns-clause-keys : goal.returns-clause-keys
 returns-clause-keys c =
-    meant c.law_of_ways.ensures c.law_of_occurrences.ensures.spelling (unit_view c.args.unit.now) c.in_ok-found.found.outer.items c.in_ok-found.found.all.items c.in_ok-keys.ensures.keys.entries c.in_ok-keys.keys.items
-    c.names.result.now c.names.result.now c.deref-2.result.now c.deref-2.result.now c.deref.result.now
-    c.in_ok-found.ensures.nested c.in_ok-found.ensures.blocks c.in_ok-found.ensures.all
-    c.names.ensures.names c.deref-2.ensures.value c.in_ok-keys.ensures.keys.opens
-    c.names.ensures.names c.deref.ensures.value c.deref-2.ensures.value c.in_ok-keys.ensures.keys.are
+    let r = c.in_ok-read.read in
+    (meant c.law_of_ways.ensures c.law_of_occurrences.ensures.spelling c.law_of_events.ensures (unit_view c.args.unit.now) r.found.outer.items r.found.all.items c.in_ok-reader.reader r.handler
+    (map (λ p. path_view p.now) c.deref.result.now) c.in_ok-keys.keys.items c.names.result.now c.names-2.result.now
+    (c.law_of_open_binders.ensures.meanings c.args.unit.now) c.names.ensures.names c.in_ok-reader.ensures c.in_ok-read.ensures.told c.if-reader.false c.if-reader-2.false c.in_ok-read.ensures.named
+    c.in_ok-read.ensures.nested c.in_ok-read.ensures.blocks c.in_ok-read.ensures.all (ap (map (λ p. path_view p.now)) c.deref.ensures.value ∙ c.in_ok-read.ensures.paths) c.names-2.ensures.names c.in_ok-keys.ensures).are
 
 pub returns-clause-below : goal.returns-clause-below
-returns-clause-below c = subst (λ o. All (IsKeyBelow (length o)) c.in_ok-keys.keys.items) c.deref.ensures.value c.in_ok-keys.ensures.below
+returns-clause-below c =
+    let r = c.in_ok-read.read in
+    (meant c.law_of_ways.ensures c.law_of_occurrences.ensures.spelling c.law_of_events.ensures (unit_view c.args.unit.now) r.found.outer.items r.found.all.items c.in_ok-reader.reader r.handler
+    (map (λ p. path_view p.now) c.deref.result.now) c.in_ok-keys.keys.items c.names.result.now c.names-2.result.now
+    (c.law_of_open_binders.ensures.meanings c.args.unit.now) c.names.ensures.names c.in_ok-reader.ensures c.in_ok-read.ensures.told c.if-reader.false c.if-reader-2.false c.in_ok-read.ensures.named
+    c.in_ok-read.ensures.nested c.in_ok-read.ensures.blocks c.in_ok-read.ensures.all (ap (map (λ p. path_view p.now)) c.deref.ensures.value ∙ c.in_ok-read.ensures.paths) c.names-2.ensures.names c.in_ok-keys.ensures).below
 
-pub returns-clause-found : goal.returns-clause-found
-returns-clause-found c = c.in_ok-found.ensures.all
-
-pub returns-clause-starts : goal.returns-clause-starts
-returns-clause-starts c = c.in_ok-found.ensures.starts
-
-pub returns-clause-nested : goal.returns-clause-nested
-returns-clause-nested c = c.in_ok-found.ensures.nested
-
-pub returns-clause-names : goal.returns-clause-names
-returns-clause-names c = c.in_ok-found.ensures.names
+pub returns-clause-spelled : goal.returns-clause-spelled
+returns-clause-spelled c =
+    spelled_still (unit_view c.args.unit.now) c.in_ok-reader.reader c.in_ok-read.read.handler c.names.result.now c.len-spellings.result c.names.ensures.names c.in_ok-reader.ensures c.in_ok-read.ensures.told
+    c.if-reader.false c.if-reader-2.false c.in_ok-read.ensures.named (c.len-spellings.ensures ∙ c.in_ok-read.read.handler.declared.ok.0)

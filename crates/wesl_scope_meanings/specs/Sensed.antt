@@ -1,0 +1,65 @@
+-- How identifiers are read by one walk when it meets them, before it is known which names the module declares.
+use Rattle.std.specs.Prelude.{ℕ, Bool, true, false, bytes_eq, Option, Some, None, List, [], ◌∷◌, ◌++◌, if◌then◌else◌}
+use Rattle.wesl_tree_names.specs.Path.{Text}
+use Rattle.wesl_tree_syntax.specs.Unit.{name_in}
+use Rattle.wesl_scope_occurrences.specs.Occurrences.{Standing, module_name, parameter, local, reference, word}
+use Rattle.wesl_scope_occurrences.specs.Walk.{Here}
+use Rattle.wesl_scope_occurrences.specs.Events.{Event, begins, meets, opens, closes, ends}
+use Rattle.wesl_scope_open.specs.Open.{Open, unopened, stepped, read_in}
+
+-- how an identifier is read, with its number
+pub data Sense : Type 0 where
+  -- as a name of the block of this number
+  of_block : ℕ → ℕ → Sense
+  -- as a name of the module, if the module declares it, and else of none
+  of_module : ℕ → Sense
+  -- as a word
+  of_none : ℕ → Sense
+  -- by its path, which is told beside
+  by_path : ℕ → Sense
+
+-- a reference with this number, where no declaration in a function is visible or that of a block
+abbrev pub reading : ℕ → Option ℕ → Sense
+reading i (Some b) = of_block b i
+reading i None = of_module i
+
+-- an identifier with this number that stands so, where references to its name read this
+abbrev pub sense_by : Option ℕ → Here → Standing → ℕ → Sense
+sense_by read here module_name i = of_block here.block i
+sense_by read here parameter i = of_block here.block i
+sense_by read here (local e) i = of_block here.block i
+sense_by read here (reference (Some path)) i = by_path i
+sense_by read here (reference None) i = reading i (read_in here read)
+sense_by read here word i = of_none i
+
+-- what the walk knows after some events
+pub record Sensed : Type 0 where
+  pub binders : Open
+  -- the names of the imports and global declarations that were met
+  pub known : Text → Bool
+  -- how each identifier was read
+  pub senses : List Sense
+
+abbrev pub unsensed : Sensed
+unsensed = record { binders = unopened; known = λ n. false; senses = [] }
+
+-- with one more name, if it is of an import or a global declaration
+abbrev pub with_known : Standing → Text → (Text → Bool) → Text → Bool
+with_known module_name x known n = if bytes_eq x n then true else known n
+with_known _ x known n = known n
+
+module _ (names : List Text) where
+  abbrev pub sensing : Sensed → Event → Sensed
+  sensing s begins = s
+  sensing s (meets here r i) = record {
+    binders = stepped s.binders (meets here r (name_in names i));
+    known = with_known r (name_in names i) s.known;
+    senses = s.senses ++ sense_by (s.binders.reads (name_in names i)) here r i ∷ [];
+  }
+  sensing s opens = record { binders = stepped s.binders opens; known = s.known; senses = s.senses }
+  sensing s closes = record { binders = stepped s.binders closes; known = s.known; senses = s.senses }
+  sensing s (ends here i) = record { binders = stepped s.binders (ends here (name_in names i)); known = s.known; senses = s.senses }
+
+  abbrev pub sensed : Sensed → List Event → Sensed
+  sensed s [] = s
+  sensed s (e ∷ es) = sensed (sensing s e) es
