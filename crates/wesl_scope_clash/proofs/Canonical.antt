@@ -13,9 +13,8 @@ use Rattle.wesl_scope_meanings.specs.Scopes.{Key, bound, free, is_visible, binds
 use Rattle.wesl_scope_meanings.specs.Keys.{named}
 use Rattle.wesl_scope_clash.specs.Faithful.{is_global, name_of, binders_in, binders_of, AgreeOn, ReadRight, IsFaithful}
 use Rattle.wesl_scope_clash.specs.Retargeted.{unbound_as, IsUnbound, FollowMeanings, RunByFirst, IsNumberedByMeaning}
-use Rattle.wesl_scope_clash.proofs.Picked.{Picked, none, some, picked}
+use Rattle.wesl_scope_clash.proofs.Picked.{Picked, none, some, picked, all_filtered}
 use Rattle.wesl_scope_clash.proofs.Faith.{all_decides, if_decides}
-use Rattle.wesl_scope_clash.proofs.ByKeys.{all_filtered}
 
 left : (a b : Bool) → (a && b) ≡ true → a ≡ true
 left true b h = refl

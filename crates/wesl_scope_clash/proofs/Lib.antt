@@ -1,7 +1,12 @@
-pub mod Agreeing
-pub mod Faith
 pub mod Picked
-pub mod ByKeys
+pub mod Faith
+pub mod Marked
+pub mod Walked
+pub mod Along
+pub mod References
+pub mod Directed
+pub mod Verdict
+pub mod Ended
 pub mod Canonical
 mod CanonicalNumbers
 mod Fitting

@@ -1,8 +1,8 @@
 -- The binders that a name picks, and the one that it means.
 use Rattle.std.proofs.Common.{◌≡◌, ℕ, Bool, true, false, cond, List, [], ◌∷◌, map, refl, sym, ap, ap₂, ◌∙◌}
-use Rattle.std.specs.Prelude.{◌&&◌, bytes_eq, slice_get, Option, Some, None}
+use Rattle.std.specs.Prelude.{◌&&◌, bytes_eq, slice_get, Option, Some, None, if◌then◌else◌}
 use Rattle.std.proofs.lemmas.Slice.Eq.{bytes_eq-Decides}
-use Rattle.std.specs.List.{find, filter}
+use Rattle.std.specs.List.{find, filter, list_all}
 use Rattle.std.specs.Option.{option_or, option_map}
 use Rattle.wesl_tree_names.specs.Path.{Text}
 use Rattle.wesl_scope_occurrences.specs.Occurrences.{Block, Occurrence}
@@ -29,6 +29,15 @@ means_the_first names all n p [] = find_first (named names) (binds [] n p) all
 means_the_first names all n p (k ∷ b) =
     ap₂ option_or (find_first (named names) (binds (k ∷ b) n p) all) (means_the_first names all n p b)
     ∙ first_of (named names) (binders_in names all n p (k ∷ b)) (binders_of names all n p b)
+
+-- what holds of all that pass
+pub all_filtered : {X : Type 0} (p q : X → Bool) (xs : List X) → list_all q (filter p xs) ≡ list_all (λ x. if p x then q x else true) xs
+all_filtered p q [] = refl
+all_filtered p q (x ∷ xs) = by (p x) (all_filtered p q xs)
+  where
+    by : (t : Bool) → list_all q (filter p xs) ≡ list_all (λ y. if p y then q y else true) xs → list_all q (cond t (x ∷ filter p xs) (filter p xs)) ≡ ((if t then q x else true) && list_all (λ y. if p y then q y else true) xs)
+    by true e = ap (λ r. q x && r) e
+    by false e = e
 
 -- ---- what is picked, where a binder is meant and where none is
 -- what of a list passes a test: nothing, or some, of which the first is found

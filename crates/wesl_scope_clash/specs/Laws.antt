@@ -18,7 +18,9 @@ TestsFaith = (u : UnitView) → Decides (is_faithful u) (IsFaithful u)
 
 -- the binder that a name means is the first of those that it picks
 abbrev pub MeansTheFirst : Type 0
-MeansTheFirst = (names : List Text) (all : List (Occurrence ℕ)) (n : Text) (p : ℕ) (b : Block) → binder_of (map (named names) all) n p b ≡ option_map (named names) (slice_get (binders_of names all n p b) 0)
+MeansTheFirst =
+    (names : List Text) (all : List (Occurrence ℕ)) (n : Text) (p : ℕ) (b : Block)
+    → binder_of (map (named names) all) n p b ≡ option_map (named names) (slice_get (binders_of names all n p b) 0)
 
 -- canonical numbers of plain scoping make a module faithful
 abbrev pub CanonicalIsFaithful : Type 0

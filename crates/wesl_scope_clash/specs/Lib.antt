@@ -1,9 +1,10 @@
 pub mod Faithful
 pub mod Test
-pub mod Agreement
+pub mod Judging
+pub mod Judges
+pub mod Begun
 pub mod Retargeted
 pub mod Laws
-pub mod ByEntries
 pub mod Canonical
 pub mod NumberLaws
 pub mod Leaves

@@ -23,7 +23,8 @@ module _ (names : List Text) (all : List (Occurrence ℕ)) where
     -- binders of one number stand in one block
     pub one_block : All (λ a. is_binder a.role ≡ true → All (λ b. is_binder b.role ≡ true → a.name ≡ b.name → a.block ≡ b.block) all) all
     -- binders of one block of a function that are spelled alike have one number
-    pub one_number : All (λ a. is_binder a.role ≡ true → is_global a ≡ false → All (λ b. is_binder b.role ≡ true → a.block ≡ b.block → name_of names all a ≡ name_of names all b → a.name ≡ b.name) all) all
+    pub one_number :
+        All (λ a. is_binder a.role ≡ true → is_global a ≡ false → All (λ b. is_binder b.role ≡ true → a.block ≡ b.block → name_of names all a ≡ name_of names all b → a.name ≡ b.name) all) all
     -- no binder has the number of a word or of a reference with a path
     pub words_unbound : All (λ o. is_binder o.role ≡ false → is_unqualified o.role ≡ false → IsUnbound o) all
     -- identifiers whose numbers no binder has have one number exactly where they mean one thing

@@ -4,9 +4,8 @@
 #![tactic(auto)]
 
 mod agreed;
-mod agreements;
 mod by_meaning;
-mod judged;
+mod judge;
 mod laws;
 mod number_laws;
 mod numbers;
