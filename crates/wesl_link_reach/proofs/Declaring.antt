@@ -88,20 +88,20 @@ module _ {P N : Type 0} (t : Table P N) where
   declaring_all ds es i to e b g = subst (λ (xs : List (Declaration P N)). Gains [] to (IsDeclaredAmong t xs)) (take_all i ds b ∙ e) g
 
 module _ {P N : Type 0} {hands : P → Table P N → Type 0} {ready : P → Type 0} {root : Table P N} {task : Task P N} {limit : ℕ} {others : List (Table P N)} {ss : List (Symbol P N)} {places : List (P × ℕ)}
-    {answers : List (LookUp P N × Symbol P N)} (t : Table P N) where
-  pub import_entered : IsSoundIn hands ready root task limit others ss places answers → task.is_eager ≡ true → Contains (root ∷ others) t → (paths : List P) → paths ≡ map (λ i. i.path) t.imports
+    {answers steps : List (LookUp P N × Symbol P N)} (t : Table P N) where
+  pub import_entered : IsSoundIn hands ready root task limit others ss places answers steps → task.is_eager ≡ true → Contains (root ∷ others) t → (paths : List P) → paths ≡ map (λ i. i.path) t.imports
       → (p : P) → Contains paths p → Entered (root ∷ others) task p
   import_entered s eager held paths e p h =
       let (i, in_t, is) = contains_map (λ (x : Import P N). x.path) t.imports p (subst (λ (xs : List P). Contains xs p) e h) in
       imported t.path p t i eager (s.entered t held) (held, refl) in_t is
 
-  pub import_can : IsSoundIn hands ready root task limit others ss places answers → Contains (root ∷ others) t → (paths : List P) → paths ≡ map (λ i. i.path) t.imports
+  pub import_can : IsSoundIn hands ready root task limit others ss places answers steps → Contains (root ∷ others) t → (paths : List P) → paths ≡ map (λ i. i.path) t.imports
       → (p : P) → Contains paths p → CanEnter ready (root ∷ others) p
   import_can s held paths e p h =
       let (i, in_t, is) = contains_map (λ (x : Import P N). x.path) t.imports p (subst (λ (xs : List P). Contains xs p) e h) in
       inl (subst (λ (q : P). ready q) is ((s.asks_ready t held).imports i in_t))
 
-  pub symbol_reached : IsSoundIn hands ready root task limit others ss places answers → task.is_eager ≡ true → Contains (root ∷ others) t → (xs : List (Symbol P N)) → Gains [] xs (IsDeclaredAmong t t.declarations)
+  pub symbol_reached : IsSoundIn hands ready root task limit others ss places answers steps → task.is_eager ≡ true → Contains (root ∷ others) t → (xs : List (Symbol P N)) → Gains [] xs (IsDeclaredAmong t t.declarations)
       → (x : Symbol P N) → Contains xs x → Reached (root ∷ others) task x
   symbol_reached s eager held xs g x h = elim (g.only x h) [
     | inl before ↦ absurd (contains_nil x before)

@@ -7,6 +7,8 @@ pub mod Settled
 pub mod Asking
 pub mod Clashing
 pub mod Growing
+pub mod Treading
+pub mod Noting
 pub mod Steps
 pub mod Placing
 pub mod Following

@@ -16,7 +16,9 @@ use Rattle.wesl_link_reach.specs.Loading.{ArePlaced, IsSoundIn}
 use Rattle.wesl_link_symbols.proofs.Lists.{contains_nil, contains_first, contains_later}
 use Rattle.wesl_link_reach.proofs.Lists.{contains_one, contains_map, length_map, last_place, place_kept}
 use Rattle.wesl_link_reach.proofs.Growth.{at_more, leads_more, entered_more, reached_more}
-use Rattle.wesl_link_reach.proofs.Growing.{within_push, distinct_push, all_of}
+use Rattle.wesl_link_reach.specs.Trodden.{AreTrodden}
+use Rattle.wesl_link_reach.proofs.Growing.{within_itself, within_push, distinct_push, all_of}
+use Rattle.wesl_link_reach.proofs.Treading.{trodden_more}
 
 map_append : {X Y : Type 0} (h : X → Y) (xs ys : List X) → map h (xs ++ ys) ≡ map h xs ++ map h ys
 map_append h [] ys = refl
@@ -56,13 +58,14 @@ module _ {P N : Type 0} where
 
   -- a link begins with the root alone
   pub sound_start : (hands : P → Table P N → Type 0) (ready : P → Type 0) (root : Table P N) (task : Task P N) (limit : ℕ) (others : List (Table P N)) (ss : List (Symbol P N))
-      (places : List (P × ℕ)) (answers : List (LookUp P N × Symbol P N)) → others ≡ [] → ss ≡ [] → places ≡ [] → answers ≡ []
-      → task.root ≡ root.path → IsAdmitted root → IsReady ready root → 0 < limit → IsSoundIn hands ready root task limit others ss places answers
-  sound_start hands ready root task limit others ss places answers e f g h root_is admitted can room =
-      subst (λ (xs : List (Table P N)). IsSoundIn hands ready root task limit xs ss places answers) (sym e)
-      (subst (λ (xs : List (Symbol P N)). IsSoundIn hands ready root task limit [] xs places answers) (sym f)
-      (subst (λ (xs : List (P × ℕ)). IsSoundIn hands ready root task limit [] [] xs answers) (sym g)
-      (subst (λ (xs : List (LookUp P N × Symbol P N)). IsSoundIn hands ready root task limit [] [] [] xs) (sym h) record {
+      (places : List (P × ℕ)) (answers steps : List (LookUp P N × Symbol P N)) → others ≡ [] → ss ≡ [] → places ≡ [] → answers ≡ [] → steps ≡ []
+      → task.root ≡ root.path → IsAdmitted root → IsReady ready root → 0 < limit → IsSoundIn hands ready root task limit others ss places answers steps
+  sound_start hands ready root task limit others ss places answers steps e f g h j root_is admitted can room =
+      subst (λ (xs : List (Table P N)). IsSoundIn hands ready root task limit xs ss places answers steps) (sym e)
+      (subst (λ (xs : List (Symbol P N)). IsSoundIn hands ready root task limit [] xs places answers steps) (sym f)
+      (subst (λ (xs : List (P × ℕ)). IsSoundIn hands ready root task limit [] [] xs answers steps) (sym g)
+      (subst (λ (xs : List (LookUp P N × Symbol P N)). IsSoundIn hands ready root task limit [] [] [] xs steps) (sym h)
+      (subst (λ (xs : List (LookUp P N × Symbol P N)). IsSoundIn hands ready root task limit [] [] [] [] xs) (sym j) record {
         root_is = root_is;
         world = world_alone hands root;
         admitted = λ t h. subst (λ (x : Table P N). IsAdmitted x) (contains_one root t h) admitted;
@@ -75,7 +78,8 @@ module _ {P N : Type 0} where
         reached = λ s h. absurd (contains_nil s h);
         at = λ s h. absurd (contains_nil s h);
         answered = λ l s h. absurd (contains_nil (l, s) h);
-      })))
+        trodden = λ k l s h. cc;
+      }))))
 
   placed_more : (root : Table P N) (others : List (Table P N)) (places places2 : List (P × ℕ)) (added : Table P N) (n : ℕ) → n ≡ length others → ArePlaced others places → ((x : Table P N) → IsAt (root ∷ others) added.path x → ⊥)
       → Puts places added.path n places2 → ArePlaced (others ++ added ∷ []) places2
@@ -94,10 +98,10 @@ module _ {P N : Type 0} where
   }
 
 module _ {P N : Type 0} {hands : P → Table P N → Type 0} {ready : P → Type 0} {root : Table P N} {task : Task P N} {limit : ℕ}
-    {others : List (Table P N)} {ss : List (Symbol P N)} {places : List (P × ℕ)} {answers : List (LookUp P N × Symbol P N)} where
+    {others : List (Table P N)} {ss : List (Symbol P N)} {places : List (P × ℕ)} {answers steps : List (LookUp P N × Symbol P N)} where
   -- as the loader learns more
   pub sound_later : {E : Type 0} (hands2 : P → Table P N → Type 0) (ready2 : P → Type 0) (refuses refuses2 : P → E → Type 0) → OnlyAdds hands refuses ready hands2 refuses2 ready2
-      → IsSoundIn hands ready root task limit others ss places answers → IsSoundIn hands2 ready2 root task limit others ss places answers
+      → IsSoundIn hands ready root task limit others ss places answers steps → IsSoundIn hands2 ready2 root task limit others ss places answers steps
   sound_later hands2 ready2 refuses refuses2 adds s = record {
     root_is = s.root_is;
     world = record {
@@ -118,13 +122,14 @@ module _ {P N : Type 0} {hands : P → Table P N → Type 0} {ready : P → Type
     reached = s.reached;
     at = s.at;
     answered = s.answered;
+    trodden = s.trodden;
   }
 
   -- one more module
-  pub sound_table : (places2 : List (P × ℕ)) (added : Table P N) (n : ℕ) → n ≡ length others → IsSoundIn hands ready root task limit others ss places answers
+  pub sound_table : (places2 : List (P × ℕ)) (added : Table P N) (n : ℕ) → n ≡ length others → IsSoundIn hands ready root task limit others ss places answers steps
       → hands added.path added → IsReady ready added → Entered (root ∷ others) task added.path → ((x : Table P N) → IsAt (root ∷ others) added.path x → ⊥)
       → length (root ∷ others) < limit → IsAdmitted added → Puts places added.path n places2
-      → IsSoundIn hands ready root task limit (others ++ added ∷ []) ss places2 answers
+      → IsSoundIn hands ready root task limit (others ++ added ∷ []) ss places2 answers steps
   sound_table places2 added n is s given can entered absent room admitted put =
       let more : Within (root ∷ others) (root ∷ others ++ added ∷ []) = within_push (root ∷ others) added in
       record {
@@ -144,13 +149,14 @@ module _ {P N : Type 0} {hands : P → Table P N → Type 0} {ready : P → Type
         reached = λ x h. reached_more more x (s.reached x h);
         at = λ x h. (let (t, at) = s.at x h in (t, at_more more x.path t at));
         answered = λ l x h. (leads_more more l x (s.answered l x h).0, (s.answered l x h).1);
+        trodden = trodden_more more (λ x h. h) s.trodden;
       }
 
   -- one more reached symbol
-  pub sound_symbol : (ss2 : List (Symbol P N)) (added : Symbol P N) → IsSoundIn hands ready root task limit others ss places answers → Reached (root ∷ others) task added
-      → ((t : Table P N) × IsAt (root ∷ others) added.path t) → PutsKey ss added ss2 → IsSoundIn hands ready root task limit others ss2 places answers
-  sound_symbol ss2 added s reached place (inl (there, e)) = subst (λ (xs : List (Symbol P N)). IsSoundIn hands ready root task limit others xs places answers) (sym e) s
-  sound_symbol ss2 added s reached place (inr (new, e)) = subst (λ (xs : List (Symbol P N)). IsSoundIn hands ready root task limit others xs places answers) (sym e) record {
+  pub sound_symbol : (ss2 : List (Symbol P N)) (added : Symbol P N) → IsSoundIn hands ready root task limit others ss places answers steps → Reached (root ∷ others) task added
+      → ((t : Table P N) × IsAt (root ∷ others) added.path t) → PutsKey ss added ss2 → IsSoundIn hands ready root task limit others ss2 places answers steps
+  sound_symbol ss2 added s reached place (inl (there, e)) = subst (λ (xs : List (Symbol P N)). IsSoundIn hands ready root task limit others xs places answers steps) (sym e) s
+  sound_symbol ss2 added s reached place (inr (new, e)) = subst (λ (xs : List (Symbol P N)). IsSoundIn hands ready root task limit others xs places answers steps) (sym e) record {
     root_is = s.root_is;
     world = s.world;
     admitted = s.admitted;
@@ -163,11 +169,12 @@ module _ {P N : Type 0} {hands : P → Table P N → Type 0} {ready : P → Type
     reached = λ x h. elim (Contains-push_cases ss added x h) [ inl k ↦ s.reached x k | inr f ↦ subst (λ (y : Symbol P N). Reached (root ∷ others) task y) f reached ];
     at = λ x h. elim (Contains-push_cases ss added x h) [ inl k ↦ s.at x k | inr f ↦ subst (λ (y : Symbol P N). (t : Table P N) × IsAt (root ∷ others) y.path t) f place ];
     answered = λ l x h. ((s.answered l x h).0, Contains-append_left ss (added ∷ []) x (s.answered l x h).1);
+    trodden = trodden_more (within_itself (root ∷ others)) (Contains-append_left ss (added ∷ [])) s.trodden;
   }
 
   -- one more answer
-  pub sound_answer : (answers2 : List (LookUp P N × Symbol P N)) (l : LookUp P N) (x : Symbol P N) → IsSoundIn hands ready root task limit others ss places answers
-      → LeadsTo (root ∷ others) l x → Contains ss x → Puts answers l x answers2 → IsSoundIn hands ready root task limit others ss places answers2
+  pub sound_answer : (answers2 : List (LookUp P N × Symbol P N)) (l : LookUp P N) (x : Symbol P N) → IsSoundIn hands ready root task limit others ss places answers steps
+      → LeadsTo (root ∷ others) l x → Contains ss x → Puts answers l x answers2 → IsSoundIn hands ready root task limit others ss places answers2 steps
   sound_answer answers2 l x s leads held put = record {
     root_is = s.root_is;
     world = s.world;
@@ -185,10 +192,30 @@ module _ {P N : Type 0} {hands : P → Table P N → Type 0} {ready : P → Type
           (subst (λ (z : Symbol P N). LeadsTo (root ∷ others) l z × Contains ss z) (sym both.1) (leads, held))
       | inr both ↦ s.answered m y both.1
     ];
+    trodden = s.trodden;
+  }
+
+  -- other steps
+  pub sound_steps : (steps2 : List (LookUp P N × Symbol P N)) → IsSoundIn hands ready root task limit others ss places answers steps → AreTrodden (root ∷ others) ss steps2
+      → IsSoundIn hands ready root task limit others ss places answers steps2
+  sound_steps steps2 s trodden = record {
+    root_is = s.root_is;
+    world = s.world;
+    admitted = s.admitted;
+    distinct = s.distinct;
+    asks_ready = s.asks_ready;
+    entered = s.entered;
+    room = s.room;
+    placed = s.placed;
+    once = s.once;
+    reached = s.reached;
+    at = s.at;
+    answered = s.answered;
+    trodden = trodden;
   }
 
   -- two binders with different targets stand as a fault
-  pub clash_refused : {E : Type 0} (refuses : P → E → Type 0) (added : Table P N) (n : N) → IsSoundIn hands ready root task limit others ss places answers → hands added.path added
+  pub clash_refused : {E : Type 0} (refuses : P → E → Type 0) (added : Table P N) (n : N) → IsSoundIn hands ready root task limit others ss places answers steps → hands added.path added
       → Entered (root ∷ others) task added.path → ((x : Table P N) → IsAt (root ∷ others) added.path x → ⊥) → Clashes added n → Explained hands refuses root task limit (duplicate n)
   clash_refused refuses added n s given entered absent clash = (
     root ∷ others ++ added ∷ [],
@@ -197,7 +224,7 @@ module _ {P N : Type 0} {hands : P → Table P N → Type 0} {ready : P → Type
   )
 
   -- a module with a split name and many flags stands as a fault
-  pub crowd_refused : {E : Type 0} (refuses : P → E → Type 0) (added : Table P N) → IsSoundIn hands ready root task limit others ss places answers → hands added.path added
+  pub crowd_refused : {E : Type 0} (refuses : P → E → Type 0) (added : Table P N) → IsSoundIn hands ready root task limit others ss places answers steps → hands added.path added
       → Entered (root ∷ others) task added.path → ((x : Table P N) → IsAt (root ∷ others) added.path x → ⊥) → added.is_crowded ≡ true → Explained hands refuses root task limit (too_many_flags added.path)
   crowd_refused refuses added s given entered absent crowded = (
     root ∷ others ++ added ∷ [],
@@ -206,7 +233,7 @@ module _ {P N : Type 0} {hands : P → Table P N → Type 0} {ready : P → Type
   )
 
   -- the modules and one more entered path are more than may be loaded
-  pub limit_refused : {E : Type 0} (refuses : P → E → Type 0) (p : P) → IsSoundIn hands ready root task limit others ss places answers → Entered (root ∷ others) task p
+  pub limit_refused : {E : Type 0} (refuses : P → E → Type 0) (p : P) → IsSoundIn hands ready root task limit others ss places answers steps → Entered (root ∷ others) task p
       → ((x : Table P N) → IsAt (root ∷ others) p x → ⊥) → limit ≤ length (root ∷ others) → Explained hands refuses root task limit (too_many limit)
   limit_refused refuses p s entered absent full =
       let unknown : Contains (paths (root ∷ others)) p → ⊥ = λ h. (let (t, at) = table_of_path (root ∷ others) p h in absent t at) in
@@ -224,7 +251,7 @@ module _ {P N : Type 0} {hands : P → Table P N → Type 0} {ready : P → Type
       )
 
   -- no module at an entered path, and the loader refuses it
-  pub refusal_refused : {E : Type 0} (refuses : P → E → Type 0) (p : P) (e : E) → IsSoundIn hands ready root task limit others ss places answers → Entered (root ∷ others) task p
+  pub refusal_refused : {E : Type 0} (refuses : P → E → Type 0) (p : P) (e : E) → IsSoundIn hands ready root task limit others ss places answers steps → Entered (root ∷ others) task p
       → ((x : Table P N) → IsAt (root ∷ others) p x → ⊥) → refuses p e → Explained hands refuses root task limit (refused e)
   refusal_refused refuses p e s entered absent is = (root ∷ others, s.world, (p, entered, absent, is))
 

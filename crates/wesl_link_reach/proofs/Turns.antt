@@ -24,28 +24,28 @@ use Rattle.wesl_link_reach.proofs.Settled.{entered_at, reached_held, no_fault}
 -- ---- what a module and a symbol ask for
 
 module _ {P N : Type 0} {hands : P → Table P N → Type 0} {ready : P → Type 0} {root : Table P N} {task : Task P N} {limit : ℕ} {others : List (Table P N)} {ss : List (Symbol P N)} {places : List (P × ℕ)}
-    {answers : List (LookUp P N × Symbol P N)} where
+    {answers steps : List (LookUp P N × Symbol P N)} where
   -- what a loaded module asks for may be asked
-  pub asked_can : (t : Table P N) (name : Option N) (l : LookUp P N) → IsSoundIn hands ready root task limit others ss places answers → Contains (root ∷ others) t → AsksFrom t name l
+  pub asked_can : (t : Table P N) (name : Option N) (l : LookUp P N) → IsSoundIn hands ready root task limit others ss places answers steps → Contains (root ∷ others) t → AsksFrom t name l
       → CanEnter ready (root ∷ others) l.path
   asked_can t name l s held (r, (d, in_table, named, in_d), is) =
       inl (subst (λ (x : LookUp P N). ready x.path) (sym is) ((s.asks_ready t held).references d r in_table in_d))
 
-  pub module_followed : (t : Table P N) (l : LookUp P N) → IsSoundIn hands ready root task limit others ss places answers → Contains (root ∷ others) t → AsksFrom t None l → Followed (root ∷ others) task l
+  pub module_followed : (t : Table P N) (l : LookUp P N) → IsSoundIn hands ready root task limit others ss places answers steps → Contains (root ∷ others) t → AsksFrom t None l → Followed (root ∷ others) task l
   module_followed t l s held asks = by_assert t.path t l (s.entered t held) (held, refl) asks
 
-  pub symbol_followed : (x : Symbol P N) (t : Table P N) (l : LookUp P N) → IsSoundIn hands ready root task limit others ss places answers → Contains ss x → IsAt (root ∷ others) x.path t
+  pub symbol_followed : (x : Symbol P N) (t : Table P N) (l : LookUp P N) → IsSoundIn hands ready root task limit others ss places answers steps → Contains ss x → IsAt (root ∷ others) x.path t
       → AsksFrom t (Some x.name) l → Followed (root ∷ others) task l
   symbol_followed x t l s held at asks = by_symbol x t l (s.reached x held) at asks
 
 module _ {P N E : Type 0} {hands : P → Table P N → Type 0} {ready : P → Type 0} {root : Table P N} {task : Task P N} {limit : ℕ} {others : List (Table P N)} {ss : List (Symbol P N)} {places : List (P × ℕ)}
-    {answers : List (LookUp P N × Symbol P N)} (refuses : P → E → Type 0) where
+    {answers steps : List (LookUp P N × Symbol P N)} (refuses : P → E → Type 0) where
   -- a name that stands for two things where it is used stands as a fault
-  pub module_unclear : (t : Table P N) (n : N) → IsSoundIn hands ready root task limit others ss places answers → Contains (root ∷ others) t → IsUnclearFrom t None n
+  pub module_unclear : (t : Table P N) (n : N) → IsSoundIn hands ready root task limit others ss places answers steps → Contains (root ∷ others) t → IsUnclearFrom t None n
       → Explained hands refuses root task limit (ambiguous n)
   module_unclear t n s held unclear = (root ∷ others, s.world, inl (t, held, s.entered t held, unclear))
 
-  pub symbol_unclear : (x : Symbol P N) (t : Table P N) (n : N) → IsSoundIn hands ready root task limit others ss places answers → Contains ss x → IsAt (root ∷ others) x.path t
+  pub symbol_unclear : (x : Symbol P N) (t : Table P N) (n : N) → IsSoundIn hands ready root task limit others ss places answers steps → Contains ss x → IsAt (root ∷ others) x.path t
       → IsUnclearFrom t (Some x.name) n → Explained hands refuses root task limit (ambiguous n)
   symbol_unclear x t n s held at unclear = (root ∷ others, s.world, inr (inl (x, t, s.reached x held, at, unclear)))
 

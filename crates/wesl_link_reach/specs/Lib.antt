@@ -1,3 +1,4 @@
+pub mod Trodden
 pub mod World
 pub mod Asked
 pub mod Loader

@@ -14,6 +14,8 @@ use Rattle.wesl_link_reach.specs.World.{IsAt, IsWorld, Finds, LeadsTo, Reaches, 
 use Rattle.wesl_link_reach.specs.Faults.{IsAdmitted, AreDistinct}
 use Rattle.wesl_link_reach.specs.Linking.{task_of, paths}
 use Rattle.wesl_link_reach.specs.Loader.{IsReady}
+use Rattle.wesl_link_reach.specs.Trodden.{AreTrodden, TroddenSteps}
+pub use Rattle.wesl_link_reach.specs.Trodden.{symbol_of}
 
 -- the list goes on from where it was
 abbrev pub GoesOn : {X : Type 0} → List X → List X → Type 0
@@ -24,9 +26,10 @@ pub record ArePlaced {P N : Type 0} (others : List (Table P N)) (places : List (
   pub found : (p : P) (k : ℕ) → Contains places (p, k) → (t : Table P N) × (slice_get others k ≡ Some t) × (t.path ≡ p)
   pub indexed : (t : Table P N) → Contains others t → (k : ℕ) × Contains places (t.path, k)
 
--- The modules make a world of entered paths, the symbols are reached, and the answers are what their look-ups lead to.
+-- The modules make a world of entered paths, the symbols are reached, and the answers are what their look-ups lead to, as
+-- the steps do that were trodden.
 pub record IsSoundIn {P N : Type 0} (hands : P → Table P N → Type 0) (ready : P → Type 0) (root : Table P N) (task : Task P N) (limit : ℕ)
-    (others : List (Table P N)) (ss : List (Symbol P N)) (places : List (P × ℕ)) (answers : List (LookUp P N × Symbol P N)) : Type 0 where
+    (others : List (Table P N)) (ss : List (Symbol P N)) (places : List (P × ℕ)) (answers steps : List (LookUp P N × Symbol P N)) : Type 0 where
   pub root_is : task.root ≡ root.path
   pub world : IsWorld hands root (root ∷ others)
   pub admitted : (t : Table P N) → Contains (root ∷ others) t → IsAdmitted t
@@ -39,6 +42,7 @@ pub record IsSoundIn {P N : Type 0} (hands : P → Table P N → Type 0) (ready 
   pub reached : (s : Symbol P N) → Contains ss s → Reached (root ∷ others) task s
   pub at : (s : Symbol P N) → Contains ss s → (t : Table P N) × IsAt (root ∷ others) s.path t
   pub answered : (l : LookUp P N) (s : Symbol P N) → Contains answers (l, s) → LeadsTo (root ∷ others) l s × Contains ss s
+  pub trodden : AreTrodden (root ∷ others) ss steps
 
 module _ {P N : Type 0} where
   -- it has an answer
@@ -52,9 +56,6 @@ module _ {P N : Type 0} where
   -- a walk of a followed look-up comes to it for the first time
   abbrev pub IsWalked : List (Table P N) → Task P N → LookUp P N → Type 0
   IsWalked w task l = (start : LookUp P N) × Followed w task start × Reaches w start l
-
-  abbrev pub symbol_of : LookUp P N → Symbol P N
-  symbol_of l = record { path = l.path; name = l.name }
 
   -- it is found where it asks, and its symbol is held
   abbrev pub HasFound : List (Table P N) → List (Symbol P N) → LookUp P N → Type 0
@@ -102,6 +103,10 @@ world_of r s = r.root ∷ s.others.items
 abbrev pub task_at : Request → Task PathId NameId
 task_at r = task_of r.root r.kept.items r.is_eager
 
+-- the same with other steps
+abbrev pub with_trodden : Loaded → TroddenSteps PathId NameId → Loaded
+with_trodden s steps = record s { trodden = steps }
+
 -- the path has a module
 abbrev pub IsLoaded : Request → Loaded → PathId → Type 0
 IsLoaded r s p = (t : Table PathId NameId) × IsAt (world_of r s) p t
@@ -115,13 +120,14 @@ abbrev pub HoldsAtPlace : Request → Loaded → ℕ → (Table PathId NameId �
 HoldsAtPlace r s place Q = (t : Table PathId NameId) × (slice_get (world_of r s) place ≡ Some t) × Q t
 
 abbrev pub IsSound : (PathId → Table PathId NameId → Type 0) → (PathId → Type 0) → Request → Loaded → Type 0
-IsSound hands ready r s = IsSoundIn hands ready r.root (task_at r) r.max_modules s.others.items s.symbols.keys s.places.entries s.answers.entries
+IsSound hands ready r s = IsSoundIn hands ready r.root (task_at r) r.max_modules s.others.items s.symbols.keys s.places.entries s.answers.entries s.trodden.steps
 
--- modules and symbols were added at the end, and answers were added
+-- modules, symbols and steps were added at the end, and answers were added
 pub record Grows (from to : Loaded) : Type 0 where
   pub modules : GoesOn from.others.items to.others.items
   pub symbols : GoesOn from.symbols.keys to.symbols.keys
   pub answers : (l : LookUp PathId NameId) → IsAnswered from.answers.entries l → IsAnswered to.answers.entries l
+  pub steps : GoesOn from.trodden.steps to.trodden.steps
 
 -- a kept name is asked for from outside
 abbrev pub kept_look_up : PathId → NameId → LookUp PathId NameId

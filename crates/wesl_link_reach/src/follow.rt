@@ -1,18 +1,21 @@
 //! Following look-ups from module to module.
-ghost use Rattle.std.specs.Prelude.{◌≡◌, ◌↔◌, Some, IsTrue, IfSome, IfNone, IfOk, OnOk, IfErr, Contains};
+ghost use Rattle.std.specs.Prelude.{◌≡◌, reverse, Some, IfSome, IfNone, IfOk, OnOk, IfErr, Contains};
 ghost use Rattle.wesl_link_symbols.specs.declared.ids.PathId.{PathId};
 ghost use Rattle.wesl_tree_base.specs.declared.ids.NameId.{NameId};
 ghost use Rattle.wesl_link_symbols.specs.declared.symbols.LookUp.{LookUp};
-ghost use Rattle.wesl_link_reach.specs.World.{Hops, HasMet, Followed};
+ghost use Rattle.wesl_link_reach.specs.World.{Hops, HasMet, Followed, LeadsTo, Walk};
 ghost use Rattle.wesl_link_symbols.specs.Names.{Answers};
-ghost use Rattle.wesl_link_reach.specs.Loading.{Grows, ArePlaced, IsAnswered, IsWalked, HasFound, HoldsAtPath, IsLoaded, world_of, task_at};
+ghost use Rattle.wesl_link_reach.specs.Loading.{Grows, ArePlaced, IsAnswered, IsWalked, HasFound, HoldsAtPath, GoesOn, IsLoaded, with_trodden, world_of, task_at};
+ghost use Rattle.wesl_link_reach.specs.Trodden.{AreTrodden, IsOnWay, symbol_of};
 ghost use Rattle.wesl_link_reach.specs.OverLoader.{LoaderAdds, IsSoundOver, CanLoad, RefusesRequest};
 
 use crate::error::LinkError;
 use crate::load::load;
 use crate::loader::Loader;
 use crate::request::{Loaded, Request, loaded_table};
-use std::alloc::Global;
+use crate::trail::Trail;
+use crate::trodden::question;
+use std::alloc::{AllocError, Global};
 use wesl_link_symbols::ids::{NameId, PathId};
 use wesl_link_symbols::keyed;
 use wesl_link_symbols::symbols::{Answer, LookUp, Symbol};
@@ -69,18 +72,6 @@ fn hop<E, L: Loader<E>>(
     }
 }
 
-/// Whether the same question stands in the trail.
-fn met(trail: &[LookUp<PathId, NameId>], look_up: LookUp<PathId, NameId>) -> bool
-    ensures { IsTrue result ↔ HasMet trail.now look_up }
-{
-    for earlier in trail {
-        if earlier.path == look_up.path && earlier.name == look_up.name {
-            return true;
-        }
-    }
-    false
-}
-
 /// Follows a look-up to the symbol that it leads to, and keeps that as its answer.
 pub fn follow<E, L: Loader<E>>(
     alloc: Global,
@@ -104,6 +95,53 @@ pub fn follow<E, L: Loader<E>>(
     }
 }
 
+/// Keeps what each look-up of a trail leads to, from its end.
+fn tread_back(
+    request: &Request,
+    loaded: &mut Loaded,
+    start: LookUp<PathId, NameId>,
+    trail: &mut Vec<LookUp<PathId, NameId>>,
+    symbol: Symbol<PathId, NameId>,
+) -> Result<(), AllocError>
+    requires trodden { AreTrodden (world_of request.now loaded.old) loaded.old.symbols.keys loaded.old.trodden.steps }
+    requires way { IsOnWay (world_of request.now loaded.old) loaded.old.symbols.keys loaded.old.trodden.steps start trail.old.items symbol }
+    ensures rest { loaded.new ≡ with_trodden loaded.old loaded.new.trodden }
+    ensures trodden { OnOk result (AreTrodden (world_of request.now loaded.old) loaded.old.symbols.keys loaded.new.trodden.steps) }
+    ensures more { OnOk result (GoesOn loaded.old.trodden.steps loaded.new.trodden.steps) }
+    ensures leads { OnOk result (LeadsTo (world_of request.now loaded.old) start symbol) }
+{
+    'back: while let Some(look_up) = trail.pop() {
+        loaded.trodden.put(look_up, symbol)?;
+    }
+    Ok(())
+}
+
+/// The same where the trail ends at a look-up that is found where it asks. A look-up that no other came by is not kept.
+fn tread(
+    request: &Request,
+    loaded: &mut Loaded,
+    start: LookUp<PathId, NameId>,
+    trail: &mut Vec<LookUp<PathId, NameId>>,
+    current: LookUp<PathId, NameId>,
+) -> Result<(), AllocError>
+    requires trodden { AreTrodden (world_of request.now loaded.old) loaded.old.symbols.keys loaded.old.trodden.steps }
+    requires walk { Walk (world_of request.now loaded.old) start (reverse trail.old.items) current }
+    requires fresh { HasMet (reverse trail.old.items) current → ⊥ }
+    requires found { HasFound (world_of request.now loaded.old) loaded.old.symbols.keys current }
+    ensures rest { loaded.new ≡ with_trodden loaded.old loaded.new.trodden }
+    ensures trodden { OnOk result (AreTrodden (world_of request.now loaded.old) loaded.old.symbols.keys loaded.new.trodden.steps) }
+    ensures more { OnOk result (GoesOn loaded.old.trodden.steps loaded.new.trodden.steps) }
+    ensures leads { OnOk result (LeadsTo (world_of request.now loaded.old) start (symbol_of current)) }
+{
+    if trail.is_empty() {
+        return Ok(());
+    }
+    let symbol = question(current);
+    loaded.trodden.put(current, symbol)?;
+    tread_back(request, loaded, start, trail, symbol)?;
+    Ok(())
+}
+
 /// Follows a look-up that has no answer.
 fn follow_new<E, L: Loader<E>>(
     alloc: Global,
@@ -121,23 +159,26 @@ fn follow_new<E, L: Loader<E>>(
     ensures refused { IfErr result (RefusesRequest L.Loader loader.new request.now) }
     ensures adds { LoaderAdds L.Loader loader.old loader.new }
 {
-    let mut trail: Vec<LookUp<PathId, NameId>> = Vec::new(alloc);
+    let mut trail = Trail::new(alloc, loaded.trodden.len());
     let mut current = start;
     'hops: loop {
-        if met(&trail, current) {
+        let asked = question(current);
+        if trail.questions.has(asked) {
             return Err(LinkError::MissingDecl(current.path, current.name));
+        }
+        if let Some(symbol) = loaded.trodden.before(current, trail.bound) {
+            tread_back(request, loaded, start, &mut trail.asked, symbol)?;
+            keyed::put(&mut loaded.answers, start, symbol)?;
+            return Ok(());
         }
         match hop(alloc, request, loaded, loader, current)? {
             Some(next) => {
-                trail.push(current)?;
+                trail.push(&loaded.trodden, current)?;
                 current = next;
             }
             None => {
-                let symbol = Symbol {
-                    path: current.path,
-                    name: current.name,
-                };
-                keyed::put(&mut loaded.answers, start, symbol)?;
+                tread(request, loaded, start, &mut trail.asked, current)?;
+                keyed::put(&mut loaded.answers, start, asked)?;
                 return Ok(());
             }
         }

@@ -12,3 +12,5 @@ mod names;
 mod reached;
 mod request;
 mod run;
+mod trail;
+mod trodden;

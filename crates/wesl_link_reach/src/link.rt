@@ -143,6 +143,7 @@ fn link<E, L: Loader<E>>(
         places: _,
         symbols,
         answers,
+        trodden: _,
     } = loaded;
     Ok(Linked {
         tables,

@@ -7,6 +7,7 @@ ghost use Rattle.wesl_link_reach.specs.World.{IsAt};
 ghost use Rattle.wesl_link_reach.specs.Loading.{ArePlaced, world_of};
 
 use crate::reached::Symbols;
+use crate::trodden::Trodden;
 use std::alloc::Global;
 use std::collections::HashMap;
 use wesl_link_symbols::ids::{NameId, PathId};
@@ -32,6 +33,8 @@ pub struct Loaded {
     pub symbols: Symbols,
     /// What each look-up that was followed leads to.
     pub answers: HashMap<LookUp<PathId, NameId>, Symbol<PathId, NameId>>,
+    /// What the look-ups lead to that others came by.
+    pub trodden: Trodden,
 }
 
 /// Nothing beside the root.
@@ -40,12 +43,14 @@ pub fn begin(alloc: Global) -> Loaded
     ensures places { result.places.entries ≡ [] }
     ensures symbols { result.symbols.keys ≡ [] }
     ensures answers { result.answers.entries ≡ [] }
+    ensures steps { result.trodden.steps ≡ [] }
 {
     Loaded {
         others: Vec::new(alloc),
         places: HashMap::new(alloc),
         symbols: Symbols::new(alloc),
         answers: HashMap::new(alloc),
+        trodden: Trodden::new(alloc),
     }
 }
 

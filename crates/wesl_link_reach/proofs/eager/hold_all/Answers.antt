@@ -15,7 +15,7 @@ loop-symbol-preserved g c = record {
       (reached_more (world_on c.args.request.now _ _ c.loop-symbol.invariant.grows) _ (c.requires.reached _ (element_of _ _ _ _ refl c.loop-symbol-test.true)))
       (let (t, at) = c.requires.placed _ (element_of _ _ _ _ refl c.loop-symbol-test.true) in (t, at_more (world_on c.args.request.now _ _ c.loop-symbol.invariant.grows) _ t at))
       c.in_ok-put.ensures;
-  grows = grows_trans _ _ _ c.loop-symbol.invariant.grows record { modules = goes_on_itself _; symbols = puts_on _ _ _ c.in_ok-put.ensures; answers = λ l h. h };
+  grows = grows_trans _ _ _ c.loop-symbol.invariant.grows record { modules = goes_on_itself _; symbols = puts_on _ _ _ c.in_ok-put.ensures; answers = λ l h. h; steps = goes_on_itself _ };
   held = first_more (λ (s : Symbol PathId NameId). Contains c.put.new.self.keys s) _ _ _ c.loop-symbol-test.true
       (λ s h. (within_on _ _ (puts_on _ _ _ c.in_ok-put.ensures)).held s (c.loop-symbol.invariant.held s h)) (puts_has _ _ _ c.in_ok-put.ensures);
 }
