@@ -1,6 +1,8 @@
 -- What is built in: names that the caller hands in.
-use Rattle.std.specs.Prelude.{bytes_eq, Bool, ◌||◌, Option, List, map, string_bytes}
+use denote.Ref.{Bor}
+use Rattle.std.specs.Prelude.{◌≡◌, bytes_eq, Bool, ◌||◌, Option, List, map, string_bytes}
 use Rattle.std.specs.List.{list_any, find}
+use Rattle.std.specs.HashSet.{HashSet, contains}
 use Rattle.wesl_tree_names.specs.Path.{Text}
 use Rattle.wesl_validate_builtins.specs.declared.builtins.Builtins.{Builtins}
 
@@ -24,3 +26,7 @@ stored b n = find (λ m. bytes_eq m n) b.names
 -- whether a call may name it
 abbrev pub is_callable : BuiltinNames → Text → Bool
 is_callable b n = is_among n b.functions || is_among n b.constructors
+
+-- the set has the names of the list and no others
+abbrev pub AreKept : {S : Type 0} → List Text → HashSet (Bor Text) S → Type 0
+AreKept ns kept = (n : Bor Text) → contains (λ a b. bytes_eq a.now b.now) kept n ≡ is_among n.now ns

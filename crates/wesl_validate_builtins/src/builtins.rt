@@ -1,7 +1,10 @@
 //! Names that are built in.
-ghost use Rattle.std.specs.Prelude.{◌≡◌, map, string_bytes};
+ghost use Rattle.std.specs.Prelude.{◌≡◌, map, string_bytes, IfOk};
 ghost use Rattle.std.specs.Option.{option_map};
-ghost use Rattle.wesl_validate_builtins.specs.Builtins.{is_among, is_callable, stored, builtins_view};
+ghost use Rattle.wesl_validate_builtins.specs.Builtins.{AreKept, is_among, is_callable, stored, builtins_view};
+
+use std::alloc::{AllocError, Global};
+use std::collections::HashSet;
 
 /// The names that are built in, which the caller hands in: `names` are defined, and of these a call may name
 /// `functions` and `constructors`.
@@ -47,6 +50,18 @@ impl Builtins {
         ensures { result ≡ is_among name.now (builtins_view self.now).names }
     {
         is_among(&self.names, name)
+    }
+
+    /// The names that are defined, as a set: of which many are asked, each costs one look-up. Refused for want of memory
+    /// alone.
+    pub fn defined_names(&self, alloc: Global) -> Result<HashSet<&str>, AllocError>
+        ensures { IfOk result (AreKept (builtins_view self.now).names) }
+    {
+        let mut kept: HashSet<&str> = HashSet::new(alloc);
+        for name in &self.names {
+            kept.insert(name.as_str())?;
+        }
+        Ok(kept)
     }
 
     /// Whether a call may name it: it is among `functions` or `constructors`.

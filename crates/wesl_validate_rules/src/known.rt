@@ -3,11 +3,12 @@ ghost use Rattle.std.specs.Prelude.{◌≡◌, ◌<◌, ◌||◌, ◌==◌, ℕ,
 ghost use Rattle.wesl_tree_syntax.specs.Unit.{name_in};
 ghost use Rattle.wesl_scope_occurrences.specs.Views.{occurrence_view};
 ghost use Rattle.wesl_scope_strip.specs.Marks.{mark_at};
-ghost use Rattle.wesl_validate_builtins.specs.Builtins.{is_among, builtins_view};
+ghost use Rattle.wesl_validate_builtins.specs.Builtins.{AreKept, BuiltinNames, is_among, builtins_view};
 ghost use Rattle.wesl_validate_rules.specs.Valid.{underscore};
 ghost use Rattle.wesl_validate_rules.specs.Known.{binds_here, binds, is_meant};
 
 use std::alloc::{AllocError, Global};
+use std::collections::HashSet;
 use wesl_scope_occurrences::{Identifiers, Occurrence};
 use wesl_tree_names::{Ident, Names};
 use wesl_validate_builtins::Builtins;
@@ -31,11 +32,11 @@ fn mark_binder(occurrence: &Occurrence<'_>, known: &mut [bool])
     }
 }
 
-/// Whether a name is built in, or `_`, which anything may stand for.
-fn is_meant(builtins: &Builtins, name: &str) -> bool
-    ensures { result ≡ is_meant (builtins_view builtins.now) name.now }
+/// Whether a name is built in, or `_`, which anything may stand for; `defined` has the built-in names.
+fn is_meant(defined: &HashSet<&str>, name: &str) -> bool
+    ensures { (b : BuiltinNames) → AreKept b.names defined.now → result ≡ is_meant b name.now }
 {
-    builtins.is_defined(name) || name == "_"
+    defined.contains(name) || name == "_"
 }
 
 /// Of each number of the table, whether its name is built in or `_`.
@@ -43,9 +44,10 @@ fn meant(alloc: Global, names: &Names, builtins: &Builtins) -> Result<Vec<bool>,
     ensures all { IfOk result (λ known. length known.items ≡ length names.now) }
     ensures marked { IfOk result (λ known. (m : ℕ) → m < length names.now → mark_at known.items m ≡ is_meant (builtins_view builtins.now) (name_in names.now m)) }
 {
+    let defined = builtins.defined_names(alloc)?;
     let mut known = Vec::with_capacity(alloc, names.len())?;
     for i in 0..names.len() {
-        known.push(is_meant(builtins, names.name(Ident(i))))?;
+        known.push(is_meant(&defined, names.name(Ident(i))))?;
     }
     Ok(known)
 }
