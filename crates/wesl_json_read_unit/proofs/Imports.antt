@@ -1,5 +1,5 @@
 -- The nodes and the trees of what is imported.
-use Rattle.std.proofs.Common.{◌≡◌, [], ◌∷◌, Bool, true, false, if◌then◌else◌, Option, Some, None, String, Vec, Global, codes, refl, ap, rules}
+use Rattle.std.proofs.Common.{◌≡◌, [], ◌∷◌, Bool, true, false, if◌then◌else◌, Option, Some, None, String, Vec, Global, codes, inl, inr, option_map, refl, ap, rules}
 use mathlib.Core.List.{map-map}
 use Rattle.std.specs.Option.{is_some}
 use Rattle.serde_json.specs.Data.{Data}
@@ -10,16 +10,19 @@ use Rattle.wesl_tree_syntax.specs.declared.import.ImportContent.{ImportContent, 
 use Rattle.wesl_tree_syntax.specs.declared.import.ImportContent as contents
 use Rattle.wesl_tree_syntax.specs.declared.import.ImportContent.TheViews as made
 use Rattle.wesl_tree_syntax.specs.declared.import.Import.{Import, roll-Import}
-use Rattle.wesl_tree_syntax.specs.Tree.{Role, leaf as leaf_tree, branch, ident, word, binder, list, import_item, import_collection, import_entry}
+use Rattle.wesl_tree_syntax.specs.Tree.{leaf as leaf_tree, branch, ident, word, binder, list, import_item, import_collection, import_entry}
 use Rattle.wesl_tree_syntax.specs.View.{content_view, entry_view, ident_tree, item_view, listed, names_tree, optional}
 use Rattle.wesl_json_form.specs.Schema.{leaf, list_of, an_entry, an_ident, a_content, Row, needs, may, nothing, node_of_kind}
+use Rattle.wesl_json_form.specs.Reading.{name_in}
+use Rattle.wesl_json_read.proofs.Places.{IfPlace-more}
+use Rattle.wesl_json_read.specs.Faults.{IsMemberBroken, IsTextBroken, LocatesMember, LocatesText}
+use Rattle.wesl_json_read_unit.specs.Worded.{item_role}
+use Rattle.wesl_tree_names.specs.Path.{Text}
+use Rattle.wesl_tree_names.specs.declared.errors.Error as error
 use Rattle.wesl_json_form.specs.Nodes.{collection_node, item_node, nodes_of}
 
-abbrev pub role_in : Data → Role
-role_in d = if is_some (get (codes "as") d) then word else binder
-
 abbrev pub item_row : Data → Row
-item_row d = needs (codes "item") (leaf (an_ident (role_in d))) (may (codes "as") (leaf (an_ident binder)) nothing)
+item_row d = needs (codes "item") (leaf (an_ident (item_role d))) (may (codes "as") (leaf (an_ident binder)) nothing)
 
 module _ (spans : Bool) where
   pub content-collection : (d : Data) → is_some (get (codes "list") d) ≡ true → nodes_of spans a_content d ≡ Some (node_of_kind import_collection (needs (codes "list") (list_of list an_entry) nothing))
@@ -27,6 +30,13 @@ module _ (spans : Bool) where
 
   pub content-item : (d : Data) → is_some (get (codes "list") d) ≡ false → nodes_of spans a_content d ≡ Some (node_of_kind import_item (item_row d))
   content-item d h = ap (λ b. Some (if b then collection_node else item_node d)) h
+
+pub item-place : (spans : Bool) (d : Data) (e : error.Error) → LocatesText name_in (codes "item") d e → LocatesMember spans (codes "item") (leaf (an_ident (item_role d))) d e
+item-place spans d e h = IfPlace-more (IsTextBroken name_in (codes "item") d) (IsMemberBroken spans (codes "item") (leaf (an_ident (item_role d))) d) e (λ place w. broken place w) h
+  where
+    broken : (place : Text) → IsTextBroken name_in (codes "item") d place → IsMemberBroken spans (codes "item") (leaf (an_ident (item_role d))) d place
+    broken place (inl w) = inl w
+    broken place (inr w) = inr (w.0, [], w.1, w.3, ap (option_map (ident (item_role d))) w.2)
 
 -- ---- trees
 

@@ -1,4 +1,5 @@
 pub mod Named
 pub mod Imports
+pub mod Noting
 pub mod Units
 pub mod Spanned

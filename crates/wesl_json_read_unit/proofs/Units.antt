@@ -5,23 +5,27 @@ use Rattle.serde_json.specs.Data.{Data}
 use Rattle.serde_json.specs.Find.{get}
 use Rattle.wesl_tree_names.specs.Path.{Text}
 use Rattle.wesl_tree_names.specs.declared.errors.Error as error
-use Rattle.wesl_tree_syntax.specs.Tree.{Tree, branch, identifiers, tree_below, unit, imports, declarations, directive_list}
+use Rattle.wesl_tree_syntax.specs.Tree.{Forest, Tree, before, branch, end, identifiers, tree_below, unit}
 use Rattle.wesl_tree_syntax.specs.Unit.{unit_below}
 use Rattle.wesl_tree_syntax.specs.Shown.{placed}
-use Rattle.wesl_json_form.specs.Schema.{node, node_of_kind, a_unit, list_of, leaf, an_import, a_declaration, a_directive, Row, beside, extra, second_form}
+use Rattle.wesl_json_form.specs.Schema.{node, node_of_kind, a_unit, leaf, Row, beside, extra, second_form}
 use Rattle.wesl_json_form.specs.Nodes.{unit_row, whole_form}
 use Rattle.wesl_json_form.specs.Reading.{any_leaf, has_extra, is_extra, known_keys, reading}
 use Rattle.wesl_json_form.specs.Keys.{has_only}
 use Rattle.wesl_json_form.specs.Place.{field, IsBroken}
 use Rattle.wesl_json_form.specs.Pointer.{key, pointer_text}
 use Rattle.wesl_json_form.specs.Units.{IsBrokenUnit, IsUnitOf, NumberedFrom, AreDistinct, says_form, unit_tree}
-use Rattle.wesl_json_read.specs.Faults.{IfPlace, Locates}
-use Rattle.wesl_json_read.specs.Numbers.{Reads, ReadsForm, ReadsMany}
+use Rattle.wesl_json_read.specs.Faults.{IfPlace, Locates, LocatesRow}
+use Rattle.wesl_json_read.specs.Numbers.{Reads, ReadsForm, ReadsRows}
 use Rattle.wesl_json_read.proofs.Places.{IfPlace-more, get-object, node-case}
 use Rattle.wesl_json_read.proofs.Rows.{Begins-same, row-beside}
-use Rattle.wesl_json_read.proofs.Steps.{many-then, none-then}
 use Rattle.wesl_json_read.proofs.Expressions.{bare-reads}
+use Rattle.std.specs.Prelude.{IfSome, IsSomeAnd}
 use Rattle.wesl_json_read_unit.specs.Forms.{LocatesForm, has_its_form}
+use Rattle.wesl_json_read_unit.specs.Noted.{as_error}
+use Rattle.wesl_json_read_unit.specs.declared.reader.Fault.{Fault}
+use Rattle.wesl_json_read_unit.specs.declared.reader.Reader.{Reader}
+use Rattle.wesl_json_read_unit.proofs.Noting.{NotesRow}
 
 abbrev pub unit_of : Tree → Tree → Tree → Tree
 unit_of i r g = branch unit (i ∷ r ∷ g ∷ [])
@@ -48,15 +52,31 @@ unformed-case d (Some v) place found told bad =
 pub form-place : (d : Data) (e : error.Error) → LocatesForm d e → IfPlace e (IsBrokenUnit d)
 form-place d e h = IfPlace-more (λ place. (place ≡ pointer_text (key (codes "form") ∷ [])) × (has_its_form d ≡ false)) (IsBrokenUnit d) e (λ place w. unformed-case d (get (codes "form") d) place refl w.0 w.1) h
 
+-- ---- what is noted of the lists of a unit
+
+abbrev pub unit_forest : Tree → Tree → Tree → Forest
+unit_forest i r g = before i (before r (before g end))
+
+pub unit-rows : {spans : Bool} {d : Data} {s e : Reader} {i r g : Tree} {names : List Text} → NotesRow formed_row d unit_row (unit_forest i r g) s e → s.spans ≡ spans → s.numbering ≡ [] → e.fault ≡ None → names ≡ e.numbering → ReadsRows spans unit_row d (unit_forest i r g) [] names
+unit-rows {spans} {d} {s} {e} {i} {r} {g} {names} rows spans_is fresh clear_is are =
+    let read : ReadsRows s.spans unit_row d (unit_forest i r g) s.numbering e.numbering = rows.noted.read clear_is in
+    subst (λ z. ReadsRows z unit_row d (unit_forest i r g) [] names) spans_is (subst (λ z. ReadsRows s.spans unit_row d (unit_forest i r g) z names) fresh (subst (λ z. ReadsRows s.spans unit_row d (unit_forest i r g) s.numbering z) (sym are) read))
+
+fault-row : (spans : Bool) (d : Data) (x : error.Error) (o : Option Fault) → IfSome o (λ f. LocatesRow spans (formed_row spans) d (as_error f)) → IsSomeAnd o (λ f. x ≡ as_error f) → LocatesRow spans (formed_row spans) d x
+fault-row spans d x None h is = absurd is
+fault-row spans d x (Some f) h is = subst (λ y. LocatesRow spans (formed_row spans) d y) (sym is) h
+
+pub unit-fault : {spans : Bool} {d : Data} {s e : Reader} {i r g : Tree} (x : error.Error) → NotesRow formed_row d unit_row (unit_forest i r g) s e → s.spans ≡ spans → s.fault ≡ None → IsSomeAnd e.fault (λ f. x ≡ as_error f) → LocatesRow spans (formed_row spans) d x
+unit-fault {spans} {d} {s} {e} x rows spans_is clear_is is = subst (λ z. LocatesRow z (formed_row z) d x) spans_is (fault-row s.spans d x e.fault (rows.noted.first clear_is) is)
+
 -- ---- a unit
 
 module _ (spans : Bool) (d : Data) (says : spans ≡ says_form d) where
   pub unit-place : (e : error.Error) → Locates spans (node a_unit) d e → IfPlace e (IsBrokenUnit d)
   unit-place e h = subst (λ b. IfPlace e (IsBroken (whole_form b) (node a_unit) d)) says h
 
-  pub unit-read : (i r g : Tree) (b c e : List Text) → has_only (known_keys (formed_row spans) d) d ≡ true → has_its_form d ≡ true → ReadsMany spans (codes "imports") (list_of imports an_import) d i [] b → ReadsMany spans (codes "directives") (list_of directive_list a_directive) d r b c → ReadsMany spans (codes "declarations") (list_of declarations a_declaration) d g c e → Reads spans (node a_unit) d (unit_of i r g) [] e
-  unit-read i r g b c e known second_is first second third =
-      let rows = many-then first (many-then second (many-then third (none-then d e))) in
+  pub unit-read : (i r g : Tree) (e : List Text) → has_only (known_keys (formed_row spans) d) d ≡ true → has_its_form d ≡ true → ReadsRows spans unit_row d (before i (before r (before g end))) [] e → Reads spans (node a_unit) d (unit_of i r g) [] e
+  unit-read i r g e known second_is rows =
       bare-reads spans a_unit unit (formed_row spans) d refl _ [] e known (record { row_is = row-beside spans d second_form unit_row _ [] e (formed spans d says second_is) rows.row_is })
 
   -- the unit that the value stands for

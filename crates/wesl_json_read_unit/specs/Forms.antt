@@ -5,7 +5,7 @@ use Rattle.serde_json.specs.Find.{get}
 use Rattle.wesl_tree_names.specs.Path.{Text}
 use Rattle.wesl_tree_names.specs.declared.errors.Error as error
 use Rattle.wesl_tree_syntax.specs.Tree.{Kind, kind, Tree, before, end, binder, members, declaration_node, directive_node, type_alias, struct, function, enable_directive, requires_directive, diagnostic_directive}
-use Rattle.wesl_json_form.specs.Schema.{fixed, Row, nothing, needs, may, many, inner, beside, a_span, second_form, Node, leaf, list_of, node, an_ident, a_content, a_member, a_path}
+use Rattle.wesl_json_form.specs.Schema.{fixed, Row, nothing, needs, many, inner, beside, a_span, second_form, Node, leaf, list_of, an_ident, a_member}
 use Rattle.wesl_json_form.specs.Nodes.{attrs, typed_row, function_row, names_row, severity_row}
 use Rattle.wesl_json_form.specs.Reading.{is_extra, known_keys}
 use Rattle.wesl_json_form.specs.Keys.{has_only}
@@ -77,9 +77,6 @@ module _ (spans : Bool) where
   directive_worded w = worded_row spans (directive_text w) (fixed (kind (directive_kind w))) (directive_row w)
 
 -- ---- objects without a word, in a node that has a span
-
-abbrev pub import_row : Row
-import_row = attrs (may (codes "path") (leaf a_path) (needs (codes "content") (node a_content) nothing))
 
 module _ (spans : Bool) (k : Kind) (row : Row) where
   -- its row: a span where spans are read, and the members of the node in it

@@ -1,252 +1,161 @@
 //! Reading imports (WESL, "Imports").
-ghost use Rattle.std.specs.Prelude.{Bool, ◌≡◌, IfOk, IfErr, codes, is_some, false, true};
+ghost use Rattle.std.specs.Prelude.{◌≡◌, Bool, IfErr, IfOk, codes, is_some, false, true};
 ghost use Rattle.serde_json.specs.Find.{get};
 ghost use Rattle.wesl_json_form.specs.View.{borrowed_view};
-ghost use Rattle.wesl_tree_syntax.specs.Tree.{binder, import_node, import_statement, imports, list};
+ghost use Rattle.wesl_tree_syntax.specs.Tree.{binder, import_node, imports, list};
 ghost use Rattle.wesl_tree_syntax.specs.View.{content_view, entry_view, ident_tree, import_view, imports_tree, item_view, listed, optional as option_view, placed};
 ghost use Rattle.wesl_json_form.specs.Schema.{a_content, an_entry, an_ident, an_import, leaf, list_of, node as node_form};
-ghost use Rattle.wesl_json_read.specs.Faults.{Locates, LocatesInside, LocatesMember};
-ghost use Rattle.wesl_json_read.specs.Numbers.{Reads, ReadsMany, ReadsMay, ReadsNeeded};
-ghost use Rattle.wesl_json_read_unit.specs.Forms.{ReadsSpanned, import_row};
+ghost use Rattle.wesl_json_read_unit.specs.Noted.{NotesForm, NotesMany, NotesMay, NotesNeeded};
+ghost use Rattle.wesl_json_form.specs.Reading.{name_in};
+ghost use Rattle.wesl_json_read.specs.Faults.{LocatesInside, LocatesText};
+ghost use Rattle.wesl_json_read.specs.Numbers.{ReadsMay};
+ghost use Rattle.wesl_json_read_unit.specs.Worded.{IsItemName, NotesItemName, NotesRename};
 
+use crate::reader::Reader;
 use std::alloc::Global;
 use wesl_json_form::BorrowedValue;
-use wesl_json_read::{
-    Numbering, attributes_member, name_member, name_of, names_member, optional_path, read_span,
-    required, room, under, with_item, wrong,
-};
+use wesl_json_read::{Numbering, name_member, name_of, under};
 use wesl_tree_names::{Error, Ident};
 use wesl_tree_syntax::{
     Import, ImportContent, ImportItem, ImportStatement, ImportStatementNode, Spanned,
 };
 
-/// The imports at `imports`, a list.
-pub(crate) fn imports_member(
-    alloc: Global,
-    spans: bool,
-    numbering: &mut Numbering,
-    value: &BorrowedValue<'_>,
-) -> Result<Vec<ImportStatementNode>, Error>
-    ensures ok { IfOk result (λ e. ReadsMany spans (codes "imports") (list_of imports an_import) (borrowed_view value.now) (imports_tree e) numbering.old numbering.new) }
-    ensures place { IfErr result (LocatesInside spans (codes "imports") (list_of imports an_import) (borrowed_view value.now)) }
-{
-    let Some(member) = value.get("imports") else {
-        return Ok(Vec::new(alloc));
-    };
-    match read_imports(alloc, spans, numbering, member) {
-        Ok(imports) => Ok(imports),
-        Err(error) => Err(under(alloc, error, "imports")),
+impl Reader {
+    /// The imports at `imports`, a list.
+    pub(crate) fn imports(&mut self, value: &BorrowedValue<'_>) -> Vec<ImportStatementNode>
+        ensures { NotesMany (codes "imports") (list_of imports an_import) (borrowed_view value.now) (imports_tree result) self.old self.new }
+    {
+        let Some(items) = self.list(value, "imports") else {
+            return Vec::new(self.alloc);
+        };
+        let mut imports = self.room(items.len());
+        for (index, item) in items.iter().enumerate() {
+            if !self.is_stopped() {
+                let import = self.import(item);
+                self.put(&mut imports, index, import);
+            }
+        }
+        self.within("imports");
+        imports
     }
-}
 
-fn read_imports(
-    alloc: Global,
-    spans: bool,
-    numbering: &mut Numbering,
-    value: &BorrowedValue<'_>,
-) -> Result<Vec<ImportStatementNode>, Error>
-    ensures ok { IfOk result (λ e. Reads spans (list_of imports an_import) (borrowed_view value.now) (imports_tree e) numbering.old numbering.new) }
-    ensures place { IfErr result (Locates spans (list_of imports an_import) (borrowed_view value.now)) }
-{
-    let Some(items) = value.as_array() else {
-        return Err(wrong(alloc));
-    };
-    let mut imports = room(alloc, items.len());
-    for (index, item) in items.iter().enumerate() {
-        let import = read_import(alloc, spans, numbering, item);
-        imports = with_item(alloc, imports, index, import);
-    }
-    imports
-}
-
-fn read_import(
-    alloc: Global,
-    spans: bool,
-    numbering: &mut Numbering,
-    value: &BorrowedValue<'_>,
-) -> Result<ImportStatementNode, Error>
-    ensures ok { IfOk result (λ e. Reads spans (node_form an_import) (borrowed_view value.now) (placed import_view import_node e) numbering.old numbering.new) }
-    ensures place { IfErr result (Locates spans (node_form an_import) (borrowed_view value.now)) }
-{
-    match read_span(alloc, spans, value) {
-        Ok(span) => match read_import_parts(alloc, spans, numbering, value) {
-            Ok(node) => Ok(Spanned { node, span }),
-            Err(error) => Err(error),
-        },
-        Err(error) => Err(error),
-    }
-}
-
-// The import that an object is, but for its span.
-fn read_import_parts(
-    alloc: Global,
-    spans: bool,
-    numbering: &mut Numbering,
-    value: &BorrowedValue<'_>,
-) -> Result<ImportStatement, Error>
-    ensures ok { IfOk result (λ e. ReadsSpanned spans import_statement import_row (borrowed_view value.now) (import_view e) numbering.old numbering.new) }
-    ensures place { IfErr result (Locates spans (node_form an_import) (borrowed_view value.now)) }
-{
-    if !wesl_json_form::has_only_beside(value, spans, "span", &["attrs", "path", "content"]) {
-        return Err(wrong(alloc));
-    }
-    match attributes_member(alloc, spans, numbering, value, "attrs") {
-        Ok(attributes) => match optional_path(alloc, value) {
-            Ok(path) => match content_member(alloc, spans, numbering, value) {
-                Ok(content) => Ok(ImportStatement {
-                    attributes,
-                    path,
-                    content,
-                }),
-                Err(error) => Err(error),
+    fn import(&mut self, value: &BorrowedValue<'_>) -> ImportStatementNode
+        ensures { NotesForm (node_form an_import) (borrowed_view value.now) (placed import_view import_node result) self.old self.new }
+    {
+        let span = self.span(value);
+        self.keys(value, self.spans, &["attrs", "path", "content"]);
+        Spanned {
+            node: ImportStatement {
+                attributes: self.attributes(value, "attrs"),
+                path: self.path(value),
+                content: self.content_member(value),
             },
-            Err(error) => Err(error),
-        },
-        Err(error) => Err(error),
+            span,
+        }
     }
-}
 
-// What is imported, at `content`.
-#[cycle(contents)]
-fn content_member(
-    alloc: Global,
-    spans: bool,
-    numbering: &mut Numbering,
-    value: &BorrowedValue<'_>,
-) -> Result<ImportContent, Error>
-    ensures ok { IfOk result (λ e. ReadsNeeded spans (codes "content") (node_form a_content) (borrowed_view value.now) (content_view e) numbering.old numbering.new) }
-    ensures place { IfErr result (LocatesMember spans (codes "content") (node_form a_content) (borrowed_view value.now)) }
-{
-    let member = required(alloc, value, "content")?;
-    match read_content(alloc, spans, numbering, member) {
-        Ok(content) => Ok(content),
-        Err(error) => Err(under(alloc, error, "content")),
+    // What is imported, at `content`.
+    #[cycle(contents)]
+    fn content_member(&mut self, value: &BorrowedValue<'_>) -> ImportContent
+        ensures { NotesNeeded (codes "content") (node_form a_content) (borrowed_view value.now) (content_view result) self.old self.new }
+    {
+        let Some(member) = self.required(value, "content") else {
+            return ImportContent::Collection(Vec::new(self.alloc));
+        };
+        let content = self.content(member);
+        self.within("content");
+        content
     }
-}
 
-// A collection where the object has a list, an item elsewhere.
-#[cycle(contents)]
-fn read_content(
-    alloc: Global,
-    spans: bool,
-    numbering: &mut Numbering,
-    value: &BorrowedValue<'_>,
-) -> Result<ImportContent, Error>
-    ensures ok { IfOk result (λ e. Reads spans (node_form a_content) (borrowed_view value.now) (content_view e) numbering.old numbering.new) }
-    ensures place { IfErr result (Locates spans (node_form a_content) (borrowed_view value.now)) }
-{
-    if value.get("list").is_some() {
-        read_collection(alloc, spans, numbering, value)
-    } else {
-        match read_item(alloc, numbering, value) {
-            Ok(item) => Ok(ImportContent::Item(item)),
-            Err(error) => Err(error),
+    // A collection where the object has a list, an item elsewhere.
+    #[cycle(contents)]
+    fn content(&mut self, value: &BorrowedValue<'_>) -> ImportContent
+        ensures { NotesForm (node_form a_content) (borrowed_view value.now) (content_view result) self.old self.new }
+    {
+        if value.get("list").is_some() {
+            self.keys(value, false, &["list"]);
+            ImportContent::Collection(self.entries(value))
+        } else {
+            ImportContent::Item(self.item(value))
+        }
+    }
+
+    // The entries at `list`.
+    #[cycle(contents)]
+    fn entries(&mut self, value: &BorrowedValue<'_>) -> Vec<Import>
+        ensures { NotesMany (codes "list") (list_of list an_entry) (borrowed_view value.now) (listed entry_view list result) self.old self.new }
+    {
+        let Some(items) = self.list(value, "list") else {
+            return Vec::new(self.alloc);
+        };
+        let mut entries = self.room(items.len());
+        for (index, item) in items.iter().enumerate() {
+            if !self.is_stopped() {
+                let entry = self.entry(item);
+                self.put(&mut entries, index, entry);
+            }
+        }
+        self.within("list");
+        entries
+    }
+
+    #[cycle(contents)]
+    fn entry(&mut self, value: &BorrowedValue<'_>) -> Import
+        ensures { NotesForm (node_form an_entry) (borrowed_view value.now) (entry_view result) self.old self.new }
+    {
+        self.keys(value, false, &["path", "content"]);
+        Import {
+            path: self.names(value, "path"),
+            content: self.content_member(value),
+        }
+    }
+
+    // One item, whose own name is bound here only where it has no other.
+    fn item(&mut self, value: &BorrowedValue<'_>) -> ImportItem
+        requires { is_some (get (codes "list") (borrowed_view value.now)) ≡ false }
+        ensures { NotesForm (node_form a_content) (borrowed_view value.now) (item_view result) self.old self.new }
+    {
+        self.keys(value, false, &["item", "as"]);
+        ImportItem {
+            ident: self.item_name(value),
+            rename: self.rename(value),
+        }
+    }
+
+    // The name at `item`, by its number.
+    fn item_name(&mut self, value: &BorrowedValue<'_>) -> Ident
+        ensures { NotesItemName (borrowed_view value.now) result self.old self.new }
+    {
+        let read = item_number(self.alloc, &mut self.numbering, value);
+        match self.noted(read) {
+            Some(ident) => ident,
+            None => Ident(0),
+        }
+    }
+
+    // The name at `as`, an option.
+    fn rename(&mut self, value: &BorrowedValue<'_>) -> Option<Ident>
+        ensures { NotesRename (borrowed_view value.now) result self.old self.new }
+    {
+        let read = optional_rename(self.alloc, &mut self.numbering, value);
+        match self.noted(read) {
+            Some(rename) => rename,
+            None => None,
         }
     }
 }
 
-#[cycle(contents)]
-fn read_collection(
-    alloc: Global,
-    spans: bool,
-    numbering: &mut Numbering,
-    value: &BorrowedValue<'_>,
-) -> Result<ImportContent, Error>
-    requires { is_some (get (codes "list") (borrowed_view value.now)) ≡ true }
-    ensures ok { IfOk result (λ e. Reads spans (node_form a_content) (borrowed_view value.now) (content_view e) numbering.old numbering.new) }
-    ensures place { IfErr result (Locates spans (node_form a_content) (borrowed_view value.now)) }
-{
-    if !wesl_json_form::has_only(value, &["list"]) {
-        return Err(wrong(alloc));
-    }
-    match entries_member(alloc, spans, numbering, value) {
-        Ok(entries) => Ok(ImportContent::Collection(entries)),
-        Err(error) => Err(error),
-    }
-}
-
-// The entries at `list`.
-#[cycle(contents)]
-fn entries_member(
-    alloc: Global,
-    spans: bool,
-    numbering: &mut Numbering,
-    value: &BorrowedValue<'_>,
-) -> Result<Vec<Import>, Error>
-    ensures ok { IfOk result (λ e. ReadsNeeded spans (codes "list") (list_of list an_entry) (borrowed_view value.now) (listed entry_view list e) numbering.old numbering.new) }
-    ensures place { IfErr result (LocatesMember spans (codes "list") (list_of list an_entry) (borrowed_view value.now)) }
-{
-    let member = required(alloc, value, "list")?;
-    match read_entries(alloc, spans, numbering, member) {
-        Ok(entries) => Ok(entries),
-        Err(error) => Err(under(alloc, error, "list")),
-    }
-}
-
-#[cycle(contents)]
-fn read_entries(
-    alloc: Global,
-    spans: bool,
-    numbering: &mut Numbering,
-    value: &BorrowedValue<'_>,
-) -> Result<Vec<Import>, Error>
-    ensures ok { IfOk result (λ e. Reads spans (list_of list an_entry) (borrowed_view value.now) (listed entry_view list e) numbering.old numbering.new) }
-    ensures place { IfErr result (Locates spans (list_of list an_entry) (borrowed_view value.now)) }
-{
-    let Some(items) = value.as_array() else {
-        return Err(wrong(alloc));
-    };
-    let mut entries = room(alloc, items.len());
-    for (index, item) in items.iter().enumerate() {
-        let entry = read_entry(alloc, spans, numbering, item);
-        entries = with_item(alloc, entries, index, entry);
-    }
-    entries
-}
-
-#[cycle(contents)]
-fn read_entry(
-    alloc: Global,
-    spans: bool,
-    numbering: &mut Numbering,
-    value: &BorrowedValue<'_>,
-) -> Result<Import, Error>
-    ensures ok { IfOk result (λ e. Reads spans (node_form an_entry) (borrowed_view value.now) (entry_view e) numbering.old numbering.new) }
-    ensures place { IfErr result (Locates spans (node_form an_entry) (borrowed_view value.now)) }
-{
-    if !wesl_json_form::has_only(value, &["path", "content"]) {
-        return Err(wrong(alloc));
-    }
-    match names_member(alloc, value, "path") {
-        Ok(path) => match content_member(alloc, spans, numbering, value) {
-            Ok(content) => Ok(Import { path, content }),
-            Err(error) => Err(error),
-        },
-        Err(error) => Err(error),
-    }
-}
-
-// One item, whose own name is bound here only where it has no other.
-fn read_item(
+// The name at `item`, by its number.
+fn item_number(
     alloc: Global,
     numbering: &mut Numbering,
     value: &BorrowedValue<'_>,
-) -> Result<ImportItem, Error>
-    requires { is_some (get (codes "list") (borrowed_view value.now)) ≡ false }
-    ensures ok { IfOk result (λ e. (spans : Bool) → Reads spans (node_form a_content) (borrowed_view value.now) (item_view e) numbering.old numbering.new) }
-    ensures place { IfErr result (λ e. (spans : Bool) → Locates spans (node_form a_content) (borrowed_view value.now) e) }
+) -> Result<Ident, Error>
+    ensures ok { IfOk result (IsItemName (borrowed_view value.now) numbering.old numbering.new) }
+    ensures place { IfErr result (LocatesText name_in (codes "item") (borrowed_view value.now)) }
 {
-    if !wesl_json_form::has_only(value, &["item", "as"]) {
-        return Err(wrong(alloc));
-    }
     match name_member(alloc, value, "item") {
-        Ok(name) => match numbering.number(alloc, name) {
-            Ok(ident) => match optional_rename(alloc, numbering, value) {
-                Ok(rename) => Ok(ImportItem { ident, rename }),
-                Err(error) => Err(error),
-            },
-            Err(error) => Err(error),
-        },
+        Ok(name) => numbering.number(alloc, name),
         Err(error) => Err(error),
     }
 }

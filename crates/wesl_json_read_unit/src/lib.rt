@@ -4,6 +4,8 @@
 mod declaration;
 mod directive;
 mod import;
+mod members;
+mod reader;
 mod unit;
 mod words;
 

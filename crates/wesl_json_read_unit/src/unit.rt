@@ -10,12 +10,10 @@ ghost use Rattle.wesl_tree.specs.Translation.{unit_view};
 ghost use Rattle.wesl_json_read.specs.Faults.{IfPlace};
 ghost use Rattle.wesl_json_read_unit.specs.Forms.{LocatesForm, has_its_form};
 
-use crate::declaration::declarations_member;
-use crate::directive::directives_member;
-use crate::import::imports_member;
+use crate::reader::Reader;
 use std::alloc::Global;
 use wesl_json_form::BorrowedValue;
-use wesl_json_read::{Numbering, under, wrong};
+use wesl_json_read::{under, wrong};
 use wesl_tree::{Error, TranslationUnit};
 
 /// The unit that a value stands for: of form 2 where it has the key `form`, else of form 1.
@@ -86,28 +84,17 @@ fn read_lists(
     ensures unit { IfOk result (λ u. IsUnitOf (borrowed_view value.now) (unit_view u)) }
     ensures place { IfErr result (λ e. IfPlace e (IsBrokenUnit (borrowed_view value.now))) }
 {
-    let mut numbering = Numbering::new(alloc);
-    match imports_member(alloc, spans, &mut numbering, value) {
-        Ok(imports) => match directives_member(alloc, spans, &mut numbering, value) {
-            Ok(directives) => match declarations_member(alloc, spans, &mut numbering, value) {
-                Ok(declarations) => match numbering.into_names(alloc) {
-                    Ok(names) => {
-                        match TranslationUnit::from_parts(
-                            names,
-                            imports,
-                            directives,
-                            declarations,
-                        ) {
-                            Some(unit) => Ok(unit),
-                            None => Err(wrong(alloc)),
-                        }
-                    }
-                    Err(error) => Err(error),
-                },
-                Err(error) => Err(error),
-            },
-            Err(error) => Err(error),
-        },
+    let mut reader = Reader::new(alloc, spans);
+    let imports = reader.imports(value);
+    let directives = reader.directives(value);
+    let declarations = reader.declarations(value);
+    match reader.end() {
+        Ok(names) => {
+            match TranslationUnit::from_parts(names, imports, directives, declarations) {
+                Some(unit) => Ok(unit),
+                None => Err(wrong(alloc)),
+            }
+        }
         Err(error) => Err(error),
     }
 }

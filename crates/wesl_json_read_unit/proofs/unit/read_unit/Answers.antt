@@ -1,4 +1,4 @@
-use Rattle.std.proofs.Common.{false, refl, sym, true, ◌∙◌, ◌≡◌}
+use Rattle.std.proofs.Common.{false, refl, sym, ◌∙◌, ◌≡◌}
 use Rattle.wesl_json_form.specs.View.{borrowed_view}
 use Rattle.wesl_json_form.specs.Reading.{known_keys}
 use Rattle.wesl_json_form.specs.Keys.{has_only}

@@ -1,0 +1,11 @@
+use Rattle.std.proofs.Common.{refl, sym}
+use Rattle.wesl_json_form.specs.View.{borrowed_view}
+use Rattle.wesl_json_read_unit.proofs.Imports.{content-item, item-tree}
+use Rattle.wesl_json_read_unit.proofs.Noting.{may_next, needs_next, no_more, of_bare, seen_if, weaker}
+use Rattle.wesl_json_read_unit.proofs.reader.Reader.item.Goals as goal
+
+pub returns : goal.returns
+returns c =
+    let d = borrowed_view c.args.value.now in
+    seen_if (λ h. sym (item-tree c.item_name.result c.rename.result _ (c.rename.ensures.read h).0))
+    (of_bare (content-item c.args.self.now.spans d c.requires) refl refl c.keys.ensures (needs_next refl c.item_name.ensures (may_next refl (weaker (λ a b x. x.1) (λ x h. h) c.rename.ensures) no_more)))

@@ -1,0 +1,81 @@
+-- What reading a part of a unit notes in the reader.
+use Rattle.std.specs.Prelude.{◌≡◌, Bool, true, false, List, Some, None, IfSome, IsSomeAnd, codes}
+use Rattle.std.specs.Option.{ForSome}
+use Rattle.serde_json.specs.Data.{Data, Items, array}
+use Rattle.serde_json.specs.Find.{get}
+use Rattle.wesl_tree_names.specs.Path.{Text}
+use Rattle.wesl_tree_names.specs.declared.errors.Error as error
+use Rattle.wesl_tree_syntax.specs.Tree.{Kind, Tree}
+use Rattle.wesl_json_form.specs.Keys.{has_only, keys_beside}
+use Rattle.wesl_json_form.specs.Pointer.{Part}
+use Rattle.wesl_json_form.specs.Schema.{Form, Name, list_of}
+use Rattle.wesl_json_read.specs.Faults.{IsAtRoot, IsUnderPart, Locates, LocatesInside, LocatesMember}
+use Rattle.wesl_json_read.specs.Numbers.{Reads, ReadsMany, ReadsMay, ReadsNeeded}
+use Rattle.wesl_json_read_unit.specs.declared.reader.Reader.{Reader}
+use Rattle.wesl_json_read_unit.specs.declared.reader.Fault.{Fault}
+use Rattle.wesl_json_read_unit.specs.declared.reader.Fault.TheVariants as faults
+
+-- the fault as an error
+abbrev pub as_error : Fault → error.Error
+as_error faults.Memory = error.Memory
+as_error (faults.Place s) = error.BadTree s
+
+-- A part is read: unless a fault is noted by then, it stands for the value. The first fault is one of the value, and it is kept.
+pub record Notes (Stands : Bool → List Text → List Text → Type 0) (Tells : Bool → error.Error → Type 0) (old new : Reader) : Type 0 where
+  pub read : new.fault ≡ None → Stands old.spans old.numbering new.numbering
+  pub first : old.fault ≡ None → IfSome new.fault (λ e. Tells old.spans (as_error e))
+  pub kept : ForSome old.fault (λ e. new.fault ≡ Some e)
+  pub same : new.spans ≡ old.spans
+
+-- a fault is noted in any case
+abbrev pub Never : Bool → List Text → List Text → Type 0
+Never spans old new = ⊥
+
+-- a value, a member that must be there, one that may be there, and a list are read as the tree
+abbrev pub NotesForm : Form → Data → Tree → Reader → Reader → Type 0
+NotesForm f d t = Notes (λ spans. Reads spans f d t) (λ spans. Locates spans f d)
+
+abbrev pub NotesNeeded : Text → Form → Data → Tree → Reader → Reader → Type 0
+NotesNeeded k f d t = Notes (λ spans. ReadsNeeded spans k f d t) (λ spans. LocatesMember spans k f d)
+
+abbrev pub NotesMay : Text → Form → Data → Tree → Reader → Reader → Type 0
+NotesMay k f d t = Notes (λ spans. ReadsMay spans k f d t) (λ spans. LocatesInside spans k f d)
+
+abbrev pub NotesMany : Text → Form → Data → Tree → Reader → Reader → Type 0
+NotesMany k f d t = Notes (λ spans. ReadsMany spans k f d t) (λ spans. LocatesInside spans k f d)
+
+-- the object has no keys but these, and `span` where it takes one
+abbrev pub NotesKeys : Bool → List Text → Data → Reader → Reader → Type 0
+NotesKeys takes_span ks d = Notes (λ _ old new. (new ≡ old) × (has_only (keys_beside takes_span (codes "span") ks) d ≡ true)) (λ _ e. IsAtRoot e × (has_only (keys_beside takes_span (codes "span") ks) d ≡ false))
+
+-- a fault is told of what has the faulty value at a part
+pub record IsTold (part : Part) (old new : Reader) : Type 0 where
+  pub none : old.fault ≡ None → new.fault ≡ None
+  pub some : ForSome old.fault (λ e. IsSomeAnd new.fault (λ o. IsUnderPart part (as_error e) (as_error o)))
+  pub numbers : new.numbering ≡ old.numbering
+  pub same : new.spans ≡ old.spans
+
+-- the same, or memory was refused where there was no fault
+pub record IsToldOrRefused (part : Part) (old new : Reader) : Type 0 where
+  pub none : old.fault ≡ None → IfSome new.fault (λ e. as_error e ≡ error.Memory)
+  pub some : ForSome old.fault (λ e. IsSomeAnd new.fault (λ o. IsUnderPart part (as_error e) (as_error o)))
+  pub numbers : new.fault ≡ None → new.numbering ≡ old.numbering
+  pub same : new.spans ≡ old.spans
+
+-- no fault is noted, and the member k is there
+pub record IsThere (old : Reader) (k : Text) (d v : Data) : Type 0 where
+  pub found : get k d ≡ Some v
+  pub clear : old.fault ≡ None
+
+-- the member k lacks, which is a fault of the object
+abbrev pub Lacks : Text → Data → error.Error → Type 0
+Lacks k d e = IsAtRoot e × (get k d ≡ None)
+
+-- no fault is noted, and the member k is a list of these items
+pub record IsList (old : Reader) (k : Text) (d : Data) (items : Items) : Type 0 where
+  pub found : get k d ≡ Some (array items)
+  pub clear : old.fault ≡ None
+
+-- the member k is not there, or it is no list, which is a fault of it
+abbrev pub NotesNoList : Text → Data → Reader → Reader → Type 0
+NotesNoList k d = Notes (λ _ old new. (new ≡ old) × (get k d ≡ None)) (λ spans e. (kd : Kind) (m : Name) → LocatesInside spans k (list_of kd m) d e)
