@@ -1,0 +1,7 @@
+use Rattle.wesl_explain.proofs.world.World.reason.Goals as goal
+
+pub returns-in-Some : goal.returns-in-Some
+returns-in-Some c = rw c.in-Some.is c.symbol_chain.ensures
+
+pub returns-in-None : goal.returns-in-None
+returns-in-None c = rw c.in-None.is c.module_chain.ensures

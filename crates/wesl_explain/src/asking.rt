@@ -1,0 +1,176 @@
+//! What is asked for in a link, and the imports that nothing uses.
+
+use crate::explanation::UnusedImport;
+use crate::texts::Texts;
+use crate::world::World;
+use std::alloc::{AllocError, Global};
+use std::collections::HashMap;
+use wesl_link_symbols::ids::{NameId, PathId};
+use wesl_link_symbols::keyed;
+use wesl_link_symbols::symbols::{Import, Symbol};
+use wesl_link_symbols::table::{Declaration, Table};
+use wesl_tree::ModulePath;
+
+/// Names of modules that are asked for, each once, in the order in which they were found.
+#[derive(Drop)]
+struct Asked {
+    found: Vec<Symbol<PathId, NameId>>,
+    held: HashMap<Symbol<PathId, NameId>, bool>,
+}
+
+impl Asked {
+    fn new(alloc: Global) -> Asked {
+        Asked {
+            found: Vec::new(alloc),
+            held: HashMap::new(alloc),
+        }
+    }
+
+    fn put(&mut self, path: PathId, name: NameId) -> Result<(), AllocError> {
+        if self.has(path, name) {
+            return Ok(());
+        }
+        keyed::put(&mut self.held, Symbol { path, name }, true)?;
+        self.found.push(Symbol { path, name })?;
+        Ok(())
+    }
+
+    fn has(&self, path: PathId, name: NameId) -> bool {
+        keyed::value_at(&self.held, Symbol { path, name }).is_some()
+    }
+
+    /// What a declaration asks for.
+    fn put_references(&mut self, declaration: &Declaration) -> Result<(), AllocError> {
+        for reference in declaration.references() {
+            self.put(reference.path, reference.name)?;
+        }
+        Ok(())
+    }
+
+    /// What the held declarations of a module ask for.
+    fn put_held(&mut self, world: &World, table: &Table) -> Result<(), AllocError> {
+        for declaration in table.declarations() {
+            if world.holds(table.path(), declaration.name()) {
+                self.put_references(declaration)?;
+            }
+        }
+        Ok(())
+    }
+
+    /// What a module asks for where it is asked for a name that it imports.
+    fn put_targets(&mut self, table: &Table, name: NameId) -> Result<(), AllocError> {
+        for import in table.imports() {
+            if import.bound == name {
+                self.put(import.path, import.item)?;
+            }
+        }
+        Ok(())
+    }
+}
+
+/// What the kept names and the held declarations ask for, from outside a module, and what is asked for in turn.
+fn asked_in(alloc: Global, world: &World) -> Result<Asked, AllocError> {
+    let mut asked = Asked::new(alloc);
+    if let Some(root) = world.root() {
+        for name in &world.kept {
+            asked.put(root, *name)?;
+        }
+    }
+    for table in world.linked.tables() {
+        asked.put_held(world, table)?;
+    }
+    Ok(asked)
+}
+
+/// Goes on from a name to what its module imports it from, so far as modules do.
+fn follow(world: &World, asked: &mut Asked) -> Result<(), AllocError> {
+    for place in 0..usize::MAX {
+        let Some(symbol) = asked.found.get(place) else {
+            return Ok(());
+        };
+        let Symbol { path, name } = *symbol;
+        if let Some(table) = world.table(path) {
+            asked.put_targets(table, name)?;
+        }
+    }
+    Ok(())
+}
+
+/// Whether a path leads through the item of a module at another path.
+fn leads_through(path: &ModulePath, base: &ModulePath, item: &str) -> bool {
+    match path.components.get(base.components.len()) {
+        Some(next) => next.as_str() == item && path.starts_with(base),
+        None => false,
+    }
+}
+
+/// Whether something that is asked for stands in a module that the import leads to.
+fn is_way(texts: &Texts, asked: &Asked, import: &Import<PathId, NameId>) -> bool {
+    let Some(base) = texts.module(import.path) else {
+        return false;
+    };
+    let item = texts.name(import.item);
+    for symbol in &asked.found {
+        if let Some(path) = texts.module(symbol.path) {
+            if leads_through(path, base, item) {
+                return true;
+            }
+        }
+    }
+    false
+}
+
+/// Whether an import of a module is used: its own held declarations ask for what it names, or its name is asked for in the
+/// module from elsewhere.
+fn is_used(
+    texts: &Texts,
+    all: &Asked,
+    own: &Asked,
+    table: &Table,
+    import: &Import<PathId, NameId>,
+) -> bool {
+    own.has(import.path, import.item)
+        || all.has(table.path(), import.bound)
+        || is_way(texts, own, import)
+}
+
+/// Adds the imports of a module that nothing uses.
+fn add_unused(
+    alloc: Global,
+    world: &World,
+    texts: &Texts,
+    all: &Asked,
+    table: &Table,
+    unused: &mut Vec<UnusedImport>,
+) -> Result<(), AllocError> {
+    let mut own = Asked::new(alloc);
+    own.put_held(world, table)?;
+    for import in table.imports() {
+        if !is_used(texts, all, &own, table, import) {
+            unused.push(UnusedImport {
+                path: table.path(),
+                bound: import.bound,
+                from: import.path,
+                item: import.item,
+            })?;
+        }
+    }
+    Ok(())
+}
+
+/// The imports of loaded modules that nothing uses.
+pub fn unused_imports(
+    alloc: Global,
+    world: &World,
+    texts: &Texts,
+) -> Result<Vec<UnusedImport>, AllocError> {
+    let mut all = asked_in(alloc, world)?;
+    follow(world, &mut all)?;
+    let mut unused = Vec::new(alloc);
+    for path in &world.order {
+        if let Some(table) = world.table(*path) {
+            add_unused(alloc, world, texts, &all, table, &mut unused)?;
+        }
+    }
+    Ok(unused)
+}

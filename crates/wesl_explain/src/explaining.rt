@@ -1,0 +1,226 @@
+//! From the bytes of a bundle to what is told of its link.
+ghost use Rattle.std.specs.Prelude.{◌≡◌, false, IfOk};
+ghost use Rattle.wesl_tree_names.specs.Path.{path_view, is_relative};
+
+use crate::asking::unused_imports;
+use crate::clashing::clashes_in;
+use crate::explanation::{Explanation, Fault, HeldDeclaration};
+use crate::faults::{fault_of, faults_of};
+use crate::freeing::free_in;
+use crate::holding::{held_in, modules_of};
+use crate::loading::TableLoader;
+use crate::sources::Sources;
+use crate::texts::Texts;
+use crate::world::{World, world_of};
+use json::Scratch;
+use std::alloc::{AllocError, Global};
+use std::str::from_utf8;
+use wesl_json::borrowed_of_text;
+use wesl_link::{LinkRequest, Resolutions, link_at};
+use wesl_link_symbols::ids::PathId;
+use wesl_link_tables::numbers::Numbers;
+use wesl_mangle::{EscapeMangler, NoMangler, UnicodeMangler};
+use wesl_program_bundle::{BuiltinNames, Bundle, Naming, Options, read_bundle};
+use wesl_tree::{Diagnostic, Error, ModulePath, TranslationUnit};
+use wesl_validate::validate_wgsl;
+use wesl_validate_builtins::Builtins;
+
+/// What is told of the bundle that the bytes are.
+pub fn explained(alloc: Global, bytes: &[u8]) -> Result<Explanation, AllocError> {
+    let mut scratch = Scratch::new(alloc);
+    match bundle_of(alloc, bytes, &mut scratch) {
+        Ok(bundle) => explain(alloc, bundle),
+        Err(error) => {
+            let mut told = Explanation::nothing(alloc);
+            told.faults.push(fault_of(alloc, Diagnostic::of(error))?)?;
+            Ok(told)
+        }
+    }
+}
+
+// The bundle that the bytes are.
+fn bundle_of<'t>(
+    alloc: Global,
+    bytes: &'t [u8],
+    scratch: &'t mut Scratch,
+) -> Result<Bundle<'t>, Error>
+    ensures fixed { IfOk result (λ b. is_relative (path_view b.root) ≡ false) }
+{
+    let Ok(text) = from_utf8(bytes) else {
+        return Err(Error::NotJson);
+    };
+    let value = borrowed_of_text(alloc, text, scratch)?;
+    Ok(read_bundle(alloc, &value)?)
+}
+
+// The names that are kept.
+fn names<'b>(alloc: Global, keep: &'b [String]) -> Result<Vec<&'b str>, AllocError> {
+    let mut names = Vec::with_capacity(alloc, keep.len())?;
+    for name in keep {
+        names.push(name.as_str())?;
+    }
+    Ok(names)
+}
+
+// The built-in names of a bundle.
+fn builtins_of(listed: Option<BuiltinNames>) -> Option<Builtins> {
+    match listed {
+        Some(listed) => Some(Builtins::new(listed.names, listed.functions, listed.constructors)),
+        None => None,
+    }
+}
+
+// What is told of a bundle.
+fn explain(alloc: Global, bundle: Bundle) -> Result<Explanation, AllocError>
+    requires { is_relative (path_view bundle.root) ≡ false }
+{
+    let Bundle {
+        root,
+        keep,
+        modules,
+        packages,
+        features,
+        options,
+        builtins,
+    } = bundle;
+    let keep = names(alloc, &keep)?;
+    let request = LinkRequest {
+        root: &root,
+        keep: &keep,
+        is_eager: options.eager,
+        max_modules: options.max_modules,
+    };
+    let mut sources = Sources::new(alloc, modules, packages, features)?;
+    match link_at(alloc, &request, &mut sources) {
+        Ok(found) => explain_link(
+            alloc,
+            &request,
+            options,
+            builtins_of(builtins),
+            found,
+            sources,
+        ),
+        Err(diagnostic) => {
+            let mut told = Explanation::nothing(alloc);
+            told.faults = faults_of(alloc, diagnostic, sources)?;
+            Ok(told)
+        }
+    }
+}
+
+// The linked unit under its printed names.
+fn unit_of(
+    alloc: Global,
+    mut found: Resolutions,
+    options: Options,
+) -> Result<TranslationUnit, AllocError> {
+    let root = options.mangle_root;
+    let named = match options.mangler {
+        Naming::Escape => found.mangle(alloc, &mut EscapeMangler, root),
+        Naming::Unicode => found.mangle(alloc, &mut UnicodeMangler, root),
+        Naming::Own => found.mangle(alloc, &mut NoMangler, root),
+    };
+    match named {
+        Ok(()) => found.assemble(alloc, true).ok().ok_or(AllocError),
+        Err(_) => Err(AllocError),
+    }
+}
+
+// The world of a link over symbol tables, and the texts of its numbers.
+fn world_in(
+    alloc: Global,
+    request: &LinkRequest<'_>,
+    found: &Resolutions,
+    sources: Sources<'_>,
+) -> Result<(World, Texts), Error>
+    requires { is_relative (path_view request.now.root.now) ≡ false }
+{
+    let order = found.module_order(alloc)?;
+    let mut loader = TableLoader {
+        sources,
+        numbers: Numbers::new(alloc),
+    };
+    let world = world_of(alloc, &mut loader, request, &order)?;
+    let TableLoader {
+        sources: _,
+        numbers,
+    } = loader;
+    let texts = Texts::new(alloc, numbers)?;
+    Ok((world, texts))
+}
+
+// What is told of a link.
+fn explain_link(
+    alloc: Global,
+    request: &LinkRequest<'_>,
+    options: Options,
+    builtins: Option<Builtins>,
+    found: Resolutions,
+    sources: Sources<'_>,
+) -> Result<Explanation, AllocError>
+    requires { is_relative (path_view request.now.root.now) ≡ false }
+{
+    match world_in(alloc, request, &found, sources) {
+        Ok((world, texts)) => {
+            let unit = unit_of(alloc, found, options)?;
+            explain_world(alloc, options, builtins, &world, texts, &unit)
+        }
+        Err(error) => {
+            let mut told = Explanation::nothing(alloc);
+            told.faults.push(fault_of(alloc, Diagnostic::of(error))?)?;
+            Ok(told)
+        }
+    }
+}
+
+// Of each declaration of the linked unit its module.
+fn homes_of(alloc: Global, held: &[HeldDeclaration]) -> Result<Vec<PathId>, AllocError> {
+    let mut homes = Vec::with_capacity(alloc, held.len())?;
+    for declaration in held {
+        homes.push(declaration.path)?;
+    }
+    Ok(homes)
+}
+
+// The fault of a linked unit, where a bundle lists what is built in.
+fn faults_in(
+    alloc: Global,
+    unit: &TranslationUnit,
+    builtins: Option<&Builtins>,
+) -> Result<Vec<Fault>, AllocError> {
+    let mut faults = Vec::new(alloc);
+    let Some(builtins) = builtins else {
+        return Ok(faults);
+    };
+    if let Err(diagnostic) = validate_wgsl(alloc, unit, builtins) {
+        faults.push(fault_of(alloc, diagnostic)?)?;
+    }
+    Ok(faults)
+}
+
+// What is told of a link over symbol tables, and of its unit.
+fn explain_world(
+    alloc: Global,
+    options: Options,
+    builtins: Option<Builtins>,
+    world: &World,
+    texts: Texts,
+    unit: &TranslationUnit,
+) -> Result<Explanation, AllocError> {
+    let modules = modules_of(alloc, world)?;
+    let held = held_in(alloc, world, &texts, options)?;
+    let homes = homes_of(alloc, &held)?;
+    let clashes = clashes_in(alloc, unit, &homes, world.root(), options)?;
+    let free = free_in(alloc, world, &texts, unit, builtins.as_ref())?;
+    let unused = unused_imports(alloc, world, &texts)?;
+    let faults = faults_in(alloc, unit, builtins.as_ref())?;
+    Ok(Explanation {
+        texts,
+        modules,
+        held,
+        clashes,
+        free,
+        unused,
+        faults,
+    })
+}

@@ -1,0 +1,140 @@
+//! What is told of the link of a bundle.
+
+use crate::texts::Texts;
+use crate::world::Chain;
+use serde_json::Value;
+use std::alloc::Global;
+use wesl_link_symbols::ids::{NameId, PathId};
+
+/// What is told of the link of a bundle.
+#[derive(Drop)]
+pub struct Explanation {
+    /// What the numbers below stand for.
+    pub texts: Texts,
+    /// The modules that were loaded, the root first and the others in path order.
+    pub modules: Vec<LoadedModule>,
+    /// The declarations that are held, in the order of the linked unit.
+    pub held: Vec<HeldDeclaration>,
+    /// Where printed names read otherwise than they should.
+    pub clashes: Vec<NameClash>,
+    /// The names that nothing declares and that are not built in.
+    pub free: Vec<FreeName>,
+    /// The imports of loaded modules that nothing uses.
+    pub unused: Vec<UnusedImport>,
+    /// Why the bundle is refused: nothing where it links.
+    pub faults: Vec<Fault>,
+}
+
+impl Explanation {
+    /// Nothing is told. It takes no memory.
+    pub fn nothing(alloc: Global) -> Explanation {
+        Explanation {
+            texts: Texts::none(alloc),
+            modules: Vec::new(alloc),
+            held: Vec::new(alloc),
+            clashes: Vec::new(alloc),
+            free: Vec::new(alloc),
+            unused: Vec::new(alloc),
+            faults: Vec::new(alloc),
+        }
+    }
+}
+
+/// A module that was loaded.
+#[derive(Drop)]
+pub struct LoadedModule {
+    pub path: PathId,
+    /// why it was loaded
+    pub chain: Chain,
+}
+
+/// A declaration that is held.
+#[derive(Drop)]
+pub struct HeldDeclaration {
+    /// its module
+    pub path: PathId,
+    /// its name there; a const_assert has none
+    pub name: Option<NameId>,
+    /// the name that it prints as
+    pub printed: String,
+    /// why it is held
+    pub chain: Chain,
+}
+
+/// What an identifier stands for.
+#[derive(Clone, Copy)]
+pub enum Meaning {
+    /// The held declaration of this number.
+    Held(usize),
+    /// A parameter, or a name that is declared in a function.
+    Local,
+    /// A name that the linked unit does not declare.
+    Outer,
+}
+
+/// What is read where a name clashes.
+#[derive(Clone, Copy)]
+pub enum Read {
+    /// The name reads as this.
+    As(Meaning),
+    /// The name reads as nothing.
+    Nothing,
+    /// Two declarations have the name, the other is this.
+    Twice(Meaning),
+}
+
+/// What helps where a name clashes.
+#[derive(Clone, Copy)]
+pub enum Cure {
+    /// The bundle's `mangle_root`, which gives the root's names a form of their own.
+    MangleRoot,
+    /// The bundle's `mangler`, `escape` or `unicode` in place of `none`.
+    AnotherMangler,
+    /// Another name in the source.
+    AnotherName,
+}
+
+/// A place at which a printed name reads otherwise than it should.
+#[derive(Drop)]
+pub struct NameClash {
+    /// the printed name
+    pub name: String,
+    /// the held declaration that it stands in
+    pub within: Option<usize>,
+    /// what it stands for
+    pub meant: Meaning,
+    /// what is read
+    pub read: Read,
+    /// what helps
+    pub cures: Vec<Cure>,
+}
+
+/// A name that stays free.
+#[derive(Drop)]
+pub struct FreeName {
+    pub name: String,
+    /// the declared name that is nearest to it, if one is near
+    pub near: Option<(PathId, NameId)>,
+}
+
+/// An import that nothing uses.
+#[derive(Clone, Copy)]
+pub struct UnusedImport {
+    /// the module that imports
+    pub path: PathId,
+    /// the name that is bound there
+    pub bound: NameId,
+    /// the module that is imported from
+    pub from: PathId,
+    /// the name there
+    pub item: NameId,
+}
+
+/// Why the bundle is refused.
+#[derive(Drop)]
+pub struct Fault {
+    /// The fault as its line has it, with the declaration that it is in where that is told.
+    pub value: Value,
+    /// The same for a person.
+    pub text: String,
+}

@@ -1,0 +1,61 @@
+//! The symbol tables of the modules that a link loads.
+ghost use Rattle.std.specs.Prelude.{◌≡◌, false, IfOk, IfErr};
+
+use crate::sources::Sources;
+use std::alloc::Global;
+use wesl_link_reach::loader::{LoadError, Loader};
+use wesl_link_symbols::ids::PathId;
+use wesl_link_symbols::table::Table;
+use wesl_link_tables::numbers::Numbers;
+use wesl_link_tables::table::{Tabled, table_of};
+use wesl_resolve_base::Resolver;
+use wesl_tree::ModulePath;
+use wesl_tree_names::ResolveError;
+
+/// Reads modules and makes their tables, under one numbering.
+#[derive(Drop)]
+pub struct TableLoader<'t> {
+    pub sources: Sources<'t>,
+    pub numbers: Numbers,
+}
+
+/// The path of a number.
+fn path_of(alloc: Global, numbers: &Numbers, id: PathId) -> Option<ModulePath> {
+    match numbers.paths.path(id) {
+        Some(path) => path.try_clone(alloc).ok(),
+        None => None,
+    }
+}
+
+// Nothing is promised of what is handed out, and no path is refused before it is asked for.
+impl Loader<ResolveError> for TableLoader<'_> {
+    ghost hands = { λ _ _ _. Unit {0} };
+
+    ghost refuses = { λ _ _ _. Unit {0} };
+
+    ghost ready = { λ _ _. Unit {0} };
+
+    fn load(&mut self, alloc: Global, path: PathId) -> Result<Table, LoadError<ResolveError>> {
+        let Some(module) = path_of(alloc, &self.numbers, path) else {
+            return Err(LoadError::Memory);
+        };
+        if module.is_relative() {
+            return Err(LoadError::Memory);
+        }
+        let Some(id) = self.numbers.path(alloc, &module).ok() else {
+            return Err(LoadError::Memory);
+        };
+        if id != path {
+            return Err(LoadError::Memory);
+        }
+        let mut unit = match self.sources.resolve_module(alloc, &module) {
+            Ok(unit) => unit,
+            Err(refusal) => return Err(LoadError::Refused(refusal)),
+        };
+        unit.remove_voids();
+        match table_of(alloc, &mut self.numbers, id, &module, &unit) {
+            Ok(Tabled { table, marks: _ }) => Ok(table),
+            Err(_) => Err(LoadError::Memory),
+        }
+    }
+}

@@ -1,0 +1,73 @@
+//! The program `wesl-explain`: a bundle in, and why its link is as it is, told to a person or as JSON.
+#![tactic(auto)]
+
+mod as_json;
+mod asking;
+mod chains;
+mod clashing;
+mod explaining;
+mod explanation;
+mod faults;
+mod freeing;
+mod holding;
+mod loading;
+mod packages;
+mod sources;
+mod telling;
+mod text;
+mod texts;
+mod wgsl_names;
+mod words;
+mod world;
+
+use crate::telling::{bytes_of, told_of, write_told};
+use crate::words::{command, wish_of};
+use std::fs::File;
+use std::process::ExitCode;
+
+/// Ends with 0 where the bundle links, with 1 where it is refused, and with 2 for wrong words and where a read or a write
+/// failed.
+fn main(rt: HostRuntime) -> ExitCode {
+    let alloc = rt.alloc();
+    let words: Vec<String> = match std::env::args(&rt) {
+        Ok(given) => match given.collect(alloc) {
+            Ok(words) => words,
+            Err(_) => return ExitCode::from(2),
+        },
+        Err(_) => return ExitCode::from(2),
+    };
+    let command = match command(alloc) {
+        Ok(command) => command,
+        Err(_) => return ExitCode::from(2),
+    };
+    let matches = match command.try_get_matches_from(words.as_slice()) {
+        Ok(matches) => matches,
+        Err(error) => {
+            let is_mistake = error.use_stderr();
+            return match error.print(&rt) {
+                Ok(()) if !is_mistake => ExitCode::SUCCESS,
+                _ => ExitCode::from(2),
+            };
+        }
+    };
+    let wish = wish_of(&matches);
+    let bytes = match wish.file {
+        None => bytes_of(alloc, &mut rt.stdin()),
+        Some(path) => match File::open(&rt, path) {
+            Ok(mut file) => bytes_of(alloc, &mut file),
+            Err(_) => None,
+        },
+    };
+    let Some(bytes) = bytes else {
+        let _ = eprintln!(rt; "wesl-explain: the bundle cannot be read");
+        return ExitCode::from(2);
+    };
+    let told = match told_of(alloc, &bytes, wish.is_json) {
+        Ok(told) => told,
+        Err(_) => {
+            let _ = eprintln!(rt; "wesl-explain: out of memory");
+            return ExitCode::from(2);
+        }
+    };
+    write_told(&told, &mut rt.stdout()).status()
+}

@@ -1,0 +1,79 @@
+//! What is written, and how the program ends.
+ghost use Rattle.std.specs.Prelude.{string_bytes};
+ghost use Rattle.wesl_explain.specs.Ends.{Ends};
+
+use crate::as_json::json_of;
+use crate::explaining::explained;
+use crate::explanation::Explanation;
+use crate::text::text_of;
+use std::alloc::{AllocError, Global};
+use std::io::{Read, Write};
+use std::process::ExitCode;
+use wesl_program::{NotedStream, read_whole, write_whole};
+
+/// How the program ends once something is told.
+#[derive(Clone, Copy, PartialEq, Eq)]
+pub enum Ending {
+    /// The bundle links.
+    Linked,
+    /// The bundle is refused.
+    Refused,
+    /// A write failed or took no byte, as where the reader of a pipe is gone.
+    Unwritten,
+}
+
+impl Ending {
+    /// The status: 0, 1 and 2.
+    pub fn status(self) -> ExitCode {
+        match self {
+            Ending::Linked => ExitCode::SUCCESS,
+            Ending::Refused => ExitCode::from(1),
+            Ending::Unwritten => ExitCode::from(2),
+        }
+    }
+}
+
+/// All bytes of a reader, unless a read fails or memory is wanting.
+pub fn bytes_of<R: Read>(alloc: Global, reader: &mut R) -> Option<Vec<u8>> {
+    read_whole(alloc, &mut NotedStream::new(reader)).ok()
+}
+
+/// What is told of a bundle: whether it links, and the text.
+#[derive(Drop)]
+pub struct Told {
+    is_linked: bool,
+    text: String,
+}
+
+/// What is told of the bundle that the bytes are, as text or as JSON.
+pub fn told_of(alloc: Global, bytes: &[u8], is_json: bool) -> Result<Told, AllocError> {
+    let explanation = explained(alloc, bytes)?;
+    let text = form_of(alloc, &explanation, is_json)?;
+    Ok(Told {
+        is_linked: explanation.faults.is_empty(),
+        text,
+    })
+}
+
+fn form_of(alloc: Global, told: &Explanation, is_json: bool) -> Result<String, AllocError> {
+    if is_json {
+        json_of(alloc, told)
+    } else {
+        text_of(alloc, told)
+    }
+}
+
+/// Writes what is told, and says how the program ends. Where the reader is gone, as the end of a pipe, nothing is said of it.
+pub fn write_told<W: Write>(told: &Told, writer: &mut W) -> Ending
+    ensures { Ends told.now.is_linked (string_bytes told.now.text) (W.contents writer.old) (W.contents writer.new) result }
+{
+    let mut noted = NotedStream::new(writer);
+    if !write_whole(&mut noted, told.text.as_bytes()) {
+        return Ending::Unwritten;
+    }
+    if told.is_linked {
+        Ending::Linked
+    } else {
+        Ending::Refused
+    }
+}
