@@ -51,4 +51,6 @@ AreSpelledTwoStages reply before = (u : UnitView) × AreTwoStages reply u × (sp
 
 -- every choice that agrees with the answers on the flags of a unit picks the same before and after
 abbrev pub Picks : Replies Text → UnitView → UnitView → Type 0
-Picks reply before after = (choice : Choice ℕ) → AgreesOn (flags_of (trees_of before)) choice (known (by_number before.names reply)) → picked_unit choice (trees_of after) ≡ picked_unit choice (trees_of before)
+Picks reply before after =
+    (choice : Choice ℕ) → AgreesOn (flags_of (trees_of before)) choice (known (by_number before.names reply))
+    → picked_unit choice (trees_of after) ≡ picked_unit choice (trees_of before)

@@ -71,7 +71,8 @@ ending = tree (kind continuing) (tree (kind attributes) on_else (body (statement
 abbrev pub looping : ForestOf Text
 looping =
     tree (at declaration_node 0 0) (tree (kind function) (tree (kind attributes) end (tree (ident binder a) end (tree (kind parameters) end (tree (kind attributes) end (tree (kind absent) end
-    (body (tree (at statement_node 0 0) (tree (kind loop) (tree (kind attributes) end (body (statement (on_flag X) (statement (on_elif Y) end)) (tree (kind present) ending end))) end) end) end)))))) end) end
+    (body (tree (at statement_node 0 0) (tree (kind loop) (tree (kind attributes) end
+    (body (statement (on_flag X) (statement (on_elif Y) end)) (tree (kind present) ending end))) end) end) end)))))) end) end
 
 -- @if(X) const a; @else const a; fn g() ..
 abbrev pub looped : UnitOf Text

@@ -26,6 +26,10 @@ module _ {I : Type 0} where
   conditions end = []
   conditions (tree l attribute others) = and_rest (condition_at attribute) (conditions others)
 
+  -- the faults of their formulas
+  abbrev pub all_condition_faults : Replies I → ForestOf I → List (Fault I)
+  all_condition_faults reply attributes = flat_map (condition_faults reply) (conditions attributes)
+
   abbrev pub conditions_of : Element I → List (Condition I)
   conditions_of x = conditions (attributes_in (tree x.label x.children end))
 
@@ -68,6 +72,9 @@ module _ {I : Type 0} where
 
 -- a fault stands in a list that is judged, or, where the list has none, inside its nodes that stay
 pub data Stands {I : Type 0} (reply : Replies I) : Bool → ForestOf I → Fault I → Type 0 where
-  here : {held : Bool} {l : LabelOf I} {children others : ForestOf I} {f : Fault I} → is_entered l ≡ true → IsAmong f (list_faults reply false (list_at held l children)) → Stands reply held (tree l children others) f
-  inside : {held : Bool} {l : LabelOf I} {children others : ForestOf I} {f : Fault I} → is_entered l ≡ true → list_faults reply false (list_at held l children) ≡ [] → Stands reply (holds_body held l) (judged (staying element (known reply)) held l children) f → Stands reply held (tree l children others) f
+  here : {held : Bool} {l : LabelOf I} {children others : ForestOf I} {f : Fault I}
+      → is_entered l ≡ true → IsAmong f (list_faults reply false (list_at held l children)) → Stands reply held (tree l children others) f
+  inside : {held : Bool} {l : LabelOf I} {children others : ForestOf I} {f : Fault I}
+      → is_entered l ≡ true → list_faults reply false (list_at held l children) ≡ []
+      → Stands reply (holds_body held l) (judged (staying element (known reply)) held l children) f → Stands reply held (tree l children others) f
   beside : {held : Bool} {l : LabelOf I} {children others : ForestOf I} {f : Fault I} → Stands reply held others f → Stands reply held (tree l children others) f

@@ -1,5 +1,5 @@
 -- What judging the conditions of a module promises.
-use Rattle.std.specs.Prelude.{◌≡◌, ℕ, List, ◌++◌, ◌⊎◌, Bool, false, true, Result, Ok, Err}
+use Rattle.std.specs.Prelude.{◌≡◌, ℕ, List, [], ◌∷◌, ◌++◌, ◌⊎◌, Bool, false, true, cond, Result, Ok, Err}
 use Rattle.wesl_cond_chains.specs.Faults.{Stands, list_faults}
 use Rattle.wesl_cond_chains.specs.Lists.{Element, element, back, elements}
 use Rattle.wesl_cond_chains.specs.Chains.{staying}
@@ -10,7 +10,8 @@ use Rattle.wesl_cond_features.specs.Features.{Replies}
 use Rattle.wesl_tree_names.specs.Path.{Text}
 use Rattle.wesl_tree_names.specs.declared.errors.Diagnostic.{Diagnostic, out-Diagnostic}
 use Rattle.wesl_tree_names.specs.declared.errors.Error as error
-use Rattle.wesl_tree_syntax.specs.Tree.{Forest}
+use Rattle.wesl_cond_chains.specs.Nodes.{as_element, as_elements}
+use Rattle.wesl_tree_syntax.specs.Tree.{Forest, Tree, end}
 
 -- no fault stands in some trees
 abbrev pub IsClear : Replies ℕ → Forest → Type 0
@@ -33,3 +34,14 @@ ListBegins names reply opened xs (Err told) = (rest : List (Element ℕ)) → Re
 -- what closes a list, if it stays
 abbrev pub closing : Answers ℕ → Forest → Forest → Forest
 closing answers items last = back true (staying element answers (elements false items ++ elements true last))
+
+-- whether it does
+abbrev pub Closes : Answers ℕ → Forest → Forest → Bool → Type 0
+Closes answers items last stays = closing answers items last ≡ cond stays last end
+
+-- the next node of the code judged, and the nodes at the beginning of a list, whether or not they close it
+abbrev pub NodeBegins : List Text → Replies ℕ → Bool → Tree → Result Bool Diagnostic → Type 0
+NodeBegins names reply opened t result = (closes : Bool) → ListBegins names reply opened (as_element closes t ∷ []) result
+
+abbrev pub NodesBegin : {A : Type 0} → List Text → Replies ℕ → (A → Tree) → List A → Result Bool Diagnostic → Type 0
+NodesBegin names reply view xs result = (closes : Bool) → ListBegins names reply false (as_elements closes view xs) result

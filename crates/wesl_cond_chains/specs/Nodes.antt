@@ -1,11 +1,11 @@
 -- The nodes of the code as nodes of a judged list.
-use Rattle.std.specs.Prelude.{ℕ, Bool, true, false, List, [], ◌∷◌, map, Option, Some, None}
+use Rattle.std.specs.Prelude.{ℕ, Bool, true, false, List, [], ◌∷◌, ◌++◌, map, Option, Some, None}
 use Rattle.wesl_cond_features.specs.declared.chain.Role.{Role}
 use Rattle.wesl_cond_chains.specs.declared.conditions.Condition.{Condition as Lent}
 use Rattle.wesl_cond_chains.specs.declared.conditions.Condition.TheVariants as lent
 use Rattle.wesl_cond_chains.specs.Chains.{Condition, none, on, else_on, otherwise, recast_condition}
 use Rattle.wesl_cond_chains.specs.Conditions.{first_spot, condition_at, attribute_of}
-use Rattle.wesl_cond_chains.specs.Lists.{Element}
+use Rattle.wesl_cond_chains.specs.Lists.{Element, elements}
 use Rattle.wesl_cond_features.specs.Answers.{Answers}
 use Rattle.wesl_cond_features.specs.Features.{Replies, answer_to, known, by_number}
 use Rattle.wesl_cond_features.specs.declared.features.Features.{Features}
@@ -86,6 +86,13 @@ is_several cs = several_after false cs
 abbrev pub as_element : Bool → Tree → Element ℕ
 as_element closes t = record { closes = closes; label = t.label; children = t.children }
 
+-- the nodes of a list of the code
+abbrev pub nodes_forest : {A : Type 0} → (A → Tree) → List A → Forest
+nodes_forest view xs = forest_of (map view xs)
+
+abbrev pub as_elements : {A : Type 0} → Bool → (A → Tree) → List A → List (Element ℕ)
+as_elements closes view xs = map (λ x. as_element closes (view x)) xs
+
 -- what closes a list, if there is anything
 abbrev pub optional_elements : {A : Type 0} → Bool → (A → Tree) → Option A → List (Element ℕ)
 optional_elements closes view None = []
@@ -94,3 +101,10 @@ optional_elements closes view (Some x) = as_element closes (view x) ∷ []
 abbrev pub optional_forest : {A : Type 0} → (A → Tree) → Option A → Forest
 optional_forest view None = end
 optional_forest view (Some x) = before (view x) end
+
+-- a list of the code, and one with what closes it, if there is anything, as judged lists
+abbrev pub nodes_in : {A : Type 0} → (A → Tree) → List A → List (Element ℕ)
+nodes_in view xs = elements false (nodes_forest view xs)
+
+abbrev pub closed_nodes : {A B : Type 0} → (A → Tree) → List A → (B → Tree) → Option B → List (Element ℕ)
+closed_nodes view xs last_view last = nodes_in view xs ++ elements true (optional_forest last_view last)

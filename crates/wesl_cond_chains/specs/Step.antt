@@ -1,9 +1,13 @@
 -- One step of what is left of a formula.
-use Rattle.std.specs.Prelude.{ℕ, Option, Some, None}
+use Rattle.std.specs.Prelude.{ℕ, [], ◌∷◌, Option, Some, None}
 use Rattle.wesl_cond_features.specs.Answers.{Answers}
 use Rattle.wesl_cond_chains.specs.Formulas.{Form, always, never, flag, templated, within, negation, conjunction, disjunction, other, form}
 use Rattle.wesl_cond_chains.specs.FormulaResidual.{flag_as, parenthesized, negated, both_of, either_of, residual}
-use Rattle.wesl_tree_syntax.specs.View.{expression_view}
+use Rattle.wesl_tree_base.specs.declared.span.Span.{Span}
+use Rattle.wesl_tree_syntax.specs.Tree.{branch, type_or_identifier}
+use Rattle.wesl_tree_syntax.specs.View.{expression_view, type_view}
+use Rattle.wesl_tree_syntax.specs.declared.expression.TypeExpression.{TypeExpression}
+use Rattle.wesl_tree_syntax.specs.declared.span.Spanned.{Spanned}
 use Rattle.wesl_tree_syntax.specs.declared.expression.Expression.{Expression}
 
 module _ {I : Type 0} where
@@ -31,7 +35,19 @@ module _ {I : Type 0} where
   step known (disjunction p f q g) = either_of p f q g
   step known (other l c) = other l c
 
+-- the formula that an expression of the code is
+abbrev pub form_of : Expression → Form ℕ
+form_of e = form (expression_view e)
+
+-- the formula that a name is, with the template arguments that it may have
+abbrev pub name_form : TypeExpression → Form ℕ
+name_form ty = form (branch type_or_identifier (type_view ty ∷ []))
+
+-- two operands of the code joined, where `join` is a conjunction, say
+abbrev pub joined : (Span → Form ℕ → Span → Form ℕ → Form ℕ) → Spanned Expression → Spanned Expression → Form ℕ
+joined join left right = join left.span (form_of left.node) right.span (form_of right.node)
+
 -- what takes the place of a formula, or else the formula
 abbrev pub instead : Option Expression → Form ℕ → Form ℕ
 instead None f = f
-instead (Some e) f = form (expression_view e)
+instead (Some e) f = form_of e

@@ -1,13 +1,10 @@
 //! The faults of the conditions of a list.
-ghost use Rattle.std.specs.Prelude.{◌≡◌, Bool, ◌∷◌, [], ◌++◌, List, map, false, true};
-ghost use Rattle.std.specs.List.{flat_map};
-ghost use Rattle.wesl_cond_chains.specs.Faults.{condition_faults, conditions, list_faults, opens, place_faults};
-ghost use Rattle.wesl_cond_chains.specs.Judging.{ListBegins};
-ghost use Rattle.wesl_cond_chains.specs.Lists.{elements};
-ghost use Rattle.wesl_cond_chains.specs.Nodes.{as_element, attributes_forest, condition_of_attribute, is_several, optional_forest, replies};
+ghost use Rattle.std.specs.Prelude.{◌≡◌, List, false, true};
+ghost use Rattle.wesl_cond_chains.specs.Faults.{condition_faults, conditions, list_faults, opens, place_faults, all_condition_faults};
+ghost use Rattle.wesl_cond_chains.specs.Judging.{NodeBegins, NodesBegin};
+ghost use Rattle.wesl_cond_chains.specs.Nodes.{attributes_forest, condition_of_attribute, is_several, replies, closed_nodes, nodes_in};
 ghost use Rattle.wesl_cond_chains.specs.Evaluation.{Judges};
 ghost use Rattle.wesl_tree_names.specs.Path.{Text};
-ghost use Rattle.wesl_tree_syntax.specs.Tree.{forest_of};
 
 use crate::conditions::{Condition, condition_of, follows_on, is_condition};
 use crate::judge::check_formula;
@@ -72,7 +69,7 @@ fn check_formulas(
     names: &Names,
     features: &Features,
 ) -> Result<(), Diagnostic>
-    ensures { Judges names.now (flat_map (condition_faults (replies names.now features.now)) (conditions (attributes_forest attributes.now))) result }
+    ensures { Judges names.now (all_condition_faults (replies names.now features.now) (attributes_forest attributes.now)) result }
 {
     for attribute in attributes {
         match check_attribute(alloc, &attribute.node, names, features) {
@@ -106,7 +103,7 @@ fn check_node<T: Conditional>(
     names: &Names,
     features: &Features,
 ) -> Result<bool, Diagnostic>
-    ensures { (closes : Bool) → ListBegins names.now (replies names.now features.now) opened (as_element closes (T.tree node.now) ∷ []) result }
+    ensures { NodeBegins names.now (replies names.now features.now) opened (T.tree node.now) result }
 {
     if node.is_void() {
         return Ok(opened);
@@ -128,7 +125,7 @@ fn check_nodes<T: Conditional>(
     names: &Names,
     features: &Features,
 ) -> Result<bool, Diagnostic>
-    ensures { (closes : Bool) → ListBegins names.now (replies names.now features.now) false (map (λ x. as_element closes (T.tree x)) nodes.now.items) result }
+    ensures { NodesBegin names.now (replies names.now features.now) T.tree nodes.now.items result }
 {
     let mut opened = false;
     for node in nodes {
@@ -147,7 +144,7 @@ pub fn check_list<T: Conditional>(
     names: &Names,
     features: &Features,
 ) -> Result<(), Diagnostic>
-    ensures { Judges names.now (list_faults (replies names.now features.now) false (elements false (forest_of (map T.tree nodes.now.items)))) result }
+    ensures { Judges names.now (list_faults (replies names.now features.now) false (nodes_in T.tree nodes.now.items)) result }
 {
     match check_nodes(alloc, nodes, names, features) {
         Ok(_) => Ok(()),
@@ -163,7 +160,7 @@ pub fn check_both<T: Conditional, L: Conditional>(
     names: &Names,
     features: &Features,
 ) -> Result<(), Diagnostic>
-    ensures { Judges names.now (list_faults (replies names.now features.now) false (elements false (forest_of (map T.tree nodes.now.items)) ++ elements true (optional_forest L.tree last.now))) result }
+    ensures { Judges names.now (list_faults (replies names.now features.now) false (closed_nodes T.tree nodes.now.items L.tree last.now)) result }
 {
     match check_nodes(alloc, nodes, names, features) {
         Ok(opened) => match last {

@@ -1,12 +1,11 @@
 //! What is left of a formula, in its own place.
-ghost use Rattle.std.specs.Prelude.{◌≡◌, [], ◌∷◌};
-ghost use Rattle.wesl_cond_features.specs.Features.{answer_to, known, by_number};
-ghost use Rattle.wesl_cond_chains.specs.Formulas.{conjunction, disjunction, form, negation, within, written};
+ghost use Rattle.std.specs.Prelude.{◌≡◌};
+ghost use Rattle.wesl_cond_chains.specs.Formulas.{conjunction, disjunction, negation, within, written};
 ghost use Rattle.wesl_cond_chains.specs.FormulaResidual.{decided, either_of, both_of, literal, negated, parenthesized, residual, is_joined};
-ghost use Rattle.wesl_cond_chains.specs.Step.{instead, operands_left, step};
-ghost use Rattle.wesl_tree_syntax.specs.Tree.{branch, type_or_identifier};
+ghost use Rattle.wesl_cond_chains.specs.Nodes.{answers};
+ghost use Rattle.wesl_cond_chains.specs.Step.{form_of, instead, joined, name_form, operands_left, step};
 ghost use Rattle.wesl_tree_syntax.specs.Unit.{name_in};
-ghost use Rattle.wesl_tree_syntax.specs.View.{expression_view, type_view};
+ghost use Rattle.wesl_tree_syntax.specs.View.{expression_view};
 
 use std::mem;
 use wesl_cond_features::{Feature, Features, Truth};
@@ -28,7 +27,7 @@ pub fn name_of<'a>(names: &'a Names, ident: Ident) -> &'a str
 
 /// Whether an expression is `true` or `false`, and which.
 pub fn literal_value(expression: &Expression) -> Truth
-    ensures { result ≡ literal (form (expression_view expression.now)) }
+    ensures { result ≡ literal (form_of expression.now) }
 {
     match expression {
         Expression::Literal(Literal::Bool(true)) => Truth::Yes,
@@ -46,7 +45,7 @@ pub fn literal_value(expression: &Expression) -> Truth
 
 /// Whether an expression joins two formulas.
 fn is_joined(expression: &Expression) -> bool
-    ensures { result ≡ is_joined (form (expression_view expression.now)) }
+    ensures { result ≡ is_joined (form_of expression.now) }
 {
     match expression {
         Expression::Binary {
@@ -76,7 +75,7 @@ fn taken(node: &mut ExpressionNode) -> Expression
 /// What takes the place of a formula in parentheses, if anything does: they stay only round a formula that joins two.
 #[tactic(auto, using(crate::proofs::Steps::parenthesized_rule))]
 fn unwrapped(inner: &mut ExpressionNode) -> Option<Expression>
-    ensures { instead result (within inner.new.span (form (expression_view inner.new.node))) ≡ parenthesized inner.old.span (form (expression_view inner.old.node)) }
+    ensures { instead result (within inner.new.span (form_of inner.new.node)) ≡ parenthesized inner.old.span (form_of inner.old.node) }
 {
     if is_joined(&inner.node) {
         None
@@ -87,7 +86,7 @@ fn unwrapped(inner: &mut ExpressionNode) -> Option<Expression>
 
 /// What takes the place of a negation, if anything does: the other literal.
 fn negated(operand: &ExpressionNode) -> Option<Expression>
-    ensures { instead result (negation operand.now.span (form (expression_view operand.now.node))) ≡ negated operand.now.span (form (expression_view operand.now.node)) }
+    ensures { instead result (negation operand.now.span (form_of operand.now.node)) ≡ negated operand.now.span (form_of operand.now.node) }
 {
     match literal_value(&operand.node) {
         Truth::Yes => Some(Expression::Literal(Literal::Bool(false))),
@@ -98,7 +97,7 @@ fn negated(operand: &ExpressionNode) -> Option<Expression>
 
 /// What takes the place of `left && right`, if anything does.
 fn both(left: &mut ExpressionNode, right: &mut ExpressionNode) -> Option<Expression>
-    ensures { instead result (conjunction left.new.span (form (expression_view left.new.node)) right.new.span (form (expression_view right.new.node))) ≡ both_of left.old.span (form (expression_view left.old.node)) right.old.span (form (expression_view right.old.node)) }
+    ensures { instead result (joined conjunction left.new right.new) ≡ joined both_of left.old right.old }
 {
     match (literal_value(&left.node), literal_value(&right.node)) {
         (Truth::No, _) | (_, Truth::No) => Some(Expression::Literal(Literal::Bool(false))),
@@ -111,7 +110,7 @@ fn both(left: &mut ExpressionNode, right: &mut ExpressionNode) -> Option<Express
 
 /// What takes the place of `left || right`, if anything does.
 fn either(left: &mut ExpressionNode, right: &mut ExpressionNode) -> Option<Expression>
-    ensures { instead result (disjunction left.new.span (form (expression_view left.new.node)) right.new.span (form (expression_view right.new.node))) ≡ either_of left.old.span (form (expression_view left.old.node)) right.old.span (form (expression_view right.old.node)) }
+    ensures { instead result (joined disjunction left.new right.new) ≡ joined either_of left.old right.old }
 {
     match (literal_value(&left.node), literal_value(&right.node)) {
         (Truth::Yes, _) | (_, Truth::Yes) => Some(Expression::Literal(Literal::Bool(true))),
@@ -124,7 +123,7 @@ fn either(left: &mut ExpressionNode, right: &mut ExpressionNode) -> Option<Expre
 
 /// What takes the place of a name, if anything does: the literal that is known of its flag.
 fn answered(ty: &TypeExpression, names: &Names, features: &Features) -> Option<Expression>
-    ensures { instead result (form (branch type_or_identifier (type_view ty.now ∷ []))) ≡ residual (known (by_number names.now (answer_to features.now))) (form (branch type_or_identifier (type_view ty.now ∷ []))) }
+    ensures { instead result (name_form ty.now) ≡ residual (answers names.now features.now) (name_form ty.now) }
 {
     if ty.template_args.is_some() {
         return None;
@@ -138,14 +137,14 @@ fn answered(ty: &TypeExpression, names: &Names, features: &Features) -> Option<E
 
 /// Leaves what is left of a formula under the features. Operands move within it, so no memory is taken.
 pub fn simplify(formula: &mut Expression, names: &Names, features: &Features)
-    ensures { expression_view formula.new ≡ written (residual (known (by_number names.now (answer_to features.now))) (form (expression_view formula.old))) }
+    ensures { expression_view formula.new ≡ written (residual (answers names.now features.now) (form_of formula.old)) }
 {
     leave(formula, names, features);
 }
 
 #[cycle(simplifying)]
 fn leave(formula: &mut Expression, names: &Names, features: &Features)
-    ensures { form (expression_view formula.new) ≡ residual (known (by_number names.now (answer_to features.now))) (form (expression_view formula.old)) }
+    ensures { form_of formula.new ≡ residual (answers names.now features.now) (form_of formula.old) }
 {
     leave_operands(formula, names, features);
     if let Some(instead) = instead_of(formula, names, features) {
@@ -156,7 +155,7 @@ fn leave(formula: &mut Expression, names: &Names, features: &Features)
 /// Leaves what is left of the operands of a formula.
 #[cycle(simplifying)]
 fn leave_operands(formula: &mut Expression, names: &Names, features: &Features)
-    ensures { form (expression_view formula.new) ≡ operands_left (known (by_number names.now (answer_to features.now))) (form (expression_view formula.old)) }
+    ensures { form_of formula.new ≡ operands_left (answers names.now features.now) (form_of formula.old) }
 {
     match formula {
         Expression::Parenthesized { expression } => leave(&mut expression.node, names, features),
@@ -184,7 +183,7 @@ fn leave_operands(formula: &mut Expression, names: &Names, features: &Features)
 
 /// What takes the place of a formula of whose operands nothing more goes, if anything does.
 fn instead_of(formula: &mut Expression, names: &Names, features: &Features) -> Option<Expression>
-    ensures { instead result (form (expression_view formula.new)) ≡ step (known (by_number names.now (answer_to features.now))) (form (expression_view formula.old)) }
+    ensures { instead result (form_of formula.new) ≡ step (answers names.now features.now) (form_of formula.old) }
 {
     match formula {
         Expression::Parenthesized { expression } => unwrapped(expression),
@@ -215,7 +214,7 @@ fn instead_of(formula: &mut Expression, names: &Names, features: &Features) -> O
 /// Whether the features decide a formula, and how.
 #[tactic(auto, using(crate::proofs::Steps::decides))]
 pub fn decided(formula: &Expression, names: &Names, features: &Features) -> Truth
-    ensures { result ≡ decided (known (by_number names.now (answer_to features.now))) (form (expression_view formula.now)) }
+    ensures { result ≡ decided (answers names.now features.now) (form_of formula.now) }
 {
     match formula {
         Expression::Literal(Literal::Bool(true)) => Truth::Yes,

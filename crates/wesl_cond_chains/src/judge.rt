@@ -2,12 +2,10 @@
 ghost use Rattle.std.specs.Prelude.{◌≡◌, ℕ, List, [], ◌∷◌};
 ghost use Rattle.wesl_cond_chains.specs.Evaluation.{Judges, Refuses};
 ghost use Rattle.wesl_cond_chains.specs.FormulaFaults.{formula_faults, invalid_flag, unexpected_flag};
-ghost use Rattle.wesl_cond_features.specs.Features.{answer_to, by_number};
-ghost use Rattle.wesl_cond_chains.specs.Formulas.{form};
+ghost use Rattle.wesl_cond_chains.specs.Nodes.{replies};
+ghost use Rattle.wesl_cond_chains.specs.Step.{form_of, name_form};
 ghost use Rattle.wesl_tree_names.specs.Path.{Text};
-ghost use Rattle.wesl_tree_syntax.specs.Tree.{branch, type_or_identifier};
 ghost use Rattle.wesl_tree_syntax.specs.Unit.{name_in};
-ghost use Rattle.wesl_tree_syntax.specs.View.{expression_view, type_view};
 
 use crate::formula::name_of;
 use std::alloc::Global;
@@ -45,7 +43,7 @@ fn check_flag(
     names: &Names,
     features: &Features,
 ) -> Result<(), Diagnostic>
-    ensures { Judges names.now (formula_faults (by_number names.now (answer_to features.now)) (form (branch type_or_identifier (type_view ty.now ∷ [])))) result }
+    ensures { Judges names.now (formula_faults (replies names.now features.now) (name_form ty.now)) result }
 {
     let name = name_of(names, ty.ident);
     if ty.template_args.is_some() {
@@ -66,7 +64,7 @@ pub fn check_formula(
     names: &Names,
     features: &Features,
 ) -> Result<(), Diagnostic>
-    ensures { Judges names.now (formula_faults (by_number names.now (answer_to features.now)) (form (expression_view formula.now.node))) result }
+    ensures { Judges names.now (formula_faults (replies names.now features.now) (form_of formula.now.node)) result }
 {
     match &formula.node {
         Expression::Literal(Literal::Bool(true)) => Ok(()),

@@ -1,12 +1,11 @@
 //! What stays of a list of nodes, left within its own room.
-ghost use Rattle.std.specs.Prelude.{◌≡◌, Bool, ◌++◌, true, false, cond, map};
-ghost use Rattle.wesl_cond_chains.specs.Chains.{residual_list};
+ghost use Rattle.std.specs.Prelude.{◌≡◌};
 ghost use Rattle.wesl_cond_chains.specs.Conditions.{attributes_in, is_void, recast, with_attributes};
-ghost use Rattle.wesl_cond_chains.specs.Lists.{alone, element, elements, still};
-ghost use Rattle.wesl_cond_chains.specs.Judging.{closing};
-ghost use Rattle.wesl_cond_chains.specs.Nodes.{answers, as_element, attributes_forest, optional_elements, optional_forest};
-ghost use Rattle.wesl_cond_chains.specs.Following.{AreTurns, Ends, IsTurn};
-ghost use Rattle.wesl_tree_syntax.specs.Tree.{Tree, before, end, forest_of};
+ghost use Rattle.wesl_cond_chains.specs.Lists.{element, still};
+ghost use Rattle.wesl_cond_chains.specs.Judging.{Closes};
+ghost use Rattle.wesl_cond_chains.specs.Nodes.{answers, attributes_forest, nodes_forest, optional_forest};
+ghost use Rattle.wesl_cond_chains.specs.Following.{LeavesBoth, LeavesLast, LeavesNodes, PassesNodes, TakesNode, left_of_list};
+ghost use Rattle.wesl_tree_syntax.specs.Tree.{Tree, before, end};
 
 use crate::conditions::{follows_on, holds};
 use wesl_cond_features::{Chain, Features, Role};
@@ -35,7 +34,7 @@ pub trait Conditional {
 
 /// Takes the next node of a list, marks it if it stays, and says whether it does.
 fn keep<T: Conditional>(node: &mut T, chain: &mut Chain, names: &Names, features: &Features) -> bool
-    ensures { (closes : Bool) → IsTurn element (answers names.now features.now) chain.old.kept chain.old.decided (as_element closes (T.tree node.old)) chain.new.kept chain.new.decided (as_element closes (T.tree node.new)) result }
+    ensures { TakesNode element (answers names.now features.now) chain.old (T.tree node.old) chain.new (T.tree node.new) result }
 {
     if node.is_void() {
         return false;
@@ -58,7 +57,7 @@ pub fn stays<T: Conditional>(
     names: &Names,
     features: &Features,
 ) -> bool
-    ensures { (closes : Bool) → IsTurn still (answers names.now features.now) chain.old.kept chain.old.decided (as_element closes (T.tree node.now)) chain.new.kept chain.new.decided (as_element closes (T.tree node.now)) result }
+    ensures { TakesNode still (answers names.now features.now) chain.old (T.tree node.now) chain.new (T.tree node.now) result }
 {
     if node.is_void() {
         return false;
@@ -70,7 +69,7 @@ pub fn stays<T: Conditional>(
 
 /// Takes the nodes at the beginning of a list as they are.
 fn follow<T: Conditional>(nodes: &Vec<T>, chain: &mut Chain, names: &Names, features: &Features)
-    ensures { (closes : Bool) → Ends still (answers names.now features.now) chain.old.kept chain.old.decided (map (λ x. as_element closes (T.tree x)) nodes.now.items) chain.new.kept chain.new.decided }
+    ensures { PassesNodes (answers names.now features.now) T.tree chain.old nodes.now.items chain.new }
 {
     for node in nodes {
         let _ = stays(node, chain, names, features);
@@ -84,7 +83,7 @@ pub fn closes<T: Conditional, L: Conditional>(
     names: &Names,
     features: &Features,
 ) -> bool
-    ensures { closing (answers names.now features.now) (forest_of (map T.tree nodes.now.items)) (optional_forest L.tree last.now) ≡ cond result (optional_forest L.tree last.now) end }
+    ensures { Closes (answers names.now features.now) (nodes_forest T.tree nodes.now.items) (optional_forest L.tree last.now) result }
 {
     let mut chain = Chain::new();
     follow(nodes, &mut chain, names, features);
@@ -101,7 +100,7 @@ fn settle<T: Conditional + Drop>(
     names: &Names,
     features: &Features,
 )
-    ensures { (closes : Bool) → AreTurns element (answers names.now features.now) chain.old.kept chain.old.decided (map (λ x. as_element closes (T.tree x)) nodes.old.items) chain.new.kept chain.new.decided (map (λ x. as_element closes (T.tree x)) nodes.new.items) }
+    ensures { LeavesNodes (answers names.now features.now) T.tree chain.old nodes.old.items chain.new nodes.new.items }
 {
     let mut kept = 0;
     for read in 0..nodes.len() {
@@ -120,7 +119,7 @@ fn settle_last<T: Conditional + Drop>(
     names: &Names,
     features: &Features,
 )
-    ensures { (closes : Bool) → AreTurns element (answers names.now features.now) chain.old.kept chain.old.decided (optional_elements closes T.tree last.old) chain.new.kept chain.new.decided (optional_elements closes T.tree last.new) }
+    ensures { LeavesLast (answers names.now features.now) T.tree chain.old last.old chain.new last.new }
 {
     if let Some(node) = last {
         if !keep(node, chain, names, features) {
@@ -131,7 +130,7 @@ fn settle_last<T: Conditional + Drop>(
 
 /// Leaves what is left of a list whose nodes are already judged inside.
 pub fn settle_list<T: Conditional + Drop>(nodes: &mut Vec<T>, names: &Names, features: &Features)
-    ensures { forest_of (map T.tree nodes.new.items) ≡ alone (residual_list element (answers names.now features.now)) (forest_of (map T.tree nodes.old.items)) }
+    ensures { nodes_forest T.tree nodes.new.items ≡ left_of_list (answers names.now features.now) (nodes_forest T.tree nodes.old.items) }
 {
     let mut chain = Chain::new();
     settle(nodes, &mut chain, names, features);
@@ -144,7 +143,7 @@ pub fn settle_both<T: Conditional + Drop, L: Conditional + Drop>(
     names: &Names,
     features: &Features,
 )
-    ensures { map (λ x. as_element false (T.tree x)) nodes.new.items ++ optional_elements true L.tree last.new ≡ residual_list element (answers names.now features.now) (elements false (forest_of (map T.tree nodes.old.items)) ++ elements true (optional_forest L.tree last.old)) }
+    ensures { LeavesBoth (answers names.now features.now) T.tree nodes.old.items L.tree last.old nodes.new.items last.new }
 {
     let mut chain = Chain::new();
     settle(nodes, &mut chain, names, features);

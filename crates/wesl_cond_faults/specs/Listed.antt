@@ -14,7 +14,8 @@ pub data AreFaults {I : Type 0} (reply : Replies I) : Bool → ForestOf I → Li
   own : {held : Bool} {l : LabelOf I} {children others : ForestOf I} {rest : List (Place I)} → is_entered l ≡ true → (list_places reply false (list_at held l children) ≡ [] → ⊥)
       → AreFaults reply held others rest → AreFaults reply held (tree l children others) (list_places reply false (list_at held l children) ++ rest)
   inside : {held : Bool} {l : LabelOf I} {children others : ForestOf I} {inner rest : List (Place I)} → is_entered l ≡ true → list_places reply false (list_at held l children) ≡ []
-      → AreFaults reply (holds_body held l) (judged (staying element (known reply)) held l children) inner → AreFaults reply held others rest → AreFaults reply held (tree l children others) (inner ++ rest)
+      → AreFaults reply (holds_body held l) (judged (staying element (known reply)) held l children) inner
+      → AreFaults reply held others rest → AreFaults reply held (tree l children others) (inner ++ rest)
   apart : {held : Bool} {l : LabelOf I} {children others : ForestOf I} {rest : List (Place I)} → is_entered l ≡ false
       → AreFaults reply held others rest → AreFaults reply held (tree l children others) rest
 

@@ -3,13 +3,13 @@ use Rattle.std.specs.Prelude.{List, [], ◌∷◌, ◌++◌, map, Bool, cond}
 use Rattle.std.specs.List.{flat_map}
 use Rattle.wesl_cond_chains.specs.Chains.{Condition, none, on, else_on, otherwise}
 use Rattle.wesl_cond_chains.specs.Conditions.{is_void}
-use Rattle.wesl_cond_chains.specs.Faults.{conditions_of, opens, place_faults}
+use Rattle.wesl_cond_chains.specs.Faults.{conditions, conditions_of, opens, place_faults}
 use Rattle.wesl_cond_chains.specs.FormulaFaults.{Fault, invalid_flag, invalid_expression, faults_if_refused}
 use Rattle.wesl_cond_chains.specs.Formulas.{Form, always, never, flag, templated, within, negation, conjunction, disjunction, other, nowhere}
 use Rattle.wesl_cond_chains.specs.Lists.{Element}
 use Rattle.wesl_cond_features.specs.Features.{Replies}
 use Rattle.wesl_tree_base.specs.declared.span.Span.{Span}
-use Rattle.wesl_tree_syntax.specs.Tree.{LabelOf, at}
+use Rattle.wesl_tree_syntax.specs.Tree.{LabelOf, ForestOf, at}
 
 -- A fault, and the span of what is at fault: of an expression, or of a node.
 pub record Place (I : Type 0) : Type 0 where
@@ -37,6 +37,9 @@ module _ {I : Type 0} where
   condition_places reply (on x) = formula_places reply x.span x.form
   condition_places reply (else_on x) = formula_places reply x.span x.form
   condition_places reply otherwise = []
+
+  abbrev pub all_condition_places : Replies I → ForestOf I → List (Place I)
+  all_condition_places reply attributes = flat_map (condition_places reply) (conditions attributes)
 
   -- the span of a node; a kind of node without one has `0..0`
   abbrev pub span_of : LabelOf I → Span

@@ -1,14 +1,18 @@
 -- How diagnostics tell faults.
 use Rattle.std.specs.Prelude.{◌≡◌, ℕ, List, [], ◌∷◌, ◌++◌, false}
+use Rattle.wesl_cond_chains.specs.Chains.{staying}
 use Rattle.wesl_cond_chains.specs.FormulaFaults.{Tells}
+use Rattle.wesl_cond_chains.specs.Lists.{alone, element}
+use Rattle.wesl_cond_chains.specs.Nodes.{answers, nodes_forest, replies}
 use Rattle.wesl_cond_faults.specs.Listed.{AreFaults}
 use Rattle.wesl_cond_faults.specs.Places.{Place}
 use Rattle.wesl_cond_faults.specs.declared.told.Told.{Told}
 use Rattle.wesl_cond_features.specs.Features.{Replies, by_number}
+use Rattle.wesl_cond_features.specs.declared.features.Features.{Features}
 use Rattle.wesl_tree_names.specs.Errors.{IsPlaced}
 use Rattle.wesl_tree_names.specs.Path.{Text}
 use Rattle.wesl_tree_names.specs.declared.errors.Diagnostic.{Diagnostic, out-Diagnostic}
-use Rattle.wesl_tree_syntax.specs.Tree.{Forest}
+use Rattle.wesl_tree_syntax.specs.Tree.{Forest, Tree}
 use Rattle.wesl_tree_syntax.specs.Unit.{UnitView, forest_of_unit, trees_of}
 
 -- a diagnostic tells a fault, each flag by its name in the table, with its span unless that is `0..0`, and nothing else
@@ -41,3 +45,11 @@ Adds names places before after = (first : List (Place ℕ)) → IsTold names fir
 -- all faults in some trees are told after those before
 abbrev pub AddsAll : List Text → Replies ℕ → Forest → Told → Told → Type 0
 AddsAll names reply trees before after = (places : List (Place ℕ)) × AreFaults reply false trees places × Adds names places before after
+
+-- the same under the features, which answer for the flags by their names in the table
+abbrev pub AddsUnder : List Text → Features → Forest → Told → Told → Type 0
+AddsUnder names features trees before after = AddsAll names (replies names features) trees before after
+
+-- what of the nodes of a list stays under the features
+abbrev pub what_stays : {A : Type 0} → List Text → Features → (A → Tree) → List A → Forest
+what_stays names features view xs = alone (staying element (answers names features)) (nodes_forest view xs)

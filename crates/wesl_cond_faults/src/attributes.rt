@@ -1,11 +1,10 @@
 //! The faults of the conditions among the attributes of a node.
 ghost use Rattle.std.specs.Prelude.{◌≡◌, ◌&&◌, List, map, not};
-ghost use Rattle.std.specs.List.{flat_map};
 ghost use Rattle.wesl_cond_chains.specs.Chains.{follows_on};
 ghost use Rattle.wesl_cond_chains.specs.Conditions.{first_condition};
 ghost use Rattle.wesl_cond_chains.specs.Faults.{conditions, opens, place_faults};
 ghost use Rattle.wesl_cond_chains.specs.Nodes.{attributes_forest, condition_of_attribute, is_any, is_several, replies};
-ghost use Rattle.wesl_cond_faults.specs.Places.{condition_places, found_at};
+ghost use Rattle.wesl_cond_faults.specs.Places.{condition_places, found_at, all_condition_places};
 ghost use Rattle.wesl_cond_faults.specs.Telling.{Adds};
 ghost use Rattle.wesl_tree_names.specs.Path.{Text};
 
@@ -107,7 +106,7 @@ pub fn tell_formulas(
     names: &Names,
     features: &Features,
 )
-    ensures { Adds names.now (flat_map (condition_places (replies names.now features.now)) (conditions (attributes_forest attributes.now))) told.old told.new }
+    ensures { Adds names.now (all_condition_places (replies names.now features.now) (attributes_forest attributes.now)) told.old told.new }
 {
     for attribute in attributes {
         tell_attribute(told, &attribute.node, names, features);

@@ -1,11 +1,7 @@
 //! All faults of conditions in imports, directives and declarations. Nodes that do not stay are not entered, and neither are
 //! those of a list that has a fault.
-ghost use Rattle.std.specs.Prelude.{map};
-ghost use Rattle.wesl_cond_chains.specs.Chains.{staying};
-ghost use Rattle.wesl_cond_chains.specs.Lists.{alone, element};
-ghost use Rattle.wesl_cond_chains.specs.Nodes.{answers, replies};
-ghost use Rattle.wesl_cond_faults.specs.Telling.{AddsAll};
-ghost use Rattle.wesl_tree_syntax.specs.Tree.{before, declaration_node, end, forest_of};
+ghost use Rattle.wesl_cond_faults.specs.Telling.{AddsUnder, what_stays};
+ghost use Rattle.wesl_tree_syntax.specs.Tree.{before, declaration_node, end};
 ghost use Rattle.wesl_tree_syntax.specs.View.{declarations_tree, global_view, placed};
 
 use crate::lists::{is_clear, tell_list};
@@ -23,7 +19,7 @@ pub fn tell_declarations(
     names: &Names,
     features: &Features,
 )
-    ensures { AddsAll names.now (replies names.now features.now) (before (declarations_tree declarations.now) end) told.old told.new }
+    ensures { AddsUnder names.now features.now (before (declarations_tree declarations.now) end) told.old told.new }
 {
     if is_clear(check_list(told.alloc, declarations, names, features)) {
         tell_in_declarations(told, declarations, names, features);
@@ -39,7 +35,7 @@ fn tell_in_declarations(
     names: &Names,
     features: &Features,
 )
-    ensures { AddsAll names.now (replies names.now features.now) (alone (staying element (answers names.now features.now)) (forest_of (map (placed global_view declaration_node) declarations.now.items))) told.old told.new }
+    ensures { AddsUnder names.now features.now (what_stays names.now features.now (placed global_view declaration_node) declarations.now.items) told.old told.new }
 {
     let mut chain = Chain::new();
     for node in declarations {
@@ -51,7 +47,7 @@ fn tell_in_declarations(
 
 /// Tells the faults of conditions in a declaration.
 fn tell_global(told: &mut Told, declaration: &GlobalDeclaration, names: &Names, features: &Features)
-    ensures { AddsAll names.now (replies names.now features.now) (before (global_view declaration.now) end) told.old told.new }
+    ensures { AddsUnder names.now features.now (before (global_view declaration.now) end) told.old told.new }
 {
     match declaration {
         GlobalDeclaration::Struct(structure) => {

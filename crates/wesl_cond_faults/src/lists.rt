@@ -1,10 +1,8 @@
 //! The faults of the conditions of a list.
-ghost use Rattle.std.specs.Prelude.{◌≡◌, ◌++◌, Bool, false, true, is_ok, map};
-ghost use Rattle.wesl_cond_chains.specs.Lists.{elements};
-ghost use Rattle.wesl_cond_chains.specs.Nodes.{as_element, optional_forest, replies};
+ghost use Rattle.std.specs.Prelude.{◌≡◌, Bool, false, is_ok};
+ghost use Rattle.wesl_cond_chains.specs.Nodes.{as_element, replies, closed_nodes, nodes_in};
 ghost use Rattle.wesl_cond_faults.specs.Places.{list_places, node_places, opened_after, opened_through};
 ghost use Rattle.wesl_cond_faults.specs.Telling.{Adds};
-ghost use Rattle.wesl_tree_syntax.specs.Tree.{forest_of};
 
 use crate::attributes::{opens, tell_formulas, tell_place};
 use crate::nodes::Located;
@@ -40,8 +38,8 @@ fn tell_nodes<T: Located>(
     names: &Names,
     features: &Features,
 ) -> bool
-    ensures told { Adds names.now (list_places (replies names.now features.now) false (elements false (forest_of (map T.tree nodes.now.items)))) told.old told.new }
-    ensures opened { result ≡ opened_through false (elements false (forest_of (map T.tree nodes.now.items))) }
+    ensures told { Adds names.now (list_places (replies names.now features.now) false (nodes_in T.tree nodes.now.items)) told.old told.new }
+    ensures opened { result ≡ opened_through false (nodes_in T.tree nodes.now.items) }
 {
     let mut opened = false;
     for node in nodes {
@@ -59,7 +57,7 @@ pub fn is_clear(outcome: Result<(), Diagnostic>) -> bool
 
 /// Tells the faults of the conditions of the nodes of a list.
 pub fn tell_list<T: Located>(told: &mut Told, nodes: &Vec<T>, names: &Names, features: &Features)
-    ensures { Adds names.now (list_places (replies names.now features.now) false (elements false (forest_of (map T.tree nodes.now.items)))) told.old told.new }
+    ensures { Adds names.now (list_places (replies names.now features.now) false (nodes_in T.tree nodes.now.items)) told.old told.new }
 {
     let _ = tell_nodes(told, nodes, names, features);
 }
@@ -72,7 +70,7 @@ pub fn tell_both<T: Located, L: Located>(
     names: &Names,
     features: &Features,
 )
-    ensures { Adds names.now (list_places (replies names.now features.now) false (elements false (forest_of (map T.tree nodes.now.items)) ++ elements true (optional_forest L.tree last.now))) told.old told.new }
+    ensures { Adds names.now (list_places (replies names.now features.now) false (closed_nodes T.tree nodes.now.items L.tree last.now)) told.old told.new }
 {
     let opened = tell_nodes(told, nodes, names, features);
     match last {

@@ -2,10 +2,8 @@
 //! has a fault.
 ghost use Rattle.std.specs.Prelude.{cond, map};
 ghost use Rattle.std.specs.Box.{box_value};
-ghost use Rattle.wesl_cond_chains.specs.Chains.{staying};
-ghost use Rattle.wesl_cond_chains.specs.Lists.{alone, element};
-ghost use Rattle.wesl_cond_chains.specs.Nodes.{answers, optional_forest, replies};
-ghost use Rattle.wesl_cond_faults.specs.Telling.{AddsAll};
+ghost use Rattle.wesl_cond_chains.specs.Nodes.{optional_forest};
+ghost use Rattle.wesl_cond_faults.specs.Telling.{AddsUnder, what_stays};
 ghost use Rattle.wesl_tree_syntax.specs.Tree.{before, branch, clauses as clauses_kind, end, forest_of};
 ghost use Rattle.wesl_tree_syntax.specs.View.{clause_view, compound_view, continuing_view, else_if_view, else_view, optional, statement_tree, statement_view};
 
@@ -22,7 +20,7 @@ use wesl_tree_syntax::{
 /// Tells the faults of conditions in a statement.
 #[cycle(telling)]
 fn tell_statement(told: &mut Told, statement: &Statement, names: &Names, features: &Features)
-    ensures { AddsAll names.now (replies names.now features.now) (before (statement_view statement.now) end) told.old told.new }
+    ensures { AddsUnder names.now features.now (before (statement_view statement.now) end) told.old told.new }
 {
     match statement {
         Statement::Compound(body) => tell_body(told, body, names, features),
@@ -70,7 +68,7 @@ fn tell_statement(told: &mut Told, statement: &Statement, names: &Names, feature
 /// Tells the faults of conditions in the statements of a list that stay.
 #[cycle(telling)]
 fn tell_statements(told: &mut Told, nodes: &Vec<StatementNode>, names: &Names, features: &Features)
-    ensures { AddsAll names.now (replies names.now features.now) (alone (staying element (answers names.now features.now)) (forest_of (map statement_tree nodes.now.items))) told.old told.new }
+    ensures { AddsUnder names.now features.now (what_stays names.now features.now statement_tree nodes.now.items) told.old told.new }
 {
     let mut chain = Chain::new();
     for node in nodes {
@@ -83,7 +81,7 @@ fn tell_statements(told: &mut Told, nodes: &Vec<StatementNode>, names: &Names, f
 /// Tells the faults of conditions in a body.
 #[cycle(telling)]
 pub fn tell_body(told: &mut Told, body: &CompoundStatement, names: &Names, features: &Features)
-    ensures { AddsAll names.now (replies names.now features.now) (before (compound_view body.now) end) told.old told.new }
+    ensures { AddsUnder names.now features.now (before (compound_view body.now) end) told.old told.new }
 {
     if is_clear(check_list(told.alloc, &body.statements, names, features)) {
         tell_statements(told, &body.statements, names, features);
@@ -95,7 +93,7 @@ pub fn tell_body(told: &mut Told, body: &CompoundStatement, names: &Names, featu
 /// Tells the faults of conditions in the bodies of `else if`.
 #[cycle(telling)]
 fn tell_else_ifs(told: &mut Told, clauses: &Vec<ElseIfClause>, names: &Names, features: &Features)
-    ensures { AddsAll names.now (replies names.now features.now) (forest_of (map else_if_view clauses.now.items)) told.old told.new }
+    ensures { AddsUnder names.now features.now (forest_of (map else_if_view clauses.now.items)) told.old told.new }
 {
     for clause in clauses {
         tell_body(told, &clause.body, names, features);
@@ -105,7 +103,7 @@ fn tell_else_ifs(told: &mut Told, clauses: &Vec<ElseIfClause>, names: &Names, fe
 /// Tells the faults of conditions in the body of an `else`, if there is one.
 #[cycle(telling)]
 fn tell_else(told: &mut Told, clause: &Option<ElseClause>, names: &Names, features: &Features)
-    ensures { AddsAll names.now (replies names.now features.now) (before (optional else_view clause.now) end) told.old told.new }
+    ensures { AddsUnder names.now features.now (before (optional else_view clause.now) end) told.old told.new }
 {
     match clause {
         Some(clause) => tell_body(told, &clause.body, names, features),
@@ -116,7 +114,7 @@ fn tell_else(told: &mut Told, clause: &Option<ElseClause>, names: &Names, featur
 /// Tells the faults of the conditions of clauses, or those in the clauses that stay.
 #[cycle(telling)]
 fn tell_clauses(told: &mut Told, clauses: &Vec<SwitchClause>, names: &Names, features: &Features)
-    ensures { AddsAll names.now (replies names.now features.now) (before (branch clauses_kind (map clause_view clauses.now.items)) end) told.old told.new }
+    ensures { AddsUnder names.now features.now (before (branch clauses_kind (map clause_view clauses.now.items)) end) told.old told.new }
 {
     match check_list(told.alloc, clauses, names, features) {
         Ok(()) => {}
@@ -138,7 +136,7 @@ fn tell_optional(
     names: &Names,
     features: &Features,
 )
-    ensures { AddsAll names.now (replies names.now features.now) (before (optional (λ s. statement_tree (box_value s)) node.now) end) told.old told.new }
+    ensures { AddsUnder names.now features.now (before (optional (λ s. statement_tree (box_value s)) node.now) end) told.old told.new }
 {
     match node {
         Some(node) => tell_statement(told, &node.node, names, features),
@@ -155,7 +153,7 @@ fn tell_last(
     names: &Names,
     features: &Features,
 )
-    ensures { AddsAll names.now (replies names.now features.now) (cond stays (optional_forest continuing_view continuing.now) end) told.old told.new }
+    ensures { AddsUnder names.now features.now (cond stays (optional_forest continuing_view continuing.now) end) told.old told.new }
 {
     match continuing {
         Some(block) if stays => tell_block(told, block, names, features),
@@ -167,7 +165,7 @@ fn tell_last(
 /// Tells the faults of conditions in a continuing block. No list lies in its `break if`.
 #[cycle(telling)]
 fn tell_block(told: &mut Told, block: &ContinuingStatement, names: &Names, features: &Features)
-    ensures { AddsAll names.now (replies names.now features.now) (before (continuing_view block.now) end) told.old told.new }
+    ensures { AddsUnder names.now features.now (before (continuing_view block.now) end) told.old told.new }
 {
     let statements = &block.body.statements;
     if is_clear(check_both(told.alloc, statements, &block.break_if, names, features)) {

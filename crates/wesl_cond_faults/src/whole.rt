@@ -1,8 +1,7 @@
 //! All faults of the conditions of a module.
 ghost use Rattle.std.specs.Prelude.{◌≡◌, ◌↔◌, [], IfOk, IfErr};
 ghost use Rattle.wesl_cond_chains.specs.Laws.{IsFaultless};
-ghost use Rattle.wesl_cond_chains.specs.Nodes.{replies};
-ghost use Rattle.wesl_cond_faults.specs.Telling.{AddsAll, TellsUnit};
+ghost use Rattle.wesl_cond_faults.specs.Telling.{TellsUnit, AddsUnder};
 ghost use Rattle.wesl_cond_features.specs.Features.{answer_to, by_number};
 ghost use Rattle.wesl_tree_names.specs.declared.errors.Error as error;
 ghost use Rattle.wesl_tree_syntax.specs.Unit.{forest_of_unit, trees_of};
@@ -18,7 +17,7 @@ use wesl_tree_names::{Diagnostic, Error};
 
 /// Tells the faults of conditions in a unit.
 fn tell_unit(told: &mut Told, unit: &TranslationUnit, features: &Features)
-    ensures { AddsAll (unit_view unit.now).names (replies (unit_view unit.now).names features.now) (forest_of_unit (trees_of (unit_view unit.now))) told.old told.new }
+    ensures { let u = unit_view unit.now in AddsUnder u.names features.now (forest_of_unit (trees_of u)) told.old told.new }
 {
     let names = unit.names();
     tell_list(told, unit.imports(), names, features);

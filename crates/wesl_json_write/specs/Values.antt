@@ -1,20 +1,31 @@
 -- What each node is written as, under a table of names.
-use Rattle.std.specs.Prelude.{ℕ, Bool, true, false, List, Option, Some, None, if◌then◌else◌, option_map, option_and_then, codes}
+use Rattle.std.specs.Prelude.{◌≡◌, ℕ, Bool, true, false, List, Vec, Option, Result, IfOk, Some, None, if◌then◌else◌, option_map, option_and_then, codes}
+use Rattle.std.specs.declared.alloc.Global.{Global}
 use Rattle.serde_json.specs.Data.{Data, null, boolean, array, string, object, Items, item, no_items, Members, no_members, put}
 use Rattle.wesl_tree_base.specs.declared.span.Span.{Span}
 use Rattle.wesl_tree_names.specs.Path.{Text}
 use Rattle.wesl_tree_syntax.specs.Tree.{Kind, at, Tree, Forest, before, end, expression_node, statement_node, attribute_node, declaration_node}
 use Rattle.wesl_tree_syntax.specs.Shown.{shown, shown_forest}
 use Rattle.wesl_tree_syntax.specs.Unit.{name_in}
-use Rattle.wesl_tree_syntax.specs.View.{expression_view}
+use Rattle.wesl_tree_syntax.specs.View.{attributes_tree, expression_view}
+use Rattle.wesl_tree_syntax.specs.declared.attribute.Attribute.{Attribute}
 use Rattle.wesl_tree_syntax.specs.declared.span.Spanned.{Spanned}
 use Rattle.wesl_tree_syntax.specs.declared.expression.Expression.{Expression}
 use Rattle.wesl_tree_syntax.specs.declared.declaration.DeclarationKind.{DeclarationKind}
 use Rattle.wesl_tree_syntax.specs.declared.declaration.DeclarationKind.TheVariants as kinds
+use Rattle.wesl_json_light.specs.View.{items_view, piece_view}
+use Rattle.wesl_json_light.specs.declared.piece.Piece.{Piece}
 use Rattle.wesl_json_form.specs.Schema.{Name, Form, Row, Node, Words, SpelledLabel, SpelledForest, leaf, node, may, nothing, a_path, an_expression, a_statement, an_attribute, a_declaration}
 use Rattle.wesl_json_form.specs.Words.{assignment_words, attribute_words, binary_words}
 use Rattle.wesl_json_form.specs.Writing.{Writes, written, written_forest, put_list, word_of, text_or_null, short_expression_value, label_at, first_fit, candidates, marks, unmarked, span_value, is_placed}
 use Rattle.wesl_json_form.specs.Nodes.{body_row, call_row, condition_row, space_row}
+
+-- the value, and the values of a list, unless memory was wanting
+abbrev pub IsWritten : {E : Type 0} → Result Piece E → Data → Type 0
+IsWritten r d = IfOk r (λ v. piece_view v ≡ d)
+
+abbrev pub AreWritten : {A E : Type 0} → Result (Vec Piece A) E → Items → Type 0
+AreWritten r ds = IfOk r (λ vs. items_view vs.items ≡ ds)
 
 -- a tree, by the form that is asked of it
 unfoldable pub value_in : Bool → List Text → Form → Tree → Data
@@ -115,6 +126,13 @@ expression_in spans names t = placed_in spans names an_expression expression_nod
 
 abbrev pub expression_at : Bool → List Text → Span → Tree → Data
 expression_at spans names s t = placed_at spans names an_expression expression_node s t
+
+abbrev pub expression_data : Bool → List Text → Spanned Expression → Data
+expression_data spans names e = expression_at spans names e.span (expression_view e.node)
+
+-- the members, with the attributes of a node where there are any
+abbrev pub with_attributes : Bool → List Text → Vec (Spanned Attribute) Global → Members → Members
+with_attributes spans names attributes ms = with_list (codes "attrs") (items_in spans names an_attribute (attributes_tree attributes).children) ms
 
 abbrev pub statement_at : Bool → List Text → Span → Tree → Data
 statement_at spans names s t = placed_at spans names a_statement statement_node s t

@@ -1,13 +1,12 @@
 //! Writing attributes.
-ghost use Rattle.std.specs.Prelude.{◌≡◌, [], ◌∷◌, IfOk, codes};
+ghost use Rattle.std.specs.Prelude.{[], ◌∷◌, codes};
 ghost use Rattle.serde_json.specs.Data.{no_members, string};
-ghost use Rattle.wesl_json_light.specs.View.{items_view, piece_view};
 ghost use Rattle.wesl_json_form.specs.Schema.{an_attribute};
 ghost use Rattle.wesl_json_form.specs.Writing.{texts_value};
 ghost use Rattle.wesl_tree_syntax.specs.Tree.{branch, custom, leaf, list, text as text_label};
-ghost use Rattle.wesl_tree_syntax.specs.View.{attribute_view, attributes_tree, expression_tree, expression_view, listed, optional, texts_of};
+ghost use Rattle.wesl_tree_syntax.specs.View.{attribute_view, attributes_tree, expression_tree, listed, optional, texts_of};
 ghost use Rattle.wesl_json_write.specs.Objects.{Holds};
-ghost use Rattle.wesl_json_write.specs.Values.{attribute_at, expression_at, attribute_in, expression_in, items_in, workgroup_size, with_list, with_member, with_option, worded};
+ghost use Rattle.wesl_json_write.specs.Values.{AreWritten, IsWritten, attribute_at, attribute_in, items_in, workgroup_size, with_list, with_member, with_option, worded, expression_data};
 
 use crate::expression::{
     applied_object, expression_value, expression_values, with_optional_expression,
@@ -24,7 +23,7 @@ pub(crate) fn attribute_values<'a>(
     names: &'a Names,
     attributes: &'a Attributes,
 ) -> WrittenList<'a>
-    ensures { IfOk result (λ vs. items_view vs.items ≡ items_in spans names.now an_attribute (attributes_tree attributes.now).children) }
+    ensures { AreWritten result (items_in spans names.now an_attribute (attributes_tree attributes.now).children) }
 {
     let mut values = Vec::with_capacity(alloc, attributes.len());
     for attribute in attributes {
@@ -43,7 +42,7 @@ fn attribute_value<'a>(
     attribute: &'a Attribute,
     span: Span,
 ) -> Written<'a>
-    ensures { IfOk result (λ v. piece_view v ≡ attribute_at spans names.now span (attribute_view attribute.now)) }
+    ensures { IsWritten result (attribute_at spans names.now span (attribute_view attribute.now)) }
 {
     let value = bare_attribute_value(alloc, spans, names, attribute);
     with_span(alloc, spans, value, span, "k")
@@ -57,7 +56,7 @@ fn bare_attribute_value<'a>(
     names: &'a Names,
     attribute: &'a Attribute,
 ) -> Written<'a>
-    ensures { IfOk result (λ v. piece_view v ≡ attribute_in spans names.now (attribute_view attribute.now)) }
+    ensures { IsWritten result (attribute_in spans names.now (attribute_view attribute.now)) }
 {
     match attribute {
         Attribute::Align(operand) => operand_value(alloc, spans, names, "align", operand),
@@ -96,20 +95,20 @@ fn operand_value<'a>(
     word: &'a str,
     operand: &'a ExpressionNode,
 ) -> Written<'a>
-    ensures { IfOk result (λ v. piece_view v ≡ worded word.now (with_member (codes "expr") (expression_at spans names.now operand.now.span (expression_view operand.now.node)) no_members)) }
+    ensures { IsWritten result (worded word.now (with_member (codes "expr") (expression_data spans names.now operand.now) no_members)) }
 {
     let operand = expression_value(alloc, spans, names, &operand.node, operand.span);
     Object::new(alloc).value("expr", operand).worded(word)
 }
 
 fn named_value<'a>(alloc: Global, word: &'a str, name: &'a str) -> Written<'a>
-    ensures { IfOk result (λ v. piece_view v ≡ worded word.now (with_member (codes "name") (string name.now) no_members)) }
+    ensures { IsWritten result (worded word.now (with_member (codes "name") (string name.now) no_members)) }
 {
     Object::new(alloc).text("name", name).worded(word)
 }
 
 fn diagnostic_value<'a>(alloc: Global, severity: &'a str, rule: &'a str) -> Written<'a>
-    ensures { IfOk result (λ v. piece_view v ≡ worded (codes "diagnostic") (with_member (codes "severity") (string severity.now) (with_member (codes "rule") (string rule.now) no_members))) }
+    ensures { IsWritten result (worded (codes "diagnostic") (with_member (codes "severity") (string severity.now) (with_member (codes "rule") (string rule.now) no_members))) }
 {
     severity_object(alloc, severity, rule).worded("diagnostic")
 }
@@ -124,7 +123,7 @@ pub(crate) fn severity_object<'a>(alloc: Global, severity: &'a str, rule: &'a st
 }
 
 fn interpolate_value<'a>(alloc: Global, texts: &'a Vec<String>) -> Written<'a>
-    ensures { IfOk result (λ v. piece_view v ≡ worded (codes "interpolate") (with_list (codes "names") (texts_value (texts_of texts.now)) no_members)) }
+    ensures { IsWritten result (worded (codes "interpolate") (with_list (codes "names") (texts_value (texts_of texts.now)) no_members)) }
 {
     Object::new(alloc)
         .list("names", text_values(alloc, texts))
@@ -133,7 +132,7 @@ fn interpolate_value<'a>(alloc: Global, texts: &'a Vec<String>) -> Written<'a>
 
 /// Texts as values.
 pub(crate) fn text_values<'a>(alloc: Global, texts: &'a Vec<String>) -> WrittenList<'a>
-    ensures { IfOk result (λ vs. items_view vs.items ≡ texts_value (texts_of texts.now)) }
+    ensures { AreWritten result (texts_value (texts_of texts.now)) }
 {
     let mut values = Vec::with_capacity(alloc, texts.len());
     for text in texts {
@@ -150,7 +149,7 @@ fn workgroup_value<'a>(
     y: &'a Option<ExpressionNode>,
     z: &'a Option<ExpressionNode>,
 ) -> Written<'a>
-    ensures { IfOk result (λ v. piece_view v ≡ workgroup_size spans names.now x.now (optional expression_tree y.now) (optional expression_tree z.now)) }
+    ensures { IsWritten result (workgroup_size spans names.now x.now (optional expression_tree y.now) (optional expression_tree z.now)) }
 {
     let object = with_optional_expression(alloc, spans, Object::new(alloc), names, "z", z);
     let object = with_optional_expression(alloc, spans, object, names, "y", y);
@@ -165,7 +164,7 @@ fn custom_value<'a>(
     name: &'a str,
     arguments: &'a Option<Vec<ExpressionNode>>,
 ) -> Written<'a>
-    ensures { IfOk result (λ v. piece_view v ≡ attribute_in spans names.now (branch custom (leaf (text_label name.now) ∷ optional (listed expression_tree list) arguments.now ∷ []))) }
+    ensures { IsWritten result (attribute_in spans names.now (branch custom (leaf (text_label name.now) ∷ optional (listed expression_tree list) arguments.now ∷ []))) }
 {
     match arguments {
         None => named_value(alloc, "custom", name),

@@ -1,14 +1,13 @@
 //! Writing declarations.
-ghost use Rattle.std.specs.Prelude.{◌≡◌, [], IfOk, codes};
-ghost use Rattle.serde_json.specs.Data.{Members, no_members, string};
-ghost use Rattle.wesl_json_light.specs.View.{items_view, piece_view};
+ghost use Rattle.std.specs.Prelude.{◌≡◌, [], codes};
+ghost use Rattle.serde_json.specs.Data.{no_members, string};
 ghost use Rattle.wesl_tree_names.specs.Path.{Text};
-ghost use Rattle.wesl_json_form.specs.Schema.{a_declaration, an_attribute, a_member, a_parameter, a_type, leaf, node as node_form, one_of};
+ghost use Rattle.wesl_json_form.specs.Schema.{a_declaration, a_member, a_parameter, a_type, leaf, node as node_form, one_of};
 ghost use Rattle.wesl_json_form.specs.Words.{access_words};
 ghost use Rattle.wesl_tree_syntax.specs.Tree.{branch, member_node, members as members_kind, parameters as parameters_kind, void};
-ghost use Rattle.wesl_tree_syntax.specs.View.{access_tree, alias_view, assert_view, attributes_tree, declaration_view, declarations_tree, function_view, global_view, kind_tree, listed, member_view, optional, parameter_view, placed, struct_view, type_view};
-ghost use Rattle.wesl_json_write.specs.Objects.{Holds};
-ghost use Rattle.wesl_json_write.specs.Values.{placed_at, declaration_at, declaration_in, items_in, kind_text, placed_in, statement_in, value_in, with_list, with_member, with_option, with_space as with_space_of};
+ghost use Rattle.wesl_tree_syntax.specs.View.{access_tree, alias_view, assert_view, declaration_view, declarations_tree, function_view, global_view, kind_tree, listed, member_view, optional, parameter_view, placed, struct_view, type_view};
+ghost use Rattle.wesl_json_write.specs.Objects.{Extends, Holds};
+ghost use Rattle.wesl_json_write.specs.Values.{AreWritten, IsWritten, placed_at, declaration_at, declaration_in, items_in, kind_text, placed_in, statement_in, value_in, with_member, with_option, with_space as with_space_of, with_attributes};
 
 use crate::attribute::attribute_values;
 use crate::expression::{
@@ -32,7 +31,7 @@ pub(crate) fn global_values<'a>(
     names: &'a Names,
     declarations: &'a Vec<GlobalDeclarationNode>,
 ) -> WrittenList<'a>
-    ensures { IfOk result (λ vs. items_view vs.items ≡ items_in spans names.now a_declaration (declarations_tree declarations.now).children) }
+    ensures { AreWritten result (items_in spans names.now a_declaration (declarations_tree declarations.now).children) }
 {
     let mut values = Vec::with_capacity(alloc, declarations.len());
     for declaration in declarations {
@@ -52,7 +51,7 @@ pub fn global_value<'a>(
     declaration: &'a GlobalDeclaration,
     span: Span,
 ) -> Written<'a>
-    ensures { IfOk result (λ v. piece_view v ≡ declaration_at spans names.now span (global_view declaration.now)) }
+    ensures { IsWritten result (declaration_at spans names.now span (global_view declaration.now)) }
 {
     let value = bare_global_value(alloc, spans, names, declaration);
     with_span(alloc, spans, value, span, "k")
@@ -65,7 +64,7 @@ fn bare_global_value<'a>(
     names: &'a Names,
     declaration: &'a GlobalDeclaration,
 ) -> Written<'a>
-    ensures { IfOk result (λ v. piece_view v ≡ declaration_in spans names.now (global_view declaration.now)) }
+    ensures { IsWritten result (declaration_in spans names.now (global_view declaration.now)) }
 {
     match declaration {
         GlobalDeclaration::Void => void_value(alloc, spans, names),
@@ -84,8 +83,8 @@ fn bare_global_value<'a>(
 
 /// The value of a void declaration, which is also that of a void statement.
 pub(crate) fn void_value<'a>(alloc: Global, spans: bool, names: &'a Names) -> Written<'a>
-    ensures global { IfOk result (λ v. piece_view v ≡ declaration_in spans names.now (branch void [])) }
-    ensures local { IfOk result (λ v. piece_view v ≡ statement_in spans names.now (branch void [])) }
+    ensures global { IsWritten result (declaration_in spans names.now (branch void [])) }
+    ensures local { IsWritten result (statement_in spans names.now (branch void [])) }
 {
     Object::new(alloc).worded("void")
 }
@@ -97,8 +96,8 @@ pub(crate) fn declaration_value<'a>(
     names: &'a Names,
     declaration: &'a Declaration,
 ) -> Written<'a>
-    ensures global { IfOk result (λ v. piece_view v ≡ declaration_in spans names.now (declaration_view declaration.now)) }
-    ensures local { IfOk result (λ v. piece_view v ≡ statement_in spans names.now (declaration_view declaration.now)) }
+    ensures global { IsWritten result (declaration_in spans names.now (declaration_view declaration.now)) }
+    ensures local { IsWritten result (statement_in spans names.now (declaration_view declaration.now)) }
 {
     let object = Object::new(alloc);
     let object = with_optional_expression(
@@ -137,7 +136,7 @@ fn with_space<'a>(
     names: &'a Names,
     kind: DeclarationKind,
 ) -> Object<'a>
-    ensures { (ms : Members) → Holds object.entry ms → Holds result (with_space_of spans names.now (kind_tree kind) ms) }
+    ensures { Extends object.entry result (with_space_of spans names.now (kind_tree kind)) }
 {
     match kind {
         DeclarationKind::Const => object,
@@ -157,7 +156,7 @@ fn with_access<'a>(
     names: &'a Names,
     mode: Option<AccessMode>,
 ) -> Object<'a>
-    ensures { (ms : Members) → Holds object.entry ms → Holds result (with_option (codes "access") spans names.now (leaf (one_of access_words)) (optional access_tree mode) ms) }
+    ensures { Extends object.entry result (with_option (codes "access") spans names.now (leaf (one_of access_words)) (optional access_tree mode)) }
 {
     match mode {
         Some(mode) => object.text("access", access_word(mode)),
@@ -171,7 +170,7 @@ fn alias_value<'a>(
     names: &'a Names,
     alias: &'a TypeAlias,
 ) -> Written<'a>
-    ensures { IfOk result (λ v. piece_view v ≡ declaration_in spans names.now (alias_view alias.now)) }
+    ensures { IsWritten result (declaration_in spans names.now (alias_view alias.now)) }
 {
     let name = spelling(names, alias.ident);
     typed_object(alloc, spans, names, &alias.attributes, name, &alias.ty).worded("alias")
@@ -186,7 +185,7 @@ fn typed_object<'a>(
     name: &'a str,
     ty: &'a TypeExpression,
 ) -> Object<'a>
-    ensures { (t : Text) → name.now ≡ t → Holds result (with_list (codes "attrs") (items_in spans names.now an_attribute (attributes_tree attributes.now).children) (with_member (codes "name") (string t) (with_member (codes "ty") (value_in spans names.now (node_form a_type) (type_view ty.now)) no_members))) }
+    ensures { (t : Text) → name.now ≡ t → Holds result (with_attributes spans names.now attributes.now (with_member (codes "name") (string t) (with_member (codes "ty") (value_in spans names.now (node_form a_type) (type_view ty.now)) no_members))) }
 {
     Object::new(alloc)
         .value("ty", type_value(alloc, spans, names, ty))
@@ -200,7 +199,7 @@ fn struct_value<'a>(
     names: &'a Names,
     structure: &'a Struct,
 ) -> Written<'a>
-    ensures { IfOk result (λ v. piece_view v ≡ declaration_in spans names.now (struct_view structure.now)) }
+    ensures { IsWritten result (declaration_in spans names.now (struct_view structure.now)) }
 {
     let attributes = attribute_values(alloc, spans, names, &structure.attributes);
     Object::new(alloc)
@@ -219,7 +218,7 @@ fn member_values<'a>(
     names: &'a Names,
     members: &'a Vec<StructMemberNode>,
 ) -> WrittenList<'a>
-    ensures { IfOk result (λ vs. items_view vs.items ≡ items_in spans names.now a_member (listed (placed member_view member_node) members_kind members.now).children) }
+    ensures { AreWritten result (items_in spans names.now a_member (listed (placed member_view member_node) members_kind members.now).children) }
 {
     let mut values = Vec::with_capacity(alloc, members.len());
     for member in members {
@@ -238,7 +237,7 @@ fn member_value<'a>(
     member: &'a StructMember,
     span: Span,
 ) -> Written<'a>
-    ensures { IfOk result (λ v. piece_view v ≡ placed_at spans names.now a_member member_node span (member_view member.now)) }
+    ensures { IsWritten result (placed_at spans names.now a_member member_node span (member_view member.now)) }
 {
     let value = bare_member_value(alloc, spans, names, member);
     with_span(alloc, spans, value, span, "k")
@@ -251,7 +250,7 @@ fn bare_member_value<'a>(
     names: &'a Names,
     member: &'a StructMember,
 ) -> Written<'a>
-    ensures { IfOk result (λ v. piece_view v ≡ placed_in spans names.now a_member member_node (member_view member.now)) }
+    ensures { IsWritten result (placed_in spans names.now a_member member_node (member_view member.now)) }
 {
     let name = member.name.as_str();
     typed_object(alloc, spans, names, &member.attributes, name, &member.ty).finish()
@@ -263,7 +262,7 @@ fn function_value<'a>(
     names: &'a Names,
     function: &'a Function,
 ) -> Written<'a>
-    ensures { IfOk result (λ v. piece_view v ≡ declaration_in spans names.now (function_view function.now)) }
+    ensures { IsWritten result (declaration_in spans names.now (function_view function.now)) }
 {
     let object = Object::new(alloc).value("body", body_value(alloc, spans, names, &function.body));
     let return_attributes = attribute_values(alloc, spans, names, &function.return_attributes);
@@ -283,7 +282,7 @@ fn parameter_values<'a>(
     names: &'a Names,
     parameters: &'a Vec<FormalParameter>,
 ) -> WrittenList<'a>
-    ensures { IfOk result (λ vs. items_view vs.items ≡ items_in spans names.now a_parameter (listed parameter_view parameters_kind parameters.now).children) }
+    ensures { AreWritten result (items_in spans names.now a_parameter (listed parameter_view parameters_kind parameters.now).children) }
 {
     let mut values = Vec::with_capacity(alloc, parameters.len());
     for parameter in parameters {
@@ -298,7 +297,7 @@ fn parameter_value<'a>(
     names: &'a Names,
     parameter: &'a FormalParameter,
 ) -> Written<'a>
-    ensures { IfOk result (λ v. piece_view v ≡ value_in spans names.now (node_form a_parameter) (parameter_view parameter.now)) }
+    ensures { IsWritten result (value_in spans names.now (node_form a_parameter) (parameter_view parameter.now)) }
 {
     let name = spelling(names, parameter.ident);
     typed_object(
@@ -319,8 +318,8 @@ pub(crate) fn assert_value<'a>(
     names: &'a Names,
     assertion: &'a ConstAssert,
 ) -> Written<'a>
-    ensures global { IfOk result (λ v. piece_view v ≡ declaration_in spans names.now (assert_view assertion.now)) }
-    ensures local { IfOk result (λ v. piece_view v ≡ statement_in spans names.now (assert_view assertion.now)) }
+    ensures global { IsWritten result (declaration_in spans names.now (assert_view assertion.now)) }
+    ensures local { IsWritten result (statement_in spans names.now (assert_view assertion.now)) }
 {
     let expression = expression_value(
         alloc,

@@ -1,7 +1,6 @@
 //! Writing expressions and types.
-ghost use Rattle.std.specs.Prelude.{◌≡◌, [], ◌∷◌, IfOk, codes};
-ghost use Rattle.serde_json.specs.Data.{Data, Items, Members, array, no_members, string};
-ghost use Rattle.wesl_json_light.specs.View.{items_view, piece_view};
+ghost use Rattle.std.specs.Prelude.{◌≡◌, [], ◌∷◌, codes};
+ghost use Rattle.serde_json.specs.Data.{Data, Items, array, no_members, string};
 ghost use Rattle.wesl_tree_names.specs.Path.{Text, path_view};
 ghost use Rattle.wesl_tree_names.specs.PathText.{to_text};
 ghost use Rattle.wesl_json_form.specs.Schema.{a_path, a_template_argument, a_type, an_expression, leaf, node as node_form};
@@ -9,8 +8,8 @@ ghost use Rattle.wesl_tree_syntax.specs.Tree.{absent, binary, branch, kind, leaf
 ghost use Rattle.wesl_tree_syntax.specs.Unit.{name_in};
 ghost use Rattle.wesl_tree_syntax.specs.View.{argument_view, call_view, expression_tree, expression_view, ident_tree, listed, literal_tree, optional, path_tree, type_view};
 ghost use Rattle.wesl_json_form.specs.Words.{unary_words};
-ghost use Rattle.wesl_json_write.specs.Objects.{Holds};
-ghost use Rattle.wesl_json_write.specs.Values.{expression_at, argued, binary_object, call_members, expression_in, items_in, value_in, with_member, with_option, word_value, worded};
+ghost use Rattle.wesl_json_write.specs.Objects.{Extends, Holds};
+ghost use Rattle.wesl_json_write.specs.Values.{AreWritten, IsWritten, expression_at, argued, binary_object, call_members, expression_in, items_in, value_in, with_member, with_option, word_value, worded};
 
 use crate::object::{Object, Written, WrittenList, spelling, text_value, with_item, with_span};
 use crate::words::{binary_word, unary_word};
@@ -31,7 +30,7 @@ pub(crate) fn expression_value<'a>(
     expression: &'a Expression,
     span: Span,
 ) -> Written<'a>
-    ensures { IfOk result (λ v. piece_view v ≡ expression_at spans names.now span (expression_view expression.now)) }
+    ensures { IsWritten result (expression_at spans names.now span (expression_view expression.now)) }
 {
     let value = bare_expression_value(alloc, spans, names, expression);
     with_span(alloc, spans, value, span, "name")
@@ -45,7 +44,7 @@ fn bare_expression_value<'a>(
     names: &'a Names,
     expression: &'a Expression,
 ) -> Written<'a>
-    ensures { IfOk result (λ v. piece_view v ≡ expression_in spans names.now (expression_view expression.now)) }
+    ensures { IsWritten result (expression_in spans names.now (expression_view expression.now)) }
 {
     match expression {
         Expression::Literal(literal) => literal_value(alloc, spans, names, literal),
@@ -94,7 +93,7 @@ fn literal_value<'a>(
     names: &'a Names,
     literal: &'a Literal,
 ) -> Written<'a>
-    ensures { IfOk result (λ v. piece_view v ≡ expression_in spans names.now (branch literal_kind (literal_tree literal.now ∷ []))) }
+    ensures { IsWritten result (expression_in spans names.now (branch literal_kind (literal_tree literal.now ∷ []))) }
 {
     match literal {
         Literal::Bool(truth) => Ok(Piece::Truth(*truth)),
@@ -103,7 +102,7 @@ fn literal_value<'a>(
 }
 
 fn unary_value<'a>(alloc: Global, operator: UnaryOperator, operand: Written<'a>) -> Written<'a>
-    ensures { (d : Data) → IfOk operand.entry (λ v. piece_view v ≡ d) → IfOk result (λ v. piece_view v ≡ worded (codes "unary") (with_member (codes "op") (word_value unary_words (unary operator)) (with_member (codes "expr") d no_members))) }
+    ensures { (d : Data) → IsWritten operand.entry d → IsWritten result (worded (codes "unary") (with_member (codes "op") (word_value unary_words (unary operator)) (with_member (codes "expr") d no_members))) }
 {
     let object = Object::new(alloc).value("expr", operand);
     object.text("op", unary_word(operator)).worded("unary")
@@ -115,7 +114,7 @@ fn binary_value<'a>(
     left: Written<'a>,
     right: Written<'a>,
 ) -> Written<'a>
-    ensures { (d e : Data) → IfOk left.entry (λ v. piece_view v ≡ d) → IfOk right.entry (λ v. piece_view v ≡ e) → IfOk result (λ v. piece_view v ≡ binary_object (binary operator) d e) }
+    ensures { (d e : Data) → IsWritten left.entry d → IsWritten right.entry e → IsWritten result (binary_object (binary operator) d e) }
 {
     let object = Object::new(alloc).value("right", right).value("left", left);
     object.text("op", binary_word(operator)).worded("binary")
@@ -144,7 +143,7 @@ pub(crate) fn expression_values<'a>(
     names: &'a Names,
     nodes: &'a Vec<ExpressionNode>,
 ) -> WrittenList<'a>
-    ensures { IfOk result (λ vs. items_view vs.items ≡ items_in spans names.now an_expression (listed expression_tree list nodes.now).children) }
+    ensures { AreWritten result (items_in spans names.now an_expression (listed expression_tree list nodes.now).children) }
 {
     let mut values = Vec::with_capacity(alloc, nodes.len());
     for node in nodes {
@@ -164,7 +163,7 @@ pub(crate) fn type_value<'a>(
     names: &'a Names,
     ty: &'a TypeExpression,
 ) -> Written<'a>
-    ensures { IfOk result (λ v. piece_view v ≡ value_in spans names.now (node_form a_type) (type_view ty.now)) }
+    ensures { IsWritten result (value_in spans names.now (node_form a_type) (type_view ty.now)) }
 {
     match &ty.template_args {
         None => plain_type_value(alloc, spans, names, &ty.path, ty.ident),
@@ -183,7 +182,7 @@ fn plain_type_value<'a>(
     path: &'a Option<ModulePath>,
     ident: Ident,
 ) -> Written<'a>
-    ensures { IfOk result (λ v. piece_view v ≡ value_in spans names.now (node_form a_type) (branch type_expression (optional path_tree path.now ∷ ident_tree reference ident ∷ leaf_tree (kind absent) ∷ []))) }
+    ensures { IsWritten result (value_in spans names.now (node_form a_type) (branch type_expression (optional path_tree path.now ∷ ident_tree reference ident ∷ leaf_tree (kind absent) ∷ []))) }
 {
     let name = spelling(names, ident);
     match path {
@@ -197,7 +196,7 @@ fn plain_type_value<'a>(
 
 // A path as a value.
 fn path_value<'a>(alloc: Global, path: &'a ModulePath) -> Written<'a>
-    ensures { IfOk result (λ v. piece_view v ≡ string (to_text (path_view path.now))) }
+    ensures { IsWritten result (string (to_text (path_view path.now))) }
 {
     match path.to_text(alloc).ok() {
         Some(text) => Ok(Piece::Owned(text)),
@@ -214,7 +213,7 @@ fn argued_type_value<'a>(
     ident: Ident,
     arguments: WrittenList<'a>,
 ) -> Written<'a>
-    ensures { (ds : Items) → IfOk arguments.entry (λ vs. items_view vs.items ≡ ds) → IfOk result (λ v. piece_view v ≡ argued spans names.now (optional path_tree path.now) (name_in names.now ident.0) ds) }
+    ensures { (ds : Items) → AreWritten arguments.entry ds → IsWritten result (argued spans names.now (optional path_tree path.now) (name_in names.now ident.0) ds) }
 {
     let object = applied_object(alloc, spelling(names, ident), arguments);
     with_optional_path(alloc, spans, object, names, path).finish()
@@ -226,7 +225,7 @@ pub(crate) fn applied_object<'a>(
     name: &'a str,
     arguments: WrittenList<'a>,
 ) -> Object<'a>
-    ensures { (t : Text) (ds : Items) → name.now ≡ t → IfOk arguments.entry (λ vs. items_view vs.items ≡ ds) → Holds result (with_member (codes "name") (string t) (with_member (codes "args") (array ds) no_members)) }
+    ensures { (t : Text) (ds : Items) → name.now ≡ t → AreWritten arguments.entry ds → Holds result (with_member (codes "name") (string t) (with_member (codes "args") (array ds) no_members)) }
 {
     Object::new(alloc)
         .array("args", arguments)
@@ -241,7 +240,7 @@ pub(crate) fn with_optional_path<'a>(
     names: &'a Names,
     path: &'a Option<ModulePath>,
 ) -> Object<'a>
-    ensures { (ms : Members) → Holds object.entry ms → Holds result (with_option (codes "path") spans names.now (leaf a_path) (optional path_tree path.now) ms) }
+    ensures { Extends object.entry result (with_option (codes "path") spans names.now (leaf a_path) (optional path_tree path.now)) }
 {
     match path {
         Some(path) => object.value("path", path_value(alloc, path)),
@@ -256,7 +255,7 @@ fn argument_values<'a>(
     names: &'a Names,
     arguments: &'a Vec<TemplateArg>,
 ) -> WrittenList<'a>
-    ensures { IfOk result (λ vs. items_view vs.items ≡ items_in spans names.now a_template_argument (listed argument_view list arguments.now).children) }
+    ensures { AreWritten result (items_in spans names.now a_template_argument (listed argument_view list arguments.now).children) }
 {
     let mut values = Vec::with_capacity(alloc, arguments.len());
     for argument in arguments {
@@ -283,7 +282,7 @@ pub(crate) fn with_optional_type<'a>(
     key: &'a str,
     ty: &'a Option<TypeExpression>,
 ) -> Object<'a>
-    ensures { (ms : Members) → Holds object.entry ms → Holds result (with_option key.now spans names.now (node_form a_type) (optional type_view ty.now) ms) }
+    ensures { Extends object.entry result (with_option key.now spans names.now (node_form a_type) (optional type_view ty.now)) }
 {
     match ty {
         Some(ty) => object.value(key, type_value(alloc, spans, names, ty)),
@@ -300,7 +299,7 @@ pub(crate) fn with_optional_expression<'a>(
     key: &'a str,
     expression: &'a Option<ExpressionNode>,
 ) -> Object<'a>
-    ensures { (ms : Members) → Holds object.entry ms → Holds result (with_option key.now spans names.now (node_form an_expression) (optional expression_tree expression.now) ms) }
+    ensures { Extends object.entry result (with_option key.now spans names.now (node_form an_expression) (optional expression_tree expression.now)) }
 {
     match expression {
         Some(expression) => object.value(

@@ -1,12 +1,11 @@
 //! Writing imports and directives.
-ghost use Rattle.std.specs.Prelude.{◌≡◌, IfOk, codes};
+ghost use Rattle.std.specs.Prelude.{codes};
 ghost use Rattle.serde_json.specs.Data.{no_members, string};
-ghost use Rattle.wesl_json_light.specs.View.{items_view, piece_view};
-ghost use Rattle.wesl_json_form.specs.Schema.{a_content, a_directive, an_attribute, an_entry, an_import, node as node_form};
+ghost use Rattle.wesl_json_form.specs.Schema.{a_content, a_directive, an_entry, an_import, node as node_form};
 ghost use Rattle.wesl_json_form.specs.Writing.{texts_value};
 ghost use Rattle.wesl_tree_syntax.specs.Tree.{directive_node, import_node, list};
-ghost use Rattle.wesl_tree_syntax.specs.View.{attributes_tree, content_view, directive_view, directives_tree, entry_view, import_view, imports_tree, item_view, listed, texts_of};
-ghost use Rattle.wesl_json_write.specs.Values.{placed_at, items_in, placed_in, value_in, with_list, with_member, worded};
+ghost use Rattle.wesl_tree_syntax.specs.View.{content_view, directive_view, directives_tree, entry_view, import_view, imports_tree, item_view, listed, texts_of};
+ghost use Rattle.wesl_json_write.specs.Values.{AreWritten, IsWritten, placed_at, items_in, placed_in, value_in, with_list, with_member, worded, with_attributes};
 
 use crate::attribute::{attribute_values, severity_object, text_values};
 use crate::expression::with_optional_path;
@@ -25,7 +24,7 @@ pub fn import_values<'a>(
     names: &'a Names,
     imports: &'a Vec<ImportStatementNode>,
 ) -> WrittenList<'a>
-    ensures { IfOk result (λ vs. items_view vs.items ≡ items_in spans names.now an_import (imports_tree imports.now).children) }
+    ensures { AreWritten result (items_in spans names.now an_import (imports_tree imports.now).children) }
 {
     let mut values = Vec::with_capacity(alloc, imports.len());
     for import in imports {
@@ -44,7 +43,7 @@ fn import_value<'a>(
     import: &'a ImportStatement,
     span: Span,
 ) -> Written<'a>
-    ensures { IfOk result (λ v. piece_view v ≡ placed_at spans names.now an_import import_node span (import_view import.now)) }
+    ensures { IsWritten result (placed_at spans names.now an_import import_node span (import_view import.now)) }
 {
     let value = bare_import_value(alloc, spans, names, import);
     with_span(alloc, spans, value, span, "k")
@@ -57,7 +56,7 @@ fn bare_import_value<'a>(
     names: &'a Names,
     import: &'a ImportStatement,
 ) -> Written<'a>
-    ensures { IfOk result (λ v. piece_view v ≡ placed_in spans names.now an_import import_node (import_view import.now)) }
+    ensures { IsWritten result (placed_in spans names.now an_import import_node (import_view import.now)) }
 {
     let content = content_value(alloc, spans, names, &import.content);
     let object = Object::new(alloc).value("content", content);
@@ -76,7 +75,7 @@ fn content_value<'a>(
     names: &'a Names,
     content: &'a ImportContent,
 ) -> Written<'a>
-    ensures { IfOk result (λ v. piece_view v ≡ value_in spans names.now (node_form a_content) (content_view content.now)) }
+    ensures { IsWritten result (value_in spans names.now (node_form a_content) (content_view content.now)) }
 {
     match content {
         ImportContent::Item(item) => item_value(alloc, spans, names, item),
@@ -88,7 +87,7 @@ fn content_value<'a>(
 }
 
 fn item_value<'a>(alloc: Global, spans: bool, names: &'a Names, item: &'a ImportItem) -> Written<'a>
-    ensures { IfOk result (λ v. piece_view v ≡ value_in spans names.now (node_form a_content) (item_view item.now)) }
+    ensures { IsWritten result (value_in spans names.now (node_form a_content) (item_view item.now)) }
 {
     let name = spelling(names, item.ident);
     match item.rename {
@@ -107,7 +106,7 @@ fn entry_values<'a>(
     names: &'a Names,
     entries: &'a Vec<Import>,
 ) -> WrittenList<'a>
-    ensures { IfOk result (λ vs. items_view vs.items ≡ items_in spans names.now an_entry (listed entry_view list entries.now).children) }
+    ensures { AreWritten result (items_in spans names.now an_entry (listed entry_view list entries.now).children) }
 {
     let mut values = Vec::with_capacity(alloc, entries.len());
     for entry in entries {
@@ -118,7 +117,7 @@ fn entry_values<'a>(
 
 #[cycle(writing)]
 fn entry_value<'a>(alloc: Global, spans: bool, names: &'a Names, entry: &'a Import) -> Written<'a>
-    ensures { IfOk result (λ v. piece_view v ≡ value_in spans names.now (node_form an_entry) (entry_view entry.now)) }
+    ensures { IsWritten result (value_in spans names.now (node_form an_entry) (entry_view entry.now)) }
 {
     let content = content_value(alloc, spans, names, &entry.content);
     Object::new(alloc)
@@ -134,7 +133,7 @@ pub fn directive_values<'a>(
     names: &'a Names,
     directives: &'a Vec<GlobalDirectiveNode>,
 ) -> WrittenList<'a>
-    ensures { IfOk result (λ vs. items_view vs.items ≡ items_in spans names.now a_directive (directives_tree directives.now).children) }
+    ensures { AreWritten result (items_in spans names.now a_directive (directives_tree directives.now).children) }
 {
     let mut values = Vec::with_capacity(alloc, directives.len());
     for directive in directives {
@@ -153,7 +152,7 @@ fn directive_value<'a>(
     directive: &'a GlobalDirective,
     span: Span,
 ) -> Written<'a>
-    ensures { IfOk result (λ v. piece_view v ≡ placed_at spans names.now a_directive directive_node span (directive_view directive.now)) }
+    ensures { IsWritten result (placed_at spans names.now a_directive directive_node span (directive_view directive.now)) }
 {
     let value = bare_directive_value(alloc, spans, names, directive);
     with_span(alloc, spans, value, span, "k")
@@ -167,7 +166,7 @@ fn bare_directive_value<'a>(
     names: &'a Names,
     directive: &'a GlobalDirective,
 ) -> Written<'a>
-    ensures { IfOk result (λ v. piece_view v ≡ placed_in spans names.now a_directive directive_node (directive_view directive.now)) }
+    ensures { IsWritten result (placed_in spans names.now a_directive directive_node (directive_view directive.now)) }
 {
     match directive {
         GlobalDirective::Diagnostic {
@@ -201,7 +200,7 @@ fn diagnostic_value<'a>(
     severity: &'a str,
     rule: &'a str,
 ) -> Written<'a>
-    ensures { IfOk result (λ v. piece_view v ≡ worded (codes "diagnostic") (with_list (codes "attrs") (items_in spans names.now an_attribute (attributes_tree attributes.now).children) (with_member (codes "severity") (string severity.now) (with_member (codes "rule") (string rule.now) no_members)))) }
+    ensures { IsWritten result (worded (codes "diagnostic") (with_attributes spans names.now attributes.now (with_member (codes "severity") (string severity.now) (with_member (codes "rule") (string rule.now) no_members)))) }
 {
     severity_object(alloc, severity, rule)
         .list("attrs", attribute_values(alloc, spans, names, attributes))
@@ -216,7 +215,7 @@ fn extensions_value<'a>(
     attributes: &'a Attributes,
     extensions: &'a Vec<String>,
 ) -> Written<'a>
-    ensures { IfOk result (λ v. piece_view v ≡ worded word.now (with_list (codes "attrs") (items_in spans names.now an_attribute (attributes_tree attributes.now).children) (with_list (codes "names") (texts_value (texts_of extensions.now)) no_members))) }
+    ensures { IsWritten result (worded word.now (with_attributes spans names.now attributes.now (with_list (codes "names") (texts_value (texts_of extensions.now)) no_members))) }
 {
     Object::new(alloc)
         .list("names", text_values(alloc, extensions))

@@ -1,12 +1,12 @@
 //! Objects that are written.
-ghost use Rattle.std.specs.Prelude.{◌≡◌, IfOk, codes};
+ghost use Rattle.std.specs.Prelude.{◌≡◌, codes};
 ghost use Rattle.serde_json.specs.Data.{Data, Items, Members, array, no_members, object, string};
-ghost use Rattle.wesl_json_light.specs.View.{items_view, members_view, piece_view};
+ghost use Rattle.wesl_json_light.specs.View.{members_view, piece_view};
 ghost use Rattle.wesl_tree_names.specs.Path.{Text};
 ghost use Rattle.wesl_json_form.specs.Writing.{is_placed, span_value};
 ghost use Rattle.wesl_tree_syntax.specs.Tree.{Kind};
 ghost use Rattle.wesl_tree_syntax.specs.Unit.{name_in};
-ghost use Rattle.wesl_json_write.specs.Values.{items_then, place_label, placed_data, truth_text, with_list, with_member, with_place, worded};
+ghost use Rattle.wesl_json_write.specs.Values.{AreWritten, IsWritten, items_then, place_label, placed_data, truth_text, with_list, with_member, with_place, worded};
 
 use std::alloc::{AllocError, Global};
 use std::mem;
@@ -56,7 +56,7 @@ impl<'a> Object<'a> {
     /// The object with a piece at `key`.
     #[tactic(auto, unfolding(crate::specs::Objects::Holds, crate::specs::Values::with_member))]
     pub(crate) fn value(self, key: &'a str, value: Written<'a>) -> Object<'a>
-        ensures { (ms : Members) (d : Data) → Holds self.entry ms → IfOk value.entry (λ v. piece_view v ≡ d) → Holds result (with_member key.now d ms) }
+        ensures { (ms : Members) (d : Data) → Holds self.entry ms → IsWritten value.entry d → Holds result (with_member key.now d ms) }
     {
         let alloc = self.alloc;
         let members = match (self.members, value) {
@@ -80,7 +80,7 @@ impl<'a> Object<'a> {
 
     /// The object with a list at `key`, which may be empty.
     pub(crate) fn array(self, key: &'a str, list: WrittenList<'a>) -> Object<'a>
-        ensures { (ms : Members) (ds : Items) → Holds self.entry ms → IfOk list.entry (λ vs. items_view vs.items ≡ ds) → Holds result (with_member key.now (array ds) ms) }
+        ensures { (ms : Members) (ds : Items) → Holds self.entry ms → AreWritten list.entry ds → Holds result (with_member key.now (array ds) ms) }
     {
         match list {
             Ok(list) => self.value(key, Ok(Piece::List(list))),
@@ -91,7 +91,7 @@ impl<'a> Object<'a> {
     /// The object with a list at `key`, unless the list is empty.
     #[tactic(auto, unfolding(crate::specs::Objects::Holds))]
     pub(crate) fn list(self, key: &'a str, list: WrittenList<'a>) -> Object<'a>
-        ensures { (ms : Members) (ds : Items) → Holds self.entry ms → IfOk list.entry (λ vs. items_view vs.items ≡ ds) → Holds result (with_list key.now ds ms) }
+        ensures { (ms : Members) (ds : Items) → Holds self.entry ms → AreWritten list.entry ds → Holds result (with_list key.now ds ms) }
     {
         match list {
             Ok(list) => {
@@ -119,7 +119,7 @@ impl<'a> Object<'a> {
     /// The object as a piece.
     #[tactic(auto, unfolding(crate::specs::Objects::Holds))]
     pub(crate) fn finish(self) -> Written<'a>
-        ensures { (ms : Members) → Holds self.entry ms → IfOk result (λ v. piece_view v ≡ object ms) }
+        ensures { (ms : Members) → Holds self.entry ms → IsWritten result (object ms) }
     {
         match self.members {
             Some(members) => Ok(Piece::Object(members)),
@@ -129,7 +129,7 @@ impl<'a> Object<'a> {
 
     /// The object as a piece, with its word.
     pub(crate) fn worded(self, word: &'a str) -> Written<'a>
-        ensures { (ms : Members) (w : Text) → Holds self.entry ms → word.now ≡ w → IfOk result (λ v. piece_view v ≡ worded w ms) }
+        ensures { (ms : Members) (w : Text) → Holds self.entry ms → word.now ≡ w → IsWritten result (worded w ms) }
     {
         self.text("k", word).finish()
     }
@@ -150,7 +150,7 @@ pub(crate) fn with_span<'a>(
     span: Span,
     key: &'a str,
 ) -> Written<'a>
-    ensures { (k : Kind) (d : Data) → IfOk value.entry (λ v. piece_view v ≡ d) → IfOk result (λ v. piece_view v ≡ with_place spans (place_label spans k span) key.now d) }
+    ensures { (k : Kind) (d : Data) → IsWritten value.entry d → IsWritten result (with_place spans (place_label spans k span) key.now d) }
 {
     if is_shown(spans, span) {
         match value {
@@ -164,7 +164,7 @@ pub(crate) fn with_span<'a>(
 
 // The piece as an object with a span.
 fn placed_piece<'a>(alloc: Global, piece: Piece<'a>, span: Span, key: &'a str) -> Written<'a>
-    ensures { IfOk result (λ v. piece_view v ≡ placed_data span.start span.end key.now (piece_view piece.entry)) }
+    ensures { IsWritten result (placed_data span.start span.end key.now (piece_view piece.entry)) }
 {
     let mut piece = piece;
     match &mut piece {
@@ -206,7 +206,7 @@ pub(crate) fn spelling<'a>(names: &'a Names, ident: Ident) -> &'a str
 
 // A span as a piece.
 fn span_piece<'a>(alloc: Global, span: Span) -> Written<'a>
-    ensures { IfOk result (λ v. piece_view v ≡ span_value span.start span.end) }
+    ensures { IsWritten result (span_value span.start span.end) }
 {
     let list = with_item(Vec::with_capacity(alloc, 2), Ok(Piece::Whole(span.start)));
     match with_item(list, Ok(Piece::Whole(span.end))) {
@@ -217,14 +217,14 @@ fn span_piece<'a>(alloc: Global, span: Span) -> Written<'a>
 
 /// A text as a piece.
 pub(crate) fn text_value<'a>(text: &'a str) -> Written<'a>
-    ensures { IfOk result (λ v. piece_view v ≡ string text.now) }
+    ensures { IsWritten result (string text.now) }
 {
     Ok(Piece::Text(text))
 }
 
 /// The list with a further piece, unless there is no memory for one of them.
 pub(crate) fn with_item<'a>(list: WrittenList<'a>, item: Written<'a>) -> WrittenList<'a>
-    ensures { (ds : Items) (d : Data) → IfOk list.entry (λ vs. items_view vs.items ≡ ds) → IfOk item.entry (λ v. piece_view v ≡ d) → IfOk result (λ vs. items_view vs.items ≡ items_then ds d) }
+    ensures { (ds : Items) (d : Data) → AreWritten list.entry ds → IsWritten item.entry d → AreWritten result (items_then ds d) }
 {
     match list {
         Ok(mut list) => match item {

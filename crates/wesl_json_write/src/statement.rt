@@ -1,13 +1,12 @@
 //! Writing statements.
-ghost use Rattle.std.specs.Prelude.{◌≡◌, IfOk, codes};
+ghost use Rattle.std.specs.Prelude.{codes};
 ghost use Rattle.std.specs.Box.{box_value};
 ghost use Rattle.serde_json.specs.Data.{Data, Members, no_members};
-ghost use Rattle.wesl_json_light.specs.View.{items_view, piece_view};
-ghost use Rattle.wesl_json_form.specs.Schema.{a_body, a_break_if, a_case, a_clause, a_continuing, a_statement, an_attribute, an_elif, an_else, an_expression, node as node_form};
+ghost use Rattle.wesl_json_form.specs.Schema.{a_body, a_break_if, a_case, a_clause, a_continuing, a_statement, an_elif, an_else, an_expression, node as node_form};
 ghost use Rattle.wesl_tree_syntax.specs.Tree.{assignment, clauses as clauses_kind, list, statements as statements_kind};
-ghost use Rattle.wesl_tree_syntax.specs.View.{attributes_tree, break_if_view, call_view, clause_view, compound_view, continuing_view, else_if_view, else_view, expression_tree, expression_view, if_view, listed, optional, selector_view, statement_tree, statement_view};
-ghost use Rattle.wesl_json_write.specs.Objects.{Holds};
-ghost use Rattle.wesl_json_write.specs.Values.{statement_at, expression_at, assigned, bare, body_members, call_members, expression_in, items_in, statement_in, value_in, with_clause, with_list, with_member, with_option, worded};
+ghost use Rattle.wesl_tree_syntax.specs.View.{attributes_tree, break_if_view, call_view, clause_view, compound_view, continuing_view, else_if_view, else_view, expression_tree, if_view, listed, optional, selector_view, statement_tree, statement_view};
+ghost use Rattle.wesl_json_write.specs.Objects.{Extends, Holds};
+ghost use Rattle.wesl_json_write.specs.Values.{AreWritten, IsWritten, statement_at, assigned, bare, body_members, call_members, items_in, statement_in, value_in, with_clause, with_member, with_option, worded, expression_data, with_attributes};
 
 use crate::attribute::attribute_values;
 use crate::declaration::{assert_value, declaration_value, void_value};
@@ -31,7 +30,7 @@ pub(crate) fn statement_value<'a>(
     statement: &'a Statement,
     span: Span,
 ) -> Written<'a>
-    ensures { IfOk result (λ v. piece_view v ≡ statement_at spans names.now span (statement_view statement.now)) }
+    ensures { IsWritten result (statement_at spans names.now span (statement_view statement.now)) }
 {
     let value = bare_statement_value(alloc, spans, names, statement);
     with_span(alloc, spans, value, span, "k")
@@ -45,7 +44,7 @@ fn bare_statement_value<'a>(
     names: &'a Names,
     statement: &'a Statement,
 ) -> Written<'a>
-    ensures { IfOk result (λ v. piece_view v ≡ statement_in spans names.now (statement_view statement.now)) }
+    ensures { IsWritten result (statement_in spans names.now (statement_view statement.now)) }
 {
     match statement {
         Statement::Void => void_value(alloc, spans, names),
@@ -162,7 +161,7 @@ fn assignment_value<'a>(
     lhs: &'a ExpressionNode,
     rhs: &'a ExpressionNode,
 ) -> Written<'a>
-    ensures { IfOk result (λ v. piece_view v ≡ assigned spans names.now (assignment operator) (attributes_tree attributes.now).children lhs.now rhs.now) }
+    ensures { IsWritten result (assigned spans names.now (assignment operator) (attributes_tree attributes.now).children lhs.now rhs.now) }
 {
     let lhs = expression_value(alloc, spans, names, &lhs.node, lhs.span);
     let rhs = expression_value(alloc, spans, names, &rhs.node, rhs.span);
@@ -183,7 +182,7 @@ fn step_value<'a>(
     attributes: &'a Attributes,
     expression: &'a ExpressionNode,
 ) -> Written<'a>
-    ensures { IfOk result (λ v. piece_view v ≡ worded word.now (with_list (codes "attrs") (items_in spans names.now an_attribute (attributes_tree attributes.now).children) (with_member (codes "expr") (expression_at spans names.now expression.now.span (expression_view expression.now.node)) no_members))) }
+    ensures { IsWritten result (worded word.now (with_attributes spans names.now attributes.now (with_member (codes "expr") (expression_data spans names.now expression.now) no_members))) }
 {
     let expression = expression_value(alloc, spans, names, &expression.node, expression.span);
     Object::new(alloc)
@@ -200,7 +199,7 @@ fn jump_value<'a>(
     word: &'a str,
     attributes: &'a Attributes,
 ) -> Written<'a>
-    ensures { IfOk result (λ v. piece_view v ≡ worded word.now (with_list (codes "attrs") (items_in spans names.now an_attribute (attributes_tree attributes.now).children) no_members)) }
+    ensures { IsWritten result (worded word.now (with_attributes spans names.now attributes.now no_members)) }
 {
     Object::new(alloc)
         .list("attrs", attribute_values(alloc, spans, names, attributes))
@@ -214,7 +213,7 @@ fn return_value<'a>(
     attributes: &'a Attributes,
     expression: &'a Option<ExpressionNode>,
 ) -> Written<'a>
-    ensures { IfOk result (λ v. piece_view v ≡ worded (codes "return") (with_list (codes "attrs") (items_in spans names.now an_attribute (attributes_tree attributes.now).children) (with_option (codes "expr") spans names.now (node_form an_expression) (optional expression_tree expression.now) no_members))) }
+    ensures { IsWritten result (worded (codes "return") (with_attributes spans names.now attributes.now (with_option (codes "expr") spans names.now (node_form an_expression) (optional expression_tree expression.now) no_members))) }
 {
     with_optional_expression(alloc, spans, Object::new(alloc), names, "expr", expression)
         .list("attrs", attribute_values(alloc, spans, names, attributes))
@@ -228,7 +227,7 @@ fn call_value<'a>(
     attributes: &'a Attributes,
     call: &'a FunctionCall,
 ) -> Written<'a>
-    ensures { IfOk result (λ v. piece_view v ≡ worded (codes "call") (with_list (codes "attrs") (items_in spans names.now an_attribute (attributes_tree attributes.now).children) (with_member (codes "call") (bare (call_members spans names.now (call_view call.now))) no_members))) }
+    ensures { IsWritten result (worded (codes "call") (with_attributes spans names.now attributes.now (with_member (codes "call") (bare (call_members spans names.now (call_view call.now))) no_members))) }
 {
     Object::new(alloc)
         .value("call", call_object(alloc, spans, names, call).finish())
@@ -244,7 +243,7 @@ pub(crate) fn body_value<'a>(
     names: &'a Names,
     body: &'a CompoundStatement,
 ) -> Written<'a>
-    ensures { IfOk result (λ v. piece_view v ≡ value_in spans names.now (node_form a_body) (compound_view body.now)) }
+    ensures { IsWritten result (value_in spans names.now (node_form a_body) (compound_view body.now)) }
 {
     body_object(alloc, spans, names, body).finish()
 }
@@ -276,7 +275,7 @@ fn statement_values<'a>(
     names: &'a Names,
     nodes: &'a Vec<StatementNode>,
 ) -> WrittenList<'a>
-    ensures { IfOk result (λ vs. items_view vs.items ≡ items_in spans names.now a_statement (listed statement_tree statements_kind nodes.now).children) }
+    ensures { AreWritten result (items_in spans names.now a_statement (listed statement_tree statements_kind nodes.now).children) }
 {
     let mut values = Vec::with_capacity(alloc, nodes.len());
     for node in nodes {
@@ -297,7 +296,7 @@ fn with_condition<'a>(
     condition: &'a ExpressionNode,
     body: Written<'a>,
 ) -> Object<'a>
-    ensures { (ms : Members) (d : Data) → Holds object.entry ms → IfOk body.entry (λ v. piece_view v ≡ d) → Holds result (with_member (codes "cond") (expression_at spans names.now condition.now.span (expression_view condition.now.node)) (with_member (codes "body") d ms)) }
+    ensures { (ms : Members) (d : Data) → Holds object.entry ms → IsWritten body.entry d → Holds result (with_member (codes "cond") (expression_data spans names.now condition.now) (with_member (codes "body") d ms)) }
 {
     object.value("body", body).value(
         "cond",
@@ -313,7 +312,7 @@ fn with_if_clause<'a>(
     names: &'a Names,
     clause: &'a IfClause,
 ) -> Object<'a>
-    ensures { (ms : Members) → Holds object.entry ms → Holds result (with_clause spans names.now (if_view clause.now) ms) }
+    ensures { Extends object.entry result (with_clause spans names.now (if_view clause.now)) }
 {
     let body = body_value(alloc, spans, names, &clause.body);
     with_condition(alloc, spans, object, names, &clause.expression, body)
@@ -326,7 +325,7 @@ fn elif_values<'a>(
     names: &'a Names,
     clauses: &'a Vec<ElseIfClause>,
 ) -> WrittenList<'a>
-    ensures { IfOk result (λ vs. items_view vs.items ≡ items_in spans names.now an_elif (listed else_if_view list clauses.now).children) }
+    ensures { AreWritten result (items_in spans names.now an_elif (listed else_if_view list clauses.now).children) }
 {
     let mut values = Vec::with_capacity(alloc, clauses.len());
     for clause in clauses {
@@ -342,7 +341,7 @@ fn elif_value<'a>(
     names: &'a Names,
     clause: &'a ElseIfClause,
 ) -> Written<'a>
-    ensures { IfOk result (λ v. piece_view v ≡ value_in spans names.now (node_form an_elif) (else_if_view clause.now)) }
+    ensures { IsWritten result (value_in spans names.now (node_form an_elif) (else_if_view clause.now)) }
 {
     let body = body_value(alloc, spans, names, &clause.body);
     with_condition(
@@ -368,7 +367,7 @@ fn with_optional_else<'a>(
     names: &'a Names,
     clause: &'a Option<ElseClause>,
 ) -> Object<'a>
-    ensures { (ms : Members) → Holds object.entry ms → Holds result (with_option (codes "else") spans names.now (node_form an_else) (optional else_view clause.now) ms) }
+    ensures { Extends object.entry result (with_option (codes "else") spans names.now (node_form an_else) (optional else_view clause.now)) }
 {
     match clause {
         Some(clause) => object.value("else", else_value(alloc, spans, names, clause)),
@@ -383,7 +382,7 @@ fn else_value<'a>(
     names: &'a Names,
     clause: &'a ElseClause,
 ) -> Written<'a>
-    ensures { IfOk result (λ v. piece_view v ≡ value_in spans names.now (node_form an_else) (else_view clause.now)) }
+    ensures { IsWritten result (value_in spans names.now (node_form an_else) (else_view clause.now)) }
 {
     Object::new(alloc)
         .value("body", body_value(alloc, spans, names, &clause.body))
@@ -401,7 +400,7 @@ fn clause_values<'a>(
     names: &'a Names,
     clauses: &'a Vec<SwitchClause>,
 ) -> WrittenList<'a>
-    ensures { IfOk result (λ vs. items_view vs.items ≡ items_in spans names.now a_clause (listed clause_view clauses_kind clauses.now).children) }
+    ensures { AreWritten result (items_in spans names.now a_clause (listed clause_view clauses_kind clauses.now).children) }
 {
     let mut values = Vec::with_capacity(alloc, clauses.len());
     for clause in clauses {
@@ -417,7 +416,7 @@ fn clause_value<'a>(
     names: &'a Names,
     clause: &'a SwitchClause,
 ) -> Written<'a>
-    ensures { IfOk result (λ v. piece_view v ≡ value_in spans names.now (node_form a_clause) (clause_view clause.now)) }
+    ensures { IsWritten result (value_in spans names.now (node_form a_clause) (clause_view clause.now)) }
 {
     Object::new(alloc)
         .value("body", body_value(alloc, spans, names, &clause.body))
@@ -438,7 +437,7 @@ fn case_values<'a>(
     names: &'a Names,
     selectors: &'a Vec<CaseSelector>,
 ) -> WrittenList<'a>
-    ensures { IfOk result (λ vs. items_view vs.items ≡ items_in spans names.now a_case (listed selector_view list selectors.now).children) }
+    ensures { AreWritten result (items_in spans names.now a_case (listed selector_view list selectors.now).children) }
 {
     let mut values = Vec::with_capacity(alloc, selectors.len());
     for selector in selectors {
@@ -453,7 +452,7 @@ fn case_value<'a>(
     names: &'a Names,
     selector: &'a CaseSelector,
 ) -> Written<'a>
-    ensures { IfOk result (λ v. piece_view v ≡ value_in spans names.now (node_form a_case) (selector_view selector.now)) }
+    ensures { IsWritten result (value_in spans names.now (node_form a_case) (selector_view selector.now)) }
 {
     match selector {
         CaseSelector::Default => Object::new(alloc).worded("default"),
@@ -471,7 +470,7 @@ fn with_optional_continuing<'a>(
     names: &'a Names,
     continuing: &'a Option<ContinuingStatement>,
 ) -> Object<'a>
-    ensures { (ms : Members) → Holds object.entry ms → Holds result (with_option (codes "continuing") spans names.now (node_form a_continuing) (optional continuing_view continuing.now) ms) }
+    ensures { Extends object.entry result (with_option (codes "continuing") spans names.now (node_form a_continuing) (optional continuing_view continuing.now)) }
 {
     match continuing {
         Some(continuing) => {
@@ -491,7 +490,7 @@ fn continuing_value<'a>(
     names: &'a Names,
     continuing: &'a ContinuingStatement,
 ) -> Written<'a>
-    ensures { IfOk result (λ v. piece_view v ≡ value_in spans names.now (node_form a_continuing) (continuing_view continuing.now)) }
+    ensures { IsWritten result (value_in spans names.now (node_form a_continuing) (continuing_view continuing.now)) }
 {
     let attributes = attribute_values(alloc, spans, names, &continuing.attributes);
     with_optional_break_if(
@@ -513,7 +512,7 @@ fn with_optional_break_if<'a>(
     names: &'a Names,
     break_if: &'a Option<BreakIfStatement>,
 ) -> Object<'a>
-    ensures { (ms : Members) → Holds object.entry ms → Holds result (with_option (codes "break_if") spans names.now (node_form a_break_if) (optional break_if_view break_if.now) ms) }
+    ensures { Extends object.entry result (with_option (codes "break_if") spans names.now (node_form a_break_if) (optional break_if_view break_if.now)) }
 {
     match break_if {
         Some(break_if) => object.value("break_if", break_if_value(alloc, spans, names, break_if)),
@@ -527,7 +526,7 @@ fn break_if_value<'a>(
     names: &'a Names,
     break_if: &'a BreakIfStatement,
 ) -> Written<'a>
-    ensures { IfOk result (λ v. piece_view v ≡ value_in spans names.now (node_form a_break_if) (break_if_view break_if.now)) }
+    ensures { IsWritten result (value_in spans names.now (node_form a_break_if) (break_if_view break_if.now)) }
 {
     let expression = expression_value(
         alloc,
@@ -552,7 +551,7 @@ fn with_optional_statement<'a>(
     key: &'a str,
     statement: &'a Option<Box<StatementNode>>,
 ) -> Object<'a>
-    ensures { (ms : Members) → Holds object.entry ms → Holds result (with_option key.now spans names.now (node_form a_statement) (optional (λ s. statement_tree (box_value s)) statement.now) ms) }
+    ensures { Extends object.entry result (with_option key.now spans names.now (node_form a_statement) (optional (λ s. statement_tree (box_value s)) statement.now)) }
 {
     match statement {
         Some(statement) => object.value(

@@ -1,14 +1,13 @@
 //! Writing units.
 ghost use Rattle.std.specs.Prelude.{◌≡◌, IfErr, IfOk};
 ghost use Rattle.serde_json.specs.View.{view};
-ghost use Rattle.wesl_json_light.specs.View.{piece_view};
 ghost use Rattle.wesl_tree_names.specs.declared.errors.Error as error;
-ghost use Rattle.serde_json.specs.Data.{Members};
 ghost use Rattle.wesl_json_form.specs.Schema.{second_form};
 ghost use Rattle.wesl_json_form.specs.Writing.{put_extra};
-ghost use Rattle.wesl_json_write.specs.Objects.{Holds};
+ghost use Rattle.wesl_json_write.specs.Objects.{Extends};
 ghost use Rattle.wesl_json_form.specs.Units.{written_as};
 ghost use Rattle.wesl_tree.specs.Translation.{unit_view};
+ghost use Rattle.wesl_json_write.specs.Values.{IsWritten};
 
 use crate::declaration::global_values;
 use crate::import::{directive_values, import_values};
@@ -39,7 +38,7 @@ fn sorted_unit(alloc: Global, spans: bool, unit: &TranslationUnit) -> Result<Val
 }
 
 fn written_unit<'a>(alloc: Global, spans: bool, unit: &'a TranslationUnit) -> Written<'a>
-    ensures { IfOk result (λ v. piece_view v ≡ written_as spans (unit_view unit.now)) }
+    ensures { IsWritten result (written_as spans (unit_view unit.now)) }
 {
     let names = unit.names();
     let imports = import_values(alloc, spans, names, unit.imports());
@@ -54,7 +53,7 @@ fn written_unit<'a>(alloc: Global, spans: bool, unit: &'a TranslationUnit) -> Wr
 
 // The object with the key that says form 2, where spans are written.
 fn with_form<'a>(object: Object<'a>, spans: bool) -> Object<'a>
-    ensures { (ms : Members) → Holds object.entry ms → Holds result (put_extra spans second_form ms) }
+    ensures { Extends object.entry result (put_extra spans second_form) }
 {
     if spans {
         object.value("form", Ok(Piece::Whole(2)))

@@ -34,7 +34,9 @@ MapsLink hands refuses name_of root keep is_eager mangle_root limit before after
     × IsRecordedBy true (writes name_of mangle_root w) before after
 
 -- the same of the units as the features leave them
-abbrev pub MapsLinkLeft : (Path → UnitOf Text → Type 0) → (Path → ResolveError → Type 0) → Option Features → (Path → Text → Text) → Path → List Text → Bool → Bool → ℕ → Record → Record → UnitView → Type 0
+abbrev pub MapsLinkLeft :
+    (Path → UnitOf Text → Type 0) → (Path → ResolveError → Type 0) → Option Features → (Path → Text → Text)
+    → Path → List Text → Bool → Bool → ℕ → Record → Record → UnitView → Type 0
 MapsLinkLeft hands refuses features name_of root keep is_eager mangle_root limit before after unit =
     MapsLink (hands_left hands refuses features) (refuses_left hands refuses features) name_of root keep is_eager mangle_root limit before after unit
 

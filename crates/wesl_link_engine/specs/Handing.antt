@@ -24,7 +24,8 @@ pub record Follows {P U E : Type 0} (handed : P → U → Type 0) (refused : P �
   pub refuses : (p : P) (e : E) → refused p e → refused_there p e
 
 -- the resolver is one of these, as is each that means the same, and it is held by the loan of that name
-pub record StaysOne {R : Type 0} (hands : R → Path → UnitOf Text → Type 0) (refuses : R → Path → ResolveError → Type 0) (source : R → Path → Text → Type 0) (lacks : R → Path → ResolveError → Type 0) (shown : R → Path → Option Text → Type 0)
+pub record StaysOne {R : Type 0} (hands : R → Path → UnitOf Text → Type 0) (refuses : R → Path → ResolveError → Type 0)
+    (source : R → Path → Text → Type 0) (lacks : R → Path → ResolveError → Type 0) (shown : R → Path → Option Text → Type 0)
     (these : R → Type 0) (loan : ℕ) (resolver : R) (name : ℕ) : Type 0 where
   pub here : these resolver
   pub on : (a b : R) → these a → MeansTheSame hands refuses source lacks shown a b → these b

@@ -9,7 +9,8 @@ use Rattle.wesl_resolve_base.specs.declared.packages.CodegenPkg.{CodegenPkg, out
 -- modules of these names, in order, each with the text of its value and with the modules below it
 abbrev pub AreModulesOf : said.PackageModules → List CodegenModule → Type 0
 AreModulesOf said.no_modules [] = Unit {0}
-AreModulesOf (said.with_module name unit below others) (m ∷ ms) = ((module_name m ≡ name) × IsTextOf unit (source_of m) × AreModulesOf below (out-CodegenModule m).submodules.items) × AreModulesOf others ms
+AreModulesOf (said.with_module name unit below others) (m ∷ ms) =
+    ((module_name m ≡ name) × IsTextOf unit (source_of m) × AreModulesOf below (out-CodegenModule m).submodules.items) × AreModulesOf others ms
 AreModulesOf _ _ = ⊥
 
 abbrev pub IsModuleOf : said.PackageModule → CodegenModule → Type 0

@@ -79,7 +79,9 @@ abbrev pub module_in : Data → Option Module
 module_in d = if has_only module_keys d then module_of_members d else None
 
 abbrev pub bundle_keys : List Text
-bundle_keys = codes "root" ∷ codes "keep" ∷ codes "modules" ∷ codes "packages" ∷ codes "features" ∷ codes "mangler" ∷ codes "mangle_root" ∷ codes "eager" ∷ codes "max_modules" ∷ codes "form" ∷ codes "builtins" ∷ []
+bundle_keys =
+    codes "root" ∷ codes "keep" ∷ codes "modules" ∷ codes "packages" ∷ codes "features"
+    ∷ codes "mangler" ∷ codes "mangle_root" ∷ codes "eager" ∷ codes "max_modules" ∷ codes "form" ∷ codes "builtins" ∷ []
 
 -- the escape form, the root's names as they are, only what is reached, a thousand modules, and form 1, where nothing else is said
 abbrev pub options_in : Data → Option Options

@@ -29,7 +29,9 @@ abbrev pub answer_for : Features → Text → Feature
 answer_for features name = unwrap_or (listed_answer name features.flags) features.default
 
 abbrev pub feature_of : Text → Option Feature
-feature_of s = if bytes_eq s (codes "enable") then Some feature.Enable else (if bytes_eq s (codes "disable") then Some feature.Disable else (if bytes_eq s (codes "keep") then Some feature.Keep else (if bytes_eq s (codes "error") then Some feature.Error else None)))
+feature_of s =
+    if bytes_eq s (codes "enable") then Some feature.Enable else (if bytes_eq s (codes "disable") then Some feature.Disable
+    else (if bytes_eq s (codes "keep") then Some feature.Keep else (if bytes_eq s (codes "error") then Some feature.Error else None)))
 
 -- the word of an answer
 abbrev pub feature_in : Data → Option Feature

@@ -43,9 +43,23 @@ abbrev pub optional : Text → Form → Field
 optional k f = record { named = k; is_required = false; form = f }
 
 abbrev pub fields : Form → List Field
-fields a_bundle = required (codes "root") a_path ∷ optional (codes "keep") (a_list_of a_name) ∷ optional (codes "modules") (a_list_of a_module) ∷ optional (codes "packages") (a_list_of a_package) ∷ optional (codes "features") some_features ∷ optional (codes "mangler") a_mangler ∷ optional (codes "mangle_root") a_truth ∷ optional (codes "eager") a_truth ∷ optional (codes "max_modules") a_limit ∷ optional (codes "form") a_form ∷ optional (codes "builtins") some_builtins ∷ []
+fields a_bundle =
+    required (codes "root") a_path
+    ∷ optional (codes "keep") (a_list_of a_name)
+    ∷ optional (codes "modules") (a_list_of a_module)
+    ∷ optional (codes "packages") (a_list_of a_package)
+    ∷ optional (codes "features") some_features
+    ∷ optional (codes "mangler") a_mangler
+    ∷ optional (codes "mangle_root") a_truth
+    ∷ optional (codes "eager") a_truth
+    ∷ optional (codes "max_modules") a_limit
+    ∷ optional (codes "form") a_form
+    ∷ optional (codes "builtins") some_builtins
+    ∷ []
 fields a_module = required (codes "path") a_path ∷ required (codes "unit") a_unit ∷ []
-fields a_package = required (codes "name") a_name ∷ required (codes "unit") a_unit ∷ optional (codes "modules") (a_list_of a_package_module) ∷ optional (codes "dependencies") (a_list_of a_package) ∷ []
+fields a_package =
+    required (codes "name") a_name ∷ required (codes "unit") a_unit
+    ∷ optional (codes "modules") (a_list_of a_package_module) ∷ optional (codes "dependencies") (a_list_of a_package) ∷ []
 fields a_package_module = required (codes "name") a_name ∷ required (codes "unit") a_unit ∷ optional (codes "modules") (a_list_of a_package_module) ∷ []
 fields some_features = optional (codes "default") a_feature ∷ optional (codes "flags") (an_object_of a_feature) ∷ []
 fields some_builtins = optional (codes "names") (a_list_of a_text) ∷ optional (codes "functions") (a_list_of a_text) ∷ optional (codes "constructors") (a_list_of a_text) ∷ []

@@ -35,4 +35,12 @@ abbrev pub builtins_view : BuiltinNames → built_in.Builtins
 builtins_view b = record { names = map string_bytes b.names.items; functions = map string_bytes b.functions.items; constructors = map string_bytes b.constructors.items }
 
 abbrev pub bundle_view : Bundle → spec.Bundle
-bundle_view b = record { root = path_view b.root; keep = map string_bytes b.keep.items; modules = map module_view b.modules.items; packages = packages_view b.packages.items; features = option_map features_view b.features; options = options_view b.options; builtins = option_map builtins_view b.builtins }
+bundle_view b = record {
+  root = path_view b.root;
+  keep = map string_bytes b.keep.items;
+  modules = map module_view b.modules.items;
+  packages = packages_view b.packages.items;
+  features = option_map features_view b.features;
+  options = options_view b.options;
+  builtins = option_map builtins_view b.builtins;
+}

@@ -27,7 +27,9 @@ module _ {B : Type 0} where
   router_shown shown r p name = Routed (λ b q. shown b q name) (mounts_of r) (fallback_of r) p ⊎ (NoRoute (mounts_of r) (fallback_of r) p × (name ≡ None))
 
   -- both routers mean the same
-  abbrev pub RouterMeans : (B → Path → UnitOf Text → Type 0) → (B → Path → ResolveError → Type 0) → (B → Path → Text → Type 0) → (B → Path → ResolveError → Type 0) → (B → Path → Option Text → Type 0) → Router B → Router B → Type 0
+  abbrev pub RouterMeans :
+      (B → Path → UnitOf Text → Type 0) → (B → Path → ResolveError → Type 0)
+      → (B → Path → Text → Type 0) → (B → Path → ResolveError → Type 0) → (B → Path → Option Text → Type 0) → Router B → Router B → Type 0
   RouterMeans hands refuses source lacks shown = MeansTheSame (router_hands hands) (router_refuses refuses) (router_source source) (router_lacks lacks) (router_shown shown)
 
   -- a call for the path reaches no resolver but the one that the path goes to

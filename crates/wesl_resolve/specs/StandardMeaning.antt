@@ -37,6 +37,9 @@ module _ {R P : Type 0} where
   standard_shown shown s p name = ByOrigin p (name ≡ None) (shown (local_of s) p name)
 
   -- both mean the same
-  abbrev pub StandardMeans : (P → Text → UnitOf Text → Type 0) → (P → Text → Error → Type 0) → (R → Path → UnitOf Text → Type 0) → (R → Path → ResolveError → Type 0) → (R → Path → Text → Type 0) → (R → Path → ResolveError → Type 0) → (R → Path → Option Text → Type 0) → StandardResolver R P → StandardResolver R P → Type 0
+  abbrev pub StandardMeans :
+      (P → Text → UnitOf Text → Type 0) → (P → Text → Error → Type 0)
+      → (R → Path → UnitOf Text → Type 0) → (R → Path → ResolveError → Type 0)
+      → (R → Path → Text → Type 0) → (R → Path → ResolveError → Type 0) → (R → Path → Option Text → Type 0) → StandardResolver R P → StandardResolver R P → Type 0
   StandardMeans reads unreadable hands refuses source lacks shown =
       MeansTheSame (standard_hands reads hands) (standard_refuses unreadable refuses) (standard_source source) (standard_lacks lacks) (standard_shown shown)

@@ -4,6 +4,8 @@ use Rattle.wesl_tree_names.specs.Path.{Text, Path}
 use Rattle.wesl_tree_names.specs.declared.errors.ResolveError as resolve_error
 use Rattle.wesl_tree_names.specs.declared.path.ModulePath.{ModulePath}
 use Rattle.wesl_mangle_forms.specs.Mangler.{written_if}
+use Rattle.wesl_mangle_forms.specs.declared.mangler.Mangler as Mangler
+use Rattle.wesl_resolve_base.specs.declared.resolver.Resolver as Resolver
 use Rattle.wesl_source_map_entries.specs.Records.{Item, Items, Sources, WritesSource, SameItems, SameSources}
 use Rattle.wesl_source_map.specs.BasicView.{items, default_text}
 use Rattle.wesl_source_map.specs.declared.basic.BasicSourceMap.{BasicSourceMap}
@@ -28,3 +30,11 @@ pub record IsAskedAlone {M : Type 0} (mangler mangler' : M) (root root' : Module
 -- a mangler that keeps a record has written the item for the name
 abbrev pub HasNamed : Bool → Text → Item → Items → Items → Type 0
 HasNamed writes name item old new = (other : Text) → new other ≡ written_if writes name item old other
+
+-- the same of a resolver that is asked for the source of a module
+abbrev pub RecordsAsked : {R : Type 0} → Resolver.Ghosts R → R → Path → Sources → Sources → Type 0
+RecordsAsked g resolver path old new = RecordsIfGiven (g.source resolver path) (g.lacks resolver path) (g.shown resolver path) path old new
+
+-- the same of a mangler that is asked for the name of an item
+abbrev pub HasNamedItem : {M : Type 0} → Mangler.Ghosts M → M → M → Item → Type 0
+HasNamedItem g old new item = HasNamed g.writes (g.name_of old item.0 item.1) item (g.recorded old) (g.recorded new)

@@ -11,7 +11,7 @@ ghost use Rattle.wesl_resolve_base.specs.Resolver.{MeansTheSame};
 ghost use Rattle.wesl_source_map_entries.specs.Records.{WritesItem, SameItems, SameSources};
 ghost use Rattle.wesl_source_map_entries.specs.Held.{source_or};
 ghost use Rattle.wesl_source_map.specs.BasicView.{items, sources, default_text, KnowsTheSame};
-ghost use Rattle.wesl_source_map.specs.Recording.{Records, RecordsIfGiven, IsAskedAlone, HasNamed};
+ghost use Rattle.wesl_source_map.specs.Recording.{Records, RecordsAsked, IsAskedAlone, HasNamedItem};
 
 use crate::basic::BasicSourceMap;
 use std::alloc::Global;
@@ -117,9 +117,7 @@ impl<R: Resolver, M> SourceMapper<R, M> {
     fn record_given(&mut self, alloc: Global, path: &ModulePath) -> Result<(), ResolveError>
         requires asked { R.ready self.old.resolver }
         requires rooted { is_relative (path_view path.now) ≡ false }
-        ensures recorded { OnOk result (RecordsIfGiven (R.source self.old.resolver (path_view path.now))
-            (R.lacks self.old.resolver (path_view path.now)) (R.shown self.old.resolver (path_view path.now)) (path_view path.now)
-            (sources self.old.sourcemap) (sources self.new.sourcemap)) }
+        ensures recorded { OnOk result (RecordsAsked R.Resolver self.old.resolver (path_view path.now) (sources self.old.sourcemap) (sources self.new.sourcemap)) }
         ensures refused { IfErr result (λ e. e ≡ resolve_error.Memory) }
         ensures kept { OnErr result (SameSources (sources self.old.sourcemap) (sources self.new.sourcemap)) }
         ensures same { MeansTheSame R.hands R.refuses R.source R.lacks R.shown self.old.resolver self.new.resolver }
@@ -186,9 +184,7 @@ impl<R: Resolver, M> Resolver for SourceMapper<R, M> {
         requires asked { R.ready self.old.resolver }
         requires rooted { is_relative (path_view path.now) ≡ false }
         ensures handed { IfOk result (λ u. R.hands self.old.resolver (path_view path.now) (spelled (unit_view u))) }
-        ensures recorded { OnOk result (RecordsIfGiven (R.source self.old.resolver (path_view path.now))
-            (R.lacks self.old.resolver (path_view path.now)) (R.shown self.old.resolver (path_view path.now)) (path_view path.now)
-            (sources self.old.sourcemap) (sources self.new.sourcemap)) }
+        ensures recorded { OnOk result (RecordsAsked R.Resolver self.old.resolver (path_view path.now) (sources self.old.sourcemap) (sources self.new.sourcemap)) }
         ensures refused { IfErr result (OrMemory (R.refuses self.old.resolver (path_view path.now))) }
         ensures kept { OnErr result (SameSources (sources self.old.sourcemap) (sources self.new.sourcemap)) }
         ensures same { MeansTheSame R.hands R.refuses R.source R.lacks R.shown self.old.resolver self.new.resolver }
@@ -237,11 +233,9 @@ impl<R, M: Mangler> Mangler for SourceMapper<R, M> {
         ensures same { (p : Path) (i : Text) → M.name_of self.new.mangler p i ≡ M.name_of self.old.mangler p i }
         ensures same_variants { (names : List Text) (i : Text) (n : ℕ) (ts : List Tree)
             → M.variant_of self.new.mangler names i n ts ≡ M.variant_of self.old.mangler names i n ts }
-        ensures inner { OnOk result (HasNamed M.writes (M.name_of self.old.mangler (path_view path.now) item.now) (path_view path.now, item.now)
-            (M.recorded self.old.mangler) (M.recorded self.new.mangler)) }
+        ensures inner { OnOk result (HasNamedItem M.Mangler self.old.mangler self.new.mangler (path_view path.now, item.now)) }
         ensures inner_left { OnErr result (SameItems (M.recorded self.old.mangler) (M.recorded self.new.mangler)
-            ⊎ HasNamed M.writes (M.name_of self.old.mangler (path_view path.now) item.now) (path_view path.now, item.now)
-            (M.recorded self.old.mangler) (M.recorded self.new.mangler)) }
+            ⊎ HasNamedItem M.Mangler self.old.mangler self.new.mangler (path_view path.now, item.now)) }
         ensures resolver { self.new.resolver ≡ self.old.resolver }
         ensures root { self.new.root ≡ self.old.root }
         ensures modules { SameSources (sources self.old.sourcemap) (sources self.new.sourcemap) }

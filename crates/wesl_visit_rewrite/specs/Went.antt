@@ -1,6 +1,6 @@
 -- A step of the rewriting walk: what it made of a forest, and whether it goes on. Once a rewriter has refused, the rest stands as it was.
-use Rattle.std.specs.Prelude.{◌≡◌, Bool, true, false}
-use Rattle.wesl_tree_syntax.specs.Tree.{Forest, Tree}
+use Rattle.std.specs.Prelude.{◌≡◌, Bool, true, false, List, map}
+use Rattle.wesl_tree_syntax.specs.Tree.{Forest, Tree, before, end, forest_of}
 use Rattle.wesl_visit_rewrite.specs.Replaced.{Rule, Replaced, ReplacedBelow, Stopped, StoppedBelow}
 
 abbrev pub WentBy : Rule → Bool → Forest → Bool → Forest → Type 0
@@ -11,6 +11,13 @@ WentBy k false f false g = g ≡ f
 
 pub record Went (k : Rule) (a : Bool) (f : Forest) (b : Bool) (g : Forest) : Type 0 where
   pub went : WentBy k a f b g
+
+-- the same of one node, by its tree, and of the nodes of a list
+abbrev pub WentTo : {X : Type 0} → Rule → (X → Tree) → Bool → X → Bool → X → Type 0
+WentTo k view a x b y = Went k a (before (view x) end) b (before (view y) end)
+
+abbrev pub AllWent : {X : Type 0} → Rule → (X → Tree) → Bool → List X → Bool → List X → Type 0
+AllWent k view a xs b ys = Went k a (forest_of (map view xs)) b (forest_of (map view ys))
 
 -- the same strictly below a node, where none refused before
 abbrev pub WentBelowBy : Rule → Tree → Bool → Tree → Type 0

@@ -1,8 +1,7 @@
 //! What is replaced in attributes, and in fields that may be absent.
 ghost use Rattle.wesl_visit_rewrite.specs.Replaced.{rule};
-ghost use Rattle.wesl_visit_rewrite.specs.Went.{Went};
-ghost use Rattle.std.specs.Prelude.{map};
-ghost use Rattle.wesl_tree_syntax.specs.Tree.{attribute_node, before, end, forest_of};
+ghost use Rattle.wesl_visit_rewrite.specs.Went.{AllWent, WentTo};
+ghost use Rattle.wesl_tree_syntax.specs.Tree.{attribute_node};
 ghost use Rattle.wesl_tree_syntax.specs.View.{attribute_view, attributes_tree, expression_tree, optional, placed, type_view};
 
 use crate::replace::expression::{at_expression, at_expressions, at_type};
@@ -15,7 +14,7 @@ pub(crate) fn at_optional_expression<T: Replace, R: Rewrite<T>>(
     rewriter: &mut R,
     goes: bool,
 ) -> bool
-    ensures { Went (rule T.Kind.sought R.rewrites deep) goes (before (optional expression_tree node.old) end) result (before (optional expression_tree node.new) end) }
+    ensures { WentTo (rule T.Kind.sought R.rewrites deep) (optional expression_tree) goes node.old result node.new }
 {
     match node {
         None => goes,
@@ -29,7 +28,7 @@ pub(crate) fn at_optional_type<T: Replace, R: Rewrite<T>>(
     rewriter: &mut R,
     goes: bool,
 ) -> bool
-    ensures { Went (rule T.Kind.sought R.rewrites deep) goes (before (optional type_view ty.old) end) result (before (optional type_view ty.new) end) }
+    ensures { WentTo (rule T.Kind.sought R.rewrites deep) (optional type_view) goes ty.old result ty.new }
 {
     match ty {
         None => goes,
@@ -44,7 +43,7 @@ pub(crate) fn in_attribute<T: Replace, R: Rewrite<T>>(
     rewriter: &mut R,
     goes: bool,
 ) -> bool
-    ensures { Went (rule T.Kind.sought R.rewrites deep) goes (before (attribute_view attribute.old) end) result (before (attribute_view attribute.new) end) }
+    ensures { WentTo (rule T.Kind.sought R.rewrites deep) attribute_view goes attribute.old result attribute.new }
 {
     law_of_words();
     match attribute {
@@ -74,7 +73,7 @@ pub(crate) fn in_attributes<T: Replace, R: Rewrite<T>>(
     rewriter: &mut R,
     goes: bool,
 ) -> bool
-    ensures { Went (rule T.Kind.sought R.rewrites deep) goes (forest_of (map (placed attribute_view attribute_node) attributes.old)) result (forest_of (map (placed attribute_view attribute_node) attributes.new)) }
+    ensures { AllWent (rule T.Kind.sought R.rewrites deep) (placed attribute_view attribute_node) goes attributes.old result attributes.new }
 {
     let mut goes = goes;
     for i in 0..attributes.len() {
@@ -89,7 +88,7 @@ pub(crate) fn at_attributes<T: Replace, R: Rewrite<T>>(
     rewriter: &mut R,
     goes: bool,
 ) -> bool
-    ensures { Went (rule T.Kind.sought R.rewrites deep) goes (before (attributes_tree attributes.old) end) result (before (attributes_tree attributes.new) end) }
+    ensures { WentTo (rule T.Kind.sought R.rewrites deep) attributes_tree goes attributes.old result attributes.new }
 {
     if T::takes_whole_attributes(deep) {
         T::finish_attributes(attributes, rewriter, goes)

@@ -1,8 +1,7 @@
 //! What is replaced in declarations, imports and directives.
-ghost use Rattle.std.specs.Prelude.{map};
 ghost use Rattle.wesl_visit_rewrite.specs.Replaced.{rule};
-ghost use Rattle.wesl_visit_rewrite.specs.Went.{Went};
-ghost use Rattle.wesl_tree_syntax.specs.Tree.{before, declaration_node, directive_node, end, forest_of, import_node, member_node};
+ghost use Rattle.wesl_visit_rewrite.specs.Went.{AllWent, WentTo};
+ghost use Rattle.wesl_tree_syntax.specs.Tree.{declaration_node, directive_node, import_node, member_node};
 ghost use Rattle.wesl_tree_syntax.specs.View.{alias_view, directive_view, function_view, global_view, import_view, member_view, parameter_view, placed, struct_view};
 
 use crate::replace::attribute::{at_attributes, at_optional_type};
@@ -21,7 +20,7 @@ pub(crate) fn in_alias<T: Replace, R: Rewrite<T>>(
     rewriter: &mut R,
     goes: bool,
 ) -> bool
-    ensures { Went (rule T.Kind.sought R.rewrites deep) goes (before (alias_view alias.old) end) result (before (alias_view alias.new) end) }
+    ensures { WentTo (rule T.Kind.sought R.rewrites deep) alias_view goes alias.old result alias.new }
 {
     let goes = at_attributes(&mut alias.attributes, deep, rewriter, goes);
     at_type(&mut alias.ty, deep, rewriter, goes)
@@ -33,7 +32,7 @@ pub(crate) fn in_member<T: Replace, R: Rewrite<T>>(
     rewriter: &mut R,
     goes: bool,
 ) -> bool
-    ensures { Went (rule T.Kind.sought R.rewrites deep) goes (before (member_view member.old) end) result (before (member_view member.new) end) }
+    ensures { WentTo (rule T.Kind.sought R.rewrites deep) member_view goes member.old result member.new }
 {
     let goes = at_attributes(&mut member.attributes, deep, rewriter, goes);
     at_type(&mut member.ty, deep, rewriter, goes)
@@ -45,7 +44,7 @@ fn in_members<T: Replace, R: Rewrite<T>>(
     rewriter: &mut R,
     goes: bool,
 ) -> bool
-    ensures { Went (rule T.Kind.sought R.rewrites deep) goes (forest_of (map (placed member_view member_node) all.old)) result (forest_of (map (placed member_view member_node) all.new)) }
+    ensures { AllWent (rule T.Kind.sought R.rewrites deep) (placed member_view member_node) goes all.old result all.new }
 {
     let mut goes = goes;
     for i in 0..all.len() {
@@ -60,7 +59,7 @@ pub(crate) fn in_struct<T: Replace, R: Rewrite<T>>(
     rewriter: &mut R,
     goes: bool,
 ) -> bool
-    ensures { Went (rule T.Kind.sought R.rewrites deep) goes (before (struct_view structure.old) end) result (before (struct_view structure.new) end) }
+    ensures { WentTo (rule T.Kind.sought R.rewrites deep) struct_view goes structure.old result structure.new }
 {
     let goes = at_attributes(&mut structure.attributes, deep, rewriter, goes);
     in_members(&mut structure.members, deep, rewriter, goes)
@@ -72,7 +71,7 @@ fn in_parameter<T: Replace, R: Rewrite<T>>(
     rewriter: &mut R,
     goes: bool,
 ) -> bool
-    ensures { Went (rule T.Kind.sought R.rewrites deep) goes (before (parameter_view parameter.old) end) result (before (parameter_view parameter.new) end) }
+    ensures { WentTo (rule T.Kind.sought R.rewrites deep) parameter_view goes parameter.old result parameter.new }
 {
     let goes = at_attributes(&mut parameter.attributes, deep, rewriter, goes);
     at_type(&mut parameter.ty, deep, rewriter, goes)
@@ -84,7 +83,7 @@ fn in_parameters<T: Replace, R: Rewrite<T>>(
     rewriter: &mut R,
     goes: bool,
 ) -> bool
-    ensures { Went (rule T.Kind.sought R.rewrites deep) goes (forest_of (map parameter_view all.old)) result (forest_of (map parameter_view all.new)) }
+    ensures { AllWent (rule T.Kind.sought R.rewrites deep) parameter_view goes all.old result all.new }
 {
     let mut goes = goes;
     for i in 0..all.len() {
@@ -99,7 +98,7 @@ pub(crate) fn in_function<T: Replace, R: Rewrite<T>>(
     rewriter: &mut R,
     goes: bool,
 ) -> bool
-    ensures { Went (rule T.Kind.sought R.rewrites deep) goes (before (function_view function.old) end) result (before (function_view function.new) end) }
+    ensures { WentTo (rule T.Kind.sought R.rewrites deep) function_view goes function.old result function.new }
 {
     let goes = at_attributes(&mut function.attributes, deep, rewriter, goes);
     let goes = in_parameters(&mut function.parameters, deep, rewriter, goes);
@@ -114,7 +113,7 @@ pub(crate) fn in_global<T: Replace, R: Rewrite<T>>(
     rewriter: &mut R,
     goes: bool,
 ) -> bool
-    ensures { Went (rule T.Kind.sought R.rewrites deep) goes (before (global_view declaration.old) end) result (before (global_view declaration.new) end) }
+    ensures { WentTo (rule T.Kind.sought R.rewrites deep) global_view goes declaration.old result declaration.new }
 {
     match declaration {
         GlobalDeclaration::Void => goes,
@@ -137,7 +136,7 @@ pub(crate) fn in_declarations<T: Replace, R: Rewrite<T>>(
     rewriter: &mut R,
     goes: bool,
 ) -> bool
-    ensures { Went (rule T.Kind.sought R.rewrites deep) goes (forest_of (map (placed global_view declaration_node) declarations.old)) result (forest_of (map (placed global_view declaration_node) declarations.new)) }
+    ensures { AllWent (rule T.Kind.sought R.rewrites deep) (placed global_view declaration_node) goes declarations.old result declarations.new }
 {
     let mut goes = goes;
     for i in 0..declarations.len() {
@@ -153,7 +152,7 @@ fn in_import<T: Replace, R: Rewrite<T>>(
     rewriter: &mut R,
     goes: bool,
 ) -> bool
-    ensures { Went (rule T.Kind.sought R.rewrites deep) goes (before (import_view import.old) end) result (before (import_view import.new) end) }
+    ensures { WentTo (rule T.Kind.sought R.rewrites deep) import_view goes import.old result import.new }
 {
     law_of_words();
     T::finish_attributes(&mut import.attributes, rewriter, goes)
@@ -165,7 +164,7 @@ pub(crate) fn in_imports<T: Replace, R: Rewrite<T>>(
     rewriter: &mut R,
     goes: bool,
 ) -> bool
-    ensures { Went (rule T.Kind.sought R.rewrites deep) goes (forest_of (map (placed import_view import_node) imports.old)) result (forest_of (map (placed import_view import_node) imports.new)) }
+    ensures { AllWent (rule T.Kind.sought R.rewrites deep) (placed import_view import_node) goes imports.old result imports.new }
 {
     let mut goes = goes;
     for i in 0..imports.len() {
@@ -180,7 +179,7 @@ fn in_directive<T: Replace, R: Rewrite<T>>(
     rewriter: &mut R,
     goes: bool,
 ) -> bool
-    ensures { Went (rule T.Kind.sought R.rewrites deep) goes (before (directive_view directive.old) end) result (before (directive_view directive.new) end) }
+    ensures { WentTo (rule T.Kind.sought R.rewrites deep) directive_view goes directive.old result directive.new }
 {
     law_of_words();
     match directive {
@@ -206,7 +205,7 @@ pub(crate) fn in_directives<T: Replace, R: Rewrite<T>>(
     rewriter: &mut R,
     goes: bool,
 ) -> bool
-    ensures { Went (rule T.Kind.sought R.rewrites deep) goes (forest_of (map (placed directive_view directive_node) directives.old)) result (forest_of (map (placed directive_view directive_node) directives.new)) }
+    ensures { AllWent (rule T.Kind.sought R.rewrites deep) (placed directive_view directive_node) goes directives.old result directives.new }
 {
     let mut goes = goes;
     for i in 0..directives.len() {

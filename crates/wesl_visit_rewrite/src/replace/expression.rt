@@ -1,9 +1,7 @@
 //! What is replaced in expressions and types.
-ghost use Rattle.std.specs.Prelude.{map};
-ghost use Rattle.wesl_tree_syntax.specs.Tree.{before, end, forest_of};
 ghost use Rattle.wesl_tree_syntax.specs.View.{argument_view, call_view, expression_tree, expression_view, type_view};
 ghost use Rattle.wesl_visit_rewrite.specs.Replaced.{rule};
-ghost use Rattle.wesl_visit_rewrite.specs.Went.{Went};
+ghost use Rattle.wesl_visit_rewrite.specs.Went.{AllWent, Went, WentTo};
 
 use wesl_tree_syntax::{Expression, ExpressionNode, FunctionCall, TemplateArg, TypeExpression};
 use wesl_visit_collect::{Replace, Rewrite};
@@ -15,7 +13,7 @@ pub(crate) fn in_expression<T: Replace, R: Rewrite<T>>(
     rewriter: &mut R,
     goes: bool,
 ) -> bool
-    ensures { Went (rule T.Kind.sought R.rewrites deep) goes (before (expression_view expression.old) end) result (before (expression_view expression.new) end) }
+    ensures { WentTo (rule T.Kind.sought R.rewrites deep) expression_view goes expression.old result expression.new }
 {
     match expression {
         Expression::Literal(_) => goes,
@@ -53,7 +51,7 @@ pub(crate) fn at_expression<T: Replace, R: Rewrite<T>>(
     rewriter: &mut R,
     goes: bool,
 ) -> bool
-    ensures { Went (rule T.Kind.sought R.rewrites deep) goes (before (expression_tree node.old) end) result (before (expression_tree node.new) end) }
+    ensures { WentTo (rule T.Kind.sought R.rewrites deep) expression_tree goes node.old result node.new }
 {
     if T::takes_whole_expressions(deep) {
         T::finish_expression(node, rewriter, goes)
@@ -70,7 +68,7 @@ pub(crate) fn at_expressions<T: Replace, R: Rewrite<T>>(
     rewriter: &mut R,
     goes: bool,
 ) -> bool
-    ensures { Went (rule T.Kind.sought R.rewrites deep) goes (forest_of (map expression_tree nodes.old)) result (forest_of (map expression_tree nodes.new)) }
+    ensures { AllWent (rule T.Kind.sought R.rewrites deep) expression_tree goes nodes.old result nodes.new }
 {
     let mut goes = goes;
     for i in 0..nodes.len() {
@@ -92,7 +90,7 @@ pub(crate) fn in_call<T: Replace, R: Rewrite<T>>(
     rewriter: &mut R,
     goes: bool,
 ) -> bool
-    ensures { Went (rule T.Kind.sought R.rewrites deep) goes (before (call_view call.old) end) result (before (call_view call.new) end) }
+    ensures { WentTo (rule T.Kind.sought R.rewrites deep) call_view goes call.old result call.new }
 {
     let FunctionCall { ty, arguments } = call;
     let goes = at_type(ty, deep, rewriter, goes);
@@ -106,7 +104,7 @@ pub(crate) fn at_type<T: Replace, R: Rewrite<T>>(
     rewriter: &mut R,
     goes: bool,
 ) -> bool
-    ensures { Went (rule T.Kind.sought R.rewrites deep) goes (before (type_view ty.old) end) result (before (type_view ty.new) end) }
+    ensures { WentTo (rule T.Kind.sought R.rewrites deep) type_view goes ty.old result ty.new }
 {
     if T::takes_whole_types(deep) {
         T::finish_type(ty, rewriter, goes)
@@ -138,7 +136,7 @@ fn in_arguments<T: Replace, R: Rewrite<T>>(
     rewriter: &mut R,
     goes: bool,
 ) -> bool
-    ensures { Went (rule T.Kind.sought R.rewrites deep) goes (forest_of (map argument_view arguments.old)) result (forest_of (map argument_view arguments.new)) }
+    ensures { AllWent (rule T.Kind.sought R.rewrites deep) argument_view goes arguments.old result arguments.new }
 {
     let mut goes = goes;
     for i in 0..arguments.len() {

@@ -1,9 +1,8 @@
 //! What is replaced in statements.
 ghost use Rattle.std.specs.Box.{box_value};
-ghost use Rattle.std.specs.Prelude.{map};
 ghost use Rattle.wesl_visit_rewrite.specs.Replaced.{rule};
-ghost use Rattle.wesl_visit_rewrite.specs.Went.{Went};
-ghost use Rattle.wesl_tree_syntax.specs.Tree.{before, clauses as clauses_kind, end, forest_of, list};
+ghost use Rattle.wesl_visit_rewrite.specs.Went.{AllWent, WentTo};
+ghost use Rattle.wesl_tree_syntax.specs.Tree.{clauses as clauses_kind, list};
 ghost use Rattle.wesl_tree_syntax.specs.View.{assert_view, break_if_view, clause_view, compound_view, continuing_view, declaration_view, else_if_view, else_view, if_view, listed, optional, selector_view, statement_tree, statement_view};
 
 use crate::replace::attribute::{at_attributes, at_optional_expression, at_optional_type};
@@ -20,7 +19,7 @@ pub(crate) fn in_declaration<T: Replace, R: Rewrite<T>>(
     rewriter: &mut R,
     goes: bool,
 ) -> bool
-    ensures { Went (rule T.Kind.sought R.rewrites deep) goes (before (declaration_view declaration.old) end) result (before (declaration_view declaration.new) end) }
+    ensures { WentTo (rule T.Kind.sought R.rewrites deep) declaration_view goes declaration.old result declaration.new }
 {
     let goes = at_attributes(&mut declaration.attributes, deep, rewriter, goes);
     let goes = at_optional_type(&mut declaration.ty, deep, rewriter, goes);
@@ -33,7 +32,7 @@ pub(crate) fn in_assert<T: Replace, R: Rewrite<T>>(
     rewriter: &mut R,
     goes: bool,
 ) -> bool
-    ensures { Went (rule T.Kind.sought R.rewrites deep) goes (before (assert_view assertion.old) end) result (before (assert_view assertion.new) end) }
+    ensures { WentTo (rule T.Kind.sought R.rewrites deep) assert_view goes assertion.old result assertion.new }
 {
     let goes = at_attributes(&mut assertion.attributes, deep, rewriter, goes);
     at_expression(&mut assertion.expression, deep, rewriter, goes)
@@ -45,7 +44,7 @@ fn in_selector<T: Replace, R: Rewrite<T>>(
     rewriter: &mut R,
     goes: bool,
 ) -> bool
-    ensures { Went (rule T.Kind.sought R.rewrites deep) goes (before (selector_view selector.old) end) result (before (selector_view selector.new) end) }
+    ensures { WentTo (rule T.Kind.sought R.rewrites deep) selector_view goes selector.old result selector.new }
 {
     match selector {
         CaseSelector::Default => goes,
@@ -59,7 +58,7 @@ fn in_selectors<T: Replace, R: Rewrite<T>>(
     rewriter: &mut R,
     goes: bool,
 ) -> bool
-    ensures { Went (rule T.Kind.sought R.rewrites deep) goes (forest_of (map selector_view selectors.old)) result (forest_of (map selector_view selectors.new)) }
+    ensures { AllWent (rule T.Kind.sought R.rewrites deep) selector_view goes selectors.old result selectors.new }
 {
     let mut goes = goes;
     for i in 0..selectors.len() {
@@ -74,7 +73,7 @@ fn in_optional_break_if<T: Replace, R: Rewrite<T>>(
     rewriter: &mut R,
     goes: bool,
 ) -> bool
-    ensures { Went (rule T.Kind.sought R.rewrites deep) goes (before (optional break_if_view break_if.old) end) result (before (optional break_if_view break_if.new) end) }
+    ensures { WentTo (rule T.Kind.sought R.rewrites deep) (optional break_if_view) goes break_if.old result break_if.new }
 {
     match break_if {
         None => goes,
@@ -92,7 +91,7 @@ pub(crate) fn in_statement<T: Replace, R: Rewrite<T>>(
     rewriter: &mut R,
     goes: bool,
 ) -> bool
-    ensures { Went (rule T.Kind.sought R.rewrites deep) goes (before (statement_view statement.old) end) result (before (statement_view statement.new) end) }
+    ensures { WentTo (rule T.Kind.sought R.rewrites deep) statement_view goes statement.old result statement.new }
 {
     match statement {
         Statement::Void => goes,
@@ -200,7 +199,7 @@ fn at_optional_statement<T: Replace, R: Rewrite<T>>(
     rewriter: &mut R,
     goes: bool,
 ) -> bool
-    ensures { Went (rule T.Kind.sought R.rewrites deep) goes (before (optional (λ s. statement_tree (box_value s)) node.old) end) result (before (optional (λ s. statement_tree (box_value s)) node.new) end) }
+    ensures { WentTo (rule T.Kind.sought R.rewrites deep) (optional (λ s. statement_tree (box_value s))) goes node.old result node.new }
 {
     match node {
         None => goes,
@@ -224,7 +223,7 @@ fn at_statements<T: Replace, R: Rewrite<T>>(
     rewriter: &mut R,
     goes: bool,
 ) -> bool
-    ensures { Went (rule T.Kind.sought R.rewrites deep) goes (forest_of (map statement_tree statements.old)) result (forest_of (map statement_tree statements.new)) }
+    ensures { AllWent (rule T.Kind.sought R.rewrites deep) statement_tree goes statements.old result statements.new }
 {
     let mut goes = goes;
     for i in 0..statements.len() {
@@ -246,7 +245,7 @@ pub(crate) fn in_compound<T: Replace, R: Rewrite<T>>(
     rewriter: &mut R,
     goes: bool,
 ) -> bool
-    ensures { Went (rule T.Kind.sought R.rewrites deep) goes (before (compound_view body.old) end) result (before (compound_view body.new) end) }
+    ensures { WentTo (rule T.Kind.sought R.rewrites deep) compound_view goes body.old result body.new }
 {
     let CompoundStatement {
         attributes,
@@ -263,7 +262,7 @@ fn in_if<T: Replace, R: Rewrite<T>>(
     rewriter: &mut R,
     goes: bool,
 ) -> bool
-    ensures { Went (rule T.Kind.sought R.rewrites deep) goes (before (if_view clause.old) end) result (before (if_view clause.new) end) }
+    ensures { WentTo (rule T.Kind.sought R.rewrites deep) if_view goes clause.old result clause.new }
 {
     let IfClause { expression, body } = clause;
     let goes = at_expression(expression, deep, rewriter, goes);
@@ -277,7 +276,7 @@ fn in_else_if<T: Replace, R: Rewrite<T>>(
     rewriter: &mut R,
     goes: bool,
 ) -> bool
-    ensures { Went (rule T.Kind.sought R.rewrites deep) goes (before (else_if_view clause.old) end) result (before (else_if_view clause.new) end) }
+    ensures { WentTo (rule T.Kind.sought R.rewrites deep) else_if_view goes clause.old result clause.new }
 {
     let ElseIfClause {
         attributes,
@@ -296,7 +295,7 @@ fn in_else_ifs<T: Replace, R: Rewrite<T>>(
     rewriter: &mut R,
     goes: bool,
 ) -> bool
-    ensures { Went (rule T.Kind.sought R.rewrites deep) goes (before (listed else_if_view list clauses.old) end) result (before (listed else_if_view list clauses.new) end) }
+    ensures { WentTo (rule T.Kind.sought R.rewrites deep) (listed else_if_view list) goes clauses.old result clauses.new }
 {
     each_else_if(clauses, deep, rewriter, goes)
 }
@@ -308,7 +307,7 @@ fn each_else_if<T: Replace, R: Rewrite<T>>(
     rewriter: &mut R,
     goes: bool,
 ) -> bool
-    ensures { Went (rule T.Kind.sought R.rewrites deep) goes (forest_of (map else_if_view clauses.old)) result (forest_of (map else_if_view clauses.new)) }
+    ensures { AllWent (rule T.Kind.sought R.rewrites deep) else_if_view goes clauses.old result clauses.new }
 {
     let mut goes = goes;
     for i in 0..clauses.len() {
@@ -324,7 +323,7 @@ fn in_optional_else<T: Replace, R: Rewrite<T>>(
     rewriter: &mut R,
     goes: bool,
 ) -> bool
-    ensures { Went (rule T.Kind.sought R.rewrites deep) goes (before (optional else_view clause.old) end) result (before (optional else_view clause.new) end) }
+    ensures { WentTo (rule T.Kind.sought R.rewrites deep) (optional else_view) goes clause.old result clause.new }
 {
     match clause {
         None => goes,
@@ -343,7 +342,7 @@ fn in_clause<T: Replace, R: Rewrite<T>>(
     rewriter: &mut R,
     goes: bool,
 ) -> bool
-    ensures { Went (rule T.Kind.sought R.rewrites deep) goes (before (clause_view clause.old) end) result (before (clause_view clause.new) end) }
+    ensures { WentTo (rule T.Kind.sought R.rewrites deep) clause_view goes clause.old result clause.new }
 {
     let SwitchClause {
         attributes,
@@ -362,7 +361,7 @@ fn in_clauses<T: Replace, R: Rewrite<T>>(
     rewriter: &mut R,
     goes: bool,
 ) -> bool
-    ensures { Went (rule T.Kind.sought R.rewrites deep) goes (before (listed clause_view clauses_kind clauses.old) end) result (before (listed clause_view clauses_kind clauses.new) end) }
+    ensures { WentTo (rule T.Kind.sought R.rewrites deep) (listed clause_view clauses_kind) goes clauses.old result clauses.new }
 {
     each_clause(clauses, deep, rewriter, goes)
 }
@@ -374,7 +373,7 @@ fn each_clause<T: Replace, R: Rewrite<T>>(
     rewriter: &mut R,
     goes: bool,
 ) -> bool
-    ensures { Went (rule T.Kind.sought R.rewrites deep) goes (forest_of (map clause_view clauses.old)) result (forest_of (map clause_view clauses.new)) }
+    ensures { AllWent (rule T.Kind.sought R.rewrites deep) clause_view goes clauses.old result clauses.new }
 {
     let mut goes = goes;
     for i in 0..clauses.len() {
@@ -390,7 +389,7 @@ fn in_optional_continuing<T: Replace, R: Rewrite<T>>(
     rewriter: &mut R,
     goes: bool,
 ) -> bool
-    ensures { Went (rule T.Kind.sought R.rewrites deep) goes (before (optional continuing_view continuing.old) end) result (before (optional continuing_view continuing.new) end) }
+    ensures { WentTo (rule T.Kind.sought R.rewrites deep) (optional continuing_view) goes continuing.old result continuing.new }
 {
     match continuing {
         None => goes,
