@@ -1,2 +1,2 @@
 pub mod Printed
-mod Texts
+pub mod Texts

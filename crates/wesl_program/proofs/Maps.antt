@@ -1,70 +1,57 @@
--- The members of a map, put one after another.
-use Rattle.std.proofs.Common.{◌≡◌, List, [], ◌∷◌, ◌++◌, Less, Greater, Bool, false, nat_cmp, refl, ap, sym, subst, ◌∙◌, append-nil}
-use Rattle.std.proofs.lemmas.Cmp.{nat_list_cmp_total}
-use Rattle.std.proofs.lemmas.List.{append_assoc}
-use Rattle.std.specs.Cmp.Lexicographic.{slice_cmp}
-use Rattle.std.specs.List.{AllByRecursion}
-use Rattle.std.specs.List.Sorted.{IsStrictlySortedBy}
-use Rattle.std.specs.Map.{keys_of}
-use Rattle.std.specs.Ordering.{ordering_reverse}
-use Rattle.serde_json.specs.Data.{Data, Members, no_members, member, put, object}
-use Rattle.serde_json.specs.Written.{has_float, members_have_float}
+-- The object of a map, as it is written.
+use Rattle.std.proofs.Common.{◌≡◌, ℕ, ◌+◌, ◌<◌, ◌≤◌, List, [], ◌∷◌, ◌++◌, Bool, Bor, length, drop, get_or, map, refl, ap, sym, ◌∙◌}
+use Rattle.std.proofs.lemmas.List.{append_assoc, drop_all, drop_more}
+use Rattle.json.specs.Token.{Token, end_object, key}
+use Rattle.json.specs.Tree.{json_tokens, members_tokens}
+use Rattle.serde_json.specs.Data.{Data}
+use Rattle.serde_json.specs.Written.{members_outline, outline}
 use Rattle.wesl_tree_names.specs.Path.{Text}
+use Rattle.wesl_tree_names.specs.declared.path.ModulePath.{ModulePath}
 use Rattle.wesl_source_map_entries.specs.Records.{Item, Items, SameItems}
-use Rattle.wesl_source_map_entries.specs.Listed.{IsListing}
 use Rattle.wesl_tree_syntax.specs.Unit.{UnitView}
 use Rattle.wesl_json_form.specs.Units.{written_as}
 use Rattle.wesl_program_bundle.specs.Bundle.{Bundle}
 use Rattle.wesl_link_engine.specs.Worlds.{Module}
+use Rattle.wesl_program.specs.Answers.{entry_view}
 use Rattle.wesl_program.specs.Line.{IsAnswerOf, IsMapOf, SaysClash, item_value, map_members}
 use Rattle.wesl_program.specs.Linking.{LinksTo, recorded_for}
 use Rattle.wesl_program.specs.Validity.{IsValidUnder}
 
-abbrev Entry : Type 0
-Entry = Text × Item
+abbrev pub Entry : Type 0
+Entry = Bor Text × Bor ModulePath × Bor Text
 
-below_middle : (k : Text) (es : List Entry) (e : Entry) (more : List Entry) → AllByRecursion (λ y. slice_cmp nat_cmp k y ≡ Less) (keys_of (es ++ e ∷ more)) → slice_cmp nat_cmp k e.0 ≡ Less
-below_middle k [] e more h = h.0
-below_middle k (x ∷ es) e more h = below_middle k es e more h.1
+-- four tokens, one after the other
+pub four-written : (t u v w : Token) (old first second third fourth : List Token) → first ≡ old ++ t ∷ [] → second ≡ first ++ u ∷ [] → third ≡ second ++ v ∷ []
+    → fourth ≡ third ++ w ∷ [] → fourth ≡ old ++ t ∷ u ∷ v ∷ w ∷ []
+four-written t u v w old first second third fourth one two three four =
+    four ∙ ap (λ r. r ++ w ∷ []) (three ∙ ap (λ r. r ++ v ∷ []) (two ∙ ap (λ r. r ++ u ∷ []) one))
+    ∙ append_assoc ((old ++ t ∷ []) ++ u ∷ []) (v ∷ []) (w ∷ [])
+    ∙ append_assoc (old ++ t ∷ []) (u ∷ []) (v ∷ w ∷ [])
+    ∙ append_assoc old (t ∷ []) (u ∷ v ∷ w ∷ [])
 
-turned : (a b : Text) → slice_cmp nat_cmp a b ≡ Less → slice_cmp nat_cmp b a ≡ Greater
-turned a b h = nat_list_cmp_total.antisymm b a ∙ ap ordering_reverse h
+-- the members of the entries from the i-th on, with the end of the object
+abbrev pub left : ℕ → List Entry → List Token
+left i es = members_tokens (members_outline (map_members (map entry_view (drop i es))))
 
--- a member whose key is after the others' goes last
-puts_last : (es more : List Entry) (e : Entry) → IsStrictlySortedBy (slice_cmp nat_cmp) (keys_of (es ++ e ∷ more)) → put e.0 (item_value e.1) (map_members es) ≡ map_members (es ++ e ∷ [])
-unfolding IsStrictlySortedBy
-puts_last [] more e h = refl
-puts_last (x ∷ es) more e h =
-    let above : slice_cmp nat_cmp e.0 x.0 ≡ Greater = turned x.0 e.0 (below_middle x.0 es e more h.0) in
-    rw above (ap (member x.0 (item_value x.1)) (puts_last es more e h.1))
+left-more : (es : List Entry) (i : ℕ) (e : Entry) → i < length es → e ≡ get_or es i e → left i es ≡ key e.0.now ∷ json_tokens (outline (item_value (entry_view e).1)) ++ left (i + 1) es
+left-more es i e within here =
+    ap (λ ds. members_tokens (members_outline (map_members (map entry_view ds)))) (drop_more es i e within ∙ ap (λ d. d ∷ drop (i + 1) es) (sym here))
 
--- the members, after these were put
-abbrev pub puts : List Entry → Members → Members
-puts [] ms = ms
-puts (e ∷ es) ms = puts es (put e.0 (item_value e.1) ms)
+-- a turn
+pub turn-written : (es : List Entry) (i : ℕ) (e : Entry) (whole now named grown : List Token) → i < length es → e ≡ get_or es i e → now ++ left i es ≡ whole
+    → named ≡ now ++ key e.0.now ∷ [] → grown ≡ named ++ json_tokens (outline (item_value (entry_view e).1)) → grown ++ left (i + 1) es ≡ whole
+turn-written es i e whole now named grown within here so_far keyed h =
+    let told = json_tokens (outline (item_value (entry_view e).1)) in
+    ap (λ ts. ts ++ left (i + 1) es) (h ∙ ap (λ ts. ts ++ told) keyed)
+    ∙ append_assoc (now ++ key e.0.now ∷ []) told (left (i + 1) es)
+    ∙ append_assoc now (key e.0.now ∷ []) (told ++ left (i + 1) es)
+    ∙ ap (λ ts. now ++ ts) (sym (left-more es i e within here)) ∙ so_far
 
-pub puts_more : (es : List Entry) (e : Entry) (ms : Members) → puts (es ++ e ∷ []) ms ≡ put e.0 (item_value e.1) (puts es ms)
-puts_more [] e ms = refl
-puts_more (x ∷ es) e ms = puts_more es e (put x.0 (item_value x.1) ms)
-
-puts_after : (es done : List Entry) → IsStrictlySortedBy (slice_cmp nat_cmp) (keys_of (done ++ es)) → puts es (map_members done) ≡ map_members (done ++ es)
-puts_after [] done h = ap map_members (sym (append-nil done))
-puts_after (e ∷ es) done h =
-    let all : (done ++ e ∷ []) ++ es ≡ done ++ e ∷ es = append_assoc done (e ∷ []) es in
-    ap (puts es) (puts_last done es e h)
-    ∙ (puts_after es (done ++ e ∷ []) (subst (λ xs. IsStrictlySortedBy (slice_cmp nat_cmp) (keys_of xs)) (sym all) h) ∙ ap map_members all)
-
--- the object of all entries of a listing, put in their order
-pub map_of_listing : (items : Items) (es : List Entry) (ms : Members) → IsListing items es → ms ≡ puts es no_members → IsMapOf items (object ms)
-map_of_listing items es ms h is = (es, h, ap object (is ∙ puts_after es [] h.ascend))
-
-members_whole : (es : List Entry) → members_have_float (map_members es) ≡ false
-members_whole [] = refl
-members_whole (e ∷ es) = members_whole es
-
--- a map holds no number
-pub map_whole : (items : Items) (d : Data) → IsMapOf items d → has_float d ≡ false
-map_whole items d h = ap has_float h.2 ∙ members_whole h.0
+-- after the last turn
+pub all-written : (es : List Entry) (i : ℕ) (start now closed : List Token) → length es ≤ i → now ++ left i es ≡ start ++ left 0 es → closed ≡ now ++ end_object ∷ []
+    → closed ≡ start ++ members_tokens (members_outline (map_members (map entry_view es)))
+all-written es i start now closed all so_far h =
+    h ∙ ap (λ ts. now ++ ts) (sym (ap (λ ds. members_tokens (members_outline (map_members (map entry_view ds)))) (drop_all i es all))) ∙ so_far
 
 -- the same map, of a record that is the same
 pub map_of_same : (old new : Items) (d : Data) → SameItems old new → IsMapOf new d → IsMapOf old d

@@ -14,3 +14,4 @@ pub mod Answers
 pub mod Made
 pub mod Refused
 pub mod Naming
+pub mod Recording

@@ -8,7 +8,7 @@ mod bundle_value;
 mod fault_line;
 mod lines;
 mod linking;
-mod map_value;
+mod map_text;
 mod modules;
 mod naming;
 mod packages;

@@ -1,29 +1,18 @@
 //! From a bundle to what is answered of its linked unit.
-ghost use Rattle.std.specs.Prelude.{◌≡◌, List, map, None, false, string_bytes, IfOk, IfErr};
+ghost use Rattle.std.specs.Prelude.{◌≡◌, map, false, string_bytes, IfOk, IfErr};
 ghost use Rattle.wesl_tree_base.specs.Borrowed.{texts};
-ghost use Rattle.serde_json.specs.View.{view};
-ghost use Rattle.serde_json.specs.Written.{has_float};
 ghost use Rattle.wesl_tree_names.specs.Path.{path_view, is_relative};
 ghost use Rattle.wesl_tree_names.specs.declared.errors.Diagnostic.{out-Diagnostic};
-ghost use Rattle.wesl_json_form.specs.Units.{written_as};
-ghost use Rattle.wesl_tree.specs.Translation.{unit_view};
 ghost use Rattle.wesl_program_bundle.specs.PackageViews.{packages_view};
 ghost use Rattle.wesl_program_bundle.specs.Views.{bundle_view, module_view};
-ghost use Rattle.wesl_link_engine.specs.Worlds.{Module};
-ghost use Rattle.wesl_source_map_entries.specs.Records.{SameItems};
-ghost use Rattle.wesl_source_map.specs.BasicView.{items};
-ghost use Rattle.wesl_link.specs.Linking.{TellsRefusalLeft};
-ghost use Rattle.wesl_link.specs.Mapping.{MapsLinkLeft};
-ghost use Rattle.wesl_program.specs.Line.{IsAnswerOf};
-ghost use Rattle.wesl_program.specs.Linking.{LinksTo, recorded_for};
-ghost use Rattle.wesl_program.specs.Naming.{named_by};
+ghost use Rattle.wesl_program.specs.Answers.{AnswersBundle, LinksBundle};
+ghost use Rattle.wesl_program.specs.Recording.{RecordsLink, RefusesToRecord};
 ghost use Rattle.wesl_program.specs.PackageTexts.{ArePackagesOf};
 ghost use Rattle.wesl_program.specs.Holds.{Holds};
 ghost use Rattle.wesl_program.specs.Refused.{IsLinkFault};
 
 use crate::answer::Answer;
 use crate::bundle_resolver::BundleResolver;
-use crate::map_value::map_value;
 use crate::modules::BundleUnits;
 use crate::naming::BundleMangler;
 use crate::packages::package_of;
@@ -46,8 +35,7 @@ type Sources<'t> = StandardResolver<BundleResolver<'t>, StoredText>;
 /// bundle has built-in names, the unit is validated by them, and refused with the validator's fault.
 pub fn linked(alloc: Global, bundle: Bundle) -> Result<Answer, Diagnostic>
     requires fixed { is_relative (path_view bundle.root) ≡ false }
-    ensures linked { IfOk result (λ a. IsAnswerOf (bundle_view bundle.entry) a.clash (view a.map) (written_as a.spans (unit_view a.unit))) }
-    ensures map_whole { IfOk result (λ a. has_float (view a.map) ≡ false) }
+    ensures linked { IfOk result (AnswersBundle (bundle_view bundle.entry)) }
     ensures refused { IfErr result (λ d. IsLinkFault (bundle_view bundle.entry) (out-Diagnostic d).error) }
 {
     let spans = bundle.options.spans;
@@ -56,10 +44,9 @@ pub fn linked(alloc: Global, bundle: Bundle) -> Result<Answer, Diagnostic>
         return Err(diagnostic);
     }
     let clash = names_clash(alloc, &made.unit)?;
-    let map = map_value(alloc, &made.map)?;
     Ok(Answer {
         clash,
-        map,
+        map: made.map,
         unit: made.unit,
         spans,
     })
@@ -71,8 +58,7 @@ pub fn linked(alloc: Global, bundle: Bundle) -> Result<Answer, Diagnostic>
 /// nothing else. What is recorded of these names comes with the unit, and the bundle's built-in names are handed back.
 fn linked_unit(alloc: Global, bundle: Bundle) -> Result<(Mapped, Option<BuiltinNames>), Diagnostic>
     requires fixed { is_relative (path_view bundle.root) ≡ false }
-    ensures linked { IfOk result (λ made. (w : List Module) × LinksTo (bundle_view bundle.entry) w (unit_view made.0.unit)
-        × SameItems (recorded_for (bundle_view bundle.entry) w) (items made.0.map)) }
+    ensures linked { IfOk result (λ made. LinksBundle (bundle_view bundle.entry) made.0) }
     ensures builtins { IfOk result (λ made. made.1 ≡ bundle.entry.builtins) }
     ensures refused { IfErr result (λ d. IsLinkFault (bundle_view bundle.entry) (out-Diagnostic d).error) }
 {
@@ -103,8 +89,8 @@ fn link_recorded<R: Resolver + Drop>(
 ) -> Result<Mapped, Diagnostic>
     requires ready { R.ready resolver }
     requires asked { is_relative (path_view root) ≡ false }
-    ensures mapped { IfOk result (λ made. MapsLinkLeft (R.hands resolver) (R.refuses resolver) features.now (named_by options.mangler) (path_view root) (map string_bytes keep.now) options.eager options.mangle_root options.max_modules (λ name. None) (items made.map) (unit_view made.unit)) }
-    ensures refused { IfErr result (TellsRefusalLeft (R.hands resolver) (R.refuses resolver) features.now root (map string_bytes keep.now) options.eager options.max_modules) }
+    ensures mapped { IfOk result (RecordsLink R.Resolver resolver features.now root (map string_bytes keep.now) options) }
+    ensures refused { IfErr result (RefusesToRecord R.Resolver resolver features.now root (map string_bytes keep.now) options) }
 {
     let keep = names(alloc, keep)?;
     let naming = BundleMangler {

@@ -1,14 +1,10 @@
 //! From the bytes of a bundle to the line of its answer.
 ghost use Rattle.std.specs.Prelude.{◌≡◌, IfOk, IfErr, string_bytes, false, true};
-ghost use Rattle.serde_json.specs.View.{view};
-ghost use Rattle.serde_json.specs.Written.{has_float};
 ghost use Rattle.wesl_program_bundle.specs.Views.{bundle_view};
-ghost use Rattle.wesl_json_form.specs.Units.{written_as};
 ghost use Rattle.wesl_tree_names.specs.Path.{is_relative, path_view};
 ghost use Rattle.wesl_tree_names.specs.declared.errors.Diagnostic.{out-Diagnostic};
-ghost use Rattle.wesl_tree.specs.Translation.{unit_view};
-ghost use Rattle.wesl_program.specs.Answers.{IsAnswerFor};
-ghost use Rattle.wesl_program.specs.Line.{AsksForPlaces, IsAnswerLine, IsAnswerOf, IsRefusal};
+ghost use Rattle.wesl_program.specs.Answers.{AnswersBundle, IsAnswerFor};
+ghost use Rattle.wesl_program.specs.Line.{AsksForPlaces, IsAnswerLine, IsRefusal};
 ghost use Rattle.wesl_program.specs.Refused.{IsLinkFault};
 
 use crate::answer::{Answer, answer_line};
@@ -39,7 +35,6 @@ pub fn answer_of_bytes(alloc: Global, bytes: &[u8]) -> Result<String, Refusal>
 // What is answered of the bundle that the bytes are.
 fn linked_of_bytes(alloc: Global, bytes: &[u8]) -> Result<Answer, Refusal>
     ensures linked { IfOk result (IsAnswerFor bytes.now) }
-    ensures map_whole { IfOk result (λ a. has_float (view a.map) ≡ false) }
     ensures refused { IfErr result (λ r. IsRefusal bytes.now (out-Diagnostic r.diagnostic).error) }
     ensures placed { IfErr result (λ r. r.is_placed ≡ true → AsksForPlaces bytes.now) }
 {
@@ -53,8 +48,7 @@ fn linked_of_bytes(alloc: Global, bytes: &[u8]) -> Result<Answer, Refusal>
 // What is answered of a bundle. The place of a fault is told where it asks for form 2.
 fn answer_of(alloc: Global, bundle: Bundle) -> Result<Answer, Refusal>
     requires fixed { is_relative (path_view bundle.root) ≡ false }
-    ensures linked { IfOk result (λ a. IsAnswerOf (bundle_view bundle.entry) a.clash (view a.map) (written_as a.spans (unit_view a.unit))) }
-    ensures map_whole { IfOk result (λ a. has_float (view a.map) ≡ false) }
+    ensures linked { IfOk result (AnswersBundle (bundle_view bundle.entry)) }
     ensures refused { IfErr result (λ r. IsLinkFault (bundle_view bundle.entry) (out-Diagnostic r.diagnostic).error) }
     ensures placed { IfErr result (λ r. r.is_placed ≡ bundle.entry.options.spans) }
 {

@@ -1,7 +1,6 @@
 use Rattle.std.proofs.Common.{◌≡◌, refl, ap, subst, inl, rules}
 use Rattle.std.proofs.lemmas.Result.{IfErr-weaker}
 use Rattle.std.specs.Prelude.{option_map}
-use Rattle.serde_json.specs.View.{view}
 use Rattle.wesl_json_form.specs.Units.{written_as}
 use Rattle.wesl_tree_names.specs.declared.errors.Error as error
 use Rattle.wesl_tree.specs.Translation.{unit_view}
@@ -28,12 +27,8 @@ returns-clause-linked c =
     let b = bundle_view c.args.bundle in
     let u = unit_view made.made.unit in
     let valid : IsValidUnder b.builtins u = search rules in
-    answer-of b u (items made.made.map) c.in_ok-clash.clash (view c.in_ok-map.map) (written_as b.options.spans u) made.ensures.linked valid c.in_ok-clash.ensures.exact c.in_ok-map.ensures.map refl
+    λ map is. answer-of b u (items made.made.map) c.in_ok-clash.clash map (written_as b.options.spans u) made.ensures.linked valid c.in_ok-clash.ensures.exact is refl
 
 pub returns-in_err-clash-clause-refused : goal.returns-in_err-clash-clause-refused
 returns-in_err-clash-clause-refused c =
     IfErr-weaker c.from_residual-in_err-clash.result (λ d. d.error ≡ error.Memory) _ (λ d is. inl (ap fault_of is)) (search rules)
-
-pub returns-in_err-map-clause-refused : goal.returns-in_err-map-clause-refused
-returns-in_err-map-clause-refused c =
-    IfErr-weaker c.from_residual-in_err-map.result (λ d. d.error ≡ error.Memory) _ (λ d is. inl (ap fault_of is)) (search rules)
