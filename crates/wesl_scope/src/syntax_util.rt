@@ -11,7 +11,7 @@ ghost use Rattle.wesl_scope_meanings.specs.Scopes.{keys};
 
 use crate::entry_points::entry_point;
 use std::alloc::Global;
-use wesl_scope_clash::{numbers_by_meaning, renumbered};
+use wesl_scope_clash::{numbers_by_meaning, renumber};
 use wesl_tree::{Error, Ident, TranslationUnit};
 
 /// What is asked of a module's tree, and done to it.
@@ -53,8 +53,7 @@ impl SyntaxUtil for TranslationUnit {
         ensures unchanged { IfErr result (λ _. unit_view self.new ≡ unit_view self.old) }
     {
         let (given, names) = numbers_by_meaning(alloc, self)?;
-        let copy = renumbered(alloc, self, names, &given)?;
-        *self = copy;
+        renumber(alloc, self, names, &given);
         Ok(())
     }
 }

@@ -9,9 +9,9 @@ use Rattle.wesl_tree_syntax.specs.Tree.{Tree, end, tree, identifiers, forest_bel
 use Rattle.wesl_tree_syntax.specs.Unit.{UnitView, forest_of_unit, trees_of, numbers, name_in, spelled, unit_below}
 use Rattle.wesl_tree.specs.Translation.{unit_view}
 use Rattle.wesl_tree.specs.declared.unit.TranslationUnit.{TranslationUnit}
-use Rattle.wesl_tree_copies.specs.Copied.{Copied}
 use Rattle.wesl_tree_copies.specs.Renumbered.{renumbered, renumbered_tree, after_tree}
-use Rattle.wesl_tree_copies.specs.declared.copying.Copying.{Copying}
+use Rattle.wesl_tree_renumber.specs.Renumbers.{Renumbered}
+use Rattle.wesl_tree_renumber.specs.declared.renumbering.Renumbering.{Renumbering}
 use Rattle.wesl_scope_clash.specs.Nodes.{HasSameNodes}
 use Rattle.wesl_scope_clash.specs.Leaves.{are_leaves}
 use Rattle.wesl_scope_clash.proofs.Taken.{all_below, taken, numbers_are, respelled, one_unit}
@@ -78,7 +78,7 @@ some_if (Some x) b Q h e = refl
 pub some_of : {X : Type 0} (r : Option X) (x : X) (P : Type 0) (Q : X → Type 0) → r ≡ Some x → MatchOption r P Q → Q x
 some_of r x P Q e h = subst (λ o. MatchOption o P Q) e h
 
--- from what the three copies are
+-- from what the three parts are
 parted : (v : UnitView) (names : List Text) (ns r1 r2 : List ℕ) (ti td te i d e : Tree) → ti ≡ v.imports → td ≡ v.directives → te ≡ v.declarations
     → i ≡ renumbered_tree ti ns → r1 ≡ after_tree ti ns → d ≡ renumbered_tree td r1 → r2 ≡ after_tree td r1 → e ≡ renumbered_tree te r2
     → IsRenumbered v names ns (record { names = names; imports = i; directives = d; declarations = e })
@@ -92,11 +92,7 @@ parted v names ns r1 r2 ti td te i d e a b c p q s t u =
       declarations_are = u ∙ (ap (λ x. renumbered_tree x r2) c ∙ ap (renumbered_tree v.declarations) t1);
     }
 
--- which were told at the end
-pub made : (v : UnitView) (names : List Text) {old first second new : Copying} {ti td te ci cd ce : Tree} (i d e : Tree) → ti ≡ v.imports → td ≡ v.directives → te ≡ v.declarations
-    → Copied old first ti ci → Copied first second td cd → Copied second new te ce → new.is_refused ≡ false → i ≡ ci → d ≡ cd → e ≡ ce
-    → IsRenumbered v names old.rest.now (record { names = names; imports = i; directives = d; declarations = e })
-made v names {old} {first} {second} i d e a b c p q r noted x y z =
-    let second_noted = r.noted noted in
-    let first_noted = q.noted second_noted in
-    parted v names old.rest.now first.rest.now second.rest.now _ _ _ i d e a b c (x ∙ p.tree first_noted) (p.rest first_noted) (y ∙ q.tree second_noted) (q.rest second_noted) (z ∙ r.tree noted)
+-- the three parts, one after the other
+pub made : (v : UnitView) (names : List Text) {old first second new : Renumbering} {ti td te i d e : Tree} → ti ≡ v.imports → td ≡ v.directives → te ≡ v.declarations
+    → Renumbered old first ti i → Renumbered first second td d → Renumbered second new te e → IsRenumbered v names old.rest.now (record { names = names; imports = i; directives = d; declarations = e })
+made v names {old} {first} {second} a b c p q r = parted v names old.rest.now first.rest.now second.rest.now _ _ _ _ _ _ a b c p.tree p.rest q.tree q.rest r.tree

@@ -6,5 +6,5 @@ use Rattle.wesl_scope.proofs.syntax_util.TranslationUnitSyntaxUtil.retarget_iden
 
 pub returns-clause-table : goal.returns-clause-table
 returns-clause-table c =
-    subst (λ xs. (m : ℕ) → (m < length xs) ↔ Contains (numbers (unit_view c.in_ok-copy.copy)) m) (sym c.in_ok-copy.ensures.names)
-    (subst (λ ns. (m : ℕ) → (m < length c.in_ok-given.names) ↔ Contains ns m) (sym (c.in_ok-copy.ensures.numbers ∙ c.deref.ensures.value)) c.in_ok-given.ensures.table)
+    subst (λ xs. (m : ℕ) → (m < length xs) ↔ Contains (numbers (unit_view c.renumber.new.unit)) m) (sym c.renumber.ensures.names)
+    (subst (λ ns. (m : ℕ) → (m < length c.in_ok-given.names) ↔ Contains ns m) (sym (c.renumber.ensures.numbers ∙ c.deref.ensures.value)) c.in_ok-given.ensures.table)

@@ -1,0 +1,7 @@
+use Rattle.wesl_tree_syntax.specs.Tree.{declaration_node}
+use Rattle.wesl_tree_syntax.specs.View.{global_view, placed}
+use Rattle.wesl_tree_renumber.proofs.Listed.{SoFar}
+use Rattle.wesl_tree_renumber.proofs.renumbering.Renumbering.globals.Given as goal
+
+abbrev pub invariant-loop-declaration : goal.invariant-loop-declaration
+invariant-loop-declaration l = SoFar (placed global_view declaration_node) l.fn.self l.self l.initial.declaration-items l.declaration-index l.declaration-items

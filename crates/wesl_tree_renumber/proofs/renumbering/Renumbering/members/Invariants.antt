@@ -1,0 +1,7 @@
+use Rattle.wesl_tree_syntax.specs.Tree.{member_node}
+use Rattle.wesl_tree_syntax.specs.View.{member_view, placed}
+use Rattle.wesl_tree_renumber.proofs.Listed.{SoFar}
+use Rattle.wesl_tree_renumber.proofs.renumbering.Renumbering.members.Given as goal
+
+abbrev pub invariant-loop-member : goal.invariant-loop-member
+invariant-loop-member l = SoFar (placed member_view member_node) l.fn.self l.self l.initial.member-items l.member-index l.member-items
