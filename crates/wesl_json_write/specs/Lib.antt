@@ -1,2 +1,3 @@
 pub mod Values
 pub mod Objects
+pub mod Additions

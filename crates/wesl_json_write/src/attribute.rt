@@ -1,12 +1,12 @@
 //! Writing attributes.
-ghost use Rattle.std.specs.Prelude.{[], ◌∷◌, codes};
+ghost use Rattle.std.specs.Prelude.{codes};
 ghost use Rattle.serde_json.specs.Data.{no_members, string};
 ghost use Rattle.wesl_json_form.specs.Schema.{an_attribute};
 ghost use Rattle.wesl_json_form.specs.Writing.{texts_value};
-ghost use Rattle.wesl_tree_syntax.specs.Tree.{branch, custom, leaf, list, text as text_label};
-ghost use Rattle.wesl_tree_syntax.specs.View.{attribute_view, attributes_tree, expression_tree, listed, optional, texts_of};
+ghost use Rattle.wesl_tree_syntax.specs.View.{attribute_view, attributes_tree, texts_of};
 ghost use Rattle.wesl_json_write.specs.Objects.{Holds};
-ghost use Rattle.wesl_json_write.specs.Values.{AreWritten, IsWritten, attribute_at, attribute_in, items_in, workgroup_size, with_list, with_member, with_option, worded, expression_data};
+ghost use Rattle.wesl_json_write.specs.Values.{AreWritten, IsWritten, attribute_at, attribute_in, items_in, with_member, worded, expression_data};
+ghost use Rattle.wesl_json_write.specs.Additions.{custom_tree, names_members, rule_members, workgroup_object};
 
 use crate::expression::{
     applied_object, expression_value, expression_values, with_optional_expression,
@@ -108,14 +108,14 @@ fn named_value<'a>(alloc: Global, word: &'a str, name: &'a str) -> Written<'a>
 }
 
 fn diagnostic_value<'a>(alloc: Global, severity: &'a str, rule: &'a str) -> Written<'a>
-    ensures { IsWritten result (worded (codes "diagnostic") (with_member (codes "severity") (string severity.now) (with_member (codes "rule") (string rule.now) no_members))) }
+    ensures { IsWritten result (worded (codes "diagnostic") (rule_members severity.now rule.now)) }
 {
     severity_object(alloc, severity, rule).worded("diagnostic")
 }
 
 /// The severity and the rule of a diagnostic.
 pub(crate) fn severity_object<'a>(alloc: Global, severity: &'a str, rule: &'a str) -> Object<'a>
-    ensures { Holds result (with_member (codes "severity") (string severity.now) (with_member (codes "rule") (string rule.now) no_members)) }
+    ensures { Holds result (rule_members severity.now rule.now) }
 {
     Object::new(alloc)
         .text("rule", rule)
@@ -123,7 +123,7 @@ pub(crate) fn severity_object<'a>(alloc: Global, severity: &'a str, rule: &'a st
 }
 
 fn interpolate_value<'a>(alloc: Global, texts: &'a Vec<String>) -> Written<'a>
-    ensures { IsWritten result (worded (codes "interpolate") (with_list (codes "names") (texts_value (texts_of texts.now)) no_members)) }
+    ensures { IsWritten result (worded (codes "interpolate") (names_members texts.now)) }
 {
     Object::new(alloc)
         .list("names", text_values(alloc, texts))
@@ -149,7 +149,7 @@ fn workgroup_value<'a>(
     y: &'a Option<ExpressionNode>,
     z: &'a Option<ExpressionNode>,
 ) -> Written<'a>
-    ensures { IsWritten result (workgroup_size spans names.now x.now (optional expression_tree y.now) (optional expression_tree z.now)) }
+    ensures { IsWritten result (workgroup_object spans names.now x.now y.now z.now) }
 {
     let object = with_optional_expression(alloc, spans, Object::new(alloc), names, "z", z);
     let object = with_optional_expression(alloc, spans, object, names, "y", y);
@@ -164,7 +164,7 @@ fn custom_value<'a>(
     name: &'a str,
     arguments: &'a Option<Vec<ExpressionNode>>,
 ) -> Written<'a>
-    ensures { IsWritten result (attribute_in spans names.now (branch custom (leaf (text_label name.now) ∷ optional (listed expression_tree list) arguments.now ∷ []))) }
+    ensures { IsWritten result (attribute_in spans names.now (custom_tree name.now arguments.now)) }
 {
     match arguments {
         None => named_value(alloc, "custom", name),

@@ -1,13 +1,12 @@
 //! Writing declarations.
-ghost use Rattle.std.specs.Prelude.{◌≡◌, [], codes};
-ghost use Rattle.serde_json.specs.Data.{no_members, string};
+ghost use Rattle.std.specs.Prelude.{◌≡◌, []};
 ghost use Rattle.wesl_tree_names.specs.Path.{Text};
-ghost use Rattle.wesl_json_form.specs.Schema.{a_declaration, a_member, a_parameter, a_type, leaf, node as node_form, one_of};
-ghost use Rattle.wesl_json_form.specs.Words.{access_words};
-ghost use Rattle.wesl_tree_syntax.specs.Tree.{branch, member_node, members as members_kind, parameters as parameters_kind, void};
-ghost use Rattle.wesl_tree_syntax.specs.View.{access_tree, alias_view, assert_view, declaration_view, declarations_tree, function_view, global_view, kind_tree, listed, member_view, optional, parameter_view, placed, struct_view, type_view};
+ghost use Rattle.wesl_json_form.specs.Schema.{a_declaration, a_member, a_parameter, node as node_form};
+ghost use Rattle.wesl_tree_syntax.specs.Tree.{branch, member_node, parameters as parameters_kind, void};
+ghost use Rattle.wesl_tree_syntax.specs.View.{alias_view, assert_view, declaration_view, declarations_tree, function_view, global_view, kind_tree, listed, member_view, parameter_view, struct_view};
 ghost use Rattle.wesl_json_write.specs.Objects.{Extends, Holds};
-ghost use Rattle.wesl_json_write.specs.Values.{AreWritten, IsWritten, placed_at, declaration_at, declaration_in, items_in, kind_text, placed_in, statement_in, value_in, with_member, with_option, with_space as with_space_of, with_attributes};
+ghost use Rattle.wesl_json_write.specs.Values.{AreWritten, IsWritten, placed_at, declaration_at, declaration_in, items_in, kind_text, placed_in, statement_in, value_in, with_space as with_space_of};
+ghost use Rattle.wesl_json_write.specs.Additions.{if_access, struct_items, declared_members};
 
 use crate::attribute::attribute_values;
 use crate::expression::{
@@ -156,7 +155,7 @@ fn with_access<'a>(
     names: &'a Names,
     mode: Option<AccessMode>,
 ) -> Object<'a>
-    ensures { Extends object.entry result (with_option (codes "access") spans names.now (leaf (one_of access_words)) (optional access_tree mode)) }
+    ensures { Extends object.entry result (if_access spans names.now mode) }
 {
     match mode {
         Some(mode) => object.text("access", access_word(mode)),
@@ -185,7 +184,7 @@ fn typed_object<'a>(
     name: &'a str,
     ty: &'a TypeExpression,
 ) -> Object<'a>
-    ensures { (t : Text) → name.now ≡ t → Holds result (with_attributes spans names.now attributes.now (with_member (codes "name") (string t) (with_member (codes "ty") (value_in spans names.now (node_form a_type) (type_view ty.now)) no_members))) }
+    ensures { (t : Text) → name.now ≡ t → Holds result (declared_members spans names.now attributes.now t ty.now) }
 {
     Object::new(alloc)
         .value("ty", type_value(alloc, spans, names, ty))
@@ -218,7 +217,7 @@ fn member_values<'a>(
     names: &'a Names,
     members: &'a Vec<StructMemberNode>,
 ) -> WrittenList<'a>
-    ensures { AreWritten result (items_in spans names.now a_member (listed (placed member_view member_node) members_kind members.now).children) }
+    ensures { AreWritten result (struct_items spans names.now members.now) }
 {
     let mut values = Vec::with_capacity(alloc, members.len());
     for member in members {

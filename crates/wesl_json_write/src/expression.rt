@@ -1,15 +1,14 @@
 //! Writing expressions and types.
 ghost use Rattle.std.specs.Prelude.{◌≡◌, [], ◌∷◌, codes};
-ghost use Rattle.serde_json.specs.Data.{Data, Items, array, no_members, string};
+ghost use Rattle.serde_json.specs.Data.{Data, Items, string};
 ghost use Rattle.wesl_tree_names.specs.Path.{Text, path_view};
 ghost use Rattle.wesl_tree_names.specs.PathText.{to_text};
 ghost use Rattle.wesl_json_form.specs.Schema.{a_path, a_template_argument, a_type, an_expression, leaf, node as node_form};
-ghost use Rattle.wesl_tree_syntax.specs.Tree.{absent, binary, branch, kind, leaf as leaf_tree, list, literal as literal_kind, reference, type_expression, unary};
-ghost use Rattle.wesl_tree_syntax.specs.Unit.{name_in};
-ghost use Rattle.wesl_tree_syntax.specs.View.{argument_view, call_view, expression_tree, expression_view, ident_tree, listed, literal_tree, optional, path_tree, type_view};
-ghost use Rattle.wesl_json_form.specs.Words.{unary_words};
+ghost use Rattle.wesl_tree_syntax.specs.Tree.{binary, branch, list, literal as literal_kind};
+ghost use Rattle.wesl_tree_syntax.specs.View.{argument_view, call_view, expression_tree, expression_view, listed, literal_tree, optional, path_tree, type_view};
 ghost use Rattle.wesl_json_write.specs.Objects.{Extends, Holds};
-ghost use Rattle.wesl_json_write.specs.Values.{AreWritten, IsWritten, expression_at, argued, binary_object, call_members, expression_in, items_in, value_in, with_member, with_option, word_value, worded};
+ghost use Rattle.wesl_json_write.specs.Values.{AreWritten, IsWritten, expression_at, binary_object, call_members, expression_in, items_in, value_in, with_option};
+ghost use Rattle.wesl_json_write.specs.Additions.{argued_data, argued_members, if_expression, plain_type_data, unary_object};
 
 use crate::object::{Object, Written, WrittenList, spelling, text_value, with_item, with_span};
 use crate::words::{binary_word, unary_word};
@@ -102,7 +101,7 @@ fn literal_value<'a>(
 }
 
 fn unary_value<'a>(alloc: Global, operator: UnaryOperator, operand: Written<'a>) -> Written<'a>
-    ensures { (d : Data) → IsWritten operand.entry d → IsWritten result (worded (codes "unary") (with_member (codes "op") (word_value unary_words (unary operator)) (with_member (codes "expr") d no_members))) }
+    ensures { (d : Data) → IsWritten operand.entry d → IsWritten result (unary_object operator d) }
 {
     let object = Object::new(alloc).value("expr", operand);
     object.text("op", unary_word(operator)).worded("unary")
@@ -182,7 +181,7 @@ fn plain_type_value<'a>(
     path: &'a Option<ModulePath>,
     ident: Ident,
 ) -> Written<'a>
-    ensures { IsWritten result (value_in spans names.now (node_form a_type) (branch type_expression (optional path_tree path.now ∷ ident_tree reference ident ∷ leaf_tree (kind absent) ∷ []))) }
+    ensures { IsWritten result (plain_type_data spans names.now path.now ident) }
 {
     let name = spelling(names, ident);
     match path {
@@ -213,7 +212,7 @@ fn argued_type_value<'a>(
     ident: Ident,
     arguments: WrittenList<'a>,
 ) -> Written<'a>
-    ensures { (ds : Items) → AreWritten arguments.entry ds → IsWritten result (argued spans names.now (optional path_tree path.now) (name_in names.now ident.0) ds) }
+    ensures { (ds : Items) → AreWritten arguments.entry ds → IsWritten result (argued_data spans names.now path.now ident ds) }
 {
     let object = applied_object(alloc, spelling(names, ident), arguments);
     with_optional_path(alloc, spans, object, names, path).finish()
@@ -225,7 +224,7 @@ pub(crate) fn applied_object<'a>(
     name: &'a str,
     arguments: WrittenList<'a>,
 ) -> Object<'a>
-    ensures { (t : Text) (ds : Items) → name.now ≡ t → AreWritten arguments.entry ds → Holds result (with_member (codes "name") (string t) (with_member (codes "args") (array ds) no_members)) }
+    ensures { (t : Text) (ds : Items) → name.now ≡ t → AreWritten arguments.entry ds → Holds result (argued_members t ds) }
 {
     Object::new(alloc)
         .array("args", arguments)
@@ -299,7 +298,7 @@ pub(crate) fn with_optional_expression<'a>(
     key: &'a str,
     expression: &'a Option<ExpressionNode>,
 ) -> Object<'a>
-    ensures { Extends object.entry result (with_option key.now spans names.now (node_form an_expression) (optional expression_tree expression.now)) }
+    ensures { Extends object.entry result (if_expression spans names.now key.now expression.now) }
 {
     match expression {
         Some(expression) => object.value(

@@ -1,11 +1,10 @@
 //! Writing imports and directives.
 ghost use Rattle.std.specs.Prelude.{codes};
-ghost use Rattle.serde_json.specs.Data.{no_members, string};
 ghost use Rattle.wesl_json_form.specs.Schema.{a_content, a_directive, an_entry, an_import, node as node_form};
-ghost use Rattle.wesl_json_form.specs.Writing.{texts_value};
 ghost use Rattle.wesl_tree_syntax.specs.Tree.{directive_node, import_node, list};
-ghost use Rattle.wesl_tree_syntax.specs.View.{content_view, directive_view, directives_tree, entry_view, import_view, imports_tree, item_view, listed, texts_of};
-ghost use Rattle.wesl_json_write.specs.Values.{AreWritten, IsWritten, placed_at, items_in, placed_in, value_in, with_list, with_member, worded, with_attributes};
+ghost use Rattle.wesl_tree_syntax.specs.View.{content_view, directive_view, directives_tree, entry_view, import_view, imports_tree, item_view, listed};
+ghost use Rattle.wesl_json_write.specs.Values.{AreWritten, IsWritten, placed_at, items_in, placed_in, value_in};
+ghost use Rattle.wesl_json_write.specs.Additions.{attributed, names_members, rule_members};
 
 use crate::attribute::{attribute_values, severity_object, text_values};
 use crate::expression::with_optional_path;
@@ -200,7 +199,7 @@ fn diagnostic_value<'a>(
     severity: &'a str,
     rule: &'a str,
 ) -> Written<'a>
-    ensures { IsWritten result (worded (codes "diagnostic") (with_attributes spans names.now attributes.now (with_member (codes "severity") (string severity.now) (with_member (codes "rule") (string rule.now) no_members)))) }
+    ensures { IsWritten result (attributed spans names.now (codes "diagnostic") attributes.now (rule_members severity.now rule.now)) }
 {
     severity_object(alloc, severity, rule)
         .list("attrs", attribute_values(alloc, spans, names, attributes))
@@ -215,7 +214,7 @@ fn extensions_value<'a>(
     attributes: &'a Attributes,
     extensions: &'a Vec<String>,
 ) -> Written<'a>
-    ensures { IsWritten result (worded word.now (with_attributes spans names.now attributes.now (with_list (codes "names") (texts_value (texts_of extensions.now)) no_members))) }
+    ensures { IsWritten result (attributed spans names.now word.now attributes.now (names_members extensions.now)) }
 {
     Object::new(alloc)
         .list("names", text_values(alloc, extensions))

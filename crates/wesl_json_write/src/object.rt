@@ -6,7 +6,9 @@ ghost use Rattle.wesl_tree_names.specs.Path.{Text};
 ghost use Rattle.wesl_json_form.specs.Writing.{is_placed, span_value};
 ghost use Rattle.wesl_tree_syntax.specs.Tree.{Kind};
 ghost use Rattle.wesl_tree_syntax.specs.Unit.{name_in};
-ghost use Rattle.wesl_json_write.specs.Values.{AreWritten, IsWritten, items_then, place_label, placed_data, truth_text, with_list, with_member, with_place, worded};
+ghost use Rattle.wesl_json_write.specs.Values.{AreWritten, IsWritten, items_then, place_label, placed_data, truth_text, with_list, with_member, worded};
+ghost use Rattle.wesl_json_write.specs.Additions.{with_span_of};
+ghost use Rattle.wesl_json_write.specs.Objects.{ExtendsByList};
 
 use std::alloc::{AllocError, Global};
 use std::mem;
@@ -80,7 +82,7 @@ impl<'a> Object<'a> {
 
     /// The object with a list at `key`, which may be empty.
     pub(crate) fn array(self, key: &'a str, list: WrittenList<'a>) -> Object<'a>
-        ensures { (ms : Members) (ds : Items) → Holds self.entry ms → AreWritten list.entry ds → Holds result (with_member key.now (array ds) ms) }
+        ensures { ExtendsByList self.entry list.entry result (λ ds. with_member key.now (array ds)) }
     {
         match list {
             Ok(list) => self.value(key, Ok(Piece::List(list))),
@@ -150,7 +152,7 @@ pub(crate) fn with_span<'a>(
     span: Span,
     key: &'a str,
 ) -> Written<'a>
-    ensures { (k : Kind) (d : Data) → IsWritten value.entry d → IsWritten result (with_place spans (place_label spans k span) key.now d) }
+    ensures { (k : Kind) (d : Data) → IsWritten value.entry d → IsWritten result (with_span_of spans k span key.now d) }
 {
     if is_shown(spans, span) {
         match value {

@@ -1,12 +1,12 @@
 //! Writing statements.
 ghost use Rattle.std.specs.Prelude.{codes};
-ghost use Rattle.std.specs.Box.{box_value};
-ghost use Rattle.serde_json.specs.Data.{Data, Members, no_members};
-ghost use Rattle.wesl_json_form.specs.Schema.{a_body, a_break_if, a_case, a_clause, a_continuing, a_statement, an_elif, an_else, an_expression, node as node_form};
-ghost use Rattle.wesl_tree_syntax.specs.Tree.{assignment, clauses as clauses_kind, list, statements as statements_kind};
-ghost use Rattle.wesl_tree_syntax.specs.View.{attributes_tree, break_if_view, call_view, clause_view, compound_view, continuing_view, else_if_view, else_view, expression_tree, if_view, listed, optional, selector_view, statement_tree, statement_view};
-ghost use Rattle.wesl_json_write.specs.Objects.{Extends, Holds};
-ghost use Rattle.wesl_json_write.specs.Values.{AreWritten, IsWritten, statement_at, assigned, bare, body_members, call_members, items_in, statement_in, value_in, with_clause, with_member, with_option, worded, expression_data, with_attributes};
+ghost use Rattle.serde_json.specs.Data.{no_members};
+ghost use Rattle.wesl_json_form.specs.Schema.{a_body, a_break_if, a_case, a_clause, a_continuing, a_statement, an_elif, an_else, node as node_form};
+ghost use Rattle.wesl_tree_syntax.specs.Tree.{clauses as clauses_kind, list, statements as statements_kind};
+ghost use Rattle.wesl_tree_syntax.specs.View.{break_if_view, clause_view, compound_view, continuing_view, else_if_view, else_view, if_view, listed, selector_view, statement_tree, statement_view};
+ghost use Rattle.wesl_json_write.specs.Objects.{Extends, ExtendsBy, Holds};
+ghost use Rattle.wesl_json_write.specs.Values.{AreWritten, IsWritten, statement_at, body_members, items_in, statement_in, value_in, with_clause, worded, with_attributes};
+ghost use Rattle.wesl_json_write.specs.Additions.{assigned_object, attributed, called_members, if_break_if, if_continuing, if_else, if_statement_there, operand_members, returned, with_decision};
 
 use crate::attribute::attribute_values;
 use crate::declaration::{assert_value, declaration_value, void_value};
@@ -161,7 +161,7 @@ fn assignment_value<'a>(
     lhs: &'a ExpressionNode,
     rhs: &'a ExpressionNode,
 ) -> Written<'a>
-    ensures { IsWritten result (assigned spans names.now (assignment operator) (attributes_tree attributes.now).children lhs.now rhs.now) }
+    ensures { IsWritten result (assigned_object spans names.now operator attributes.now lhs.now rhs.now) }
 {
     let lhs = expression_value(alloc, spans, names, &lhs.node, lhs.span);
     let rhs = expression_value(alloc, spans, names, &rhs.node, rhs.span);
@@ -182,7 +182,7 @@ fn step_value<'a>(
     attributes: &'a Attributes,
     expression: &'a ExpressionNode,
 ) -> Written<'a>
-    ensures { IsWritten result (worded word.now (with_attributes spans names.now attributes.now (with_member (codes "expr") (expression_data spans names.now expression.now) no_members))) }
+    ensures { IsWritten result (attributed spans names.now word.now attributes.now (operand_members spans names.now expression.now)) }
 {
     let expression = expression_value(alloc, spans, names, &expression.node, expression.span);
     Object::new(alloc)
@@ -213,7 +213,7 @@ fn return_value<'a>(
     attributes: &'a Attributes,
     expression: &'a Option<ExpressionNode>,
 ) -> Written<'a>
-    ensures { IsWritten result (worded (codes "return") (with_attributes spans names.now attributes.now (with_option (codes "expr") spans names.now (node_form an_expression) (optional expression_tree expression.now) no_members))) }
+    ensures { IsWritten result (attributed spans names.now (codes "return") attributes.now (returned spans names.now expression.now)) }
 {
     with_optional_expression(alloc, spans, Object::new(alloc), names, "expr", expression)
         .list("attrs", attribute_values(alloc, spans, names, attributes))
@@ -227,7 +227,7 @@ fn call_value<'a>(
     attributes: &'a Attributes,
     call: &'a FunctionCall,
 ) -> Written<'a>
-    ensures { IsWritten result (worded (codes "call") (with_attributes spans names.now attributes.now (with_member (codes "call") (bare (call_members spans names.now (call_view call.now))) no_members))) }
+    ensures { IsWritten result (attributed spans names.now (codes "call") attributes.now (called_members spans names.now call.now)) }
 {
     Object::new(alloc)
         .value("call", call_object(alloc, spans, names, call).finish())
@@ -296,7 +296,7 @@ fn with_condition<'a>(
     condition: &'a ExpressionNode,
     body: Written<'a>,
 ) -> Object<'a>
-    ensures { (ms : Members) (d : Data) → Holds object.entry ms → IsWritten body.entry d → Holds result (with_member (codes "cond") (expression_data spans names.now condition.now) (with_member (codes "body") d ms)) }
+    ensures { ExtendsBy object.entry body.entry result (with_decision spans names.now condition.now) }
 {
     object.value("body", body).value(
         "cond",
@@ -367,7 +367,7 @@ fn with_optional_else<'a>(
     names: &'a Names,
     clause: &'a Option<ElseClause>,
 ) -> Object<'a>
-    ensures { Extends object.entry result (with_option (codes "else") spans names.now (node_form an_else) (optional else_view clause.now)) }
+    ensures { Extends object.entry result (if_else spans names.now clause.now) }
 {
     match clause {
         Some(clause) => object.value("else", else_value(alloc, spans, names, clause)),
@@ -470,7 +470,7 @@ fn with_optional_continuing<'a>(
     names: &'a Names,
     continuing: &'a Option<ContinuingStatement>,
 ) -> Object<'a>
-    ensures { Extends object.entry result (with_option (codes "continuing") spans names.now (node_form a_continuing) (optional continuing_view continuing.now)) }
+    ensures { Extends object.entry result (if_continuing spans names.now continuing.now) }
 {
     match continuing {
         Some(continuing) => {
@@ -512,7 +512,7 @@ fn with_optional_break_if<'a>(
     names: &'a Names,
     break_if: &'a Option<BreakIfStatement>,
 ) -> Object<'a>
-    ensures { Extends object.entry result (with_option (codes "break_if") spans names.now (node_form a_break_if) (optional break_if_view break_if.now)) }
+    ensures { Extends object.entry result (if_break_if spans names.now break_if.now) }
 {
     match break_if {
         Some(break_if) => object.value("break_if", break_if_value(alloc, spans, names, break_if)),
@@ -551,7 +551,7 @@ fn with_optional_statement<'a>(
     key: &'a str,
     statement: &'a Option<Box<StatementNode>>,
 ) -> Object<'a>
-    ensures { Extends object.entry result (with_option key.now spans names.now (node_form a_statement) (optional (λ s. statement_tree (box_value s)) statement.now)) }
+    ensures { Extends object.entry result (if_statement_there spans names.now key.now statement.now) }
 {
     match statement {
         Some(statement) => object.value(
