@@ -27,7 +27,10 @@ IsAtRoot e = place_of e ≡ Some []
 
 -- the same fault, told of what has the faulty value at a part
 abbrev pub IsUnderPart : Part → error.Error → error.Error → Type 0
-IsUnderPart part inside outside = (outside ≡ error.Memory) ⊎ (outside ≡ inside) × (place_of inside ≡ None) ⊎ (p : Text) × (place_of inside ≡ Some p) × (place_of outside ≡ Some ((47 ∷ part_text part) ++ p))
+IsUnderPart part inside outside =
+    (outside ≡ error.Memory)
+    ⊎ (outside ≡ inside) × (place_of inside ≡ None)
+    ⊎ (p : Text) × (place_of inside ≡ Some p) × (place_of outside ≡ Some ((47 ∷ part_text part) ++ p))
 
 abbrev pub IsUnder : Text → error.Error → error.Error → Type 0
 IsUnder k = IsUnderPart (key k)
@@ -79,3 +82,13 @@ module _ (spans : Bool) where
   -- the value breaks the form at the place
   abbrev pub Locates : Form → Data → error.Error → Type 0
   Locates f d e = IfPlace e (IsBroken (whole_form spans) f d)
+
+-- the same whether spans are read or not
+abbrev pub LocatesAlways : Form → Data → error.Error → Type 0
+LocatesAlways f d e = (spans : Bool) → Locates spans f d e
+
+abbrev pub LocatesInsideAlways : Text → Form → Data → error.Error → Type 0
+LocatesInsideAlways k f d e = (spans : Bool) → LocatesInside spans k f d e
+
+abbrev pub LocatesMemberAlways : Text → Form → Data → error.Error → Type 0
+LocatesMemberAlways k f d e = (spans : Bool) → LocatesMember spans k f d e

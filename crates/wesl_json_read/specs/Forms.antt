@@ -3,11 +3,11 @@ use Rattle.std.specs.Prelude.{◌≡◌, Bool, true, false, List, Option, Some, 
 use Rattle.serde_json.specs.Data.{Data}
 use Rattle.serde_json.specs.Find.{get, as_str}
 use Rattle.wesl_tree_names.specs.Path.{Text}
-use Rattle.wesl_tree_syntax.specs.Tree.{Kind, kind, Tree, before, end, truth, expression_node, literal, parenthesized, named_component, indexing, call_expression, call, list, attribute_node, align, binding, blend_src, group, id, location, size, if_attribute, elif_attribute, workgroup_size, builtin, interpolate, diagnostic, custom, const_attribute, invariant_attribute, must_use, vertex, fragment, compute, publish, else_attribute, type_or_identifier, type_expression}
-use Rattle.wesl_json_form.specs.Schema.{Head, fixed, chosen, placed, Row, nothing, marked, needs, may, given, inner, beside, a_span, Node, leaf, list_of, a_literal, a_name, an_attribute, an_expression}
+use Rattle.wesl_tree_syntax.specs.Tree.{Kind, kind, Tree, before, end, truth, expression_node, literal, parenthesized, named_component, indexing, call_expression, call, list, attributes, attribute_node, align, binding, blend_src, group, id, location, size, if_attribute, elif_attribute, workgroup_size, builtin, interpolate, diagnostic, custom, const_attribute, invariant_attribute, must_use, vertex, fragment, compute, publish, else_attribute, type_or_identifier, type_expression}
+use Rattle.wesl_json_form.specs.Schema.{Head, SpelledLabel, Words, fixed, chosen, placed, Row, nothing, marked, needs, may, given, inner, beside, a_span, Form, Node, leaf, list_of, look, a_literal, a_name, a_template_argument, an_attribute, an_expression}
 use Rattle.wesl_json_form.specs.Words.{unary_words, binary_words}
-use Rattle.wesl_json_form.specs.Nodes.{expression, one_expression, call_row, names_row, nodes_of, severity_row, type_or_identifier_node, type_row}
-use Rattle.wesl_json_form.specs.Reading.{known_keys}
+use Rattle.wesl_json_form.specs.Nodes.{all_attribute_words, all_expression_words, expression, one_expression, call_row, names_row, nodes_of, severity_row, type_or_identifier_node, type_row}
+use Rattle.wesl_json_form.specs.Reading.{known_keys, word_in}
 use Rattle.wesl_json_form.specs.Keys.{has_only}
 use Rattle.wesl_json_read.specs.Numbers.{ReadsRows}
 use Rattle.wesl_json_read.specs.declared.words.ExpressionWord.{ExpressionWord}
@@ -125,6 +125,21 @@ attribute_row attribs.Diagnostic = severity_row
 attribute_row attribs.Custom = needs (codes "name") (leaf a_name) (may (codes "args") (list_of list an_expression) nothing)
 attribute_row (attribs.Plain w) = nothing
 
+-- ---- lists
+
+abbrev pub some_attributes : Form
+some_attributes = list_of attributes an_attribute
+
+abbrev pub some_expressions : Form
+some_expressions = list_of list an_expression
+
+abbrev pub some_arguments : Form
+some_arguments = list_of list a_template_argument
+
+-- what the word at k says, of these
+abbrev pub word_at : Words → Text → Data → Option SpelledLabel
+word_at words k d = option_and_then (word_in words) (get k d)
+
 -- ---- nodes
 
 module _ (spans : Bool) where
@@ -180,3 +195,10 @@ module _ (spans : Bool) where
 
   abbrev pub HasAttributeWord : AttributeWord → Data → Type 0
   HasAttributeWord w d = HasWord (attribute_text w) d × (nodes_of spans an_attribute d ≡ Some (attribute_of w))
+
+  -- the nodes that the text of a value names, as the word of an expression and as that of an attribute
+  abbrev pub expression_named : Data → Option Node
+  expression_named d = option_and_then (look (all_expression_words spans)) (as_str d)
+
+  abbrev pub attribute_named : Data → Option Node
+  attribute_named d = option_and_then (look (all_attribute_words spans)) (as_str d)

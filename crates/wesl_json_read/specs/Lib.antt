@@ -4,3 +4,4 @@ pub mod Numbered
 pub mod Forms
 pub mod Parts
 pub mod Keyed
+pub mod Gives

@@ -8,7 +8,7 @@ use Rattle.wesl_tree_syntax.specs.Unit.{name_in}
 use Rattle.wesl_tree_syntax.specs.Shown.{shown, shown_forest}
 use Rattle.wesl_json_form.specs.Schema.{Spelled, SpelledForest, Form, Row, a_span, beside}
 use Rattle.wesl_json_form.specs.Nodes.{short_type, type_row}
-use Rattle.wesl_json_form.specs.Reading.{known_keys, reading, needed, optional, or_empty, empty_of, children_in}
+use Rattle.wesl_json_form.specs.Reading.{name_in as name_of, known_keys, reading, needed, optional, or_empty, empty_of, children_in}
 use Rattle.wesl_json_form.specs.Keys.{has_only}
 use Rattle.wesl_json_form.specs.Units.{NumberedFrom}
 use Rattle.wesl_json_form.specs.Nodes.{whole_form}
@@ -83,3 +83,7 @@ module _ (spans : Bool) where
 
   pub record ReadsRows (row : Row) (d : Data) (ts : Forest) (old new : List Text) : Type 0 where
     pub row_is : ReadsRow row d ts old new
+
+-- the value is a name, which has this number
+abbrev pub IsNameNumbered : Data → ℕ → List Text → List Text → Type 0
+IsNameNumbered d i old new = (name : Text) × (name_of d ≡ Some name) × IsNumbered old name i new

@@ -1,16 +1,15 @@
 //! Reading attributes.
-ghost use Rattle.std.specs.Prelude.{◌≡◌, [], ◌∷◌, List, ℕ, None, IfOk, IfErr, codes, map, true};
+ghost use Rattle.std.specs.Prelude.{◌≡◌, [], ◌∷◌, None, IfOk, IfErr, codes, map};
 ghost use Rattle.serde_json.specs.Find.{as_str};
-ghost use Rattle.wesl_json_form.specs.Keys.{has_only, keys_beside};
 ghost use Rattle.wesl_json_form.specs.View.{borrowed_view};
-ghost use Rattle.wesl_tree_syntax.specs.Tree.{attribute_node, attributes as attributes_kind, branch};
-ghost use Rattle.wesl_tree_syntax.specs.View.{attribute_view, attributes_tree, expression_tree, placed};
-ghost use Rattle.wesl_json_form.specs.Schema.{an_attribute, list_of, node as node_form};
+ghost use Rattle.wesl_tree_syntax.specs.Tree.{branch};
+ghost use Rattle.wesl_tree_syntax.specs.View.{attribute_view, attributes_tree, expression_tree};
+ghost use Rattle.wesl_json_form.specs.Schema.{an_attribute, node as node_form};
 ghost use Rattle.wesl_json_read.specs.Faults.{Locates, LocatesInside, LocatesRow};
 ghost use Rattle.wesl_json_read.specs.declared.words.AttributeWord.TheVariants as attribs;
-ghost use Rattle.wesl_json_read.specs.Forms.{HasAttributeWord, ReadsAttribute, attribute_worded, operand_kind, plain_kind};
-ghost use Rattle.wesl_json_read.specs.Keyed.{LocatesKeyed};
-ghost use Rattle.wesl_json_read.specs.Numbers.{Reads, ReadsMany};
+ghost use Rattle.wesl_json_read.specs.Forms.{HasAttributeWord, ReadsAttribute, attribute_worded, operand_kind, plain_kind, some_attributes};
+ghost use Rattle.wesl_json_read.specs.Gives.{Gives, GivesForm, GivesMany, GivesPlain, placed_attribute};
+ghost use Rattle.wesl_json_read.specs.Keyed.{HasKeys, LocatesAttributes};
 
 use crate::expression::{expression_member, optional_expression, optional_expressions, unplaced};
 use crate::fields::{own_name, own_text, read_span, under, wrong};
@@ -31,8 +30,8 @@ pub fn attributes_member(
     value: &BorrowedValue<'_>,
     key: &str,
 ) -> Result<Attributes, Error>
-    ensures ok { IfOk result (λ e. ReadsMany spans key.now (list_of attributes_kind an_attribute) (borrowed_view value.now) (attributes_tree e) numbering.old numbering.new) }
-    ensures place { IfErr result (LocatesInside spans key.now (list_of attributes_kind an_attribute) (borrowed_view value.now)) }
+    ensures ok { GivesMany result attributes_tree spans key.now some_attributes value.now numbering.old numbering.new }
+    ensures place { IfErr result (LocatesInside spans key.now some_attributes (borrowed_view value.now)) }
 {
     let Some(member) = value.get(key) else {
         return Ok(Vec::new(alloc));
@@ -49,9 +48,9 @@ pub fn keyed_attributes(
     takes_span: bool,
     known: &[&str],
 ) -> Result<Attributes, Error>
-    ensures keys { IfOk result (λ _. has_only (keys_beside takes_span (codes "span") (map (λ k. k.now) known.now)) (borrowed_view value.now) ≡ true) }
-    ensures ok { IfOk result (λ e. ReadsMany spans (codes "attrs") (list_of attributes_kind an_attribute) (borrowed_view value.now) (attributes_tree e) numbering.old numbering.new) }
-    ensures place { IfErr result (LocatesKeyed spans (keys_beside takes_span (codes "span") (map (λ k. k.now) known.now)) (codes "attrs") (list_of attributes_kind an_attribute) (borrowed_view value.now)) }
+    ensures keys { IfOk result (λ _. HasKeys takes_span (map (λ k. k.now) known.now) (borrowed_view value.now)) }
+    ensures ok { GivesMany result attributes_tree spans (codes "attrs") some_attributes value.now numbering.old numbering.new }
+    ensures place { IfErr result (LocatesAttributes spans takes_span (map (λ k. k.now) known.now) (borrowed_view value.now)) }
 {
     if !wesl_json_form::has_only_beside(value, takes_span, "span", known) {
         return Err(wrong(alloc));
@@ -65,8 +64,8 @@ fn read_attributes(
     numbering: &mut Numbering,
     value: &BorrowedValue<'_>,
 ) -> Result<Attributes, Error>
-    ensures ok { IfOk result (λ e. Reads spans (list_of attributes_kind an_attribute) (borrowed_view value.now) (attributes_tree e) numbering.old numbering.new) }
-    ensures place { IfErr result (Locates spans (list_of attributes_kind an_attribute) (borrowed_view value.now)) }
+    ensures ok { GivesForm result attributes_tree spans some_attributes value.now numbering.old numbering.new }
+    ensures place { IfErr result (Locates spans some_attributes (borrowed_view value.now)) }
 {
     let Some(items) = value.as_array() else {
         return Err(wrong(alloc));
@@ -85,7 +84,7 @@ fn read_attribute(
     numbering: &mut Numbering,
     value: &BorrowedValue<'_>,
 ) -> Result<AttributeNode, Error>
-    ensures ok { IfOk result (λ e. Reads spans (node_form an_attribute) (borrowed_view value.now) (placed attribute_view attribute_node e) numbering.old numbering.new) }
+    ensures ok { GivesForm result placed_attribute spans (node_form an_attribute) value.now numbering.old numbering.new }
     ensures place { IfErr result (Locates spans (node_form an_attribute) (borrowed_view value.now)) }
 {
     if let Some(text) = value.as_str() {
@@ -114,7 +113,7 @@ fn read_worded_attribute(
     value: &BorrowedValue<'_>,
     word: AttributeWord,
 ) -> Result<Attribute, Error>
-    ensures ok { IfOk result (λ e. ReadsAttribute spans word (borrowed_view value.now) (attribute_view e) numbering.old numbering.new) }
+    ensures ok { Gives result attribute_view (ReadsAttribute spans word) value.now numbering.old numbering.new }
     ensures place { IfErr result (LocatesRow spans (attribute_worded spans word) (borrowed_view value.now)) }
 {
     match word {
@@ -185,7 +184,7 @@ fn read_operand(
     value: &BorrowedValue<'_>,
     word: OperandWord,
 ) -> Result<Attribute, Error>
-    ensures ok { IfOk result (λ e. ReadsAttribute spans (attribs.Operand word) (borrowed_view value.now) (attribute_view e) numbering.old numbering.new) }
+    ensures ok { Gives result attribute_view (ReadsAttribute spans (attribs.Operand word)) value.now numbering.old numbering.new }
     ensures place { IfErr result (LocatesRow spans (attribute_worded spans (attribs.Operand word)) (borrowed_view value.now)) }
 {
     if !wesl_json_form::has_only_beside(value, spans, "span", &["k", "expr"]) {
@@ -203,7 +202,7 @@ fn read_workgroup_size(
     numbering: &mut Numbering,
     value: &BorrowedValue<'_>,
 ) -> Result<Attribute, Error>
-    ensures ok { IfOk result (λ e. ReadsAttribute spans attribs.WorkgroupSize (borrowed_view value.now) (attribute_view e) numbering.old numbering.new) }
+    ensures ok { Gives result attribute_view (ReadsAttribute spans attribs.WorkgroupSize) value.now numbering.old numbering.new }
     ensures place { IfErr result (LocatesRow spans (attribute_worded spans attribs.WorkgroupSize) (borrowed_view value.now)) }
 {
     if !wesl_json_form::has_only_beside(value, spans, "span", &["k", "x", "y", "z"]) {
@@ -222,7 +221,7 @@ fn read_workgroup_size(
 }
 
 fn read_builtin(alloc: Global, spans: bool, value: &BorrowedValue<'_>) -> Result<Attribute, Error>
-    ensures ok { IfOk result (λ e. (names : List (List ℕ)) → ReadsAttribute spans attribs.Builtin (borrowed_view value.now) (attribute_view e) names names) }
+    ensures ok { GivesPlain result attribute_view (ReadsAttribute spans attribs.Builtin) value.now }
     ensures place { IfErr result (LocatesRow spans (attribute_worded spans attribs.Builtin) (borrowed_view value.now)) }
 {
     if !wesl_json_form::has_only_beside(value, spans, "span", &["k", "name"]) {
@@ -239,7 +238,7 @@ fn read_diagnostic(
     spans: bool,
     value: &BorrowedValue<'_>,
 ) -> Result<Attribute, Error>
-    ensures ok { IfOk result (λ e. (names : List (List ℕ)) → ReadsAttribute spans attribs.Diagnostic (borrowed_view value.now) (attribute_view e) names names) }
+    ensures ok { GivesPlain result attribute_view (ReadsAttribute spans attribs.Diagnostic) value.now }
     ensures place { IfErr result (LocatesRow spans (attribute_worded spans attribs.Diagnostic) (borrowed_view value.now)) }
 {
     if !wesl_json_form::has_only_beside(value, spans, "span", &["k", "severity", "rule"]) {
@@ -260,7 +259,7 @@ fn read_custom(
     numbering: &mut Numbering,
     value: &BorrowedValue<'_>,
 ) -> Result<Attribute, Error>
-    ensures ok { IfOk result (λ e. ReadsAttribute spans attribs.Custom (borrowed_view value.now) (attribute_view e) numbering.old numbering.new) }
+    ensures ok { Gives result attribute_view (ReadsAttribute spans attribs.Custom) value.now numbering.old numbering.new }
     ensures place { IfErr result (LocatesRow spans (attribute_worded spans attribs.Custom) (borrowed_view value.now)) }
 {
     if !wesl_json_form::has_only_beside(value, spans, "span", &["k", "name", "args"]) {
@@ -280,7 +279,7 @@ fn read_interpolate(
     spans: bool,
     value: &BorrowedValue<'_>,
 ) -> Result<Attribute, Error>
-    ensures ok { IfOk result (λ e. (names : List (List ℕ)) → ReadsAttribute spans attribs.Interpolate (borrowed_view value.now) (attribute_view e) names names) }
+    ensures ok { GivesPlain result attribute_view (ReadsAttribute spans attribs.Interpolate) value.now }
     ensures place { IfErr result (LocatesRow spans (attribute_worded spans attribs.Interpolate) (borrowed_view value.now)) }
 {
     if !wesl_json_form::has_only_beside(value, spans, "span", &["k", "names"]) {
@@ -299,7 +298,7 @@ fn read_plain(
     value: &BorrowedValue<'_>,
     word: PlainWord,
 ) -> Result<Attribute, Error>
-    ensures ok { IfOk result (λ e. (names : List (List ℕ)) → ReadsAttribute spans (attribs.Plain word) (borrowed_view value.now) (attribute_view e) names names) }
+    ensures ok { GivesPlain result attribute_view (ReadsAttribute spans (attribs.Plain word)) value.now }
     ensures place { IfErr result (LocatesRow spans (attribute_worded spans (attribs.Plain word)) (borrowed_view value.now)) }
 {
     if !wesl_json_form::has_only_beside(value, spans, "span", &["k"]) {

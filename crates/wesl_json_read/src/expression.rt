@@ -1,19 +1,17 @@
 //! Reading expressions and types.
-ghost use Rattle.std.specs.Box.{box_value};
-ghost use Rattle.std.specs.Prelude.{◌≡◌, Bool, ◌∷◌, List, [], ℕ, Some, None, Ok, Err, IfOk, IfErr, codes, is_some, true};
+ghost use Rattle.std.specs.Prelude.{◌≡◌, None, Err, IfOk, IfErr, codes, is_some, true};
 ghost use Rattle.serde_json.specs.Find.{as_object};
 ghost use Rattle.wesl_json_form.specs.View.{borrowed_view};
-ghost use Rattle.wesl_tree_syntax.specs.Tree.{branch, ident, leaf as leaf_tree, list, reference, template_argument};
+ghost use Rattle.wesl_tree_syntax.specs.Tree.{list, reference};
 ghost use Rattle.wesl_json_form.specs.Nodes.{type_row};
 ghost use Rattle.wesl_json_form.specs.Reading.{name_in};
-ghost use Rattle.wesl_tree_syntax.specs.declared.span.Spanned.{Spanned};
-ghost use Rattle.wesl_tree_syntax.specs.declared.expression.Expression.{Expression as ExpressionValue};
-ghost use Rattle.wesl_tree_syntax.specs.View.{argument_view, call_view, expression_tree, expression_view, listed, optional as option_view, path_tree, type_view};
-ghost use Rattle.wesl_json_form.specs.Schema.{a_call, a_path, a_span, a_template_argument, a_type, an_expression, an_ident, beside, leaf, list_of, node as node_form};
-ghost use Rattle.wesl_json_read.specs.Faults.{Locates, LocatesHere, LocatesInside, LocatesMember, LocatesPlain, LocatesRow, LocatesText};
-ghost use Rattle.wesl_json_read.specs.Forms.{HasExpressionWord, ReadsExpression, ReadsExpressionOf, expression_worded, row_of_expression};
+ghost use Rattle.wesl_tree_syntax.specs.View.{argument_view, call_view, expression_tree, expression_view, listed, path_tree, type_view};
+ghost use Rattle.wesl_json_form.specs.Schema.{a_call, a_path, a_span, a_type, an_expression, beside, leaf, node as node_form};
+ghost use Rattle.wesl_json_read.specs.Faults.{Locates, LocatesHere, LocatesInside, LocatesInsideAlways, LocatesMember, LocatesPlain, LocatesRow, LocatesText};
+ghost use Rattle.wesl_json_read.specs.Forms.{HasExpressionWord, ReadsExpression, ReadsExpressionOf, expression_worded, row_of_expression, some_arguments, some_expressions};
 ghost use Rattle.wesl_json_read.specs.declared.words.ExpressionWord.TheVariants as words;
-ghost use Rattle.wesl_json_read.specs.Numbers.{IsNumbered, Reads, ReadsMany, ReadsMay, ReadsNeeded, ReadsPlain, ReadsType};
+ghost use Rattle.wesl_json_read.specs.Numbers.{IsNameNumbered, ReadsPlain, ReadsType};
+ghost use Rattle.wesl_json_read.specs.Gives.{Gives, GivesForm, GivesIdent, GivesIf, GivesIfAlways, GivesMany, GivesNeeded, GivesPlain, IsArgumentOf, boxed_expression};
 
 use crate::fields::{
     name_member, name_of, own_literal, own_name, path_of, read_span, under, wrong,
@@ -48,7 +46,7 @@ pub fn read_expression(
     numbering: &mut Numbering,
     value: &BorrowedValue<'_>,
 ) -> Result<ExpressionNode, Error>
-    ensures ok { IfOk result (λ e. Reads spans (node_form an_expression) (borrowed_view value.now) (expression_tree e) numbering.old numbering.new) }
+    ensures ok { GivesForm result expression_tree spans (node_form an_expression) value.now numbering.old numbering.new }
     ensures place { IfErr result (Locates spans (node_form an_expression) (borrowed_view value.now)) }
 {
     if let Some(truth) = value.as_bool() {
@@ -71,7 +69,7 @@ fn read_expression_object(
     value: &BorrowedValue<'_>,
 ) -> Result<ExpressionNode, Error>
     requires { is_some (as_object (borrowed_view value.now)) ≡ true }
-    ensures ok { IfOk result (λ e. Reads spans (node_form an_expression) (borrowed_view value.now) (expression_tree e) numbering.old numbering.new) }
+    ensures ok { GivesForm result expression_tree spans (node_form an_expression) value.now numbering.old numbering.new }
     ensures place { IfErr result (Locates spans (node_form an_expression) (borrowed_view value.now)) }
 {
     match expression_word_of(alloc, spans, value) {
@@ -114,7 +112,7 @@ fn read_worded_expression(
     value: &BorrowedValue<'_>,
     word: Option<ExpressionWord>,
 ) -> Result<Expression, Error>
-    ensures ok { IfOk result (λ e. ReadsExpressionOf spans word (borrowed_view value.now) (expression_view e) numbering.old numbering.new) }
+    ensures ok { Gives result expression_view (ReadsExpressionOf spans word) value.now numbering.old numbering.new }
     ensures place { IfErr result (LocatesRow spans (row_of_expression spans word) (borrowed_view value.now)) }
 {
     match word {
@@ -131,7 +129,7 @@ fn read_worded_expression(
 }
 
 fn read_literal(alloc: Global, spans: bool, value: &BorrowedValue<'_>) -> Result<Expression, Error>
-    ensures ok { IfOk result (λ e. (names : List (List ℕ)) → ReadsExpression spans words.Literal (borrowed_view value.now) (expression_view e) names names) }
+    ensures ok { GivesPlain result expression_view (ReadsExpression spans words.Literal) value.now }
     ensures place { IfErr result (LocatesRow spans (expression_worded spans words.Literal) (borrowed_view value.now)) }
 {
     if !wesl_json_form::has_only_beside(value, spans, "span", &["k", "text"]) {
@@ -150,7 +148,7 @@ fn read_truth(
     value: &BorrowedValue<'_>,
     truth: bool,
 ) -> Result<Expression, Error>
-    ensures ok { IfOk result (λ e. (names : List (List ℕ)) → ReadsExpression spans (words.Truth truth) (borrowed_view value.now) (expression_view e) names names) }
+    ensures ok { GivesPlain result expression_view (ReadsExpression spans (words.Truth truth)) value.now }
     ensures place { IfErr result (LocatesRow spans (expression_worded spans (words.Truth truth)) (borrowed_view value.now)) }
 {
     if !wesl_json_form::has_only_beside(value, spans, "span", &["k"]) {
@@ -166,7 +164,7 @@ fn read_parenthesized(
     numbering: &mut Numbering,
     value: &BorrowedValue<'_>,
 ) -> Result<Expression, Error>
-    ensures ok { IfOk result (λ e. ReadsExpression spans words.Parenthesized (borrowed_view value.now) (expression_view e) numbering.old numbering.new) }
+    ensures ok { Gives result expression_view (ReadsExpression spans words.Parenthesized) value.now numbering.old numbering.new }
     ensures place { IfErr result (LocatesRow spans (expression_worded spans words.Parenthesized) (borrowed_view value.now)) }
 {
     if !wesl_json_form::has_only_beside(value, spans, "span", &["k", "expr"]) {
@@ -185,7 +183,7 @@ fn read_component(
     numbering: &mut Numbering,
     value: &BorrowedValue<'_>,
 ) -> Result<Expression, Error>
-    ensures ok { IfOk result (λ e. ReadsExpression spans words.NamedComponent (borrowed_view value.now) (expression_view e) numbering.old numbering.new) }
+    ensures ok { Gives result expression_view (ReadsExpression spans words.NamedComponent) value.now numbering.old numbering.new }
     ensures place { IfErr result (LocatesRow spans (expression_worded spans words.NamedComponent) (borrowed_view value.now)) }
 {
     if !wesl_json_form::has_only_beside(value, spans, "span", &["k", "base", "name"]) {
@@ -207,7 +205,7 @@ fn read_indexing(
     numbering: &mut Numbering,
     value: &BorrowedValue<'_>,
 ) -> Result<Expression, Error>
-    ensures ok { IfOk result (λ e. ReadsExpression spans words.Indexing (borrowed_view value.now) (expression_view e) numbering.old numbering.new) }
+    ensures ok { Gives result expression_view (ReadsExpression spans words.Indexing) value.now numbering.old numbering.new }
     ensures place { IfErr result (LocatesRow spans (expression_worded spans words.Indexing) (borrowed_view value.now)) }
 {
     if !wesl_json_form::has_only_beside(value, spans, "span", &["k", "base", "index"]) {
@@ -229,7 +227,7 @@ fn read_unary(
     numbering: &mut Numbering,
     value: &BorrowedValue<'_>,
 ) -> Result<Expression, Error>
-    ensures ok { IfOk result (λ e. ReadsExpression spans words.Unary (borrowed_view value.now) (expression_view e) numbering.old numbering.new) }
+    ensures ok { Gives result expression_view (ReadsExpression spans words.Unary) value.now numbering.old numbering.new }
     ensures place { IfErr result (LocatesRow spans (expression_worded spans words.Unary) (borrowed_view value.now)) }
 {
     if !wesl_json_form::has_only_beside(value, spans, "span", &["k", "op", "expr"]) {
@@ -251,7 +249,7 @@ fn read_binary(
     numbering: &mut Numbering,
     value: &BorrowedValue<'_>,
 ) -> Result<Expression, Error>
-    ensures ok { IfOk result (λ e. ReadsExpression spans words.Binary (borrowed_view value.now) (expression_view e) numbering.old numbering.new) }
+    ensures ok { Gives result expression_view (ReadsExpression spans words.Binary) value.now numbering.old numbering.new }
     ensures place { IfErr result (LocatesRow spans (expression_worded spans words.Binary) (borrowed_view value.now)) }
 {
     if !wesl_json_form::has_only_beside(value, spans, "span", &["k", "op", "left", "right"]) {
@@ -280,7 +278,7 @@ fn read_call_expression(
     numbering: &mut Numbering,
     value: &BorrowedValue<'_>,
 ) -> Result<Expression, Error>
-    ensures ok { IfOk result (λ e. ReadsExpression spans words.FunctionCall (borrowed_view value.now) (expression_view e) numbering.old numbering.new) }
+    ensures ok { Gives result expression_view (ReadsExpression spans words.FunctionCall) value.now numbering.old numbering.new }
     ensures place { IfErr result (LocatesRow spans (expression_worded spans words.FunctionCall) (borrowed_view value.now)) }
 {
     if !wesl_json_form::has_only_beside(value, spans, "span", &["k", "ty", "args"]) {
@@ -302,7 +300,7 @@ fn read_type_or_identifier(
     numbering: &mut Numbering,
     value: &BorrowedValue<'_>,
 ) -> Result<Expression, Error>
-    ensures ok { IfOk result (λ e. ReadsExpressionOf spans None (borrowed_view value.now) (expression_view e) numbering.old numbering.new) }
+    ensures ok { Gives result expression_view (ReadsExpressionOf spans None) value.now numbering.old numbering.new }
     ensures place { IfErr result (LocatesRow spans (row_of_expression spans None) (borrowed_view value.now)) }
 {
     match read_type_object(alloc, spans, numbering, value, spans) {
@@ -320,7 +318,7 @@ pub fn expression_member(
     value: &BorrowedValue<'_>,
     key: &str,
 ) -> Result<ExpressionNode, Error>
-    ensures ok { IfOk result (λ e. ReadsNeeded spans key.now (node_form an_expression) (borrowed_view value.now) (expression_tree e) numbering.old numbering.new) }
+    ensures ok { GivesNeeded result expression_tree spans key.now (node_form an_expression) value.now numbering.old numbering.new }
     ensures place { IfErr result (LocatesMember spans key.now (node_form an_expression) (borrowed_view value.now)) }
 {
     let Some(member) = value.get(key) else {
@@ -338,7 +336,7 @@ fn boxed_member(
     value: &BorrowedValue<'_>,
     key: &str,
 ) -> Result<Box<ExpressionNode>, Error>
-    ensures ok { IfOk result (λ e. ReadsNeeded spans key.now (node_form an_expression) (borrowed_view value.now) (expression_tree (box_value e)) numbering.old numbering.new) }
+    ensures ok { GivesNeeded result boxed_expression spans key.now (node_form an_expression) value.now numbering.old numbering.new }
     ensures place { IfErr result (LocatesMember spans key.now (node_form an_expression) (borrowed_view value.now)) }
 {
     boxed(
@@ -356,8 +354,8 @@ pub fn expressions_member(
     value: &BorrowedValue<'_>,
     key: &str,
 ) -> Result<Vec<ExpressionNode>, Error>
-    ensures ok { IfOk result (λ e. ReadsMany spans key.now (list_of list an_expression) (borrowed_view value.now) (listed expression_tree list e) numbering.old numbering.new) }
-    ensures place { IfErr result (LocatesInside spans key.now (list_of list an_expression) (borrowed_view value.now)) }
+    ensures ok { GivesMany result (listed expression_tree list) spans key.now some_expressions value.now numbering.old numbering.new }
+    ensures place { IfErr result (LocatesInside spans key.now some_expressions (borrowed_view value.now)) }
 {
     let Some(member) = value.get(key) else {
         return Ok(Vec::new(alloc));
@@ -377,8 +375,8 @@ pub fn read_expressions(
     numbering: &mut Numbering,
     value: &BorrowedValue<'_>,
 ) -> Result<Vec<ExpressionNode>, Error>
-    ensures ok { IfOk result (λ e. Reads spans (list_of list an_expression) (borrowed_view value.now) (listed expression_tree list e) numbering.old numbering.new) }
-    ensures place { IfErr result (Locates spans (list_of list an_expression) (borrowed_view value.now)) }
+    ensures ok { GivesForm result (listed expression_tree list) spans some_expressions value.now numbering.old numbering.new }
+    ensures place { IfErr result (Locates spans some_expressions (borrowed_view value.now)) }
 {
     let Some(items) = value.as_array() else {
         return Err(wrong(alloc));
@@ -400,7 +398,7 @@ pub fn type_member(
     value: &BorrowedValue<'_>,
     key: &str,
 ) -> Result<TypeExpression, Error>
-    ensures ok { IfOk result (λ e. ReadsNeeded spans key.now (node_form a_type) (borrowed_view value.now) (type_view e) numbering.old numbering.new) }
+    ensures ok { GivesNeeded result type_view spans key.now (node_form a_type) value.now numbering.old numbering.new }
     ensures place { IfErr result (LocatesMember spans key.now (node_form a_type) (borrowed_view value.now)) }
 {
     let Some(member) = value.get(key) else {
@@ -417,7 +415,7 @@ pub fn read_type(
     numbering: &mut Numbering,
     value: &BorrowedValue<'_>,
 ) -> Result<TypeExpression, Error>
-    ensures ok { IfOk result (λ e. Reads spans (node_form a_type) (borrowed_view value.now) (type_view e) numbering.old numbering.new) }
+    ensures ok { GivesForm result type_view spans (node_form a_type) value.now numbering.old numbering.new }
     ensures place { IfErr result (Locates spans (node_form a_type) (borrowed_view value.now)) }
 {
     if value.is_object() {
@@ -433,7 +431,7 @@ fn read_plain_type(
     numbering: &mut Numbering,
     value: &BorrowedValue<'_>,
 ) -> Result<TypeExpression, Error>
-    ensures ok { IfOk result (λ e. ReadsPlain (borrowed_view value.now) (type_view e) numbering.old numbering.new) }
+    ensures ok { Gives result type_view ReadsPlain value.now numbering.old numbering.new }
     ensures place { IfErr result (LocatesPlain (borrowed_view value.now)) }
 {
     match number_of(alloc, numbering, value) {
@@ -452,7 +450,7 @@ fn number_of(
     numbering: &mut Numbering,
     value: &BorrowedValue<'_>,
 ) -> Result<Ident, Error>
-    ensures ok { IfOk result (λ i. (s : List ℕ) × (name_in (borrowed_view value.now) ≡ Some s) × IsNumbered numbering.old s i.0 numbering.new) }
+    ensures ok { IfOk result (λ i. IsNameNumbered (borrowed_view value.now) i.0 numbering.old numbering.new) }
     ensures place { IfErr result (LocatesHere (name_in (borrowed_view value.now))) }
 {
     match name_of(alloc, value) {
@@ -470,7 +468,7 @@ fn read_type_object(
     value: &BorrowedValue<'_>,
     takes_span: bool,
 ) -> Result<TypeExpression, Error>
-    ensures ok { IfOk result (λ e. ReadsType spans takes_span (borrowed_view value.now) (type_view e) numbering.old numbering.new) }
+    ensures ok { Gives result type_view (ReadsType spans takes_span) value.now numbering.old numbering.new }
     ensures place { IfErr result (LocatesRow spans (beside takes_span a_span type_row) (borrowed_view value.now)) }
 {
     if !wesl_json_form::has_only_beside(value, takes_span, "span", &["path", "name", "args"]) {
@@ -498,7 +496,7 @@ fn reference_member(
     numbering: &mut Numbering,
     value: &BorrowedValue<'_>,
 ) -> Result<Ident, Error>
-    ensures ok { IfOk result (λ e. (spans : Bool) → ReadsNeeded spans (codes "name") (leaf (an_ident reference)) (borrowed_view value.now) (leaf_tree (ident reference e.0)) numbering.old numbering.new) }
+    ensures ok { GivesIdent result reference (codes "name") value.now numbering.old numbering.new }
     ensures place { IfErr result (LocatesText name_in (codes "name") (borrowed_view value.now)) }
 {
     match name_member(alloc, value, "name") {
@@ -509,8 +507,8 @@ fn reference_member(
 
 /// The path at `path`, an option.
 pub fn optional_path(alloc: Global, value: &BorrowedValue<'_>) -> Result<Option<ModulePath>, Error>
-    ensures ok { IfOk result (λ e. (spans : Bool) (names : List (List ℕ)) → ReadsMay spans (codes "path") (leaf a_path) (borrowed_view value.now) (option_view path_tree e) names names) }
-    ensures place { IfErr result (λ e. (spans : Bool) → LocatesInside spans (codes "path") (leaf a_path) (borrowed_view value.now) e) }
+    ensures ok { GivesIfAlways result path_tree (codes "path") (leaf a_path) value.now }
+    ensures place { IfErr result (LocatesInsideAlways (codes "path") (leaf a_path) (borrowed_view value.now)) }
 {
     let Some(member) = value.get("path") else {
         return Ok(None);
@@ -526,8 +524,8 @@ fn arguments_member(
     numbering: &mut Numbering,
     value: &BorrowedValue<'_>,
 ) -> Result<Option<Vec<TemplateArg>>, Error>
-    ensures ok { IfOk result (λ e. ReadsMay spans (codes "args") (list_of list a_template_argument) (borrowed_view value.now) (option_view (listed argument_view list) e) numbering.old numbering.new) }
-    ensures place { IfErr result (LocatesInside spans (codes "args") (list_of list a_template_argument) (borrowed_view value.now)) }
+    ensures ok { GivesIf result (listed argument_view list) spans (codes "args") some_arguments value.now numbering.old numbering.new }
+    ensures place { IfErr result (LocatesInside spans (codes "args") some_arguments (borrowed_view value.now)) }
 {
     let Some(member) = value.get("args") else {
         return Ok(None);
@@ -546,8 +544,8 @@ fn read_arguments(
     numbering: &mut Numbering,
     value: &BorrowedValue<'_>,
 ) -> Result<Vec<TemplateArg>, Error>
-    ensures ok { IfOk result (λ e. Reads spans (list_of list a_template_argument) (borrowed_view value.now) (listed argument_view list e) numbering.old numbering.new) }
-    ensures place { IfErr result (Locates spans (list_of list a_template_argument) (borrowed_view value.now)) }
+    ensures ok { GivesForm result (listed argument_view list) spans some_arguments value.now numbering.old numbering.new }
+    ensures place { IfErr result (Locates spans some_arguments (borrowed_view value.now)) }
 {
     let Some(items) = value.as_array() else {
         return Err(wrong(alloc));
@@ -561,7 +559,7 @@ fn read_arguments(
 }
 
 fn argument_of(read: Result<ExpressionNode, Error>) -> Result<TemplateArg, Error>
-    ensures ok { IfOk result (λ a. (e : Spanned ExpressionValue) × (read ≡ Ok e) × (argument_view a ≡ branch template_argument (expression_tree e ∷ []))) }
+    ensures ok { IfOk result (IsArgumentOf read) }
     ensures place { IfErr result (λ e. read ≡ Err e) }
 {
     match read {
@@ -577,7 +575,7 @@ pub fn read_call(
     numbering: &mut Numbering,
     value: &BorrowedValue<'_>,
 ) -> Result<FunctionCall, Error>
-    ensures ok { IfOk result (λ e. Reads spans (node_form a_call) (borrowed_view value.now) (call_view e) numbering.old numbering.new) }
+    ensures ok { GivesForm result call_view spans (node_form a_call) value.now numbering.old numbering.new }
     ensures place { IfErr result (Locates spans (node_form a_call) (borrowed_view value.now)) }
 {
     if !wesl_json_form::has_only(value, &["ty", "args"]) {
@@ -600,7 +598,7 @@ pub fn optional_expression(
     value: &BorrowedValue<'_>,
     key: &str,
 ) -> Result<Option<ExpressionNode>, Error>
-    ensures ok { IfOk result (λ e. ReadsMay spans key.now (node_form an_expression) (borrowed_view value.now) (option_view expression_tree e) numbering.old numbering.new) }
+    ensures ok { GivesIf result expression_tree spans key.now (node_form an_expression) value.now numbering.old numbering.new }
     ensures place { IfErr result (LocatesInside spans key.now (node_form an_expression) (borrowed_view value.now)) }
 {
     let Some(member) = value.get(key) else {
@@ -617,8 +615,8 @@ pub fn optional_expressions(
     value: &BorrowedValue<'_>,
     key: &str,
 ) -> Result<Option<Vec<ExpressionNode>>, Error>
-    ensures ok { IfOk result (λ e. ReadsMay spans key.now (list_of list an_expression) (borrowed_view value.now) (option_view (listed expression_tree list) e) numbering.old numbering.new) }
-    ensures place { IfErr result (LocatesInside spans key.now (list_of list an_expression) (borrowed_view value.now)) }
+    ensures ok { GivesIf result (listed expression_tree list) spans key.now some_expressions value.now numbering.old numbering.new }
+    ensures place { IfErr result (LocatesInside spans key.now some_expressions (borrowed_view value.now)) }
 {
     let Some(member) = value.get(key) else {
         return Ok(None);
@@ -638,7 +636,7 @@ pub fn optional_type(
     value: &BorrowedValue<'_>,
     key: &str,
 ) -> Result<Option<TypeExpression>, Error>
-    ensures ok { IfOk result (λ e. ReadsMay spans key.now (node_form a_type) (borrowed_view value.now) (option_view type_view e) numbering.old numbering.new) }
+    ensures ok { GivesIf result type_view spans key.now (node_form a_type) value.now numbering.old numbering.new }
     ensures place { IfErr result (LocatesInside spans key.now (node_form a_type) (borrowed_view value.now)) }
 {
     let Some(member) = value.get(key) else {

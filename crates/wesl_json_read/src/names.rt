@@ -1,10 +1,10 @@
 //! Reading lists of names.
-ghost use Rattle.std.specs.Prelude.{◌≡◌, Bool, List, ℕ, Some, IfOk, IfErr};
+ghost use Rattle.std.specs.Prelude.{IfErr};
 ghost use Rattle.wesl_json_form.specs.View.{borrowed_view};
 ghost use Rattle.wesl_tree_syntax.specs.View.{names_tree};
 ghost use Rattle.wesl_json_form.specs.Schema.{leaf, some_names};
-ghost use Rattle.wesl_json_read.specs.Faults.{Locates, LocatesInside};
-ghost use Rattle.wesl_json_read.specs.Numbers.{Reads, ReadsMany};
+ghost use Rattle.wesl_json_read.specs.Faults.{LocatesAlways, LocatesInsideAlways};
+ghost use Rattle.wesl_json_read.specs.Gives.{GivesFormAlways, GivesManyAlways};
 
 use crate::fields::{own_name_of, wrong};
 use crate::joined::{inside, room, with_item};
@@ -18,8 +18,8 @@ pub fn names_member(
     value: &BorrowedValue<'_>,
     key: &str,
 ) -> Result<Vec<String>, Error>
-    ensures ok { IfOk result (λ e. (spans : Bool) (names : List (List ℕ)) → ReadsMany spans key.now (leaf some_names) (borrowed_view value.now) (names_tree e) names names) }
-    ensures place { IfErr result (λ e. (spans : Bool) → LocatesInside spans key.now (leaf some_names) (borrowed_view value.now) e) }
+    ensures ok { GivesManyAlways result names_tree key.now (leaf some_names) value.now }
+    ensures place { IfErr result (LocatesInsideAlways key.now (leaf some_names) (borrowed_view value.now)) }
 {
     let Some(member) = value.get(key) else {
         return Ok(Vec::new(alloc));
@@ -28,8 +28,8 @@ pub fn names_member(
 }
 
 fn read_names(alloc: Global, value: &BorrowedValue<'_>) -> Result<Vec<String>, Error>
-    ensures ok { IfOk result (λ e. (spans : Bool) (names : List (List ℕ)) → Reads spans (leaf some_names) (borrowed_view value.now) (names_tree e) names names) }
-    ensures place { IfErr result (λ e. (spans : Bool) → Locates spans (leaf some_names) (borrowed_view value.now) e) }
+    ensures ok { GivesFormAlways result names_tree (leaf some_names) value.now }
+    ensures place { IfErr result (LocatesAlways (leaf some_names) (borrowed_view value.now)) }
 {
     let Some(items) = value.as_array() else {
         return Err(wrong(alloc));

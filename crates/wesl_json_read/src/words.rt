@@ -1,6 +1,6 @@
 //! The words of the form.
-ghost use Rattle.std.specs.Prelude.{◌≡◌, Some, None, IfOk, IfErr, IfSome, codes, option_map, option_and_then, true};
-ghost use Rattle.serde_json.specs.Find.{as_str, get};
+ghost use Rattle.std.specs.Prelude.{◌≡◌, Some, IfOk, IfErr, IfSome, codes, option_map, true};
+ghost use Rattle.serde_json.specs.Find.{as_str};
 ghost use Rattle.wesl_json_form.specs.View.{borrowed_view};
 ghost use Rattle.wesl_tree_syntax.specs.Tree.{binary, kind, unary};
 ghost use Rattle.wesl_json_form.specs.Schema.{look};
@@ -8,7 +8,7 @@ ghost use Rattle.wesl_json_form.specs.Words.{attribute_words, unary_words, binar
 ghost use Rattle.wesl_json_form.specs.Reading.{word_in};
 ghost use Rattle.wesl_json_read.specs.Faults.{LocatesHere, LocatesText};
 ghost use Rattle.wesl_json_form.specs.Nodes.{all_attribute_words, all_expression_words, plain_words, truth_words};
-ghost use Rattle.wesl_json_read.specs.Forms.{attribute_of, attribute_text, expression_of, expression_text, plain_kind, plain_text};
+ghost use Rattle.wesl_json_read.specs.Forms.{attribute_named, attribute_of, attribute_text, expression_named, expression_of, expression_text, plain_kind, plain_text, word_at};
 
 use crate::fields::wrong;
 use crate::joined::inside;
@@ -60,7 +60,7 @@ fn truth_word(text: &str) -> Option<ExpressionWord>
 
 /// The expression that the word at `k` names.
 pub(crate) fn expression_word_in(spans: bool, value: &BorrowedValue<'_>) -> Option<ExpressionWord>
-    ensures node { option_map (expression_of spans) result ≡ option_and_then (look (all_expression_words spans)) (as_str (borrowed_view value.now)) }
+    ensures node { option_map (expression_of spans) result ≡ expression_named spans (borrowed_view value.now) }
     ensures text { IfSome result (λ w. as_str (borrowed_view value.now) ≡ Some (expression_text w)) }
 {
     match value.as_str() {
@@ -168,7 +168,7 @@ pub(crate) fn plain_word(text: &str) -> Option<PlainWord>
 
 /// The attribute that the word at `k` names.
 pub(crate) fn attribute_word_in(spans: bool, value: &BorrowedValue<'_>) -> Option<AttributeWord>
-    ensures node { option_map (attribute_of spans) result ≡ option_and_then (look (all_attribute_words spans)) (as_str (borrowed_view value.now)) }
+    ensures node { option_map (attribute_of spans) result ≡ attribute_named spans (borrowed_view value.now) }
     ensures text { IfSome result (λ w. as_str (borrowed_view value.now) ≡ Some (attribute_text w)) }
 {
     match value.as_str() {
@@ -241,7 +241,7 @@ pub(crate) fn unary_operator_member(
     alloc: Global,
     value: &BorrowedValue<'_>,
 ) -> Result<UnaryOperator, Error>
-    ensures ok { IfOk result (λ o. option_and_then (word_in unary_words) (get (codes "op") (borrowed_view value.now)) ≡ Some (unary o)) }
+    ensures ok { IfOk result (λ o. word_at unary_words (codes "op") (borrowed_view value.now) ≡ Some (unary o)) }
     ensures place { IfErr result (LocatesText (word_in unary_words) (codes "op") (borrowed_view value.now)) }
 {
     let Some(member) = value.get("op") else {
@@ -255,7 +255,7 @@ pub(crate) fn binary_operator_member(
     alloc: Global,
     value: &BorrowedValue<'_>,
 ) -> Result<BinaryOperator, Error>
-    ensures ok { IfOk result (λ o. option_and_then (word_in binary_words) (get (codes "op") (borrowed_view value.now)) ≡ Some (binary o)) }
+    ensures ok { IfOk result (λ o. word_at binary_words (codes "op") (borrowed_view value.now) ≡ Some (binary o)) }
     ensures place { IfErr result (LocatesText (word_in binary_words) (codes "op") (borrowed_view value.now)) }
 {
     let Some(member) = value.get("op") else {

@@ -5,8 +5,8 @@ use Rattle.serde_json.specs.Data.{Data}
 use Rattle.serde_json.specs.Find.{get, as_str}
 use Rattle.wesl_tree_names.specs.Path.{Text}
 use Rattle.wesl_tree_names.specs.declared.errors.Error as error
-use Rattle.wesl_tree_syntax.specs.Tree.{Kind, binder, kind, Tree, list, attributes, clauses, statement_node, compound_statement, compound, increment, decrement, if_statement, if_clause, switch, loop, for_loop, while_loop, break, continue, return, discard, call_statement, declaration, const_assert, void, const_kind, override_kind, let_kind, var_kind}
-use Rattle.wesl_json_form.specs.Schema.{Head, fixed, chosen, Row, nothing, needs, may, many, inner, Node, leaf, node, list_of, an_ident, a_type, a_body, a_call, a_clause, a_continuing, an_elif, an_else, a_statement, an_attribute}
+use Rattle.wesl_tree_syntax.specs.Tree.{Kind, binder, kind, Tree, list, attributes, clauses, statements, statement_node, compound_statement, compound, increment, decrement, if_statement, if_clause, switch, loop, for_loop, while_loop, break, continue, return, discard, call_statement, declaration, const_assert, void, const_kind, override_kind, let_kind, var_kind}
+use Rattle.wesl_json_form.specs.Schema.{Form, Head, fixed, chosen, Row, nothing, needs, may, many, inner, Node, leaf, node, list_of, an_ident, a_type, a_body, a_call, a_case, a_clause, a_continuing, an_elif, an_else, a_statement, an_attribute}
 use Rattle.wesl_json_form.specs.Words.{assignment_words}
 use Rattle.wesl_json_form.specs.Nodes.{expression, one_expression, operand, attrs, body_row, condition_row, declared, space_row}
 use Rattle.wesl_json_read.specs.Faults.{LocatesInside, LocatesMember}
@@ -21,6 +21,20 @@ use Rattle.wesl_json_read_statements.specs.declared.words.StepWord.{StepWord}
 use Rattle.wesl_json_read_statements.specs.declared.words.StepWord.TheVariants as steps
 use Rattle.wesl_json_read_statements.specs.declared.words.JumpWord.{JumpWord}
 use Rattle.wesl_json_read_statements.specs.declared.words.JumpWord.TheVariants as jumps
+
+-- ---- lists
+
+abbrev pub some_statements : Form
+some_statements = list_of statements a_statement
+
+abbrev pub some_cases : Form
+some_cases = list_of list a_case
+
+abbrev pub some_elifs : Form
+some_elifs = list_of list an_elif
+
+abbrev pub some_clauses : Form
+some_clauses = list_of clauses a_clause
 
 -- ---- what stands in modules and in functions
 

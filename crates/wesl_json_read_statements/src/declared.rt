@@ -1,17 +1,17 @@
 //! Reading what stands in modules and in functions: variables, values and assertions (WGSL, "Variable and Value
 //! Declarations" and "Const Assertion Statement").
-ghost use Rattle.std.specs.Prelude.{Bool, ◌≡◌, ℕ, List, [], IfOk, IfErr, codes, is_some, true, false};
+ghost use Rattle.std.specs.Prelude.{◌≡◌, [], IfErr, codes, is_some, true, false};
 ghost use Rattle.serde_json.specs.Find.{get};
 ghost use Rattle.wesl_json_form.specs.View.{borrowed_view};
 ghost use Rattle.wesl_tree_syntax.specs.Tree.{branch};
-ghost use Rattle.wesl_tree_syntax.specs.View.{access_tree, kind_tree, optional as option_view, statement_view};
+ghost use Rattle.wesl_tree_syntax.specs.View.{access_tree, kind_tree, statement_view};
 ghost use Rattle.wesl_json_form.specs.Schema.{leaf, one_of};
 ghost use Rattle.wesl_json_form.specs.Words.{access_words};
-ghost use Rattle.wesl_json_read.specs.Faults.{LocatesInside, LocatesRow};
-ghost use Rattle.wesl_json_read.specs.Numbers.{ReadsMay, ReadsRows};
+ghost use Rattle.wesl_json_read.specs.Faults.{LocatesInsideAlways, LocatesRow};
 ghost use Rattle.wesl_json_read_statements.specs.declared.words.DeclaredWord.TheVariants as declareds;
 ghost use Rattle.wesl_json_read_statements.specs.Forms.{LocatesTyped, ReadsDeclared, declared_worded, typed_members, value_kind};
 ghost use Rattle.wesl_json_read_statements.specs.Views.{declared_view, typed_forest};
+ghost use Rattle.wesl_json_read.specs.Gives.{Gives, GivesIfAlways, GivesPlain, GivesRow};
 
 use crate::parts::binder_member;
 use crate::words::{DeclaredWord, ValueWord, access_mode_of, space_member};
@@ -57,7 +57,7 @@ pub fn read_declared(
     value: &BorrowedValue<'_>,
     word: DeclaredWord,
 ) -> Result<Declared, Error>
-    ensures ok { IfOk result (λ e. ReadsDeclared spans word (borrowed_view value.now) (declared_view e) numbering.old numbering.new) }
+    ensures ok { Gives result declared_view (ReadsDeclared spans word) value.now numbering.old numbering.new }
     ensures place { IfErr result (LocatesRow spans (declared_worded spans word) (borrowed_view value.now)) }
 {
     match word {
@@ -75,7 +75,7 @@ pub fn read_declared(
 }
 
 fn read_void(alloc: Global, spans: bool, value: &BorrowedValue<'_>) -> Result<Declared, Error>
-    ensures ok { IfOk result (λ e. (names : List (List ℕ)) → ReadsDeclared spans declareds.Void (borrowed_view value.now) (declared_view e) names names) }
+    ensures ok { GivesPlain result declared_view (ReadsDeclared spans declareds.Void) value.now }
     ensures place { IfErr result (LocatesRow spans (declared_worded spans declareds.Void) (borrowed_view value.now)) }
 {
     if !wesl_json_form::has_only_beside(value, spans, "span", &["k"]) {
@@ -101,7 +101,7 @@ fn typed_parts(
     numbering: &mut Numbering,
     value: &BorrowedValue<'_>,
 ) -> Result<(Ident, Option<TypeExpression>, Option<ExpressionNode>), Error>
-    ensures ok { IfOk result (λ parts. ReadsRows spans typed_members (borrowed_view value.now) (typed_forest parts.0 parts.1 parts.2) numbering.old numbering.new) }
+    ensures ok { GivesRow result (λ p. typed_forest p.0 p.1 p.2) spans typed_members value.now numbering.old numbering.new }
     ensures place { IfErr result (LocatesTyped spans (borrowed_view value.now)) }
 {
     match binder_member(alloc, numbering, value) {
@@ -123,7 +123,7 @@ fn read_value(
     value: &BorrowedValue<'_>,
     word: ValueWord,
 ) -> Result<Declared, Error>
-    ensures ok { IfOk result (λ e. ReadsDeclared spans (declareds.Value word) (borrowed_view value.now) (declared_view e) numbering.old numbering.new) }
+    ensures ok { Gives result declared_view (ReadsDeclared spans (declareds.Value word)) value.now numbering.old numbering.new }
     ensures place { IfErr result (LocatesRow spans (declared_worded spans (declareds.Value word)) (borrowed_view value.now)) }
 {
     match keyed_attributes(
@@ -156,7 +156,7 @@ fn read_var(
     value: &BorrowedValue<'_>,
 ) -> Result<Declared, Error>
     requires { is_some (get (codes "space") (borrowed_view value.now)) ≡ false }
-    ensures ok { IfOk result (λ e. ReadsDeclared spans declareds.Var (borrowed_view value.now) (declared_view e) numbering.old numbering.new) }
+    ensures ok { Gives result declared_view (ReadsDeclared spans declareds.Var) value.now numbering.old numbering.new }
     ensures place { IfErr result (LocatesRow spans (declared_worded spans declareds.Var) (borrowed_view value.now)) }
 {
     match keyed_attributes(
@@ -189,7 +189,7 @@ fn read_var_in_space(
     value: &BorrowedValue<'_>,
 ) -> Result<Declared, Error>
     requires { is_some (get (codes "space") (borrowed_view value.now)) ≡ true }
-    ensures ok { IfOk result (λ e. ReadsDeclared spans declareds.Var (borrowed_view value.now) (declared_view e) numbering.old numbering.new) }
+    ensures ok { Gives result declared_view (ReadsDeclared spans declareds.Var) value.now numbering.old numbering.new }
     ensures place { IfErr result (LocatesRow spans (declared_worded spans declareds.Var) (borrowed_view value.now)) }
 {
     match keyed_attributes(
@@ -222,8 +222,8 @@ fn read_var_in_space(
 
 // The access mode at `access`, an option.
 fn optional_access(alloc: Global, value: &BorrowedValue<'_>) -> Result<Option<AccessMode>, Error>
-    ensures ok { IfOk result (λ e. (spans : Bool) (names : List (List ℕ)) → ReadsMay spans (codes "access") (leaf (one_of access_words)) (borrowed_view value.now) (option_view access_tree e) names names) }
-    ensures place { IfErr result (λ e. (spans : Bool) → LocatesInside spans (codes "access") (leaf (one_of access_words)) (borrowed_view value.now) e) }
+    ensures ok { GivesIfAlways result access_tree (codes "access") (leaf (one_of access_words)) value.now }
+    ensures place { IfErr result (LocatesInsideAlways (codes "access") (leaf (one_of access_words)) (borrowed_view value.now)) }
 {
     let Some(member) = value.get("access") else {
         return Ok(None);
@@ -237,7 +237,7 @@ fn read_assert(
     numbering: &mut Numbering,
     value: &BorrowedValue<'_>,
 ) -> Result<Declared, Error>
-    ensures ok { IfOk result (λ e. ReadsDeclared spans declareds.Assert (borrowed_view value.now) (declared_view e) numbering.old numbering.new) }
+    ensures ok { Gives result declared_view (ReadsDeclared spans declareds.Assert) value.now numbering.old numbering.new }
     ensures place { IfErr result (LocatesRow spans (declared_worded spans declareds.Assert) (borrowed_view value.now)) }
 {
     match keyed_attributes(

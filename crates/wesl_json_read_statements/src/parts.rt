@@ -1,11 +1,11 @@
 //! Members that stand in many nodes.
-ghost use Rattle.std.specs.Prelude.{Bool, List, ℕ, IfOk, IfErr, codes};
+ghost use Rattle.std.specs.Prelude.{IfErr, codes};
 ghost use Rattle.wesl_json_form.specs.View.{borrowed_view};
 ghost use Rattle.wesl_tree_syntax.specs.Tree.{binder};
-ghost use Rattle.wesl_tree_syntax.specs.View.{call_view, ident_tree, text_tree};
+ghost use Rattle.wesl_tree_syntax.specs.View.{call_view, text_tree};
 ghost use Rattle.wesl_json_form.specs.Schema.{a_call, a_name, a_text, an_ident, leaf, node as node_form};
-ghost use Rattle.wesl_json_read.specs.Faults.{LocatesMember};
-ghost use Rattle.wesl_json_read.specs.Numbers.{ReadsNeeded};
+ghost use Rattle.wesl_json_read.specs.Faults.{LocatesMember, LocatesMemberAlways};
+ghost use Rattle.wesl_json_read.specs.Gives.{GivesIdent, GivesNeeded, GivesNeededAlways};
 
 use std::alloc::Global;
 use wesl_json_form::BorrowedValue;
@@ -19,8 +19,8 @@ pub fn binder_member(
     numbering: &mut Numbering,
     value: &BorrowedValue<'_>,
 ) -> Result<Ident, Error>
-    ensures ok { IfOk result (λ e. (spans : Bool) → ReadsNeeded spans (codes "name") (leaf (an_ident binder)) (borrowed_view value.now) (ident_tree binder e) numbering.old numbering.new) }
-    ensures place { IfErr result (λ e. (spans : Bool) → LocatesMember spans (codes "name") (leaf (an_ident binder)) (borrowed_view value.now) e) }
+    ensures ok { GivesIdent result binder (codes "name") value.now numbering.old numbering.new }
+    ensures place { IfErr result (LocatesMemberAlways (codes "name") (leaf (an_ident binder)) (borrowed_view value.now)) }
 {
     match name_member(alloc, value, "name") {
         Ok(name) => numbering.number(alloc, name),
@@ -34,8 +34,8 @@ pub fn plain_name_member(
     value: &BorrowedValue<'_>,
     key: &str,
 ) -> Result<String, Error>
-    ensures ok { IfOk result (λ e. (spans : Bool) (names : List (List ℕ)) → ReadsNeeded spans key.now (leaf a_name) (borrowed_view value.now) (text_tree e) names names) }
-    ensures place { IfErr result (λ e. (spans : Bool) → LocatesMember spans key.now (leaf a_name) (borrowed_view value.now) e) }
+    ensures ok { GivesNeededAlways result text_tree key.now (leaf a_name) value.now }
+    ensures place { IfErr result (LocatesMemberAlways key.now (leaf a_name) (borrowed_view value.now)) }
 {
     owned(alloc, name_member(alloc, value, key))
 }
@@ -46,8 +46,8 @@ pub fn plain_text_member(
     value: &BorrowedValue<'_>,
     key: &str,
 ) -> Result<String, Error>
-    ensures ok { IfOk result (λ e. (spans : Bool) (names : List (List ℕ)) → ReadsNeeded spans key.now (leaf a_text) (borrowed_view value.now) (text_tree e) names names) }
-    ensures place { IfErr result (λ e. (spans : Bool) → LocatesMember spans key.now (leaf a_text) (borrowed_view value.now) e) }
+    ensures ok { GivesNeededAlways result text_tree key.now (leaf a_text) value.now }
+    ensures place { IfErr result (LocatesMemberAlways key.now (leaf a_text) (borrowed_view value.now)) }
 {
     owned(alloc, text_member(alloc, value, key))
 }
@@ -59,7 +59,7 @@ pub(crate) fn call_member(
     numbering: &mut Numbering,
     value: &BorrowedValue<'_>,
 ) -> Result<FunctionCall, Error>
-    ensures ok { IfOk result (λ e. ReadsNeeded spans (codes "call") (node_form a_call) (borrowed_view value.now) (call_view e) numbering.old numbering.new) }
+    ensures ok { GivesNeeded result call_view spans (codes "call") (node_form a_call) value.now numbering.old numbering.new }
     ensures place { IfErr result (LocatesMember spans (codes "call") (node_form a_call) (borrowed_view value.now)) }
 {
     let Some(member) = value.get("call") else {

@@ -1,12 +1,12 @@
 //! Reading the values of `case` and the condition of `break if` (WGSL, "Switch Statement" and "Break-If Statement").
-ghost use Rattle.std.specs.Prelude.{Bool, ◌≡◌, ℕ, List, IfOk, IfErr, codes, true};
+ghost use Rattle.std.specs.Prelude.{◌≡◌, IfErr, codes, true};
 ghost use Rattle.wesl_json_form.specs.View.{borrowed_view};
 ghost use Rattle.wesl_tree_syntax.specs.Tree.{list};
-ghost use Rattle.wesl_tree_syntax.specs.View.{break_if_view, listed, optional as option_view, selector_view};
-ghost use Rattle.wesl_json_form.specs.Schema.{a_break_if, a_case, list_of, node as node_form};
-ghost use Rattle.wesl_json_read.specs.Faults.{Locates, LocatesInside};
-ghost use Rattle.wesl_json_read.specs.Numbers.{Reads, ReadsMany, ReadsMay};
-ghost use Rattle.wesl_json_read_statements.specs.Forms.{has_default};
+ghost use Rattle.wesl_tree_syntax.specs.View.{break_if_view, listed, selector_view};
+ghost use Rattle.wesl_json_form.specs.Schema.{a_break_if, a_case, node as node_form};
+ghost use Rattle.wesl_json_read.specs.Faults.{Locates, LocatesAlways, LocatesInside};
+ghost use Rattle.wesl_json_read_statements.specs.Forms.{has_default, some_cases};
+ghost use Rattle.wesl_json_read.specs.Gives.{GivesForm, GivesFormAlways, GivesIf, GivesMany};
 
 use std::alloc::Global;
 use wesl_json_form::BorrowedValue;
@@ -24,8 +24,8 @@ pub(crate) fn cases_member(
     numbering: &mut Numbering,
     value: &BorrowedValue<'_>,
 ) -> Result<Vec<CaseSelector>, Error>
-    ensures ok { IfOk result (λ e. ReadsMany spans (codes "cases") (list_of list a_case) (borrowed_view value.now) (listed selector_view list e) numbering.old numbering.new) }
-    ensures place { IfErr result (LocatesInside spans (codes "cases") (list_of list a_case) (borrowed_view value.now)) }
+    ensures ok { GivesMany result (listed selector_view list) spans (codes "cases") some_cases value.now numbering.old numbering.new }
+    ensures place { IfErr result (LocatesInside spans (codes "cases") some_cases (borrowed_view value.now)) }
 {
     let Some(member) = value.get("cases") else {
         return Ok(Vec::new(alloc));
@@ -39,8 +39,8 @@ fn read_cases(
     numbering: &mut Numbering,
     value: &BorrowedValue<'_>,
 ) -> Result<Vec<CaseSelector>, Error>
-    ensures ok { IfOk result (λ e. Reads spans (list_of list a_case) (borrowed_view value.now) (listed selector_view list e) numbering.old numbering.new) }
-    ensures place { IfErr result (Locates spans (list_of list a_case) (borrowed_view value.now)) }
+    ensures ok { GivesForm result (listed selector_view list) spans some_cases value.now numbering.old numbering.new }
+    ensures place { IfErr result (Locates spans some_cases (borrowed_view value.now)) }
 {
     let Some(items) = value.as_array() else {
         return Err(wrong(alloc));
@@ -60,7 +60,7 @@ fn read_case(
     numbering: &mut Numbering,
     value: &BorrowedValue<'_>,
 ) -> Result<CaseSelector, Error>
-    ensures ok { IfOk result (λ e. Reads spans (node_form a_case) (borrowed_view value.now) (selector_view e) numbering.old numbering.new) }
+    ensures ok { GivesForm result selector_view spans (node_form a_case) value.now numbering.old numbering.new }
     ensures place { IfErr result (Locates spans (node_form a_case) (borrowed_view value.now)) }
 {
     if is_default(value) {
@@ -87,8 +87,8 @@ fn is_default(value: &BorrowedValue<'_>) -> bool
 
 fn read_default(alloc: Global, value: &BorrowedValue<'_>) -> Result<CaseSelector, Error>
     requires { has_default (borrowed_view value.now) ≡ true }
-    ensures ok { IfOk result (λ e. (spans : Bool) (names : List (List ℕ)) → Reads spans (node_form a_case) (borrowed_view value.now) (selector_view e) names names) }
-    ensures place { IfErr result (λ e. (spans : Bool) → Locates spans (node_form a_case) (borrowed_view value.now) e) }
+    ensures ok { GivesFormAlways result selector_view (node_form a_case) value.now }
+    ensures place { IfErr result (LocatesAlways (node_form a_case) (borrowed_view value.now)) }
 {
     check_keys(alloc, value, &["k"])?;
     Ok(CaseSelector::Default)
@@ -101,7 +101,7 @@ pub(crate) fn optional_break_if(
     numbering: &mut Numbering,
     value: &BorrowedValue<'_>,
 ) -> Result<Option<BreakIfStatement>, Error>
-    ensures ok { IfOk result (λ e. ReadsMay spans (codes "break_if") (node_form a_break_if) (borrowed_view value.now) (option_view break_if_view e) numbering.old numbering.new) }
+    ensures ok { GivesIf result break_if_view spans (codes "break_if") (node_form a_break_if) value.now numbering.old numbering.new }
     ensures place { IfErr result (LocatesInside spans (codes "break_if") (node_form a_break_if) (borrowed_view value.now)) }
 {
     let Some(member) = value.get("break_if") else {
@@ -120,7 +120,7 @@ fn read_break_if(
     numbering: &mut Numbering,
     value: &BorrowedValue<'_>,
 ) -> Result<BreakIfStatement, Error>
-    ensures ok { IfOk result (λ e. Reads spans (node_form a_break_if) (borrowed_view value.now) (break_if_view e) numbering.old numbering.new) }
+    ensures ok { GivesForm result break_if_view spans (node_form a_break_if) value.now numbering.old numbering.new }
     ensures place { IfErr result (Locates spans (node_form a_break_if) (borrowed_view value.now)) }
 {
     match keyed_attributes(alloc, spans, numbering, value, false, &["attrs", "expr"]) {

@@ -1,10 +1,11 @@
 //! Reading statements that hold no other statement (WGSL, "Statements").
-ghost use Rattle.std.specs.Prelude.{IfOk, IfErr};
+ghost use Rattle.std.specs.Prelude.{IfErr};
 ghost use Rattle.wesl_json_form.specs.View.{borrowed_view};
 ghost use Rattle.wesl_tree_syntax.specs.View.{statement_view};
 ghost use Rattle.wesl_json_read.specs.Faults.{LocatesRow};
 ghost use Rattle.wesl_json_read_statements.specs.declared.words.StatementWord.TheVariants as stated;
 ghost use Rattle.wesl_json_read_statements.specs.Forms.{ReadsStatement, jump_word, statement_worded, step_word};
+ghost use Rattle.wesl_json_read.specs.Gives.{Gives};
 
 use crate::parts::call_member;
 use crate::words::{JumpWord, StepWord, assignment_member};
@@ -23,7 +24,7 @@ pub(crate) fn read_assignment(
     numbering: &mut Numbering,
     value: &BorrowedValue<'_>,
 ) -> Result<Statement, Error>
-    ensures ok { IfOk result (λ e. ReadsStatement spans stated.Assign (borrowed_view value.now) (statement_view e) numbering.old numbering.new) }
+    ensures ok { Gives result statement_view (ReadsStatement spans stated.Assign) value.now numbering.old numbering.new }
     ensures place { IfErr result (LocatesRow spans (statement_worded spans stated.Assign) (borrowed_view value.now)) }
 {
     if !wesl_json_form::has_only_beside(value, spans, "span", &["k", "op", "attrs", "lhs", "rhs"]) {
@@ -57,7 +58,7 @@ pub(crate) fn read_step(
     value: &BorrowedValue<'_>,
     word: StepWord,
 ) -> Result<Statement, Error>
-    ensures ok { IfOk result (λ e. ReadsStatement spans (step_word word) (borrowed_view value.now) (statement_view e) numbering.old numbering.new) }
+    ensures ok { Gives result statement_view (ReadsStatement spans (step_word word)) value.now numbering.old numbering.new }
     ensures place { IfErr result (LocatesRow spans (statement_worded spans (step_word word)) (borrowed_view value.now)) }
 {
     match keyed_attributes(
@@ -93,7 +94,7 @@ pub(crate) fn read_jump(
     value: &BorrowedValue<'_>,
     word: JumpWord,
 ) -> Result<Statement, Error>
-    ensures ok { IfOk result (λ e. ReadsStatement spans (jump_word word) (borrowed_view value.now) (statement_view e) numbering.old numbering.new) }
+    ensures ok { Gives result statement_view (ReadsStatement spans (jump_word word)) value.now numbering.old numbering.new }
     ensures place { IfErr result (LocatesRow spans (statement_worded spans (jump_word word)) (borrowed_view value.now)) }
 {
     match keyed_attributes(alloc, spans, numbering, value, spans, &["k", "attrs"]) {
@@ -113,7 +114,7 @@ pub(crate) fn read_return(
     numbering: &mut Numbering,
     value: &BorrowedValue<'_>,
 ) -> Result<Statement, Error>
-    ensures ok { IfOk result (λ e. ReadsStatement spans stated.Return (borrowed_view value.now) (statement_view e) numbering.old numbering.new) }
+    ensures ok { Gives result statement_view (ReadsStatement spans stated.Return) value.now numbering.old numbering.new }
     ensures place { IfErr result (LocatesRow spans (statement_worded spans stated.Return) (borrowed_view value.now)) }
 {
     match keyed_attributes(
@@ -142,7 +143,7 @@ pub(crate) fn read_call_statement(
     numbering: &mut Numbering,
     value: &BorrowedValue<'_>,
 ) -> Result<Statement, Error>
-    ensures ok { IfOk result (λ e. ReadsStatement spans stated.Call (borrowed_view value.now) (statement_view e) numbering.old numbering.new) }
+    ensures ok { Gives result statement_view (ReadsStatement spans stated.Call) value.now numbering.old numbering.new }
     ensures place { IfErr result (LocatesRow spans (statement_worded spans stated.Call) (borrowed_view value.now)) }
 {
     match keyed_attributes(

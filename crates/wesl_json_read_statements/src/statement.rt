@@ -1,17 +1,16 @@
 //! Reading statements and blocks (WGSL, "Statements").
-ghost use Rattle.std.specs.Prelude.{Bool, IfOk, IfErr, codes};
-ghost use Rattle.std.specs.Box.{box_value};
+ghost use Rattle.std.specs.Prelude.{IfOk, IfErr, codes};
 ghost use Rattle.wesl_json_form.specs.View.{borrowed_view};
-ghost use Rattle.wesl_tree_syntax.specs.Tree.{clauses, list, statements};
-ghost use Rattle.wesl_tree_syntax.specs.View.{clause_view, compound_view, continuing_view, else_if_view, else_view, listed, optional as option_view, statement_tree, statement_view};
+ghost use Rattle.wesl_tree_syntax.specs.Tree.{clauses, list};
+ghost use Rattle.wesl_tree_syntax.specs.View.{clause_view, compound_view, continuing_view, else_if_view, else_view, listed, statement_tree, statement_view};
 ghost use Rattle.wesl_json_form.specs.Nodes.{condition_row};
-ghost use Rattle.wesl_json_form.specs.Schema.{a_body, a_clause, a_continuing, a_statement, an_elif, an_else, list_of, node as node_form};
-ghost use Rattle.wesl_json_read.specs.Faults.{Locates, LocatesInside, LocatesMember, LocatesRow};
+ghost use Rattle.wesl_json_form.specs.Schema.{a_body, a_clause, a_continuing, a_statement, an_elif, an_else, node as node_form};
+ghost use Rattle.wesl_json_read.specs.Faults.{Locates, LocatesAlways, LocatesInside, LocatesMember, LocatesRow};
 ghost use Rattle.wesl_json_read.specs.Forms.{HasWord};
-ghost use Rattle.wesl_json_read.specs.Numbers.{Reads, ReadsMany, ReadsMay, ReadsNeeded, ReadsRows};
 ghost use Rattle.wesl_json_read_statements.specs.declared.words.StatementWord.TheVariants as stated;
-ghost use Rattle.wesl_json_read_statements.specs.Forms.{LocatesCondition, LocatesTurn, ReadsStatement, statement_text, statement_worded, turn_members};
-ghost use Rattle.wesl_json_read_statements.specs.Views.{condition_forest, turn_forest};
+ghost use Rattle.wesl_json_read_statements.specs.Forms.{LocatesCondition, LocatesTurn, ReadsStatement, some_clauses, some_elifs, some_statements, statement_text, statement_worded, turn_members};
+ghost use Rattle.wesl_json_read_statements.specs.Views.{boxed_statement, condition_forest, statements_tree, turn_forest};
+ghost use Rattle.wesl_json_read.specs.Gives.{Gives, GivesForm, GivesIf, GivesMany, GivesNeeded, GivesRow};
 
 use crate::declared::{read_declared, statement_of};
 use crate::selector::{cases_member, optional_break_if};
@@ -37,7 +36,7 @@ pub(crate) fn read_statement(
     numbering: &mut Numbering,
     value: &BorrowedValue<'_>,
 ) -> Result<StatementNode, Error>
-    ensures ok { IfOk result (λ e. Reads spans (node_form a_statement) (borrowed_view value.now) (statement_tree e) numbering.old numbering.new) }
+    ensures ok { GivesForm result statement_tree spans (node_form a_statement) value.now numbering.old numbering.new }
     ensures place { IfErr result (Locates spans (node_form a_statement) (borrowed_view value.now)) }
 {
     match statement_word_of(alloc, value) {
@@ -55,7 +54,7 @@ pub(crate) fn read_statement(
 // The word at `k`.
 fn statement_word_of(alloc: Global, value: &BorrowedValue<'_>) -> Result<StatementWord, Error>
     ensures word { IfOk result (λ w. HasWord (statement_text w) (borrowed_view value.now)) }
-    ensures place { IfErr result (λ e. (spans : Bool) → Locates spans (node_form a_statement) (borrowed_view value.now) e) }
+    ensures place { IfErr result (LocatesAlways (node_form a_statement) (borrowed_view value.now)) }
 {
     let Some(word) = value.get("k") else {
         return Err(wrong(alloc));
@@ -74,7 +73,7 @@ fn read_worded(
     value: &BorrowedValue<'_>,
     word: StatementWord,
 ) -> Result<Statement, Error>
-    ensures ok { IfOk result (λ e. ReadsStatement spans word (borrowed_view value.now) (statement_view e) numbering.old numbering.new) }
+    ensures ok { Gives result statement_view (ReadsStatement spans word) value.now numbering.old numbering.new }
     ensures place { IfErr result (LocatesRow spans (statement_worded spans word) (borrowed_view value.now)) }
 {
     match word {
@@ -106,7 +105,7 @@ fn read_block(
     numbering: &mut Numbering,
     value: &BorrowedValue<'_>,
 ) -> Result<Statement, Error>
-    ensures ok { IfOk result (λ e. ReadsStatement spans stated.Block (borrowed_view value.now) (statement_view e) numbering.old numbering.new) }
+    ensures ok { Gives result statement_view (ReadsStatement spans stated.Block) value.now numbering.old numbering.new }
     ensures place { IfErr result (LocatesRow spans (statement_worded spans stated.Block) (borrowed_view value.now)) }
 {
     match keyed_attributes(
@@ -135,7 +134,7 @@ fn read_if(
     numbering: &mut Numbering,
     value: &BorrowedValue<'_>,
 ) -> Result<Statement, Error>
-    ensures ok { IfOk result (λ e. ReadsStatement spans stated.If (borrowed_view value.now) (statement_view e) numbering.old numbering.new) }
+    ensures ok { Gives result statement_view (ReadsStatement spans stated.If) value.now numbering.old numbering.new }
     ensures place { IfErr result (LocatesRow spans (statement_worded spans stated.If) (borrowed_view value.now)) }
 {
     match keyed_attributes(
@@ -172,7 +171,7 @@ fn read_switch(
     numbering: &mut Numbering,
     value: &BorrowedValue<'_>,
 ) -> Result<Statement, Error>
-    ensures ok { IfOk result (λ e. ReadsStatement spans stated.Switch (borrowed_view value.now) (statement_view e) numbering.old numbering.new) }
+    ensures ok { Gives result statement_view (ReadsStatement spans stated.Switch) value.now numbering.old numbering.new }
     ensures place { IfErr result (LocatesRow spans (statement_worded spans stated.Switch) (borrowed_view value.now)) }
 {
     match keyed_attributes(
@@ -215,7 +214,7 @@ fn read_loop(
     numbering: &mut Numbering,
     value: &BorrowedValue<'_>,
 ) -> Result<Statement, Error>
-    ensures ok { IfOk result (λ e. ReadsStatement spans stated.Loop (borrowed_view value.now) (statement_view e) numbering.old numbering.new) }
+    ensures ok { Gives result statement_view (ReadsStatement spans stated.Loop) value.now numbering.old numbering.new }
     ensures place { IfErr result (LocatesRow spans (statement_worded spans stated.Loop) (borrowed_view value.now)) }
 {
     match keyed_attributes(
@@ -248,7 +247,7 @@ fn read_for(
     numbering: &mut Numbering,
     value: &BorrowedValue<'_>,
 ) -> Result<Statement, Error>
-    ensures ok { IfOk result (λ e. ReadsStatement spans stated.For (borrowed_view value.now) (statement_view e) numbering.old numbering.new) }
+    ensures ok { Gives result statement_view (ReadsStatement spans stated.For) value.now numbering.old numbering.new }
     ensures place { IfErr result (LocatesRow spans (statement_worded spans stated.For) (borrowed_view value.now)) }
 {
     match keyed_attributes(
@@ -291,7 +290,7 @@ fn turn_parts(
     ),
     Error,
 >
-    ensures ok { IfOk result (λ parts. ReadsRows spans turn_members (borrowed_view value.now) (turn_forest parts.0 parts.1 parts.2) numbering.old numbering.new) }
+    ensures ok { GivesRow result (λ p. turn_forest p.0 p.1 p.2) spans turn_members value.now numbering.old numbering.new }
     ensures place { IfErr result (LocatesTurn spans (borrowed_view value.now)) }
 {
     match optional_expression(alloc, spans, numbering, value, "cond") {
@@ -313,7 +312,7 @@ fn read_while(
     numbering: &mut Numbering,
     value: &BorrowedValue<'_>,
 ) -> Result<Statement, Error>
-    ensures ok { IfOk result (λ e. ReadsStatement spans stated.While (borrowed_view value.now) (statement_view e) numbering.old numbering.new) }
+    ensures ok { Gives result statement_view (ReadsStatement spans stated.While) value.now numbering.old numbering.new }
     ensures place { IfErr result (LocatesRow spans (statement_worded spans stated.While) (borrowed_view value.now)) }
 {
     match keyed_attributes(
@@ -344,7 +343,7 @@ fn condition_parts(
     numbering: &mut Numbering,
     value: &BorrowedValue<'_>,
 ) -> Result<(ExpressionNode, CompoundStatement), Error>
-    ensures ok { IfOk result (λ parts. ReadsRows spans condition_row (borrowed_view value.now) (condition_forest parts.0 parts.1) numbering.old numbering.new) }
+    ensures ok { GivesRow result (λ p. condition_forest p.0 p.1) spans condition_row value.now numbering.old numbering.new }
     ensures place { IfErr result (LocatesCondition spans (borrowed_view value.now)) }
 {
     match expression_member(alloc, spans, numbering, value, "cond") {
@@ -364,7 +363,7 @@ pub fn body_member(
     numbering: &mut Numbering,
     value: &BorrowedValue<'_>,
 ) -> Result<CompoundStatement, Error>
-    ensures ok { IfOk result (λ e. ReadsNeeded spans (codes "body") (node_form a_body) (borrowed_view value.now) (compound_view e) numbering.old numbering.new) }
+    ensures ok { GivesNeeded result compound_view spans (codes "body") (node_form a_body) value.now numbering.old numbering.new }
     ensures place { IfErr result (LocatesMember spans (codes "body") (node_form a_body) (borrowed_view value.now)) }
 {
     let Some(member) = value.get("body") else {
@@ -380,7 +379,7 @@ fn read_body(
     numbering: &mut Numbering,
     value: &BorrowedValue<'_>,
 ) -> Result<CompoundStatement, Error>
-    ensures ok { IfOk result (λ e. Reads spans (node_form a_body) (borrowed_view value.now) (compound_view e) numbering.old numbering.new) }
+    ensures ok { GivesForm result compound_view spans (node_form a_body) value.now numbering.old numbering.new }
     ensures place { IfErr result (Locates spans (node_form a_body) (borrowed_view value.now)) }
 {
     match keyed_attributes(alloc, spans, numbering, value, false, &["attrs", "stmts"]) {
@@ -403,8 +402,8 @@ fn statements_member(
     numbering: &mut Numbering,
     value: &BorrowedValue<'_>,
 ) -> Result<Vec<StatementNode>, Error>
-    ensures ok { IfOk result (λ e. ReadsMany spans (codes "stmts") (list_of statements a_statement) (borrowed_view value.now) (listed statement_tree statements e) numbering.old numbering.new) }
-    ensures place { IfErr result (LocatesInside spans (codes "stmts") (list_of statements a_statement) (borrowed_view value.now)) }
+    ensures ok { GivesMany result statements_tree spans (codes "stmts") some_statements value.now numbering.old numbering.new }
+    ensures place { IfErr result (LocatesInside spans (codes "stmts") some_statements (borrowed_view value.now)) }
 {
     let Some(member) = value.get("stmts") else {
         return Ok(Vec::new(alloc));
@@ -423,8 +422,8 @@ fn read_statements(
     numbering: &mut Numbering,
     value: &BorrowedValue<'_>,
 ) -> Result<Vec<StatementNode>, Error>
-    ensures ok { IfOk result (λ e. Reads spans (list_of statements a_statement) (borrowed_view value.now) (listed statement_tree statements e) numbering.old numbering.new) }
-    ensures place { IfErr result (Locates spans (list_of statements a_statement) (borrowed_view value.now)) }
+    ensures ok { GivesForm result statements_tree spans some_statements value.now numbering.old numbering.new }
+    ensures place { IfErr result (Locates spans some_statements (borrowed_view value.now)) }
 {
     let Some(items) = value.as_array() else {
         return Err(wrong(alloc));
@@ -450,7 +449,7 @@ fn optional_statement(
     value: &BorrowedValue<'_>,
     key: &str,
 ) -> Result<Option<Box<StatementNode>>, Error>
-    ensures ok { IfOk result (λ e. ReadsMay spans key.now (node_form a_statement) (borrowed_view value.now) (option_view (λ s. statement_tree (box_value s)) e) numbering.old numbering.new) }
+    ensures ok { GivesIf result boxed_statement spans key.now (node_form a_statement) value.now numbering.old numbering.new }
     ensures place { IfErr result (LocatesInside spans key.now (node_form a_statement) (borrowed_view value.now)) }
 {
     let Some(member) = value.get(key) else {
@@ -471,8 +470,8 @@ fn elifs_member(
     numbering: &mut Numbering,
     value: &BorrowedValue<'_>,
 ) -> Result<Vec<ElseIfClause>, Error>
-    ensures ok { IfOk result (λ e. ReadsMany spans (codes "elifs") (list_of list an_elif) (borrowed_view value.now) (listed else_if_view list e) numbering.old numbering.new) }
-    ensures place { IfErr result (LocatesInside spans (codes "elifs") (list_of list an_elif) (borrowed_view value.now)) }
+    ensures ok { GivesMany result (listed else_if_view list) spans (codes "elifs") some_elifs value.now numbering.old numbering.new }
+    ensures place { IfErr result (LocatesInside spans (codes "elifs") some_elifs (borrowed_view value.now)) }
 {
     let Some(member) = value.get("elifs") else {
         return Ok(Vec::new(alloc));
@@ -487,8 +486,8 @@ fn read_elifs(
     numbering: &mut Numbering,
     value: &BorrowedValue<'_>,
 ) -> Result<Vec<ElseIfClause>, Error>
-    ensures ok { IfOk result (λ e. Reads spans (list_of list an_elif) (borrowed_view value.now) (listed else_if_view list e) numbering.old numbering.new) }
-    ensures place { IfErr result (Locates spans (list_of list an_elif) (borrowed_view value.now)) }
+    ensures ok { GivesForm result (listed else_if_view list) spans some_elifs value.now numbering.old numbering.new }
+    ensures place { IfErr result (Locates spans some_elifs (borrowed_view value.now)) }
 {
     let Some(items) = value.as_array() else {
         return Err(wrong(alloc));
@@ -512,7 +511,7 @@ fn read_elif(
     numbering: &mut Numbering,
     value: &BorrowedValue<'_>,
 ) -> Result<ElseIfClause, Error>
-    ensures ok { IfOk result (λ e. Reads spans (node_form an_elif) (borrowed_view value.now) (else_if_view e) numbering.old numbering.new) }
+    ensures ok { GivesForm result else_if_view spans (node_form an_elif) value.now numbering.old numbering.new }
     ensures place { IfErr result (Locates spans (node_form an_elif) (borrowed_view value.now)) }
 {
     match keyed_attributes(
@@ -543,7 +542,7 @@ fn optional_else(
     numbering: &mut Numbering,
     value: &BorrowedValue<'_>,
 ) -> Result<Option<ElseClause>, Error>
-    ensures ok { IfOk result (λ e. ReadsMay spans (codes "else") (node_form an_else) (borrowed_view value.now) (option_view else_view e) numbering.old numbering.new) }
+    ensures ok { GivesIf result else_view spans (codes "else") (node_form an_else) value.now numbering.old numbering.new }
     ensures place { IfErr result (LocatesInside spans (codes "else") (node_form an_else) (borrowed_view value.now)) }
 {
     let Some(member) = value.get("else") else {
@@ -559,7 +558,7 @@ fn read_else(
     numbering: &mut Numbering,
     value: &BorrowedValue<'_>,
 ) -> Result<ElseClause, Error>
-    ensures ok { IfOk result (λ e. Reads spans (node_form an_else) (borrowed_view value.now) (else_view e) numbering.old numbering.new) }
+    ensures ok { GivesForm result else_view spans (node_form an_else) value.now numbering.old numbering.new }
     ensures place { IfErr result (Locates spans (node_form an_else) (borrowed_view value.now)) }
 {
     match keyed_attributes(alloc, spans, numbering, value, false, &["attrs", "body"]) {
@@ -579,8 +578,8 @@ fn clauses_member(
     numbering: &mut Numbering,
     value: &BorrowedValue<'_>,
 ) -> Result<Vec<SwitchClause>, Error>
-    ensures ok { IfOk result (λ e. ReadsMany spans (codes "clauses") (list_of clauses a_clause) (borrowed_view value.now) (listed clause_view clauses e) numbering.old numbering.new) }
-    ensures place { IfErr result (LocatesInside spans (codes "clauses") (list_of clauses a_clause) (borrowed_view value.now)) }
+    ensures ok { GivesMany result (listed clause_view clauses) spans (codes "clauses") some_clauses value.now numbering.old numbering.new }
+    ensures place { IfErr result (LocatesInside spans (codes "clauses") some_clauses (borrowed_view value.now)) }
 {
     let Some(member) = value.get("clauses") else {
         return Ok(Vec::new(alloc));
@@ -599,8 +598,8 @@ fn read_clauses(
     numbering: &mut Numbering,
     value: &BorrowedValue<'_>,
 ) -> Result<Vec<SwitchClause>, Error>
-    ensures ok { IfOk result (λ e. Reads spans (list_of clauses a_clause) (borrowed_view value.now) (listed clause_view clauses e) numbering.old numbering.new) }
-    ensures place { IfErr result (Locates spans (list_of clauses a_clause) (borrowed_view value.now)) }
+    ensures ok { GivesForm result (listed clause_view clauses) spans some_clauses value.now numbering.old numbering.new }
+    ensures place { IfErr result (Locates spans some_clauses (borrowed_view value.now)) }
 {
     let Some(items) = value.as_array() else {
         return Err(wrong(alloc));
@@ -624,7 +623,7 @@ fn read_clause(
     numbering: &mut Numbering,
     value: &BorrowedValue<'_>,
 ) -> Result<SwitchClause, Error>
-    ensures ok { IfOk result (λ e. Reads spans (node_form a_clause) (borrowed_view value.now) (clause_view e) numbering.old numbering.new) }
+    ensures ok { GivesForm result clause_view spans (node_form a_clause) value.now numbering.old numbering.new }
     ensures place { IfErr result (Locates spans (node_form a_clause) (borrowed_view value.now)) }
 {
     match keyed_attributes(
@@ -658,7 +657,7 @@ fn optional_continuing(
     numbering: &mut Numbering,
     value: &BorrowedValue<'_>,
 ) -> Result<Option<ContinuingStatement>, Error>
-    ensures ok { IfOk result (λ e. ReadsMay spans (codes "continuing") (node_form a_continuing) (borrowed_view value.now) (option_view continuing_view e) numbering.old numbering.new) }
+    ensures ok { GivesIf result continuing_view spans (codes "continuing") (node_form a_continuing) value.now numbering.old numbering.new }
     ensures place { IfErr result (LocatesInside spans (codes "continuing") (node_form a_continuing) (borrowed_view value.now)) }
 {
     let Some(member) = value.get("continuing") else {
@@ -678,7 +677,7 @@ fn read_continuing(
     numbering: &mut Numbering,
     value: &BorrowedValue<'_>,
 ) -> Result<ContinuingStatement, Error>
-    ensures ok { IfOk result (λ e. Reads spans (node_form a_continuing) (borrowed_view value.now) (continuing_view e) numbering.old numbering.new) }
+    ensures ok { GivesForm result continuing_view spans (node_form a_continuing) value.now numbering.old numbering.new }
     ensures place { IfErr result (Locates spans (node_form a_continuing) (borrowed_view value.now)) }
 {
     match keyed_attributes(

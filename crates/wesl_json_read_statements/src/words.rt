@@ -1,6 +1,5 @@
 //! The words of statements, and of what stands in modules and in functions.
-ghost use Rattle.std.specs.Prelude.{◌≡◌, Bool, Some, None, IfOk, IfErr, IfSome, codes, option_map, option_and_then};
-ghost use Rattle.serde_json.specs.Find.{get};
+ghost use Rattle.std.specs.Prelude.{◌≡◌, Bool, Some, IfOk, IfErr, IfSome, codes, option_map};
 ghost use Rattle.wesl_json_form.specs.View.{borrowed_view};
 ghost use Rattle.wesl_tree_syntax.specs.Tree.{Kind, access, assignment, space};
 ghost use Rattle.wesl_json_form.specs.Nodes.{declared_words, statement_words};
@@ -8,6 +7,7 @@ ghost use Rattle.wesl_json_form.specs.Schema.{look};
 ghost use Rattle.wesl_json_form.specs.Words.{access_words, assignment_words, space_words};
 ghost use Rattle.wesl_json_form.specs.Reading.{word_in};
 ghost use Rattle.wesl_json_read.specs.Faults.{LocatesHere, LocatesText};
+ghost use Rattle.wesl_json_read.specs.Forms.{word_at};
 ghost use Rattle.wesl_json_read_statements.specs.Forms.{declared_of, declared_text, statement_of, statement_text};
 
 use std::alloc::Global;
@@ -194,7 +194,7 @@ pub(crate) fn assignment_member(
     alloc: Global,
     value: &BorrowedValue<'_>,
 ) -> Result<AssignmentOperator, Error>
-    ensures ok { IfOk result (λ o. option_and_then (word_in assignment_words) (get (codes "op") (borrowed_view value.now)) ≡ Some (assignment o)) }
+    ensures ok { IfOk result (λ o. word_at assignment_words (codes "op") (borrowed_view value.now) ≡ Some (assignment o)) }
     ensures place { IfErr result (LocatesText (word_in assignment_words) (codes "op") (borrowed_view value.now)) }
 {
     let Some(member) = value.get("op") else {
@@ -205,7 +205,7 @@ pub(crate) fn assignment_member(
 
 /// The address space at `space`.
 pub(crate) fn space_member(alloc: Global, value: &BorrowedValue<'_>) -> Result<AddressSpace, Error>
-    ensures ok { IfOk result (λ o. option_and_then (word_in space_words) (get (codes "space") (borrowed_view value.now)) ≡ Some (space o)) }
+    ensures ok { IfOk result (λ o. word_at space_words (codes "space") (borrowed_view value.now) ≡ Some (space o)) }
     ensures place { IfErr result (LocatesText (word_in space_words) (codes "space") (borrowed_view value.now)) }
 {
     let Some(member) = value.get("space") else {

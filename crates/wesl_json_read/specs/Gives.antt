@@ -1,0 +1,76 @@
+-- What a result says of a value of JSON, where it is no fault: the part that is read, as a tree, and the names that are numbered by then.
+use Rattle.std.specs.Prelude.{◌≡◌, ◌∷◌, [], Bool, List, Option, Result, Ok, IfOk}
+use Rattle.std.specs.Box.{box_value}
+use Rattle.std.specs.Global.{Box}
+use Rattle.serde_json.specs.Data.{Data}
+use Rattle.wesl_tree_names.specs.Path.{Text}
+use Rattle.wesl_tree_names.specs.declared.errors.Error as error
+use Rattle.wesl_tree_names.specs.declared.names.Ident.{Ident}
+use Rattle.wesl_tree_syntax.specs.Tree.{Forest, Role, Tree, attribute_node, branch, template_argument}
+use Rattle.wesl_tree_syntax.specs.View.{argument_view, attribute_view, expression_tree, ident_tree, optional, placed}
+use Rattle.wesl_tree_syntax.specs.declared.attribute.Attribute.{Attribute}
+use Rattle.wesl_tree_syntax.specs.declared.expression.Expression.{Expression}
+use Rattle.wesl_tree_syntax.specs.declared.expression.TemplateArg.{TemplateArg}
+use Rattle.wesl_tree_syntax.specs.declared.span.Spanned.{Spanned}
+use Rattle.wesl_json_form.specs.Schema.{Form, Row, an_ident, leaf}
+use Rattle.wesl_json_form.specs.View.{borrowed_view}
+use Rattle.wesl_json_form.specs.declared.value.BorrowedValue.{BorrowedValue}
+use Rattle.wesl_json_read.specs.Numbers.{Reads, ReadsMany, ReadsMay, ReadsNeeded, ReadsRows}
+
+-- the trees of an attribute, and of an expression in a box
+abbrev pub placed_attribute : Spanned Attribute → Tree
+placed_attribute = placed attribute_view attribute_node
+
+abbrev pub boxed_expression : Box (Spanned Expression) → Tree
+boxed_expression b = expression_tree (box_value b)
+
+-- what is read is an expression, and this is the template argument that it is
+abbrev pub IsArgumentOf : Result (Spanned Expression) error.Error → TemplateArg → Type 0
+IsArgumentOf read a = (e : Spanned Expression) × (read ≡ Ok e) × (argument_view a ≡ branch template_argument (expression_tree e ∷ []))
+
+module _ {A : Type 0} (r : Result A error.Error) (view : A → Tree) where
+  -- the relation reads the value as the part
+  abbrev pub Gives : (Data → Tree → List Text → List Text → Type 0) → BorrowedValue → List Text → List Text → Type 0
+  Gives reads v old new = IfOk r (λ e. reads (borrowed_view v) (view e) old new)
+
+  -- the same, and no name is numbered
+  abbrev pub GivesPlain : (Data → Tree → List Text → List Text → Type 0) → BorrowedValue → Type 0
+  GivesPlain reads v = IfOk r (λ e. (names : List Text) → reads (borrowed_view v) (view e) names names)
+
+  module _ (spans : Bool) where
+    -- the value is read as the part
+    abbrev pub GivesForm : Form → BorrowedValue → List Text → List Text → Type 0
+    GivesForm f v old new = IfOk r (λ e. Reads spans f (borrowed_view v) (view e) old new)
+
+    -- its member k, which must be there
+    abbrev pub GivesNeeded : Text → Form → BorrowedValue → List Text → List Text → Type 0
+    GivesNeeded k f v old new = IfOk r (λ e. ReadsNeeded spans k f (borrowed_view v) (view e) old new)
+
+    -- its member k, a list
+    abbrev pub GivesMany : Text → Form → BorrowedValue → List Text → List Text → Type 0
+    GivesMany k f v old new = IfOk r (λ e. ReadsMany spans k f (borrowed_view v) (view e) old new)
+
+  -- the same whether spans are read or not, and no name is numbered
+  abbrev pub GivesFormAlways : Form → BorrowedValue → Type 0
+  GivesFormAlways f v = IfOk r (λ e. (spans : Bool) (names : List Text) → Reads spans f (borrowed_view v) (view e) names names)
+
+  abbrev pub GivesNeededAlways : Text → Form → BorrowedValue → Type 0
+  GivesNeededAlways k f v = IfOk r (λ e. (spans : Bool) (names : List Text) → ReadsNeeded spans k f (borrowed_view v) (view e) names names)
+
+  abbrev pub GivesManyAlways : Text → Form → BorrowedValue → Type 0
+  GivesManyAlways k f v = IfOk r (λ e. (spans : Bool) (names : List Text) → ReadsMany spans k f (borrowed_view v) (view e) names names)
+
+-- its member k, if it is there
+abbrev pub GivesIf : {A : Type 0} → Result (Option A) error.Error → (A → Tree) → Bool → Text → Form → BorrowedValue → List Text → List Text → Type 0
+GivesIf r view spans k f v old new = IfOk r (λ e. ReadsMay spans k f (borrowed_view v) (optional view e) old new)
+
+abbrev pub GivesIfAlways : {A : Type 0} → Result (Option A) error.Error → (A → Tree) → Text → Form → BorrowedValue → Type 0
+GivesIfAlways r view k f v = IfOk r (λ e. (spans : Bool) (names : List Text) → ReadsMay spans k f (borrowed_view v) (optional view e) names names)
+
+-- its member k, a name in this role
+abbrev pub GivesIdent : Result Ident error.Error → Role → Text → BorrowedValue → List Text → List Text → Type 0
+GivesIdent r role k v old new = IfOk r (λ i. (spans : Bool) → ReadsNeeded spans k (leaf (an_ident role)) (borrowed_view v) (ident_tree role i) old new)
+
+-- its members, as trees after one another
+abbrev pub GivesRow : {A : Type 0} → Result A error.Error → (A → Forest) → Bool → Row → BorrowedValue → List Text → List Text → Type 0
+GivesRow r view spans row v old new = IfOk r (λ e. ReadsRows spans row (borrowed_view v) (view e) old new)
