@@ -1,3 +1,4 @@
 pub mod Forms
 pub mod Noted
 pub mod Worded
+pub mod UnitLists

@@ -5,11 +5,14 @@ use Rattle.serde_json.specs.Data.{Data, Items, array}
 use Rattle.serde_json.specs.Find.{get}
 use Rattle.wesl_tree_names.specs.Path.{Text}
 use Rattle.wesl_tree_names.specs.declared.errors.Error as error
-use Rattle.wesl_tree_syntax.specs.Tree.{Kind, Tree}
+use Rattle.wesl_tree_names.specs.declared.names.Ident.{Ident}
+use Rattle.wesl_tree_syntax.specs.Tree.{Kind, Role, Tree}
+use Rattle.wesl_tree_syntax.specs.View.{ident_tree}
 use Rattle.wesl_json_form.specs.Keys.{has_only, keys_beside}
 use Rattle.wesl_json_form.specs.Pointer.{Part}
-use Rattle.wesl_json_form.specs.Schema.{Form, Name, list_of}
+use Rattle.wesl_json_form.specs.Schema.{Form, Name, an_ident, leaf, list_of}
 use Rattle.wesl_json_read.specs.Faults.{IsAtRoot, IsUnderPart, Locates, LocatesInside, LocatesMember}
+use Rattle.wesl_json_read.specs.Keyed.{HasKeys}
 use Rattle.wesl_json_read.specs.Numbers.{Reads, ReadsMany, ReadsMay, ReadsNeeded}
 use Rattle.wesl_json_read_unit.specs.declared.reader.Reader.{Reader}
 use Rattle.wesl_json_read_unit.specs.declared.reader.Fault.{Fault}
@@ -44,9 +47,15 @@ NotesMay k f d t = Notes (λ spans. ReadsMay spans k f d t) (λ spans. LocatesIn
 abbrev pub NotesMany : Text → Form → Data → Tree → Reader → Reader → Type 0
 NotesMany k f d t = Notes (λ spans. ReadsMany spans k f d t) (λ spans. LocatesInside spans k f d)
 
+-- a member that must be there is read as this name, in this role
+abbrev pub NotesIdent : Role → Text → Data → Ident → Reader → Reader → Type 0
+NotesIdent role k d i = NotesNeeded k (leaf (an_ident role)) d (ident_tree role i)
+
 -- the object has no keys but these, and `span` where it takes one
 abbrev pub NotesKeys : Bool → List Text → Data → Reader → Reader → Type 0
-NotesKeys takes_span ks d = Notes (λ _ old new. (new ≡ old) × (has_only (keys_beside takes_span (codes "span") ks) d ≡ true)) (λ _ e. IsAtRoot e × (has_only (keys_beside takes_span (codes "span") ks) d ≡ false))
+NotesKeys takes_span ks d =
+    Notes (λ _ old new. (new ≡ old) × HasKeys takes_span ks d)
+    (λ _ e. IsAtRoot e × (has_only (keys_beside takes_span (codes "span") ks) d ≡ false))
 
 -- a fault is told of what has the faulty value at a part
 pub record IsTold (part : Part) (old new : Reader) : Type 0 where

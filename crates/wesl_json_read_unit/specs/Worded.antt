@@ -1,10 +1,10 @@
 -- What reading notes of an object by its word, and of spans and names.
-use Rattle.std.specs.Prelude.{◌≡◌, ℕ, List, Option, Some, codes, if◌then◌else◌, is_some, option_and_then}
+use Rattle.std.specs.Prelude.{◌≡◌, ℕ, Bool, List, Option, Some, codes, if◌then◌else◌, is_some, option_and_then}
 use Rattle.serde_json.specs.Data.{Data}
 use Rattle.serde_json.specs.Find.{get}
 use Rattle.wesl_tree_names.specs.Path.{Text}
 use Rattle.wesl_tree_names.specs.declared.names.Ident.{Ident}
-use Rattle.wesl_tree_syntax.specs.Tree.{Role, Tree, binder, ident, leaf as leaf_tree, word}
+use Rattle.wesl_tree_syntax.specs.Tree.{Role, Tree, binder, word}
 use Rattle.wesl_tree_syntax.specs.View.{ident_tree, optional}
 use Rattle.wesl_json_form.specs.Reading.{name_in, span_in}
 use Rattle.wesl_json_form.specs.Schema.{a_declaration, a_directive, an_ident, leaf, node}
@@ -14,7 +14,7 @@ use Rattle.wesl_json_read.specs.Numbers.{IsNumbered, ReadsMay}
 use Rattle.wesl_json_read_statements.specs.Forms.{ReadsDeclared, declared_worded}
 use Rattle.wesl_json_read_statements.specs.declared.words.DeclaredWord.{DeclaredWord}
 use Rattle.wesl_json_read_unit.specs.Forms.{ReadsDeclaration, ReadsDirective, declaration_text, declaration_worded, directive_text, directive_worded}
-use Rattle.wesl_json_read_unit.specs.Noted.{Notes, NotesNeeded}
+use Rattle.wesl_json_read_unit.specs.Noted.{Notes, NotesIdent}
 use Rattle.wesl_json_read_unit.specs.declared.reader.Reader.{Reader}
 use Rattle.wesl_json_read_unit.specs.declared.words.DeclarationWord.{DeclarationWord}
 use Rattle.wesl_json_read_unit.specs.declared.words.DirectiveWord.{DirectiveWord}
@@ -45,11 +45,16 @@ abbrev pub item_role : Data → Role
 item_role d = if is_some (get (codes "as") d) then word else binder
 
 abbrev pub NotesItemName : Data → Ident → Reader → Reader → Type 0
-NotesItemName d i = NotesNeeded (codes "item") (leaf (an_ident (item_role d))) d (leaf_tree (ident (item_role d) i.0))
+NotesItemName d = NotesIdent (item_role d) (codes "item") d
 
 -- the other name of an imported item, where it has one
 abbrev pub NotesRename : Data → Option Ident → Reader → Reader → Type 0
-NotesRename d o = Notes (λ spans old new. (is_some o ≡ is_some (get (codes "as") d)) × ReadsMay spans (codes "as") (leaf (an_ident binder)) d (optional (ident_tree binder) o) old new) (λ spans. LocatesInside spans (codes "as") (leaf (an_ident binder)) d)
+NotesRename d o =
+    Notes (λ spans old new. (is_some o ≡ is_some (get (codes "as") d)) × ReadsMay spans (codes "as") (leaf (an_ident binder)) d (optional (ident_tree binder) o) old new)
+    (λ spans. LocatesInside spans (codes "as") (leaf (an_ident binder)) d)
+
+abbrev pub IsRename : Data → Option Ident → List Text → List Text → Type 0
+IsRename d o old new = (spans : Bool) → ReadsMay spans (codes "as") (leaf (an_ident binder)) d (optional (ident_tree binder) o) old new
 
 -- the name at `item` has this number
 abbrev pub IsItemName : Data → List Text → List Text → Ident → Type 0

@@ -1,13 +1,13 @@
 //! Reading the declarations of a module (WGSL, "Declaration and Scope").
 ghost use Rattle.std.specs.Prelude.{◌≡◌, codes};
 ghost use Rattle.wesl_json_form.specs.View.{borrowed_view};
-ghost use Rattle.wesl_tree_syntax.specs.Tree.{declaration_node, declarations, member_node, members, parameters};
-ghost use Rattle.wesl_tree_syntax.specs.View.{declarations_tree, function_view, global_view, listed, member_view, parameter_view, placed};
-ghost use Rattle.wesl_json_form.specs.Schema.{a_declaration, a_member, a_parameter, list_of, node as node_form};
+ghost use Rattle.wesl_tree_syntax.specs.View.{declarations_tree, function_view, global_view, parameter_view};
+ghost use Rattle.wesl_json_form.specs.Schema.{a_declaration, a_member, a_parameter, node as node_form};
 ghost use Rattle.wesl_json_read_statements.specs.Views.{declared_view};
 ghost use Rattle.wesl_json_read_unit.specs.declared.words.DeclarationWord.TheVariants as globals;
 ghost use Rattle.wesl_json_read_unit.specs.Noted.{NotesForm, NotesMany};
 ghost use Rattle.wesl_json_read_unit.specs.Worded.{NotesDeclaration, NotesDeclarationWord};
+ghost use Rattle.wesl_json_read_unit.specs.UnitLists.{global_tree, member_tree, members_tree, parameters_tree, some_globals, some_members, some_parameters};
 
 use crate::reader::Reader;
 use crate::words::{DeclarationWord, declaration_word};
@@ -21,7 +21,7 @@ use wesl_tree_syntax::{
 impl Reader {
     /// The declarations at `declarations`, a list.
     pub(crate) fn declarations(&mut self, value: &BorrowedValue<'_>) -> Vec<GlobalDeclarationNode>
-        ensures { NotesMany (codes "declarations") (list_of declarations a_declaration) (borrowed_view value.now) (declarations_tree result) self.old self.new }
+        ensures { NotesMany (codes "declarations") some_globals (borrowed_view value.now) (declarations_tree result) self.old self.new }
     {
         let Some(items) = self.list(value, "declarations") else {
             return Vec::new(self.alloc);
@@ -38,7 +38,7 @@ impl Reader {
     }
 
     fn declaration(&mut self, value: &BorrowedValue<'_>) -> GlobalDeclarationNode
-        ensures { NotesForm (node_form a_declaration) (borrowed_view value.now) (placed global_view declaration_node result) self.old self.new }
+        ensures { NotesForm (node_form a_declaration) (borrowed_view value.now) (global_tree result) self.old self.new }
     {
         let word = self.declaration_word(value);
         Spanned {
@@ -110,7 +110,7 @@ impl Reader {
 
     // The members at `members`, a list.
     fn members(&mut self, value: &BorrowedValue<'_>) -> Vec<StructMemberNode>
-        ensures { NotesMany (codes "members") (list_of members a_member) (borrowed_view value.now) (listed (placed member_view member_node) members result) self.old self.new }
+        ensures { NotesMany (codes "members") some_members (borrowed_view value.now) (members_tree result) self.old self.new }
     {
         let Some(items) = self.list(value, "members") else {
             return Vec::new(self.alloc);
@@ -127,7 +127,7 @@ impl Reader {
     }
 
     fn member(&mut self, value: &BorrowedValue<'_>) -> StructMemberNode
-        ensures { NotesForm (node_form a_member) (borrowed_view value.now) (placed member_view member_node result) self.old self.new }
+        ensures { NotesForm (node_form a_member) (borrowed_view value.now) (member_tree result) self.old self.new }
     {
         let span = self.span(value);
         self.keys(value, self.spans, &["attrs", "name", "ty"]);
@@ -143,7 +143,7 @@ impl Reader {
 
     // The parameters at `params`, a list.
     fn parameters(&mut self, value: &BorrowedValue<'_>) -> Vec<FormalParameter>
-        ensures { NotesMany (codes "params") (list_of parameters a_parameter) (borrowed_view value.now) (listed parameter_view parameters result) self.old self.new }
+        ensures { NotesMany (codes "params") some_parameters (borrowed_view value.now) (parameters_tree result) self.old self.new }
     {
         let Some(items) = self.list(value, "params") else {
             return Vec::new(self.alloc);

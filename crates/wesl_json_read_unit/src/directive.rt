@@ -1,11 +1,11 @@
 //! Reading directives (WGSL, "Directives").
-ghost use Rattle.std.specs.Prelude.{◌≡◌, IfNone, IfSome, codes};
+ghost use Rattle.std.specs.Prelude.{codes};
 ghost use Rattle.wesl_json_form.specs.View.{borrowed_view};
-ghost use Rattle.wesl_tree_syntax.specs.Tree.{directive_list, directive_node};
-ghost use Rattle.wesl_tree_syntax.specs.View.{directive_view, directives_tree, placed};
-ghost use Rattle.wesl_json_form.specs.Schema.{a_directive, list_of, node as node_form};
+ghost use Rattle.wesl_tree_syntax.specs.View.{directive_view, directives_tree};
+ghost use Rattle.wesl_json_form.specs.Schema.{a_directive, node as node_form};
 ghost use Rattle.wesl_json_read_unit.specs.Noted.{NotesForm, NotesMany};
 ghost use Rattle.wesl_json_read_unit.specs.Worded.{NotesDirective, NotesDirectiveWord};
+ghost use Rattle.wesl_json_read_unit.specs.UnitLists.{directive_tree, some_directives};
 
 use crate::reader::Reader;
 use crate::words::{DirectiveWord, directive_word};
@@ -15,7 +15,7 @@ use wesl_tree_syntax::{GlobalDirective, GlobalDirectiveNode, Spanned};
 impl Reader {
     /// The directives at `directives`, a list.
     pub(crate) fn directives(&mut self, value: &BorrowedValue<'_>) -> Vec<GlobalDirectiveNode>
-        ensures { NotesMany (codes "directives") (list_of directive_list a_directive) (borrowed_view value.now) (directives_tree result) self.old self.new }
+        ensures { NotesMany (codes "directives") some_directives (borrowed_view value.now) (directives_tree result) self.old self.new }
     {
         let Some(items) = self.list(value, "directives") else {
             return Vec::new(self.alloc);
@@ -32,7 +32,7 @@ impl Reader {
     }
 
     fn directive(&mut self, value: &BorrowedValue<'_>) -> GlobalDirectiveNode
-        ensures { NotesForm (node_form a_directive) (borrowed_view value.now) (placed directive_view directive_node result) self.old self.new }
+        ensures { NotesForm (node_form a_directive) (borrowed_view value.now) (directive_tree result) self.old self.new }
     {
         let word = self.directive_word(value);
         Spanned {

@@ -1,15 +1,15 @@
 //! Reading imports (WESL, "Imports").
-ghost use Rattle.std.specs.Prelude.{◌≡◌, Bool, IfErr, IfOk, codes, is_some, false, true};
+ghost use Rattle.std.specs.Prelude.{◌≡◌, IfErr, IfOk, codes, is_some, false};
 ghost use Rattle.serde_json.specs.Find.{get};
 ghost use Rattle.wesl_json_form.specs.View.{borrowed_view};
-ghost use Rattle.wesl_tree_syntax.specs.Tree.{binder, import_node, imports, list};
-ghost use Rattle.wesl_tree_syntax.specs.View.{content_view, entry_view, ident_tree, import_view, imports_tree, item_view, listed, optional as option_view, placed};
-ghost use Rattle.wesl_json_form.specs.Schema.{a_content, an_entry, an_ident, an_import, leaf, list_of, node as node_form};
-ghost use Rattle.wesl_json_read_unit.specs.Noted.{NotesForm, NotesMany, NotesMay, NotesNeeded};
+ghost use Rattle.wesl_tree_syntax.specs.Tree.{binder, list};
+ghost use Rattle.wesl_tree_syntax.specs.View.{content_view, entry_view, imports_tree, item_view, listed};
+ghost use Rattle.wesl_json_form.specs.Schema.{a_content, an_entry, an_ident, an_import, leaf, node as node_form};
+ghost use Rattle.wesl_json_read_unit.specs.Noted.{NotesForm, NotesMany, NotesNeeded};
 ghost use Rattle.wesl_json_form.specs.Reading.{name_in};
-ghost use Rattle.wesl_json_read.specs.Faults.{LocatesInside, LocatesText};
-ghost use Rattle.wesl_json_read.specs.Numbers.{ReadsMay};
-ghost use Rattle.wesl_json_read_unit.specs.Worded.{IsItemName, NotesItemName, NotesRename};
+ghost use Rattle.wesl_json_read.specs.Faults.{LocatesInsideAlways, LocatesText};
+ghost use Rattle.wesl_json_read_unit.specs.Worded.{IsItemName, IsRename, NotesItemName, NotesRename};
+ghost use Rattle.wesl_json_read_unit.specs.UnitLists.{import_tree, some_entries, some_imports};
 
 use crate::reader::Reader;
 use std::alloc::Global;
@@ -23,7 +23,7 @@ use wesl_tree_syntax::{
 impl Reader {
     /// The imports at `imports`, a list.
     pub(crate) fn imports(&mut self, value: &BorrowedValue<'_>) -> Vec<ImportStatementNode>
-        ensures { NotesMany (codes "imports") (list_of imports an_import) (borrowed_view value.now) (imports_tree result) self.old self.new }
+        ensures { NotesMany (codes "imports") some_imports (borrowed_view value.now) (imports_tree result) self.old self.new }
     {
         let Some(items) = self.list(value, "imports") else {
             return Vec::new(self.alloc);
@@ -40,7 +40,7 @@ impl Reader {
     }
 
     fn import(&mut self, value: &BorrowedValue<'_>) -> ImportStatementNode
-        ensures { NotesForm (node_form an_import) (borrowed_view value.now) (placed import_view import_node result) self.old self.new }
+        ensures { NotesForm (node_form an_import) (borrowed_view value.now) (import_tree result) self.old self.new }
     {
         let span = self.span(value);
         self.keys(value, self.spans, &["attrs", "path", "content"]);
@@ -83,7 +83,7 @@ impl Reader {
     // The entries at `list`.
     #[cycle(contents)]
     fn entries(&mut self, value: &BorrowedValue<'_>) -> Vec<Import>
-        ensures { NotesMany (codes "list") (list_of list an_entry) (borrowed_view value.now) (listed entry_view list result) self.old self.new }
+        ensures { NotesMany (codes "list") some_entries (borrowed_view value.now) (listed entry_view list result) self.old self.new }
     {
         let Some(items) = self.list(value, "list") else {
             return Vec::new(self.alloc);
@@ -166,9 +166,9 @@ fn optional_rename(
     numbering: &mut Numbering,
     value: &BorrowedValue<'_>,
 ) -> Result<Option<Ident>, Error>
-    ensures ok { IfOk result (λ e. (spans : Bool) → ReadsMay spans (codes "as") (leaf (an_ident binder)) (borrowed_view value.now) (option_view (ident_tree binder) e) numbering.old numbering.new) }
+    ensures ok { IfOk result (λ e. IsRename (borrowed_view value.now) e numbering.old numbering.new) }
     ensures there { IfOk result (λ e. is_some e ≡ is_some (get (codes "as") (borrowed_view value.now))) }
-    ensures place { IfErr result (λ e. (spans : Bool) → LocatesInside spans (codes "as") (leaf (an_ident binder)) (borrowed_view value.now) e) }
+    ensures place { IfErr result (LocatesInsideAlways (codes "as") (leaf (an_ident binder)) (borrowed_view value.now)) }
 {
     let Some(member) = value.get("as") else {
         return Ok(None);

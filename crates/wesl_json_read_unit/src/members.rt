@@ -1,11 +1,11 @@
 //! The members of what stands in units, read by the crates below.
-ghost use Rattle.std.specs.Prelude.{◌≡◌, Some, None, codes};
+ghost use Rattle.std.specs.Prelude.{codes};
 ghost use Rattle.wesl_json_form.specs.View.{borrowed_view};
-ghost use Rattle.wesl_json_form.specs.Schema.{a_body, a_name, a_path, a_text, a_type, an_attribute, an_ident, leaf, list_of, node as node_form, some_names};
+ghost use Rattle.wesl_json_form.specs.Schema.{a_body, a_name, a_path, a_text, a_type, an_attribute, leaf, list_of, node as node_form, some_names};
 ghost use Rattle.wesl_tree_syntax.specs.Tree.{attributes, binder};
-ghost use Rattle.wesl_tree_syntax.specs.View.{attributes_tree, compound_view, ident_tree, names_tree, optional as option_view, path_tree, text_tree, type_view};
+ghost use Rattle.wesl_tree_syntax.specs.View.{attributes_tree, compound_view, names_tree, optional as option_view, path_tree, text_tree, type_view};
 ghost use Rattle.wesl_json_read_statements.specs.Views.{declared_view};
-ghost use Rattle.wesl_json_read_unit.specs.Noted.{NotesMany, NotesMay, NotesNeeded};
+ghost use Rattle.wesl_json_read_unit.specs.Noted.{NotesIdent, NotesMany, NotesMay, NotesNeeded};
 ghost use Rattle.wesl_json_read_unit.specs.Worded.{NotesDeclared, NotesSpan};
 
 use crate::reader::Reader;
@@ -85,7 +85,7 @@ impl Reader {
 
     /// The declared name at `name`, by its number.
     pub(crate) fn binder(&mut self, value: &BorrowedValue<'_>) -> Ident
-        ensures { NotesNeeded (codes "name") (leaf (an_ident binder)) (borrowed_view value.now) (ident_tree binder result) self.old self.new }
+        ensures { NotesIdent binder (codes "name") (borrowed_view value.now) result self.old self.new }
     {
         let read = binder_member(self.alloc, &mut self.numbering, value);
         match self.noted(read) {
