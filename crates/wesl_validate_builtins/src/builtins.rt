@@ -1,6 +1,7 @@
 //! Names that are built in.
-ghost use Rattle.std.specs.Prelude.{◌≡◌, map, string_bytes, IfOk};
+ghost use Rattle.std.specs.Prelude.{◌≡◌, ◌++◌, List, map, string_bytes, IfOk, OnOk};
 ghost use Rattle.std.specs.Option.{option_map};
+ghost use Rattle.wesl_tree_names.specs.Path.{Text};
 ghost use Rattle.wesl_validate_builtins.specs.Builtins.{AreKept, is_among, is_callable, stored, builtins_view};
 
 use std::alloc::{AllocError, Global};
@@ -58,9 +59,18 @@ impl Builtins {
         ensures { IfOk result (AreKept (builtins_view self.now).names) }
     {
         let mut kept: HashSet<&str> = HashSet::new(alloc);
-        for name in &self.names {
-            kept.insert(name.as_str())?;
-        }
+        keep_all(&mut kept, &self.names)?;
+        Ok(kept)
+    }
+
+    /// The names that a call may name, as a set, in the same way: functions and constructors. Refused for want of memory
+    /// alone.
+    pub fn callable_names(&self, alloc: Global) -> Result<HashSet<&str>, AllocError>
+        ensures { IfOk result (AreKept ((builtins_view self.now).functions ++ (builtins_view self.now).constructors)) }
+    {
+        let mut kept: HashSet<&str> = HashSet::new(alloc);
+        keep_all(&mut kept, &self.functions)?;
+        keep_all(&mut kept, &self.constructors)?;
         Ok(kept)
     }
 
@@ -70,6 +80,16 @@ impl Builtins {
     {
         is_among(&self.functions, name) || is_among(&self.constructors, name)
     }
+}
+
+/// Puts these names into the set.
+fn keep_all<'n>(kept: &mut HashSet<&'n str>, names: &'n Vec<String>) -> Result<(), AllocError>
+    ensures { OnOk result ((before : List Text) → AreKept before kept.old → AreKept (before ++ map string_bytes names.now.items) kept.new) }
+{
+    for name in names {
+        kept.insert(name.as_str())?;
+    }
+    Ok(())
 }
 
 /// Whether one of these is the name.

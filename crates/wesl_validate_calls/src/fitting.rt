@@ -15,6 +15,7 @@ ghost use Rattle.wesl_validate_calls.specs.Reached.{IsClear};
 ghost use Rattle.wesl_validate_calls.specs.Tables.{AreTables};
 ghost use Rattle.wesl_validate_calls.specs.Views.{tables_view};
 
+use crate::callables::Callables;
 use crate::calls::{Call, calls_of};
 use crate::judge::judged;
 use crate::misfit::Misfit;
@@ -31,19 +32,19 @@ use wesl_validate_builtins::Builtins;
 fn call_misfit(
     alloc: Global,
     unit: &TranslationUnit,
-    builtins: &Builtins,
+    callables: &Callables<'_>,
     tables: &Tables,
     marks: &mut [bool],
     call: Call,
 ) -> Result<Option<Misfit>, AllocError>
     requires tables { AreTables (unit_view unit.now) (tables_view tables.now) }
     requires clear { IsClear (tables_view tables.now).aliases marks.old }
-    ensures misfit { IfOk result (λ r. IfSome r (Misses (unit_view unit.now) (builtins_view builtins.now) (call_told call))) }
-    ensures none { IfOk result (λ r. IfNone r (Passes (unit_view unit.now) (builtins_view builtins.now) (call_told call))) }
+    ensures misfit { IfOk result (λ r. IfSome r (Misses (unit_view unit.now) (builtins_view callables.now.builtins.now) (call_told call))) }
+    ensures none { IfOk result (λ r. IfNone r (Passes (unit_view unit.now) (builtins_view callables.now.builtins.now) (call_told call))) }
     ensures clear { IfOk result (λ _. IsClear (tables_view tables.now).aliases marks.new) }
 {
     let numbers = reached(alloc, &tables.aliases, marks, call.callee)?;
-    let misfit = judged(tables, unit.names(), builtins, call.arguments, &numbers);
+    let misfit = judged(tables, unit.names(), callables, call.arguments, &numbers);
     Ok(misfit)
 }
 
@@ -59,20 +60,20 @@ fn call_at(calls: &Vec<Call>, place: usize) -> Call
 fn misfit_among(
     alloc: Global,
     unit: &TranslationUnit,
-    builtins: &Builtins,
+    callables: &Callables<'_>,
     tables: &Tables,
     marks: &mut [bool],
     calls: &Vec<Call>,
 ) -> Result<Option<Misfit>, AllocError>
     requires tables { AreTables (unit_view unit.now) (tables_view tables.now) }
     requires clear { IsClear (tables_view tables.now).aliases marks.old }
-    ensures misfit { IfOk result (λ r. IfSome r (MissesAmong (unit_view unit.now) (builtins_view builtins.now) (map call_told calls.now.items))) }
-    ensures none { IfOk result (λ r. IfNone r (All (Passes (unit_view unit.now) (builtins_view builtins.now)) (map call_told calls.now.items))) }
+    ensures misfit { IfOk result (λ r. IfSome r (MissesAmong (unit_view unit.now) (builtins_view callables.now.builtins.now) (map call_told calls.now.items))) }
+    ensures none { IfOk result (λ r. IfNone r (All (Passes (unit_view unit.now) (builtins_view callables.now.builtins.now)) (map call_told calls.now.items))) }
     ensures clear { IfOk result (λ _. IsClear (tables_view tables.now).aliases marks.new) }
 {
     for place in 0..calls.len() {
         let call = call_at(calls, place);
-        match call_misfit(alloc, unit, builtins, tables, marks, call)? {
+        match call_misfit(alloc, unit, callables, tables, marks, call)? {
             Some(misfit) => return Ok(Some(misfit)),
             None => {}
         }
@@ -83,40 +84,40 @@ fn misfit_among(
 fn misfit_in(
     alloc: Global,
     unit: &TranslationUnit,
-    builtins: &Builtins,
+    callables: &Callables<'_>,
     tables: &Tables,
     marks: &mut [bool],
     declaration: &GlobalDeclaration,
 ) -> Result<Option<Misfit>, Error>
     requires tables { AreTables (unit_view unit.now) (tables_view tables.now) }
     requires clear { IsClear (tables_view tables.now).aliases marks.old }
-    ensures misfit { IfOk result (λ r. IfSome r (MissesAmong (unit_view unit.now) (builtins_view builtins.now) (calls_in (before (global_view declaration.now) end)))) }
-    ensures none { IfOk result (λ r. IfNone r (All (Passes (unit_view unit.now) (builtins_view builtins.now)) (calls_in (before (global_view declaration.now) end)))) }
+    ensures misfit { IfOk result (λ r. IfSome r (MissesAmong (unit_view unit.now) (builtins_view callables.now.builtins.now) (calls_in (before (global_view declaration.now) end)))) }
+    ensures none { IfOk result (λ r. IfNone r (All (Passes (unit_view unit.now) (builtins_view callables.now.builtins.now)) (calls_in (before (global_view declaration.now) end)))) }
     ensures clear { IfOk result (λ _. IsClear (tables_view tables.now).aliases marks.new) }
     ensures refused { IfErr result (λ e. e ≡ error.Memory) }
 {
     let calls = calls_of(alloc, declaration)?;
-    Ok(misfit_among(alloc, unit, builtins, tables, marks, &calls)?)
+    Ok(misfit_among(alloc, unit, callables, tables, marks, &calls)?)
 }
 
 /// The same, in all declarations.
 fn misfit_of(
     alloc: Global,
     unit: &TranslationUnit,
-    builtins: &Builtins,
+    callables: &Callables<'_>,
     tables: &Tables,
     marks: &mut [bool],
 ) -> Result<Option<(usize, Misfit)>, Error>
     requires tables { AreTables (unit_view unit.now) (tables_view tables.now) }
     requires clear { IsClear (tables_view tables.now).aliases marks.old }
-    ensures misfit { IfOk result (λ r. IfSome r (λ p. MissesIn (unit_view unit.now) (builtins_view builtins.now) p.0 p.1)) }
-    ensures none { IfOk result (λ r. IfNone r (IsFitting (unit_view unit.now) (builtins_view builtins.now))) }
+    ensures misfit { IfOk result (λ r. IfSome r (λ p. MissesIn (unit_view unit.now) (builtins_view callables.now.builtins.now) p.0 p.1)) }
+    ensures none { IfOk result (λ r. IfNone r (IsFitting (unit_view unit.now) (builtins_view callables.now.builtins.now))) }
     ensures refused { IfErr result (λ e. e ≡ error.Memory) }
 {
     let declarations = unit.global_declarations();
     for j in 0..declarations.len() {
         let declaration = &declarations[j];
-        match misfit_in(alloc, unit, builtins, tables, marks, &declaration.node)? {
+        match misfit_in(alloc, unit, callables, tables, marks, &declaration.node)? {
             Some(misfit) => return Ok(Some((j, misfit))),
             None => {}
         }
@@ -140,7 +141,8 @@ pub fn first_misfit(
     ensures none { IfOk result (λ r. IfNone r (IsFitting (unit_view unit.now) (builtins_view builtins.now))) }
     ensures refused { IfErr result (λ e. e ≡ error.Memory) }
 {
+    let callables = Callables::new(alloc, builtins)?;
     let tables = tables_of(alloc, unit, found)?;
     let mut marks = vec![in alloc; false; tables.aliases.len()]?;
-    misfit_of(alloc, unit, builtins, &tables, &mut marks)
+    misfit_of(alloc, unit, &callables, &tables, &mut marks)
 }

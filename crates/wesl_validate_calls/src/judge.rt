@@ -10,11 +10,11 @@ ghost use Rattle.wesl_validate_calls.specs.Judged.{first_some, takes_at, count_a
 ghost use Rattle.wesl_validate_calls.specs.Tables.{shape_at};
 ghost use Rattle.wesl_validate_calls.specs.Views.{shape_view, tables_view};
 
+use crate::callables::Callables;
 use crate::misfit::Misfit;
 use crate::shape::{Shape, count_of, is_plain_alias, shape_at, takes};
 use crate::tables::Tables;
 use wesl_tree_names::{Ident, Names};
-use wesl_validate_builtins::Builtins;
 
 /// The name of a number, and the empty text where the table has none.
 fn name_of(names: &Names, number: usize) -> &str
@@ -107,28 +107,28 @@ fn ends_at(tables: &Tables, number: usize) -> bool
 fn accepts_at(
     tables: &Tables,
     names: &Names,
-    builtins: &Builtins,
+    callables: &Callables<'_>,
     arguments: usize,
     number: usize,
 ) -> bool
-    ensures { result ≡ accepts_at (tables_view tables.now) names.now (builtins_view builtins.now) arguments number }
+    ensures { result ≡ accepts_at (tables_view tables.now) names.now (builtins_view callables.now.builtins.now) arguments number }
 {
     takes_at(tables, arguments, number)
-        || (!is_bound(&tables.bound, number) && builtins.is_callable(name_of(names, number)))
+        || (!is_bound(&tables.bound, number) && callables.has(name_of(names, number)))
 }
 
 #[tactic(auto, using(crate::proofs::Searching::any_here, crate::proofs::Searching::any_next))]
 fn fits(
     tables: &Tables,
     names: &Names,
-    builtins: &Builtins,
+    callables: &Callables<'_>,
     arguments: usize,
     numbers: &Vec<usize>,
 ) -> bool
-    ensures { result ≡ list_any (accepts_at (tables_view tables.now) names.now (builtins_view builtins.now) arguments) numbers.now.items }
+    ensures { result ≡ list_any (accepts_at (tables_view tables.now) names.now (builtins_view callables.now.builtins.now) arguments) numbers.now.items }
 {
     for number in numbers {
-        if accepts_at(tables, names, builtins, arguments, *number) {
+        if accepts_at(tables, names, callables, arguments, *number) {
             return true;
         }
     }
@@ -189,13 +189,13 @@ fn not_callable(tables: &Tables, numbers: &Vec<usize>) -> Option<Misfit>
 pub(crate) fn judged(
     tables: &Tables,
     names: &Names,
-    builtins: &Builtins,
+    callables: &Callables<'_>,
     arguments: usize,
     numbers: &Vec<usize>,
 ) -> Option<Misfit>
-    ensures { result ≡ judged (tables_view tables.now) names.now (builtins_view builtins.now) arguments numbers.now.items }
+    ensures { result ≡ judged (tables_view tables.now) names.now (builtins_view callables.now.builtins.now) arguments numbers.now.items }
 {
-    if fits(tables, names, builtins, arguments, numbers) {
+    if fits(tables, names, callables, arguments, numbers) {
         return None;
     }
     match miscounted(tables, arguments, numbers) {

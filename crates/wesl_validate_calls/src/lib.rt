@@ -2,6 +2,7 @@
 //! their aliases end in (WGSL, "Function Calls").
 #![tactic(auto)]
 
+mod callables;
 mod calls;
 mod fault;
 mod fitting;

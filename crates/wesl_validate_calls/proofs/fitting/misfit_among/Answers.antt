@@ -12,7 +12,7 @@ use Rattle.wesl_validate_calls.proofs.fitting.misfit_among.Goals as goal
 pub returns-in-Some-clause-misfit : goal.returns-in-Some-clause-misfit
 returns-in-Some-clause-misfit c =
     let u = unit_view c.args.unit.now in
-    let b = builtins_view c.args.builtins.now in
+    let b = builtins_view c.args.callables.now.builtins.now in
     let xs = c.args.calls.now.items in
     let inside : c.loop-place.place < length xs = omega (arith, c.loop-place-test.true, c.len-place-end.ensures) in
     among u b xs c.loop-place.place c.call_at-call.result c.in-Some.misfit inside c.call_at-call.ensures
@@ -21,7 +21,7 @@ returns-in-Some-clause-misfit c =
 pub loop-place-preserved : goal.loop-place-preserved
 loop-place-preserved c =
     let u = unit_view c.args.unit.now in
-    let b = builtins_view c.args.builtins.now in
+    let b = builtins_view c.args.callables.now.builtins.now in
     let xs = c.args.calls.now.items in
     let inside : c.loop-place.place < length xs = omega (arith, c.loop-place-test.true, c.len-place-end.ensures) in
     record {
@@ -34,4 +34,4 @@ pub returns-clause-none : goal.returns-clause-none
 returns-clause-none c =
     let xs = c.args.calls.now.items in
     let over : length xs ≤ c.loop-place.place = omega (arith, c.loop-place-test.false, c.len-place-end.ensures) in
-    subst (λ ys. All (Passes (unit_view c.args.unit.now) (builtins_view c.args.builtins.now)) (map call_told ys)) (take_all c.loop-place.place xs over) c.loop-place.invariant.passed
+    subst (λ ys. All (Passes (unit_view c.args.unit.now) (builtins_view c.args.callables.now.builtins.now)) (map call_told ys)) (take_all c.loop-place.place xs over) c.loop-place.invariant.passed

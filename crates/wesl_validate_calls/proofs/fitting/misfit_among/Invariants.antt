@@ -11,5 +11,5 @@ use Rattle.wesl_validate_calls.proofs.fitting.misfit_among.Given as goal
 abbrev pub invariant-loop-place : goal.invariant-loop-place
 invariant-loop-place l = record {
   clear : IsClear (tables_view l.tables).aliases l.marks;
-  passed : All (Passes (unit_view l.unit) (builtins_view l.builtins)) (map call_told (take l.place l.calls.items));
+  passed : All (Passes (unit_view l.unit) (builtins_view l.callables.builtins.now)) (map call_told (take l.place l.calls.items));
 }

@@ -8,4 +8,4 @@ use Rattle.wesl_validate_calls.proofs.fitting.misfit_in.Goals as goal
 
 pub returns-clause-none : goal.returns-clause-none
 returns-clause-none c =
-    subst (λ cs. IfNone c.in_ok-misfit_among.field-0 (All (Passes (unit_view c.args.unit.now) (builtins_view c.args.builtins.now)) cs)) c.in_ok-calls.ensures.calls c.in_ok-misfit_among.ensures.none
+    subst (λ cs. IfNone c.in_ok-misfit_among.field-0 (All (Passes (unit_view c.args.unit.now) (builtins_view c.args.callables.now.builtins.now)) cs)) c.in_ok-calls.ensures.calls c.in_ok-misfit_among.ensures.none

@@ -13,7 +13,7 @@ use Rattle.wesl_validate_calls.proofs.fitting.misfit_of.Goals as goal
 pub returns-in-Some-clause-misfit : goal.returns-in-Some-clause-misfit
 returns-in-Some-clause-misfit c =
     let u = unit_view c.args.unit.now in
-    let b = builtins_view c.args.builtins.now in
+    let b = builtins_view c.args.callables.now.builtins.now in
     let v = c.global_declarations-declarations.result.now in
     let d = c.index-declaration.result.now in
     let inside : c.loop-j.j < length v.items = omega (arith, c.loop-j-test.true, c.len-j-end.ensures) in
@@ -23,7 +23,7 @@ returns-in-Some-clause-misfit c =
 pub loop-j-preserved : goal.loop-j-preserved
 loop-j-preserved c =
     let u = unit_view c.args.unit.now in
-    let b = builtins_view c.args.builtins.now in
+    let b = builtins_view c.args.callables.now.builtins.now in
     let v = c.global_declarations-declarations.result.now in
     let d = c.index-declaration.result.now in
     let inside : c.loop-j.j < length v.items = omega (arith, c.loop-j-test.true, c.len-j-end.ensures) in
@@ -37,4 +37,4 @@ pub returns-clause-none : goal.returns-clause-none
 returns-clause-none c =
     let v = c.global_declarations-declarations.result.now in
     let over : length v.items ≤ c.loop-j.j = omega (arith, c.loop-j-test.false, c.len-j-end.ensures) in
-    all_pass (unit_view c.args.unit.now) (builtins_view c.args.builtins.now) v c.global_declarations-declarations.ensures.declarations c.loop-j.j over c.loop-j.invariant.passed
+    all_pass (unit_view c.args.unit.now) (builtins_view c.args.callables.now.builtins.now) v c.global_declarations-declarations.ensures.declarations c.loop-j.j over c.loop-j.invariant.passed

@@ -8,5 +8,5 @@ use Rattle.wesl_validate_calls.proofs.fitting.misfit_of.Given as goal
 abbrev pub invariant-loop-j : goal.invariant-loop-j
 invariant-loop-j l = record {
   clear : IsClear (tables_view l.tables).aliases l.marks;
-  passed : PassBefore (unit_view l.unit) (builtins_view l.builtins) l.j;
+  passed : PassBefore (unit_view l.unit) (builtins_view l.callables.builtins.now) l.j;
 }
