@@ -5,6 +5,7 @@ use wesl_scope::{SyntaxUtil, free_names};
 use wesl_tree::TranslationUnit;
 use wesl_validate::{validate_wesl, validate_wgsl};
 use wesl_validate_builtins::Builtins;
+use wesl_validate_faults::faults_wesl;
 
 /// The module of the `tree`, numbered by what its identifiers mean, or, where the row says `as_read`, by their spellings.
 fn numbered(row: Row<'_>) -> TranslationUnit {
@@ -50,4 +51,18 @@ pub fn told(row: Row<'_>, call: &str) -> Value {
         Some(diagnostic) => declared(row, &diagnostic),
         None => row.text_value("valid"),
     }
+}
+
+/// All faults that `faults_wesl` tells of the module.
+pub fn all_told(row: Row<'_>) -> Value {
+    let unit = numbered(row);
+    let told = row.or(
+        faults_wesl(row.alloc, &unit, &builtins(row)),
+        Vec::new(row.alloc),
+    );
+    let mut all = List::new(row.alloc);
+    for fault in &told {
+        all.put(declared(row, fault));
+    }
+    all.end(row)
 }

@@ -13,7 +13,7 @@ use wesl_tree::TranslationUnit;
 use wesl_tree_names::{Ident, Names};
 
 /// The name of a number, and the empty text where the table has none.
-fn name_of(names: &Names, number: usize) -> &str
+pub fn name_of(names: &Names, number: usize) -> &str
     ensures { result.now ≡ name_in names.now number }
 {
     if number < names.len() {

@@ -14,9 +14,11 @@ mod rings;
 mod steps;
 mod unknown;
 
-pub use distinct::duplicate;
+pub use distinct::{duplicate, name_of};
 pub use graph::ring;
 pub use known::known_numbers;
 pub use laws::{law_of_faults, law_of_graphs};
+pub use plain::plain_numbers;
 pub use rings::cycle;
+pub use steps::steps_of;
 pub use unknown::{is_unknown, undefined};

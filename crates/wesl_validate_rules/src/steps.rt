@@ -76,12 +76,10 @@ fn add_steps(
     }
 }
 
-/// The graph of the steps.
+/// The graph of the steps: of each number those to which declarations of that number refer. `found` are the identifiers
+/// of a module. Refused for want of memory alone.
 #[tactic(auto, using(crate::proofs::Stepping::joined_next))]
-pub(crate) fn steps_of(
-    alloc: Global,
-    found: &Identifiers<'_>,
-) -> Result<Vec<Vec<usize>>, AllocError>
+pub fn steps_of(alloc: Global, found: &Identifiers<'_>) -> Result<Vec<Vec<usize>>, AllocError>
     ensures steps { IfOk result (λ graph. (a : ℕ) → edges_at (graph_view graph.items) a ≡ steps (map occurrence_view found.now.all.items) a) }
     ensures closed { IfOk result (λ graph. IsClosed (graph_view graph.items)) }
 {

@@ -1,0 +1,50 @@
+-- Findings of the code are compared as what they stand for.
+use Rattle.std.proofs.Common.{◌≡◌, Bool, refl, ap}
+use Rattle.std.specs.Prelude.{bytes_eq, Option, Some, None}
+use Rattle.std.specs.Bool.{Decides}
+use Rattle.std.proofs.lemmas.Bool.Decides.{Decides-and}
+use Rattle.std.proofs.lemmas.Slice.Eq.{bytes_eq-Decides}
+use Rattle.wesl_tree_names.specs.Path.{Text}
+use Rattle.wesl_validate_faults.specs.Findings as spec
+use Rattle.wesl_validate_faults.specs.Findings.{same_finding, same_holder}
+use Rattle.wesl_validate_faults.specs.Gathered.{finding_view}
+use Rattle.wesl_validate_faults.specs.contracts.finding.FindingPartialEq.TheImpl as equality
+use Rattle.wesl_validate_faults.specs.declared.finding.Finding.{Finding}
+use Rattle.wesl_validate_faults.specs.declared.finding.Finding.TheVariants as made
+
+along : {P Q : Type 0} {r : Bool} → Decides r P → (P → Q) → (Q → P) → Decides r Q
+along d f g = (λ e. f (d.0 e), λ q. d.1 (g q))
+
+holders_decide : (d c : Option Text) → Decides (same_holder d c) (d ≡ c)
+holders_decide None None = (λ e. refl, λ e. refl)
+holders_decide (Some n) (Some m) = along (bytes_eq-Decides n m) (λ e. ap Some e) (λ e. let p : n ≡ m = cc in p)
+holders_decide None (Some m) = (λ e. cc, λ e. cc)
+holders_decide (Some n) None = (λ e. cc, λ e. cc)
+
+pub findings_decide : (f g : spec.Finding) → Decides (same_finding f g) (f ≡ g)
+findings_decide (spec.undefined d n) (spec.undefined c m) =
+    along (Decides-and (same_holder d c) (bytes_eq n m) (holders_decide d c) (bytes_eq-Decides n m))
+    (λ h. let p = h.0 in let q = h.1 in cc (p, q)) (λ e. (let p : d ≡ c = cc in p, let q : n ≡ m = cc in q))
+findings_decide (spec.duplicate n) (spec.duplicate m) = along (bytes_eq-Decides n m) (λ e. ap spec.duplicate e) (λ e. let p : n ≡ m = cc in p)
+findings_decide (spec.cycle n v) (spec.cycle m w) =
+    along (Decides-and (bytes_eq n m) (bytes_eq v w) (bytes_eq-Decides n m) (bytes_eq-Decides v w))
+    (λ h. let p = h.0 in let q = h.1 in cc (p, q)) (λ e. (let p : n ≡ m = cc in p, let q : v ≡ w = cc in q))
+findings_decide _ _ = (λ e. cc, λ e. cc)
+
+-- what `==` of two findings answers
+abbrev pub finding_eq : Finding → Finding → Bool
+finding_eq = (equality.ghosts).eq
+
+pub finding_test : (f g : Finding) → finding_eq f g ≡ same_finding (finding_view f) (finding_view g)
+finding_test (made.Undefined None n) (made.Undefined None m) = refl
+finding_test (made.Undefined (Some d) n) (made.Undefined (Some c) m) = refl
+finding_test (made.Undefined None n) (made.Undefined (Some c) m) = refl
+finding_test (made.Undefined (Some d) n) (made.Undefined None m) = refl
+finding_test (made.Undefined d n) (made.Duplicate m) = refl
+finding_test (made.Undefined d n) (made.Cycle m w) = refl
+finding_test (made.Duplicate n) (made.Undefined c m) = refl
+finding_test (made.Duplicate n) (made.Duplicate m) = refl
+finding_test (made.Duplicate n) (made.Cycle m w) = refl
+finding_test (made.Cycle n v) (made.Undefined c m) = refl
+finding_test (made.Cycle n v) (made.Duplicate m) = refl
+finding_test (made.Cycle n v) (made.Cycle m w) = refl

@@ -1,0 +1,7 @@
+pub mod Collecting
+pub mod Equality
+pub mod Listing
+pub mod Repeated
+pub mod Rings
+pub mod Standing
+pub mod Telling

@@ -1,0 +1,85 @@
+-- What is gathered one after the other is what is listed.
+use Rattle.std.proofs.Common.{◌≡◌, ℕ, ◌<◌, ◌||◌, ◌&&◌, ◌++◌, Bool, true, false, cond, List, [], ◌∷◌, length, map, refl, sym, ap, ◌∙◌, append-nil, append_assoc}
+use Rattle.std.specs.Prelude.{Option, Some, None, flat_map, slice_get, if◌then◌else◌}
+use Rattle.std.specs.List.{Contains, filter}
+use Rattle.std.specs.Option.{option_map}
+use Rattle.wesl_tree_names.specs.Path.{Text}
+use Rattle.wesl_tree_syntax.specs.Unit.{UnitView, trees_of, name_in}
+use Rattle.wesl_scope_graph.specs.Graphs.{Graph, edges_at}
+use Rattle.wesl_scope_occurrences.specs.Occurrences.{Block, Occurrence, occurrences, is_module_name}
+use Rattle.wesl_scope_occurrences.specs.Walk.{Found}
+use Rattle.wesl_scope_occurrences.specs.Ways.{told}
+use Rattle.wesl_scope_strip.specs.Declarations.{declared_in, lies_in}
+use Rattle.wesl_scope_strip.specs.Marks.{mark_at, names_here}
+use Rattle.wesl_validate_builtins.specs.Builtins.{BuiltinNames}
+use Rattle.wesl_validate_rules.proofs.Finding.{contains_here, contains_later, test_is}
+use Rattle.wesl_validate_rules.specs.Faults.{name_round}
+use Rattle.wesl_validate_rules.specs.Known.{is_meant, binds, is_unknown}
+use Rattle.wesl_validate_rules.specs.Valid.{spelling, is_undefined}
+use Rattle.wesl_validate_faults.specs.Findings.{Finding, undefined}
+use Rattle.wesl_validate_faults.specs.Gathered.{named_here, named_in, declared_among, name_by, undefined_here, finding_view, findings_view}
+use Rattle.wesl_validate_faults.specs.Listed.{declared, undefineds}
+use Rattle.wesl_validate_faults.specs.declared.finding.Finding as code
+use Rattle.wesl_validate_faults.proofs.Collecting.{view_push}
+
+-- an identifier that adds nothing
+pub no_name : (xs : List ℕ) (j : ℕ) (o : Found) → is_module_name o.role ≡ false → xs ++ named_here j o ≡ xs
+no_name xs j o e = ap (λ t. xs ++ (if t && lies_in j o.declaration then o.name ∷ [] else [])) e ∙ append-nil xs
+
+pub no_place : (xs : List ℕ) (j : ℕ) (o : Found) → o.declaration ≡ None → xs ++ named_here j o ≡ xs
+no_place xs j o e = ap (λ d. xs ++ (if is_module_name o.role && lies_in j d then o.name ∷ [] else [])) e ∙ by (is_module_name o.role)
+  where
+    by : (t : Bool) → xs ++ (if t && false then o.name ∷ [] else []) ≡ xs
+    by true = append-nil xs
+    by false = append-nil xs
+
+-- one more finding, and none
+pub pushed : (old now : List code.Finding) (x : code.Finding) (fs : List Finding) → now ≡ old ++ x ∷ [] → finding_view x ∷ [] ≡ fs → findings_view now ≡ findings_view old ++ fs
+pushed old now x fs e is = ap findings_view e ∙ (view_push old x ∙ ap (λ gs. findings_view old ++ gs) is)
+
+pub not_pushed : (old : List code.Finding) (fs : List Finding) → fs ≡ [] → findings_view old ≡ findings_view old ++ fs
+not_pushed old fs e = sym (ap (λ gs. findings_view old ++ gs) e ∙ append-nil (findings_view old))
+
+-- those of a list that pass, seen by `g`
+module _ {A B C : Type 0} (v : A → B) (p : B → Bool) (g : B → C) (q : A → Bool) (h : A → C) (sees : (x : A) → g (v x) ≡ h x) where
+  pub passing : (xs : List A) → ((x : A) → Contains xs x → p (v x) ≡ q x) → map g (filter p (map v xs)) ≡ flat_map (λ x. if q x then h x ∷ [] else []) xs
+  passing [] tests = refl
+  passing (x ∷ xs) tests = ap (λ t. map g (cond t (v x ∷ filter p (map v xs)) (filter p (map v xs)))) (tests x (contains_here x xs)) ∙ by (q x) (passing xs (λ y c. tests y (contains_later x y xs c)))
+    where
+      by : (t : Bool) → map g (filter p (map v xs)) ≡ flat_map (λ x. if q x then h x ∷ [] else []) xs → map g (cond t (v x ∷ filter p (map v xs)) (filter p (map v xs))) ≡ (if t then h x ∷ [] else []) ++ flat_map (λ x. if q x then h x ∷ [] else []) xs
+      by true e = ap (λ n. n ∷ map g (filter p (map v xs))) (sees x) ∙ ap (λ ns. h x ∷ ns) e
+      by false e = e
+
+module _ (u : UnitView) (w : ℕ → Block) (os : List Found) (all_is : map (told w) os ≡ occurrences (trees_of u)) where
+  named_is : (j : ℕ) → declared_in u j ≡ named_in os j
+  named_is j =
+      ap (λ xs. map (λ (o : Occurrence ℕ). o.name) (filter (λ (o : Occurrence ℕ). is_module_name o.role && lies_in j o.declaration) xs)) (sym all_is)
+      ∙ passing (told w) (λ (o : Occurrence ℕ). is_module_name o.role && lies_in j o.declaration) (λ (o : Occurrence ℕ). o.name) (names_here j) (λ (o : Found). o.name) (λ o. refl) os (λ o c. refl)
+
+  pub declared_is : declared u ≡ declared_among os
+  declared_is =
+      ap (λ xs. map (λ (o : Occurrence ℕ). o.name) (filter (λ (o : Occurrence ℕ). is_module_name o.role) xs)) (sym all_is)
+      ∙ passing (told w) (λ (o : Occurrence ℕ). is_module_name o.role) (λ (o : Occurrence ℕ). o.name) (λ (o : Found). is_module_name o.role) (λ (o : Found). o.name) (λ o. refl) os (λ o c. refl)
+
+  module _ (b : BuiltinNames) (names : List Text) (known : List Bool) (holders : Graph) (same : names ≡ u.names)
+      (within : (o : Found) → Contains os o → o.name < length names)
+      (known_is : (m : ℕ) → m < length names → mark_at known m ≡ (is_meant b (name_in names m) || binds os m))
+      (holders_are : (j : ℕ) → edges_at holders j ≡ named_in os j) where
+    round_is : (d : Option ℕ) → name_round u d ≡ name_by names holders d
+    round_is None = refl
+    round_is (Some j) =
+        ap (λ ns. option_map (name_in ns) (slice_get (declared_in u j) 0)) (sym same)
+        ∙ ap (λ ms. option_map (name_in names) (slice_get ms 0)) (named_is j ∙ sym (holders_are j))
+
+    told_as : (o : Found) → undefined (name_round u o.declaration) (spelling u o.name) ≡ undefined (name_by names holders o.declaration) (name_in names o.name)
+    told_as o = ap (λ d. undefined d (spelling u o.name)) (round_is o.declaration) ∙ ap (λ ns. undefined (name_by names holders o.declaration) (name_in ns o.name)) (sym same)
+
+    pub undefineds_are : undefineds u b ≡ flat_map (undefined_here names known holders) os
+    undefineds_are =
+        ap (λ xs. map (λ (o : Occurrence ℕ). undefined (name_round u o.declaration) (spelling u o.name)) (filter (is_undefined u b) xs)) (sym all_is)
+        ∙ passing (told w) (is_undefined u b) (λ (o : Occurrence ℕ). undefined (name_round u o.declaration) (spelling u o.name)) (is_unknown known) (λ (o : Found). undefined (name_by names holders o.declaration) (name_in names o.name)) told_as os (test_is u b names w os known all_is same within known_is)
+
+-- what one more item adds
+pub added_next : (first old now ahead here : List Finding) (longer : List Finding) → now ≡ old ++ here → old ≡ first ++ ahead → longer ≡ ahead ++ here → now ≡ first ++ longer
+added_next first old now ahead here longer added so joined =
+    added ∙ (ap (λ ns. ns ++ here) so ∙ (append_assoc first ahead here ∙ ap (λ ns. first ++ ns) (sym joined)))

@@ -1,0 +1,83 @@
+-- What is gathered of a module, one after the other.
+use Rattle.std.specs.Prelude.{◌≡◌, ◌⊎◌, ℕ, Bool, ◌&&◌, ◌==◌, Option, Some, None, List, [], ◌∷◌, ◌++◌, map, flat_map, slice_get, if◌then◌else◌}
+use Rattle.std.specs.List.{list_any}
+use Rattle.std.specs.Option.{option_map}
+use Rattle.wesl_tree_names.specs.Path.{Text}
+use Rattle.wesl_tree_syntax.specs.Unit.{UnitView, name_in}
+use Rattle.wesl_scope_graph.specs.Graphs.{Graph, edges_at, Leads}
+use Rattle.wesl_scope_graph.specs.Marks.{mark_at}
+use Rattle.wesl_scope_occurrences.specs.Occurrences.{is_module_name}
+use Rattle.wesl_scope_occurrences.specs.Walk.{Found}
+use Rattle.wesl_scope_strip.specs.Marks.{names_here}
+use Rattle.wesl_validate_rules.specs.Graphs.{Path}
+use Rattle.wesl_validate_rules.specs.Known.{is_unknown}
+use Rattle.wesl_validate_faults.specs.Findings as spec
+use Rattle.wesl_validate_faults.specs.Listed.{declared, AreCycles, IsFirst}
+use Rattle.wesl_validate_faults.specs.declared.finding.Finding.{Finding}
+use Rattle.wesl_validate_faults.specs.declared.finding.Finding.TheVariants as made
+
+-- what a finding of the code stands for
+abbrev pub finding_view : Finding → spec.Finding
+finding_view (made.Undefined d n) = spec.undefined (option_map (λ m. m.now) d) n.now
+finding_view (made.Duplicate n) = spec.duplicate n.now
+finding_view (made.Cycle n v) = spec.cycle n.now v.now
+
+abbrev pub findings_view : List Finding → List spec.Finding
+findings_view = map finding_view
+
+-- these findings are put after those before
+abbrev pub AreAdded : List Finding → List Finding → List spec.Finding → Type 0
+AreAdded old new fs = findings_view new ≡ findings_view old ++ fs
+
+-- findings with one more, which goes last unless it is there
+abbrev pub with_finding : List spec.Finding → spec.Finding → List spec.Finding
+with_finding seen f = if list_any (spec.same_finding f) seen then seen else seen ++ f ∷ []
+
+-- the number that declaration j declares, where an identifier is its name
+abbrev pub named_here : ℕ → Found → List ℕ
+named_here j o = if names_here j o then o.name ∷ [] else []
+
+abbrev pub named_in : List Found → ℕ → List ℕ
+named_in os j = flat_map (named_here j) os
+
+-- the number of an import or a declaration, where an identifier is its name
+abbrev pub declared_here : Found → List ℕ
+declared_here o = if is_module_name o.role then o.name ∷ [] else []
+
+abbrev pub declared_among : List Found → List ℕ
+declared_among os = flat_map declared_here os
+
+module _ (names : List Text) where
+  -- the name of a declaration, by a list of what each declares
+  abbrev pub name_by : Graph → Option ℕ → Option Text
+  name_by holders None = None
+  name_by holders (Some j) = option_map (name_in names) (slice_get (edges_at holders j) 0)
+
+  abbrev pub undefined_here : List Bool → Graph → Found → List spec.Finding
+  undefined_here known holders o = if is_unknown known o then spec.undefined (name_by holders o.declaration) (name_in names o.name) ∷ [] else []
+
+  abbrev pub cycle_here : ℕ → Option ℕ → List spec.Finding
+  cycle_here a None = []
+  cycle_here a (Some last) = spec.cycle (name_in names a) (name_in names last) ∷ []
+
+-- by marks of what a node reaches, whether another is marked and leads to it
+abbrev pub closes : Graph → List Bool → ℕ → ℕ → Bool
+closes g marks a last = mark_at marks last && list_any (λ t. t == a) (edges_at g last)
+
+-- a node reaches another, or is it, which leads back
+abbrev pub ClosesRing : Graph → ℕ → ℕ → Type 0
+ClosesRing g a last = ((a ≡ last) ⊎ Path g a last) × Leads g last a
+
+-- of these nodes those that reach themselves
+abbrev pub AreRings : List Text → Graph → List ℕ → List ℕ → List spec.Finding → Type 0
+AreRings names g declared [] fs = fs ≡ []
+AreRings names g declared (a ∷ others) fs =
+    (last : Option ℕ) × (rest : List spec.Finding) × IsFirst (ClosesRing g a) declared last × AreRings names g declared others rest × (fs ≡ cycle_here names a last ++ rest)
+
+-- they are added
+abbrev pub AddsRings : List Text → Graph → List ℕ → List spec.Finding → List spec.Finding → Type 0
+AddsRings names g declared old new = (cs : List spec.Finding) × AreRings names g declared declared cs × (new ≡ old ++ cs)
+
+-- the declarations of a module that reach themselves are put after those before
+abbrev pub AddsCycles : UnitView → List Finding → List Finding → Type 0
+AddsCycles u old new = (cs : List spec.Finding) × AreCycles u (declared u) cs × AreAdded old new cs

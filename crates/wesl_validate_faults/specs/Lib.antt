@@ -1,0 +1,5 @@
+pub mod Findings
+pub mod Gathered
+pub mod Laws
+pub mod Listed
+pub mod Telling
