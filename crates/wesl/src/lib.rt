@@ -23,6 +23,7 @@ pub use wesl_json::value_of_unit;
 pub use wesl_json::value_of_unit_2;
 pub use wesl_link::Mapped;
 pub use wesl_link::Resolutions;
+pub use wesl_link::Step;
 pub use wesl_link::link_mapped;
 pub use wesl_link::link_under;
 pub use wesl_link::resolve_eager;

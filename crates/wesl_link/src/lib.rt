@@ -13,5 +13,5 @@ pub use mapped::{Mapped, link_mapped};
 pub use resolutions::Resolutions;
 pub use resolve::{resolve_eager, resolve_lazy};
 pub use wesl_cond::condition;
-pub use wesl_link_engine::{LinkRequest, law_of_eager_links, law_of_links};
+pub use wesl_link_engine::{LinkRequest, Step, law_of_eager_links, law_of_links};
 pub use wesl_resolve_base::Resolver;

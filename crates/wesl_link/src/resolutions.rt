@@ -1,13 +1,15 @@
 //! What a link found: its modules, what they declare that is reached, and the names that these print as.
-ghost use Rattle.std.specs.Prelude.{◌≡◌, ◌⊎◌, true, IsTrue, OnOk, OnErr, IfOk, IfErr, option_map};
+ghost use Rattle.std.specs.Prelude.{◌≡◌, ◌⊎◌, ◌↔◌, true, None, IsTrue, OnOk, OnErr, IfOk, IfErr, option_map};
 ghost use Rattle.wesl_tree_names.specs.declared.errors.Error as error;
 ghost use Rattle.wesl_tree_names.specs.Path.{Text, Path, path_view};
 ghost use Rattle.wesl_tree.specs.Translation.{unit_view};
 ghost use Rattle.wesl_link_engine.specs.Given.{SameVariants};
 ghost use Rattle.wesl_link_engine.specs.Resolved.{paths_of, paths_told, first_path, IsNothing, IsMangled, AssemblesTo, RecordsWrites};
 ghost use Rattle.wesl_link_engine.specs.Keeping as linker;
+ghost use Rattle.wesl_link_engine.specs.Reasons.{IsHeldIn, TellsReason, item_at, module_node};
 
 use std::alloc::Global;
+use wesl_link_engine::Step;
 use wesl_link_sound::law_of_sound_links;
 use wesl_mangle_forms::Mangler;
 use wesl_tree::TranslationUnit;
@@ -98,5 +100,49 @@ impl Resolutions {
     {
         law_of_sound_links();
         self.found.assemble(alloc, strip)
+    }
+
+    /// Why the declarations of a name in the module at a path are held (WESL, "Imports"): the steps to their symbol. The first
+    /// is a kept name or the root's module, the last the symbol, and each next one is asked for by the one before: by a kept
+    /// name, by a declaration, by a const_assert of a module, or in an eager link by a module that takes it with it.
+    ///
+    /// None where the symbol is not held. Refused for want of memory alone. A call goes once through what the link reached.
+    ///
+    /// ```
+    /// for step in resolutions.reason(alloc, &path, "light")?.iter().flatten() {
+    ///     match step {
+    ///         Step::KeptName(name) => println!(rt; "{name} is kept")?,
+    ///         Step::Module(module) => println!(rt; "a const_assert of {module}")?,
+    ///         Step::Item(module, name) => println!(rt; "{name} of {module}")?,
+    ///     }
+    /// }
+    /// ```
+    pub fn reason(
+        &self,
+        alloc: Global,
+        path: &ModulePath,
+        name: &str,
+    ) -> Result<Option<Vec<Step<'_>>>, Error>
+        ensures told { IfOk result (TellsReason (resolved self.now) (item_at path.now name.now)) }
+        ensures none { IfOk result (λ o. (o ≡ None) ↔ (IsHeldIn (resolved self.now) (item_at path.now name.now) → ⊥)) }
+        ensures refused { IfErr result (λ e. e ≡ error.Memory) }
+    {
+        law_of_sound_links();
+        self.found.reason(alloc, path, name)
+    }
+
+    /// Why the module at a path is loaded: the steps to it, as `reason` tells those to a symbol. None where it is not entered.
+    /// Refused for want of memory alone.
+    pub fn module_reason(
+        &self,
+        alloc: Global,
+        path: &ModulePath,
+    ) -> Result<Option<Vec<Step<'_>>>, Error>
+        ensures told { IfOk result (TellsReason (resolved self.now) (module_node path.now)) }
+        ensures none { IfOk result (λ o. (o ≡ None) ↔ (IsHeldIn (resolved self.now) (module_node path.now) → ⊥)) }
+        ensures refused { IfErr result (λ e. e ≡ error.Memory) }
+    {
+        law_of_sound_links();
+        self.found.module_reason(alloc, path)
     }
 }

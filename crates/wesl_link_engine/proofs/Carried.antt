@@ -186,7 +186,7 @@ module _ {P N Q M : Type 0} (R : P → Q → Type 0) (S : N → M → Type 0) (r
       let (f, g, h) = related_in (SameDeclaration R S) t.declarations u.declarations d same.declarations c in
       (f, g, option_one S ss n f.name m (subst (λ (o : Option N). IsRelatedOption S o f.name) e h.name) s, h)
 
-  asks_from_to : (n : Option N) (m : Option M) (l : LookUp P N) → IsRelatedOption S n m → AsksFrom t n l → (k : LookUp Q M) × AsksFrom u m k × SameLookUp R S l k
+  pub asks_from_to : (n : Option N) (m : Option M) (l : LookUp P N) → IsRelatedOption S n m → AsksFrom t n l → (k : LookUp Q M) × AsksFrom u m k × SameLookUp R S l k
   asks_from_to n m l s (r, (d, c, e, g), is) =
       let (f, x, named, h) = from_to n m d s c e in
       let (q, y, k) = related_in (SameReference R S) d.references f.references r h.references g in (
@@ -307,7 +307,7 @@ module _ {P N Q M : Type 0} (R : P → Q → Type 0) (S : N → M → Type 0) (r
 -- ---- worlds
 
 module _ {P N Q M : Type 0} (R : P → Q → Type 0) (S : N → M → Type 0) (rs : IsOneToOne R) (ss : IsOneToOne S) (w : List (Table P N)) (v : List (Table Q M)) (covers : Covers R S w v) where
-  at_to : (p : P) (q : Q) (t : Table P N) → R p q → IsAt w p t → (u : Table Q M) × IsAt v q u × SameTable R S t u
+  pub at_to : (p : P) (q : Q) (t : Table P N) → R p q → IsAt w p t → (u : Table Q M) × IsAt v q u × SameTable R S t u
   at_to p q t h (c, e) =
       let (u, d, same) = covers.covered t c in
       (u, (d, rs.one p u.path q (subst (λ (x : P). R x u.path) e same.path) h), same)
@@ -325,7 +325,7 @@ module _ {P N Q M : Type 0} (R : P → Q → Type 0) (S : N → M → Type 0) (r
       let (u, at2, same) = at_to a.path c.path t h.path at in
       let (d, there, k) = next_to R S rs ss t u same a c h b next in (d, (u, at2, there), k)
 
-  comes_to : (l : LookUp P N) (k : LookUp Q M) (a : LookUp P N) → SameLookUp R S l k → ComesTo w l a → (b : LookUp Q M) × ComesTo v k b × SameLookUp R S a b
+  pub comes_to : (l : LookUp P N) (k : LookUp Q M) (a : LookUp P N) → SameLookUp R S l k → ComesTo w l a → (b : LookUp Q M) × ComesTo v k b × SameLookUp R S a b
   comes_to l k a h (stays _) = (k, stays k, h)
   comes_to l k a h (hops _ n _ hop r) =
       let (m, g, same) = hops_to l n k h hop in
@@ -383,7 +383,7 @@ module _ {P N Q M : Type 0} (R : P → Q → Type 0) (S : N → M → Type 0) (r
       let (b, there, same) = ends_to Ambiguous Ambiguous (ambiguous_same R S rs ss) l k a h ends in (b.name, subst (λ (x : N). S x b.name) en same.name, (b, refl, there))
 
   module _ (a : Task P N) (b : Task Q M) (same : SameTask R S a b) where
-    kept_to : (l : LookUp P N) → IsKept a l → (k : LookUp Q M) × IsKept b k × SameLookUp R S l k
+    pub kept_to : (l : LookUp P N) → IsKept a l → (k : LookUp Q M) × IsKept b k × SameLookUp R S l k
     kept_to l (n, c, e) =
         let (m, d, h) = related_in S a.kept b.kept n same.kept c in (
           record { asker = None; path = b.root; name = m; from = Always },

@@ -29,3 +29,5 @@ pub mod Mangled
 pub mod Faultless
 pub mod Excluding
 pub mod Entries
+pub mod Chained
+pub mod Reasoned

@@ -12,16 +12,18 @@ use Rattle.wesl_tree.specs.Translation.{unit_view}
 use Rattle.wesl_tree.specs.declared.unit.TranslationUnit.{TranslationUnit}
 use Rattle.wesl_link_symbols.specs.declared.ids.PathId.{PathId}
 use Rattle.wesl_tree_base.specs.declared.ids.NameId.{NameId}
+use Rattle.wesl_link_symbols.specs.declared.symbols.LookUp.{LookUp}
 use Rattle.wesl_link_symbols.specs.declared.symbols.Symbol.{Symbol}
 use Rattle.wesl_link_symbols.specs.Tables.{Table}
 use Rattle.wesl_link_symbols.specs.Names.{IsUnclearFrom}
-use Rattle.wesl_link_reach.specs.World.{Task, Reached}
-use Rattle.wesl_link_reach.specs.Faults.{ambiguous}
+use Rattle.wesl_link_reach.specs.World.{Task, Reached, Followed, IsMissingAt}
+use Rattle.wesl_link_reach.specs.Faults.{ambiguous, missing}
 use Rattle.wesl_link_reach.specs.Keeping.{IsHeld}
 use Rattle.wesl_link_reach.specs.Linking as linking
 use Rattle.wesl_link_symbols.proofs.Entries.{found_at}
 use Rattle.wesl_link_symbols.proofs.Lists.{contains_cases, contains_first, contains_later}
 use Rattle.wesl_link_reach.proofs.Lists.{contains_map, map_contains}
+use Rattle.wesl_link_reasons.specs.Reasons.{task_from}
 use Rattle.wesl_link_tables.specs.Numbering.{Numbering, AreRelated, Grows, NameAt, PathAt, AreDifferent, IsNumbered, SameTable}
 use Rattle.wesl_link_tables.specs.TextsView.{numbering_of_texts as numbering}
 use Rattle.wesl_link_tables.specs.Marks.{AreMarked}
@@ -171,6 +173,12 @@ module _ (numbers : NumberTexts) (first : Numbering) (g : Grows first (numbering
   clear t None n c held unclear = linked.no_fault (ambiguous n) (inl (t, c, (linked.paths t.path).0 (t, (c, refl)), unclear))
   clear t (Some m) n c held unclear = let s : Symbol PathId NameId = record { path = t.path; name = m } in linked.no_fault (ambiguous n) (inr (inl (s, t, (linked.symbols s).0 held, (c, refl), unclear)))
 
+  -- no look-up from the kept names is missing
+  no_missing : (r : PathId) (look : LookUp PathId NameId) (p : PathId) (n : NameId) → PathAt nb r (path_view path) → Followed k.tables (task_from r kept.items is_eager) look → IsMissingAt k.tables look p n → ⊥
+  no_missing r look p n at follows lacks =
+      let same_root : r ≡ rt.path = (paths_one nb numbers.paths.different).other r rt.path (path_view path) at root_now.path in
+      linked.no_fault (missing p n) (look, subst (λ (x : PathId). Followed k.tables (task_from x kept.items is_eager) look) same_root follows, lacks)
+
   pub sound : IsLinkOf (task_in link) link
   sound = subst (λ (xs : List Text). IsLinkOf (task_of rm xs is_eager) link) (sym (texts_are nb kept.items keep kept_now)) (record {
     tabled = tabled;
@@ -178,6 +186,9 @@ module _ (numbers : NumberTexts) (first : Numbering) (g : Grows first (numbering
     once = found_now.once;
     asked = λ m c. is_false (is_relative (path_view m.path)) (found_now.world.no_relative (module_of m) (map_contains module_of (first_loaded ∷ others.items) m c));
     reached = reached;
+    kept = kept_now;
+    tables_once = linked.tables_once;
+    no_missing = no_missing;
     clear = clear;
   })
 

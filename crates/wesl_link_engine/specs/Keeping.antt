@@ -4,13 +4,16 @@ use Rattle.wesl_tree_names.specs.Path.{Text, Path, root_path, path_view, is_rela
 use Rattle.wesl_tree_names.specs.PathOrder.{same_path}
 use Rattle.wesl_link_symbols.specs.declared.ids.PathId.{PathId}
 use Rattle.wesl_tree_base.specs.declared.ids.NameId.{NameId}
+use Rattle.wesl_link_symbols.specs.declared.symbols.LookUp.{LookUp}
 use Rattle.wesl_link_symbols.specs.declared.symbols.Symbol.{Symbol}
 use Rattle.wesl_link_symbols.specs.Tables.{Table}
 use Rattle.wesl_link_symbols.specs.Names.{IsUnclearFrom}
-use Rattle.wesl_link_reach.specs.World.{Task, Reached}
+use Rattle.wesl_link_reach.specs.World.{Task, Reached, Followed, IsMissingAt}
 use Rattle.wesl_link_reach.specs.Faults.{AreDistinct}
 use Rattle.wesl_link_reach.specs.Keeping.{IsHeld}
-use Rattle.wesl_link_tables.specs.Numbering.{Numbering, NameAt, PathAt, IsNumbered}
+use Rattle.wesl_link_reach.specs.Linking.{paths}
+use Rattle.wesl_link_reasons.specs.Reasons.{task_from}
+use Rattle.wesl_link_tables.specs.Numbering.{Numbering, AreRelated, NameAt, PathAt, IsNumbered}
 use Rattle.wesl_link_tables.specs.TextsView.{numbering_of_texts as numbering}
 use Rattle.wesl_link_assembly.specs.Denotations.{symbol, local, free_name}
 use Rattle.wesl_link_assembly.specs.Views.{Meaning}
@@ -71,8 +74,8 @@ modules_in l = loaded_modules (all_loaded l)
 abbrev pub IsCovered : Numbering → List LoadedModule → Table PathId NameId → Type 0
 IsCovered nb ms t = (m : LoadedModule) × Contains ms m × IsNumbered nb t (table (module_of m))
 
--- the tables are those of the modules, each path once, the symbols are the reached ones, and no name that a held declaration
--- uses stands for two things
+-- the tables are those of the modules, each path once, the symbols are the reached ones, no look-up that is followed from the
+-- kept names is missing, and no name that a held declaration uses stands for two things
 pub record IsLinkOf (task : Task Path Text) (l : Link) : Type 0 where
   pub tabled : (m : LoadedModule) → Contains (all_loaded l) m → IsTabled (numbering l.numbers) l.linked.tables m
   pub covered : (t : Table PathId NameId) → Contains l.linked.tables t → IsCovered (numbering l.numbers) (all_loaded l) t
@@ -80,6 +83,10 @@ pub record IsLinkOf (task : Task Path Text) (l : Link) : Type 0 where
   pub asked : (m : LoadedModule) → Contains (all_loaded l) m → is_relative (path_view m.path) ≡ false
   pub reached : (s : Symbol PathId NameId) (x : Symbol Path Text) → PathAt (numbering l.numbers) s.path x.path → NameAt (numbering l.numbers) s.name x.name
       → Contains l.linked.symbols s ↔ Reached (tables (modules_in l)) task x
+  pub kept : AreRelated (NameAt (numbering l.numbers)) l.kept.items task.kept
+  pub tables_once : AreDistinct (paths l.linked.tables)
+  pub no_missing : (root : PathId) (look : LookUp PathId NameId) (p : PathId) (n : NameId) → PathAt (numbering l.numbers) root (path_view l.root.path)
+      → Followed l.linked.tables (task_from root l.kept.items l.is_eager) look → IsMissingAt l.linked.tables look p n → ⊥
   pub clear : (t : Table PathId NameId) (name : Option NameId) (n : NameId) → Contains l.linked.tables t → IsHeld l.linked t.path name → IsUnclearFrom t name n → ⊥
 
 abbrev pub kept_texts : Link → List Text

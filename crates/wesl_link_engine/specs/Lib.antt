@@ -15,3 +15,4 @@ pub mod Asking
 pub mod Linking
 pub mod Rooted
 pub mod Laws
+pub mod Reasons

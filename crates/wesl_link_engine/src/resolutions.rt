@@ -1,5 +1,5 @@
 //! What a link found: its modules, what they declare that is reached, and the names that these print as.
-ghost use Rattle.std.specs.Prelude.{◌≡◌, ◌⊎◌, true, IsTrue, OnOk, OnErr, IfOk, IfErr, option_map};
+ghost use Rattle.std.specs.Prelude.{◌≡◌, ◌⊎◌, ◌↔◌, true, None, IsTrue, OnOk, OnErr, IfOk, IfErr, option_map};
 ghost use Rattle.wesl_tree_names.specs.declared.errors.Error as error;
 ghost use Rattle.wesl_tree_names.specs.Path.{Text, Path, path_view};
 ghost use Rattle.wesl_tree.specs.Translation.{unit_view};
@@ -8,10 +8,13 @@ ghost use Rattle.wesl_link_engine.specs.GivenView.{given as given_names};
 ghost use Rattle.wesl_link_engine.specs.Resolved.{paths_of, paths_told, first_path, IsNothing, IsMangled, AssemblesTo, RecordsWrites};
 ghost use Rattle.wesl_link_engine.specs.Keeping.{modules_in, IsLinkOf, task_in, IsSound, resolved, modules_of, turns_of};
 ghost use Rattle.wesl_link_engine.specs.Holding.{IsGivenAll};
+ghost use Rattle.wesl_link_engine.specs.Reasons.{IsHeldIn, TellsReason, item_at, module_node};
 
 use crate::assemble::assembled;
 use crate::given::GivenNames;
 use crate::link::{Link, table_at};
+use crate::reasons::{item_reason, module_reason};
+use crate::steps::Step;
 use std::alloc::{AllocError, Global};
 use wesl_mangle_forms::Mangler;
 use wesl_tree::TranslationUnit;
@@ -150,6 +153,42 @@ impl Resolutions {
         match &self.link {
             Some(link) => assembled(alloc, link, &self.given),
             None => Ok(TranslationUnit::new(alloc)),
+        }
+    }
+
+    /// Why the declarations of a name in the module at a path are held: steps from a kept name or the root's module to them,
+    /// each next one asked for by the one before. None where their symbol is not reached. Refused for want of memory alone.
+    pub fn reason(
+        &self,
+        alloc: Global,
+        path: &ModulePath,
+        name: &str,
+    ) -> Result<Option<Vec<Step<'_>>>, Error>
+        requires sound { IsSound self.now }
+        ensures told { IfOk result (TellsReason (resolved self.now) (item_at path.now name.now)) }
+        ensures none { IfOk result (λ o. (o ≡ None) ↔ (IsHeldIn (resolved self.now) (item_at path.now name.now) → ⊥)) }
+        ensures refused { IfErr result (λ e. e ≡ error.Memory) }
+    {
+        match &self.link {
+            Some(link) => Ok(item_reason(alloc, link, path, name)?),
+            None => Ok(None),
+        }
+    }
+
+    /// Why the module at a path is loaded: the same of it. None where it is not entered. Refused for want of memory alone.
+    pub fn module_reason(
+        &self,
+        alloc: Global,
+        path: &ModulePath,
+    ) -> Result<Option<Vec<Step<'_>>>, Error>
+        requires sound { IsSound self.now }
+        ensures told { IfOk result (TellsReason (resolved self.now) (module_node path.now)) }
+        ensures none { IfOk result (λ o. (o ≡ None) ↔ (IsHeldIn (resolved self.now) (module_node path.now) → ⊥)) }
+        ensures refused { IfErr result (λ e. e ≡ error.Memory) }
+    {
+        match &self.link {
+            Some(link) => Ok(module_reason(alloc, link, path)?),
+            None => Ok(None),
         }
     }
 }

@@ -81,8 +81,9 @@ fn chain_to(
 }
 
 impl Reasons {
-    /// A chain to a node, if the node was found.
-    fn of_node(
+    /// Why a node is held in the link: nodes from a kept name or the root's module to it, each next one asked for by the one
+    /// before (WESL, "Imports"). None where the node is not held. Refused for want of memory alone.
+    pub fn of_node(
         &self,
         alloc: Global,
         node: Node<PathId, NameId>,
@@ -96,8 +97,7 @@ impl Reasons {
         }
     }
 
-    /// Why a symbol is held in the link: nodes from a kept name or the root's module to the symbol, each next one asked for by
-    /// the one before (WESL, "Imports"). None where the symbol is not held. Refused for want of memory alone.
+    /// Why a symbol is held in the link: the same of it. None where it is not reached. Refused for want of memory alone.
     pub fn of_symbol(
         &self,
         alloc: Global,

@@ -9,8 +9,9 @@ use Rattle.wesl_link_symbols.specs.Tables.{Table}
 use Rattle.wesl_link_symbols.specs.Laws.{IsDecided}
 use Rattle.wesl_link_reach.specs.World.{Task, Reached}
 use Rattle.wesl_link_reach.specs.Faults.{AreDistinct}
+use Rattle.wesl_link_reach.specs.Linking.{paths}
 use Rattle.wesl_link_reach.specs.Faults.AreDistinct.{none as none_distinct, one_more as one_distinct}
-use Rattle.wesl_link_tables.specs.Numbering.{Numbering, IsNumbered}
+use Rattle.wesl_link_tables.specs.Numbering.{Numbering, NameAt, IsNumbered}
 use Rattle.wesl_link_tables.specs.Tables.{uses}
 use Rattle.wesl_link_tables.specs.TextsView.{numbering_of_texts as numbering}
 use Rattle.wesl_link_engine.specs.Worlds.{table, tables}
@@ -23,7 +24,7 @@ use Rattle.wesl_link_sound.proofs.Decidable.{IsDecidable, decided_by, both, some
 use Rattle.wesl_link_sound.proofs.Paths.{same_text, same_path, contains_decided}
 use Rattle.wesl_link_sound.proofs.Leading.{same_symbol}
 use Rattle.wesl_link_sound.proofs.Reaching.{reached_decided}
-use Rattle.wesl_link_sound.proofs.Numbered.{numbered_decided, marked_decided}
+use Rattle.wesl_link_sound.proofs.Numbered.{related_decided, name_decided, numbered_decided, marked_decided}
 
 -- what cannot be denied holds
 abbrev pub IsStable : Type 0 → Type 0
@@ -82,6 +83,9 @@ link_stable task l h = record {
   once = part h (λ k. k.once) (distinct_stable (paths_of (modules_in l)));
   asked = λ m c. part h (λ k. k.asked m c) (really (same_bool (is_relative (path_view m.path)) false));
   reached = λ s x p n. part h (λ k. k.reached s x p n) (reached_stable l task s x);
+  kept = part h (λ k. k.kept) (really (related_decided (NameAt (numbering l.numbers)) (name_decided (numbering l.numbers)) l.kept.items task.kept));
+  tables_once = part h (λ k. k.tables_once) (distinct_stable (paths l.linked.tables));
+  no_missing = λ root look p n at follows lacks. h (λ k. k.no_missing root look p n at follows lacks);
   clear = λ t name n c held unclear. h (λ k. k.clear t name n c held unclear);
 }
 

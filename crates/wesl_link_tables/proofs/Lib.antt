@@ -15,3 +15,4 @@ pub mod Pieced
 pub mod Marking
 pub mod Scoping
 pub mod Tabling
+pub mod Looked

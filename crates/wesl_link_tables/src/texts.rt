@@ -2,12 +2,12 @@
 //!
 //! No type here names one of those that give numbers: a library above that hands these out would carry what is stated of
 //! them.
-ghost use Rattle.std.specs.Prelude.{◌≡◌, false, All, IfSome, IfNone, Some, None, map, slice_get, string_bytes};
+ghost use Rattle.std.specs.Prelude.{◌≡◌, ℕ, false, All, IfSome, IfNone, Some, None, map, slice_get, string_bytes};
 ghost use Rattle.wesl_tree_names.specs.Path.{path_view, is_relative};
 ghost use Rattle.wesl_tree_interner.specs.Different.{AreDifferent};
 
-use wesl_link_symbols::ids::NameId;
-use wesl_tree_names::ModulePath;
+use wesl_link_symbols::ids::{NameId, PathId};
+use wesl_tree_names::{ModulePath, law_of_equality};
 
 /// The names of a link by their numbers.
 #[derive(Drop)]
@@ -35,6 +35,19 @@ impl NameTexts {
             None => None,
         }
     }
+
+    /// The number that a name has, if it has one: each name is looked at once. It takes no memory.
+    pub fn find(&self, name: &str) -> Option<NameId>
+        ensures found { IfSome result (λ n. slice_get (map string_bytes self.now.texts.items) n.0 ≡ Some name.now) }
+        ensures none { IfNone result ((i : ℕ) → slice_get (map string_bytes self.now.texts.items) i ≡ Some name.now → ⊥) }
+    {
+        for (place, text) in self.texts.iter().enumerate() {
+            if text.as_str() == name {
+                return Some(NameId(place));
+            }
+        }
+        None
+    }
 }
 
 /// The paths of a link by their numbers, none of them relative.
@@ -53,6 +66,28 @@ impl PathTexts {
         ensures { result.paths ≡ paths }
     {
         PathTexts { paths }
+    }
+
+    /// The path of a number, if it has one. It takes no memory.
+    pub fn path(&self, id: PathId) -> Option<&ModulePath>
+        ensures found { IfSome result (λ p. slice_get (map path_view self.now.paths.items) id.0 ≡ Some (path_view p.now)) }
+        ensures none { IfNone result (slice_get (map path_view self.now.paths.items) id.0 ≡ None) }
+    {
+        self.paths.get(id.0)
+    }
+
+    /// The number that a path has, if it has one: each path is looked at once. It takes no memory.
+    pub fn find(&self, path: &ModulePath) -> Option<PathId>
+        ensures found { IfSome result (λ p. slice_get (map path_view self.now.paths.items) p.0 ≡ Some (path_view path.now)) }
+        ensures none { IfNone result ((i : ℕ) → slice_get (map path_view self.now.paths.items) i ≡ Some (path_view path.now) → ⊥) }
+    {
+        law_of_equality();
+        for (place, one) in self.paths.iter().enumerate() {
+            if one == path {
+                return Some(PathId(place));
+            }
+        }
+        None
     }
 }
 

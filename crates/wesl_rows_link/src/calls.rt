@@ -1,5 +1,5 @@
 //! The calls by their names: what is not among the calls of one list is looked up in the next.
-use crate::{chains, links, manglers, names, packages, resolvers, tables};
+use crate::{chains, links, manglers, names, packages, reasons, resolvers, tables};
 use serde_json::Value;
 use wesl_mangle::{EscapeMangler, NoMangler, UnicodeMangler};
 use wesl_rows_base::Row;
@@ -14,6 +14,11 @@ pub fn answered(row: Row<'_>) -> Value {
         "resolve_lazy, then names_clash" => links::clash(row),
         "resolve_lazy of a chain" => chains::counted(row, false),
         "resolve_eager of a chain" => chains::counted(row, true),
+        "Resolutions::new_uninit, then reason" => reasons::of_nothing(row),
+        "resolve_lazy, then reason" => reasons::of_item(row, false),
+        "resolve_eager, then reason" => reasons::of_item(row, true),
+        "resolve_lazy, then module_reason" => reasons::of_module(row, false),
+        "resolve_eager, then module_reason" => reasons::of_module(row, true),
         "wesl_link_reach::link_table" => tables::linked(row),
         "Interner::intern, or what stands" => names::interned_or_left(row),
         "Names::add, or what stands" => names::added_or_left(row),

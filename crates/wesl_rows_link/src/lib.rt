@@ -9,6 +9,7 @@ mod links;
 mod manglers;
 mod names;
 mod packages;
+mod reasons;
 mod resolvers;
 mod tables;
 

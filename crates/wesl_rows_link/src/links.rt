@@ -57,7 +57,7 @@ pub fn link(
 }
 
 /// The link of a row's modules, from its `unit` at its `path`: an eager one, or a lazy one with the names `keep`.
-fn linked(row: Row<'_>, is_eager: bool) -> Result<Resolutions, Diagnostic> {
+pub fn linked(row: Row<'_>, is_eager: bool) -> Result<Resolutions, Diagnostic> {
     let keep = row.texts("keep");
     let modules = row.modules("modules");
     link(

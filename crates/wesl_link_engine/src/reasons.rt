@@ -1,0 +1,108 @@
+//! Why something is held in a link.
+ghost use Rattle.std.specs.Prelude.{IfOk, IfSome, IfNone};
+ghost use Rattle.wesl_link_symbols.specs.declared.ids.PathId.{PathId};
+ghost use Rattle.wesl_tree_base.specs.declared.ids.NameId.{NameId};
+ghost use Rattle.wesl_link_reasons.specs.declared.node.Node as nodes;
+ghost use Rattle.wesl_link_tables.specs.TextsView.{numbering_of_texts as numbering};
+ghost use Rattle.wesl_link_engine.specs.Keeping.{IsLinkOf, task_in};
+ghost use Rattle.wesl_link_engine.specs.Reasons.{AreReasonsIn, HasTexts, HoldsIn, IsNodeOf, IsReasonOf, item_at, module_node, told_node, steps_told};
+
+use crate::link::{Link, table_at};
+use crate::steps::{Step, steps_of};
+use std::alloc::{AllocError, Global};
+use wesl_link_reasons::node::Node;
+use wesl_link_reasons::{Reasons, reasons_of};
+use wesl_link_symbols::ids::{NameId, PathId};
+use wesl_link_symbols::symbols::Symbol;
+use wesl_link_tables::texts::NumberTexts;
+use wesl_tree_names::ModulePath;
+
+/// The symbol of a name in the module at a path, if both have numbers.
+pub(crate) fn item_of(
+    numbers: &NumberTexts,
+    path: &ModulePath,
+    name: &str,
+) -> Option<Node<PathId, NameId>>
+    ensures found { IfSome result (IsNodeOf (numbering numbers.now) (item_at path.now name.now)) }
+    ensures none { IfNone result ((x : nodes.Node PathId NameId) → IsNodeOf (numbering numbers.now) (item_at path.now name.now) x → ⊥) }
+{
+    match numbers.paths.find(path) {
+        Some(path) => match numbers.names.find(name) {
+            Some(name) => Some(Node::Item(Symbol { path, name })),
+            None => None,
+        },
+        None => None,
+    }
+}
+
+/// The module at a path, if it has a number.
+pub(crate) fn module_of(numbers: &NumberTexts, path: &ModulePath) -> Option<Node<PathId, NameId>>
+    ensures found { IfSome result (IsNodeOf (numbering numbers.now) (module_node path.now)) }
+    ensures none { IfNone result ((x : nodes.Node PathId NameId) → IsNodeOf (numbering numbers.now) (module_node path.now) x → ⊥) }
+{
+    match numbers.paths.find(path) {
+        Some(path) => Some(Node::Module(path)),
+        None => None,
+    }
+}
+
+/// Why each symbol and each module of a link is held.
+fn all_reasons(alloc: Global, link: &Link) -> Result<Reasons, AllocError>
+    requires sound { IsLinkOf (task_in link.now) link.now }
+    ensures { IfOk result (AreReasonsIn link.now) }
+{
+    let root = table_at(&link.linked, link.root.place).path();
+    let reasons = reasons_of(alloc, link.linked.tables(), root, &link.kept, link.is_eager)?;
+    Ok(reasons)
+}
+
+/// The steps to a node; none where it is not held.
+fn steps_to<'a>(
+    alloc: Global,
+    link: &'a Link,
+    node: Node<PathId, NameId>,
+) -> Result<Option<Vec<Step<'a>>>, AllocError>
+    requires sound { IsLinkOf (task_in link.now) link.now }
+    requires named { HasTexts (numbering link.now.numbers) node }
+    ensures told { IfOk result (λ o. IfSome o (λ steps. IsReasonOf link.now (told_node (numbering link.now.numbers) node) (steps_told steps.items))) }
+    ensures none { IfOk result (λ o. IfNone o (HoldsIn link.now (told_node (numbering link.now.numbers) node) → ⊥)) }
+{
+    let reasons = all_reasons(alloc, link)?;
+    match reasons.of_node(alloc, node)? {
+        Some(chain) => Ok(Some(steps_of(alloc, &link.numbers, &chain)?)),
+        None => Ok(None),
+    }
+}
+
+/// Why the symbol of a name in the module at a path is held in a link.
+pub(crate) fn item_reason<'a>(
+    alloc: Global,
+    link: &'a Link,
+    path: &ModulePath,
+    name: &str,
+) -> Result<Option<Vec<Step<'a>>>, AllocError>
+    requires sound { IsLinkOf (task_in link.now) link.now }
+    ensures told { IfOk result (λ o. IfSome o (λ steps. IsReasonOf link.now (item_at path.now name.now) (steps_told steps.items))) }
+    ensures none { IfOk result (λ o. IfNone o (HoldsIn link.now (item_at path.now name.now) → ⊥)) }
+{
+    match item_of(&link.numbers, path, name) {
+        Some(node) => steps_to(alloc, link, node),
+        None => Ok(None),
+    }
+}
+
+/// Why the module at a path is held in a link.
+pub(crate) fn module_reason<'a>(
+    alloc: Global,
+    link: &'a Link,
+    path: &ModulePath,
+) -> Result<Option<Vec<Step<'a>>>, AllocError>
+    requires sound { IsLinkOf (task_in link.now) link.now }
+    ensures told { IfOk result (λ o. IfSome o (λ steps. IsReasonOf link.now (module_node path.now) (steps_told steps.items))) }
+    ensures none { IfOk result (λ o. IfNone o (HoldsIn link.now (module_node path.now) → ⊥)) }
+{
+    match module_of(&link.numbers, path) {
+        Some(node) => steps_to(alloc, link, node),
+        None => Ok(None),
+    }
+}
