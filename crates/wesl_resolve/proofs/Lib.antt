@@ -4,3 +4,4 @@ pub mod TextsLemmas
 pub mod PreprocessorLemmas
 pub mod StandardLemmas
 pub mod OfPackages
+pub mod Placing

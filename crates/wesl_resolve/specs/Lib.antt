@@ -6,3 +6,4 @@ pub mod Held
 pub mod RouterMeaning
 pub mod StandardMeaning
 pub mod PackageViews
+pub mod Places

@@ -2,6 +2,7 @@
 //! re-exports.
 #![tactic(auto)]
 
+mod package_index;
 mod packages;
 mod pkg_resolver;
 mod preprocessor;

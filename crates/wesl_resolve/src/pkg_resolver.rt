@@ -5,10 +5,12 @@ ghost use Rattle.wesl_tree_names.specs.Errors.{OrMemory};
 ghost use Rattle.wesl_tree_names.specs.declared.errors.Error as error;
 ghost use Rattle.wesl_tree_syntax.specs.Unit.{spelled};
 ghost use Rattle.wesl_tree.specs.Translation.{unit_view};
-ghost use Rattle.wesl_resolve_base.specs.Packages.{IsMissingIn, IsReadIn, IsRefusedIn, IsSourceIn};
+ghost use Rattle.wesl_resolve_base.specs.Packages.{IsMissingIn, IsReadIn, IsRefusedIn, IsSourceIn, source_of};
+ghost use Rattle.wesl_resolve.specs.Places.{AreNoted, HaveNames};
 
+use crate::package_index::PackageIndex;
 use std::alloc::Global;
-use wesl_resolve_base::{CodegenPkg, Resolver, UnitText, copied, module_at, read_module};
+use wesl_resolve_base::{CodegenModule, CodegenPkg, Resolver, UnitText, copied, read_module};
 use wesl_tree::TranslationUnit;
 use wesl_tree_names::{Error, ModulePath, ResolveError};
 
@@ -21,6 +23,10 @@ use wesl_tree_names::{Error, ModulePath, ResolveError};
 pub struct PkgResolver<P> {
     text: P,
     packages: Vec<CodegenPkg>,
+    // what is noted of them, so that a path leads to its module by one look-up
+    index: PackageIndex,
+    pub ghost named: { HaveNames packages.items index.names },
+    pub ghost noted: { AreNoted packages.items index.places },
 }
 
 // By hand, so that it is proved once: a derived one is proved in each crate that lets go of a value.
@@ -29,6 +35,7 @@ impl<P: Drop> Drop for PkgResolver<P> {
         let PkgResolver {
             text: _,
             packages: _,
+            index: _,
         } = self;
     }
 }
@@ -44,6 +51,7 @@ impl<P> PkgResolver<P> {
         PkgResolver {
             text,
             packages: Vec::new(alloc),
+            index: PackageIndex::new(alloc),
         }
     }
 
@@ -54,8 +62,34 @@ impl<P> PkgResolver<P> {
         ensures text { package_reader_of self.new ≡ package_reader_of self.old }
         ensures refused { IfErr result (λ e. e ≡ error.Memory) }
     {
-        self.packages.push(package)?;
-        Ok(())
+        self.index.push(&mut self.packages, package)
+    }
+}
+
+impl<P> PkgResolver<P> {
+    ghost use Rattle.wesl_resolve.specs.Held.{packages_of};
+
+    /// A module that says what the one at a path says.
+    fn module_at(&self, alloc: Global, path: &ModulePath) -> Result<&CodegenModule, ResolveError>
+        ensures found { IfOk result (λ m. IsSourceIn (packages_of self.now) (path_view path.now) (source_of m.now)) }
+        ensures missing { IfErr result (OrMemory (IsMissingIn (packages_of self.now) (path_view path.now))) }
+    {
+        self.index.module_at(alloc, &self.packages, path)
+    }
+}
+
+impl<P: UnitText> PkgResolver<P> {
+    ghost use Rattle.wesl_resolve.specs.Held.{packages_of, package_reader_of};
+
+    /// The unit of the module at a path.
+    fn read_at(&self, alloc: Global, path: &ModulePath) -> Result<TranslationUnit, ResolveError>
+        ensures read { IfOk result (λ u. IsReadIn (P.reads (package_reader_of self.now)) (packages_of self.now) (path_view path.now) (spelled (unit_view u))) }
+        ensures refused { IfErr result (OrMemory (IsRefusedIn (P.unreadable (package_reader_of self.now)) (packages_of self.now) (path_view path.now))) }
+    {
+        match self.module_at(alloc, path) {
+            Ok(module) => read_module(&self.text, alloc, path, module.source.as_str()),
+            Err(refusal) => Err(refusal),
+        }
     }
 }
 
@@ -81,7 +115,7 @@ impl<P: UnitText> Resolver for PkgResolver<P> {
         ensures refused { IfErr result (OrMemory (IsMissingIn (packages_of self.old) (path_view path.now))) }
         ensures unchanged { self.new ≡ self.old }
     {
-        match module_at(alloc, &self.packages, path) {
+        match self.module_at(alloc, path) {
             Ok(module) => copied(alloc, module.source.as_str()),
             Err(refusal) => Err(refusal),
         }
@@ -98,10 +132,7 @@ impl<P: UnitText> Resolver for PkgResolver<P> {
         ensures refused { IfErr result (OrMemory (IsRefusedIn (P.unreadable (package_reader_of self.old)) (packages_of self.old) (path_view path.now))) }
         ensures unchanged { self.new ≡ self.old }
     {
-        match module_at(alloc, &self.packages, path) {
-            Ok(module) => read_module(&self.text, alloc, path, module.source.as_str()),
-            Err(refusal) => Err(refusal),
-        }
+        self.read_at(alloc, path)
     }
 
     fn display_name(
