@@ -1,15 +1,16 @@
-//! Printing behind a text, and lists of pieces to a writer.
-ghost use Rattle.std.specs.Prelude.{◌≡◌, ◌++◌, IfOk, OnOk, string_bytes};
-ghost use Rattle.json.specs.Tree.{json_tokens};
-ghost use Rattle.serde_json.specs.Data.{Data, Items};
-ghost use Rattle.serde_json.specs.Written.{outline};
-ghost use Rattle.wesl_json_light.specs.View.{items_view, piece_view};
-ghost use Rattle.wesl_json_print.specs.Printing.{list_tokens};
+//! Printing behind a text, and lists of pieces.
+ghost use Rattle.std.specs.Prelude.{◌≡◌, ◌++◌, IfOk, string_bytes};
+ghost use Rattle.json.specs.Tree.{items_tokens};
+ghost use Rattle.serde_json.specs.Data.{Items};
+ghost use Rattle.serde_json.specs.Written.{items_outline};
+ghost use Rattle.wesl_json_light.specs.View.{items_view};
+ghost use Rattle.wesl_json_print_nodes.specs.Printing.{Adds, PrintsList};
+ghost use Rattle.wesl_json_write.specs.Values.{AreWritten};
 
-use json::Writer;
-use std::alloc::{AllocError, Global};
-use wesl_json_light::{write_items, write_piece};
-use wesl_json_write::{Written, WrittenList};
+use std::alloc::AllocError;
+use wesl_json_light::{Piece, write_items};
+use wesl_json_print_nodes::Printer;
+use wesl_json_write::WrittenList;
 
 /// A text that is printed, unless there is no memory for it.
 pub type Printed = Result<String, AllocError>;
@@ -23,29 +24,26 @@ pub fn print_text(text: String, more: &str) -> Printed
     Ok(text)
 }
 
-/// Writes an item of a list.
-pub(crate) fn write_item(out: &mut Writer, piece: Written<'_>) -> Result<(), AllocError>
-    ensures written { (d : Data) → IfOk piece.entry (λ v. piece_view v ≡ d) → OnOk result (out.new.tokens ≡ out.old.tokens ++ json_tokens (outline d)) }
-    ensures before { out.new.before ≡ out.old.before }
+/// Prints a member that is a list, unless the list is empty.
+pub(crate) fn print_list(out: &mut Printer, key: &str, list: WrittenList<'_>)
+    ensures { (ds : Items) → AreWritten list.entry ds → PrintsList out.old out.new key.now ds }
 {
-    let piece = piece?;
-    write_piece(out, &piece)
+    match list {
+        Ok(list) => {
+            if !list.is_empty() {
+                out.key(key);
+                out.begin_list();
+                print_pieces(out, &list);
+            }
+        }
+        Err(error) => out.note(Err(error)),
+    }
 }
 
-/// Writes a member of an object that is a list, unless the list is empty.
-pub(crate) fn write_list(
-    out: &mut Writer,
-    key: &str,
-    list: WrittenList<'_>,
-) -> Result<(), AllocError>
-    ensures written { (ds : Items) → IfOk list.entry (λ vs. items_view vs.items ≡ ds) → OnOk result (out.new.tokens ≡ out.old.tokens ++ list_tokens key.now ds) }
-    ensures before { out.new.before ≡ out.old.before }
+// Prints the items of a list, and its end.
+fn print_pieces(out: &mut Printer, pieces: &Vec<Piece<'_>>)
+    ensures { Adds out.old out.new (items_tokens (items_outline (items_view pieces.now.items))) }
 {
-    let list = list?;
-    if list.is_empty() {
-        return Ok(());
-    }
-    out.key(key)?;
-    out.begin_array()?;
-    write_items(out, &list)
+    let done = write_items(&mut out.out, pieces);
+    out.note(done);
 }

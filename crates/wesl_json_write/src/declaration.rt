@@ -117,7 +117,8 @@ pub(crate) fn declaration_value<'a>(
         .worded(kind_word(declaration.kind))
 }
 
-fn kind_word(kind: DeclarationKind) -> &'static str
+/// The word of a declaration.
+pub fn kind_word(kind: DeclarationKind) -> &'static str
     ensures { result.now ≡ kind_text kind }
 {
     match kind {

@@ -138,7 +138,7 @@ impl<'a> Object<'a> {
 }
 
 /// Whether a span is to be written: where spans are, and where it is some place.
-pub(crate) fn is_shown(spans: bool, span: Span) -> bool
+pub fn is_shown(spans: bool, span: Span) -> bool
     ensures { (k : Kind) → result ≡ is_placed spans (place_label spans k span) }
 {
     spans && !(span.start == 0 && span.end == 0)
@@ -189,14 +189,15 @@ fn placed_piece<'a>(alloc: Global, piece: Piece<'a>, span: Span, key: &'a str) -
     }
 }
 
-fn truth_word(truth: bool) -> &'static str
+/// The word of a truth value, where it stands as an object.
+pub fn truth_word(truth: bool) -> &'static str
     ensures { result.now ≡ truth_text truth }
 {
     if truth { "true" } else { "false" }
 }
 
 /// The name of an identifier, and the empty text of one that has none in the table.
-pub(crate) fn spelling<'a>(names: &'a Names, ident: Ident) -> &'a str
+pub fn spelling<'a>(names: &'a Names, ident: Ident) -> &'a str
     ensures { result.now ≡ name_in names.now ident.0 }
 {
     if ident.0 < names.len() {

@@ -8,13 +8,16 @@ use Rattle.wesl_json_print.proofs.unit.print_unit.Goals as goal
 
 pub unreachable-requires : goal.unreachable-requires
 unreachable-requires c =
-    let out = c.write_unit.new.out in
-    let kept : out.before ≡ string_bytes c.args.text = c.in_ok-write_unit.ensures.before ∙ c.new-out.ensures.before ∙ ap (λ v. v.items) c.into_bytes.ensures.value in
+    let out = c.in_ok-out.out in
+    let kept : out.before ≡ string_bytes c.args.text =
+    ap (λ w. w.before) c.in_ok-out.ensures.given ∙ c.print_lists.ensures.before c.in_ok-out.ensures.noted ∙ ap (λ w. w.before) c.new-out.ensures.out ∙ c.new.ensures.before ∙ ap (λ v. v.items) c.into_bytes.ensures.value in
     true≢false (sym (c.in-Err.ensures.succeeds (text-valid (string_bytes c.args.text) out.before c.into_inner.result.items (print out.tokens) kept c.into_inner.ensures.items (IsUtf8-string_bytes c.args.text) c.into_inner.ensures.utf8)))
 
 pub returns : goal.returns
 returns c =
-    let out = c.write_unit.new.out in
-    let kept : out.before ≡ string_bytes c.args.text = c.in_ok-write_unit.ensures.before ∙ c.new-out.ensures.before ∙ ap (λ v. v.items) c.into_bytes.ensures.value in
+    let out = c.in_ok-out.out in
+    let kept : out.before ≡ string_bytes c.args.text =
+    ap (λ w. w.before) c.in_ok-out.ensures.given ∙ c.print_lists.ensures.before c.in_ok-out.ensures.noted ∙ ap (λ w. w.before) c.new-out.ensures.out ∙ c.new.ensures.before ∙ ap (λ v. v.items) c.into_bytes.ensures.value in
     ap (λ v. v.items) c.in-Ok.ensures.ok
-    ∙ text-printed (string_bytes c.args.text) out.before c.into_inner.result.items c.new-out.result.tokens out.tokens (written_as c.args.spans (unit_view c.args.unit.now)) kept c.new-out.ensures.tokens c.in_ok-write_unit.ensures.written c.into_inner.ensures.items
+    ∙ text-printed (string_bytes c.args.text) out.before c.into_inner.result.items c.new-out.result.out.tokens out.tokens (written_as c.args.spans (unit_view c.args.unit.now)) kept
+    (ap (λ w. w.tokens) c.new-out.ensures.out ∙ c.new.ensures.tokens) (ap (λ w. w.tokens) c.in_ok-out.ensures.given ∙ c.print_lists.ensures.tokens c.in_ok-out.ensures.noted) c.into_inner.ensures.items

@@ -1,0 +1,15 @@
+use Rattle.wesl_tree_syntax.specs.Tree.{declaration_node, statement_node}
+use Rattle.wesl_json_print_nodes.proofs.Adding.{then}
+use Rattle.wesl_json_print_nodes.proofs.Parts.{span_added}
+use Rattle.wesl_json_print_nodes.proofs.Declarations.{global_assert, local_assert}
+use Rattle.wesl_json_print_nodes.proofs.declaration.print_assertion.Goals as goal
+
+pub returns-clause-global : goal.returns-clause-global
+returns-clause-global c =
+    let steps = then c.begin.ensures (then c.print_attributes.ensures (then c.print_expression_at.ensures (then c.text_at.ensures (then (span_added c.args.spans declaration_node c.args.span (c.span.ensures declaration_node)) c.close.ensures)))) in
+    global_assert c.args.spans c.args.names.now c.args.span c.args.assertion.now steps
+
+pub returns-clause-local : goal.returns-clause-local
+returns-clause-local c =
+    let steps = then c.begin.ensures (then c.print_attributes.ensures (then c.print_expression_at.ensures (then c.text_at.ensures (then (span_added c.args.spans statement_node c.args.span (c.span.ensures statement_node)) c.close.ensures)))) in
+    local_assert c.args.spans c.args.names.now c.args.span c.args.assertion.now steps

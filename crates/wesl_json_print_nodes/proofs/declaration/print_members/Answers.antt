@@ -1,0 +1,13 @@
+use Rattle.std.proofs.Common.{codes, rules}
+use Rattle.std.proofs.lemmas.Grind.{common_steps}
+use Rattle.wesl_tree_syntax.specs.Tree.{member_node}
+use Rattle.wesl_tree_syntax.specs.View.{member_view, placed}
+use Rattle.wesl_json_form.specs.Schema.{a_member}
+use Rattle.wesl_json_print_nodes.proofs.Lists.{no_nodes, some_nodes}
+use Rattle.wesl_json_print_nodes.proofs.declaration.print_members.Goals as goal
+
+pub returns-then-not-is_empty : goal.returns-then-not-is_empty
+returns-then-not-is_empty c = some_nodes c.args.spans c.args.names.now a_member (placed member_view member_node) c.args.members.now.items (codes "members") (search (rules, common_steps)) c.key.ensures c.print_each_member.ensures
+
+pub returns-else-not-is_empty : goal.returns-else-not-is_empty
+returns-else-not-is_empty c = no_nodes c.args.spans c.args.names.now a_member (placed member_view member_node) c.args.members.now.items (codes "members") c.args.out.now (search (rules, common_steps))

@@ -1,0 +1,12 @@
+use Rattle.std.proofs.Common.{codes, rules}
+use Rattle.std.proofs.lemmas.Grind.{common_steps}
+use Rattle.wesl_tree_syntax.specs.View.{parameter_view}
+use Rattle.wesl_json_form.specs.Schema.{a_parameter}
+use Rattle.wesl_json_print_nodes.proofs.Lists.{no_nodes, some_nodes}
+use Rattle.wesl_json_print_nodes.proofs.declaration.print_parameters.Goals as goal
+
+pub returns-then-not-is_empty : goal.returns-then-not-is_empty
+returns-then-not-is_empty c = some_nodes c.args.spans c.args.names.now a_parameter parameter_view c.args.parameters.now.items (codes "params") (search (rules, common_steps)) c.key.ensures c.print_each_parameter.ensures
+
+pub returns-else-not-is_empty : goal.returns-else-not-is_empty
+returns-else-not-is_empty c = no_nodes c.args.spans c.args.names.now a_parameter parameter_view c.args.parameters.now.items (codes "params") c.args.out.now (search (rules, common_steps))

@@ -1,0 +1,14 @@
+use Rattle.std.proofs.Common.{rules}
+use Rattle.wesl_tree_syntax.specs.Tree.{expression_node}
+use Rattle.wesl_json_print_nodes.proofs.Adding.{keyed, then}
+use Rattle.wesl_json_print_nodes.proofs.Parts.{span_added}
+use Rattle.wesl_json_print_nodes.proofs.Expressions.{pathed_name, plain_name}
+use Rattle.wesl_json_print_nodes.proofs.expression.print_plain_type.Goals as goal
+
+pub returns-in-None : goal.returns-in-None
+returns-in-None c = plain_name c.args.spans c.args.names.now c.args.span c.args.path.now c.args.ident _ (search rules) c.spelling-name.ensures c.print_name.ensures
+
+pub returns-in-Some : goal.returns-in-Some
+returns-in-Some c =
+    let steps = then c.begin.ensures (then c.text_at.ensures (then (keyed c.key.ensures c.path.ensures) (then (span_added c.args.spans expression_node c.args.span (c.span.ensures expression_node)) c.close.ensures))) in
+    pathed_name c.args.spans c.args.names.now c.args.span c.args.path.now c.in-Some.path c.args.ident _ (search rules) c.spelling-name.ensures steps

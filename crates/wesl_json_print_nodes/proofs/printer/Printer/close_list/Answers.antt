@@ -1,0 +1,5 @@
+use Rattle.wesl_json_print_nodes.proofs.Adding.{token}
+use Rattle.wesl_json_print_nodes.proofs.printer.Printer.close_list.Goals as goal
+
+pub returns : goal.returns
+returns c = token c.end_array-done.result c.end_array-done.ensures c.note.ensures.out c.note.ensures.done c.note.ensures.noted

@@ -1,0 +1,12 @@
+use Rattle.std.proofs.Common.{codes, rules}
+use Rattle.std.proofs.lemmas.Grind.{common_steps}
+use Rattle.wesl_tree_syntax.specs.View.{selector_view}
+use Rattle.wesl_json_form.specs.Schema.{a_case}
+use Rattle.wesl_json_print_nodes.proofs.Lists.{no_nodes, some_nodes}
+use Rattle.wesl_json_print_nodes.proofs.statement.print_cases.Goals as goal
+
+pub returns-then-not-is_empty : goal.returns-then-not-is_empty
+returns-then-not-is_empty c = some_nodes c.args.spans c.args.names.now a_case selector_view c.args.selectors.now.items (codes "cases") (search (rules, common_steps)) c.key.ensures c.print_each_case.ensures
+
+pub returns-else-not-is_empty : goal.returns-else-not-is_empty
+returns-else-not-is_empty c = no_nodes c.args.spans c.args.names.now a_case selector_view c.args.selectors.now.items (codes "cases") c.args.out.now (search (rules, common_steps))
