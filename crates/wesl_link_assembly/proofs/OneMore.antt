@@ -6,16 +6,13 @@ use denote.Ref.{Bor}
 use Rattle.wesl_tree_names.specs.Path.{Text}
 use Rattle.wesl_tree_syntax.specs.Tree.{Tree, TreeOf, before, end, identifiers, respell, directive_node}
 use Rattle.wesl_tree_syntax.specs.Unit.{name_in}
-use Rattle.wesl_tree_syntax.specs.View.{placed, directive_view}
+use Rattle.wesl_tree_syntax.specs.View.{placed, directive_view, texts_of}
 use Rattle.wesl_tree_syntax.specs.declared.span.Spanned.{Spanned}
 use Rattle.wesl_tree_syntax.specs.declared.declaration.GlobalDirective.{GlobalDirective}
 use Rattle.wesl_tree.specs.Translation.{unit_view}
 use Rattle.wesl_tree.specs.declared.unit.TranslationUnit.{TranslationUnit}
-use Rattle.wesl_link_assembly.specs.Denotations.{free_name}
 use Rattle.wesl_link_assembly.specs.Directives.{directives_of, all_directives}
-use Rattle.wesl_link_assembly.specs.Linked.{directive_ref_tree}
 use Rattle.wesl_link_assembly.specs.Thinning.{told, IsThinning}
-use Rattle.wesl_link_assembly.specs.Views.{denotation_view}
 use Rattle.wesl_link_assembly.specs.declared.directives.Directives.{Directives}
 use Rattle.wesl_link_assembly.specs.declared.thinning.Met.{Met}
 use Rattle.wesl_link_assembly.specs.declared.thinning.Thinning.{Thinning}
@@ -29,13 +26,13 @@ abbrev spelled_as : Met → TreeOf Text
 spelled_as m = respell (name_in m.names.now) (node_of m)
 
 pub one_stays : (all : List (TreeOf Text)) (old : Thinning) (d e : Directives) (m : Met) → (told old.last ≡ Some (spelled_as m) → ⊥) → d ≡ e
-    → map directive_ref_tree e.nodes.items ≡ map directive_ref_tree old.directives.nodes.items ++ node_of m ∷ []
-    → map denotation_view e.words.items ≡ map denotation_view old.directives.words.items ++ map free_name (map (name_in m.names.now) (identifiers (before (node_of m) end)))
+    → map (placed directive_view directive_node) e.nodes.items ≡ map (placed directive_view directive_node) old.directives.nodes.items ++ node_of m ∷ []
+    → texts_of e.words ≡ texts_of old.directives.words ++ map (name_in m.names.now) (identifiers (before (node_of m) end))
     → IsThinning all old → IsThinning (all ++ spelled_as m ∷ []) (record { directives = d; last = Some m })
 one_stays all old d e m fresh same nodes words s =
     subst (λ (x : Directives). IsThinning (all ++ spelled_as m ∷ []) (record { directives = x; last = Some m })) (sym same)
     (record {
-      thinned = stays all old.directives.nodes.items e.nodes.items (map denotation_view old.directives.words.items) (map denotation_view e.words.items) m.names.now (node_of m) (λ h. fresh (sym s.last_met ∙ h)) nodes words s.thinned;
+      thinned = stays all old.directives.nodes e.nodes (texts_of old.directives.words) (texts_of e.words) m.names.now (node_of m) (λ h. fresh (sym s.last_met ∙ h)) nodes words s.thinned;
       last_met = last_is all (spelled_as m);
     })
 
@@ -44,7 +41,7 @@ pub one_goes : (all : List (TreeOf Text)) (old : Thinning) (d : Directives) (m :
 one_goes all old d m again same s =
     subst (λ (x : Directives). IsThinning (all ++ spelled_as m ∷ []) (record { directives = x; last = Some m })) (sym same)
     (record {
-      thinned = goes all old.directives.nodes.items (map denotation_view old.directives.words.items) (spelled_as m) (s.last_met ∙ again) s.thinned;
+      thinned = goes all old.directives.nodes (texts_of old.directives.words) (spelled_as m) (s.last_met ∙ again) s.thinned;
       last_met = last_is all (spelled_as m);
     })
 

@@ -8,9 +8,9 @@ use Rattle.wesl_tree_names.specs.Path.{Text}
 use Rattle.wesl_tree_syntax.specs.Tree.{Tree, Forest, end, tree, branch, identifiers, respell, respell_forest, forest_below, tree_below, imports as imports_kind}
 use Rattle.wesl_tree_syntax.specs.Unit.{UnitOf, UnitView, forest_of_unit, trees_of, name_in, spelled, unit_below}
 use Rattle.wesl_tree_syntax.specs.Numbers.{AreNumbers, number_at}
-use Rattle.wesl_tree_copies.specs.Copied.{Copied}
 use Rattle.wesl_tree_copies.specs.Renumbered.{renumbered}
-use Rattle.wesl_tree_copies.specs.declared.copying.Copying.{Copying}
+use Rattle.wesl_tree_renumber.specs.Renumbers.{Renumbered as NumberedTree}
+use Rattle.wesl_tree_renumber.specs.declared.renumbering.Renumbering.{Renumbering}
 use Rattle.wesl_scope_clash.specs.Leaves.{are_leaves}
 use Rattle.wesl_scope_clash.proofs.Taken.{numbers_are, taken}
 use Rattle.wesl_scope_clash.proofs.Units.{each_below}
@@ -114,12 +114,10 @@ three false b c h = h
 parts_below : (n : ℕ) (i d e : Tree) → forest_below n (tree i.label i.children (tree d.label d.children (tree e.label e.children end))) ≡ true → (tree_below n i && tree_below n d && tree_below n e) ≡ true
 parts_below n i d e h = three (tree_below n i) (tree_below n d) (tree_below n e) h
 
--- from what the copies are, which were told at the end
-pub made : (names : List Text) {old first new : Copying} {td te cd ce : Tree} (i d e : Tree) → i ≡ branch imports_kind [] → Copied old first td cd → Copied first new te ce → new.is_refused ≡ false → d ≡ cd → e ≡ ce
+-- from what directives and declarations become, one after the other
+pub made : (names : List Text) {old first new : Renumbering} {td te : Tree} (i d e : Tree) → i ≡ branch imports_kind [] → NumberedTree old first td d → NumberedTree first new te e
     → forest_of_unit (trees_of (record { names = names; imports = i; directives = d; declarations = e })) ≡ renumbered (forest_of_unit (record { imports = branch imports_kind []; directives = td; declarations = te })) old.rest.now
-made names i d e none p q noted x y =
-    let first_noted = q.noted noted in
-    rw (none, x, y, p.tree first_noted, q.tree noted, p.rest first_noted) refl
+made names i d e none p q = rw (none, p.tree, q.tree, p.rest) refl
 
 pub all_named : (names : List Text) (ns : List ℕ) (nodes : UnitOf ℕ) (w : UnitView) → are_leaves (forest_of_unit nodes) ≡ true → w.names ≡ names → forest_of_unit (trees_of w) ≡ renumbered (forest_of_unit nodes) ns → length ns ≡ length (identifiers (forest_of_unit nodes)) → All (λ m. m < length names) ns → unit_below w ≡ true
 all_named names ns nodes w l n f h b =

@@ -1,6 +1,8 @@
 -- The directives of a module, and their words.
 use Rattle.std.proofs.Common.{◌≡◌, ℕ, zero, suc, ◌<◌, Bool, true, false, ◌&&◌, List, [], ◌∷◌, ◌++◌, length, map, get_or, refl, sym, ◌∙◌, ap, subst, arith}
 use Rattle.std.proofs.lemmas.Bool.Decides.{Decides-ltb}
+use Rattle.std.specs.Prelude.{String, string_bytes}
+use Rattle.std.specs.declared.alloc.Global.{Global}
 use Rattle.wesl_tree_names.specs.Path.{Text}
 use Rattle.wesl_tree_names.specs.declared.names.Ident.{Ident}
 use Rattle.wesl_tree_syntax.specs.Tree.{Tree, Forest, TreeOf, before, end, tree, kind, at, ident, text, texts, truth, unary, binary, assignment, space, access, path, forest_of, trees, identifiers, respell, respell_forest, forest_below, tree_below, directive_node}
@@ -85,12 +87,20 @@ word_below n t xs k d e b h = place_below n xs k d (subst (EachBelow n) (sym e) 
     alone true h = refl
     alone false h = h
 
-abbrev pub word_of : List Text → Ident → Meaning
-word_of names i = free_name (name_in names i.0)
+abbrev pub word_of : List Text → Ident → Text
+word_of names i = name_in names i.0
 
-words_told : (names : List Text) (xs : List Ident) → map (word_of names) xs ≡ map free_name (map (name_in names) (numbers_of xs))
+words_told : (names : List Text) (xs : List Ident) → map (word_of names) xs ≡ map (name_in names) (numbers_of xs)
 words_told names [] = refl
 words_told names (x ∷ xs) = ap (λ ws. word_of names x ∷ ws) (words_told names xs)
 
-pub words_are : (names : List Text) (f : Forest) (xs : List Ident) → numbers_of xs ≡ identifiers f → map (word_of names) xs ≡ map free_name (map (name_in names) (identifiers f))
-words_are names f xs e = words_told names xs ∙ ap (λ ns. map free_name (map (name_in names) ns)) e
+pub words_are : (names : List Text) (f : Forest) (xs : List Ident) → numbers_of xs ≡ identifiers f → map (word_of names) xs ≡ map (name_in names) (identifiers f)
+words_are names f xs e = words_told names xs ∙ ap (map (name_in names)) e
+
+-- what words stand for
+abbrev pub word_meaning : String Global → Meaning
+word_meaning w = free_name (string_bytes w)
+
+pub meanings_told : (ws : List (String Global)) → map word_meaning ws ≡ map free_name (map string_bytes ws)
+meanings_told [] = refl
+meanings_told (w ∷ ws) = ap (λ ms. word_meaning w ∷ ms) (meanings_told ws)

@@ -1,14 +1,13 @@
 -- The directives of a linked unit (WGSL, "Directives").
-use Rattle.std.specs.Prelude.{◌≡◌, Option, Some, None, List, [], ◌∷◌, ◌++◌, map, flat_map}
-use denote.Ref.{Bor}
+use Rattle.std.specs.Prelude.{◌≡◌, Option, Some, None, List, [], ◌∷◌, ◌++◌, Vec, flat_map}
+use Rattle.std.specs.declared.alloc.Global.{Global}
 use Rattle.wesl_tree_names.specs.Path.{Text}
 use Rattle.wesl_tree_syntax.specs.Tree.{TreeOf, forest_of, trees, identifiers}
 use Rattle.wesl_tree_syntax.specs.Unit.{UnitView, spelled}
+use Rattle.wesl_tree_syntax.specs.View.{directives_tree}
 use Rattle.wesl_tree_syntax.specs.declared.span.Spanned.{Spanned}
 use Rattle.wesl_tree_syntax.specs.declared.declaration.GlobalDirective.{GlobalDirective}
-use Rattle.wesl_link_assembly.specs.Denotations.{free_name}
-use Rattle.wesl_link_assembly.specs.Linked.{shape, directive_ref_tree}
-use Rattle.wesl_link_assembly.specs.Views.{Meaning}
+use Rattle.wesl_link_assembly.specs.Linked.{shape}
 
 module _ {X : Type 0} where
   abbrev pub last : List X → Option X
@@ -29,9 +28,9 @@ directives_of u = trees (spelled u).directives.children
 abbrev pub all_directives : List UnitView → List (TreeOf Text)
 all_directives us = flat_map directives_of us
 
--- Nodes for the directives that stay of these, and what their identifiers stand for: each for its name, as all are words.
-pub record AreThinned (all : List (TreeOf Text)) (nodes : List (Bor (Spanned GlobalDirective))) (words : List Meaning) : Type 0 where
+-- Nodes for the directives that stay of these, and the names of their identifiers, in document order, as all are words.
+pub record AreThinned (all : List (TreeOf Text)) (nodes : Vec (Spanned GlobalDirective) Global) (words : List Text) : Type 0 where
   pub kept : List (TreeOf Text)
   pub thinned : Thins all kept
-  pub same_shape : shape (forest_of (map directive_ref_tree nodes)) ≡ shape (forest_of kept)
-  pub words_are : words ≡ map free_name (identifiers (forest_of kept))
+  pub same_shape : shape (directives_tree nodes).children ≡ shape (forest_of kept)
+  pub words_are : words ≡ identifiers (forest_of kept)

@@ -1,37 +1,19 @@
 -- Units whose identifiers stand for something, and how they are named and numbered.
-use Rattle.std.specs.Prelude.{◌≡◌, ◌<◌, ◌↔◌, ℕ, List, [], Contains, length, map}
-use denote.Ref.{Bor}
+use Rattle.std.specs.Prelude.{◌≡◌, ◌<◌, ◌↔◌, ℕ, List, [], Contains, Vec, length}
+use Rattle.std.specs.declared.alloc.Global.{Global}
 use Rattle.wesl_tree_names.specs.Path.{Text}
-use Rattle.wesl_tree_syntax.specs.Tree.{Tree, ForestOf, branch, identifiers, respell, respell_forest, directive_node, declaration_node, directive_list, imports as imports_kind, declarations as declarations_kind}
+use Rattle.wesl_tree_syntax.specs.Tree.{ForestOf, branch, identifiers, respell, respell_forest, imports as imports_kind}
 use Rattle.wesl_tree_syntax.specs.Unit.{UnitOf, UnitView, forest_of_unit, spelled, numbers}
-use Rattle.wesl_tree_syntax.specs.View.{placed, directive_view, global_view}
+use Rattle.wesl_tree_syntax.specs.View.{directives_tree, declarations_tree}
 use Rattle.wesl_tree_syntax.specs.declared.span.Spanned.{Spanned}
 use Rattle.wesl_tree_syntax.specs.declared.declaration.GlobalDirective.{GlobalDirective}
 use Rattle.wesl_tree_syntax.specs.declared.declaration.GlobalDeclaration.{GlobalDeclaration}
 use Rattle.wesl_tree_syntax.specs.Numbers.{AreNumbers}
 use Rattle.wesl_link_assembly.specs.Pathless.{without_paths}
 
--- a directive and a declaration that a reference leads to
-abbrev pub directive_ref_tree : Bor (Spanned GlobalDirective) → Tree
-directive_ref_tree d = placed directive_view directive_node d.now
-
-abbrev pub declaration_ref_tree : Bor (Spanned GlobalDeclaration) → Tree
-declaration_ref_tree g = placed global_view declaration_node g.now
-
--- the trees of such lists
-abbrev pub directive_refs_tree : List (Bor (Spanned GlobalDirective)) → Tree
-directive_refs_tree ds = branch directive_list (map directive_ref_tree ds)
-
-abbrev pub declaration_refs_tree : List (Bor (Spanned GlobalDeclaration)) → Tree
-declaration_refs_tree gs = branch declarations_kind (map declaration_ref_tree gs)
-
 -- directives and declarations, and no imports
-abbrev pub nodes_of : List (Bor (Spanned GlobalDirective)) → List (Bor (Spanned GlobalDeclaration)) → UnitOf ℕ
-nodes_of ds gs = record {
-  imports = branch imports_kind [];
-  directives = directive_refs_tree ds;
-  declarations = declaration_refs_tree gs;
-}
+abbrev pub nodes_of : Vec (Spanned GlobalDirective) Global → Vec (Spanned GlobalDeclaration) Global → UnitOf ℕ
+nodes_of ds gs = record { imports = branch imports_kind []; directives = directives_tree ds; declarations = declarations_tree gs }
 
 -- all but which identifiers trees have, and spans
 abbrev pub shape : {I : Type 0} → ForestOf I → ForestOf (Unit {0})

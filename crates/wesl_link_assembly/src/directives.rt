@@ -1,10 +1,10 @@
 //! The directives of a linked unit (WGSL, "Directives").
-ghost use Rattle.std.specs.Prelude.{◌≡◌, ◌↔◌, ◌++◌, ◌∷◌, [], IsTrue, IfOk, IfErr, OnOk, length, map};
+ghost use Rattle.std.specs.Prelude.{◌≡◌, ◌↔◌, ◌++◌, ◌∷◌, [], IsTrue, IfOk, IfErr, OnOk, length, map, string_bytes};
 ghost use Rattle.wesl_tree_names.specs.declared.errors.Error as error;
 ghost use Rattle.wesl_tree_syntax.specs.Tree.{tree_below, directive_node};
-ghost use Rattle.wesl_tree_syntax.specs.View.{placed, directive_view};
+ghost use Rattle.wesl_tree_syntax.specs.View.{placed, directive_view, texts_of};
+ghost use Rattle.wesl_link_assembly.specs.Denotations.{free_name};
 ghost use Rattle.wesl_link_assembly.specs.Directives.{AreThinned};
-ghost use Rattle.wesl_link_assembly.specs.Linked.{directive_ref_tree};
 ghost use Rattle.wesl_link_assembly.specs.Thinning.{spelled_directive, words_in};
 ghost use Rattle.wesl_link_assembly.specs.Views.{denotation_view};
 
@@ -16,29 +16,45 @@ use wesl_tree_names::{Error, Names};
 use wesl_tree_spelling::same_directives;
 use wesl_tree_syntax::GlobalDirectiveNode;
 
-/// The directives that stay of those of many modules, and what their identifiers stand for, in document order.
+/// Copies of the directives that stay of those of many modules, and their words, in document order: the names of their
+/// identifiers.
 #[derive(Drop)]
-pub struct Directives<'a> {
-    pub nodes: Vec<&'a GlobalDirectiveNode>,
-    pub words: Vec<Denotation<'a>>,
+pub struct Directives {
+    pub nodes: Vec<GlobalDirectiveNode>,
+    pub words: Vec<String>,
 }
 
-/// What the identifiers of a directive stand for: each for its name.
-fn words<'a>(
+/// The words of a directive.
+fn words(
     alloc: Global,
-    names: &'a Names,
+    names: &Names,
     directive: &GlobalDirectiveNode,
-) -> Result<Vec<Denotation<'a>>, Error>
+) -> Result<Vec<String>, Error>
     requires below { IsTrue (tree_below (length names.now) (placed directive_view directive_node directive.now)) }
-    ensures words { IfOk result (λ words. map denotation_view words.items ≡ words_in names.now directive.now) }
+    ensures words { IfOk result (λ words. texts_of words ≡ words_in names.now directive.now) }
     ensures refused { IfErr result (λ e. e ≡ error.Memory) }
 {
     let idents = words_of(alloc, directive)?;
     let mut words = Vec::with_capacity(alloc, idents.len())?;
     for ident in &idents {
-        words.push(Denotation::Free(names.name(*ident)))?;
+        words.push(String::from_str(alloc, names.name(*ident))?)?;
     }
     Ok(words)
+}
+
+/// What words stand for: each for itself.
+pub fn word_denotations<'a>(
+    alloc: Global,
+    words: &'a [String],
+) -> Result<Vec<Denotation<'a>>, Error>
+    ensures words { IfOk result (λ found. map denotation_view found.items ≡ map free_name (map string_bytes words.now)) }
+    ensures refused { IfErr result (λ e. e ≡ error.Memory) }
+{
+    let mut denotations = Vec::with_capacity(alloc, words.len())?;
+    for word in words {
+        denotations.push(Denotation::Free(word))?;
+    }
+    Ok(denotations)
 }
 
 /// An equal copy of a directive.
@@ -67,10 +83,10 @@ pub(crate) fn are_equal(
     Ok(same_directives(left_names, &left, right_names, &right))
 }
 
-impl<'a> Directives<'a> {
+impl Directives {
     /// None yet. It takes no memory.
-    pub(crate) fn new(alloc: Global) -> Directives<'a>
-        ensures { AreThinned [] result.nodes.items (map denotation_view result.words.items) }
+    pub(crate) fn new(alloc: Global) -> Directives
+        ensures { AreThinned [] result.nodes (texts_of result.words) }
     {
         Directives {
             nodes: Vec::new(alloc),
@@ -82,16 +98,16 @@ impl<'a> Directives<'a> {
     pub(crate) fn push(
         &mut self,
         alloc: Global,
-        names: &'a Names,
-        directive: &'a GlobalDirectiveNode,
+        names: &Names,
+        directive: &GlobalDirectiveNode,
     ) -> Result<(), Error>
         requires below { IsTrue (tree_below (length names.now) (placed directive_view directive_node directive.now)) }
-        ensures nodes { OnOk result (map directive_ref_tree self.new.nodes.items ≡ map directive_ref_tree self.old.nodes.items ++ placed directive_view directive_node directive.now ∷ []) }
-        ensures words { OnOk result (map denotation_view self.new.words.items ≡ map denotation_view self.old.words.items ++ words_in names.now directive.now) }
+        ensures nodes { OnOk result (map (placed directive_view directive_node) self.new.nodes.items ≡ map (placed directive_view directive_node) self.old.nodes.items ++ placed directive_view directive_node directive.now ∷ []) }
+        ensures words { OnOk result (texts_of self.new.words ≡ texts_of self.old.words ++ words_in names.now directive.now) }
         ensures refused { IfErr result (λ e. e ≡ error.Memory) }
     {
+        self.nodes.push(copied(alloc, directive)?)?;
         let mut words = words(alloc, names, directive)?;
-        self.nodes.push(directive)?;
         self.words.append(&mut words)?;
         Ok(())
     }

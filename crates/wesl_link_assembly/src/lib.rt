@@ -10,7 +10,7 @@ mod thinning;
 mod unit;
 
 pub use denotation::{Denotation, Printing};
-pub use directives::Directives;
+pub use directives::{Directives, word_denotations};
 pub use laws::law_of_meanings;
 pub use thinning::thinned_directives;
 pub use unit::linked_unit;

@@ -3,11 +3,10 @@ ghost use Rattle.std.specs.Prelude.{◌≡◌, ◌↔◌, ◌++◌, ◌∷◌, [
 ghost use Rattle.wesl_tree_names.specs.Path.{Text};
 ghost use Rattle.wesl_tree_names.specs.declared.errors.Error as error;
 ghost use Rattle.wesl_tree_syntax.specs.Tree.{TreeOf, tree_below, directive_node};
-ghost use Rattle.wesl_tree_syntax.specs.View.{placed, directive_view};
+ghost use Rattle.wesl_tree_syntax.specs.View.{placed, directive_view, texts_of};
 ghost use Rattle.wesl_tree.specs.Translation.{unit_view};
 ghost use Rattle.wesl_link_assembly.specs.Directives.{AreThinned, all_directives, directives_of};
 ghost use Rattle.wesl_link_assembly.specs.Thinning.{told, spelled_directive, IsThinning};
-ghost use Rattle.wesl_link_assembly.specs.Views.{denotation_view};
 
 use crate::directives::{Directives, are_equal};
 use std::alloc::Global;
@@ -25,7 +24,7 @@ struct Met<'a> {
 /// The directives that stay so far, and the one that was met last.
 #[derive(Drop)]
 struct Thinning<'a> {
-    directives: Directives<'a>,
+    directives: Directives,
     last: Option<Met<'a>>,
 }
 
@@ -76,13 +75,10 @@ impl<'a> Thinning<'a> {
     }
 }
 
-/// The directives of modules in their order, of equal adjacent ones one, and what their identifiers stand for, in
+/// Copies of the directives of modules in their order, of equal adjacent ones one, and the names of their identifiers, in
 /// document order. All names in directives are words. Refused for want of memory alone.
-pub fn thinned_directives<'a>(
-    alloc: Global,
-    units: &[&'a TranslationUnit],
-) -> Result<Directives<'a>, Error>
-    ensures thinned { IfOk result (λ found. AreThinned (all_directives (map (λ u. unit_view u.now) units.now)) found.nodes.items (map denotation_view found.words.items)) }
+pub fn thinned_directives(alloc: Global, units: &[&TranslationUnit]) -> Result<Directives, Error>
+    ensures thinned { IfOk result (λ found. AreThinned (all_directives (map (λ u. unit_view u.now) units.now)) found.nodes (texts_of found.words)) }
     ensures refused { IfErr result (λ e. e ≡ error.Memory) }
 {
     let mut thinning = Thinning {

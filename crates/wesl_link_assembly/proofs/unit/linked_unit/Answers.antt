@@ -16,17 +16,17 @@ pub returns-clause-linked : goal.returns-clause-linked
 returns-clause-linked g c =
     let print : Meaning → Text = printed_as (g.P.Printing.printed c.args.printing.now) in
     let ds = c.args.denotations.now in
-    let nodes = nodes_of c.args.directives.now c.args.declarations.now in
-    linked_as print (free_name []) refl nodes (map denotation_view c.in_ok-given.different.keys) (map denotation_view ds) c.in_ok-given.given.items (unit_view c.drop_paths.new.unit) (nodes_leafy c.args.directives.now c.args.declarations.now)
+    let nodes = nodes_of c.args.directives c.args.declarations in
+    linked_as print (free_name []) refl nodes (map denotation_view c.in_ok-given.different.keys) (map denotation_view ds) c.in_ok-given.given.items (unit_view c.drop_paths.new.unit) (nodes_leafy c.args.directives c.args.declarations)
     c.in_ok-given.ensures.numbers c.in_ok-given.ensures.leads c.in_ok-given.ensures.used (same_length denotation_view ds ∙ c.requires.one_each)
-    (c.in_ok-drop_paths.ensures.names ∙ (c.in_ok-unit.ensures.names ∙ (c.in_ok-names.ensures.names ∙ ap (λ ks. map print (map denotation_view ks)) c.as_slice.ensures.keys)))
-    (c.in_ok-drop_paths.ensures.pathless ∙ (ap without_paths c.in_ok-unit.ensures.trees ∙ ap (λ ns. without_paths (renumbered (forest_of_unit nodes) ns)) c.deref.ensures.value))
+    (c.in_ok-drop_paths.ensures.names ∙ (c.renumbered-unit.ensures.names ∙ (c.in_ok-names.ensures.names ∙ ap (λ ks. map print (map denotation_view ks)) c.as_slice.ensures.keys)))
+    (c.in_ok-drop_paths.ensures.pathless ∙ (ap without_paths c.renumbered-unit.ensures.trees ∙ ap (λ ns. without_paths (renumbered (forest_of_unit nodes) ns)) c.deref.ensures.value))
 
-pub renumbered-requires-clause-one_each : goal.renumbered-requires-clause-one_each
-renumbered-requires-clause-one_each g c = ap length c.deref.ensures.value ∙ (c.in_ok-given.ensures.numbers.one_each ∙ (same_length denotation_view c.args.denotations.now ∙ c.requires.one_each))
+pub renumbered-unit-requires-clause-one_each : goal.renumbered-unit-requires-clause-one_each
+renumbered-unit-requires-clause-one_each g c = ap length c.deref.ensures.value ∙ (c.in_ok-given.ensures.numbers.one_each ∙ (same_length denotation_view c.args.denotations.now ∙ c.requires.one_each))
 
-pub renumbered-requires-clause-below : goal.renumbered-requires-clause-below
-renumbered-requires-clause-below g c =
+pub renumbered-unit-requires-clause-below : goal.renumbered-unit-requires-clause-below
+renumbered-unit-requires-clause-below g c =
     let print : Meaning → Text = printed_as (g.P.Printing.printed c.args.printing.now) in
     let long : length c.in_ok-names.names ≡ length (map denotation_view c.in_ok-given.different.keys) =
     ap length (c.in_ok-names.ensures.names ∙ ap (λ ks. map print (map denotation_view ks)) c.as_slice.ensures.keys) ∙ same_length print (map denotation_view c.in_ok-given.different.keys) in

@@ -10,12 +10,12 @@ use Rattle.wesl_link_assembly.proofs.unit.renumbered.Goals as goal
 
 pub unwrap-requires : goal.unwrap-requires
 unwrap-requires c =
-    let w = parts_view c.args.names c.new-imports.result c.in_ok-directives.directives c.in_ok-directives.declarations in
+    let w = parts_view c.args.names c.new-imports.result c.directives.new.directives c.globals.new.declarations in
     let none : imports_tree c.new-imports.result ≡ branch imports_kind [] = ap (λ xs. branch imports_kind (map (placed import_view import_node) xs)) c.new-imports.ensures.items in
-    let f = made c.args.names (imports_tree c.new-imports.result) (directives_tree c.in_ok-directives.directives) (declarations_tree c.in_ok-directives.declarations)
-    none c.copied_directives-directives.ensures c.copied_declarations-declarations.ensures c.in_ok-directives.ensures.noted
-    (ap (λ p. directives_tree p.0) c.in_ok-directives.ensures.given) (ap (λ p. declarations_tree p.1) c.in_ok-directives.ensures.given) in
-    some_if c.from_parts.result _ _ c.from_parts.ensures (all_named c.args.names c.args.given.now (nodes_of c.args.directives.now c.args.declarations.now) w (nodes_leafy c.args.directives.now c.args.declarations.now) refl f c.requires.one_each c.requires.below)
+    let nodes = nodes_of c.args.directives c.args.declarations in
+    let leaves = nodes_leafy c.args.directives c.args.declarations in
+    let f = made c.args.names (imports_tree c.new-imports.result) (directives_tree c.directives.new.directives) (declarations_tree c.globals.new.declarations) none c.directives.ensures c.globals.ensures in
+    some_if c.from_parts.result _ _ c.from_parts.ensures (all_named c.args.names c.args.given.now nodes w leaves refl f c.requires.one_each c.requires.below)
 
 pub returns-clause-names : goal.returns-clause-names
 returns-clause-names c = ap (λ v. v.names) (some_of c.from_parts.result c.unwrap.result _ _ c.unwrap.ensures c.from_parts.ensures).0
@@ -23,7 +23,5 @@ returns-clause-names c = ap (λ v. v.names) (some_of c.from_parts.result c.unwra
 pub returns-clause-trees : goal.returns-clause-trees
 returns-clause-trees c =
     let none : imports_tree c.new-imports.result ≡ branch imports_kind [] = ap (λ xs. branch imports_kind (map (placed import_view import_node) xs)) c.new-imports.ensures.items in
-    let f = made c.args.names (imports_tree c.new-imports.result) (directives_tree c.in_ok-directives.directives) (declarations_tree c.in_ok-directives.declarations)
-    none c.copied_directives-directives.ensures c.copied_declarations-declarations.ensures c.in_ok-directives.ensures.noted
-    (ap (λ p. directives_tree p.0) c.in_ok-directives.ensures.given) (ap (λ p. declarations_tree p.1) c.in_ok-directives.ensures.given) in
+    let f = made c.args.names (imports_tree c.new-imports.result) (directives_tree c.directives.new.directives) (declarations_tree c.globals.new.declarations) none c.directives.ensures c.globals.ensures in
     ap (λ v. forest_of_unit (trees_of v)) (some_of c.from_parts.result c.unwrap.result _ _ c.unwrap.ensures c.from_parts.ensures).0 ∙ f
