@@ -4,7 +4,6 @@ use Rattle.std.specs.Prelude.{slice_get, Vec}
 use Rattle.std.specs.declared.alloc.Global.{Global}
 use Rattle.std.proofs.lemmas.List.{map-append}
 use mathlib.Core.List.{map-map}
-use denote.Ref.{Bor}
 use Rattle.wesl_tree_names.specs.Path.{Text, Path, path_view}
 use Rattle.wesl_tree_syntax.specs.Tree.{LabelOf, kind, at, ident, text, texts, truth, unary, binary, assignment, space, access, path, ForestOf, TreeOf, end, tree, before, trees, forest_of, respell, respell_forest, respell_label, declaration_node}
 use Rattle.wesl_tree_syntax.specs.Unit.{UnitOf, name_in}
@@ -27,14 +26,13 @@ use Rattle.wesl_link_tables.specs.Numbering.{Numbering, NameAt, PathAt, AreRelat
 use Rattle.wesl_link_tables.specs.TextsView.{numbering_of_texts as numbering}
 use Rattle.wesl_link_tables.specs.declared.marks.Mark.{Mark}
 use Rattle.wesl_link_tables.proofs.Lists.{related_append}
-use Rattle.wesl_link_assembly.specs.Linked.{declaration_ref_tree}
 use Rattle.wesl_link_assembly.specs.Views.{Meaning, denotation_view}
 use Rattle.wesl_link_assembly.specs.declared.denotation.Denotation.{Denotation}
 use Rattle.wesl_link_engine.specs.Linked.{Placed, placed, is_assert, IsHeldAs}
 use Rattle.wesl_link_engine.specs.Worlds.{table, tables}
 use Rattle.wesl_link_engine.specs.Tabled.{IsMarked}
 use Rattle.wesl_link_engine.specs.Keeping.{module_of, all_loaded, modules_in, task_in, IsLinkOf}
-use Rattle.wesl_link_engine.specs.Holding.{IsMeant, IsHeldHere, RefersToAll, AreClear, AddsOne, is_added, is_not_held, Adds}
+use Rattle.wesl_link_engine.specs.Holding.{declaration_tree, IsMeant, IsHeldHere, RefersToAll, AreClear, AddsOne, is_added, is_not_held, Adds}
 use Rattle.wesl_link_engine.specs.declared.loaded.LoadedModule.{LoadedModule}
 use Rattle.wesl_link_engine.specs.declared.link.Link.{Link}
 use Rattle.wesl_link_engine.specs.declared.assemble.Parts.{Parts}
@@ -171,23 +169,23 @@ module _ (l : Link) (sound : IsLinkOf (task_in l) l) where
         all_clear (numbering l.numbers) l.numbers.paths.different l.numbers.names.different row (module_of m).path (module_of m).unit one.number (spelled_in m g) ms one.uses one.same one.marked
         (λ n c. sound.clear t row.name n t_in (is_held l.linked t.path h row.name held) (row, row_in, refl, c))
 
-  module _ (m : LoadedModule) (t : Table PathId NameId) (same : IsNumbered (numbering l.numbers) t (table (module_of m))) (p q r : Parts) (i : ℕ) (g : Bor Node) (row : Declaration PathId NameId) (ms : List Mark)
-      (one : OneAt (numbering l.numbers) m i g.now row ms) where
+  module _ (m : LoadedModule) (t : Table PathId NameId) (same : IsNumbered (numbering l.numbers) t (table (module_of m))) (p q r : Parts) (i : ℕ) (g : Node) (row : Declaration PathId NameId) (ms : List Mark)
+      (one : OneAt (numbering l.numbers) m i g row ms) where
     abbrev d : Placed
-    d = record { home = module_of m; declaration = spelled_in m g.now; uses = one.uses }
+    d = record { home = module_of m; declaration = spelled_in m g; uses = one.uses }
 
     abbrev f : ℕ → Text
     f = name_in (unit_view m.unit).names
 
     -- what is held in numbers is held in texts, and the other way round
-    held_text : (o : Option NameId) (x : Option Text) → IsRelatedOption (NameAt (numbering l.numbers)) o x → IsHeldHere l.linked t.path g.now.node o → IsHeldAs (tables (modules_in l)) (task_in l) d x
-    held_text None None h e = assert_respelled f (before (global_view g.now.node) end) ∙ e
+    held_text : (o : Option NameId) (x : Option Text) → IsRelatedOption (NameAt (numbering l.numbers)) o x → IsHeldHere l.linked t.path g.node o → IsHeldAs (tables (modules_in l)) (task_in l) d x
+    held_text None None h e = assert_respelled f (before (global_view g.node) end) ∙ e
     held_text (Some n) (Some x) h c = (sound.reached (record { path = t.path; name = n }) (record { path = path_view m.path; name = x }) same.path h).0 c
     held_text None (Some x) h e = absurd h
     held_text (Some n) None h e = absurd h
 
-    held_number : (o : Option NameId) (x : Option Text) → IsRelatedOption (NameAt (numbering l.numbers)) o x → IsHeldAs (tables (modules_in l)) (task_in l) d x → IsHeldHere l.linked t.path g.now.node o
-    held_number None None h e = sym (assert_respelled f (before (global_view g.now.node) end)) ∙ e
+    held_number : (o : Option NameId) (x : Option Text) → IsRelatedOption (NameAt (numbering l.numbers)) o x → IsHeldAs (tables (modules_in l)) (task_in l) d x → IsHeldHere l.linked t.path g.node o
+    held_number None None h e = sym (assert_respelled f (before (global_view g.node) end)) ∙ e
     held_number (Some n) (Some x) h c = (sound.reached (record { path = t.path; name = n }) (record { path = path_view m.path; name = x }) same.path h).1 c
     held_number None (Some x) h e = absurd h
     held_number (Some n) None h e = absurd h
@@ -199,13 +197,13 @@ module _ (l : Link) (sound : IsLinkOf (task_in l) l) where
     next = take_at (placed (module_of m)) i d one.stands
 
     pub adds_next : Adds l (take i (placed (module_of m))) p q → AddsOne (numbering l.numbers) l.linked t g row.name ms q r → Adds l (take (i + 1) (placed (module_of m))) p r
-    adds_next s (is_added ds here decls denots meant) =
-        let (told, named) = meanings_told (numbering l.numbers) l.numbers.paths.different l.numbers.names.different l.linked (modules_in l) covers t (path_view m.path) same.path ms one.uses ds one.marked meant in
+    adds_next s (is_added here a) =
+        let (told, named) = meanings_told (numbering l.numbers) l.numbers.paths.different l.numbers.names.different l.linked (modules_in l) covers t (path_view m.path) same.path ms one.uses a.meant one.marked a.means in
         subst (λ (all : List Placed). Adds l all p r) (sym next)
-        (adds_one l done p q d s r g ds (held_text row.name (name_of (spelled_in m g.now)) one.same.name here) (sym (shape_replaced f (before (declaration_ref_tree g) end))) decls denots told named)
+        (adds_one l done p q d s r (declaration_tree g) a.meant (held_text row.name (name_of (spelled_in m g)) one.same.name here) (sym (shape_replaced f (before (declaration_tree g) end))) a.declarations a.denotations told named)
     adds_next s (is_not_held out e) =
         subst (λ (all : List Placed). Adds l all p r) (sym next)
-        (subst (λ (x : Parts). Adds l (done ++ d ∷ []) p x) (sym e) (adds_not l done p q d s (λ h. out (held_number row.name (name_of (spelled_in m g.now)) one.same.name h))))
+        (subst (λ (x : Parts). Adds l (done ++ d ∷ []) p x) (sym e) (adds_not l done p q d s (λ h. out (held_number row.name (name_of (spelled_in m g)) one.same.name h))))
 
 -- ---- one identifier
 

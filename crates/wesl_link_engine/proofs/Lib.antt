@@ -31,3 +31,4 @@ pub mod Excluding
 pub mod Entries
 pub mod Chained
 pub mod Reasoned
+mod Turns

@@ -21,3 +21,8 @@ pushed old new x (Err z) e h = cc
 pub ok_on : {T E P : Type 0} (r : Result T E) (x : T) → Some x ≡ result_ok r → OnOk r P → P
 ok_on (Ok y) x e h = h
 ok_on (Err z) x e h = cc
+
+-- where there is a value, what follows of it
+pub if_ok : {T E : Type 0} {P Q : T → Type 0} (r : Result T E) → ((t : T) → P t → Q t) → IfOk r P → IfOk r Q
+if_ok (Ok t) f h = f t h
+if_ok (Err e) f h = tt

@@ -2,13 +2,14 @@
 use Rattle.std.proofs.Common.{◌≡◌, inl, inr, ◌+◌, List, [], ◌∷◌, ◌++◌, length, length-append, map, Contains, refl, sym, subst, ap, ◌∙◌, append-nil}
 use Rattle.std.proofs.lemmas.List.{map-append}
 use Rattle.std.proofs.lemmas.List.Elements.{Contains-append_cases}
-use denote.Ref.{Bor}
+use Rattle.std.specs.Prelude.{Vec}
+use Rattle.std.specs.declared.alloc.Global.{Global}
 use Rattle.wesl_tree_names.specs.Path.{Text, Path}
-use Rattle.wesl_tree_syntax.specs.Tree.{TreeOf, ForestOf, forest_of, trees, identifiers, before, kind, tree, end, imports as imports_kind, directive_list, declarations as declarations_kind}
+use Rattle.wesl_tree_syntax.specs.Tree.{TreeOf, Forest, ForestOf, forest_of, trees, identifiers, before, kind, tree, end, imports as imports_kind, directive_list, declarations as declarations_kind}
 use Rattle.wesl_tree_syntax.specs.Unit.{UnitView, forest_of_unit, spelled}
+use Rattle.wesl_tree_syntax.specs.View.{directives_tree}
 use Rattle.wesl_tree_syntax.specs.declared.span.Spanned.{Spanned}
 use Rattle.wesl_tree_syntax.specs.declared.declaration.GlobalDirective.{GlobalDirective}
-use Rattle.wesl_tree_syntax.specs.declared.declaration.GlobalDeclaration.{GlobalDeclaration}
 use Rattle.wesl_tree.specs.Translation.{unit_view}
 use Rattle.wesl_link_symbols.specs.Tables.{Table}
 use Rattle.wesl_link_symbols.proofs.Lists.{contains_nil, contains_first, contains_later, contains_cases}
@@ -24,14 +25,14 @@ use Rattle.wesl_link_engine.specs.Given.{Given}
 use Rattle.wesl_link_assembly.specs.Denotations.{symbol, local, free_name, printed_as}
 use Rattle.wesl_link_assembly.specs.Directives.{AreThinned, Thins, all_directives}
 use Rattle.wesl_link_assembly.specs.Laws.{MeaningsCanBeRetold}
-use Rattle.wesl_link_assembly.specs.Linked.{shape, nodes_of, directive_ref_tree, declaration_ref_tree, IsLinkedAs}
+use Rattle.wesl_link_assembly.specs.Linked.{shape, nodes_of, IsLinkedAs}
 use Rattle.wesl_link_assembly.specs.Views.{Meaning, denotation_view}
 use Rattle.wesl_link_assembly.proofs.Replaced.{identifiers_replaced}
 use Rattle.wesl_link_engine.specs.Linked.{Denotation, Joins, StandsFor, IsHeld, AreHeldOf, AreMeanings, IsAssembled, Placed, placed, directives_in, unit_of}
 use Rattle.wesl_link_engine.specs.Linked.{Joins as joins}
 use Rattle.wesl_link_engine.specs.Worlds.{Module, tables}
 use Rattle.wesl_link_engine.specs.Keeping.{name_text, denotation_text, name_under, module_of, all_loaded, modules_in, task_in}
-use Rattle.wesl_link_engine.specs.Holding.{printed_by, IsNamed, AreParts}
+use Rattle.wesl_link_engine.specs.Holding.{nodes, printed_by, IsNamed, AreParts, HasMeanings, IsLinkedOf}
 use Rattle.wesl_link_engine.specs.declared.loaded.LoadedModule.{LoadedModule}
 use Rattle.wesl_link_engine.specs.declared.link.Link.{Link}
 use Rattle.wesl_link_engine.specs.declared.assemble.Parts.{Parts}
@@ -49,10 +50,10 @@ many_of f g e =
 abbrev three : {I : Type 0} → ForestOf I → ForestOf I → ForestOf I
 three directives declarations = tree (kind imports_kind) end (tree (kind directive_list) directives (tree (kind declarations_kind) declarations end))
 
-all_directives_are : (us : List UnitView) (ms : List LoadedModule) → us ≡ map (λ m. unit_view m.unit) ms → all_directives us ≡ directives_in (map module_of ms)
-all_directives_are us ms e =
-    ap all_directives e ∙ (flat_map-map (λ u. trees (spelled u).directives.children) (λ (m : LoadedModule). unit_view m.unit) ms
-    ∙ sym (flat_map-map (λ (m : Module). trees m.unit.directives.children) module_of ms))
+all_directives_are : (ms : List LoadedModule) → all_directives (map (λ m. unit_view m.unit) ms) ≡ directives_in (map module_of ms)
+all_directives_are ms =
+    flat_map-map (λ u. trees (spelled u).directives.children) (λ (m : LoadedModule). unit_view m.unit) ms
+    ∙ sym (flat_map-map (λ (m : Module). trees m.unit.directives.children) module_of ms)
 
 -- ---- as many meanings as identifiers
 
@@ -92,13 +93,19 @@ many_meanings w _ _ (joins.one_more d ds ms ns r s) all =
 
 -- ---- the unit
 
-module _ (law : PiecesAreDeclarations) (l : Link) (given : Given) (us : List UnitView) (nodes : List (Bor (Spanned GlobalDirective))) (words : List Meaning) (parts : Parts)
-    (units : us ≡ map (λ m. unit_view m.unit) (all_loaded l)) (d : AreThinned (all_directives us) nodes words) (p : AreParts l (all_loaded l) words parts) where
+module _ (law : PiecesAreDeclarations) (l : Link) (given : Given) (ds : Vec (Spanned GlobalDirective) Global) (texts : List Text) (parts : Parts)
+    (d : AreThinned (all_directives (map (λ m. unit_view m.unit) (all_loaded l))) ds texts) (p : AreParts l (all_loaded l) (map free_name texts) parts) where
   abbrev texts_of : Meaning → Denotation
   texts_of = denotation_text (numbering l.numbers)
 
-  abbrev decls : List (Bor (Spanned GlobalDeclaration))
-  decls = parts.declarations.items
+  abbrev words : List Meaning
+  words = map free_name texts
+
+  abbrev dirs : Forest
+  dirs = (directives_tree ds).children
+
+  abbrev decls : Forest
+  decls = forest_of (nodes parts)
 
   held_sized : (d : Placed) → Contains p.held d → IsSized d
   held_sized d c =
@@ -107,27 +114,26 @@ module _ (law : PiecesAreDeclarations) (l : Link) (given : Given) (us : List Uni
       let (m, in_all, is) = contains_map module_of (all_loaded l) n in_ms in
       sized law m d (subst (λ (x : Module). Contains (placed x) d) (sym is) (selected_in (IsHeld w (task_in l)) (placed n) ds d holds there))
 
-  many_declared : length p.meanings ≡ length (identifiers (forest_of (map declaration_ref_tree decls)))
+  many_declared : length p.meant ≡ length (identifiers decls)
   many_declared =
-      sym (same_length texts_of p.meanings)
-      ∙ (many_meanings (tables (modules_in l)) p.held (map texts_of p.meanings) p.means held_sized ∙ sym (many_of (forest_of (map declaration_ref_tree decls)) (forest_of (map (λ (h : Placed). h.declaration) p.held)) p.alike))
+      sym (same_length texts_of p.meant)
+      ∙ (many_meanings (tables (modules_in l)) p.held (map texts_of p.meant) p.means held_sized ∙ sym (many_of decls (forest_of (map (λ (h : Placed). h.declaration) p.held)) p.alike))
 
-  pub all_named : length (map denotation_view parts.denotations.items) ≡ length (identifiers (forest_of_unit (nodes_of nodes decls)))
+  pub all_named : HasMeanings ds parts
   all_named =
-      let many : length words ≡ length (identifiers (forest_of (map directive_ref_tree nodes))) =
-      ap length d.words_are ∙ (same_length free_name (identifiers (forest_of d.kept)) ∙ sym (many_of (forest_of (map directive_ref_tree nodes)) (forest_of d.kept) d.same_shape)) in
-      ap length p.denotations ∙ (length-append words p.meanings
-      ∙ (ap (λ n. n + length p.meanings) many ∙ (ap (λ n. length (identifiers (forest_of (map directive_ref_tree nodes))) + n) many_declared
-      ∙ (sym (length-append (identifiers (forest_of (map directive_ref_tree nodes))) (identifiers (forest_of (map declaration_ref_tree decls))))
-      ∙ ap (λ xs. length (identifiers (forest_of (map directive_ref_tree nodes)) ++ xs)) (sym (append-nil (identifiers (forest_of (map declaration_ref_tree decls)))))))))
+      let many : length words ≡ length (identifiers dirs) = same_length free_name texts ∙ (ap length d.words_are ∙ sym (many_of dirs (forest_of d.kept) d.same_shape)) in
+      sym (same_length denotation_view parts.denotations.items)
+      ∙ (ap length p.denotations ∙ (length-append words p.meant
+      ∙ (ap (λ n. n + length p.meant) many ∙ (ap (λ n. length (identifiers dirs) + n) many_declared
+      ∙ (sym (length-append (identifiers dirs) (identifiers decls)) ∙ ap (λ xs. length (identifiers dirs ++ xs)) (sym (append-nil (identifiers decls))))))))
 
   free_texts : (xs : List Text) → map texts_of (map free_name xs) ≡ map free_name xs
   free_texts [] = refl
   free_texts (x ∷ xs) = ap (λ ys. free_name x ∷ ys) (free_texts xs)
 
-  named : (m : Meaning) → Contains (words ++ p.meanings) m → IsNamed (numbering l.numbers) m
-  named m c = elim (Contains-append_cases words p.meanings m c) [
-    | inl h ↦ (let (x, k, e) = contains_map free_name (identifiers (forest_of d.kept)) m (subst (λ (ws : List Meaning). Contains ws m) d.words_are h) in subst (λ (n : Meaning). IsNamed (numbering l.numbers) n) e tt)
+  named : (m : Meaning) → Contains (words ++ p.meant) m → IsNamed (numbering l.numbers) m
+  named m c = elim (Contains-append_cases words p.meant m c) [
+    | inl h ↦ (let (x, k, e) = contains_map free_name texts m h in subst (λ (n : Meaning). IsNamed (numbering l.numbers) n) e tt)
     | inr h ↦ p.named m h
   ]
 
@@ -143,27 +149,24 @@ module _ (law : PiecesAreDeclarations) (l : Link) (given : Given) (us : List Uni
   reprinted (local q b n) h = refl
   reprinted (free_name n) h = refl
 
-  shapes : shape (forest_of_unit (unit_of d.kept p.held)) ≡ shape (forest_of_unit (nodes_of nodes decls))
-  shapes =
-      ap (λ x. three x (shape (forest_of (map (λ (h : Placed). h.declaration) p.held)))) (sym d.same_shape)
-      ∙ ap (λ x. three (shape (forest_of (map directive_ref_tree nodes))) x) (sym p.alike)
+  shapes : shape (forest_of_unit (unit_of d.kept p.held)) ≡ shape (forest_of_unit (nodes_of ds parts.declarations))
+  shapes = ap (λ x. three x (shape (forest_of (map (λ (h : Placed). h.declaration) p.held)))) (sym d.same_shape) ∙ ap (λ x. three (shape dirs) x) (sym p.alike)
 
-  pub assembled_is : MeaningsCanBeRetold → (unit : UnitView) → IsLinkedAs (printed_as (printed_by (numbering l.numbers) given)) (nodes_of nodes decls) (map denotation_view parts.denotations.items) unit
-      → IsAssembled (modules_in l) (task_in l) (name_under (numbering l.numbers) given) unit
+  pub assembled_is : MeaningsCanBeRetold → (unit : UnitView) → IsLinkedOf (numbering l.numbers) given ds parts unit → IsAssembled (modules_in l) (task_in l) (name_under (numbering l.numbers) given) unit
   assembled_is retold unit linked = record {
     directives = d.kept;
     held = p.held;
-    meanings = map texts_of p.meanings;
-    thinned = subst (λ (ts : List (TreeOf Text)). Thins ts d.kept) (all_directives_are us (all_loaded l) units) d.thinned;
+    meanings = map texts_of p.meant;
+    thinned = subst (λ (ts : List (TreeOf Text)). Thins ts d.kept) (all_directives_are (all_loaded l)) d.thinned;
     holds = p.holds;
     means = p.means;
     linked =
         subst (λ (ms : List Denotation). IsLinkedAs (printed_as (name_under (numbering l.numbers) given)) (unit_of d.kept p.held) ms unit)
-        (map-append texts_of words p.meanings ∙ ap (λ ws. ws ++ map texts_of p.meanings) (ap (map texts_of) d.words_are ∙ free_texts (identifiers (forest_of d.kept))))
-        (retold texts_of (printed_as (printed_by (numbering l.numbers) given)) (printed_as (name_under (numbering l.numbers) given)) (nodes_of nodes decls) (unit_of d.kept p.held) (words ++ p.meanings) unit
+        (map-append texts_of words p.meant ∙ ap (λ ws. ws ++ map texts_of p.meant) (free_texts texts ∙ ap (map free_name) d.words_are))
+        (retold texts_of (printed_as (printed_by (numbering l.numbers) given)) (printed_as (name_under (numbering l.numbers) given)) (nodes_of ds parts.declarations) (unit_of d.kept p.held) (words ++ p.meant) unit
         (λ m c. reprinted m (named m c))
         (λ n. refl)
         (λ a b c e same. told_apart (numbering l.numbers) l.numbers.paths.different l.numbers.names.different given a b (named a c) (named b e) same)
         shapes
-        (subst (λ (ms : List Meaning). IsLinkedAs (printed_as (printed_by (numbering l.numbers) given)) (nodes_of nodes decls) ms unit) p.denotations linked));
+        (subst (λ (ms : List Meaning). IsLinkedAs (printed_as (printed_by (numbering l.numbers) given)) (nodes_of ds parts.declarations) ms unit) p.denotations linked));
   }

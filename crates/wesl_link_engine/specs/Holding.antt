@@ -1,10 +1,12 @@
 -- How the parts of a linked unit are held in numbers.
-use Rattle.std.specs.Prelude.{◌≡◌, ◌++◌, Bool, true, false, Option, Some, None, List, [], ◌∷◌, Contains, map}
-use denote.Ref.{Bor}
+use Rattle.std.specs.Prelude.{◌≡◌, ◌++◌, Bool, true, false, Option, Some, None, List, [], ◌∷◌, Contains, Vec, length, map}
+use Rattle.std.specs.declared.alloc.Global.{Global}
 use Rattle.wesl_tree_names.specs.Path.{Text, Path, path_view}
-use Rattle.wesl_tree_syntax.specs.Tree.{forest_of, before, end}
-use Rattle.wesl_tree_syntax.specs.View.{global_view}
+use Rattle.wesl_tree_syntax.specs.Tree.{Tree, forest_of, before, end, identifiers, declaration_node}
+use Rattle.wesl_tree_syntax.specs.Unit.{UnitView, forest_of_unit}
+use Rattle.wesl_tree_syntax.specs.View.{global_view, placed as tree_of}
 use Rattle.wesl_tree_syntax.specs.declared.span.Spanned.{Spanned}
+use Rattle.wesl_tree_syntax.specs.declared.declaration.GlobalDirective.{GlobalDirective}
 use Rattle.wesl_tree_syntax.specs.declared.declaration.GlobalDeclaration.{GlobalDeclaration}
 use Rattle.wesl_link_symbols.specs.declared.ids.PathId.{PathId}
 use Rattle.wesl_tree_base.specs.declared.ids.NameId.{NameId}
@@ -17,17 +19,18 @@ use Rattle.wesl_link_reach.specs.Keeping.{StandsHeld}
 use Rattle.wesl_link_tables.specs.Imports.{first_label}
 use Rattle.wesl_link_tables.specs.Numbering.{Numbering, NameAt, PathAt, AreRelated}
 use Rattle.wesl_link_tables.specs.TextsView.{numbering_of_texts as numbering}
+use Rattle.wesl_link_tables.specs.declared.texts.NumberTexts.{NumberTexts}
 use Rattle.wesl_link_tables.specs.declared.marks.Mark.{Mark}
 use Rattle.wesl_link_tables.specs.declared.marks.Mark.TheVariants as marks
-use Rattle.wesl_link_assembly.specs.Denotations.{symbol, local, free_name}
-use Rattle.wesl_link_assembly.specs.Linked.{shape, declaration_ref_tree}
+use Rattle.wesl_link_assembly.specs.Denotations.{symbol, local, free_name, printed_as}
+use Rattle.wesl_link_assembly.specs.Linked.{shape, nodes_of, IsLinkedAs}
 use Rattle.wesl_link_assembly.specs.Views.{Meaning, denotation_view}
 use Rattle.wesl_link_assembly.specs.declared.denotation.Denotation.{Denotation}
 use Rattle.wesl_link_engine.specs.Given.{Given}
 use Rattle.wesl_link_engine.specs.Linked.{Selects, Joins, Placed, placed, is_assert, IsHeld, AreHeldOf, AreMeanings}
 use Rattle.wesl_link_engine.specs.Resolved.{mangled}
 use Rattle.wesl_link_engine.specs.Worlds.{table, tables}
-use Rattle.wesl_link_engine.specs.Keeping.{name_text, denotation_text, module_of, all_loaded, loaded_modules, modules_in, task_in, or_own}
+use Rattle.wesl_link_engine.specs.Keeping.{name_text, denotation_text, module_of, all_loaded, loaded_modules, modules_in, task_in, or_own, IsLinkOf}
 use Rattle.wesl_link_engine.specs.declared.loaded.LoadedModule.{LoadedModule}
 use Rattle.wesl_link_engine.specs.declared.link.Link.{Link}
 use Rattle.wesl_link_engine.specs.declared.assemble.Parts.{Parts}
@@ -87,32 +90,55 @@ IsHeldHere k p g None = first_label false is_assert (before (global_view g) end)
 abbrev pub RefersToAll : Declaration PathId NameId → List Mark → Type 0
 RefersToAll d ms = (r : Reference PathId NameId) → Contains ms (marks.Asks r) → Contains d.references r
 
+-- so it is for all marks
+abbrev pub AreAskable : Linking PathId NameId → Table PathId NameId → List Mark → Type 0
+AreAskable k t ms = (m : Mark) → Contains ms m → IsAskable k t m
+
 -- no mark is unclear
 abbrev pub AreClear : List Mark → Type 0
 AreClear ms = (n : NameId) → Contains ms (marks.Unclear n) → ⊥
 
+-- ---- parts
+
+abbrev pub declaration_tree : Spanned GlobalDeclaration → Tree
+declaration_tree = tree_of global_view declaration_node
+
+-- the trees of the declarations that were added
+abbrev pub nodes : Parts → List Tree
+nodes p = map declaration_tree p.declarations.items
+
+-- what identifiers stand for, as it was added
+abbrev pub meanings : Parts → List Meaning
+meanings p = map denotation_view p.denotations.items
+
 module _ (nb : Numbering) (k : Linking PathId NameId) (t : Table PathId NameId) where
-  -- the declaration is added with what its identifiers stand for, where it is held
-  pub data AddsOne (g : Bor (Spanned GlobalDeclaration)) (name : Option NameId) (ms : List Mark) (before after : Parts) : Type 0 where
-    is_added : (ds : List Meaning) → IsHeldHere k t.path g.now.node name → after.declarations.items ≡ before.declarations.items ++ g ∷ []
-        → map denotation_view after.denotations.items ≡ map denotation_view before.denotations.items ++ ds → AreRelated (IsMeant nb k t) ms ds → AddsOne g name ms before after
-    is_not_held : (IsHeldHere k t.path g.now.node name → ⊥) → after ≡ before → AddsOne g name ms before after
+  -- the declaration is added with what its identifiers stand for
+  pub record AddsHeld (g : Tree) (ms : List Mark) (before after : Parts) : Type 0 where
+    pub meant : List Meaning
+    pub declarations : nodes after ≡ nodes before ++ g ∷ []
+    pub denotations : meanings after ≡ meanings before ++ meant
+    pub means : AreRelated (IsMeant nb k t) ms meant
+
+  -- where it is held
+  pub data AddsOne (g : Spanned GlobalDeclaration) (name : Option NameId) (ms : List Mark) (before after : Parts) : Type 0 where
+    is_added : IsHeldHere k t.path g.node name → AddsHeld (declaration_tree g) ms before after → AddsOne g name ms before after
+    is_not_held : (IsHeldHere k t.path g.node name → ⊥) → after ≡ before → AddsOne g name ms before after
 
 -- the nodes are those of declarations, in other numbers
-abbrev pub AreAlike : List (Bor (Spanned GlobalDeclaration)) → List Placed → Type 0
-AreAlike nodes held = shape (forest_of (map declaration_ref_tree nodes)) ≡ shape (forest_of (map (λ d. d.declaration) held))
+abbrev pub AreAlike : List Tree → List Placed → Type 0
+AreAlike ts held = shape (forest_of ts) ≡ shape (forest_of (map (λ d. d.declaration) held))
 
 -- of these declarations those that are held are added, with what their identifiers stand for
 pub record Adds (l : Link) (all : List Placed) (before after : Parts) : Type 0 where
-  pub nodes : List (Bor (Spanned GlobalDeclaration))
+  pub added : List Tree
   pub held : List Placed
-  pub meanings : List Meaning
-  pub declarations : after.declarations.items ≡ before.declarations.items ++ nodes
-  pub denotations : map denotation_view after.denotations.items ≡ map denotation_view before.denotations.items ++ meanings
+  pub meant : List Meaning
+  pub declarations : nodes after ≡ nodes before ++ added
+  pub denotations : meanings after ≡ meanings before ++ meant
   pub holds : Selects (IsHeld (tables (modules_in l)) (task_in l)) all held
-  pub means : Joins (AreMeanings (tables (modules_in l))) held (map (denotation_text (numbering l.numbers)) meanings)
-  pub named : (d : Meaning) → Contains meanings d → IsNamed (numbering l.numbers) d
-  pub alike : AreAlike nodes held
+  pub means : Joins (AreMeanings (tables (modules_in l))) held (map (denotation_text (numbering l.numbers)) meant)
+  pub named : (d : Meaning) → Contains meant d → IsNamed (numbering l.numbers) d
+  pub alike : AreAlike added held
 
 abbrev pub AddsModule : Link → LoadedModule → Parts → Parts → Type 0
 AddsModule l m before after = Adds l (placed (module_of m)) before after
@@ -120,9 +146,35 @@ AddsModule l m before after = Adds l (placed (module_of m)) before after
 -- The parts that were added of these modules, after these words.
 pub record AreParts (l : Link) (ms : List LoadedModule) (words : List Meaning) (p : Parts) : Type 0 where
   pub held : List Placed
-  pub meanings : List Meaning
-  pub denotations : map denotation_view p.denotations.items ≡ words ++ meanings
+  pub meant : List Meaning
+  pub denotations : meanings p ≡ words ++ meant
   pub holds : Joins (AreHeldOf (tables (modules_in l)) (task_in l)) (loaded_modules ms) held
-  pub means : Joins (AreMeanings (tables (modules_in l))) held (map (denotation_text (numbering l.numbers)) meanings)
-  pub named : (d : Meaning) → Contains meanings d → IsNamed (numbering l.numbers) d
-  pub alike : AreAlike p.declarations.items held
+  pub means : Joins (AreMeanings (tables (modules_in l))) held (map (denotation_text (numbering l.numbers)) meant)
+  pub named : (d : Meaning) → Contains meant d → IsNamed (numbering l.numbers) d
+  pub alike : AreAlike (nodes p) held
+
+-- ---- a link that was taken apart
+
+-- the modules are those of the link, whose numbers and whose tables these are
+pub record AreModulesOf (l : Link) (numbers : NumberTexts) (k : Linking PathId NameId) (ms : List LoadedModule) : Type 0 where
+  pub sound : IsLinkOf (task_in l) l
+  pub numbers_are : l.numbers ≡ numbers
+  pub linked_is : l.linked ≡ k
+  pub modules_are : all_loaded l ≡ ms
+
+-- the module is one of them
+pub record IsModuleOf (l : Link) (numbers : NumberTexts) (k : Linking PathId NameId) (m : LoadedModule) : Type 0 where
+  pub sound : IsLinkOf (task_in l) l
+  pub numbers_are : l.numbers ≡ numbers
+  pub linked_is : l.linked ≡ k
+  pub inside : Contains (all_loaded l) m
+
+-- ---- the unit
+
+-- one meaning for each identifier
+abbrev pub HasMeanings : Vec (Spanned GlobalDirective) Global → Parts → Type 0
+HasMeanings ds p = length p.denotations.items ≡ length (identifiers (forest_of_unit (nodes_of ds p.declarations)))
+
+-- the unit of directives and parts, under the names that were given
+abbrev pub IsLinkedOf : Numbering → Given → Vec (Spanned GlobalDirective) Global → Parts → UnitView → Type 0
+IsLinkedOf nb given ds p unit = IsLinkedAs (printed_as (printed_by nb given)) (nodes_of ds p.declarations) (meanings p) unit

@@ -7,6 +7,7 @@ mod laws;
 mod link;
 mod loaded;
 mod modules;
+mod moving;
 mod reasons;
 mod refusals;
 mod request;

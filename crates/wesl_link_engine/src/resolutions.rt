@@ -13,6 +13,7 @@ ghost use Rattle.wesl_link_engine.specs.Reasons.{IsHeldIn, TellsReason, item_at,
 use crate::assemble::assembled;
 use crate::given::GivenNames;
 use crate::link::{Link, table_at};
+use crate::moving::moved;
 use crate::reasons::{item_reason, module_reason};
 use crate::steps::Step;
 use std::alloc::{AllocError, Global};
@@ -152,6 +153,20 @@ impl Resolutions {
     {
         match &self.link {
             Some(link) => assembled(alloc, link, &self.given),
+            None => Ok(TranslationUnit::new(alloc)),
+        }
+    }
+
+    /// The linked unit that `assemble` gives, of what is let go with it: the declarations move into the unit.
+    pub fn into_unit(self, alloc: Global, strip: bool) -> Result<TranslationUnit, Error>
+        requires sound { IsSound self }
+        requires stripped { IsTrue strip ⊎ ((resolved self).is_eager ≡ true) }
+        ensures assembled { IfOk result (λ unit. AssemblesTo (resolved self) (unit_view unit)) }
+        ensures refused { IfErr result (λ e. e ≡ error.Memory) }
+    {
+        let Resolutions { link, given } = self;
+        match link {
+            Some(link) => moved(alloc, link, &given),
             None => Ok(TranslationUnit::new(alloc)),
         }
     }
