@@ -198,7 +198,7 @@ fn named<M: Mangler + Drop>(
         mut mapper,
     } = found;
     resolutions.mangle(alloc, &mut mapper, mangle_root)?;
-    let unit = resolutions.assemble(alloc, true)?;
+    let unit = resolutions.into_unit(alloc, true)?;
     mapper.root = root;
     match mapper.finish(alloc) {
         Ok(map) => Ok(Mapped { unit, map }),

@@ -102,6 +102,18 @@ impl Resolutions {
         self.found.assemble(alloc, strip)
     }
 
+    /// The linked unit that `assemble` gives, of what is let go with it: the declarations move into the unit, so that less
+    /// memory is taken. Refused for want of memory alone.
+    pub fn into_unit(self, alloc: Global, strip: bool) -> Result<TranslationUnit, Error>
+        requires stripped { IsTrue strip ⊎ ((resolved self).is_eager ≡ true) }
+        ensures assembled { IfOk result (λ unit. AssemblesTo (resolved self) (unit_view unit)) }
+        ensures refused { IfErr result (λ e. e ≡ error.Memory) }
+    {
+        law_of_sound_links();
+        let Resolutions { found } = self;
+        found.into_unit(alloc, strip)
+    }
+
     /// Why the declarations of a name in the module at a path are held (WESL, "Imports"): the steps to their symbol. The first
     /// is a kept name or the root's module, the last the symbol, and each next one is asked for by the one before: by a kept
     /// name, by a declaration, by a const_assert of a module, or in an eager link by a module that takes it with it.
