@@ -1,130 +1,135 @@
 //! An explanation as one JSON object (docs/schema/explanation.json).
 
-use crate::explanation::{
-    Cure, Explanation, Fault, FreeName, HeldDeclaration, LoadedModule, Meaning, NameClash, Read,
-    UnusedImport,
-};
-use crate::texts::Texts;
-use serde_json::{Value, json, put};
+use json::{Token, Writer};
+use serde_json::{Value, put};
 use std::alloc::{AllocError, Global};
-use wesl_link_reasons::node::Node;
-use wesl_link_symbols::ids::{NameId, PathId};
+use wesl_explain_world::{
+    Cure, Explanation, Fault, FreeName, HeldDeclaration, LoadedModule, Meaning, NameClash, NameId,
+    Node, PathId, Read, UnusedImport,
+};
 
-/// A declaration of a module.
-fn symbol_value(
-    alloc: Global,
-    texts: &Texts,
+/// Writes a member that is a text.
+fn write_text(out: &mut Writer, key: &str, text: &str) -> Result<(), AllocError> {
+    out.key(key)?;
+    out.string(text)
+}
+
+/// Writes a declaration of a module.
+fn write_symbol(
+    out: &mut Writer,
+    told: &Explanation,
     path: PathId,
     name: NameId,
-) -> Result<Value, AllocError> {
-    json!(in alloc; {"module": texts.path(path), "name": texts.name(name)})
+) -> Result<(), AllocError> {
+    out.begin_object()?;
+    write_text(out, "module", told.path(path))?;
+    write_text(out, "name", told.name(name))?;
+    out.end_object()
 }
 
-/// A step of a chain.
-fn node_value(
-    alloc: Global,
-    texts: &Texts,
+/// Writes an object of one member.
+fn write_alone(out: &mut Writer, key: &str, text: &str) -> Result<(), AllocError> {
+    out.begin_object()?;
+    write_text(out, key, text)?;
+    out.end_object()
+}
+
+/// Writes a step of a chain.
+fn write_node(
+    out: &mut Writer,
+    told: &Explanation,
     node: Node<PathId, NameId>,
-) -> Result<Value, AllocError> {
+) -> Result<(), AllocError> {
     match node {
-        Node::KeptName(name) => json!(in alloc; {"kept": texts.name(name)}),
-        Node::Module(path) => json!(in alloc; {"module": texts.path(path)}),
-        Node::Item(symbol) => symbol_value(alloc, texts, symbol.path, symbol.name),
+        Node::KeptName(name) => write_alone(out, "kept", told.name(name)),
+        Node::Module(path) => write_alone(out, "module", told.path(path)),
+        Node::Item(symbol) => write_symbol(out, told, symbol.path, symbol.name),
     }
 }
 
-fn chain_value(
-    alloc: Global,
-    texts: &Texts,
+fn write_chain(
+    out: &mut Writer,
+    told: &Explanation,
     chain: &[Node<PathId, NameId>],
-) -> Result<Value, AllocError> {
-    let mut steps = Vec::with_capacity(alloc, chain.len())?;
+) -> Result<(), AllocError> {
+    out.key("chain")?;
+    out.begin_array()?;
     for node in chain {
-        steps.push(node_value(alloc, texts, *node)?)?;
+        write_node(out, told, *node)?;
     }
-    Ok(Value::Array(steps))
+    out.end_array()
 }
 
-fn modules_value(
-    alloc: Global,
-    texts: &Texts,
-    modules: &[LoadedModule],
-) -> Result<Value, AllocError> {
-    let mut list = Vec::with_capacity(alloc, modules.len())?;
-    for module in modules {
-        let chain = chain_value(alloc, texts, &module.chain)?;
-        list.push(json!(in alloc; {"chain": chain, "path": texts.path(module.path)})?)?;
-    }
-    Ok(Value::Array(list))
+fn write_module(
+    out: &mut Writer,
+    told: &Explanation,
+    module: &LoadedModule,
+) -> Result<(), AllocError> {
+    out.begin_object()?;
+    write_chain(out, told, &module.chain)?;
+    write_text(out, "path", told.path(module.path))?;
+    out.end_object()
 }
 
-/// A held declaration: a const_assert has no name.
-fn held_value(
-    alloc: Global,
-    texts: &Texts,
+fn write_modules(out: &mut Writer, told: &Explanation) -> Result<(), AllocError> {
+    out.key("modules")?;
+    out.begin_array()?;
+    for module in &told.modules {
+        write_module(out, told, module)?;
+    }
+    out.end_array()
+}
+
+/// Writes a held declaration: a const_assert has no name.
+fn write_declaration(
+    out: &mut Writer,
+    told: &Explanation,
     declaration: &HeldDeclaration,
-) -> Result<Value, AllocError> {
-    let chain = chain_value(alloc, texts, &declaration.chain)?;
-    let module = texts.path(declaration.path);
-    match declaration.name {
-        Some(name) =>
-            json!(in alloc; {"chain": chain, "module": module, "name": texts.name(name), "printed": declaration.printed.as_str()}),
-        None => json!(in alloc; {"chain": chain, "module": module}),
+) -> Result<(), AllocError> {
+    out.begin_object()?;
+    write_chain(out, told, &declaration.chain)?;
+    write_text(out, "module", told.path(declaration.path))?;
+    if let Some(name) = declaration.name {
+        write_text(out, "name", told.name(name))?;
+        write_text(out, "printed", declaration.printed.as_str())?;
+    }
+    out.end_object()
+}
+
+fn write_held(out: &mut Writer, told: &Explanation) -> Result<(), AllocError> {
+    out.key("held")?;
+    out.begin_array()?;
+    for declaration in &told.held {
+        write_declaration(out, told, declaration)?;
+    }
+    out.end_array()
+}
+
+/// Writes a held declaration by its module and name; a const_assert has no name.
+fn write_place(out: &mut Writer, told: &Explanation, place: usize) -> Result<(), AllocError> {
+    match told.held.get(place) {
+        Some(declaration) => match declaration.name {
+            Some(name) => write_symbol(out, told, declaration.path, name),
+            None => write_alone(out, "module", told.path(declaration.path)),
+        },
+        None => out.token(Token::Null),
     }
 }
 
-fn all_held_value(
-    alloc: Global,
-    texts: &Texts,
-    held: &[HeldDeclaration],
-) -> Result<Value, AllocError> {
-    let mut list = Vec::with_capacity(alloc, held.len())?;
-    for declaration in held {
-        list.push(held_value(alloc, texts, declaration)?)?;
-    }
-    Ok(Value::Array(list))
-}
-
-/// A held declaration by its module and name; a const_assert has no name.
-fn place_value(
-    alloc: Global,
-    texts: &Texts,
-    held: &[HeldDeclaration],
-    place: usize,
-) -> Result<Value, AllocError> {
-    let Some(declaration) = held.get(place) else {
-        return Ok(Value::Null);
-    };
-    match declaration.name {
-        Some(name) => symbol_value(alloc, texts, declaration.path, name),
-        None => json!(in alloc; {"module": texts.path(declaration.path)}),
-    }
-}
-
-/// What an identifier stands for: a held declaration, or `local` or `outer`.
-fn meaning_value(
-    alloc: Global,
-    texts: &Texts,
-    held: &[HeldDeclaration],
-    meaning: Meaning,
-) -> Result<Value, AllocError> {
+/// Writes what an identifier stands for: a held declaration, or `local` or `outer`.
+fn write_meaning(out: &mut Writer, told: &Explanation, meaning: Meaning) -> Result<(), AllocError> {
     match meaning {
-        Meaning::Held(place) => place_value(alloc, texts, held, place),
-        Meaning::Local => Value::try_from_str(alloc, "local"),
-        Meaning::Outer => Value::try_from_str(alloc, "outer"),
+        Meaning::Held(place) => write_place(out, told, place),
+        Meaning::Local => out.string("local"),
+        Meaning::Outer => out.string("outer"),
     }
 }
 
-/// What is read in place of it.
-fn read_value(
-    alloc: Global,
-    texts: &Texts,
-    held: &[HeldDeclaration],
-    read: Read,
-) -> Result<Value, AllocError> {
+/// Writes what is read in place of it.
+fn write_read(out: &mut Writer, told: &Explanation, read: Read) -> Result<(), AllocError> {
     match read {
-        Read::As(meaning) | Read::Twice(meaning) => meaning_value(alloc, texts, held, meaning),
-        Read::Nothing => Ok(Value::Null),
+        Read::As(meaning) | Read::Twice(meaning) => write_meaning(out, told, meaning),
+        Read::Nothing => out.token(Token::Null),
     }
 }
 
@@ -136,72 +141,84 @@ fn cure_word(cure: Cure) -> &'static str {
     }
 }
 
-fn cures_value(alloc: Global, cures: &[Cure]) -> Result<Value, AllocError> {
-    let mut list = Vec::with_capacity(alloc, cures.len())?;
+fn write_cures(out: &mut Writer, cures: &[Cure]) -> Result<(), AllocError> {
+    out.key("cures")?;
+    out.begin_array()?;
     for cure in cures {
-        list.push(Value::try_from_str(alloc, cure_word(*cure))?)?;
+        out.string(cure_word(*cure))?;
     }
-    Ok(Value::Array(list))
+    out.end_array()
 }
 
-fn clash_value(
-    alloc: Global,
-    texts: &Texts,
-    held: &[HeldDeclaration],
-    clash: &NameClash,
-) -> Result<Value, AllocError> {
-    let within = match clash.within {
-        Some(place) => place_value(alloc, texts, held, place)?,
-        None => Value::Null,
-    };
-    let meant = meaning_value(alloc, texts, held, clash.meant)?;
-    let read = read_value(alloc, texts, held, clash.read)?;
-    let cures = cures_value(alloc, &clash.cures)?;
-    json!(in alloc; {"cures": cures, "meant": meant, "name": clash.name.as_str(), "read": read, "within": within})
-}
-
-fn clashes_value(
-    alloc: Global,
-    texts: &Texts,
-    held: &[HeldDeclaration],
-    clashes: &[NameClash],
-) -> Result<Value, AllocError> {
-    let mut list = Vec::with_capacity(alloc, clashes.len())?;
-    for clash in clashes {
-        list.push(clash_value(alloc, texts, held, clash)?)?;
+fn write_clash(out: &mut Writer, told: &Explanation, clash: &NameClash) -> Result<(), AllocError> {
+    out.begin_object()?;
+    write_cures(out, &clash.cures)?;
+    out.key("meant")?;
+    write_meaning(out, told, clash.meant)?;
+    write_text(out, "name", clash.name.as_str())?;
+    out.key("read")?;
+    write_read(out, told, clash.read)?;
+    out.key("within")?;
+    match clash.within {
+        Some(place) => write_place(out, told, place)?,
+        None => out.token(Token::Null)?,
     }
-    Ok(Value::Array(list))
+    out.end_object()
 }
 
-fn free_value(alloc: Global, texts: &Texts, free: &FreeName) -> Result<Value, AllocError> {
-    let near = match free.near {
-        Some((path, name)) => symbol_value(alloc, texts, path, name)?,
-        None => Value::Null,
-    };
-    json!(in alloc; {"name": free.name.as_str(), "near": near})
-}
-
-fn all_free_value(alloc: Global, texts: &Texts, free: &[FreeName]) -> Result<Value, AllocError> {
-    let mut list = Vec::with_capacity(alloc, free.len())?;
-    for name in free {
-        list.push(free_value(alloc, texts, name)?)?;
+fn write_clashes(out: &mut Writer, told: &Explanation) -> Result<(), AllocError> {
+    out.key("clashes")?;
+    out.begin_array()?;
+    for clash in &told.clashes {
+        write_clash(out, told, clash)?;
     }
-    Ok(Value::Array(list))
+    out.end_array()
 }
 
-fn unused_value(
-    alloc: Global,
-    texts: &Texts,
-    unused: &[UnusedImport],
-) -> Result<Value, AllocError> {
-    let mut list = Vec::with_capacity(alloc, unused.len())?;
-    for import in unused {
-        let target = symbol_value(alloc, texts, import.from, import.item)?;
-        list.push(
-            json!(in alloc; {"bound": texts.name(import.bound), "module": texts.path(import.path), "target": target})?,
-        )?;
+fn write_free_name(
+    out: &mut Writer,
+    told: &Explanation,
+    free: &FreeName,
+) -> Result<(), AllocError> {
+    out.begin_object()?;
+    write_text(out, "name", free.name.as_str())?;
+    out.key("near")?;
+    match free.near {
+        Some((path, name)) => write_symbol(out, told, path, name)?,
+        None => out.token(Token::Null)?,
     }
-    Ok(Value::Array(list))
+    out.end_object()
+}
+
+fn write_free(out: &mut Writer, told: &Explanation) -> Result<(), AllocError> {
+    out.key("free")?;
+    out.begin_array()?;
+    for name in &told.free {
+        write_free_name(out, told, name)?;
+    }
+    out.end_array()
+}
+
+fn write_import(
+    out: &mut Writer,
+    told: &Explanation,
+    import: &UnusedImport,
+) -> Result<(), AllocError> {
+    out.begin_object()?;
+    write_text(out, "bound", told.name(import.bound))?;
+    write_text(out, "module", told.path(import.path))?;
+    out.key("target")?;
+    write_symbol(out, told, import.from, import.item)?;
+    out.end_object()
+}
+
+fn write_unused(out: &mut Writer, told: &Explanation) -> Result<(), AllocError> {
+    out.key("unused_imports")?;
+    out.begin_array()?;
+    for import in &told.unused {
+        write_import(out, told, import)?;
+    }
+    out.end_array()
 }
 
 /// A fault as its line has it, with its text.
@@ -224,21 +241,33 @@ fn faults_value(alloc: Global, faults: &[Fault]) -> Result<Value, AllocError> {
     Ok(Value::Array(list))
 }
 
-fn explanation_value(alloc: Global, told: &Explanation) -> Result<Value, AllocError> {
-    let texts = &told.texts;
-    let modules = modules_value(alloc, texts, &told.modules)?;
-    let held = all_held_value(alloc, texts, &told.held)?;
-    let clashes = clashes_value(alloc, texts, &told.held, &told.clashes)?;
-    let free = all_free_value(alloc, texts, &told.free)?;
-    let unused = unused_value(alloc, texts, &told.unused)?;
-    let faults = faults_value(alloc, &told.faults)?;
-    json!(in alloc; {"clashes": clashes, "faults": faults, "free": free, "held": held, "modules": modules, "unused_imports": unused})
+/// The members before the faults, and the key of these.
+fn head(alloc: Global, told: &Explanation) -> Result<Vec<u8>, AllocError> {
+    let mut out = Writer::new(Vec::new(alloc));
+    out.begin_object()?;
+    write_clashes(&mut out, told)?;
+    out.key("faults")?;
+    Ok(out.into_inner())
+}
+
+/// Adds the members after the faults.
+fn with_tail(head: Vec<u8>, told: &Explanation) -> Result<Vec<u8>, AllocError> {
+    let mut out = Writer::new(head);
+    write_free(&mut out, told)?;
+    write_held(&mut out, told)?;
+    write_modules(&mut out, told)?;
+    write_unused(&mut out, told)?;
+    out.end_object()?;
+    Ok(out.into_inner())
 }
 
 /// The explanation as compact JSON on a line, its keys in the order of their bytes.
 pub fn json_of(alloc: Global, told: &Explanation) -> Result<String, AllocError> {
-    let value = explanation_value(alloc, told)?;
-    let mut line = value.to_string(alloc)?;
-    line.push('\n')?;
-    Ok(line)
+    let faults = faults_value(alloc, &told.faults)?.to_vec(alloc)?;
+    let mut bytes = head(alloc, told)?;
+    bytes.extend_from_slice(&faults)?;
+    bytes.push(b',')?;
+    let mut bytes = with_tail(bytes, told)?;
+    bytes.push(b'\n')?;
+    String::from_utf8(bytes).ok().ok_or(AllocError)
 }

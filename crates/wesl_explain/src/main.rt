@@ -2,23 +2,10 @@
 #![tactic(auto)]
 
 mod as_json;
-mod asking;
 mod chains;
-mod clashing;
-mod explaining;
-mod explanation;
-mod faults;
-mod freeing;
-mod holding;
-mod loading;
-mod packages;
-mod sources;
 mod telling;
 mod text;
-mod texts;
-mod wgsl_names;
 mod words;
-mod world;
 
 use crate::telling::{bytes_of, told_of, write_told};
 use crate::words::{command, wish_of};

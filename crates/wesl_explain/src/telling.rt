@@ -3,12 +3,11 @@ ghost use Rattle.std.specs.Prelude.{string_bytes};
 ghost use Rattle.wesl_explain.specs.Ends.{Ends};
 
 use crate::as_json::json_of;
-use crate::explaining::explained;
-use crate::explanation::Explanation;
 use crate::text::text_of;
 use std::alloc::{AllocError, Global};
 use std::io::{Read, Write};
 use std::process::ExitCode;
+use wesl_explain_world::{Explanation, explained};
 use wesl_program::{NotedStream, read_whole, write_whole};
 
 /// How the program ends once something is told.

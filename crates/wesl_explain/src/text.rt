@@ -1,13 +1,11 @@
 //! An explanation as plain text with headings.
 
 use crate::chains::{push_chain, push_symbol};
-use crate::explanation::{
-    Cure, Explanation, Fault, FreeName, HeldDeclaration, LoadedModule, Meaning, NameClash, Read,
-    UnusedImport,
-};
-use crate::texts::Texts;
 use std::alloc::{AllocError, Global};
-use wesl_link_symbols::ids::PathId;
+use wesl_explain_world::{
+    Cure, Explanation, Fault, FreeName, HeldDeclaration, LoadedModule, Meaning, NameClash, PathId,
+    Read, UnusedImport,
+};
 
 /// Writes a heading with how many there are below it.
 fn push_heading(
@@ -32,26 +30,30 @@ fn push_quoted(out: &mut String, text: &str) -> Result<(), AllocError> {
     Ok(())
 }
 
-fn push_module(out: &mut String, texts: &Texts, module: &LoadedModule) -> Result<(), AllocError> {
+fn push_module(
+    out: &mut String,
+    told: &Explanation,
+    module: &LoadedModule,
+) -> Result<(), AllocError> {
     out.push_str("  ")?;
-    out.push_str(texts.path(module.path))?;
+    out.push_str(told.path(module.path))?;
     if module.chain.len() <= 1 {
         out.push_str("\n    it is the root\n")?;
         return Ok(());
     }
     out.push_str("\n    ")?;
-    push_chain(out, texts, &module.chain)?;
+    push_chain(out, told, &module.chain)?;
     out.push_str("\n")?;
     Ok(())
 }
 
 fn push_modules(
     out: &mut String,
-    texts: &Texts,
+    told: &Explanation,
     modules: &[LoadedModule],
 ) -> Result<(), AllocError> {
     for module in modules {
-        push_module(out, texts, module)?;
+        push_module(out, told, module)?;
     }
     Ok(())
 }
@@ -59,14 +61,14 @@ fn push_modules(
 /// Writes what a held declaration is called, and what it is printed as where that is another name.
 fn push_name(
     out: &mut String,
-    texts: &Texts,
+    told: &Explanation,
     declaration: &HeldDeclaration,
 ) -> Result<(), AllocError> {
     let Some(name) = declaration.name else {
         out.push_str("a const_assert")?;
         return Ok(());
     };
-    let own = texts.name(name);
+    let own = told.name(name);
     out.push_str(own)?;
     if declaration.printed.as_str() != own {
         out.push_str(", printed as ")?;
@@ -77,60 +79,54 @@ fn push_name(
 
 fn push_declaration(
     out: &mut String,
-    texts: &Texts,
+    told: &Explanation,
     declaration: &HeldDeclaration,
 ) -> Result<(), AllocError> {
     out.push_str("    ")?;
-    push_name(out, texts, declaration)?;
+    push_name(out, told, declaration)?;
     out.push_str("\n      ")?;
-    push_chain(out, texts, &declaration.chain)?;
+    push_chain(out, told, &declaration.chain)?;
     out.push_str("\n")?;
     Ok(())
 }
 
 /// Writes held declarations, below the path of each module.
-fn push_held(out: &mut String, texts: &Texts, held: &[HeldDeclaration]) -> Result<(), AllocError> {
+fn push_held(
+    out: &mut String,
+    told: &Explanation,
+    held: &[HeldDeclaration],
+) -> Result<(), AllocError> {
     let mut home: Option<PathId> = None;
     for declaration in held {
         if home != Some(declaration.path) {
             home = Some(declaration.path);
             out.push_str("  ")?;
-            out.push_str(texts.path(declaration.path))?;
+            out.push_str(told.path(declaration.path))?;
             out.push_str("\n")?;
         }
-        push_declaration(out, texts, declaration)?;
+        push_declaration(out, told, declaration)?;
     }
     Ok(())
 }
 
 /// Writes a held declaration by its module and name.
-fn push_place(
-    out: &mut String,
-    texts: &Texts,
-    held: &[HeldDeclaration],
-    place: usize,
-) -> Result<(), AllocError> {
-    let Some(declaration) = held.get(place) else {
+fn push_place(out: &mut String, told: &Explanation, place: usize) -> Result<(), AllocError> {
+    let Some(declaration) = told.held.get(place) else {
         return Ok(());
     };
     match declaration.name {
-        Some(name) => push_symbol(out, texts, declaration.path, name),
+        Some(name) => push_symbol(out, told, declaration.path, name),
         None => {
             out.push_str("a const_assert of ")?;
-            out.push_str(texts.path(declaration.path))?;
+            out.push_str(told.path(declaration.path))?;
             Ok(())
         }
     }
 }
 
-fn push_meaning(
-    out: &mut String,
-    texts: &Texts,
-    held: &[HeldDeclaration],
-    meaning: Meaning,
-) -> Result<(), AllocError> {
+fn push_meaning(out: &mut String, told: &Explanation, meaning: Meaning) -> Result<(), AllocError> {
     match meaning {
-        Meaning::Held(place) => push_place(out, texts, held, place),
+        Meaning::Held(place) => push_place(out, told, place),
         Meaning::Local => {
             out.push_str("a name that is declared in the function")?;
             Ok(())
@@ -142,16 +138,11 @@ fn push_meaning(
     }
 }
 
-fn push_read(
-    out: &mut String,
-    texts: &Texts,
-    held: &[HeldDeclaration],
-    read: Read,
-) -> Result<(), AllocError> {
+fn push_read(out: &mut String, told: &Explanation, read: Read) -> Result<(), AllocError> {
     match read {
         Read::As(meaning) => {
             out.push_str("and reads as ")?;
-            push_meaning(out, texts, held, meaning)
+            push_meaning(out, told, meaning)
         }
         Read::Nothing => {
             out.push_str("and reads as nothing that is declared there")?;
@@ -159,7 +150,7 @@ fn push_read(
         }
         Read::Twice(meaning) => {
             out.push_str("and is the name of ")?;
-            push_meaning(out, texts, held, meaning)?;
+            push_meaning(out, told, meaning)?;
             out.push_str(" too")?;
             Ok(())
         }
@@ -186,60 +177,58 @@ fn push_cures(out: &mut String, cures: &[Cure]) -> Result<(), AllocError> {
     Ok(())
 }
 
-fn push_clash(
-    out: &mut String,
-    texts: &Texts,
-    held: &[HeldDeclaration],
-    clash: &NameClash,
-) -> Result<(), AllocError> {
+fn push_clash(out: &mut String, told: &Explanation, clash: &NameClash) -> Result<(), AllocError> {
     out.push_str("  ")?;
     push_quoted(out, clash.name.as_str())?;
     if let Some(place) = clash.within {
         out.push_str(" in ")?;
-        push_place(out, texts, held, place)?;
+        push_place(out, told, place)?;
     }
     out.push_str("\n    stands for ")?;
-    push_meaning(out, texts, held, clash.meant)?;
+    push_meaning(out, told, clash.meant)?;
     out.push_str("\n    ")?;
-    push_read(out, texts, held, clash.read)?;
+    push_read(out, told, clash.read)?;
     out.push_str("\n")?;
     push_cures(out, &clash.cures)
 }
 
 fn push_clashes(
     out: &mut String,
-    texts: &Texts,
-    held: &[HeldDeclaration],
+    told: &Explanation,
     clashes: &[NameClash],
 ) -> Result<(), AllocError> {
     for clash in clashes {
-        push_clash(out, texts, held, clash)?;
+        push_clash(out, told, clash)?;
     }
     Ok(())
 }
 
-fn push_free(out: &mut String, texts: &Texts, free: &[FreeName]) -> Result<(), AllocError> {
+fn push_free(out: &mut String, told: &Explanation, free: &[FreeName]) -> Result<(), AllocError> {
     for name in free {
         out.push_str("  ")?;
         out.push_str(name.name.as_str())?;
         if let Some((path, near)) = name.near {
             out.push_str(", near to ")?;
-            push_symbol(out, texts, path, near)?;
+            push_symbol(out, told, path, near)?;
         }
         out.push_str("\n")?;
     }
     Ok(())
 }
 
-fn push_unused(out: &mut String, texts: &Texts, unused: &[UnusedImport]) -> Result<(), AllocError> {
+fn push_unused(
+    out: &mut String,
+    told: &Explanation,
+    unused: &[UnusedImport],
+) -> Result<(), AllocError> {
     for import in unused {
         out.push_str("  ")?;
-        out.push_str(texts.path(import.path))?;
+        out.push_str(told.path(import.path))?;
         out.push_str(" imports ")?;
-        push_symbol(out, texts, import.from, import.item)?;
+        push_symbol(out, told, import.from, import.item)?;
         if import.bound != import.item {
             out.push_str(" as ")?;
-            out.push_str(texts.name(import.bound))?;
+            out.push_str(told.name(import.bound))?;
         }
         out.push_str("\n")?;
     }
@@ -268,17 +257,16 @@ fn push_faults(out: &mut String, alloc: Global, faults: &[Fault]) -> Result<(), 
 
 /// Writes what is told of a link.
 fn push_link(out: &mut String, alloc: Global, told: &Explanation) -> Result<(), AllocError> {
-    let texts = &told.texts;
     push_heading(out, alloc, "Modules that were loaded", told.modules.len())?;
-    push_modules(out, texts, &told.modules)?;
+    push_modules(out, told, &told.modules)?;
     push_heading(out, alloc, "\nDeclarations that are held", told.held.len())?;
-    push_held(out, texts, &told.held)?;
+    push_held(out, told, &told.held)?;
     push_heading(out, alloc, "\nNames that clash", told.clashes.len())?;
-    push_clashes(out, texts, &told.held, &told.clashes)?;
+    push_clashes(out, told, &told.clashes)?;
     push_heading(out, alloc, "\nNames that stay free", told.free.len())?;
-    push_free(out, texts, &told.free)?;
+    push_free(out, told, &told.free)?;
     push_heading(out, alloc, "\nImports that nothing uses", told.unused.len())?;
-    push_unused(out, texts, &told.unused)
+    push_unused(out, told, &told.unused)
 }
 
 /// The explanation as plain text with headings.

@@ -18,7 +18,7 @@ use wesl_tree::{Error, ModulePath, ResolveError, TranslationUnit};
 
 /// The modules of a bundle, each read when it is asked for. They are virtual: a module of a bundle has no source.
 #[derive(Drop)]
-pub(crate) struct BundleResolver<'t> {
+pub struct BundleResolver<'t> {
     pub(crate) modules: BundleUnits<'t>,
 }
 

@@ -21,7 +21,12 @@ mod text_line;
 mod validity;
 mod whole_answer;
 
+pub use bundle_resolver::BundleResolver;
+pub use bundle_value::bundle_of_bytes;
 pub use lines::{Line, memory_line, refusal_line};
+pub use linking::{BundleSources, sources_of};
+pub use naming::BundleMangler;
 pub use refusal::Refusal;
+pub use stored_text::StoredText;
 pub use streams::{NotedStream, ReadFault, read_whole, write_whole};
 pub use whole_answer::answer_of_bytes;

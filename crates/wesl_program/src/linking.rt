@@ -28,8 +28,8 @@ use wesl_scope::names_clash;
 use wesl_source_map::SourceMapper;
 use wesl_tree::{Diagnostic, ModulePath};
 
-// The modules of a bundle, and its packages.
-type Sources<'t> = StandardResolver<BundleResolver<'t>, StoredText>;
+/// The modules of a bundle, and its packages.
+pub type BundleSources<'t> = StandardResolver<BundleResolver<'t>, StoredText>;
 
 /// The unit that is linked of a bundle's modules, whether its names clash, and what they stand for. Where the
 /// bundle has built-in names, the unit is validated by them, and refused with the validator's fault.
@@ -121,13 +121,13 @@ fn modules_of<'t>(
     Ok(modules)
 }
 
-// Looks up a path among the modules, or, where it begins in a named package, in the packages. Of packages of one name the
-// first counts.
-fn sources_of<'t>(
+/// Looks up a path among the modules, or, where it begins in a named package, in the packages. Of packages of one name the
+/// first counts. Refused for want of memory alone.
+pub fn sources_of<'t>(
     alloc: Global,
     listed: Vec<BundleModule<'t>>,
     packages: Vec<Package<'t>>,
-) -> Result<Sources<'t>, AllocError>
+) -> Result<BundleSources<'t>, AllocError>
     ensures local { IfOk result (λ s. Holds (map module_view listed.entry.items) s.local.modules) }
     ensures packages { IfOk result (λ s. ArePackagesOf (packages_view packages.entry.items) s.packages.packages.items) }
 {

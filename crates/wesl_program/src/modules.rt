@@ -12,7 +12,7 @@ use wesl_tree::ModulePath;
 
 /// The value of the unit at each path, of a path that stands twice the later. No unit is read yet.
 #[derive(Drop)]
-pub(crate) struct BundleUnits<'t> {
+pub struct BundleUnits<'t> {
     units: IndexMap<ModulePath, BorrowedValue<'t>>,
 }
 

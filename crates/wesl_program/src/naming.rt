@@ -10,8 +10,9 @@ use wesl_tree_syntax::TypeExpression;
 
 /// Names items as the mangler does that a bundle asks for.
 #[derive(Clone, Copy, Drop)]
-pub(crate) struct BundleMangler {
-    pub(crate) naming: Naming,
+pub struct BundleMangler {
+    /// the mangler
+    pub naming: Naming,
 }
 
 impl Mangler for BundleMangler {

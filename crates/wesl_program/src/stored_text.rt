@@ -11,7 +11,7 @@ use wesl_tree::{Diagnostic, Error, TranslationUnit};
 /// Units as compact JSON. A text that is no JSON is refused as a tree that breaks its form at its root: `NotJson` speaks
 /// of the program's input alone.
 #[derive(Clone, Copy, Debug)]
-pub(crate) struct StoredText;
+pub struct StoredText;
 
 impl UnitText for StoredText {
     ghost use Rattle.wesl_json.specs.UnitTexts.{PrintsAs, ReadsAs};

@@ -1,6 +1,6 @@
 //! What is held in a link, and why.
 ghost use Rattle.std.specs.Prelude.{None, IfOk};
-ghost use Rattle.wesl_explain.specs.Why.{TellsWhy, node_of};
+ghost use Rattle.wesl_explain_world.specs.Why.{TellsWhy, node_of};
 
 use crate::explanation::{HeldDeclaration, LoadedModule};
 use crate::texts::Texts;
@@ -8,7 +8,8 @@ use crate::world::World;
 use std::alloc::{AllocError, Global};
 use wesl_link_symbols::ids::{NameId, PathId};
 use wesl_link_symbols::table::Table;
-use wesl_mangle::{EscapeMangler, Mangler, NoMangler, UnicodeMangler};
+use wesl_mangle::Mangler;
+use wesl_program::BundleMangler;
 use wesl_program_bundle::{Naming, Options};
 use wesl_tree::ModulePath;
 
@@ -36,12 +37,8 @@ fn mangled(
     path: &ModulePath,
     item: &str,
 ) -> Result<String, AllocError> {
-    let name = match naming {
-        Naming::Escape => EscapeMangler.mangle(alloc, path, item),
-        Naming::Unicode => UnicodeMangler.mangle(alloc, path, item),
-        Naming::Own => NoMangler.mangle(alloc, path, item),
-    };
-    name.ok().ok_or(AllocError)
+    let mut mangler = BundleMangler { naming };
+    mangler.mangle(alloc, path, item).ok().ok_or(AllocError)
 }
 
 /// The name that a declaration prints as. The root's stay as they are unless it is mangled.

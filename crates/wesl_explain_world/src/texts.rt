@@ -29,14 +29,6 @@ fn paths_of(alloc: Global, numbers: &Numbers) -> Result<Vec<String>, AllocError>
 }
 
 impl Texts {
-    /// No names and no paths. They take no memory.
-    pub fn none(alloc: Global) -> Texts {
-        Texts {
-            numbers: Numbers::new(alloc),
-            paths: Vec::new(alloc),
-        }
-    }
-
     /// The texts of these numbers.
     pub fn new(alloc: Global, numbers: Numbers) -> Result<Texts, AllocError> {
         let paths = paths_of(alloc, &numbers)?;
@@ -62,5 +54,12 @@ impl Texts {
             Some(name) => name,
             None => "",
         }
+    }
+
+    /// The names, and the texts of the paths, each by its number.
+    pub fn into_lists(self, alloc: Global) -> Result<(Vec<String>, Vec<String>), AllocError> {
+        let Texts { numbers, paths } = self;
+        let Numbers { names, paths: _ } = numbers;
+        Ok((names.into_texts(alloc)?, paths))
     }
 }

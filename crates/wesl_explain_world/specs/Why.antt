@@ -7,7 +7,7 @@ use Rattle.wesl_link_reasons.specs.declared.node.Node.{Node}
 use Rattle.wesl_link_reasons.specs.declared.node.Node.TheVariants.{Module, Item}
 use Rattle.wesl_link_reasons.specs.Found.{AreReasons, Explains, Denies}
 use Rattle.wesl_link_reasons.specs.Reasons.{task_from}
-use Rattle.wesl_explain.specs.declared.world.World.{World}
+use Rattle.wesl_explain_world.specs.declared.world.World.{World}
 
 -- what holds the declarations of a name: their symbol; and what holds a const_assert: its module
 abbrev pub node_of : PathId → Option NameId → Node PathId NameId

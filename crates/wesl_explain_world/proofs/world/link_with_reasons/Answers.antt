@@ -1,4 +1,4 @@
-use Rattle.wesl_explain.proofs.world.link_with_reasons.Goals as goal
+use Rattle.wesl_explain_world.proofs.world.link_with_reasons.Goals as goal
 
 pub reasons_of-requires : goal.reasons_of-requires
 reasons_of-requires c =

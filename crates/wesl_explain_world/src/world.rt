@@ -4,7 +4,7 @@ ghost use Rattle.wesl_tree_names.specs.Path.{path_view, is_relative};
 ghost use Rattle.wesl_link_reach.specs.Keeping.{IsHeld};
 ghost use Rattle.wesl_link_reasons.specs.Found.{AreReasons};
 ghost use Rattle.wesl_link_reasons.specs.Reasons.{task_from};
-ghost use Rattle.wesl_explain.specs.Why.{HasItsReasons, TellsWhy, node_of};
+ghost use Rattle.wesl_explain_world.specs.Why.{HasItsReasons, TellsWhy, node_of};
 
 use crate::loading::TableLoader;
 use std::alloc::{AllocError, Global};

@@ -1,5 +1,5 @@
 //! From the bytes of a bundle to what is told of its link.
-ghost use Rattle.std.specs.Prelude.{◌≡◌, false, IfOk};
+ghost use Rattle.std.specs.Prelude.{◌≡◌, false};
 ghost use Rattle.wesl_tree_names.specs.Path.{path_view, is_relative};
 
 use crate::asking::unused_imports;
@@ -14,13 +14,11 @@ use crate::texts::Texts;
 use crate::world::{World, world_of};
 use json::Scratch;
 use std::alloc::{AllocError, Global};
-use std::str::from_utf8;
-use wesl_json::borrowed_of_text;
 use wesl_link::{LinkRequest, Resolutions, link_at};
 use wesl_link_symbols::ids::PathId;
 use wesl_link_tables::numbers::Numbers;
-use wesl_mangle::{EscapeMangler, NoMangler, UnicodeMangler};
-use wesl_program_bundle::{BuiltinNames, Bundle, Naming, Options, read_bundle};
+use wesl_program::{BundleMangler, bundle_of_bytes};
+use wesl_program_bundle::{BuiltinNames, Bundle, Options};
 use wesl_tree::{Diagnostic, Error, ModulePath, TranslationUnit};
 use wesl_validate::validate_wgsl;
 use wesl_validate_builtins::Builtins;
@@ -28,7 +26,7 @@ use wesl_validate_builtins::Builtins;
 /// What is told of the bundle that the bytes are.
 pub fn explained(alloc: Global, bytes: &[u8]) -> Result<Explanation, AllocError> {
     let mut scratch = Scratch::new(alloc);
-    match bundle_of(alloc, bytes, &mut scratch) {
+    match bundle_of_bytes(alloc, bytes, &mut scratch) {
         Ok(bundle) => explain(alloc, bundle),
         Err(error) => {
             let mut told = Explanation::nothing(alloc);
@@ -36,21 +34,6 @@ pub fn explained(alloc: Global, bytes: &[u8]) -> Result<Explanation, AllocError>
             Ok(told)
         }
     }
-}
-
-// The bundle that the bytes are.
-fn bundle_of<'t>(
-    alloc: Global,
-    bytes: &'t [u8],
-    scratch: &'t mut Scratch,
-) -> Result<Bundle<'t>, Error>
-    ensures fixed { IfOk result (λ b. is_relative (path_view b.root) ≡ false) }
-{
-    let Ok(text) = from_utf8(bytes) else {
-        return Err(Error::NotJson);
-    };
-    let value = borrowed_of_text(alloc, text, scratch)?;
-    Ok(read_bundle(alloc, &value)?)
 }
 
 // The names that are kept.
@@ -114,13 +97,10 @@ fn unit_of(
     mut found: Resolutions,
     options: Options,
 ) -> Result<TranslationUnit, AllocError> {
-    let root = options.mangle_root;
-    let named = match options.mangler {
-        Naming::Escape => found.mangle(alloc, &mut EscapeMangler, root),
-        Naming::Unicode => found.mangle(alloc, &mut UnicodeMangler, root),
-        Naming::Own => found.mangle(alloc, &mut NoMangler, root),
+    let mut mangler = BundleMangler {
+        naming: options.mangler,
     };
-    match named {
+    match found.mangle(alloc, &mut mangler, options.mangle_root) {
         Ok(()) => found.assemble(alloc, true).ok().ok_or(AllocError),
         Err(_) => Err(AllocError),
     }
@@ -214,8 +194,10 @@ fn explain_world(
     let free = free_in(alloc, world, &texts, unit, builtins.as_ref())?;
     let unused = unused_imports(alloc, world, &texts)?;
     let faults = faults_in(alloc, unit, builtins.as_ref())?;
+    let (names, paths) = texts.into_lists(alloc)?;
     Ok(Explanation {
-        texts,
+        paths,
+        names,
         modules,
         held,
         clashes,

@@ -1,6 +1,5 @@
-//! What is told of the link of a bundle.
+//! What is told of the link of a bundle: texts, and lists of what they are the paths and names of.
 
-use crate::texts::Texts;
 use crate::world::Chain;
 use serde_json::Value;
 use std::alloc::Global;
@@ -9,8 +8,10 @@ use wesl_link_symbols::ids::{NameId, PathId};
 /// What is told of the link of a bundle.
 #[derive(Drop)]
 pub struct Explanation {
-    /// What the numbers below stand for.
-    pub texts: Texts,
+    /// The texts of the paths, by their numbers.
+    pub paths: Vec<String>,
+    /// The names, by their numbers.
+    pub names: Vec<String>,
     /// The modules that were loaded, the root first and the others in path order.
     pub modules: Vec<LoadedModule>,
     /// The declarations that are held, in the order of the linked unit.
@@ -29,13 +30,30 @@ impl Explanation {
     /// Nothing is told. It takes no memory.
     pub fn nothing(alloc: Global) -> Explanation {
         Explanation {
-            texts: Texts::none(alloc),
+            paths: Vec::new(alloc),
+            names: Vec::new(alloc),
             modules: Vec::new(alloc),
             held: Vec::new(alloc),
             clashes: Vec::new(alloc),
             free: Vec::new(alloc),
             unused: Vec::new(alloc),
             faults: Vec::new(alloc),
+        }
+    }
+
+    /// The text of a path.
+    pub fn path(&self, id: PathId) -> &str {
+        match self.paths.get(id.0) {
+            Some(text) => text.as_str(),
+            None => "",
+        }
+    }
+
+    /// A name.
+    pub fn name(&self, id: NameId) -> &str {
+        match self.names.get(id.0) {
+            Some(text) => text.as_str(),
+            None => "",
         }
     }
 }

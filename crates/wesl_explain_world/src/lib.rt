@@ -1,0 +1,24 @@
+//! From the bytes of a bundle to what is told of its link: what is held and why, what clashes, what stays free, the imports that
+//! nothing uses, and every fault. The program `wesl-explain` writes it.
+#![tactic(auto)]
+
+mod asking;
+mod clashing;
+mod explaining;
+mod explanation;
+mod faults;
+mod freeing;
+mod holding;
+mod loading;
+mod sources;
+mod texts;
+mod wgsl_names;
+mod world;
+
+pub use explaining::explained;
+pub use explanation::{
+    Cure, Explanation, Fault, FreeName, HeldDeclaration, LoadedModule, Meaning, NameClash, Read,
+    UnusedImport,
+};
+pub use wesl_link_reasons::node::Node;
+pub use wesl_link_symbols::ids::{NameId, PathId};
