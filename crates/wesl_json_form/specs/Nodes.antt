@@ -52,7 +52,9 @@ abbrev pub typed_row : Leaf → Row
 typed_row l = attrs (needs (codes "name") (leaf l) (needs (codes "ty") (node a_type) nothing))
 
 abbrev pub function_row : Row
-function_row = attrs (needs (codes "name") (leaf (an_ident binder)) (many (codes "params") (list_of parameters a_parameter) (many (codes "ret_attrs") (list_of attributes an_attribute) (may (codes "ret") (node a_type) (needs (codes "body") (node a_body) nothing)))))
+function_row = attrs (needs (codes "name") (leaf (an_ident binder)) (many (codes "params") (list_of parameters a_parameter)
+    (many (codes "ret_attrs") (list_of attributes an_attribute) (may (codes "ret") (node a_type)
+    (needs (codes "body") (node a_body) nothing)))))
 
 abbrev pub condition_row : Row
 condition_row = needs (codes "cond") expression (needs (codes "body") (node a_body) nothing)
@@ -92,7 +94,8 @@ shorts_of an_attribute d = short_attribute d
 shorts_of _ d = None
 
 abbrev pub unit_row : Row
-unit_row = many (codes "imports") (list_of imports an_import) (many (codes "directives") (list_of directive_list a_directive) (many (codes "declarations") (list_of declarations a_declaration) nothing))
+unit_row = many (codes "imports") (list_of imports an_import) (many (codes "directives") (list_of directive_list a_directive)
+    (many (codes "declarations") (list_of declarations a_declaration) nothing))
 
 module _ (spans : Bool) where
   abbrev pub expression_node_of : Head → Row → Node
@@ -165,7 +168,8 @@ module _ (spans : Bool) where
   abbrev pub declaration_words : NodeWords
   declaration_words =
       worded (codes "k") (codes "alias") (spanned spans declaration_node (fixed (kind type_alias)) (typed_row (an_ident binder)))
-      ∷ worded (codes "k") (codes "struct") (spanned spans declaration_node (fixed (kind struct)) (attrs (needs (codes "name") (leaf (an_ident binder)) (many (codes "members") (list_of members a_member) nothing))))
+      ∷ worded (codes "k") (codes "struct") (spanned spans declaration_node (fixed (kind struct))
+      (attrs (needs (codes "name") (leaf (an_ident binder)) (many (codes "members") (list_of members a_member) nothing))))
       ∷ worded (codes "k") (codes "fn") (spanned spans declaration_node (fixed (kind function)) function_row)
       ∷ declared_words declaration_node
 
@@ -179,9 +183,11 @@ module _ (spans : Bool) where
       ∷ statement_with (codes "inc") increment operand
       ∷ statement_with (codes "dec") decrement operand
       ∷ statement_with (codes "if") if_statement (inner (fixed (kind if_clause)) condition_row (many (codes "elifs") (list_of list an_elif) (may (codes "else") (node an_else) nothing)))
-      ∷ statement_with (codes "switch") switch (needs (codes "expr") expression (many (codes "body_attrs") (list_of attributes an_attribute) (many (codes "clauses") (list_of clauses a_clause) nothing)))
+      ∷ statement_with (codes "switch") switch (needs (codes "expr") expression
+      (many (codes "body_attrs") (list_of attributes an_attribute) (many (codes "clauses") (list_of clauses a_clause) nothing)))
       ∷ statement_with (codes "loop") loop (needs (codes "body") (node a_body) (may (codes "continuing") (node a_continuing) nothing))
-      ∷ statement_with (codes "for") for_loop (may (codes "init") (node a_statement) (may (codes "cond") expression (may (codes "update") (node a_statement) (needs (codes "body") (node a_body) nothing))))
+      ∷ statement_with (codes "for") for_loop (may (codes "init") (node a_statement) (may (codes "cond") expression
+      (may (codes "update") (node a_statement) (needs (codes "body") (node a_body) nothing))))
       ∷ statement_with (codes "while") while_loop condition_row
       ∷ statement_with (codes "break") break nothing
       ∷ statement_with (codes "continue") continue nothing

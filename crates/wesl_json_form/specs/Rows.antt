@@ -37,7 +37,11 @@ module _ {I : Type 0} (x y : I) (s e a b : ℕ) where
     label = at declaration_node s e;
     children = forest_of (branch declaration (
         branch attributes [] ∷ leaf_tree (kind const_kind) ∷ leaf_tree (ident binder x) ∷ leaf_tree (kind absent)
-        ∷ branch present (record { label = at expression_node a b; children = forest_of (branch type_or_identifier (branch type_expression (leaf_tree (kind absent) ∷ leaf_tree (ident reference y) ∷ leaf_tree (kind absent) ∷ []) ∷ []) ∷ []) } ∷ [])
+        ∷ branch present (record {
+          label = at expression_node a b;
+          children = forest_of (branch type_or_identifier (branch type_expression
+              (leaf_tree (kind absent) ∷ leaf_tree (ident reference y) ∷ leaf_tree (kind absent) ∷ []) ∷ []) ∷ []);
+        } ∷ [])
         ∷ []) ∷ []);
   }
 
@@ -86,7 +90,8 @@ abbrev pub typed_data : Members → Data
 typed_data ms = object (member (codes "args") (array (item (named_data (codes "u32") 1 2) no_items)) (member (codes "name") (string (codes "f32")) ms))
 
 abbrev pub typed_tree : Spelled
-typed_tree = branch type_expression (leaf_of (kind absent) ∷ leaf_of (ident reference (codes "f32")) ∷ branch present (branch list (branch template_argument (named_tree (codes "u32") 1 2 ∷ []) ∷ []) ∷ []) ∷ [])
+typed_tree = branch type_expression (leaf_of (kind absent) ∷ leaf_of (ident reference (codes "f32"))
+    ∷ branch present (branch list (branch template_argument (named_tree (codes "u32") 1 2 ∷ []) ∷ []) ∷ []) ∷ [])
 
 -- truth values and attributes without operand as objects
 abbrev pub WordsAreObjects : Type 0
@@ -102,7 +107,10 @@ WordsAreObjects =
 
 -- unknown in form 1
 abbrev pub WordsAreUnknown : Type 0
-WordsAreUnknown = Refused false (node an_expression) (is_k (codes "true") no_members) × Refused false (node an_attribute) (is_k (codes "fragment") no_members) × Refused false (node an_expression) (named_data (codes "y") 1 2)
+WordsAreUnknown =
+    Refused false (node an_expression) (is_k (codes "true") no_members)
+    × Refused false (node an_attribute) (is_k (codes "fragment") no_members)
+    × Refused false (node an_expression) (named_data (codes "y") 1 2)
 
 -- an expression in other nodes, and types
 abbrev pub TypesArePlaced : Type 0

@@ -61,7 +61,8 @@ AreTrodden {P} {N} w ss steps = (k : ℕ) (l : LookUp P N) (s : Symbol P N) → 
 
 -- A walk from the start over the trail ends where the symbol is found, which is held, and all behind the trail is asked by
 -- steps.
-pub record IsOnWay {P N : Type 0} (w : List (Table P N)) (ss : List (Symbol P N)) (steps : List (LookUp P N × Symbol P N)) (start : LookUp P N) (trail : List (LookUp P N)) (s : Symbol P N) : Type 0 where
+pub record IsOnWay {P N : Type 0} (w : List (Table P N)) (ss : List (Symbol P N)) (steps : List (LookUp P N × Symbol P N))
+    (start : LookUp P N) (trail : List (LookUp P N)) (s : Symbol P N) : Type 0 where
   pub met : List (LookUp P N)
   pub last : LookUp P N
   pub walk : Walk w start (met ++ reverse trail) last

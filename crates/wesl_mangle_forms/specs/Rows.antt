@@ -77,7 +77,8 @@ variant size = unicode_variant (codes "f32" ∷ codes "array" ∷ []) (codes "f"
 pub record UnicodeRows : Type 0 where
   pub two_up : (unicode (path (relative 2) []) item ≡ utf8 "superːːsuperːːitem") × (from_unicode (utf8 "superːːsuperːːitem") ≡ Some (path (relative 2) [], item))
   pub root : (unicode (path absolute []) item ≡ utf8 "packageːːitem") × (from_unicode (utf8 "packageːːitem") ≡ Some (path absolute [], item))
-  pub module_item : (unicode (path absolute (codes "util" ∷ [])) (codes "two") ≡ utf8 "packageːːutilːːtwo") × (from_unicode (utf8 "packageːːutilːːtwo") ≡ Some (path absolute (codes "util" ∷ []), codes "two"))
+  pub module_item : (unicode (path absolute (codes "util" ∷ [])) (codes "two") ≡ utf8 "packageːːutilːːtwo")
+      × (from_unicode (utf8 "packageːːutilːːtwo") ≡ Some (path absolute (codes "util" ∷ []), codes "two"))
   pub dependency : from_unicode (unicode (path (from_package (codes "a/b")) (codes "c" ∷ [])) item) ≡ Some (path (from_package (codes "a/b")) (codes "c" ∷ []), item)
   pub own_module : from_unicode (unicode (path (relative 0) (codes "a" ∷ [])) item) ≡ Some (path (relative 0) (codes "a" ∷ []), item)
   pub no_item : from_unicode (codes "package") ≡ None

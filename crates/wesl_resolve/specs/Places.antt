@@ -53,4 +53,24 @@ HaveNames ks names = (n : String Global) → list_any (root_has_name (string_byt
 
 -- a module stands where it is noted of a path, and it says what the one at the path says
 abbrev pub AreNoted : {S : Type 0} → List CodegenPkg → HashMap ModulePath (Vec ℕ Global) S → Type 0
-AreNoted ks places = (p : ModulePath) (is : Vec ℕ Global) → get path_eq places p ≡ Some is → (is_some (module_standing ks is.items) ≡ true) × (option_map source_of (module_standing ks is.items) ≡ option_map source_of (result_ok (module_at ks (path_view p))))
+AreNoted ks places = (p : ModulePath) (is : Vec ℕ Global) → get path_eq places p ≡ Some is
+    → (is_some (module_standing ks is.items) ≡ true)
+    × (option_map source_of (module_standing ks is.items) ≡ option_map source_of (result_ok (module_at ks (path_view p))))
+
+-- what is noted now is noted rightly, where what was noted before is
+abbrev pub StayNoted : {S : Type 0} → List CodegenPkg → HashMap ModulePath (Vec ℕ Global) S → HashMap ModulePath (Vec ℕ Global) S → Type 0
+StayNoted ks before after = AreNoted ks before → AreNoted ks after
+
+-- the same once the package with this number is noted, if it is the first of its name; and if it is said that it is
+abbrev pub NoteFirst : {S : Type 0} → List CodegenPkg → ℕ → HashMap ModulePath (Vec ℕ Global) S → HashMap ModulePath (Vec ℕ Global) S → Type 0
+NoteFirst ks i before after = (k : CodegenPkg) → slice_get ks i ≡ Some k → find (root_has_name (package_name k)) ks ≡ Some k
+    → StayNoted ks before after
+
+abbrev pub NoteFirstIf : {S : Type 0} → Bool → List CodegenPkg → ℕ → HashMap ModulePath (Vec ℕ Global) S → HashMap ModulePath (Vec ℕ Global) S → Type 0
+NoteFirstIf is_first ks i before after = (k : CodegenPkg) → slice_get ks i ≡ Some k
+    → (is_first ≡ true → find (root_has_name (package_name k)) ks ≡ Some k) → StayNoted ks before after
+
+-- the same once what stands below a module is noted, which stands at this path and place
+abbrev pub NoteBelow : {S : Type 0} → Path → List ℕ → (CodegenModule → Type 0) → HashMap ModulePath (Vec ℕ Global) S → HashMap ModulePath (Vec ℕ Global) S → Type 0
+NoteBelow path place IsIt before after = (ks : List CodegenPkg) (m : CodegenModule) → StandsAt ks path place m → IsIt m
+    → StayNoted ks before after

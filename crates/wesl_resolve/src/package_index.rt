@@ -7,7 +7,7 @@ ghost use Rattle.wesl_tree_names.specs.declared.errors.Error as error;
 ghost use Rattle.wesl_resolve_base.specs.Packages.{IsMissingIn, IsSourceIn, root_has_name, source_of};
 ghost use Rattle.wesl_resolve_base.specs.declared.packages.CodegenModule.{CodegenModule, out-CodegenModule};
 ghost use Rattle.wesl_resolve_base.specs.declared.packages.CodegenPkg.{CodegenPkg};
-ghost use Rattle.wesl_resolve.specs.Places.{AreNoted, HaveNames, IsFirstBelow, IsFirstPackage, StandsAt, module_along, module_standing, package_name};
+ghost use Rattle.wesl_resolve.specs.Places.{AreNoted, HaveNames, IsFirstBelow, IsFirstPackage, NoteBelow, NoteFirst, NoteFirstIf, StandsAt, module_along, module_standing, package_name};
 
 use indexmap::IndexMap;
 use std::alloc::Global;
@@ -93,7 +93,7 @@ fn note_first(
     number: usize,
     module: &CodegenModule,
 ) -> Result<(), Error>
-    ensures { (ks : List CodegenPkg) (m : CodegenModule) → StandsAt ks (path_view path.now) place.now.items m → IsFirstBelow m number «module».now → AreNoted ks places.old → AreNoted ks places.new }
+    ensures { NoteBelow (path_view path.now) place.now.items (λ m. IsFirstBelow m number «module».now) places.old places.new }
 {
     let mut path_there = path.try_clone(alloc)?;
     path_there.push(module.name.as_str())?;
@@ -113,7 +113,7 @@ fn note_if(
     module: &CodegenModule,
     is_first: bool,
 ) -> Result<(), Error>
-    ensures { (ks : List CodegenPkg) (m : CodegenModule) → StandsAt ks (path_view path.now) place.now.items m → (is_first ≡ true → IsFirstBelow m number «module».now) → AreNoted ks places.old → AreNoted ks places.new }
+    ensures { NoteBelow (path_view path.now) place.now.items (λ m. is_first ≡ true → IsFirstBelow m number «module».now) places.old places.new }
 {
     if !is_first {
         return Ok(());
@@ -130,7 +130,7 @@ fn note_below(
     place: &Vec<usize>,
     modules: &Vec<CodegenModule>,
 ) -> Result<(), Error>
-    ensures { (ks : List CodegenPkg) (m : CodegenModule) → (out-CodegenModule m).submodules.items ≡ modules.now.items → StandsAt ks (path_view path.now) place.now.items m → AreNoted ks places.old → AreNoted ks places.new }
+    ensures { NoteBelow (path_view path.now) place.now.items (λ m. (out-CodegenModule m).submodules.items ≡ modules.now.items) places.old places.new }
 {
     let mut seen: HashSet<&str> = HashSet::new(alloc);
     let mut number = 0;
@@ -186,7 +186,7 @@ impl PackageIndex {
     /// Notes where modules of the package with this number stand. Where memory is wanting, paths stay that are looked for.
     fn add(&mut self, packages: &Vec<CodegenPkg>, number: usize)
         ensures names { self.new.names ≡ self.old.names }
-        ensures noted { (k : CodegenPkg) → slice_get packages.now.items number ≡ Some k → find (root_has_name (package_name k)) packages.now.items ≡ Some k → AreNoted packages.now.items self.old.places → AreNoted packages.now.items self.new.places }
+        ensures noted { NoteFirst packages.now.items number self.old.places self.new.places }
     {
         let Some(package) = package_numbered(packages, number) else {
             return;
@@ -199,7 +199,7 @@ impl PackageIndex {
     /// The same, if it is the first of its name.
     fn add_if(&mut self, packages: &Vec<CodegenPkg>, number: usize, is_first: bool)
         ensures names { self.new.names ≡ self.old.names }
-        ensures noted { (k : CodegenPkg) → slice_get packages.now.items number ≡ Some k → (is_first ≡ true → find (root_has_name (package_name k)) packages.now.items ≡ Some k) → AreNoted packages.now.items self.old.places → AreNoted packages.now.items self.new.places }
+        ensures noted { NoteFirstIf is_first packages.now.items number self.old.places self.new.places }
     {
         if is_first {
             self.add(packages, number);

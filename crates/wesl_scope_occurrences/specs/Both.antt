@@ -13,5 +13,6 @@ module _ {H : Type 0} (after : List Event → H → H → Type 0) where
   pub both_none : ((h : H) → after [] h h) → (b : Beside H) → TellsBoth [] b b
   both_none none b = record { collects = collects_none b.collector; told = none b.other }
 
-  pub both_more : ((es fs : List Event) (a b c : H) → after es a b → after fs b c → after (es ++ fs) a c) → (es fs : List Event) (a b c : Beside H) → TellsBoth es a b → TellsBoth fs b c → TellsBoth (es ++ fs) a c
+  pub both_more : ((es fs : List Event) (a b c : H) → after es a b → after fs b c → after (es ++ fs) a c)
+      → (es fs : List Event) (a b c : Beside H) → TellsBoth es a b → TellsBoth fs b c → TellsBoth (es ++ fs) a c
   both_more more es fs a b c x y = record { collects = collects_more es fs a.collector b.collector c.collector x.collects y.collects; told = more es fs a.other b.other c.other x.told y.told }

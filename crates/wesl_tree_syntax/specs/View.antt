@@ -228,7 +228,9 @@ statement_step (Statement-F.Decrement a e) = branch decrement (attributes_tree a
 statement_step (Statement-F.If a i es e) = branch if_statement (attributes_tree a ∷ i ∷ listed (λ t. t) list es ∷ optional (λ t. t) e ∷ [])
 statement_step (Statement-F.Switch a e b cs) = branch switch (attributes_tree a ∷ expression_tree e ∷ attributes_tree b ∷ listed (λ t. t) clauses cs ∷ [])
 statement_step (Statement-F.Loop a b c) = branch loop (attributes_tree a ∷ b ∷ optional (λ t. t) c ∷ [])
-statement_step (Statement-F.For a i c u b) = branch for_loop (attributes_tree a ∷ optional (λ s. placed (λ t. t) statement_node (box_value s)) i ∷ optional expression_tree c ∷ optional (λ s. placed (λ t. t) statement_node (box_value s)) u ∷ b ∷ [])
+statement_step (Statement-F.For a i c u b) = branch for_loop (attributes_tree a
+    ∷ optional (λ s. placed (λ t. t) statement_node (box_value s)) i ∷ optional expression_tree c
+    ∷ optional (λ s. placed (λ t. t) statement_node (box_value s)) u ∷ b ∷ [])
 statement_step (Statement-F.While a e b) = branch while_loop (attributes_tree a ∷ expression_tree e ∷ b ∷ [])
 statement_step (Statement-F.Break a) = branch break (attributes_tree a ∷ [])
 statement_step (Statement-F.Continue a) = branch continue (attributes_tree a ∷ [])
@@ -282,7 +284,9 @@ statement_tree = placed statement_view statement_node
 
 -- whole modules
 abbrev pub function_view : Function → Tree
-function_view f = branch function (attributes_tree f.attributes ∷ ident_tree binder f.ident ∷ listed parameter_view parameters f.parameters ∷ attributes_tree f.return_attributes ∷ optional type_view f.return_type ∷ compound_view f.body ∷ [])
+function_view f = branch function (attributes_tree f.attributes ∷ ident_tree binder f.ident
+    ∷ listed parameter_view parameters f.parameters ∷ attributes_tree f.return_attributes
+    ∷ optional type_view f.return_type ∷ compound_view f.body ∷ [])
 
 abbrev pub global_view : GlobalDeclaration → Tree
 global_view globals.Void = branch void []

@@ -27,9 +27,13 @@ pub data Replaced (k : Rule) : Forest → Forest → Type 0 where
   word : {l : Label} {f g h : Forest} → is_word k.sought l ≡ true → Replaced k g h → Replaced k (tree l f g) (tree l f h)
   other : {l : Label} {f f' g h : Forest} → is_word k.sought l ≡ false → test k.sought l ≡ false → Replaced k f f' → Replaced k g h → Replaced k (tree l f g) (tree l f' h)
   as_it_stands : {l m : Label} {f f' g h : Forest}
-      → test k.sought l ≡ true → k.inner ≡ false → k.turns (record { label = l; children = f }) (record { label = m; children = f' }) → Replaced k g h → Replaced k (tree l f g) (tree m f' h)
+      → test k.sought l ≡ true → k.inner ≡ false
+      → k.turns (record { label = l; children = f }) (record { label = m; children = f' })
+      → Replaced k g h → Replaced k (tree l f g) (tree m f' h)
   inner_first : {l m : Label} {f f' f'' g h : Forest}
-      → test k.sought l ≡ true → k.inner ≡ true → Replaced k f f' → k.turns (record { label = l; children = f' }) (record { label = m; children = f'' }) → Replaced k g h → Replaced k (tree l f g) (tree m f'' h)
+      → test k.sought l ≡ true → k.inner ≡ true → Replaced k f f'
+      → k.turns (record { label = l; children = f' }) (record { label = m; children = f'' })
+      → Replaced k g h → Replaced k (tree l f g) (tree m f'' h)
 
 -- The same after a refusal: the nodes met hold their replacement, the one at which it was refused and those after it
 -- are as they were.
