@@ -2,9 +2,10 @@
 ghost use Rattle.std.specs.Prelude.{◌≡◌, [], IfOk, IfErr};
 ghost use Rattle.wesl_cond_chains.specs.Evaluation.{IsRefused};
 ghost use Rattle.wesl_cond_chains.specs.FormulaFaults.{formula_faults};
-ghost use Rattle.wesl_cond_features.specs.Features.{answer_to, by_number, known};
+ghost use Rattle.wesl_cond_features.specs.Features.{known};
 ghost use Rattle.wesl_cond_chains.specs.Formulas.{form, written};
 ghost use Rattle.wesl_cond_chains.specs.FormulaResidual.{residual};
+ghost use Rattle.wesl_cond.specs.Conditioned.{answers};
 ghost use Rattle.wesl_tree_names.specs.declared.errors.Diagnostic.{out-Diagnostic};
 ghost use Rattle.wesl_tree_syntax.specs.View.{expression_view};
 
@@ -26,9 +27,9 @@ pub fn eval_attr(
     expression: &ExpressionNode,
     features: &Features,
 ) -> Result<Expression, Diagnostic>
-    ensures left { IfOk result (λ left. expression_view left ≡ written (residual (known (by_number names.now (answer_to features.now))) (form (expression_view expression.now.node)))) }
-    ensures faultless { IfOk result (λ _. formula_faults (by_number names.now (answer_to features.now)) (form (expression_view expression.now.node)) ≡ []) }
-    ensures refused { IfErr result (λ told. IsRefused names.now (formula_faults (by_number names.now (answer_to features.now)) (form (expression_view expression.now.node))) (out-Diagnostic told).error) }
+    ensures left { IfOk result (λ left. expression_view left ≡ written (residual (known (answers names.now features.now)) (form (expression_view expression.now.node)))) }
+    ensures faultless { IfOk result (λ _. formula_faults (answers names.now features.now) (form (expression_view expression.now.node)) ≡ []) }
+    ensures refused { IfErr result (λ told. IsRefused names.now (formula_faults (answers names.now features.now) (form (expression_view expression.now.node))) (out-Diagnostic told).error) }
 {
     check_formula(alloc, expression, names, features)?;
     let mut copying = Copying::of(alloc);

@@ -1,12 +1,14 @@
 -- The sets of choices that a walk numbers: that of all choices, the empty one, and those of the branches of chains, in order.
-use Rattle.std.specs.Prelude.{◌≡◌, ℕ, suc, ◌^◌, ◌<◌, Bool, true, false, not, ◌&&◌, cond, Option, Some, None, List, [], ◌∷◌}
+use Rattle.std.specs.Prelude.{◌≡◌, ℕ, suc, ◌^◌, ◌<◌, Bool, true, false, not, ◌&&◌, cond, Option, Some, None, List, [], ◌∷◌, map}
 use Rattle.wesl_cond_chains.specs.Formulas.{Form, value_under}
+use Rattle.wesl_cond_chains.specs.Lists.{elements}
 use Rattle.wesl_cond_chains.specs.Picked.{Choice}
 use Rattle.wesl_cond_choices.specs.Alive.{AreOver, has_at}
 use Rattle.wesl_cond_choices.specs.Choices as choices
 use Rattle.wesl_tree_syntax.specs.Tree.{before, end}
 use Rattle.wesl_tree_syntax.specs.Unit.{UnitOf}
-use Rattle.wesl_cond_alive.specs.Walk.{Branch, State, all_choices, in_set, no_choices, plain, walk}
+use Rattle.wesl_cond_alive.specs.Sound.{outline_of}
+use Rattle.wesl_cond_alive.specs.Walk.{Branch, Here, State, all_choices, in_set, no_choices, places_in, plain, walk}
 
 module _ {I : Type 0} where
   -- each branch is held in a set before its own, from number `next` on
@@ -47,3 +49,10 @@ pub record AreSetsOf (flags : ℕ) (choice : ℕ → Choice ℕ) (sets : List ch
 -- what a walk over a module has found before its declarations
 abbrev pub before_declarations : {I : Type 0} → State I → UnitOf I → State I
 before_declarations s u = walk (plain (in_set all_choices)) s (before u.imports (before u.directives end))
+
+-- where the imports of a unit stand, and where its declarations do
+abbrev pub import_places : State ℕ → UnitOf ℕ → List Here
+import_places s u = places_in all_choices (map outline_of (elements false u.imports.children)) s
+
+abbrev pub declaration_places : State ℕ → UnitOf ℕ → List Here
+declaration_places s u = places_in all_choices (map outline_of (elements false u.declarations.children)) (before_declarations s u)

@@ -1,9 +1,9 @@
 -- The sets of the choices that keep nodes.
-use Rattle.std.specs.Prelude.{◌≡◌, ℕ, Bool, true, false, not, ◌&&◌, cond, List, [], ◌∷◌, length, Result, IfOk, None}
+use Rattle.std.specs.Prelude.{◌≡◌, ℕ, Bool, true, false, not, ◌&&◌, cond, List, [], ◌∷◌, length, Result, IfOk, None, Some}
 use Rattle.std.specs.declared.alloc.AllocError.{AllocError}
 use Rattle.wesl_tree_base.specs.Borrowed.{texts}
 use Rattle.wesl_cond_chains.specs.Chains.{follows_on}
-use Rattle.wesl_cond_chains.specs.Lists.{elements}
+use Rattle.wesl_cond_chains.specs.Lists.{Element, elements}
 use Rattle.wesl_cond_chains.specs.Picked.{Choice, is_true}
 use Rattle.wesl_cond_choices.specs.Choices.{Choices, has as holds}
 use Rattle.wesl_tree_syntax.specs.Tree.{Forest, Tree, before, end}
@@ -24,6 +24,10 @@ pub record IsFound (look : Lookup) (test : Choice ℕ → Bool) (c : Choices) : 
 -- that of the choices that keep the node at a position, from a tree on, unless memory was wanting
 abbrev pub Finds : Lookup → List ℕ → Tree → Result Choices AllocError → Type 0
 Finds look position t result = IfOk result (IsFound look (λ choice. kept_at choice None 0 position (before t end)))
+
+-- whether a choice keeps the node at a position, from a body on that holds a judged list
+abbrev pub keeps_in_body : Choice ℕ → List (Element ℕ) → List ℕ → Tree → Bool
+keeps_in_body choice xs position t = kept_at choice (Some (kept_indexes choice xs)) 0 position (before t end)
 
 -- whether a choice keeps the node at a position from a judged list on, where none lies further below
 abbrev pub keeps_leaf : Choice ℕ → List ℕ → Forest → Bool

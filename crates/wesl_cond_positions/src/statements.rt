@@ -8,7 +8,7 @@ ghost use Rattle.wesl_cond_alive.specs.Kept.{kept_indexes};
 ghost use Rattle.wesl_cond_alive.specs.Positions.{kept_at};
 ghost use Rattle.wesl_cond_alive.specs.Sound.{outline_of};
 ghost use Rattle.wesl_cond_alive.specs.Views.{outline_view};
-ghost use Rattle.wesl_cond_positions.specs.Found.{Finds, IsFound};
+ghost use Rattle.wesl_cond_positions.specs.Found.{Finds, IsFound, keeps_in_body};
 
 use crate::lists::outlines_of_both;
 use crate::lookup::Lookup;
@@ -175,7 +175,7 @@ impl<'a> Lookup<'a> {
         nodes: &[Outline<'_>],
         position: &[usize],
     ) -> Result<Choices, AllocError>
-        ensures { (xs : List (Element ℕ)) → map outline_view nodes.now ≡ map outline_of xs → IfOk result (IsFound self.now (λ choice. kept_at choice (Some (kept_indexes choice xs)) 0 position.now (before (compound_view body.now) end))) }
+        ensures { (xs : List (Element ℕ)) → map outline_view nodes.now ≡ map outline_of xs → IfOk result (IsFound self.now (λ choice. keeps_in_body choice xs position.now (compound_view body.now))) }
     {
         match position {
             [] | [0, ..] | [1] => self.all(),

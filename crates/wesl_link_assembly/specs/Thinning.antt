@@ -1,7 +1,7 @@
 -- The directives that were met so far.
 use Rattle.std.specs.Prelude.{◌≡◌, Option, Some, None, List, map}
 use Rattle.wesl_tree_names.specs.Path.{Text}
-use Rattle.wesl_tree_syntax.specs.Tree.{TreeOf, before, end, identifiers, respell, directive_node}
+use Rattle.wesl_tree_syntax.specs.Tree.{Tree, TreeOf, before, end, identifiers, respell, directive_node}
 use Rattle.wesl_tree_syntax.specs.Unit.{name_in}
 use Rattle.wesl_tree_syntax.specs.View.{placed, directive_view, texts_of}
 use Rattle.wesl_tree_syntax.specs.declared.span.Spanned.{Spanned}
@@ -13,6 +13,10 @@ use Rattle.wesl_link_assembly.specs.declared.thinning.Thinning.{Thinning}
 -- a directive, as its module spells it
 abbrev pub spelled_directive : List Text → Spanned GlobalDirective → TreeOf Text
 spelled_directive names d = respell (name_in names) (placed directive_view directive_node d)
+
+-- directives as trees
+abbrev pub directive_trees : List (Spanned GlobalDirective) → List Tree
+directive_trees ds = map (placed directive_view directive_node) ds
 
 -- the words of a directive: the names of its identifiers
 abbrev pub words_in : List Text → Spanned GlobalDirective → List Text

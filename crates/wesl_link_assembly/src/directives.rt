@@ -5,7 +5,7 @@ ghost use Rattle.wesl_tree_syntax.specs.Tree.{tree_below, directive_node};
 ghost use Rattle.wesl_tree_syntax.specs.View.{placed, directive_view, texts_of};
 ghost use Rattle.wesl_link_assembly.specs.Denotations.{free_name};
 ghost use Rattle.wesl_link_assembly.specs.Directives.{AreThinned};
-ghost use Rattle.wesl_link_assembly.specs.Thinning.{spelled_directive, words_in};
+ghost use Rattle.wesl_link_assembly.specs.Thinning.{directive_trees, spelled_directive, words_in};
 ghost use Rattle.wesl_link_assembly.specs.Views.{denotation_view};
 
 use crate::denotation::Denotation;
@@ -102,7 +102,7 @@ impl Directives {
         directive: &GlobalDirectiveNode,
     ) -> Result<(), Error>
         requires below { IsTrue (tree_below (length names.now) (placed directive_view directive_node directive.now)) }
-        ensures nodes { OnOk result (map (placed directive_view directive_node) self.new.nodes.items ≡ map (placed directive_view directive_node) self.old.nodes.items ++ placed directive_view directive_node directive.now ∷ []) }
+        ensures nodes { OnOk result (directive_trees self.new.nodes.items ≡ directive_trees self.old.nodes.items ++ placed directive_view directive_node directive.now ∷ []) }
         ensures words { OnOk result (texts_of self.new.words ≡ texts_of self.old.words ++ words_in names.now directive.now) }
         ensures refused { IfErr result (λ e. e ≡ error.Memory) }
     {

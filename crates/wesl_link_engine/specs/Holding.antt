@@ -162,6 +162,11 @@ pub record AreModulesOf (l : Link) (numbers : NumberTexts) (k : Linking PathId N
   pub linked_is : l.linked ≡ k
   pub modules_are : all_loaded l ≡ ms
 
+-- all that a link holds of these modules was added, where none was refused
+abbrev pub MovesAll : NumberTexts → Linking PathId NameId → List LoadedModule → Parts → Parts → Type 0
+MovesAll numbers k ms old new = (l : Link) → AreModulesOf l numbers k ms → (words : List Meaning) → AreParts l [] words old
+    → AreParts l ms words new
+
 -- the module is one of them
 pub record IsModuleOf (l : Link) (numbers : NumberTexts) (k : Linking PathId NameId) (m : LoadedModule) : Type 0 where
   pub sound : IsLinkOf (task_in l) l

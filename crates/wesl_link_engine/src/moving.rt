@@ -84,7 +84,7 @@ fn move_modules<'a>(
     parts: &mut Parts<'a>,
 )
     requires sound { (l : Link) × holding.AreModulesOf l numbers.now linked.now (root ∷ others.items) }
-    ensures { parts.new.is_refused ≡ false → (l : Link) → holding.AreModulesOf l numbers.now linked.now (root ∷ others.items) → (words : List Meaning) → holding.AreParts l [] words parts.old → holding.AreParts l (root ∷ others.items) words parts.new }
+    ensures { parts.new.is_refused ≡ false → holding.MovesAll numbers.now linked.now (root ∷ others.items) parts.old parts.new }
 {
     move_module(numbers, linked, root, parts);
     for module in others {

@@ -6,7 +6,7 @@ use Rattle.wesl_scope_occurrences.specs.Pieces.{declarations_in}
 use Rattle.wesl_cond_choices.specs.declared.place.Place.{Place}
 use Rattle.wesl_tree_base.specs.declared.ids.NameId.{NameId}
 use Rattle.wesl_link_symbols.specs.declared.ids.PathId.{PathId}
-use Rattle.wesl_link_symbols.specs.Tables.{Declaration}
+use Rattle.wesl_link_symbols.specs.Tables.{Declaration, Table}
 use Rattle.wesl_link_symbols.specs.declared.symbols.Import.{Import}
 use Rattle.wesl_cond_alive.specs.Alive.{alive_of}
 use Rattle.wesl_link_split.specs.Grouped.{ids}
@@ -21,6 +21,7 @@ use Rattle.wesl_link_tables.specs.Split.{binders_by, alive_if, crowded_if, has_m
 use Rattle.wesl_link_tables.specs.Tables.{uses, table_at}
 use Rattle.wesl_link_tables.specs.declared.marks.Marked.{Marked}
 use Rattle.wesl_link_tables.specs.declared.table.Declared.{Declared}
+use Rattle.wesl_link_tables.specs.declared.table.Parts.{Parts}
 use Rattle.wesl_link_tables.specs.declared.table.Scoped.{Scoped}
 use Rattle.wesl_link_tables.specs.declared.table.UnitNumbers.{UnitNumbers}
 
@@ -61,6 +62,16 @@ settled_in s is = map (split.settled ids (scope_view s)) is
 -- the declaration that binds this name, if it binds one, and is seen from there, with what its identifiers ask for
 abbrev pub declared_as : Option NameId → Place → Marked → Declaration PathId NameId
 declared_as name place marked = record { name = name; place = place; references = marked.asked.references.items; unclear = marked.asked.unclear.items }
+
+-- the table of the module with this number that has these parts, and whose names stand for this
+abbrev pub table_made : PathId → Parts → Scoped → Table PathId NameId
+table_made id parts scoped = record {
+  path = id;
+  imports = parts.imports.items;
+  declarations = parts.declared.declarations.items;
+  alive = (scope_view scoped.scope).alive;
+  is_crowded = scoped.is_crowded;
+}
 
 -- nothing is declared
 pub record IsUndeclared (d : Declared) : Type 0 where

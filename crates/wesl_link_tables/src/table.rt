@@ -10,7 +10,7 @@ ghost use Rattle.wesl_link_split.specs.ScopeView.{scope_view};
 ghost use Rattle.wesl_link_split.specs.Split as split;
 ghost use Rattle.wesl_link_tables.specs.Numbering.{IsNumberedImport, AreNumberedImports, IsNumberedScope, IsNumbered, Grows, PathAt};
 ghost use Rattle.wesl_link_tables.specs.NumbersView.{numbering};
-ghost use Rattle.wesl_link_tables.specs.Parts.{declared_as, settled_in, with_alive, IsDeclared, IsKeptBy, IsNumberedUnit, IsScoped, IsUndeclared, IsUnnumbered};
+ghost use Rattle.wesl_link_tables.specs.Parts.{declared_as, settled_in, table_made, with_alive, IsDeclared, IsKeptBy, IsNumberedUnit, IsScoped, IsUndeclared, IsUnnumbered};
 ghost use Rattle.wesl_link_tables.specs.Reading.{AreNumbersOfNames, IsRead, IsNumberedBy, own_path, unit_in};
 ghost use Rattle.wesl_link_tables.specs.Spelling.{imports_at, spelled_in, spelled_import, spelled_imports};
 ghost use Rattle.wesl_link_tables.specs.Split.{alive_if, crowded_if, binders_by, declares_as, declared_from};
@@ -467,7 +467,7 @@ fn make_tabled(
     parts: Parts,
     scoped: Scoped,
 ) -> Result<Tabled, AllocError>
-    ensures table { IfOk result (λ t. t.table ≡ record { path = id; imports = parts.imports.items; declarations = parts.declared.declarations.items; alive = (scope_view scoped.scope).alive; is_crowded = scoped.is_crowded }) }
+    ensures table { IfOk result (λ t. t.table ≡ table_made id parts scoped) }
     ensures marks { IfOk result (λ t. t.marks ≡ parts.declared.marks) }
 {
     let Parts { imports, declared } = parts;

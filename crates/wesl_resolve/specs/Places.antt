@@ -1,5 +1,5 @@
 -- Where the modules of packages stand in the lists that hold them, and what is noted of that.
-use Rattle.std.specs.Prelude.{◌≡◌, ℕ, true, false, Option, Some, None, option_map, Ok, List, [], ◌∷◌, Vec, String, string_bytes}
+use Rattle.std.specs.Prelude.{◌≡◌, ℕ, Bool, true, false, Option, Some, None, option_map, Ok, List, [], ◌∷◌, Vec, String, string_bytes}
 use Rattle.std.specs.declared.alloc.Global.{Global}
 use Rattle.std.specs.HashSet.{HashSet, contains}
 use Rattle.std.specs.List.{find, list_any, slice_get}

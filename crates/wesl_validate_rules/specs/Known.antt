@@ -1,8 +1,8 @@
 -- Numbers whose name means something, by marks.
-use Rattle.std.specs.Prelude.{◌≡◌, ℕ, Bool, true, not, ◌&&◌, ◌||◌, ◌==◌, bytes_eq, Option, List}
+use Rattle.std.specs.Prelude.{◌≡◌, ◌<◌, ℕ, Bool, length, true, not, ◌&&◌, ◌||◌, ◌==◌, bytes_eq, Option, List}
 use Rattle.std.specs.List.{Contains, list_any}
 use Rattle.wesl_tree_names.specs.Path.{Text}
-use Rattle.wesl_tree_syntax.specs.Unit.{UnitView}
+use Rattle.wesl_tree_syntax.specs.Unit.{UnitView, name_in}
 use Rattle.wesl_scope_occurrences.specs.Occurrences.{OccurrenceIn, Occurrence, is_binder, is_unqualified}
 use Rattle.wesl_scope_occurrences.specs.Identified.{identified}
 use Rattle.wesl_scope_occurrences.specs.declared.whole.Identifiers.{Identifiers}
@@ -22,6 +22,10 @@ module _ {B : Type 0} where
   -- whether a binder has the number m
   abbrev pub binds : List (OccurrenceIn ℕ B) → ℕ → Bool
   binds os m = list_any (binds_here m) os
+
+  -- marked are just the numbers whose name means something: it is built in, or `_`, or a binder has the number
+  abbrev pub AreKnown : BuiltinNames → List Text → List (OccurrenceIn ℕ B) → List Bool → Type 0
+  AreKnown b names os known = (m : ℕ) → m < length names → mark_at known m ≡ is_meant b (name_in names m) || binds os m
 
   -- a reference without a path, in no argument of a custom attribute, to a number that is not marked
   abbrev pub is_unknown : List Bool → OccurrenceIn ℕ B → Bool

@@ -1,5 +1,5 @@
 -- The steps of a module's numbers, as they are listed: from the number of a declaration to those to which it refers.
-use Rattle.std.specs.Prelude.{ℕ, ◌&&◌, ◌==◌, Option, Some, None, List, [], ◌∷◌, flat_map, if◌then◌else◌}
+use Rattle.std.specs.Prelude.{◌≡◌, ◌++◌, ℕ, ◌&&◌, ◌==◌, Option, Some, None, List, [], ◌∷◌, flat_map, if◌then◌else◌}
 use Rattle.wesl_scope_occurrences.specs.Occurrences.{OccurrenceIn, is_module_name, is_reference}
 use Rattle.wesl_scope_strip.specs.Declarations.{lies_in}
 use Rattle.wesl_validate_rules.specs.Graphs.{Graph, edges_at}
@@ -21,6 +21,10 @@ module _ {B : Type 0} where
   -- the steps from the number a that an identifier makes: where it is the name of a declaration
   abbrev pub steps_here : (Option ℕ → List ℕ) → ℕ → OccurrenceIn ℕ B → List ℕ
   steps_here used a o = if is_module_name o.role && o.name == a then used o.declaration else []
+
+  -- the steps that an identifier makes were added
+  abbrev pub AddsSteps : (Option ℕ → List ℕ) → OccurrenceIn ℕ B → Graph → Graph → Type 0
+  AddsSteps used o old new = (a : ℕ) → edges_at new a ≡ edges_at old a ++ steps_here used a o
 
   abbrev pub used_in : List (OccurrenceIn ℕ B) → Option ℕ → List ℕ
   used_in os None = []

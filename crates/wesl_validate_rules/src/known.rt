@@ -5,7 +5,7 @@ ghost use Rattle.wesl_scope_occurrences.specs.Views.{occurrence_view};
 ghost use Rattle.wesl_scope_strip.specs.Marks.{mark_at};
 ghost use Rattle.wesl_validate_builtins.specs.Builtins.{AreKept, BuiltinNames, is_among, builtins_view};
 ghost use Rattle.wesl_validate_rules.specs.Valid.{underscore};
-ghost use Rattle.wesl_validate_rules.specs.Known.{binds_here, binds, is_meant};
+ghost use Rattle.wesl_validate_rules.specs.Known.{AreKnown, binds_here, binds, is_meant};
 
 use std::alloc::{AllocError, Global};
 use std::collections::HashSet;
@@ -61,7 +61,7 @@ pub fn known_numbers(
     found: &Identifiers<'_>,
     builtins: &Builtins,
 ) -> Result<Vec<bool>, AllocError>
-    ensures { IfOk result (λ known. (m : ℕ) → m < length names.now → mark_at known.items m ≡ is_meant (builtins_view builtins.now) (name_in names.now m) || binds (map occurrence_view found.now.all.items) m) }
+    ensures { IfOk result (λ known. AreKnown (builtins_view builtins.now) names.now (map occurrence_view found.now.all.items) known.items) }
 {
     let mut known = meant(alloc, names, builtins)?;
     for occurrence in &found.all {

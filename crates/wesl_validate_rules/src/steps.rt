@@ -2,7 +2,7 @@
 ghost use Rattle.std.specs.Prelude.{◌≡◌, ◌++◌, ◌==◌, ℕ, [], map, if◌then◌else◌, IfOk};
 ghost use Rattle.wesl_scope_occurrences.specs.Views.{occurrence_view};
 ghost use Rattle.wesl_validate_rules.specs.Graphs.{graph_view, edges_at, IsClosed};
-ghost use Rattle.wesl_validate_rules.specs.Steps.{referred_here, referred, used_by, steps_here, steps};
+ghost use Rattle.wesl_validate_rules.specs.Steps.{AddsSteps, referred_here, referred, used_by, steps_here, steps};
 
 use std::alloc::{AllocError, Global};
 use wesl_scope_graph::add_edge;
@@ -61,7 +61,7 @@ fn add_steps(
     uses: &Vec<Vec<usize>>,
     occurrence: &Occurrence<'_>,
 ) -> Result<(), AllocError>
-    ensures added { IfOk result (λ _. (a : ℕ) → edges_at (graph_view graph.new.items) a ≡ edges_at (graph_view graph.old.items) a ++ steps_here (used_by (graph_view uses.now.items)) a (occurrence_view occurrence.now)) }
+    ensures added { IfOk result (λ _. AddsSteps (used_by (graph_view uses.now.items)) (occurrence_view occurrence.now) (graph_view graph.old.items) (graph_view graph.new.items)) }
     ensures closed { IfOk result (λ _. IsClosed (graph_view graph.old.items) → IsClosed (graph_view graph.new.items)) }
 {
     if !occurrence.standing.is_module_name() {
