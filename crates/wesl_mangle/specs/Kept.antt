@@ -8,6 +8,10 @@ abbrev pub option_or : {X : Type 0} → Option X → Option X → Option X
 option_or (Some x) o = Some x
 option_or None o = o
 
+-- the record has this item written for the name, where it is written at all
+abbrev pub IsWritten : Bool → Text → Path × Text → (Text → Option (Path × Text)) → (Text → Option (Path × Text)) → Type 0
+IsWritten writes name item old new = (n : Text) → new n ≡ written_if writes name item old n
+
 -- the record is as it was, or has this item written for the name
 abbrev pub IsWrittenOrKept : Bool → Text → Path × Text → (Text → Option (Path × Text)) → (Text → Option (Path × Text)) → Type 0
-IsWrittenOrKept writes name item old new = ((n : Text) → new n ≡ old n) ⊎ ((n : Text) → new n ≡ written_if writes name item old n)
+IsWrittenOrKept writes name item old new = ((n : Text) → new n ≡ old n) ⊎ IsWritten writes name item old new

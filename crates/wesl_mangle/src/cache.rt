@@ -4,7 +4,7 @@ ghost use Rattle.wesl_tree_names.specs.Path.{Text, Path, path_view};
 ghost use Rattle.wesl_tree_names.specs.declared.errors.Error as error;
 ghost use Rattle.wesl_mangle_forms.specs.Items.{item_view, numbered};
 ghost use Rattle.wesl_mangle_forms.specs.Mangler.{written_if};
-ghost use Rattle.wesl_mangle.specs.Kept.{IsWrittenOrKept};
+ghost use Rattle.wesl_mangle.specs.Kept.{IsWritten, IsWrittenOrKept};
 ghost use Rattle.wesl_mangle.specs.Shown.{shown};
 
 use std::alloc::Global;
@@ -118,11 +118,11 @@ impl<M: Mangler> Mangler for CacheMangler<M> {
         ensures named { IfOk result (λ name. string_bytes name ≡ M.name_of (inner self.old) (path_view path.now) item.now) }
         ensures refused { IfErr result (λ e. e ≡ error.Memory) }
         ensures same { (p : Path) (i : Text) → M.name_of (inner self.new) p i ≡ M.name_of (inner self.old) p i }
-        ensures written { OnOk result ((name : Text) → record_of self.new name
-            ≡ written_if true (M.name_of (inner self.old) (path_view path.now) item.now) (path_view path.now, item.now) (record_of self.old) name) }
+        ensures written { OnOk result (IsWritten true (M.name_of (inner self.old) (path_view path.now) item.now) (path_view path.now, item.now)
+            (record_of self.old) (record_of self.new)) }
         ensures unwritten { OnErr result ((name : Text) → record_of self.new name ≡ record_of self.old name) }
-        ensures inner_written { OnOk result ((name : Text) → M.recorded (inner self.new) name
-            ≡ written_if M.writes (M.name_of (inner self.old) (path_view path.now) item.now) (path_view path.now, item.now) (M.recorded (inner self.old)) name) }
+        ensures inner_written { OnOk result (IsWritten M.writes (M.name_of (inner self.old) (path_view path.now) item.now) (path_view path.now, item.now)
+            (M.recorded (inner self.old)) (M.recorded (inner self.new))) }
         ensures inner_refused { OnErr result (IsWrittenOrKept M.writes (M.name_of (inner self.old) (path_view path.now) item.now) (path_view path.now, item.now)
             (M.recorded (inner self.old)) (M.recorded (inner self.new))) }
     {

@@ -27,6 +27,10 @@ put p text (e ∷ es) = if same_path p e.0 then (e.0, text) ∷ es else e ∷ pu
 abbrev pub IsLast : Path → Text → List (Path × Text) → List (Path × Text) → Type 0
 IsLast p text before after = (q : Path) → text_at q after ≡ (if same_path p q then Some text else text_at q before)
 
+-- the text was put at the path
+abbrev pub IsPut : Path → Text → List (Path × Text) → List (Path × Text) → Type 0
+IsPut p text before after = (after ≡ put p text before) × IsLast p text before after
+
 -- the text at the path is read as the unit
 abbrev pub IsReadAt : (Text → UnitOf Text → Type 0) → List (Path × Text) → Path → UnitOf Text → Type 0
 IsReadAt reads texts p u = (text : Text) × (text_at p texts ≡ Some text) × reads text u

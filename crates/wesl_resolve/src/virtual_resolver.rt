@@ -5,7 +5,7 @@ ghost use Rattle.wesl_tree_names.specs.Errors.{OrMemory};
 ghost use Rattle.wesl_tree_names.specs.declared.errors.Error as error;
 ghost use Rattle.wesl_tree_syntax.specs.Unit.{spelled};
 ghost use Rattle.wesl_tree.specs.Translation.{unit_view};
-ghost use Rattle.wesl_resolve.specs.Texts.{texts_of, text_at, put, IsLast, IsMissing, IsReadAt, IsRefusedAt};
+ghost use Rattle.wesl_resolve.specs.Texts.{texts_of, text_at, put, IsLast, IsPut, IsMissing, IsReadAt, IsRefusedAt};
 
 use indexmap::IndexMap;
 use std::alloc::Global;
@@ -127,8 +127,7 @@ impl<P: UnitText> VirtualResolver<P> {
     ) -> Result<(), Error>
         requires { is_relative (path_view path) ≡ false }
         ensures added { OnOk result ((text : Text) × P.prints (reader_of self.old) (spelled (unit_view unit)) text
-            × (held_sources self.new ≡ put (path_view path) text (held_sources self.old))
-            × IsLast (path_view path) text (held_sources self.old) (held_sources self.new)) }
+            × IsPut (path_view path) text (held_sources self.old) (held_sources self.new)) }
         ensures kept { OnErr result (held_sources self.new ≡ held_sources self.old) }
         ensures text { reader_of self.new ≡ reader_of self.old }
         ensures refused { IfErr result (λ e. e ≡ error.Memory) }

@@ -12,7 +12,7 @@ pub returns-in-Some-clause-added : goal.returns-in-Some-clause-added
 returns-in-Some-clause-added g c =
     let Printed : String Global → Type 0 = λ text. g.P.UnitText.prints c.args.self.now.text (spelled (unit_view c.args.unit)) (string_bytes text) in
     let printed = IfSome-of Printed c.print.result c.in-Some.source c.in-Some.ensures.value c.print.ensures.printed in
-    OnOk-both _ _ _ (λ added last. (string_bytes c.in-Some.source, printed, added, last)) c.add_module.result c.add_module.ensures.added c.add_module.ensures.last
+    OnOk-both _ _ _ (λ added last. (string_bytes c.in-Some.source, printed, (added, last))) c.add_module.result c.add_module.ensures.added c.add_module.ensures.last
 
 pub returns-in-Some-clause-kept : goal.returns-in-Some-clause-kept
 returns-in-Some-clause-kept g c = c.add_module.ensures.kept
