@@ -18,7 +18,7 @@ use crate::here::Here;
 use crate::occurrence::Standing;
 use crate::paths::with_paths;
 use crate::unit::walk_unit;
-use crate::whole::Identifiers;
+use crate::whole::{Identifiers, room_for};
 use std::alloc::{AllocError, Global};
 use wesl_tree::{Ident, ModulePath, TranslationUnit};
 
@@ -106,7 +106,7 @@ pub fn occurrences_beside<'a, H: Handler + Drop>(
     ensures told { IfOk result (λ r. H.after (events (trees_of (unit_view unit.now))) handler r.handler) }
 {
     let beside = Beside {
-        collector: Collector::new(alloc),
+        collector: Collector::new(alloc, room_for(unit)),
         other: handler,
     };
     let walked = walk_unit(alloc, unit, beside)?;

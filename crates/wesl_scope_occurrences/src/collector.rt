@@ -29,16 +29,18 @@ pub struct Collector<'a> {
 impl<'a> Collector<'a> {
     ghost use Rattle.wesl_scope_occurrences.specs.Shown.{Shows, NotesPlace, NotesName, Ends};
 
-    /// Nothing yet.
-    pub fn new(alloc: Global) -> Collector<'a>
+    /// Nothing yet, with room for so many identifiers.
+    pub fn new(alloc: Global, room: usize) -> Collector<'a>
         ensures { Shows result nothing }
     {
+        let mut found = Vec::new(alloc);
+        let is_refused = found.reserve_exact(room).is_err();
         Collector {
-            found: Vec::new(alloc),
+            found,
             qualified: Vec::new(alloc),
             naming: Vec::new(alloc),
             starts: Vec::new(alloc),
-            is_refused: false,
+            is_refused,
         }
     }
 

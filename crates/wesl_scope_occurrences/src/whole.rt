@@ -31,6 +31,11 @@ pub struct Identifiers<'a> {
     pub starts: Vec<usize>,
 }
 
+/// How many identifiers a module may have, told by its names, of which each stands some times: most modules have no more.
+pub(crate) fn room_for(unit: &TranslationUnit) -> usize {
+    unit.names().len().saturating_mul(6)
+}
+
 /// The identifiers of a module in document order, each with how it stands, its place in that order and its block
 /// (WGSL, "Declaration and Scope"). Refused for want of memory alone.
 pub fn occurrences<'a>(
@@ -44,7 +49,7 @@ pub fn occurrences<'a>(
     ensures starts { IfOk result (λ found. found.starts.items ≡ starts (trees_of (unit_view unit.now))) }
     ensures names { IfOk result (λ found. All (λ o. o.ident.0 < length (unit_view unit.now).names) found.all.items) }
 {
-    let walked = walk_unit(alloc, unit, Collector::new(alloc))?;
+    let walked = walk_unit(alloc, unit, Collector::new(alloc, room_for(unit)))?;
     let collector = walked.handler;
     if collector.is_refused {
         return Err(AllocError);
@@ -75,7 +80,7 @@ fn idents(alloc: Global, found: &[Occurrence<'_>]) -> Result<Vec<Ident>, AllocEr
 pub fn words_of(alloc: Global, directive: &GlobalDirectiveNode) -> Result<Vec<Ident>, AllocError>
     ensures { IfOk result (λ found. map (λ i. i.0) found.items ≡ identifiers (before (placed directive_view directive_node directive.now) end)) }
 {
-    let mut walk = Walk::new(alloc, Collector::new(alloc));
+    let mut walk = Walk::new(alloc, Collector::new(alloc, 0));
     walk.directive(&Here::outermost(), &directive.node);
     if walk.is_refused {
         return Err(AllocError);
