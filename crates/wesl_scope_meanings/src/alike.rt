@@ -46,7 +46,7 @@ fn number_spellings(
     requires { alike.old.items ≡ [] }
     ensures { IfOk result (λ count. HasSpellings names.now alike.new.items count) }
 {
-    let mut texts = IndexSet::new(alloc);
+    let mut texts = IndexSet::with_capacity(alloc, names.len())?;
     spelled_in(names, &mut texts, alike)
 }
 

@@ -44,7 +44,7 @@ fn unread(alloc: Global, names: &Names) -> Result<Reader, AllocError>
         alike,
         declared: vec![in alloc; false; count]?,
         binders: OpenBinders::new(alloc, count)?,
-        senses: Vec::new(alloc),
+        senses: Vec::with_capacity(alloc, names.len().saturating_mul(6))?,
         is_refused: false,
     })
 }
