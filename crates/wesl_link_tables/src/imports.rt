@@ -74,7 +74,7 @@ pub fn imports(
     ensures imports { IfOk result (λ found. imports_of found ≡ imports.all_imports (path_view own.now) (imports_tree statements.now).children) }
     ensures asked { IfOk result (λ found. All (λ i. is_relative (path_view i.path) ≡ false) found.items) }
 {
-    let mut found = Vec::new(alloc);
+    let mut found = Vec::with_capacity(alloc, statements.len())?;
     for i in 0..statements.len() {
         add_statement(
             alloc,
@@ -98,7 +98,7 @@ fn add_statement(
 {
     let base = base_of(alloc, own, &statement.path)?;
     let published = is_published(&statement.attributes);
-    add_content(alloc, found, stands, published, &base, &statement.content)
+    add_content(alloc, found, stands, published, base, &statement.content)
 }
 
 #[cycle(imports)]
@@ -107,15 +107,15 @@ fn add_content(
     found: &mut Vec<Import<ModulePath, Ident>>,
     stands: Place,
     published: bool,
-    base: &Base,
+    base: Base,
     content: &ImportContent,
 ) -> Result<(), AllocError>
-    ensures { OnOk result (HasImported stands published base.now (before (content_view content.now) end) found.old found.new) }
+    ensures { OnOk result (HasImported stands published base (before (content_view content.now) end) found.old found.new) }
 {
     match content {
         ImportContent::Item(item) => add_item(alloc, found, stands, published, base, item),
         ImportContent::Collection(entries) => add_entries(
-            alloc, found, stands, published, base, entries,
+            alloc, found, stands, published, &base, entries,
         ),
     }
 }
@@ -149,7 +149,7 @@ fn add_entry(
     ensures { OnOk result (HasImported stands published base.now (before (entry_view entry.now) end) found.old found.new) }
 {
     let inner = base.entered(alloc, &entry.path)?;
-    add_content(alloc, found, stands, published, &inner, &entry.content)
+    add_content(alloc, found, stands, published, inner, &entry.content)
 }
 
 fn add_item(
@@ -157,10 +157,10 @@ fn add_item(
     found: &mut Vec<Import<ModulePath, Ident>>,
     stands: Place,
     published: bool,
-    base: &Base,
+    base: Base,
     item: &ImportItem,
 ) -> Result<(), AllocError>
-    ensures { OnOk result (HasImported stands published base.now (before (item_view item.now) end) found.old found.new) }
+    ensures { OnOk result (HasImported stands published base (before (item_view item.now) end) found.old found.new) }
 {
     let Base::At(path) = base else {
         return Ok(());
@@ -170,7 +170,7 @@ fn add_item(
             Some(rename) => rename,
             None => item.ident,
         },
-        path: copied(alloc, path)?,
+        path,
         item: item.ident,
         published,
         place: stands,

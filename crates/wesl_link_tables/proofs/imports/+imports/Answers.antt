@@ -6,11 +6,11 @@ use Rattle.wesl_link_tables.proofs.Walked.{on_ok, item_walked, collection_walked
 use Rattle.wesl_link_tables.proofs.imports.+imports.Goals as goal
 
 pub add_content-returns-in-Item : goal.add_content-returns-in-Item
-add_content-returns-in-Item t c = on_ok c.add_item.result (λ h. item_walked c.args.stands c.args.published (base_view c.args.base.now) _ _ c.args.content.now c.in-Item.item c.in-Item.is h) c.add_item.ensures
+add_content-returns-in-Item t c = on_ok c.add_item.result (λ h. item_walked c.args.stands c.args.published (base_view c.args.base) _ _ c.args.content.now c.in-Item.item c.in-Item.is h) c.add_item.ensures
 
 pub add_content-returns-in-Collection : goal.add_content-returns-in-Collection
 add_content-returns-in-Collection t c =
-    on_ok c.add_entries.result (λ h. collection_walked c.args.stands c.args.published (base_view c.args.base.now) _ _ c.args.content.now c.in-Collection.entries c.in-Collection.is h) c.add_entries.ensures
+    on_ok c.add_entries.result (λ h. collection_walked c.args.stands c.args.published (base_view c.args.base) _ _ c.args.content.now c.in-Collection.entries c.in-Collection.is h) c.add_entries.ensures
 
 pub add_entries-loop-entry-init : goal.add_entries-loop-entry-init
 add_entries-loop-entry-init t c = refl

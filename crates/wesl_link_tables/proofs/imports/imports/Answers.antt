@@ -9,7 +9,7 @@ use Rattle.wesl_link_tables.proofs.Nodes.{imports_of, imports_from, imports_next
 use Rattle.wesl_link_tables.proofs.imports.imports.Goals as goal
 
 pub loop-i-init : goal.loop-i-init
-loop-i-init c = ap (map import_view) c.new-found.ensures.items
+loop-i-init c = ap (map import_view) c.in_ok-found.ensures.items
 
 pub loop-i-preserved : goal.loop-i-preserved
 loop-i-preserved c =
