@@ -1,14 +1,14 @@
 //! The symbol table of a module.
 ghost use Rattle.std.specs.Prelude.{◌≡◌, ◌<◌, ◌++◌, ◌∷◌, [], suc, false, All, IfOk, OnOk, length, get_or, map};
 ghost use Rattle.wesl_tree_names.specs.Path.{path_view, is_relative};
-ghost use Rattle.wesl_tree_syntax.specs.Unit.{spelled};
+ghost use Rattle.wesl_tree_syntax.specs.Unit.{name_in, spelled};
 ghost use Rattle.wesl_tree.specs.Translation.{unit_view};
 ghost use Rattle.wesl_scope_occurrences.specs.Pieces.{declarations_in};
 ghost use Rattle.wesl_link_tables.specs.Marks.{AreMarked};
 ghost use Rattle.wesl_link_split.specs.Grouped.{ids};
 ghost use Rattle.wesl_link_split.specs.ScopeView.{scope_view};
 ghost use Rattle.wesl_link_split.specs.Split as split;
-ghost use Rattle.wesl_link_tables.specs.Numbering.{IsNumberedImport, AreNumberedImports, IsNumberedScope, IsNumbered, Grows, PathAt};
+ghost use Rattle.wesl_link_tables.specs.Numbering.{AreRelated, IsNumberedImport, AreNumberedImports, IsNumberedScope, IsNumbered, Grows, NameAt, PathAt};
 ghost use Rattle.wesl_link_tables.specs.NumbersView.{numbering};
 ghost use Rattle.wesl_link_tables.specs.Parts.{declared_as, settled_in, table_made, with_alive, IsDeclared, IsKeptBy, IsNumberedUnit, IsScoped, IsUndeclared, IsUnnumbered};
 ghost use Rattle.wesl_link_tables.specs.Reading.{AreNumbersOfNames, IsRead, IsNumberedBy, own_path, unit_in};
@@ -40,19 +40,40 @@ pub struct Tabled {
     pub marks: Vec<Vec<Mark>>,
 }
 
+/// The number of the name of an identifier, where the names have these numbers.
+fn number_of(
+    numbers: &mut Numbers,
+    names: &Names,
+    ids: &[NameId],
+    ident: Ident,
+) -> Result<NameId, AllocError>
+    requires { AreRelated (NameAt (numbering numbers.old)) ids.now names.now }
+    ensures numbered { IfOk result (λ n. NameAt (numbering numbers.new) n (name_in names.now ident.0)) }
+    ensures grows { Grows (numbering numbers.old) (numbering numbers.new) }
+{
+    if ident.0 < ids.len() {
+        Ok(ids[ident.0])
+    } else {
+        numbers.name(spelling(names, ident))
+    }
+}
+
+/// An import with numbers in place of names and paths, where the names have these numbers.
 fn number_import(
     alloc: Global,
     numbers: &mut Numbers,
     names: &Names,
+    ids: &[NameId],
     import: &Import<ModulePath, Ident>,
 ) -> Result<Import<PathId, NameId>, AllocError>
-    requires { is_relative (path_view import.now.path) ≡ false }
+    requires asked { is_relative (path_view import.now.path) ≡ false }
+    requires ids { AreRelated (NameAt (numbering numbers.old)) ids.now names.now }
     ensures numbered { IfOk result (λ i. IsNumberedImport (numbering numbers.new) i (spelled_import names.now import.now)) }
     ensures grows { Grows (numbering numbers.old) (numbering numbers.new) }
 {
-    let bound = numbers.name(spelling(names, import.bound))?;
+    let bound = number_of(numbers, names, ids, import.bound)?;
     let path = numbers.path(alloc, &import.path)?;
-    let item = numbers.name(spelling(names, import.item))?;
+    let item = number_of(numbers, names, ids, import.item)?;
     Ok(Import {
         bound,
         path,
@@ -64,22 +85,24 @@ fn number_import(
     })
 }
 
-/// Adds the imports with numbers in place of names and paths.
+/// Adds the imports with numbers in place of names and paths, where the names have these numbers.
 fn add_imports(
     alloc: Global,
     numbers: &mut Numbers,
     names: &Names,
+    ids: &[NameId],
     imports: &[Import<ModulePath, Ident>],
     found: &mut Vec<Import<PathId, NameId>>,
 ) -> Result<(), AllocError>
     requires asked { All (λ i. is_relative (path_view i.path) ≡ false) imports.now }
+    requires ids { AreRelated (NameAt (numbering numbers.old)) ids.now names.now }
     requires empty { found.old.items ≡ [] }
     ensures numbered { OnOk result (AreNumberedImports (numbering numbers.new) found.new.items (spelled_imports names.now imports.now)) }
     ensures grows { Grows (numbering numbers.old) (numbering numbers.new) }
 {
     found.reserve_exact(imports.len())?;
     for import in imports {
-        let number = number_import(alloc, numbers, names, import)?;
+        let number = number_import(alloc, numbers, names, ids, import)?;
         found.push(number)?;
     }
     Ok(())
@@ -187,8 +210,15 @@ fn number_unit(
     ensures numbered { OnOk result (IsNumberedUnit (numbering numbers.new) (spelled_in unit.now imports.now) (unit_view unit.now) numbered.new) }
     ensures grows { Grows (numbering numbers.old) (numbering numbers.new) }
 {
-    add_imports(alloc, numbers, unit.names(), imports, &mut numbered.imports)?;
     add_ids(numbers, unit.names(), &mut numbered.ids)?;
+    add_imports(
+        alloc,
+        numbers,
+        unit.names(),
+        &numbered.ids,
+        imports,
+        &mut numbered.imports,
+    )?;
     add_names(
         numbers,
         unit.names(),
@@ -276,7 +306,8 @@ fn binders_of(
 ) -> Result<Vec<Binder<PathId, NameId>>, AllocError>
     ensures { IfOk result (λ bs. bs.items ≡ binders_by own names.now imports.now) }
 {
-    let mut binders = Vec::new(alloc);
+    let room = names.len().saturating_add(imports.len());
+    let mut binders = Vec::with_capacity(alloc, room)?;
     add_binders(&mut binders, own, names, imports)?;
     Ok(binders)
 }

@@ -4,7 +4,7 @@ use Rattle.wesl_link_tables.proofs.Lists.{taken_all}
 use Rattle.wesl_link_tables.specs.Numbering.{AreNumberedImports}
 use Rattle.wesl_link_tables.specs.NumbersView.{numbering}
 use Rattle.wesl_link_tables.specs.Spelling.{spelled_import}
-use Rattle.wesl_link_tables.proofs.Related.{grows_itself, grows_trans, imports_one, map_next}
+use Rattle.wesl_link_tables.proofs.Related.{grows_itself, grows_trans, imports_one, names_later, map_next}
 use Rattle.wesl_link_tables.proofs.table.add_imports.Goals as goal
 
 pub loop-import-init : goal.loop-import-init
@@ -34,8 +34,11 @@ returns-in_err-push-clause-grows c = grows_trans (numbering c.args.numbers.now) 
 pub returns-clause-grows : goal.returns-clause-grows
 returns-clause-grows c = c.loop-import.invariant.grows
 
-pub number_import-requires : goal.number_import-requires
-number_import-requires c =
+pub number_import-requires-clause-ids : goal.number_import-requires-clause-ids
+number_import-requires-clause-ids c = names_later (numbering c.args.numbers.now) (numbering c.loop-import.numbers) c.loop-import.invariant.grows c.args.ids.now c.args.names.now c.requires.ids
+
+pub number_import-requires-clause-asked : goal.number_import-requires-clause-asked
+number_import-requires-clause-asked c =
     subst (λ i. is_relative (path_view i.path) ≡ false) (sym c.import-item.is) (c.requires.asked c.loop-import.import-index c.import-item.result c.loop-import-test.true)
 
 pub returns-clause-numbered : goal.returns-clause-numbered
