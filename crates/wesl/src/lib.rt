@@ -129,6 +129,7 @@ pub use wesl_validate_builtins::SamplerType;
 pub use wesl_validate_builtins::TextureType;
 pub use wesl_validate_builtins::VecSize;
 pub use wesl_validate_faults::faults_wesl;
+pub use wesl_validate_faults::faults_wgsl;
 pub use wesl_visit::Collect;
 pub use wesl_visit::Holder;
 pub use wesl_visit::Kind;

@@ -48,7 +48,7 @@ fn of_scopes(row: Row<'_>, call: &str) -> Value {
         "names_clash, times" => scopes::clash_times(row),
         "clashes" => scopes::clashes_told(row),
         "free_names" => validators::free(row),
-        "faults_wesl" => validators::all_told(row),
+        "faults_wesl" | "faults_wgsl" => validators::all_told(row, call),
         "validate_wesl" | "validate_wgsl" => validators::told(row, call),
         _ => row.text_value("no such row"),
     }

@@ -5,7 +5,7 @@ use wesl_scope::{SyntaxUtil, free_names};
 use wesl_tree::TranslationUnit;
 use wesl_validate::{validate_wesl, validate_wgsl};
 use wesl_validate_builtins::Builtins;
-use wesl_validate_faults::faults_wesl;
+use wesl_validate_faults::{faults_wesl, faults_wgsl};
 
 /// The module of the `tree`, numbered by what its identifiers mean, or, where the row says `as_read`, by their spellings.
 fn numbered(row: Row<'_>) -> TranslationUnit {
@@ -53,13 +53,16 @@ pub fn told(row: Row<'_>, call: &str) -> Value {
     }
 }
 
-/// All faults that `faults_wesl` tells of the module.
-pub fn all_told(row: Row<'_>) -> Value {
+/// All faults that `faults_wesl` or `faults_wgsl` tells of the module.
+pub fn all_told(row: Row<'_>, call: &str) -> Value {
     let unit = numbered(row);
-    let told = row.or(
-        faults_wesl(row.alloc, &unit, &builtins(row)),
-        Vec::new(row.alloc),
-    );
+    let builtins = builtins(row);
+    let faults = if call == "faults_wesl" {
+        faults_wesl(row.alloc, &unit, &builtins)
+    } else {
+        faults_wgsl(row.alloc, &unit, &builtins)
+    };
+    let told = row.or(faults, Vec::new(row.alloc));
     let mut all = List::new(row.alloc);
     for fault in &told {
         all.put(declared(row, fault));

@@ -109,7 +109,7 @@ abbrev pub PassBefore : UnitView → BuiltinNames → ℕ → Type 0
 PassBefore u b j = (i : ℕ) → i < j → All (Passes u b) (calls_of u i)
 
 module _ (u : UnitView) (b : BuiltinNames) (v : Vec (Spanned GlobalDeclaration) Global) (same : declarations_tree v ≡ u.declarations) where
-  calls_at : (j : ℕ) (d : Spanned GlobalDeclaration) → j < length v.items → d ≡ get_or v.items j d → calls_in (before (global_view d.node) end) ≡ calls_of u j
+  pub calls_at : (j : ℕ) (d : Spanned GlobalDeclaration) → j < length v.items → d ≡ get_or v.items j d → calls_in (before (global_view d.node) end) ≡ calls_of u j
   calls_at j d h e = ap calls_in (node_at v.items j d h e ∙ ap (λ t. get_or (map (λ x. x.children) (trees t.children)) j end) same)
 
   calls_past : (j : ℕ) → length v.items ≤ j → calls_of u j ≡ []

@@ -1,7 +1,8 @@
 -- What tables say of a call is so.
-use Rattle.std.proofs.Common.{◌≡◌, ◌⊎◌, ◌↔◌, ℕ, ◌||◌, ◌&&◌, not, Bool, true, false, List, [], ◌∷◌, refl, sym, ap, ◌∙◌, subst, inl, inr}
+use Rattle.std.proofs.Common.{◌≡◌, ◌⊎◌, ◌↔◌, ℕ, ◌<◌, ◌||◌, ◌&&◌, not, Bool, true, false, List, [], ◌∷◌, refl, sym, ap, ◌∙◌, subst, inl, inr}
 use Rattle.std.specs.Prelude.{Option, Some, None, IfSome, IfNone, if◌then◌else◌}
 use Rattle.std.specs.List.{Contains, list_any}
+use Rattle.std.specs.List.Sorted.{IsNonDecreasing}
 use Rattle.std.specs.Option.{option_map}
 use Rattle.wesl_tree_syntax.specs.Unit.{UnitView, name_in}
 use Rattle.wesl_scope_strip.specs.Marks.{mark_at}
@@ -12,13 +13,14 @@ use Rattle.wesl_validate_rules.specs.Valid.{shape_of, Declares, AliasesTo, itsel
 use Rattle.wesl_validate_rules.specs.Faults.{Counts}
 use Rattle.wesl_validate_calls.specs.Reached as reached
 use Rattle.wesl_validate_calls.specs.Reached.{ReachedFrom}
-use Rattle.wesl_validate_calls.specs.Tables.{Tables, AreTables, shape_at}
+use Rattle.wesl_validate_calls.specs.Tables.{Tables, AreTables, shape_at, declarers}
 use Rattle.wesl_validate_calls.specs.Judged.{or_else, first_some, is_empty, count_of, takes_at, count_at, ends_at, miscounted_at, not_callable_at, accepts_at, judged}
 use Rattle.wesl_validate_calls.specs.Misfits.{Misses, Passes}
+use Rattle.wesl_validate_calls.specs.Verdicts.{first_count, IsFirstEnd, IsVerdict}
 use Rattle.wesl_validate_calls.specs.declared.misfit.Misfit.{Misfit}
 use Rattle.wesl_validate_calls.specs.declared.misfit.Misfit.TheVariants as misfit
 use Rattle.wesl_validate_calls.proofs.Members.{contains_none, contains_here}
-use Rattle.wesl_validate_calls.proofs.Searching.{any_from, any_to, some_from, none_from}
+use Rattle.wesl_validate_calls.proofs.Searching.{any_from, any_to, some_from, none_from, same_first, first_least}
 
 no : {P : Type 0} → false ≡ true → P
 no e = absurd (let f : false ≡ true = e in cc)
@@ -96,6 +98,9 @@ module _ (u : UnitView) (t : Tables) (a : AreTables u t) where
   counts_none : (e : ℕ) → count_at t e ≡ None → (k : ℕ) → Counts u e k → ⊥
   counts_none e h k (j, d, s) = is_some_not_none (count_of (shape_at t.shapes j)) k (ap count_of (a.shaped j) ∙ count_to (shape_of u j) k s) (none_from (λ i. count_of (shape_at t.shapes i)) (edges_at t.declarers e) h j ((a.declared e j).1 d))
 
+  first_is : (e : ℕ) → first_count u e ≡ count_at t e
+  first_is e = same_first (λ j. count_of (shape_of u j)) (λ j. count_of (shape_at t.shapes j)) (λ j. ap count_of (sym (a.shaped j))) (declarers u e) ∙ ap (first_some (λ j. count_of (shape_at t.shapes j))) (sym (a.listed e))
+
   ends_from : (e : ℕ) → ends_at t e ≡ true → IsEnd u e
   ends_from e h = by (either_of (is_empty (edges_at t.declarers e)) (list_any (λ j. not (is_plain_alias (shape_at t.shapes j))) (edges_at t.declarers e)) h)
     where
@@ -152,12 +157,15 @@ module _ (u : UnitView) (t : Tables) (a : AreTables u t) where
           by e d None q g = absurd (let z : None ≡ Some x = g in cc)
           by e d (Some k) q g = subst (Misses u b call) (some_inside (misfit.ParamCount e k c) x g) (f, ending e d, counts_from e k q, refl)
 
-      counted_none : first_some (miscounted_at t c) ns ≡ None → (e : ℕ) → Contains ns e → count_at t e ≡ None
-      counted_none h e d = by (count_at t e) (none_from (miscounted_at t c) ns h e d)
+      uncounted : (e : ℕ) → miscounted_at t c e ≡ None → count_at t e ≡ None
+      uncounted e h = by (count_at t e) h
         where
           by : (o : Option ℕ) → option_map (λ k. misfit.ParamCount e k c) o ≡ None → o ≡ None
           by None q = refl
           by (Some k) q = absurd (let z : Some (misfit.ParamCount e k c) ≡ None = q in cc)
+
+      counted_none : first_some (miscounted_at t c) ns ≡ None → (e : ℕ) → Contains ns e → count_at t e ≡ None
+      counted_none h e d = uncounted e (none_from (miscounted_at t c) ns h e d)
 
       not_callable : (x : Misfit) → (Fits u b call → ⊥) → first_some (miscounted_at t c) ns ≡ None → first_some (not_callable_at t) ns ≡ Some x → Misses u b call x
       not_callable x f n h = let s = some_from (not_callable_at t) ns x h in by s.0 s.1 (ends_at t s.0) refl s.2
@@ -166,8 +174,11 @@ module _ (u : UnitView) (t : Tables) (a : AreTables u t) where
           by e d false q g = absurd (let z : None ≡ Some x = g in cc)
           by e d true q g = subst (Misses u b call) (some_inside (misfit.NotCallable e) x g) (f, ending e d, ends_from e q, λ i k r s. counts_none i (counted_none n i (there i r)) k s)
 
+      no_end : (e : ℕ) → not_callable_at t e ≡ None → IsEnd u e → ⊥
+      no_end e h i = is_some_not_none (not_callable_at t e) (misfit.NotCallable e) (ap (λ z. if z then Some (misfit.NotCallable e) else None) (ends_to e i)) h
+
       nowhere : first_some (not_callable_at t) ns ≡ None → (e : ℕ) → AliasesTo u m e → IsEnd u e → ⊥
-      nowhere h e r i = is_some_not_none (not_callable_at t e) (misfit.NotCallable e) (ap (λ z. if z then Some (misfit.NotCallable e) else None) (ends_to e i)) (none_from (not_callable_at t) ns h e (there e r))
+      nowhere h e r i = no_end e (none_from (not_callable_at t) ns h e (there e r)) i
 
       pub misses : (x : Misfit) → judged t u.names b c ns ≡ Some x → Misses u b call x
       misses x h = by (list_any (accepts_at t u.names b c) ns) refl h
@@ -190,6 +201,38 @@ module _ (u : UnitView) (t : Tables) (a : AreTables u t) where
           by : (z : Bool) → list_any (accepts_at t u.names b c) ns ≡ z → (if z then None else or_else (first_some (miscounted_at t c) ns) (first_some (not_callable_at t) ns)) ≡ None → Fits u b call
           by true q g = fits_from q
           by false q g = at (first_some (miscounted_at t c) ns) g
+
+      -- ---- where the numbers ascend, the first is told
+      module _ (up : IsNonDecreasing ns) where
+        counted_first : (x : Misfit) → first_some (miscounted_at t c) ns ≡ Some x → IsFirstEnd u m x
+        counted_first x h = let s = first_least (miscounted_at t c) ns x up h in by s.0 (count_at t s.0) refl s.2 s.3
+          where
+            by : (e : ℕ) (o : Option ℕ) → count_at t e ≡ o → option_map (λ k. misfit.ParamCount e k c) o ≡ Some x → ((d : ℕ) → d < e → Contains ns d → miscounted_at t c d ≡ None) → IsFirstEnd u m x
+            by e None q g below = absurd (let z : None ≡ Some x = g in cc)
+            by e (Some k) q g below =
+                subst (IsFirstEnd u m) (some_inside (misfit.ParamCount e k c) x g) (first_is e ∙ q, λ d i l r s. counts_none d (uncounted d (below d l (there d r))) i s)
+
+        end_first : (x : Misfit) → first_some (not_callable_at t) ns ≡ Some x → IsFirstEnd u m x
+        end_first x h = let s = first_least (not_callable_at t) ns x up h in by s.0 (ends_at t s.0) s.2 s.3
+          where
+            by : (e : ℕ) (z : Bool) → (if z then Some (misfit.NotCallable e) else None) ≡ Some x → ((d : ℕ) → d < e → Contains ns d → not_callable_at t d ≡ None) → IsFirstEnd u m x
+            by e false g below = absurd (let z : None ≡ Some x = g in cc)
+            by e true g below = subst (IsFirstEnd u m) (some_inside (misfit.NotCallable e) x g) (λ d l r i. no_end d (below d l (there d r)) i)
+
+        first_end : (x : Misfit) → judged t u.names b c ns ≡ Some x → IsFirstEnd u m x
+        first_end x h = by (list_any (accepts_at t u.names b c) ns) h
+          where
+            at : (o : Option Misfit) → first_some (miscounted_at t c) ns ≡ o → or_else o (first_some (not_callable_at t) ns) ≡ Some x → IsFirstEnd u m x
+            at None q g = end_first x g
+            at (Some y) q g = counted_first x (q ∙ g)
+
+            by : (z : Bool) → (if z then None else or_else (first_some (miscounted_at t c) ns) (first_some (not_callable_at t) ns)) ≡ Some x → IsFirstEnd u m x
+            by true g = absurd (let z : None ≡ Some x = g in cc)
+            by false g = at (first_some (miscounted_at t c) ns) refl g
+
+        pub verdict : (r : Option Misfit) → judged t u.names b c ns ≡ r → IsVerdict u b call r
+        verdict None h = passes h
+        verdict (Some x) h = (misses x h, first_end x h)
 
 pub on_some : (r : Option Misfit) (P : Misfit → Type 0) → ((x : Misfit) → r ≡ Some x → P x) → IfSome r P
 on_some None P f = tt

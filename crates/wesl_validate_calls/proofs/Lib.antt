@@ -1,3 +1,4 @@
+pub mod Adding
 pub mod Gathering
 pub mod Judging
 pub mod Marked

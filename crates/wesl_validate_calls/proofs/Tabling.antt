@@ -136,6 +136,10 @@ module _ (u : UnitView) (w : ℕ → Block) (os : List Found) (all_is : map (tol
             let target : alias_named shapes s.0 ≡ Some b = ap (target_at shapes) s.1.2 ∙ target_to (shape_at shapes j) b (shaped j ∙ e) in
             subst (λ xs. Contains xs b) (sym (is a)) (to_edges (alias_named shapes) a b os s.0 s.1.0 (s.1.1, target))
 
+edges_told : (w : ℕ → Block) (f : Occurrence ℕ → Option ℕ) (g : Found → Option ℕ) → ((o : Found) → f (told w o) ≡ g o) → (m : ℕ) (os : List Found) → edges_of f m (map (told w) os) ≡ edges_of g m os
+edges_told w f g same m [] = refl
+edges_told w f g same m (o ∷ os) = ap (λ r. (if o.name == m then one_or_none r else []) ++ edges_of f m (map (told w) os)) (same o) ∙ ap (λ ns. edges_here g m o ++ ns) (edges_told w f g same m os)
+
 any_told : (w : ℕ → Block) (m : ℕ) (os : List Found) → list_any (λ (o : Occurrence ℕ). is_binder o.role && o.name == m) (map (told w) os) ≡ list_any (binds_here m) os
 any_told w m [] = refl
 any_told w m (o ∷ os) = ap (λ t. (is_binder o.role && o.name == m) || t) (any_told w m os)
@@ -157,6 +161,7 @@ module _ (u : UnitView) (w : ℕ → Block) (os : List Found) (all_is : map (tol
       → AreTables u t
   are_tables t shapes d a closed b = record {
     shaped = shapes_are t.shapes shapes;
+    listed = λ m. d m ∙ (sym (edges_told w declaration_named declaration_named (λ o. refl) m os) ∙ ap (edges_of declaration_named m) all_is);
     declared = declarers u w os all_is t.declarers d;
     aliased = aliases u w os all_is t.shapes (shapes_are t.shapes shapes) t.aliases a;
     closed = closed;

@@ -5,4 +5,5 @@ pub mod Made
 pub mod Misfits
 pub mod Reached
 pub mod Tables
+pub mod Verdicts
 pub mod Views

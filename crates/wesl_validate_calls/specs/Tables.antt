@@ -2,8 +2,9 @@
 use Rattle.std.specs.Prelude.{◌≡◌, ◌↔◌, ℕ, Bool, ◌&&◌, ◌==◌, Option, Some, None, List, [], ◌∷◌, flat_map, get_or, if◌then◌else◌}
 use Rattle.wesl_tree_syntax.specs.Unit.{UnitView}
 use Rattle.wesl_scope_occurrences.specs.Occurrences.{OccurrenceIn, is_module_name, is_binder}
+use Rattle.wesl_scope_strip.specs.Declarations.{all}
 use Rattle.wesl_scope_strip.specs.Marks.{mark_at}
-use Rattle.wesl_validate_rules.specs.Graphs.{Graph, Leads, IsClosed}
+use Rattle.wesl_validate_rules.specs.Graphs.{Graph, edges_at, Leads, IsClosed}
 use Rattle.wesl_validate_rules.specs.Calls.{ShapeOf, alias_of, other}
 use Rattle.wesl_validate_rules.specs.Valid.{is_bound, shape_of, Declares}
 
@@ -19,14 +20,6 @@ pub record Tables : Type 0 where
 
 abbrev pub shape_at : List (ShapeOf ℕ) → ℕ → ShapeOf ℕ
 shape_at shapes j = get_or shapes j other
-
--- they tell what the module is
-pub record AreTables (u : UnitView) (t : Tables) : Type 0 where
-  pub shaped : (j : ℕ) → shape_at t.shapes j ≡ shape_of u j
-  pub declared : (m j : ℕ) → Leads t.declarers m j ↔ Declares u j m
-  pub aliased : (a b : ℕ) → Leads t.aliases a b ↔ ((j : ℕ) × Declares u j a × (shape_of u j ≡ alias_of b))
-  pub closed : IsClosed t.aliases
-  pub bounded : (m : ℕ) → mark_at t.bound m ≡ is_bound u m
 
 abbrev pub target_of : ShapeOf ℕ → Option ℕ
 target_of (alias_of t) = Some t
@@ -58,3 +51,16 @@ module _ {B : Type 0} where
 
   abbrev pub binds_here : ℕ → OccurrenceIn ℕ B → Bool
   binds_here m o = is_binder o.role && o.name == m
+
+-- the declarations of a number, in document order
+abbrev pub declarers : UnitView → ℕ → List ℕ
+declarers u m = edges_of declaration_named m (all u)
+
+-- they tell what the module is
+pub record AreTables (u : UnitView) (t : Tables) : Type 0 where
+  pub shaped : (j : ℕ) → shape_at t.shapes j ≡ shape_of u j
+  pub listed : (m : ℕ) → edges_at t.declarers m ≡ declarers u m
+  pub declared : (m j : ℕ) → Leads t.declarers m j ↔ Declares u j m
+  pub aliased : (a b : ℕ) → Leads t.aliases a b ↔ ((j : ℕ) × Declares u j a × (shape_of u j ≡ alias_of b))
+  pub closed : IsClosed t.aliases
+  pub bounded : (m : ℕ) → mark_at t.bound m ≡ is_bound u m

@@ -50,7 +50,7 @@ fn call_misfit(
 
 /// The call at a place of the list.
 #[tactic(auto, using(crate::proofs::Shaping::at_itself))]
-fn call_at(calls: &Vec<Call>, place: usize) -> Call
+pub(crate) fn call_at(calls: &Vec<Call>, place: usize) -> Call
     requires { place < length calls.now.items }
     ensures { result ≡ get_or calls.now.items place result }
 {

@@ -14,6 +14,9 @@ mod reach;
 mod shape;
 mod tables;
 mod told;
+mod whole;
 
 pub use fault::{Fault, wesl_fault};
+pub use misfit::Misfit;
 pub use misfit_fault::call_fault;
+pub use whole::misfits;

@@ -110,6 +110,10 @@ pub view_push : (xs : List code.Finding) (x : code.Finding) → findings_view (x
 view_push [] x = refl
 view_push (y ∷ xs) x = ap (λ fs. finding_view y ∷ fs) (view_push xs x)
 
+pub view_append : (xs ys : List code.Finding) → findings_view (xs ++ ys) ≡ findings_view xs ++ findings_view ys
+view_append [] ys = refl
+view_append (x ∷ xs) ys = ap (λ fs. finding_view x ∷ fs) (view_append xs ys)
+
 pub seen_with : (seen : List code.Finding) (key : code.Finding) → findings_view (if list_any (finding_eq key) seen then seen else seen ++ key ∷ []) ≡ with_finding (findings_view seen) (finding_view key)
 seen_with seen key = by (list_any (finding_eq key) seen) (list_any (same_finding (finding_view key)) (findings_view seen)) (same seen)
   where

@@ -1,5 +1,6 @@
 pub mod Collecting
 pub mod Equality
+pub mod Fitting
 pub mod Listing
 pub mod Repeated
 pub mod Rings

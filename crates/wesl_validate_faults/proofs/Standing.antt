@@ -15,7 +15,7 @@ use Rattle.wesl_validate_rules.specs.Faults.{name_round, IsUndefined, IsDuplicat
 use Rattle.wesl_validate_rules.specs.Names.{plain_names}
 use Rattle.wesl_validate_rules.specs.Twice.{StandsTwice}
 use Rattle.wesl_validate_rules.specs.Valid.{spelling, is_undefined, Declares, LeadsTo, Reaches, directly, onward, IsValidWesl}
-use Rattle.wesl_validate_faults.specs.Findings.{Finding, undefined, duplicate, cycle, IsFound}
+use Rattle.wesl_validate_faults.specs.Findings.{Finding, undefined, duplicate, cycle, miscounted, not_callable, IsFound}
 use Rattle.wesl_validate_faults.specs.Laws.{IsCauseTold, ListsWhatStands, ListsEachCause, ListsEachOnce, IsOneList}
 use Rattle.wesl_validate_faults.specs.Listed.{each_once, repeated_after, IsFirst, declared, LeadsBack, AreCycles, cycle_by, duplicates, undefineds, AreFindings}
 use Rattle.wesl_validate_faults.proofs.Collecting.{of_once, once_apart, to_once}
@@ -166,20 +166,26 @@ module _ (u : UnitView) (b : BuiltinNames) where
           subst (λ m. Contains listed (cycle m (spelling u s.0))) h.named
               (Contains-append_right (undefineds u b ++ duplicates u) cs (cycle (spelling u h.first) (spelling u s.0)) s.1),
         )
+    cause_listed (miscounted d n x g) h = absurd h
+    cause_listed (not_callable d n) h = absurd h
 
   once_told : (fs gs : List Finding) → gs ≡ each_once fs → (f : Finding) → IsCauseTold fs f → IsCauseTold gs f
   once_told fs gs e (undefined d n) c = subst (λ xs. Contains xs (undefined d n)) (sym e) (to_once fs (undefined d n) c)
   once_told fs gs e (duplicate n) c = subst (λ xs. Contains xs (duplicate n)) (sym e) (to_once fs (duplicate n) c)
   once_told fs gs e (cycle n v) c = (c.0, subst (λ xs. Contains xs (cycle n c.0)) (sym e) (to_once fs (cycle n c.0) c.1))
+  once_told fs gs e (miscounted d n x g) c = subst (λ xs. Contains xs (miscounted d n x g)) (sym e) (to_once fs (miscounted d n x g) c)
+  once_told fs gs e (not_callable d n) c = subst (λ xs. Contains xs (not_callable d n)) (sym e) (to_once fs (not_callable d n) c)
 
   -- ---- none
   extended : (a c d : ℕ) → Reaches u a c → LeadsTo u c d → Reaches u a d
   extended a c d (directly _ _ s) t = onward a c d s (directly c d t)
   extended a c d (onward _ e _ s r) t = onward a e d s (extended e c d r t)
 
-  found_refutes : (f : Finding) → IsFound u b f → IsValidWesl u b → ⊥
+  pub found_refutes : (f : Finding) → IsFound u b f → IsValidWesl u b → ⊥
   found_refutes (undefined d n) h v = true≢false (sym h.undefined ∙ v.defined h.found h.there)
   found_refutes (duplicate n) h v = v.distinct h.first h.second h.before h.inside (h.named ∙ sym h.again)
+  found_refutes (miscounted d n x g) h v = h
+  found_refutes (not_callable d n) h v = h
   found_refutes (cycle n w) h v = v.acyclic h.first (by h.leads_there)
     where
       by : (h.first ≡ h.last) ⊎ Reaches u h.first h.last → Reaches u h.first h.first
@@ -190,6 +196,8 @@ module _ (u : UnitView) (b : BuiltinNames) where
   none_told fs (undefined d n) e c = contains_none (undefined d n) (subst (λ xs. Contains xs (undefined d n)) e c)
   none_told fs (duplicate n) e c = contains_none (duplicate n) (subst (λ xs. Contains xs (duplicate n)) e c)
   none_told fs (cycle n v) e c = contains_none (cycle n c.0) (subst (λ xs. Contains xs (cycle n c.0)) e c.1)
+  none_told fs (miscounted d n x g) e c = contains_none (miscounted d n x g) (subst (λ xs. Contains xs (miscounted d n x g)) e c)
+  none_told fs (not_callable d n) e c = contains_none (not_callable d n) (subst (λ xs. Contains xs (not_callable d n)) e c)
 
 pub lists_what_stands : ListsWhatStands
 lists_what_stands u b fs a f c = stands_listed u b a.cycles a.are_cycles f (of_once (undefineds u b ++ duplicates u ++ a.cycles) f (subst (λ xs. Contains xs f) a.listed c))
@@ -203,6 +211,10 @@ lists_each_once u b fs a = subst (AllPairs (λ f g. f ≢ g)) (sym a.listed) (on
 pub is_one_list : IsOneList
 is_one_list u b fs gs a c = a.listed ∙ (ap (λ cs. each_once (undefineds u b ++ duplicates u ++ cs)) (one_cycles u (declared u) a.cycles c.cycles a.are_cycles c.are_cycles) ∙ sym c.listed)
 
+pub empty : (gs : List Finding) → ((f : Finding) → Contains gs f → ⊥) → gs ≡ []
+empty [] n = refl
+empty (f ∷ gs) n = absurd (n f (contains_here f gs))
+
 -- nothing is found exactly where the module is valid
 pub none_is_valid : (u : UnitView) (b : BuiltinNames) (fs : List Finding) → AreFindings u b fs → (fs ≡ []) ↔ IsValidWesl u b
 none_is_valid u b fs a = (
@@ -210,7 +222,3 @@ none_is_valid u b fs a = (
       (λ n h. none_told u b fs (duplicate n) e (lists_each_cause u b fs a (duplicate n) h)) (λ n v h. none_told u b fs (cycle n v) e (lists_each_cause u b fs a (cycle n v) h)),
   λ v. empty fs (λ f c. found_refutes u b f (lists_what_stands u b fs a f c) v),
 )
-  where
-    empty : (gs : List Finding) → ((f : Finding) → Contains gs f → ⊥) → gs ≡ []
-    empty [] n = refl
-    empty (f ∷ gs) n = absurd (n f (contains_here f gs))

@@ -9,10 +9,10 @@ use Rattle.wesl_tree_names.specs.declared.errors.Diagnostic.{Diagnostic}
 use Rattle.wesl_tree_names.specs.declared.errors.Error as error
 use Rattle.wesl_tree_syntax.specs.Unit.{UnitView}
 use Rattle.wesl_validate_builtins.specs.Builtins.{BuiltinNames}
-use Rattle.wesl_validate_rules.specs.Faults.{IsUndefined, IsDuplicate, IsCycle, IsWeslFault, Tells}
-use Rattle.wesl_validate_faults.specs.Findings.{Finding, undefined, duplicate, cycle, holder, IsFound}
+use Rattle.wesl_validate_rules.specs.Faults.{IsUndefined, IsDuplicate, IsCycle, IsMiscounted, IsNotCallable, IsWeslFault, IsWgslFault, Tells}
+use Rattle.wesl_validate_faults.specs.Findings.{Finding, undefined, duplicate, cycle, miscounted, not_callable, holder, IsFound, IsFoundWgsl}
 use Rattle.wesl_validate_faults.specs.Gathered.{finding_view, findings_view}
-use Rattle.wesl_validate_faults.specs.Laws.{TellsRefusals}
+use Rattle.wesl_validate_faults.specs.Laws.{TellsRefusals, TellsRefusalsWgsl}
 use Rattle.wesl_validate_faults.specs.Telling.{IsErrorOf, Says, TellsFinding}
 use Rattle.wesl_validate_faults.specs.declared.finding.Finding as code
 
@@ -33,21 +33,62 @@ module _ (u : UnitView) (b : BuiltinNames) where
   faulted (cycle n v) within (fault.ParamCount m x y) h w e = absurd e
   faulted (cycle n v) within (fault.NotCallable m) h w e = absurd e
   faulted (cycle n v) within (fault.Duplicate m) h w e = absurd e
+  faulted (miscounted d n x g) within e h w s = absurd h
+  faulted (not_callable d n) within e h w s = absurd h
 
-  refused : (f : Finding) (within : Option Text) (e : error.Error) → IsFound u b f → within ≡ holder f → Says f e → Tells (IsWeslFault u b) within e
-  refused f within (error.Validate e) h w s = faulted f within e h w s
-  refused f within error.Memory h w s = absurd s
-  refused f within (error.CondComp e) h w s = absurd s
-  refused f within (error.Import e) h w s = absurd s
-  refused f within (error.Resolve e) h w s = absurd s
-  refused f within (error.ModuleLimit n) h w s = absurd s
-  refused f within error.NotNormalType h w s = absurd s
-  refused f within error.NotJson h w s = absurd s
-  refused f within (error.BadTree n) h w s = absurd s
-  refused f within (error.BadBundle n) h w s = absurd s
+  wider : (within : Option Text) (e : ValidateError) → IsWeslFault u b within e → IsWgslFault u b within e
+  wider within (fault.UndefinedSymbol n) h = h
+  wider within (fault.Duplicate n) h = h
+  wider within (fault.Cycle n v) h = h
+  wider within (fault.ParamCount n x g) h = absurd h
+  wider within (fault.NotCallable n) h = absurd h
+
+  faulted_wgsl : (f : Finding) (within : Option Text) (e : ValidateError) → IsFoundWgsl u b f → within ≡ holder f → IsErrorOf f e → IsWgslFault u b within e
+  faulted_wgsl (undefined d n) within e h w s = wider within e (faulted (undefined d n) within e h w s)
+  faulted_wgsl (duplicate n) within e h w s = wider within e (faulted (duplicate n) within e h w s)
+  faulted_wgsl (cycle n v) within e h w s = wider within e (faulted (cycle n v) within e h w s)
+  faulted_wgsl (miscounted d n x g) within (fault.ParamCount m y k) h w (same, expected, got) =
+      subst (λ z. IsMiscounted u b within z y k) (sym same)
+      (subst (λ z. IsMiscounted u b within n z k) (sym expected) (subst (λ z. IsMiscounted u b within n x z) (sym got) (subst (λ o. IsMiscounted u b o n x g) (sym w) h)))
+  faulted_wgsl (not_callable d n) within (fault.NotCallable m) h w e = subst (IsNotCallable u b within) (sym e) (subst (λ o. IsNotCallable u b o n) (sym w) h)
+  faulted_wgsl (miscounted d n x g) within (fault.UndefinedSymbol m) h w e = absurd e
+  faulted_wgsl (miscounted d n x g) within (fault.NotCallable m) h w e = absurd e
+  faulted_wgsl (miscounted d n x g) within (fault.Duplicate m) h w e = absurd e
+  faulted_wgsl (miscounted d n x g) within (fault.Cycle m k) h w e = absurd e
+  faulted_wgsl (not_callable d n) within (fault.UndefinedSymbol m) h w e = absurd e
+  faulted_wgsl (not_callable d n) within (fault.ParamCount m y k) h w e = absurd e
+  faulted_wgsl (not_callable d n) within (fault.Duplicate m) h w e = absurd e
+  faulted_wgsl (not_callable d n) within (fault.Cycle m k) h w e = absurd e
+
+refused : (F : Option Text → ValidateError → Type 0) (f : Finding) (within : Option Text) (e : error.Error) → ((v : ValidateError) → IsErrorOf f v → F within v) → Says f e → Tells F within e
+refused F f within (error.Validate e) h s = h e s
+refused F f within error.Memory h s = absurd s
+refused F f within (error.CondComp e) h s = absurd s
+refused F f within (error.Import e) h s = absurd s
+refused F f within (error.Resolve e) h s = absurd s
+refused F f within (error.ModuleLimit n) h s = absurd s
+refused F f within error.NotNormalType h s = absurd s
+refused F f within error.NotJson h s = absurd s
+refused F f within (error.BadTree n) h s = absurd s
+refused F f within (error.BadBundle n) h s = absurd s
 
 pub tells_refusals : TellsRefusals
-tells_refusals u b f d h t = record { tells = refused u b f _ d.error h t.held t.says; no_module = t.no_module; no_display = t.no_display; no_span = t.no_span; no_source = t.no_source }
+tells_refusals u b f d h t = record {
+  tells = refused (IsWeslFault u b) f _ d.error (λ e s. faulted u b f _ e h t.held s) t.says;
+  no_module = t.no_module;
+  no_display = t.no_display;
+  no_span = t.no_span;
+  no_source = t.no_source;
+}
+
+pub tells_refusals_wgsl : TellsRefusalsWgsl
+tells_refusals_wgsl u b f d h t = record {
+  tells = refused (IsWgslFault u b) f _ d.error (λ e s. faulted_wgsl u b f _ e h t.held s) t.says;
+  no_module = t.no_module;
+  no_display = t.no_display;
+  no_span = t.no_span;
+  no_source = t.no_source;
+}
 
 -- ---- one after the other
 abbrev pub TellEach : List code.Finding → List Diagnostic → Type 0

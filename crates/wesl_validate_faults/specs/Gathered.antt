@@ -11,6 +11,8 @@ use Rattle.wesl_scope_occurrences.specs.Walk.{Found}
 use Rattle.wesl_scope_strip.specs.Marks.{names_here}
 use Rattle.wesl_validate_rules.specs.Graphs.{Path}
 use Rattle.wesl_validate_rules.specs.Known.{is_unknown}
+use Rattle.wesl_validate_calls.specs.declared.misfit.Misfit.{Misfit}
+use Rattle.wesl_validate_calls.specs.declared.misfit.Misfit.TheVariants as misfit
 use Rattle.wesl_validate_faults.specs.Findings as spec
 use Rattle.wesl_validate_faults.specs.Listed.{declared, AreCycles, IsFirst}
 use Rattle.wesl_validate_faults.specs.declared.finding.Finding.{Finding}
@@ -21,6 +23,8 @@ abbrev pub finding_view : Finding → spec.Finding
 finding_view (made.Undefined d n) = spec.undefined (option_map (λ m. m.now) d) n.now
 finding_view (made.Duplicate n) = spec.duplicate n.now
 finding_view (made.Cycle n v) = spec.cycle n.now v.now
+finding_view (made.Miscounted d n x g) = spec.miscounted (option_map (λ m. m.now) d) n.now x g
+finding_view (made.NotCallable d n) = spec.not_callable (option_map (λ m. m.now) d) n.now
 
 abbrev pub findings_view : List Finding → List spec.Finding
 findings_view = map finding_view
@@ -55,6 +59,11 @@ module _ (names : List Text) where
 
   abbrev pub undefined_here : List Bool → Graph → Found → List spec.Finding
   undefined_here known holders o = if is_unknown known o then spec.undefined (name_by holders o.declaration) (name_in names o.name) ∷ [] else []
+
+  -- a misfit of a call in declaration j
+  abbrev pub misfit_here : Graph → ℕ → Misfit → spec.Finding
+  misfit_here holders j (misfit.ParamCount e k got) = spec.miscounted (name_by holders (Some j)) (name_in names e) k got
+  misfit_here holders j (misfit.NotCallable e) = spec.not_callable (name_by holders (Some j)) (name_in names e)
 
   abbrev pub cycle_here : ℕ → Option ℕ → List spec.Finding
   cycle_here a None = []

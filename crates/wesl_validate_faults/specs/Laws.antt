@@ -1,12 +1,13 @@
 -- Laws of the definitions, as functions of the crate cite them.
-use Rattle.std.specs.Prelude.{◌≡◌, ◌≢◌, List}
+use Rattle.std.specs.Prelude.{◌≡◌, ◌≢◌, ℕ, List}
 use Rattle.std.specs.List.{Contains, AllPairs}
 use Rattle.wesl_tree_names.specs.Path.{Text}
 use Rattle.wesl_tree_names.specs.declared.errors.Diagnostic.{Diagnostic}
 use Rattle.wesl_tree_syntax.specs.Unit.{UnitView}
 use Rattle.wesl_validate_builtins.specs.Builtins.{BuiltinNames}
-use Rattle.wesl_validate_rules.specs.Faults.{RefusesWesl}
-use Rattle.wesl_validate_faults.specs.Findings.{Finding, cycle, IsFound}
+use Rattle.wesl_validate_rules.specs.Faults.{RefusesWesl, RefusesWgsl}
+use Rattle.wesl_validate_faults.specs.Calls.{AreFindingsWgsl}
+use Rattle.wesl_validate_faults.specs.Findings.{Finding, cycle, miscounted, not_callable, IsFound, IsFoundWgsl}
 use Rattle.wesl_validate_faults.specs.Listed.{AreFindings}
 use Rattle.wesl_validate_faults.specs.Telling.{TellsFinding}
 
@@ -34,3 +35,25 @@ ListsEachOnce = (u : UnitView) (b : BuiltinNames) (fs : List Finding) → AreFin
 -- a module has no two lists
 abbrev pub IsOneList : Type 0
 IsOneList = (u : UnitView) (b : BuiltinNames) (fs gs : List Finding) → AreFindings u b fs → AreFindings u b gs → fs ≡ gs
+
+-- ---- the same of `validate_wgsl`
+-- of a call that fits nothing a misfit is told, by the first name where its aliases end
+abbrev pub IsCauseToldWgsl : List Finding → Finding → Type 0
+IsCauseToldWgsl fs (miscounted d n x g) = (first : Text) × (expected : ℕ) × Contains fs (miscounted d first expected g)
+IsCauseToldWgsl fs (not_callable d n) = (first : Text) × Contains fs (not_callable d first)
+IsCauseToldWgsl fs f = IsCauseTold fs f
+
+abbrev pub ListsWhatStandsWgsl : Type 0
+ListsWhatStandsWgsl = (u : UnitView) (b : BuiltinNames) (fs : List Finding) → AreFindingsWgsl u b fs → (f : Finding) → Contains fs f → IsFoundWgsl u b f
+
+abbrev pub TellsRefusalsWgsl : Type 0
+TellsRefusalsWgsl = (u : UnitView) (b : BuiltinNames) (f : Finding) (d : Diagnostic) → IsFoundWgsl u b f → TellsFinding f d → RefusesWgsl u b d
+
+abbrev pub ListsEachCauseWgsl : Type 0
+ListsEachCauseWgsl = (u : UnitView) (b : BuiltinNames) (fs : List Finding) → AreFindingsWgsl u b fs → (f : Finding) → IsFoundWgsl u b f → IsCauseToldWgsl fs f
+
+abbrev pub ListsEachOnceWgsl : Type 0
+ListsEachOnceWgsl = (u : UnitView) (b : BuiltinNames) (fs : List Finding) → AreFindingsWgsl u b fs → AllPairs (λ f g. f ≢ g) fs
+
+abbrev pub IsOneListWgsl : Type 0
+IsOneListWgsl = (u : UnitView) (b : BuiltinNames) (fs gs : List Finding) → AreFindingsWgsl u b fs → AreFindingsWgsl u b gs → fs ≡ gs

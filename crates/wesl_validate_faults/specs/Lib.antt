@@ -1,3 +1,4 @@
+pub mod Calls
 pub mod Findings
 pub mod Gathered
 pub mod Laws

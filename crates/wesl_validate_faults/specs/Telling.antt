@@ -8,13 +8,16 @@ use Rattle.wesl_tree_names.specs.declared.errors.Error as error
 use Rattle.wesl_tree_names.specs.declared.errors.Diagnostic.{Diagnostic}
 use Rattle.wesl_tree_syntax.specs.Unit.{UnitView}
 use Rattle.wesl_validate_builtins.specs.Builtins.{BuiltinNames}
-use Rattle.wesl_validate_faults.specs.Findings.{Finding, undefined, duplicate, cycle, holder}
+use Rattle.wesl_validate_faults.specs.Findings.{Finding, undefined, duplicate, cycle, miscounted, not_callable, holder}
 use Rattle.wesl_validate_faults.specs.Listed.{AreFindings}
+use Rattle.wesl_validate_faults.specs.Calls.{AreFindingsWgsl}
 
 abbrev pub IsErrorOf : Finding → ValidateError → Type 0
 IsErrorOf (undefined d n) (fault.UndefinedSymbol m) = string_bytes m ≡ n
 IsErrorOf (duplicate n) (fault.Duplicate m) = string_bytes m ≡ n
 IsErrorOf (cycle n v) (fault.Cycle m w) = (string_bytes m ≡ n) × (string_bytes w ≡ v)
+IsErrorOf (miscounted d n x g) (fault.ParamCount m y h) = (string_bytes m ≡ n) × (y ≡ x) × (h ≡ g)
+IsErrorOf (not_callable d n) (fault.NotCallable m) = string_bytes m ≡ n
 IsErrorOf _ _ = ⊥
 
 abbrev pub Says : Finding → error.Error → Type 0
@@ -34,4 +37,10 @@ pub record TellsFinding (f : Finding) (d : Diagnostic) : Type 0 where
 pub record TellsWesl (u : UnitView) (b : BuiltinNames) (told : List Diagnostic) : Type 0 where
   pub findings : List Finding
   pub are_all : AreFindings u b findings
+  pub each : AllZip TellsFinding findings told
+
+-- and those that calls have too
+pub record TellsWgsl (u : UnitView) (b : BuiltinNames) (told : List Diagnostic) : Type 0 where
+  pub findings : List Finding
+  pub are_all : AreFindingsWgsl u b findings
   pub each : AllZip TellsFinding findings told

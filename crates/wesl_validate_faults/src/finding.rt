@@ -9,4 +9,9 @@ pub(crate) enum Finding<'a> {
     Duplicate(&'a str),
     /// the name of a declaration that reaches itself, and that of the last one on the way
     Cycle(&'a str, &'a str),
+    /// in the declaration of a name a call of a function or a structure: the name of that, how many arguments it takes, and
+    /// how many the call has
+    Miscounted(Option<&'a str>, &'a str, usize, usize),
+    /// in the declaration of a name a call of what cannot be called: the name of that
+    NotCallable(Option<&'a str>, &'a str),
 }

@@ -1,5 +1,5 @@
 //! Laws of the definitions.
-ghost use Rattle.wesl_validate_faults.specs.Laws.{IsOneList, ListsEachCause, ListsEachOnce, ListsWhatStands, TellsRefusals};
+ghost use Rattle.wesl_validate_faults.specs.Laws.{IsOneList, IsOneListWgsl, ListsEachCause, ListsEachCauseWgsl, ListsEachOnce, ListsEachOnceWgsl, ListsWhatStands, ListsWhatStandsWgsl, TellsRefusals, TellsRefusalsWgsl};
 
 /// All that is listed stands in the module, and what tells it is one of the refusals of `validate_wesl`.
 pub fn law_of_all()
@@ -16,4 +16,18 @@ pub fn law_of_one()
 pub fn law_of_lists()
     ensures one { IsOneList }
     ensures once { ListsEachOnce }
+{}
+
+/// The same of what `faults_wgsl` tells: all of it stands and is a refusal of `validate_wgsl`, and of whatever stands the
+/// cause is listed.
+pub fn law_of_calls()
+    ensures stands { ListsWhatStandsWgsl }
+    ensures refuses { TellsRefusalsWgsl }
+    ensures cause { ListsEachCauseWgsl }
+{}
+
+/// A module has no two such lists, and none tells a thing twice.
+pub fn law_of_call_lists()
+    ensures one { IsOneListWgsl }
+    ensures once { ListsEachOnceWgsl }
 {}

@@ -2,6 +2,7 @@
 //! Scope").
 #![tactic(auto)]
 
+mod calls;
 mod cycles;
 mod duplicates;
 mod finding;
@@ -9,7 +10,9 @@ mod laws;
 mod once;
 mod told;
 mod undefined;
+mod wgsl;
 mod whole;
 
-pub use laws::{law_of_all, law_of_lists, law_of_one};
+pub use laws::{law_of_all, law_of_call_lists, law_of_calls, law_of_lists, law_of_one};
+pub use wgsl::faults_wgsl;
 pub use whole::faults_wesl;

@@ -28,6 +28,14 @@ fn error_of(alloc: Global, finding: &Finding<'_>) -> Result<ValidateError, Alloc
             let by = String::from_str(alloc, *by)?;
             Ok(ValidateError::Cycle(name, by))
         }
+        Finding::Miscounted(_, name, expected, got) => {
+            let name = String::from_str(alloc, *name)?;
+            Ok(ValidateError::ParamCount(name, *expected, *got))
+        }
+        Finding::NotCallable(_, name) => {
+            let name = String::from_str(alloc, *name)?;
+            Ok(ValidateError::NotCallable(name))
+        }
     }
 }
 
@@ -39,6 +47,8 @@ fn holder_of<'a>(finding: &Finding<'a>) -> Option<&'a str>
         Finding::Undefined(holder, _) => *holder,
         Finding::Duplicate(name) => Some(*name),
         Finding::Cycle(name, _) => Some(*name),
+        Finding::Miscounted(holder, _, _, _) => *holder,
+        Finding::NotCallable(holder, _) => *holder,
     }
 }
 

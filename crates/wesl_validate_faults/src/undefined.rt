@@ -37,7 +37,10 @@ fn add_holder(
 }
 
 /// Of each declaration the number that it declares, if it declares one.
-fn holders_of(alloc: Global, found: &Identifiers<'_>) -> Result<Vec<Vec<usize>>, AllocError>
+pub(crate) fn holders_of(
+    alloc: Global,
+    found: &Identifiers<'_>,
+) -> Result<Vec<Vec<usize>>, AllocError>
     ensures { IfOk result (λ holders. (j : ℕ) → edges_at (graph_view holders.items) j ≡ named_in (map occurrence_view found.now.all.items) j) }
 {
     let mut holders = Vec::new(alloc);
@@ -48,7 +51,7 @@ fn holders_of(alloc: Global, found: &Identifiers<'_>) -> Result<Vec<Vec<usize>>,
 }
 
 /// The name that a declaration declares, if there is one and it declares a name.
-fn name_round<'a>(
+pub(crate) fn name_round<'a>(
     names: &'a Names,
     holders: &Vec<Vec<usize>>,
     declaration: Option<usize>,

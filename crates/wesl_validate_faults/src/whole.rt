@@ -24,7 +24,7 @@ use wesl_tree_names::{Diagnostic, Error};
 use wesl_validate_builtins::Builtins;
 
 /// What is found in a module whose identifiers were found, each once.
-fn findings_of<'a>(
+pub(crate) fn findings_of<'a>(
     alloc: Global,
     unit: &'a TranslationUnit,
     found: &Identifiers<'_>,
