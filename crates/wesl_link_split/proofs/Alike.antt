@@ -1,5 +1,5 @@
 -- What names ask for in a module is the same by numbers and by texts: for paths and names under tests that agree.
-use Rattle.std.proofs.Common.{◌≡◌, Bool, true, false, List, [], ◌∷◌, map, refl, subst, ap, ap₂, ◌∙◌}
+use Rattle.std.proofs.Common.{◌≡◌, Bool, true, false, List, [], ◌∷◌, map, take, refl, subst, ap, ap₂, ◌∙◌}
 use Rattle.std.specs.Prelude.{nat_lt, not, ◌&&◌, ◌||◌, if◌then◌else◌}
 use Rattle.std.specs.List.{filter, list_any}
 use Rattle.wesl_cond_choices.specs.declared.place.Place.{Place}
@@ -43,6 +43,13 @@ module _ {X Y : Type 0} (T : X → Y → Type 0) where
   map_alike W f g e (x ∷ xs) (y ∷ ys) h = (e x y h.0, map_alike W f g e xs ys h.1)
   map_alike W f g e [] (y ∷ ys) h = absurd h
   map_alike W f g e (x ∷ xs) [] h = absurd h
+
+  -- the first of each, if there is one
+  pub first_alike : (xs : List X) (ys : List Y) → AreRelated T xs ys → AreRelated T (take 1 xs) (take 1 ys)
+  first_alike [] [] h = tt
+  first_alike (x ∷ xs) (y ∷ ys) h = (h.0, tt)
+  first_alike [] (y ∷ ys) h = absurd h
+  first_alike (x ∷ xs) [] h = absurd h
 
 if_equal : {X : Type 0} (a b : Bool) (x y u v : X) → a ≡ b → x ≡ u → y ≡ v → (if a then x else y) ≡ (if b then u else v)
 if_equal true true x y u v e f g = f
@@ -231,17 +238,20 @@ module _ {P N Q M : Type 0} (R : P → Q → Type 0) (S : N → M → Type 0) (a
     aim_same : (c : Binder P N) (d : Binder Q M) → Same c d → SameReference R S (split.aim_of a s c) (split.aim_of b t d)
     aim_same c d h = record { path = h.path; name = h.item; from = from_same c d h }
 
-    asked_of_same : (n : N) (x : M) → S n x → (here : Place) (cs es : List (Binder P N)) (ds fs : List (Binder Q M)) → AreSame cs ds → AreSame es fs → AreAsked (split.asked_of a s n here cs es) (split.asked_of b t x here ds fs)
-    asked_of_same n x at here (c ∷ cs) es (d ∷ ds) fs h k = (under_same n x at here s.own t.own same.own, tt)
-    asked_of_same n x at here [] es [] fs h k = map_alike Same (SameReference R S) (split.aim_of a s) (split.aim_of b t) aim_same (split.lowest a s es) (split.lowest b t fs) (lowest_same es fs k)
-    asked_of_same n x at here [] es (d ∷ ds) fs h k = absurd h
-    asked_of_same n x at here (c ∷ cs) es [] fs h k = absurd h
+    aimed_of_same : (n : N) (x : M) → S n x → (here : Place) (cs es : List (Binder P N)) (ds fs : List (Binder Q M)) → AreSame cs ds → AreSame es fs → AreAsked (split.aimed_of a s n here cs es) (split.aimed_of b t x here ds fs)
+    aimed_of_same n x at here (c ∷ cs) es (d ∷ ds) fs h k = (under_same n x at here s.own t.own same.own, tt)
+    aimed_of_same n x at here [] es [] fs h k = map_alike Same (SameReference R S) (split.aim_of a s) (split.aim_of b t) aim_same (split.lowest a s es) (split.lowest b t fs) (lowest_same es fs k)
+    aimed_of_same n x at here [] es (d ∷ ds) fs h k = absurd h
+    aimed_of_same n x at here (c ∷ cs) es [] fs h k = absurd h
+
+    aimed_same : (n : N) (x : M) → S n x → (here : Place) → AreAsked (split.aimed_plain a s n here) (split.aimed_plain b t x here)
+    aimed_same n x at here =
+        let seen : AreSame (split.seen a s n here) (split.seen b t x here) = seen_same n x at here in
+        aimed_of_same n x at here (filter (λ c. c.declares) (split.seen a s n here)) (split.seen a s n here) (filter (λ d. d.declares) (split.seen b t x here)) (split.seen b t x here)
+        (filter_alike Same (λ c. c.declares) (λ d. d.declares) (λ c d h. h.declares) (split.seen a s n here) (split.seen b t x here) seen) seen
 
     pub asked_same : (n : N) (x : M) → S n x → (here : Place) → AreAsked (split.asked_plain a s n here) (split.asked_plain b t x here)
-    asked_same n x at here =
-        let seen : AreSame (split.seen a s n here) (split.seen b t x here) = seen_same n x at here in
-        asked_of_same n x at here (filter (λ c. c.declares) (split.seen a s n here)) (split.seen a s n here) (filter (λ d. d.declares) (split.seen b t x here)) (split.seen b t x here)
-        (filter_alike Same (λ c. c.declares) (λ d. d.declares) (λ c d h. h.declares) (split.seen a s n here) (split.seen b t x here) seen) seen
+    asked_same n x at here = first_alike (SameReference R S) (split.aimed_plain a s n here) (split.aimed_plain b t x here) (aimed_same n x at here)
 
     references_test : (r u : Reference P N) (v w : Reference Q M) → SameReference R S r v → SameReference R S u w → split.same_reference a r u ≡ split.same_reference b v w
     references_test r u v w h k =
@@ -249,9 +259,9 @@ module _ {P N Q M : Type 0} (R : P → Q → Type 0) (S : N → M → Type 0) (a
 
     pub unclear_same : (n : N) (x : M) → S n x → (here : Place) → split.is_unclear_plain a s n here ≡ split.is_unclear_plain b t x here
     unclear_same n x at here =
-        let rs : List (Reference P N) = split.asked_plain a s n here in
-        let us : List (Reference Q M) = split.asked_plain b t x here in
-        let h : AreAsked rs us = asked_same n x at here in
+        let rs : List (Reference P N) = split.aimed_plain a s n here in
+        let us : List (Reference Q M) = split.aimed_plain b t x here in
+        let h : AreAsked rs us = aimed_same n x at here in
         ap₂ (λ y z. y || z) (two_same (split.seen a s n here) (split.seen b t x here) (seen_same n x at here))
         (any_alike (SameReference R S) (λ r. list_any (λ u. not (split.same_reference a r u)) rs) (λ v. list_any (λ w. not (split.same_reference b v w)) us)
         (λ r v k. any_alike (SameReference R S) (λ u. not (split.same_reference a r u)) (λ w. not (split.same_reference b v w)) (λ u w l. ap not (references_test r u v w k l)) rs us h) rs us h)

@@ -1,5 +1,5 @@
 -- The binders of each name, as one more is put to those of its name.
-use Rattle.std.proofs.Common.{◌≡◌, ◌⊎◌, inl, inr, ℕ, zero, suc, ◌<◌, Bool, true, false, ◌||◌, Some, List, [], ◌∷◌, ◌++◌, length, get_or, arith, refl, sym, subst, ap, ◌∙◌, append-nil}
+use Rattle.std.proofs.Common.{◌≡◌, ◌⊎◌, inl, inr, ℕ, zero, suc, ◌<◌, Bool, true, false, ◌||◌, Some, List, [], ◌∷◌, ◌++◌, map, length, get_or, arith, refl, sym, subst, ap, ◌∙◌, append-nil}
 use Rattle.std.specs.Prelude.{Contains, slice_get, set, if◌then◌else◌}
 use Rattle.std.specs.Global.{Vec}
 use Rattle.std.specs.List.{filter, list_any, position}
@@ -8,9 +8,10 @@ use Rattle.std.proofs.lemmas.List.Folds.{list_any-append}
 use Rattle.std.proofs.lemmas.List.Quantifiers.{position-Some}
 use Rattle.wesl_tree_base.specs.declared.ids.NameId.{NameId}
 use Rattle.wesl_link_symbols.specs.declared.ids.PathId.{PathId}
-use Rattle.wesl_link_split.specs.Grouped.{ids, same_id, AreGrouped}
+use Rattle.wesl_link_split.specs.Grouped.{ids, same_id, AreGrouped, facts_of}
 use Rattle.wesl_link_split.specs.Split as split
 use Rattle.wesl_link_split.specs.Split.{Binder}
+use Rattle.wesl_link_split.specs.declared.binders.Facts.{Facts}
 use Rattle.wesl_tree_interner.proofs.Different.{added, get_cases, none_passes}
 use Rattle.wesl_link_split.proofs.Targets.{found_true, any_there, same_bool}
 
@@ -264,7 +265,7 @@ module _ (bs : List Ours) (ns : List NameId) (gs : List Group) (h : AreGrouped b
               from (inl none) v = absurd (let w : split.has_two_targets ids [] ≡ true = subst (λ (l : List Ours). split.has_two_targets ids l ≡ true) none v in let z : ⊥ = cc in z)
               from (inr x) v = x
 
-  pub any_group : list_any group_differs gs ≡ split.has_split ids bs
+  any_group : list_any group_differs gs ≡ split.has_split ids bs
   any_group = same_bool (list_any group_differs gs) (split.has_split ids bs) there back
     where
       there : list_any group_differs gs ≡ true → split.has_split ids bs ≡ true
@@ -278,3 +279,33 @@ module _ (bs : List Ours) (ns : List NameId) (gs : List Group) (h : AreGrouped b
           let (b, d, u) = any_there (λ x. split.is_split ids bs x.bound) bs t in
           let (g, c, is) = group_of b d in
           found_true group_differs gs g c (subst (λ (l : List Ours). split.has_two_targets ids l ≡ true) (sym is) u)
+
+  -- ---- what is asked of the binders of each name
+
+  abbrev facts_in : Group → Facts
+  facts_in g = facts_of g.items
+
+  mapped_get : (xs : List Group) (i : ℕ) (x : Group) (y : Facts) → slice_get xs i ≡ Some x → y ≡ get_or (map facts_in xs) i y → y ≡ facts_in x
+  mapped_get [] i x y held e = absurd (let z : ⊥ = cc in z)
+  mapped_get (z ∷ xs) zero x y held e = let same : z ≡ x = cc in e ∙ ap facts_in same
+  mapped_get (z ∷ xs) (suc i) x y held e = mapped_get xs i x y held e
+
+  facts_long : (xs : List Group) → length (map facts_in xs) ≡ length xs
+  facts_long [] = refl
+  facts_long (x ∷ xs) = ap suc (facts_long xs)
+
+  module _ (fs : List Facts) (are : fs ≡ map facts_in gs) (n : NameId) (i : ℕ) (named : slice_get ns i ≡ Some n) where
+    pub facts_below : i < length fs
+    facts_below = let long : length fs ≡ length gs = ap length are ∙ facts_long gs in omega (arith, long, h.long, get_below ns i n named)
+
+    pub facts_at : (y : Facts) → y ≡ get_or fs i y → y ≡ facts_of (split.of_name ids n bs)
+    facts_at y e =
+        let (g, held) = some_at gs i (omega (arith, h.long, get_below ns i n named)) in
+        mapped_get gs i g y held (e ∙ ap (λ xs. get_or xs i y) are) ∙ ap facts_of (h.each i n g named held)
+
+  any_facts : (xs : List Group) → list_any (λ f. f.is_split) (map facts_in xs) ≡ list_any group_differs xs
+  any_facts [] = refl
+  any_facts (x ∷ xs) = ap (λ b. group_differs x || b) (any_facts xs)
+
+  pub any_fact : list_any (λ f. f.is_split) (map facts_in gs) ≡ split.has_split ids bs
+  any_fact = any_facts gs ∙ any_group

@@ -5,3 +5,4 @@ pub mod Targets
 pub mod Grouping
 pub mod Orders
 pub mod Unsplit
+pub mod Once

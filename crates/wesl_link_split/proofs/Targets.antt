@@ -56,7 +56,7 @@ same_bool false false f g = refl
 same_bool true false f g = sym (f refl)
 same_bool false true f g = g refl
 
-both_true : (a b : Bool) → (a && b) ≡ true → (a ≡ true) × (b ≡ true)
+pub both_true : (a b : Bool) → (a && b) ≡ true → (a ≡ true) × (b ≡ true)
 both_true true true h = (refl, refl)
 both_true true false h = absurd (let z : ⊥ = cc in z)
 both_true false b h = absurd (let z : ⊥ = cc in z)
@@ -77,14 +77,14 @@ not_any p xs h x c = by (p x) refl
 
 -- ---- the tests of numbers
 
+pub positive : (b : Bool) → not b ≡ false → b ≡ true
+positive true e = refl
+positive false e = absurd (let z : ⊥ = cc in z)
+
 -- by a test of one and another element, whether any two differ
 module _ {X : Type 0} (t : X → X → Bool) (equal : (x y z : X) → t x y ≡ true → t x z ≡ true → t y z ≡ true) where
   pub unlike_by_first : (xs : List X) (x : X) → list_any (λ y. not (t x y)) xs ≡ false → unlike t xs ≡ false
   unlike_by_first xs x h = unlike_none t equal xs x (λ y c. positive (t x y) (not_any (λ y. not (t x y)) xs h y c))
-    where
-      positive : (b : Bool) → not b ≡ false → b ≡ true
-      positive true e = refl
-      positive false e = absurd (let z : ⊥ = cc in z)
 
 id_equal : (k l m : ℕ) → (k == l) ≡ true → (k == m) ≡ true → (l == m) ≡ true
 id_equal k l m e f = (Decides-eqb l m).1 (sym ((Decides-eqb k l).0 e) ∙ (Decides-eqb k m).0 f)
@@ -98,7 +98,7 @@ targets_equal x y z e f =
     let (c, d) = both_true (x.path.0 == z.path.0) (x.item.0 == z.item.0) f in
     all_true (y.path.0 == z.path.0) (y.item.0 == z.item.0) (id_equal x.path.0 y.path.0 z.path.0 a c) (id_equal x.item.0 y.item.0 z.item.0 b d)
 
-place_is : (p q : Place) → same_place p q ≡ true → p ≡ q
+pub place_is : (p q : Place) → same_place p q ≡ true → p ≡ q
 place_is places.Always places.Always e = refl
 place_is (places.Import j) (places.Import k) e = ap (λ i. places.Import i) ((Decides-eqb j k).0 e)
 place_is (places.Declaration j) (places.Declaration k) e = ap (λ i. places.Declaration i) ((Decides-eqb j k).0 e)

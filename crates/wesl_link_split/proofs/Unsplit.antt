@@ -1,6 +1,6 @@
 -- What names ask for in a module in which each name has one target.
-use Rattle.std.proofs.Common.{◌≡◌, zero, suc, Bool, true, false, ◌||◌, List, [], ◌∷◌, map, All, get_or, arith, refl, sym, subst, ap, ap₂, ◌∙◌}
-use Rattle.std.specs.Prelude.{Contains, nat_lt, not, ◌&&◌, ◌==◌, if◌then◌else◌}
+use Rattle.std.proofs.Common.{◌≡◌, zero, suc, Bool, true, false, ◌||◌, Some, None, List, [], ◌∷◌, map, take, All, get_or, arith, refl, sym, subst, ap, ap₂, ◌∙◌}
+use Rattle.std.specs.Prelude.{Contains, nat_lt, not, ◌&&◌, ◌==◌, if◌then◌else◌, slice_get}
 use Rattle.std.specs.List.{filter, list_any}
 use Rattle.std.proofs.lemmas.Bool.Decides.{Decides-eqb}
 use Rattle.wesl_cond_choices.specs.declared.place.Place.{Place}
@@ -8,13 +8,14 @@ use Rattle.wesl_cond_choices.specs.declared.place.Place.TheVariants.{Always}
 use Rattle.wesl_tree_base.specs.declared.ids.NameId.{NameId}
 use Rattle.wesl_link_symbols.specs.declared.ids.PathId.{PathId}
 use Rattle.wesl_link_symbols.specs.declared.symbols.Reference.{Reference}
-use Rattle.wesl_link_split.specs.Grouped.{ids, same_id, has_declaration}
+use Rattle.wesl_link_split.specs.Grouped.{ids, same_id, has_declaration, first_import, IsStart}
 use Rattle.wesl_link_split.specs.ScopeView.{whole}
 use Rattle.wesl_link_split.specs.Split as split
 use Rattle.wesl_link_split.specs.Split.{Binder, Scope}
+use Rattle.wesl_link_split.specs.declared.binders.Start.TheVariants as starts
 use Rattle.wesl_link_split.proofs.Grouping.{id_is}
 use Rattle.wesl_link_split.proofs.Orders.{itself}
-use Rattle.wesl_link_split.proofs.Targets.{none_false, not_any, contains_at}
+use Rattle.wesl_link_split.proofs.Targets.{none_false, not_any, positive, contains_at}
 
 abbrev Ours : Type 0
 Ours = Binder PathId NameId
@@ -56,10 +57,6 @@ filter_some {X} p (x ∷ xs) = by (p x) (filter_some p xs)
 and_false : (a : Bool) → (a && false) ≡ false
 and_false true = refl
 and_false false = refl
-
-positive : (b : Bool) → not b ≡ false → b ≡ true
-positive true e = refl
-positive false e = absurd (let z : ⊥ = cc in z)
 
 -- ---- no name has two targets
 
@@ -108,10 +105,10 @@ module _ (s : Scope PathId NameId) (h : split.has_split ids s.binders ≡ false)
   under_always : (here : Place) → split.under ids s n here s.own ≡ record { path = s.own; name = n; from = Always }
   under_always here = ap (λ x. record { path = s.own; name = n; from = if x then here else Always }) (own_unsplit s.own n)
 
-  pub asked_whole : (here : Place) → split.asked_plain ids s n here ≡ whole s n
-  asked_whole here = ap (λ bs. split.asked_of ids s n here (filter (λ b. b.declares) bs) bs) (all_seen here) ∙ by (filter (λ b. b.declares) named) refl
+  pub aimed_whole : (here : Place) → split.aimed_plain ids s n here ≡ whole s n
+  aimed_whole here = ap (λ bs. split.aimed_of ids s n here (filter (λ b. b.declares) bs) bs) (all_seen here) ∙ by (filter (λ b. b.declares) named) refl
     where
-      by : (ds : List Ours) → filter (λ b. b.declares) named ≡ ds → split.asked_of ids s n here ds named ≡ whole s n
+      by : (ds : List Ours) → filter (λ b. b.declares) named ≡ ds → split.aimed_of ids s n here ds named ≡ whole s n
       by [] e =
           ap (map (split.aim_of ids s)) (all_lowest named)
           ∙ (aims_plain named ∙ ap (λ x. if x then record { path = s.own; name = n; from = Always } ∷ [] else map plain_aim named) (sym ((filter_some (λ b. b.declares) named).0 e)))
@@ -119,7 +116,7 @@ module _ (s : Scope PathId NameId) (h : split.has_split ids s.binders ≡ false)
           ap (λ (r : Reference PathId NameId). r ∷ []) (under_always here)
           ∙ ap (λ x. if x then record { path = s.own; name = n; from = Always } ∷ [] else map plain_aim named) (sym ((filter_some (λ b. b.declares) named).1 d ds e))
 
-  -- what it asks for is one thing
+  -- what it leads to is one thing
   one_target : (b c : Ours) → Contains named b → Contains named c → split.same_target ids b c ≡ true
   one_target b c i j =
       positive (split.same_target ids b c)
@@ -154,22 +151,22 @@ module _ (s : Scope PathId NameId) (h : split.has_split ids s.binders ≡ false)
           (λ x i. none_false (λ y. not (split.same_reference ids x y)) (map plain_aim named) (λ y j. ap not (one_aim x y i j)))
 
   pub never_unclear : (here : Place) → split.is_unclear_plain ids s n here ≡ false
-  never_unclear here = ap₂ (λ x y. x || y) (ap (split.has_two_targets ids) (all_seen here) ∙ unsplit n) (ap differ (asked_whole here) ∙ whole_alike)
+  never_unclear here = ap₂ (λ x y. x || y) (ap (split.has_two_targets ids) (all_seen here) ∙ unsplit n) (ap differ (aimed_whole here) ∙ whole_alike)
 
--- ---- what a name asks for, by whether a declaration of it is seen
+-- ---- what a name leads to, by whether a declaration of it is seen
 
 module _ (s : Scope PathId NameId) (n : NameId) (here : Place) (bs : List Ours) where
-  pub asked_declared : has_declaration bs ≡ true → split.asked_of ids s n here (filter (λ b. b.declares) bs) bs ≡ split.under ids s n here s.own ∷ []
-  asked_declared h = by (filter (λ b. b.declares) bs) refl
+  pub aimed_declared : has_declaration bs ≡ true → split.aimed_of ids s n here (filter (λ b. b.declares) bs) bs ≡ split.under ids s n here s.own ∷ []
+  aimed_declared h = by (filter (λ b. b.declares) bs) refl
     where
-      by : (ds : List Ours) → filter (λ b. b.declares) bs ≡ ds → split.asked_of ids s n here ds bs ≡ split.under ids s n here s.own ∷ []
+      by : (ds : List Ours) → filter (λ b. b.declares) bs ≡ ds → split.aimed_of ids s n here ds bs ≡ split.under ids s n here s.own ∷ []
       by [] e = absurd (let f : has_declaration bs ≡ false = (filter_some (λ b. b.declares) bs).0 e in let z : ⊥ = cc in z)
       by (d ∷ ds) e = refl
 
-  pub asked_imported : has_declaration bs ≡ false → split.asked_of ids s n here (filter (λ b. b.declares) bs) bs ≡ map (split.aim_of ids s) (split.lowest ids s bs)
-  asked_imported h = by (filter (λ b. b.declares) bs) refl
+  pub aimed_imported : has_declaration bs ≡ false → split.aimed_of ids s n here (filter (λ b. b.declares) bs) bs ≡ map (split.aim_of ids s) (split.lowest ids s bs)
+  aimed_imported h = by (filter (λ b. b.declares) bs) refl
     where
-      by : (ds : List Ours) → filter (λ b. b.declares) bs ≡ ds → split.asked_of ids s n here ds bs ≡ map (split.aim_of ids s) (split.lowest ids s bs)
+      by : (ds : List Ours) → filter (λ b. b.declares) bs ≡ ds → split.aimed_of ids s n here ds bs ≡ map (split.aim_of ids s) (split.lowest ids s bs)
       by [] e = refl
       by (d ∷ ds) e = absurd (let t : has_declaration bs ≡ true = (filter_some (λ b. b.declares) bs).1 d ds e in let z : ⊥ = cc in z)
 
@@ -182,3 +179,43 @@ seen_named s n here k d h =
     let (held, t) = filter_in (λ b. split.sees ids s here (split.place_at ids s n b.stands)) (split.of_name ids n s.binders) x c in
     let (there, u) = filter_in (λ b. same_id n b.bound) s.binders x held in
     sym (id_is n x.bound u)
+
+-- ---- the imports of a name with one target, and with what a path begins
+
+module _ (s : Scope PathId NameId) (n : NameId) (one : split.is_split ids s.binders n ≡ false) (here : Place) where
+  abbrev is_import : Ours → Bool
+  is_import b = not b.declares
+
+  seen_anywhere : split.seen ids s n here ≡ split.of_name ids n s.binders
+  seen_anywhere =
+      filter_all (λ b. split.sees ids s here (split.place_at ids s n b.stands)) (split.of_name ids n s.binders)
+      (λ b. ap (λ x. split.sees ids s here (if x then b.stands else Always)) one)
+
+  imports_anywhere : split.seen_imports ids s n here ≡ filter is_import (split.of_name ids n s.binders)
+  imports_anywhere = ap (filter is_import) seen_anywhere
+
+  -- some of them have no more targets than all
+  imports_alike : split.has_two_targets ids (split.seen_imports ids s n here) ≡ false
+  imports_alike =
+      ap (split.has_two_targets ids) imports_anywhere
+      ∙ none_false (λ b. list_any (λ c. not (split.same_target ids b c)) (filter is_import (split.of_name ids n s.binders))) (filter is_import (split.of_name ids n s.binders))
+      (λ b i. none_false (λ c. not (split.same_target ids b c)) (filter is_import (split.of_name ids n s.binders)) (λ c j. alike b c (filter_in is_import (split.of_name ids n s.binders) b i).0 (filter_in is_import (split.of_name ids n s.binders) c j).0))
+    where
+      alike : (b c : Ours) → Contains (split.of_name ids n s.binders) b → Contains (split.of_name ids n s.binders) c → not (split.same_target ids b c) ≡ false
+      alike b c i j =
+          not_any (λ d. not (split.same_target ids b d)) (split.of_name ids n s.binders)
+          (not_any (λ x. list_any (λ d. not (split.same_target ids x d)) (split.of_name ids n s.binders)) (split.of_name ids n s.binders) one b i) c j
+
+  pub start_one : (b : Ours) → Some b ≡ first_import (split.of_name ids n s.binders) → IsStart (starts.One b) (split.seen_imports ids s n here)
+  start_one b e = (imports_alike, ap (take 1) imports_anywhere ∙ by (filter is_import (split.of_name ids n s.binders)) e)
+    where
+      by : (xs : List Ours) → Some b ≡ slice_get xs 0 → take 1 xs ≡ b ∷ []
+      by [] f = absurd (let z : ⊥ = cc in z)
+      by (x ∷ xs) f = let same : x ≡ b = cc in ap (λ y. y ∷ []) same
+
+  pub start_none : None ≡ first_import (split.of_name ids n s.binders) → IsStart starts.Nothing (split.seen_imports ids s n here)
+  start_none e = imports_anywhere ∙ by (filter is_import (split.of_name ids n s.binders)) e
+    where
+      by : (xs : List Ours) → None ≡ slice_get xs 0 → xs ≡ []
+      by [] f = refl
+      by (x ∷ xs) f = absurd (let z : ⊥ = cc in z)

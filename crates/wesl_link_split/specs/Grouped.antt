@@ -1,7 +1,7 @@
 -- The binders of a module by numbers, as the code keeps them.
-use Rattle.std.specs.Prelude.{◌≡◌, ◌⊎◌, ◌≤◌, ◌==◌, ◌&&◌, ◌++◌, ℕ, Bool, true, not, if◌then◌else◌, List, [], ◌∷◌, Some, Contains, length, slice_get}
+use Rattle.std.specs.Prelude.{◌≡◌, ◌⊎◌, ◌≤◌, ◌==◌, ◌&&◌, ◌++◌, ℕ, Bool, true, not, false, if◌then◌else◌, Option, List, [], ◌∷◌, Some, Contains, length, slice_get, take}
 use Rattle.std.specs.Global.{Vec}
-use Rattle.std.specs.List.{list_any}
+use Rattle.std.specs.List.{filter, list_any}
 use Rattle.wesl_cond_choices.specs.declared.place.Place.{Place}
 use Rattle.wesl_link_symbols.specs.declared.ids.PathId.{PathId}
 use Rattle.wesl_tree_base.specs.declared.ids.NameId.{NameId}
@@ -9,8 +9,11 @@ use Rattle.wesl_link_symbols.specs.declared.symbols.Reference.{Reference}
 use Rattle.wesl_tree_interner.specs.Different.{AreDifferent}
 use Rattle.wesl_link_split.specs.Split as split
 use Rattle.wesl_link_split.specs.Split.{Binder, Equality}
+use Rattle.wesl_link_split.specs.declared.binders.Facts.{Facts}
 use Rattle.wesl_link_split.specs.declared.binders.Finding.{Finding}
 use Rattle.wesl_link_split.specs.declared.binders.Finding.TheVariants as findings
+use Rattle.wesl_link_split.specs.declared.binders.Start.{Start}
+use Rattle.wesl_link_split.specs.declared.binders.Start.TheVariants as starts
 
 abbrev pub same_id : NameId → NameId → Bool
 same_id m n = m.0 == n.0
@@ -26,6 +29,19 @@ finding_view (findings.One p n sight) = split.one p n sight.items
 
 abbrev pub has_declaration : List (Binder PathId NameId) → Bool
 has_declaration bs = list_any (λ b. b.declares) bs
+
+abbrev pub first_import : List (Binder PathId NameId) → Option (Binder PathId NameId)
+first_import bs = slice_get (filter (λ b. not b.declares) bs) 0
+
+-- what is asked of the binders of a name again and again
+abbrev pub facts_of : List (Binder PathId NameId) → Facts
+facts_of bs = record { is_split = split.has_two_targets ids bs; declares = has_declaration bs; import = first_import bs }
+
+-- with what a path begins that begins with the name of these imports
+abbrev pub IsStart : Start → List (Binder PathId NameId) → Type 0
+IsStart starts.Nothing bs = bs ≡ []
+IsStart starts.Several bs = split.has_two_targets ids bs ≡ true
+IsStart (starts.One b) bs = (split.has_two_targets ids bs ≡ false) × (take 1 bs ≡ b ∷ [])
 
 -- the binder, if it is kept
 abbrev pub kept_if : Bool → Binder PathId NameId → List (Binder PathId NameId)

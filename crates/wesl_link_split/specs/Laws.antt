@@ -1,16 +1,18 @@
--- What names ask for in a module that is known by numbers is what they ask for by its paths and texts.
-use Rattle.std.specs.Prelude.{◌≡◌, List}
+-- What names ask for in a module that is known by numbers is what they ask for by its paths and texts; and they ask once for
+-- what they lead to.
+use Rattle.std.specs.Prelude.{◌≡◌, ◌↔◌, false, List, [], ◌∷◌, Contains}
 use Rattle.wesl_tree_names.specs.Path.{Text, Path}
 use Rattle.wesl_cond_choices.specs.declared.place.Place.{Place}
 use Rattle.wesl_link_symbols.specs.declared.ids.PathId.{PathId}
 use Rattle.wesl_tree_base.specs.declared.ids.NameId.{NameId}
 use Rattle.wesl_link_symbols.specs.declared.symbols.Import.{Import}
+use Rattle.wesl_link_symbols.specs.declared.symbols.Reference.{Reference}
 use Rattle.wesl_tree_interner.specs.Different.{AreDifferent}
 use Rattle.wesl_link_split.specs.Grouped.{ids}
 use Rattle.wesl_link_split.specs.Numbering.{Numbering, NameAt, PathAt, IsNumberedImport, IsNumberedReference, AreNumberedReferences, AreNumberedBinders, IsNumberedScope}
 use Rattle.wesl_link_split.specs.Split as split
 use Rattle.wesl_link_split.specs.Split.{Binder, Scope}
-use Rattle.wesl_link_split.specs.Uses.{texts}
+use Rattle.wesl_link_split.specs.Uses.{texts, module_in_place, aims}
 
 module _ (k : Numbering) (s : Scope PathId NameId) (t : Scope Path Text) where
   -- what a name asks for that is used at a place, in the module `s` by its number, and in `t` by its text
@@ -38,3 +40,15 @@ abbrev pub NumbersDifferAlike : Type 0
 NumbersDifferAlike =
     (k : Numbering) → AreDifferent k.names → AreDifferent k.paths
     → (bs : List (Binder PathId NameId)) (cs : List (Binder Path Text)) → AreNumberedBinders k bs cs → split.has_two_targets ids bs ≡ split.has_two_targets texts cs
+
+-- a name that stands for one thing asks for all that it leads to
+abbrev pub AsksForAll : Type 0
+AsksForAll =
+    (s : Scope Path Text) (n : Text) (here : Place) → split.is_unclear_plain texts s n here ≡ false
+    → (r : Reference Path Text) → Contains (split.asked_plain texts s n here) r ↔ Contains (split.aimed_plain texts s n here) r
+
+-- a path that begins with the name of imports with one target aims at what it does by each of them
+abbrev pub AimsAsEach : Type 0
+AimsAsEach =
+    (own p : Path) (bs : List (Binder Path Text)) → split.has_two_targets texts bs ≡ false
+    → (b : Binder Path Text) → Contains bs b → aims own bs p ≡ module_in_place p b ∷ []

@@ -11,7 +11,7 @@ use Rattle.wesl_link_split.specs.declared.split.Scope.{Scope}
 abbrev pub scope_view : Scope → split.Scope PathId NameId
 scope_view s = record { own = s.own; binders = s.binders.items; alive = s.alive }
 
--- what a name without a path asks for where no name has several targets
+-- what a name without a path leads to where no name has several targets
 abbrev pub whole : split.Scope PathId NameId → NameId → List (Reference PathId NameId)
 whole s n =
     if has_declaration (split.of_name ids n s.binders) then record { path = s.own; name = n; from = Always } ∷ []

@@ -1,6 +1,6 @@
 -- Names with several targets in one module, and what its names ask for (WESL, "Imports" and "ConditionalTranslation"), for any
 -- type of paths and any type of names.
-use Rattle.std.specs.Prelude.{ℕ, nat_lt, Bool, true, false, not, ◌&&◌, ◌||◌, if◌then◌else◌, Option, Some, None, List, [], ◌∷◌, map}
+use Rattle.std.specs.Prelude.{ℕ, nat_lt, Bool, true, false, not, ◌&&◌, ◌||◌, if◌then◌else◌, Option, Some, None, List, [], ◌∷◌, map, take}
 use Rattle.std.specs.List.{filter, list_any}
 use Rattle.wesl_cond_choices.specs.declared.place.Place.{Place}
 use Rattle.wesl_cond_choices.specs.declared.place.Place.TheVariants.{Always}
@@ -129,17 +129,21 @@ module _ {P N : Type 0} (same : Equality P N) where
     abbrev pub under : N → Place → P → Reference P N
     under n here p = record { path = p; name = n; from = asked_at p n here }
 
-    -- a name without a path: the module's own declaration, else what its imports aim at, of all that is seen
-    abbrev pub asked_of : N → Place → List (Binder P N) → List (Binder P N) → List (Reference P N)
-    asked_of n here (d ∷ ds) bs = under n here s.own ∷ []
-    asked_of n here [] bs = map aim_of (lowest bs)
+    -- what a name without a path leads to: to the module's own declaration, else to what its imports aim at, of all that is seen
+    abbrev pub aimed_of : N → Place → List (Binder P N) → List (Binder P N) → List (Reference P N)
+    aimed_of n here (d ∷ ds) bs = under n here s.own ∷ []
+    aimed_of n here [] bs = map aim_of (lowest bs)
 
-    abbrev pub asked_plain : N → Place → List (Reference P N)
-    asked_plain n here = asked_of n here (filter (λ b. b.declares) (seen n here)) (seen n here)
+    abbrev pub aimed_plain : N → Place → List (Reference P N)
+    aimed_plain n here = aimed_of n here (filter (λ b. b.declares) (seen n here)) (seen n here)
 
     -- it stands for two things
     abbrev pub is_unclear_plain : N → Place → Bool
-    is_unclear_plain n here = has_two_targets (seen n here) || list_any (λ a. list_any (λ b. not (same_reference a b)) (asked_plain n here)) (asked_plain n here)
+    is_unclear_plain n here = has_two_targets (seen n here) || list_any (λ a. list_any (λ b. not (same_reference a b)) (aimed_plain n here)) (aimed_plain n here)
+
+    -- what it asks for where it stands for one thing: for this once, however many imports aim at it
+    abbrev pub asked_plain : N → Place → List (Reference P N)
+    asked_plain n here = take 1 (aimed_plain n here)
 
     -- the imports of a name that are seen, with which a path may begin
     abbrev pub seen_imports : N → Place → List (Binder P N)

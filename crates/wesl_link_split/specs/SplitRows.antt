@@ -38,6 +38,10 @@ through = record { own = root_path; binders = g1 ∷ g2 ∷ import_at g at_p f 2
 abbrev pub through_f : Path
 through_f = record { origin = from_package f; components = [] }
 
+-- `import p::f;` twice
+abbrev pub twice : Scope Path Text
+twice = record { own = root_path; binders = import_at f at_p f 0 ∷ import_at f at_p f 1 ∷ []; alive = [] }
+
 pub record SplitRows : Type 0 where
   pub split : is_split texts either.binders f ≡ true
   pub under : plain_use either (Name 10) f ≡ refers f (record { path = at_p; name = f; from = Always } ∷ [])
@@ -49,4 +53,6 @@ pub record SplitRows : Type 0 where
   pub first_order : order_of texts (finding texts through g1) ≡ 2
   pub second_order : order_of texts (finding texts through g2) ≡ 1
   pub second_from : from_of texts through g2 ≡ Import 1
+  pub asked_once : plain_use twice (Name 7) f ≡ refers f (record { path = at_p; name = f; from = Always } ∷ [])
+  pub path_once : path_use twice (Name 7) through_f g ≡ refers g (record { path = record { origin = root_path.origin; components = (112 ∷ []) ∷ f ∷ [] }; name = g; from = Always } ∷ [])
   pub asked : plain_use through (Name 7) f ≡ refers f (record { path = root_path; name = g; from = Import 1 } ∷ [])

@@ -1,5 +1,5 @@
 -- What the identifiers of a declaration are to a link (WGSL, "Declaration and Scope"; WESL, "Imports").
-use Rattle.std.specs.Prelude.{ℕ, Bool, true, false, List, [], ◌∷◌, map, bytes_eq}
+use Rattle.std.specs.Prelude.{ℕ, Bool, true, false, List, [], ◌∷◌, map, take, bytes_eq}
 use Rattle.wesl_tree_names.specs.Path.{Text, Origin, from_package, Path, push, extend, join}
 use Rattle.wesl_tree_names.specs.PathOrder.{same_path}
 use Rattle.wesl_cond_choices.specs.declared.place.Place.{Place}
@@ -39,10 +39,10 @@ abbrev pub or_else : List Path → Path → List Path
 or_else [] p = p ∷ []
 or_else (q ∷ qs) p = q ∷ qs
 
--- The modules that a path aims at in the module at `own`: the items of the imports of the name that it begins with in place
--- of this name, and where there is none, the path joined to that of the module.
+-- The module that a path aims at in the module at `own`: the item of the first import of the name that it begins with in
+-- place of this name, since all its imports aim at one, and where there is none, the path joined to that of the module.
 abbrev pub aims : Path → List (Binder Path Text) → Path → List Path
-aims own imports p = or_else (map (module_in_place p) imports) (join own p)
+aims own imports p = or_else (take 1 (map (module_in_place p) imports)) (join own p)
 
 -- ---- what a name asks for that is used at `here`
 

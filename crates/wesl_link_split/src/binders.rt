@@ -155,6 +155,75 @@ pub fn has_declaration(binders: &[Binder<PathId, NameId>]) -> bool
     false
 }
 
+/// What is asked of the binders of a name again and again.
+#[derive(Copy, Drop)]
+pub(crate) struct Facts {
+    /// Whether two of them aim at different things.
+    pub(crate) is_split: bool,
+    /// Whether one of them is a declaration.
+    pub(crate) declares: bool,
+    /// The first of them that is an import.
+    pub(crate) import: Option<Binder<PathId, NameId>>,
+}
+
+// By hand, since a derived copy asks each part for one, which may be refused.
+impl Clone for Facts {
+    ghost is_clone = { λ old new. new ≡ old };
+
+    ghost is_infallible = { λ _. ⊤ };
+
+    fn clone(&self) -> Result<Facts, AllocError> {
+        Ok(*self)
+    }
+}
+
+/// The first of these binders that is an import.
+fn first_import(binders: &[Binder<PathId, NameId>]) -> Option<Binder<PathId, NameId>>
+    ensures { result ≡ grouped.first_import binders.now }
+{
+    for binder in binders {
+        if !binder.declares {
+            return Some(*binder);
+        }
+    }
+    None
+}
+
+/// What is asked of these binders of a name.
+pub(crate) fn facts_of(binders: &[Binder<PathId, NameId>]) -> Facts
+    ensures { result ≡ grouped.facts_of binders.now }
+{
+    Facts {
+        is_split: has_two_targets(binders),
+        declares: has_declaration(binders),
+        import: first_import(binders),
+    }
+}
+
+/// With what a path begins that begins with a name of a module.
+#[derive(Drop)]
+pub enum Start {
+    /// No import of the name is seen.
+    Nothing,
+    /// Imports with several targets are seen.
+    Several,
+    /// This import is the first that is seen, and all others aim at what it does.
+    One(Binder<PathId, NameId>),
+}
+
+/// With what a path begins, by the imports that are seen of the name with which it begins.
+pub(crate) fn start_of(imports: &[Binder<PathId, NameId>]) -> Start
+    ensures { grouped.IsStart result imports.now }
+{
+    if has_two_targets(imports) {
+        return Start::Several;
+    }
+    match imports.first() {
+        Some(import) => Start::One(*import),
+        None => Start::Nothing,
+    }
+}
+
 /// The lower of two numbers.
 fn lower(a: usize, b: usize) -> usize
     ensures { result ≡ (if nat_lt b a then b else a) }

@@ -1,5 +1,5 @@
 //! Laws and rows of split names, each the contract of a function that does nothing.
-ghost use Rattle.wesl_link_split.specs.Laws.{NumbersAskAlike, NumbersDifferAlike};
+ghost use Rattle.wesl_link_split.specs.Laws.{NumbersAskAlike, NumbersDifferAlike, AsksForAll, AimsAsEach};
 ghost use Rattle.wesl_link_split.specs.SplitRows.{SplitRows};
 
 /// The rows of split names hold.
@@ -11,4 +11,10 @@ pub fn law_of_rows()
 pub fn law_of_numbers()
     ensures names { NumbersAskAlike }
     ensures targets { NumbersDifferAlike }
+{}
+
+/// Of several equal things that a name leads to, it asks for one, and so for all of them.
+pub fn law_of_equals()
+    ensures names { AsksForAll }
+    ensures paths { AimsAsEach }
 {}

@@ -1,13 +1,14 @@
 //! Names with several targets in one module, and what its names ask for, by numbers (WESL, "Imports" and
 //! "ConditionalTranslation").
-ghost use Rattle.std.specs.Prelude.{◌≡◌, ◌++◌, [], length, map, IfOk, OnOk, All};
+ghost use Rattle.std.specs.Prelude.{◌≡◌, ◌++◌, [], length, map, take, IfOk, OnOk, All};
 ghost use Rattle.std.specs.List.{list_any};
-ghost use Rattle.wesl_link_split.specs.Grouped.{ids, finding_view, AreGrouped, GroupsNext, AddsUnless};
+ghost use Rattle.wesl_link_split.specs.Grouped as listed;
+ghost use Rattle.wesl_link_split.specs.Grouped.{ids, finding_view, AreGrouped, GroupsNext, IsStart, AddsUnless};
 ghost use Rattle.wesl_link_split.specs.Split as split;
 
 use crate::binders::{
-    Binder, Finding, are_unlike, asks_for, binder_of, has_declaration, has_two_targets, keep,
-    keep_aim, least_order, placed,
+    Binder, Facts, Finding, Start, are_unlike, asks_for, binder_of, facts_of, has_declaration,
+    has_two_targets, keep, keep_aim, least_order, placed, start_of,
 };
 use indexmap::IndexSet;
 use std::alloc::{AllocError, Global};
@@ -37,16 +38,17 @@ fn add_to_group(
     Ok(())
 }
 
-/// Adds references.
-fn add_references(
+/// Adds the first of these references, if there is one.
+fn add_first(
     found: &mut Vec<Reference<PathId, NameId>>,
     more: &[Reference<PathId, NameId>],
 ) -> Result<(), AllocError>
-    ensures { OnOk result (found.new.items ≡ found.old.items ++ more.now) }
+    ensures { OnOk result (found.new.items ≡ found.old.items ++ take 1 more.now) }
 {
-    for reference in more {
-        found.push(*reference)?;
-    }
+    let Some(reference) = more.first() else {
+        return Ok(());
+    };
+    found.push(*reference)?;
     Ok(())
 }
 
@@ -56,12 +58,14 @@ fn add_references(
 pub struct Scope {
     own: PathId,
     binders: Vec<Binder<PathId, NameId>>,
-    // Each bound name once, and of each the binders, in order.
+    // Each bound name once, of each the binders, in order, and what is asked of these.
     names: IndexSet<NameId>,
     groups: Vec<Vec<Binder<PathId, NameId>>>,
+    facts: Vec<Facts>,
     is_any_split: bool,
     alive: Alive,
     pub ghost grouped: { AreGrouped binders.items names.keys groups.items },
+    pub ghost facts_are: { facts.items ≡ map (λ g. listed.facts_of g.items) groups.items },
     pub ghost split: { is_any_split ≡ split.has_split ids binders.items },
 }
 
@@ -82,12 +86,26 @@ fn add_groups(
     Ok(())
 }
 
-/// Whether the binders of some name have several targets.
-fn is_any_split(groups: &[Vec<Binder<PathId, NameId>>]) -> bool
-    ensures { result ≡ list_any (λ g. split.has_two_targets ids g.items) groups.now }
+/// Adds what is asked of the binders of each name.
+fn add_facts(
+    facts: &mut Vec<Facts>,
+    groups: &[Vec<Binder<PathId, NameId>>],
+) -> Result<(), AllocError>
+    requires { facts.old.items ≡ [] }
+    ensures { OnOk result (facts.new.items ≡ map (λ g. listed.facts_of g.items) groups.now) }
 {
     for group in groups {
-        if has_two_targets(group) {
+        facts.push(facts_of(group))?;
+    }
+    Ok(())
+}
+
+/// Whether the binders of some name have several targets.
+fn is_any_split(facts: &[Facts]) -> bool
+    ensures { result ≡ list_any (λ f. f.is_split) facts.now }
+{
+    for one in facts {
+        if one.is_split {
             return true;
         }
     }
@@ -109,12 +127,15 @@ impl Scope {
         let mut names = IndexSet::new(alloc);
         let mut groups = Vec::new(alloc);
         add_groups(alloc, &mut names, &mut groups, &binders)?;
-        let is_any_split = is_any_split(&groups);
+        let mut facts = Vec::new(alloc);
+        add_facts(&mut facts, &groups)?;
+        let is_any_split = is_any_split(&facts);
         Ok(Scope {
             own,
             binders,
             names,
             groups,
+            facts,
             is_any_split,
             alive: Alive::none(),
         })
@@ -129,6 +150,7 @@ impl Scope {
             binders,
             names,
             groups,
+            facts,
             is_any_split,
             alive: _,
         } = self;
@@ -137,6 +159,7 @@ impl Scope {
             binders,
             names,
             groups,
+            facts,
             is_any_split,
             alive,
         }
@@ -166,11 +189,25 @@ impl Scope {
         }
     }
 
+    /// What is asked of the binders of a name.
+    fn facts(&self, name: NameId) -> Facts
+        ensures { result ≡ listed.facts_of (split.of_name ids name (scope_view self.now).binders) }
+    {
+        match self.names.get_index_of(&name) {
+            Some(index) => self.facts[index],
+            None => Facts {
+                is_split: false,
+                declares: false,
+                import: None,
+            },
+        }
+    }
+
     /// Whether the binders of a name have several targets.
     fn is_split(&self, name: NameId) -> bool
         ensures { result ≡ split.is_split ids (scope_view self.now).binders name }
     {
-        has_two_targets(self.group(name))
+        self.facts(name).is_split
     }
 
     /// Where a binder of a name is seen from that stands there: everywhere, where the name has one target.
@@ -401,8 +438,8 @@ impl Scope {
         Ok(())
     }
 
-    /// Adds what a name without a path asks for, of these binders of it that are seen from `here`.
-    fn add_asked(
+    /// Adds what a name without a path leads to, by these binders of it that are seen from `here`.
+    fn add_aimed(
         &self,
         alloc: Global,
         found: &mut Vec<Reference<PathId, NameId>>,
@@ -412,7 +449,7 @@ impl Scope {
     ) -> Result<(), AllocError>
         requires seen { seen.now ≡ split.seen ids (scope_view self.now) name here }
         requires empty { found.old.items ≡ [] }
-        ensures { OnOk result (found.new.items ≡ split.asked_plain ids (scope_view self.now) name here) }
+        ensures { OnOk result (found.new.items ≡ split.aimed_plain ids (scope_view self.now) name here) }
     {
         if has_declaration(seen) {
             found.push(Reference {
@@ -439,26 +476,25 @@ impl Scope {
         if has_two_targets(&seen) {
             return Ok(true);
         }
-        let mut asked = Vec::new(alloc);
-        self.add_asked(alloc, &mut asked, name, here, &seen)?;
-        if are_unlike(&asked) {
+        let mut aimed = Vec::new(alloc);
+        self.add_aimed(alloc, &mut aimed, name, here, &seen)?;
+        if are_unlike(&aimed) {
             return Ok(true);
         }
-        add_references(found, &asked)?;
+        add_first(found, &aimed)?;
         Ok(false)
     }
 
     /// Adds what a name without a path asks for where each name has one target: its module's own declaration, else what the
-    /// imports of the name aim at.
+    /// first import of the name aims at, which all of them do.
     fn add_whole(
         &self,
         found: &mut Vec<Reference<PathId, NameId>>,
         name: NameId,
     ) -> Result<(), AllocError>
-        ensures { OnOk result (found.new.items ≡ found.old.items ++ whole (scope_view self.now) name) }
+        ensures { OnOk result (found.new.items ≡ found.old.items ++ take 1 (whole (scope_view self.now) name)) }
     {
-        let group = self.group(name);
-        if has_declaration(group) {
+        if self.facts(name).declares {
             found.push(Reference {
                 path: self.own,
                 name,
@@ -466,13 +502,14 @@ impl Scope {
             })?;
             return Ok(());
         }
-        for binder in group {
-            found.push(Reference {
-                path: binder.path,
-                name: binder.item,
-                from: Place::Always,
-            })?;
-        }
+        let Some(binder) = self.group(name).first() else {
+            return Ok(());
+        };
+        found.push(Reference {
+            path: binder.path,
+            name: binder.item,
+            from: Place::Always,
+        })?;
         Ok(())
     }
 
@@ -513,8 +550,8 @@ impl Scope {
         Ok(())
     }
 
-    /// The imports of a name that are seen from a place, with which a path may begin. Refused for want of memory alone.
-    pub fn seen_imports(
+    /// The imports of a name that are seen from a place.
+    fn seen_imports(
         &self,
         alloc: Global,
         name: NameId,
@@ -525,6 +562,21 @@ impl Scope {
         let mut found = Vec::new(alloc);
         self.add_imports(&mut found, name, here)?;
         Ok(found)
+    }
+
+    /// With what a path begins that begins with a name and is used at `here`. Refused for want of memory alone.
+    pub fn start(&self, alloc: Global, name: NameId, here: Place) -> Result<Start, AllocError>
+        ensures { IfOk result (λ s. IsStart s (split.seen_imports ids (scope_view self.now) name here)) }
+    {
+        let facts = self.facts(name);
+        if facts.is_split {
+            let imports = self.seen_imports(alloc, name, here)?;
+            return Ok(start_of(&imports));
+        }
+        match facts.import {
+            Some(import) => Ok(Start::One(import)),
+            None => Ok(Start::Nothing),
+        }
     }
 
     /// An import of the module with where it stands, where it asks from and what it finds there. Refused for want of memory

@@ -13,5 +13,7 @@ returns c = record {
   first_order = refl;
   second_order = refl;
   second_from = refl;
+  asked_once = refl;
+  path_once = refl;
   asked = refl;
 }

@@ -6,10 +6,10 @@ use Rattle.wesl_link_symbols.specs.declared.ids.PathId.{PathId}
 use Rattle.wesl_link_symbols.specs.declared.symbols.Reference.{Reference}
 use Rattle.wesl_link_split.specs.Grouped.{ids}
 use Rattle.wesl_link_split.specs.ScopeView.{scope_view}
-use Rattle.wesl_link_split.specs.Split.{Binder, asked_of}
+use Rattle.wesl_link_split.specs.Split.{Binder, aimed_of}
 use Rattle.wesl_link_split.proofs.Lists.{on_ok}
-use Rattle.wesl_link_split.proofs.Unsplit.{asked_declared, asked_imported, seen_named}
-use Rattle.wesl_link_split.proofs.split.Scope.add_asked.Goals as goal
+use Rattle.wesl_link_split.proofs.Unsplit.{aimed_declared, aimed_imported, seen_named}
+use Rattle.wesl_link_split.proofs.split.Scope.add_aimed.Goals as goal
 
 pub returns-then-has_declaration : goal.returns-then-has_declaration
 returns-then-has_declaration c =
@@ -18,8 +18,8 @@ returns-then-has_declaration c =
     c.in_ok-push.ensures.items
     ∙ (ap (λ l. l ++ one c.asked_at.result ∷ []) c.requires.empty
     ∙ (ap (λ p. one p ∷ []) c.asked_at.ensures
-    ∙ (sym (asked_declared s c.args.name c.args.here c.args.seen.now (sym c.has_declaration.ensures ∙ c.if-has_declaration.true))
-    ∙ ap (λ bs. asked_of ids s c.args.name c.args.here (filter (λ b. b.declares) bs) bs) c.requires.seen)))
+    ∙ (sym (aimed_declared s c.args.name c.args.here c.args.seen.now (sym c.has_declaration.ensures ∙ c.if-has_declaration.true))
+    ∙ ap (λ bs. aimed_of ids s c.args.name c.args.here (filter (λ b. b.declares) bs) bs) c.requires.seen)))
 
 pub add_aims-requires-clause-named : goal.add_aims-requires-clause-named
 add_aims-requires-clause-named c =
@@ -28,5 +28,5 @@ add_aims-requires-clause-named c =
 pub returns : goal.returns
 returns c =
     let s = scope_view c.args.self.now in
-    on_ok c.add_aims.result (λ e. e ∙ (sym (asked_imported s c.args.name c.args.here c.args.seen.now (sym c.has_declaration.ensures ∙ c.if-has_declaration.false))
-    ∙ ap (λ bs. asked_of ids s c.args.name c.args.here (filter (λ b. b.declares) bs) bs) c.requires.seen)) c.add_aims.ensures
+    on_ok c.add_aims.result (λ e. e ∙ (sym (aimed_imported s c.args.name c.args.here c.args.seen.now (sym c.has_declaration.ensures ∙ c.if-has_declaration.false))
+    ∙ ap (λ bs. aimed_of ids s c.args.name c.args.here (filter (λ b. b.declares) bs) bs) c.requires.seen)) c.add_aims.ensures
