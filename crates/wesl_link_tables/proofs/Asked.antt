@@ -1,5 +1,5 @@
 -- The modules that names aim at are not relative where the module that names them is not.
-use Rattle.std.proofs.Common.{◌≡◌, ℕ, zero, suc, Bool, true, false, Option, Some, None, List, [], ◌∷◌, map, All, get_or, arith, refl, sym, subst}
+use Rattle.std.proofs.Common.{◌≡◌, ℕ, zero, suc, Bool, true, false, Option, Some, None, List, [], ◌∷◌, map, take, All, get_or, arith, refl, sym, subst}
 use Rattle.std.specs.Prelude.{if◌then◌else◌, Result, Ok, Err, IfOk}
 use Rattle.std.proofs.lemmas.List.Elements.{All-append, All-nil}
 use Rattle.wesl_tree_names.specs.Path.{Text, Origin, absolute, relative, from_package, Path, path_view, is_relative, origin_is_relative, join, join_origin, root_path}
@@ -57,8 +57,12 @@ or_else_asked : (ps : List Path) (q : Path) → All Asked ps → Asked q → All
 or_else_asked [] q h k = all_one Asked q k
 or_else_asked (p ∷ ps) q h k = h
 
+first_asked : (ps : List Path) → All Asked ps → All Asked (take 1 ps)
+first_asked [] h = h
+first_asked (p ∷ ps) h = all_one Asked p (h zero p (omega arith))
+
 aims_asked : (own : Path) (bs : List (Binder Path Text)) (s : Path) → Asked own → All (λ b. Asked b.path) bs → All Asked (aims own bs s)
-aims_asked own bs s h k = or_else_asked (map (module_in_place s) bs) (join own s) (all_mapped (module_in_place s) Asked bs k) (join_asked own s h)
+aims_asked own bs s h k = or_else_asked (take 1 (map (module_in_place s) bs)) (join own s) (first_asked (map (module_in_place s) bs) (all_mapped (module_in_place s) Asked bs k)) (join_asked own s h)
 
 -- no path that has a number is relative
 module _ (nb : Numbering) (asked : All Asked nb.paths) where

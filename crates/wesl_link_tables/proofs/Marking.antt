@@ -1,5 +1,5 @@
 -- The marks of references, by what names stand for in a module that is read.
-use Rattle.std.proofs.Common.{◌≡◌, ℕ, Bool, true, false, List, [], ◌∷◌, ◌++◌, map, length, get_or, take, drop, ◌<◌, ◌+◌, sym, subst, ap, ◌∙◌}
+use Rattle.std.proofs.Common.{◌≡◌, ℕ, Bool, true, false, List, [], ◌∷◌, ◌++◌, map, length, get_or, take, drop, ◌<◌, ◌+◌, refl, sym, subst, ap, ◌∙◌}
 use mathlib.Core.List.{map-map}
 use Rattle.wesl_tree_names.specs.Path.{Text, Origin, from_package, absolute, relative, Path, path_view}
 use Rattle.wesl_tree_names.specs.declared.path.ModulePath.{ModulePath}
@@ -7,15 +7,18 @@ use Rattle.wesl_cond_choices.specs.declared.place.Place.{Place}
 use Rattle.wesl_link_symbols.specs.declared.ids.PathId.{PathId}
 use Rattle.wesl_tree_base.specs.declared.ids.NameId.{NameId}
 use Rattle.wesl_link_symbols.specs.declared.symbols.Reference.{Reference}
-use Rattle.wesl_link_split.specs.Grouped.{ids}
+use Rattle.wesl_link_split.specs.Grouped.{ids, IsStart}
 use Rattle.wesl_link_split.specs.Laws.{AskAlike}
 use Rattle.wesl_link_split.specs.ScopeView.{scope_view}
 use Rattle.wesl_link_split.specs.Split as split
 use Rattle.wesl_link_split.specs.Split.{Scope, under}
 use Rattle.wesl_link_split.specs.declared.binders.Binder.{Binder}
+use Rattle.wesl_link_split.specs.declared.binders.Start.{Start}
+use Rattle.wesl_link_split.specs.declared.binders.Start.TheVariants as starts
 use Rattle.wesl_link_split.proofs.Agreed.{ask_alike, differ_alike}
+use Rattle.wesl_link_split.proofs.Alike.{first_alike}
 use Rattle.wesl_link_tables.specs.Aims.{spelled_binder}
-use Rattle.wesl_link_tables.specs.Numbering.{Numbering, AreDifferent, Grows, NameAt, PathAt, IsNumberedReference, AreNumberedReferences, AreNumberedBinders}
+use Rattle.wesl_link_tables.specs.Numbering.{Numbering, AreDifferent, Grows, SameBinder, NameAt, PathAt, IsNumberedReference, AreNumberedReferences, AreNumberedBinders}
 use Rattle.wesl_link_tables.specs.Reading.{IsNumberedBy, Adds, Marks, mark_of, own_path, scope_in, plain_in, aimed_in, under_in}
 use Rattle.wesl_link_tables.specs.Uses.{Use, unclear, said, texts, package_name, aims, through}
 use Rattle.wesl_link_tables.specs.declared.marks.Asked.{Asked}
@@ -52,11 +55,34 @@ module _ (r : Reading) (nb : Numbering) (names : AreDifferent nb.names) (paths :
   -- ---- a name under a path
 
   -- the imports of a package, by its number and by its name
-  pub seen_alike : (here : Place) (k : NameId) (y : Text) → NameAt nb k y → (is : List (Binder PathId NameId)) → is ≡ split.seen_imports ids by_number k here → AreNumberedBinders nb is (split.seen_imports texts (scope_in r) y here)
-  seen_alike here k y at is e = subst (λ bs. AreNumberedBinders nb bs (split.seen_imports texts (scope_in r) y here)) (sym e) (alike.names k y here at).imports
+  module _ (here : Place) (k : NameId) (y : Text) (at : NameAt nb k y) (start : Start) (begins : IsStart start (split.seen_imports ids by_number k here)) where
+    abbrev these : List (Binder PathId NameId)
+    these = split.seen_imports ids by_number k here
 
-  pub targets_alike : (is : List (Binder PathId NameId)) (cs : List (Binder Path Text)) → AreNumberedBinders nb is cs → split.has_two_targets ids is ≡ split.has_two_targets texts cs
-  targets_alike is cs h = differ_alike nb names paths is cs h
+    abbrev those : List (Binder Path Text)
+    those = split.seen_imports texts (scope_in r) y here
+
+    same : AreNumberedBinders nb these those
+    same = (alike.names k y here at).imports
+
+    targets_alike : split.has_two_targets ids these ≡ split.has_two_targets texts those
+    targets_alike = differ_alike nb names paths these those same
+
+    -- by what a path begins with: several targets, nothing, or one import
+    pub start_several : start ≡ starts.Several → split.has_two_targets texts those ≡ true
+    start_several e = sym targets_alike ∙ subst (λ (b : Start). IsStart b these) e begins
+
+    pub start_nothing : start ≡ starts.Nothing → those ≡ []
+    start_nothing e = none those (subst (λ (l : List (Binder PathId NameId)). AreNumberedBinders nb l those) (subst (λ (b : Start). IsStart b these) e begins) same)
+      where
+        none : (cs : List (Binder Path Text)) → AreNumberedBinders nb [] cs → cs ≡ []
+        none [] h = refl
+        none (c ∷ cs) h = absurd h
+
+    pub start_one : (b : Binder PathId NameId) → start ≡ starts.One b → (split.has_two_targets texts those ≡ false) × AreNumberedBinders nb (b ∷ []) (take 1 those)
+    start_one b e =
+        let (one, first) = subst (λ (c : Start). IsStart c these) e begins in
+        (sym targets_alike ∙ one, subst (λ (l : List (Binder PathId NameId)). AreNumberedBinders nb l (take 1 those)) first (first_alike (SameBinder (PathAt nb) (NameAt nb)) these those same))
 
 -- a name under one module more
 pub under_next : (r : Reading) (a b c : Numbering) → AreDifferent c.names → AreDifferent c.paths → Grows a b → Grows b c → IsNumberedBy a r → (here : Place) (n : NameId) (x : Text) → NameAt a n x → (p : PathId)
@@ -91,8 +117,19 @@ module _ (r : Reading) (here : Place) (p : ModulePath) (x : Text) where
   pub aimed_unclear : (y : Text) → (path_view p).origin ≡ from_package y → split.has_two_targets texts (split.seen_imports texts (scope_in r) y here) ≡ true → aimed_in r here p x ≡ unclear x y
   aimed_unclear y e two = ap aimed_from e ∙ said_unclear x y (split.has_two_targets texts (split.seen_imports texts (scope_in r) y here)) (map (under texts (scope_in r) x here) (aims (own_path r) (split.seen_imports texts (scope_in r) y here) (path_view p))) two
 
-  pub aimed_clear : (y : Text) → (path_view p).origin ≡ from_package y → split.has_two_targets texts (split.seen_imports texts (scope_in r) y here) ≡ false → aimed_in r here p x ≡ under_in r here (split.seen_imports texts (scope_in r) y here) p x
+  aimed_clear : (y : Text) → (path_view p).origin ≡ from_package y → split.has_two_targets texts (split.seen_imports texts (scope_in r) y here) ≡ false → aimed_in r here p x ≡ under_in r here (split.seen_imports texts (scope_in r) y here) p x
   aimed_clear y e one = ap aimed_from e ∙ said_clear x y (split.has_two_targets texts (split.seen_imports texts (scope_in r) y here)) (map (under texts (scope_in r) x here) (aims (own_path r) (split.seen_imports texts (scope_in r) y here) (path_view p))) one
+
+  -- of imports with one target the first counts
+  first_under : (bs : List (Binder Path Text)) → under_in r here bs p x ≡ under_in r here (take 1 bs) p x
+  first_under [] = refl
+  first_under (b ∷ bs) = refl
+
+  pub aimed_first : (y : Text) → (path_view p).origin ≡ from_package y → split.has_two_targets texts (split.seen_imports texts (scope_in r) y here) ≡ false → aimed_in r here p x ≡ under_in r here (take 1 (split.seen_imports texts (scope_in r) y here)) p x
+  aimed_first y e one = aimed_clear y e one ∙ first_under (split.seen_imports texts (scope_in r) y here)
+
+  pub aimed_none : (y : Text) → (path_view p).origin ≡ from_package y → split.seen_imports texts (scope_in r) y here ≡ [] → aimed_in r here p x ≡ under_in r here [] p x
+  aimed_none y e none = aimed_clear y e (ap (split.has_two_targets texts) none) ∙ ap (λ bs. under_in r here bs p x) none
 
   -- or with none
   pub aimed_absolute : (path_view p).origin ≡ absolute → aimed_in r here p x ≡ under_in r here [] p x

@@ -1,5 +1,5 @@
 //! Where the paths before names lead (WESL, "Imports").
-ghost use Rattle.std.specs.Prelude.{◌≡◌, ◌<◌, [], false, All, IfOk, OnOk, length, map};
+ghost use Rattle.std.specs.Prelude.{◌≡◌, ◌<◌, [], false, All, IfOk, OnOk, length, map, take};
 ghost use Rattle.wesl_tree_names.specs.Path.{path_view, join, is_relative};
 ghost use Rattle.wesl_link_tables.specs.Aims.{IsKnown, spelled_binder};
 ghost use Rattle.wesl_link_tables.specs.NumbersView.{numbering};
@@ -28,7 +28,7 @@ fn module_in_place(
     memory(item.join(alloc, &path.components))
 }
 
-/// Adds the modules that stand for a path which begins with the name of these imports.
+/// Adds the module that stands for a path which begins with the name of these imports, by the first of them.
 fn add_in_place(
     alloc: Global,
     numbers: &Numbers,
@@ -38,9 +38,9 @@ fn add_in_place(
 ) -> Result<(), AllocError>
     requires known { All (IsKnown (numbering numbers.now)) imports.now }
     requires empty { found.old.items ≡ [] }
-    ensures { OnOk result (paths_of found.new ≡ map (λ b. uses.module_in_place (path_view path.now) (spelled_binder (numbering numbers.now) b)) imports.now) }
+    ensures { OnOk result (paths_of found.new ≡ take 1 (map (λ b. uses.module_in_place (path_view path.now) (spelled_binder (numbering numbers.now) b)) imports.now)) }
 {
-    for import in imports {
+    if let Some(import) = imports.first() {
         let module = module_in_place(alloc, numbers, path, import)?;
         found.push(module)?;
     }
@@ -62,7 +62,7 @@ fn add_joined(
     Ok(())
 }
 
-/// Adds the modules that a path before a name aims at. It holds nothing, so where memory is wanting nothing is let go.
+/// Adds the module that a path before a name aims at. It holds nothing, so where memory is wanting nothing is let go.
 fn add_aims(
     alloc: Global,
     numbers: &Numbers,
@@ -79,9 +79,9 @@ fn add_aims(
     add_joined(alloc, own, found, path)
 }
 
-/// The modules that a path before a name aims at in the module at `own`: the items of these imports, with whose name it
-/// begins, in the place of this name, and where there are none, the path as the module means it. Refused for want of memory
-/// alone.
+/// The module that a path before a name aims at in the module at `own`: the item of the first of these imports, with whose
+/// name it begins, in the place of this name, and where there are none, the path as the module means it. Refused for want of
+/// memory alone.
 pub fn aims(
     alloc: Global,
     numbers: &Numbers,

@@ -14,7 +14,7 @@ use crate::numbers::Numbers;
 use crate::reading::Reading;
 use std::alloc::{AllocError, Global};
 use wesl_cond_choices::place::Place;
-use wesl_link_split::binders::{Binder, has_two_targets};
+use wesl_link_split::binders::{Binder, Start};
 use wesl_link_symbols::ids::{NameId, PathId};
 use wesl_link_symbols::symbols::Reference;
 use wesl_scope_meanings::Key;
@@ -159,11 +159,21 @@ fn mark_through(
     ensures marked { IfOk result (λ m. MarksName numbers.old numbers.new name (aimed_in reading.now here path.now) m found.old found.new) }
     ensures grows { Grows (numbering numbers.old) (numbering numbers.new) }
 {
-    let imports = reading.scope.seen_imports(alloc, first, here)?;
-    if has_two_targets(&imports) {
-        return mark_unclear(found, name, first);
+    let start = reading.scope.start(alloc, first, here)?;
+    match start {
+        Start::Several => mark_unclear(found, name, first),
+        Start::Nothing => mark_under(alloc, numbers, reading, found, name, here, path, &[]),
+        Start::One(import) => mark_under(
+            alloc,
+            numbers,
+            reading,
+            found,
+            name,
+            here,
+            path,
+            &[import],
+        ),
     }
-    mark_under(alloc, numbers, reading, found, name, here, path, &imports)
 }
 
 /// The mark of a name under a path.
