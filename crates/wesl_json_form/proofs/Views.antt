@@ -1,5 +1,5 @@
 -- What a borrowed value shows, and items that grow at their end.
-use Rattle.std.proofs.Common.{◌≡◌, ℕ, List, [], ◌∷◌, ◌++◌, Bool, Option, Some, None, Vec, Global, Bor, refl, ap, rules}
+use Rattle.std.proofs.Common.{◌≡◌, ℕ, List, [], ◌∷◌, ◌++◌, Bool, Option, Some, None, Bor, refl, ap, rules}
 use Rattle.json.specs.Token.{Token}
 use Rattle.json.specs.Json.{parse_map}
 use Rattle.serde_json.specs.Data.{null, boolean, number, string, array, object, Items, no_items, item}
@@ -22,10 +22,10 @@ text_view s = search (rules, the_lemmas)
 
 pub ruleset shown = (null_view, truth_view, number_seen, text_view)
 
-pub array_view : (vs : Vec BorrowedValue Global) → borrowed_view (value.Array vs) ≡ array (items_view vs.items)
+pub array_view : (vs : Bor (List BorrowedValue)) → borrowed_view (value.Array vs) ≡ array (items_view vs.now)
 array_view vs = search (rules, the_lemmas)
 
-pub object_view : (ms : Vec (Bor (List ℕ) × BorrowedValue) Global) → borrowed_view (value.Object ms) ≡ object (members_view ms.items)
+pub object_view : (ms : Bor (List (Bor (List ℕ) × BorrowedValue))) → borrowed_view (value.Object ms) ≡ object (members_view ms.now)
 object_view ms = search (rules, the_lemmas)
 
 -- ---- items

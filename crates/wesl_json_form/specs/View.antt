@@ -23,8 +23,8 @@ borrowed_step BorrowedValue-F.Null = null
 borrowed_step (BorrowedValue-F.Bool b) = boolean b
 borrowed_step (BorrowedValue-F.Number n) = number (number_view n)
 borrowed_step (BorrowedValue-F.String s) = string s.now
-borrowed_step (BorrowedValue-F.Array v) = array (items_of v.items)
-borrowed_step (BorrowedValue-F.Object v) = object (put_all v.items no_members)
+borrowed_step (BorrowedValue-F.Array v) = array (items_of v.now)
+borrowed_step (BorrowedValue-F.Object v) = object (put_all v.now no_members)
 
 abbrev pub borrowed_view : BorrowedValue → Data
 borrowed_view = fold-BorrowedValue Data borrowed_step

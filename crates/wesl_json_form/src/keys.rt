@@ -24,8 +24,8 @@ pub fn has_only_beside(value: &BorrowedValue<'_>, beside: bool, extra: &str, kno
     }
 }
 
-fn all_known(members: &Members<'_>, beside: bool, extra: &str, known: &[&str]) -> bool
-    ensures { result ≡ all_known (keys_beside beside extra.now (map (λ k. k.now) known.now)) (members_view members.now.items) }
+fn all_known(members: Members<'_>, beside: bool, extra: &str, known: &[&str]) -> bool
+    ensures { result ≡ all_known (keys_beside beside extra.now (map (λ k. k.now) known.now)) (members_view members.now) }
 {
     for member in members {
         if !is_among(member.0, beside, extra, known) {

@@ -3,7 +3,6 @@
 //! keys of their objects.
 #![tactic(auto)]
 
-mod copy;
 mod fault;
 mod keys;
 mod laws;
@@ -13,6 +12,7 @@ mod number_text;
 mod pointer;
 mod read;
 mod rows;
+mod stacks;
 mod value;
 
 pub use fault::ReadFault;

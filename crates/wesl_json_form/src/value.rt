@@ -1,14 +1,13 @@
 //! The light form of a value.
-ghost use Rattle.std.specs.Prelude.{◌≡◌, IfOk, is_some, option_map, option_and_then};
+ghost use Rattle.std.specs.Prelude.{◌≡◌, is_some, option_map, option_and_then};
 ghost use Rattle.serde_json.specs.Find.{as_array, as_bool, as_number, as_object, as_str, as_u64, get};
 ghost use Rattle.wesl_json_form.specs.View.{borrowed_view, items_view, members_view};
 
-use crate::copy::copy_of;
 use crate::members::last_at;
 use crate::number::Number;
-use std::alloc::{AllocError, Global};
 
-/// A JSON value whose texts stand elsewhere.
+/// A JSON value whose texts stand elsewhere, and whose lists are slices of an arena. A copy of it is free, and none is let go.
+#[derive(Clone, Copy)]
 #[cycle(borrowed)]
 pub enum BorrowedValue<'a> {
     /// `null`
@@ -20,27 +19,13 @@ pub enum BorrowedValue<'a> {
     /// a text
     String(&'a str),
     /// a list
-    Array(Vec<BorrowedValue<'a>>),
+    Array(&'a [BorrowedValue<'a>]),
     /// an object
     Object(Members<'a>),
 }
 
 /// The members of an object in the order in which they came. Of those with one key the last counts.
-pub type Members<'a> = Vec<(&'a str, BorrowedValue<'a>)>;
-
-impl<'a> Drop for BorrowedValue<'a> {
-    #[cycle(letting_borrowed_go)]
-    fn drop(self) {
-        match self {
-            BorrowedValue::Null => {}
-            BorrowedValue::Bool(_) => {}
-            BorrowedValue::Number(_) => {}
-            BorrowedValue::String(_) => {}
-            BorrowedValue::Array(_) => {}
-            BorrowedValue::Object(_) => {}
-        }
-    }
-}
+pub type Members<'a> = &'a [(&'a str, BorrowedValue<'a>)];
 
 impl<'a> BorrowedValue<'a> {
     /// The member at a key, of an object.
@@ -48,16 +33,9 @@ impl<'a> BorrowedValue<'a> {
         ensures { option_map (λ v. borrowed_view v.now) result ≡ get key.now (borrowed_view self.now) }
     {
         match self {
-            BorrowedValue::Object(members) => last_at(members, key),
+            BorrowedValue::Object(members) => last_at(*members, key),
             _ => None,
         }
-    }
-
-    /// A copy, which takes no more memory than it needs. Its texts stand where they stood. Refused for want of memory alone.
-    pub fn try_clone(&self, alloc: Global) -> Result<BorrowedValue<'a>, AllocError>
-        ensures { IfOk result (λ v. borrowed_view v ≡ borrowed_view self.now) }
-    {
-        copy_of(alloc, self)
     }
 
     /// Whether it is an object.
@@ -68,21 +46,21 @@ impl<'a> BorrowedValue<'a> {
     }
 
     /// The members, of an object.
-    pub fn as_object(&self) -> Option<&Members<'a>>
-        ensures { option_map (λ m. members_view m.now.items) result ≡ as_object (borrowed_view self.now) }
+    pub fn as_object(&self) -> Option<Members<'a>>
+        ensures { option_map (λ m. members_view m.now) result ≡ as_object (borrowed_view self.now) }
     {
         match self {
-            BorrowedValue::Object(members) => Some(members),
+            BorrowedValue::Object(members) => Some(*members),
             _ => None,
         }
     }
 
     /// The items, of a list.
-    pub fn as_array(&self) -> Option<&Vec<BorrowedValue<'a>>>
-        ensures { option_map (λ v. items_view v.now.items) result ≡ as_array (borrowed_view self.now) }
+    pub fn as_array(&self) -> Option<&'a [BorrowedValue<'a>]>
+        ensures { option_map (λ v. items_view v.now) result ≡ as_array (borrowed_view self.now) }
     {
         match self {
-            BorrowedValue::Array(items) => Some(items),
+            BorrowedValue::Array(items) => Some(*items),
             _ => None,
         }
     }

@@ -5,4 +5,4 @@ use Rattle.wesl_json_form.proofs.keys.all_known.Given as goal
 
 abbrev pub invariant-loop-member : goal.invariant-loop-member
 invariant-loop-member l =
-    keys_known (keys_beside l.beside l.extra (map (λ k. k.now) l.known)) l.member-items ≡ keys_known (keys_beside l.beside l.extra (map (λ k. k.now) l.known)) (drop l.member-index l.member-items)
+    keys_known (keys_beside l.beside l.extra (map (λ k. k.now) l.known)) l.members ≡ keys_known (keys_beside l.beside l.extra (map (λ k. k.now) l.known)) (drop l.member-index l.members)

@@ -9,9 +9,9 @@ use Rattle.wesl_json_form.proofs.members.last_at.Goals as goal
 
 pub returns-then-eq : goal.returns-then-eq
 returns-then-eq c =
-    let xs = c.args.members.now.items in
+    let xs = c.args.members.now in
     let left = c.loop-left.left - 1 in
-    let m : Entry = c.index-member.result.now in
+    let m : Entry = c.index-members-left.result in
     let k = c.args.key.now in
     let inside : left < length xs = omega (arith, c.loop-left.invariant.0) in
     let here : m ≡ get_or xs left m = search rules in
@@ -22,9 +22,9 @@ returns-then-eq c =
 
 pub loop-left-preserved : goal.loop-left-preserved
 loop-left-preserved c =
-    let xs = c.args.members.now.items in
+    let xs = c.args.members.now in
     let left = c.loop-left.left - 1 in
-    let m : Entry = c.index-member.result.now in
+    let m : Entry = c.index-members-left.result in
     let k = c.args.key.now in
     let inside : left < length xs = omega (arith, c.loop-left.invariant.0) in
     let here : m ≡ get_or xs left m = search rules in

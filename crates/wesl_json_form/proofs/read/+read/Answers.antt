@@ -1,14 +1,15 @@
-use Rattle.std.proofs.Common.{◌≡◌, ◌-◌, ◌<◌, ◌∷◌, length, Some, None, sym, ap, ◌∙◌, arith}
-use Rattle.json.specs.Json.{parse_map, after_end_array, read_key, items, members, value}
+use Rattle.std.proofs.Common.{◌≡◌, ◌-◌, ◌<◌, [], ◌∷◌, ◌++◌, length, Some, None, refl, sym, ap, ◌∙◌, arith, rules}
+use Rattle.std.proofs.lemmas.List.{append_assoc, append-nil}
+use Rattle.json.specs.Json.{parse_map, after_end_array, read_key, members, value}
 use Rattle.json.specs.Reads.{token_of}
 use Rattle.json.proofs.Grammar.{value_is, read_key-shorter}
 use Rattle.serde_json.specs.Data.{array, object}
-use Rattle.serde_json.specs.Read.{of_json, of_items, of_members, converted}
-use Rattle.wesl_json_form.specs.View.{borrowed_view, members_view}
-use Rattle.wesl_json_form.proofs.Lists.{members_view-then}
+use Rattle.serde_json.specs.Read.{of_json, of_members, converted}
+use Rattle.wesl_json_form.specs.View.{borrowed_view, items_view, members_view}
+use Rattle.wesl_json_form.proofs.Lists.{Entry, lies_above, members_view-then}
 use Rattle.wesl_json_form.specs.Text.{value_at}
 use Rattle.wesl_json_form.proofs.Turns.{array_at, object_at, array_too_deep, object_too_deep, item_read, item_refused, items_over, member_read, member_refused, key_refused, members_over}
-use Rattle.wesl_json_form.proofs.Views.{array_view, object_view, and_then_items, items_alone, one_more_item}
+use Rattle.wesl_json_form.proofs.Views.{array_view, object_view, and_then_items, items_alone, no_item_yet, one_more_item}
 use Rattle.wesl_json_form.proofs.read.+read.Goals as goal
 use Rattle.wesl_json_form.proofs.read.+read.Goals.{read-in_default-via-in-BeginArray+else-depth-gt0, read-in_default-via-in-BeginObject+else-depth-gt0-2, read-in_default-via-in_default}
 
@@ -50,41 +51,50 @@ read-returns-in_ok-read_members-in-BeginObject-clause-ok t c =
 
 -- ---- items
 
-pub read_items-returns-in_err-read-clause-none : goal.read_items-returns-in_err-read-clause-none
-read_items-returns-in_err-read-clause-none t c refused =
+pub read_items-items-init : goal.read_items-items-init
+read_items-items-init t c = ([], length c.args.reader.now, omega arith, no_item_yet _, omega arith, sym (append-nil _), refl)
+
+pub read_items-returns-in_err-value-clause-none : goal.read_items-returns-in_err-value-clause-none
+read_items-returns-in_err-value-clause-none t c refused =
     let l = c.items in
     let going : (after_end_array l.reader ≡ None) × (c.take_end_array.new.self ≡ l.reader) = grind arith in
-    l.invariant.2 ∙ ap (parse_map (and_then_items l.found.items)) (item_refused (value c.args.depth) l.invariant.0 l.reader going.0 (rw (← going.1) (c.read.ensures.none (grind arith))))
+    l.invariant.3 ∙ ap (parse_map (and_then_items l.invariant.0)) (item_refused (value c.args.depth) l.invariant.1 l.reader going.0 (rw (← going.1) (c.read.ensures.none (grind arith))))
 
 pub read_items-items-preserved : goal.read_items-items-preserved
 read_items-items-preserved t c =
     let p = value c.args.depth in
     let l = c.items in
-    let n = l.invariant.0 in
+    let n = l.invariant.1 in
     let r = c.read.new.reader in
-    let v = c.in_ok-read.field-0 in
+    let v = c.in_ok-value.value in
     let going : (after_end_array l.reader ≡ None) × (c.take_end_array.new.self ≡ l.reader) = grind arith in
-    let less : length r < length l.reader = rw (← going.1) c.in_ok-read.ensures.shorter in
-    let turn = item_read p n l.reader r (borrowed_view v) (omega (arith, l.invariant.1)) going.0 (rw (← going.1) c.in_ok-read.ensures.ok) in (
+    let less : length r < length l.reader = rw (← going.1) c.in_ok-value.ensures.shorter in
+    let turn = item_read p n l.reader r (borrowed_view v) (omega (arith, l.invariant.2)) going.0 (rw (← going.1) c.in_ok-value.ensures.ok) in (
+      l.invariant.0 ++ v ∷ [],
       n - 1,
-      omega (arith, l.invariant.1),
-      l.invariant.2 ∙ ap (parse_map (and_then_items l.found.items)) turn ∙ one_more_item l.found.items v _
-          ∙ ap (λ vs. parse_map (and_then_items vs) (converted of_items (items p (n - 1) r))) (sym c.in_ok-push.ensures.items),
-      omega (arith, l.invariant.3),
+      omega (arith, l.invariant.2),
+      l.invariant.3 ∙ ap (parse_map (and_then_items l.invariant.0)) turn ∙ one_more_item l.invariant.0 v _,
+      omega (arith, l.invariant.4),
+      c.in_ok-push.ensures.items ∙ ap (λ vs. vs ++ v ∷ []) (c.in_ok-value.ensures.items ∙ l.invariant.5) ∙ append_assoc _ l.invariant.0 (v ∷ []),
+      c.in_ok-value.ensures.members ∙ l.invariant.6,
     )
 
 pub read_items-returns-clause-ok : goal.read_items-returns-clause-ok
 read_items-returns-clause-ok t c =
     let l = c.items in
     let r = c.take_end_array.new.self in
-    l.invariant.2 ∙ ap (parse_map (and_then_items l.found.items)) (items_over (value c.args.depth) l.invariant.0 l.reader r l.invariant.1 (grind arith)) ∙ ap (λ ds. Some (ds, r)) (items_alone l.found.items)
+    l.invariant.3 ∙ ap (parse_map (and_then_items l.invariant.0)) (items_over (value c.args.depth) l.invariant.1 l.reader r l.invariant.2 (grind arith)) ∙ ap (λ ds. Some (ds, r)) (items_alone l.invariant.0)
+    ∙ ap (λ vs. Some (items_view vs, r)) (sym (c.in_ok-end_items.ensures.ended ∙ lies_above _ l.invariant.0 _ _ (search rules) l.invariant.5))
 
 -- ---- members
+
+pub read_members-members-init : goal.read_members-members-init
+read_members-members-init t c = ([], length c.args.reader.now, omega arith, refl, omega arith, refl, sym (append-nil _))
 
 pub read_members-returns-in_err-key-clause-none : goal.read_members-returns-in_err-key-clause-none
 read_members-returns-in_err-key-clause-none t c refused =
     let l = c.members in
-    l.invariant.2 ∙ key_refused (value c.args.depth) (members_view l.found.items) l.invariant.0 l.reader c.in_err-key.ensures.value
+    l.invariant.3 ∙ key_refused (value c.args.depth) (members_view l.invariant.0) l.invariant.1 l.reader c.in_err-key.ensures.value
 
 pub read_members-returns-in_err-value-clause-none : goal.read_members-returns-in_err-value-clause-none
 read_members-returns-in_err-value-clause-none t c refused =
@@ -92,13 +102,13 @@ read_members-returns-in_err-value-clause-none t c refused =
     let k = c.in-Some.key.now in
     let s = c.next_key.new.self in
     let named : read_key l.reader ≡ Some (Some k, s) = grind arith in
-    l.invariant.2 ∙ member_refused (value c.args.depth) (members_view l.found.items) l.invariant.0 k l.reader s named (c.read.ensures.none (grind arith))
+    l.invariant.3 ∙ member_refused (value c.args.depth) (members_view l.invariant.0) l.invariant.1 k l.reader s named (c.read.ensures.none (grind arith))
 
 pub read_members-members-preserved : goal.read_members-members-preserved
 read_members-members-preserved t c =
     let p = value c.args.depth in
     let l = c.members in
-    let n = l.invariant.0 in
+    let n = l.invariant.1 in
     let k = c.in-Some.key in
     let v = c.in_ok-value.value in
     let s = c.next_key.new.self in
@@ -106,15 +116,19 @@ read_members-members-preserved t c =
     let named : read_key l.reader ≡ Some (Some k.now, s) = grind arith in
     let less = read_key-shorter l.reader (Some k.now) s named in
     let lesser = c.in_ok-value.ensures.shorter in
-    let grown = ap members_view c.in_ok-push.ensures.items ∙ members_view-then l.found.items (k, v) in (
+    let m : Entry = (k, v) in (
+      l.invariant.0 ++ m ∷ [],
       n - 1,
-      omega (arith, l.invariant.1),
-      l.invariant.2 ∙ member_read p (members_view l.found.items) n k.now l.reader s r (borrowed_view v) (omega (arith, l.invariant.1)) named c.in_ok-value.ensures.ok
-          ∙ ap (λ found. converted (λ ms. of_members ms found) (members p (n - 1) r)) (sym grown),
-      omega (arith, l.invariant.3),
+      omega (arith, l.invariant.2),
+      l.invariant.3 ∙ member_read p (members_view l.invariant.0) n k.now l.reader s r (borrowed_view v) (omega (arith, l.invariant.2)) named c.in_ok-value.ensures.ok
+          ∙ ap (λ found. converted (λ ms. of_members ms found) (members p (n - 1) r)) (sym (members_view-then l.invariant.0 m)),
+      omega (arith, l.invariant.4),
+      c.in_ok-value.ensures.items ∙ l.invariant.5,
+      c.in_ok-push.ensures.items ∙ ap (λ ms. ms ++ m ∷ []) (c.in_ok-value.ensures.members ∙ l.invariant.6) ∙ append_assoc _ l.invariant.0 (m ∷ []),
     )
 
 pub read_members-returns-clause-ok : goal.read_members-returns-clause-ok
 read_members-returns-clause-ok t c =
     let l = c.members in
-    l.invariant.2 ∙ members_over (value c.args.depth) (members_view l.found.items) l.invariant.0 l.reader c.next_key.new.self l.invariant.1 (grind arith)
+    l.invariant.3 ∙ members_over (value c.args.depth) (members_view l.invariant.0) l.invariant.1 l.reader c.next_key.new.self l.invariant.2 (grind arith)
+    ∙ ap (λ ms. Some (members_view ms, c.next_key.new.self)) (sym (c.in_ok-end_members.ensures.ended ∙ lies_above _ l.invariant.0 _ _ (search rules) l.invariant.6))
