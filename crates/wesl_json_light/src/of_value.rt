@@ -4,15 +4,17 @@ ghost use Rattle.serde_json.specs.Find.{as_i64, as_u64};
 ghost use Rattle.serde_json.specs.View.{view, items_view as values_view, members_view as map_view, number_view as value_number};
 ghost use Rattle.wesl_json_form.specs.View.{borrowed_view, items_view, members_view, number_view};
 
+use bumpalo::Bump;
 use serde_json::{Map, Value};
 use std::alloc::{AllocError, Global};
 use wesl_json_form::{BorrowedValue, Members, Number};
 
-/// The same value, its texts borrowed. Refused for want of memory alone.
+/// The same value, its texts borrowed, its lists in the arena. Refused for want of memory alone.
 #[cycle(of_value)]
 pub fn borrowed_of_value<'a>(
     alloc: Global,
     value: &'a Value,
+    arena: &'a Bump,
 ) -> Result<BorrowedValue<'a>, AllocError>
     ensures { IfOk result (λ v. borrowed_view v ≡ view value.now) }
 {
@@ -21,31 +23,41 @@ pub fn borrowed_of_value<'a>(
         Value::Bool(truth) => Ok(BorrowedValue::Bool(*truth)),
         Value::Number(number) => Ok(BorrowedValue::Number(number_of(number))),
         Value::String(text) => Ok(BorrowedValue::String(text.as_str())),
-        Value::Array(items) => Ok(BorrowedValue::Array(items_of(alloc, items)?)),
-        Value::Object(members) => Ok(BorrowedValue::Object(members_of(alloc, members)?)),
+        Value::Array(items) => Ok(BorrowedValue::Array(items_of(alloc, items, arena)?)),
+        Value::Object(members) => Ok(BorrowedValue::Object(members_of(alloc, members, arena)?)),
     }
 }
 
 #[cycle(of_value)]
-fn items_of<'a>(alloc: Global, values: &'a Vec<Value>) -> Result<Vec<BorrowedValue<'a>>, AllocError>
-    ensures { IfOk result (λ vs. items_view vs.items ≡ values_view values.now.items) }
+fn items_of<'a>(
+    alloc: Global,
+    values: &'a Vec<Value>,
+    arena: &'a Bump,
+) -> Result<&'a [BorrowedValue<'a>], AllocError>
+    ensures { IfOk result (λ vs. items_view vs.now ≡ values_view values.now.items) }
 {
     let mut items = Vec::with_capacity(alloc, values.len())?;
     for value in values {
-        items.push(borrowed_of_value(alloc, value)?)?;
+        items.push(borrowed_of_value(alloc, value, arena)?)?;
     }
-    Ok(items)
+    let kept: &'a [BorrowedValue<'a>] = arena.try_alloc_slice_copy(items.as_slice())?;
+    Ok(kept)
 }
 
 #[cycle(of_value)]
-fn members_of<'a>(alloc: Global, map: &'a Map<String, Value>) -> Result<Members<'a>, AllocError>
-    ensures { IfOk result (λ ms. members_view ms.items ≡ map_view map.now.entries) }
+fn members_of<'a>(
+    alloc: Global,
+    map: &'a Map<String, Value>,
+    arena: &'a Bump,
+) -> Result<Members<'a>, AllocError>
+    ensures { IfOk result (λ ms. members_view ms.now ≡ map_view map.now.entries) }
 {
     let mut members = Vec::with_capacity(alloc, map.len())?;
     for (key, value) in map.iter() {
-        members.push((key.as_str(), borrowed_of_value(alloc, value)?))?;
+        members.push((key.as_str(), borrowed_of_value(alloc, value, arena)?))?;
     }
-    Ok(members)
+    let kept: Members<'a> = arena.try_alloc_slice_copy(members.as_slice())?;
+    Ok(kept)
 }
 
 // The same number.

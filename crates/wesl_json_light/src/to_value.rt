@@ -23,8 +23,8 @@ pub fn value_of_borrowed(alloc: Global, value: &BorrowedValue<'_>) -> Result<Val
 }
 
 #[cycle(to_value)]
-fn values_of(alloc: Global, items: &Vec<BorrowedValue<'_>>) -> Result<Vec<Value>, AllocError>
-    ensures { IfOk result (λ vs. values_view vs.items ≡ items_view items.now.items) }
+fn values_of(alloc: Global, items: &[BorrowedValue<'_>]) -> Result<Vec<Value>, AllocError>
+    ensures { IfOk result (λ vs. values_view vs.items ≡ items_view items.now) }
 {
     let mut values = Vec::with_capacity(alloc, items.len())?;
     for item in items {
@@ -34,8 +34,8 @@ fn values_of(alloc: Global, items: &Vec<BorrowedValue<'_>>) -> Result<Vec<Value>
 }
 
 #[cycle(to_value)]
-fn map_of(alloc: Global, members: &Members<'_>) -> Result<Map<String, Value>, AllocError>
-    ensures { IfOk result (λ m. map_view m.entries ≡ members_view members.now.items) }
+fn map_of(alloc: Global, members: Members<'_>) -> Result<Map<String, Value>, AllocError>
+    ensures { IfOk result (λ m. map_view m.entries ≡ members_view members.now) }
 {
     let mut map = Map::new(alloc);
     for member in members {

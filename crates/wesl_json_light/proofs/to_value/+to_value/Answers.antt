@@ -8,11 +8,11 @@ use Rattle.wesl_json_light.proofs.to_value.+to_value.Goals as goal
 
 pub values_of-loop-item-preserved : goal.values_of-loop-item-preserved
 values_of-loop-item-preserved t c =
-    values-turn c.deref-item-items.result.now c.loop-item.item-index c.item-item.result c.loop-item.values.items c.push.new.self.items c.in_ok-value_of_borrowed.field-0 (search rules) (search rules) (search rules) c.loop-item.invariant c.in_ok-value_of_borrowed.ensures
+    values-turn c.args.items.now c.loop-item.item-index c.item-item.result c.loop-item.values.items c.push.new.self.items c.in_ok-value_of_borrowed.field-0 (search rules) (search rules) (search rules) c.loop-item.invariant c.in_ok-value_of_borrowed.ensures
 
 pub map_of-loop-member-preserved : goal.map_of-loop-member-preserved
 map_of-loop-member-preserved t c =
-    let xs = c.deref-member-items.result.now in
+    let xs = c.args.members.now in
     let m : Entry = c.member-item.result in
     let i = c.loop-member.member-index in
     let inside : i < length xs = search rules in
