@@ -174,8 +174,8 @@ impl Reader {
         &mut self,
         value: &'s BorrowedValue<'a>,
         key: &str,
-    ) -> Option<&'s Vec<BorrowedValue<'a>>>
-        ensures there { IfSome result (λ items. IsList self.old key.now (borrowed_view value.now) (items_view items.now.items)) }
+    ) -> Option<&'s [BorrowedValue<'a>]>
+        ensures there { IfSome result (λ items. IsList self.old key.now (borrowed_view value.now) (items_view items.now)) }
         ensures same { IfSome result (λ _. self.new ≡ self.old) }
         ensures lacks { IfNone result (NotesNoList key.now (borrowed_view value.now) self.old self.new) }
     {

@@ -51,17 +51,17 @@ expressions_member-read_expressions-requires t c =
 
 pub read_arguments-read_expression-requires : goal.read_arguments-read_expression-requires
 read_arguments-read_expression-requires t c =
-    let vs = c.deref-item-items.result.now in
-    let is : as_array (borrowed_view c.args.value.now) ≡ Some (items_view vs) = sym c.in-Some.ensures ∙ ap (λ l. Some (items_view l)) (sym c.deref-item-items.ensures.value) in
-    let below : depth (borrowed_view c.item-item.result) ≤ items_depth (items_view vs) = item-depth vs c.loop-index.index c.item-item.result c.loop-index-test.true c.item-item.is in
+    let vs = c.in-Some.items.now in
+    let is : as_array (borrowed_view c.args.value.now) ≡ Some (items_view vs) = sym c.in-Some.ensures in
+    let below : depth (borrowed_view c.index-items-index.result) ≤ items_depth (items_view vs) = item-depth vs c.loop-index.index c.index-items-index.result c.loop-index-test.true c.index-items-index.is in
     let deep : items_depth (items_view vs) < depth (borrowed_view c.args.value.now) = array-depth _ _ is in
     (omega arith, tt)
 
 pub read_expressions-read_expression-expression-requires : goal.read_expressions-read_expression-expression-requires
 read_expressions-read_expression-expression-requires t c =
-    let vs = c.deref-item-items.result.now in
-    let is : as_array (borrowed_view c.args.value.now) ≡ Some (items_view vs) = sym c.in-Some.ensures ∙ ap (λ l. Some (items_view l)) (sym c.deref-item-items.ensures.value) in
-    let below : depth (borrowed_view c.item-item.result) ≤ items_depth (items_view vs) = item-depth vs c.loop-index.index c.item-item.result c.loop-index-test.true c.item-item.is in
+    let vs = c.in-Some.items.now in
+    let is : as_array (borrowed_view c.args.value.now) ≡ Some (items_view vs) = sym c.in-Some.ensures in
+    let below : depth (borrowed_view c.index-items-index.result) ≤ items_depth (items_view vs) = item-depth vs c.loop-index.index c.index-items-index.result c.loop-index-test.true c.index-items-index.is in
     let deep : items_depth (items_view vs) < depth (borrowed_view c.args.value.now) = array-depth _ _ is in
     (omega arith, tt)
 
@@ -115,21 +115,21 @@ arguments_member-returns-in_default-clause-ok t c =
 
 pub read_arguments-loop-index-init : goal.read_arguments-loop-index-init
 read_arguments-loop-index-init t c =
-    list-none c.args.spans argument_view list a_template_argument (borrowed_view c.args.value.now) c.deref-item-items.result.now c.args.numbering.now c.room-arguments.result c.room-arguments.ensures.ok c.room-arguments.ensures.refused
+    list-none c.args.spans argument_view list a_template_argument (borrowed_view c.args.value.now) c.in-Some.items.now c.args.numbering.now c.room-arguments.result c.room-arguments.ensures.ok c.room-arguments.ensures.refused
 
 pub read_arguments-loop-index-preserved : goal.read_arguments-loop-index-preserved
 read_arguments-loop-index-preserved t c =
-    let vs = c.deref-item-items.result.now in
-    let is : as_array (borrowed_view c.args.value.now) ≡ Some (items_view vs) = sym c.in-Some.ensures ∙ ap (λ l. Some (items_view l)) (sym c.deref-item-items.ensures.value) in
-    let v = borrowed_view c.item-item.result in
+    let vs = c.in-Some.items.now in
+    let is : as_array (borrowed_view c.args.value.now) ≡ Some (items_view vs) = sym c.in-Some.ensures in
+    let v = borrowed_view c.index-items-index.result in
     let item = IfOk-weaker c.argument_of-argument.result _ (λ x. Reads c.args.spans (node a_template_argument) v (argument_view x) c.loop-index.numbering c.read_expression.new.numbering) (λ x h. same-reads (record { form = argument-form c.args.spans v (expression_tree h.0) _ _ (part (λ y. Reads c.args.spans (node an_expression) v (expression_tree y) c.loop-index.numbering c.read_expression.new.numbering) c.read_expression.result h.1 c.read_expression.ensures.ok).form }) (sym h.2)) c.argument_of-argument.ensures.ok in
     let fault = IfErr-weaker c.argument_of-argument.result (λ e. c.read_expression.result ≡ Err e) (Locates c.args.spans (node a_template_argument) v) (λ e told. argument-place c.args.spans v e (IfErr-at_err (Locates c.args.spans (node an_expression) v) told c.read_expression.ensures.place)) c.argument_of-argument.ensures.place in
-    list-turn c.args.spans argument_view list a_template_argument (borrowed_view c.args.value.now) vs is c.loop-index.index c.item-item.result c.args.numbering.now c.loop-index.numbering c.read_expression.new.numbering c.loop-index.arguments c.argument_of-argument.result c.loop-index-test.true c.item-item.is c.loop-index.invariant c.with_item-arguments.result item fault c.with_item-arguments.ensures.ok c.with_item-arguments.ensures.place
+    list-turn c.args.spans argument_view list a_template_argument (borrowed_view c.args.value.now) vs is c.loop-index.index c.index-items-index.result c.args.numbering.now c.loop-index.numbering c.read_expression.new.numbering c.loop-index.arguments c.argument_of-argument.result c.loop-index-test.true c.index-items-index.is c.loop-index.invariant c.with_item-arguments.result item fault c.with_item-arguments.ensures.ok c.with_item-arguments.ensures.place
 
 pub read_arguments-returns-clause-ok : goal.read_arguments-returns-clause-ok
 read_arguments-returns-clause-ok t c =
-    let vs = c.deref-item-items.result.now in
-    let is : as_array (borrowed_view c.args.value.now) ≡ Some (items_view vs) = sym c.in-Some.ensures ∙ ap (λ l. Some (items_view l)) (sym c.deref-item-items.ensures.value) in
+    let vs = c.in-Some.items.now in
+    let is : as_array (borrowed_view c.args.value.now) ≡ Some (items_view vs) = sym c.in-Some.ensures in
     list-whole c.args.spans argument_view list a_template_argument (borrowed_view c.args.value.now) vs is c.loop-index.index _ _ c.loop-index.arguments c.loop-index-test.false c.loop-index.invariant
 
 pub read_arguments-returns-clause-place : goal.read_arguments-returns-clause-place
@@ -137,18 +137,18 @@ read_arguments-returns-clause-place t c = c.loop-index.invariant.1
 
 pub read_expressions-loop-index-init : goal.read_expressions-loop-index-init
 read_expressions-loop-index-init t c =
-    list-none c.args.spans expression_tree list an_expression (borrowed_view c.args.value.now) c.deref-item-items.result.now c.args.numbering.now c.room-expressions.result c.room-expressions.ensures.ok c.room-expressions.ensures.refused
+    list-none c.args.spans expression_tree list an_expression (borrowed_view c.args.value.now) c.in-Some.items.now c.args.numbering.now c.room-expressions.result c.room-expressions.ensures.ok c.room-expressions.ensures.refused
 
 pub read_expressions-loop-index-preserved : goal.read_expressions-loop-index-preserved
 read_expressions-loop-index-preserved t c =
-    let vs = c.deref-item-items.result.now in
-    let is : as_array (borrowed_view c.args.value.now) ≡ Some (items_view vs) = sym c.in-Some.ensures ∙ ap (λ l. Some (items_view l)) (sym c.deref-item-items.ensures.value) in
-    list-turn c.args.spans expression_tree list an_expression (borrowed_view c.args.value.now) vs is c.loop-index.index c.item-item.result c.args.numbering.now c.loop-index.numbering c.read_expression-expression.new.numbering c.loop-index.expressions c.read_expression-expression.result c.loop-index-test.true c.item-item.is c.loop-index.invariant c.with_item-expressions.result c.read_expression-expression.ensures.ok c.read_expression-expression.ensures.place c.with_item-expressions.ensures.ok c.with_item-expressions.ensures.place
+    let vs = c.in-Some.items.now in
+    let is : as_array (borrowed_view c.args.value.now) ≡ Some (items_view vs) = sym c.in-Some.ensures in
+    list-turn c.args.spans expression_tree list an_expression (borrowed_view c.args.value.now) vs is c.loop-index.index c.index-items-index.result c.args.numbering.now c.loop-index.numbering c.read_expression-expression.new.numbering c.loop-index.expressions c.read_expression-expression.result c.loop-index-test.true c.index-items-index.is c.loop-index.invariant c.with_item-expressions.result c.read_expression-expression.ensures.ok c.read_expression-expression.ensures.place c.with_item-expressions.ensures.ok c.with_item-expressions.ensures.place
 
 pub read_expressions-returns-clause-ok : goal.read_expressions-returns-clause-ok
 read_expressions-returns-clause-ok t c =
-    let vs = c.deref-item-items.result.now in
-    let is : as_array (borrowed_view c.args.value.now) ≡ Some (items_view vs) = sym c.in-Some.ensures ∙ ap (λ l. Some (items_view l)) (sym c.deref-item-items.ensures.value) in
+    let vs = c.in-Some.items.now in
+    let is : as_array (borrowed_view c.args.value.now) ≡ Some (items_view vs) = sym c.in-Some.ensures in
     list-whole c.args.spans expression_tree list an_expression (borrowed_view c.args.value.now) vs is c.loop-index.index _ _ c.loop-index.expressions c.loop-index-test.false c.loop-index.invariant
 
 pub read_expressions-returns-clause-place : goal.read_expressions-returns-clause-place

@@ -66,8 +66,8 @@ decreases-read_arguments l = 10 * depth (borrowed_view l.value.now) + 2
 
 abbrev pub invariant-read_arguments-loop-index : goal.invariant-read_arguments-loop-index
 invariant-read_arguments-loop-index l =
-    IsListRead l.spans argument_view list a_template_argument (borrowed_view l.value) l.item-items l.index l.initial.numbering l.numbering l.arguments
+    IsListRead l.spans argument_view list a_template_argument (borrowed_view l.value) l.items l.index l.initial.numbering l.numbering l.arguments
 
 abbrev pub invariant-read_expressions-loop-index : goal.invariant-read_expressions-loop-index
 invariant-read_expressions-loop-index l =
-    IsListRead l.spans expression_tree list an_expression (borrowed_view l.value) l.item-items l.index l.initial.numbering l.numbering l.expressions
+    IsListRead l.spans expression_tree list an_expression (borrowed_view l.value) l.items l.index l.initial.numbering l.numbering l.expressions

@@ -5,8 +5,8 @@ use Rattle.wesl_json_form.specs.Reading.{span_of_items}
 use Rattle.wesl_json_read.proofs.Pairs.{no_pair}
 use Rattle.wesl_json_read.proofs.fields.span_of.Goals as goal
 
-pub returns-then-len-ne2 : goal.returns-then-len-ne2
-returns-then-len-ne2 c =
-    let is : as_array (borrowed_view c.args.value.now) ≡ Some (items_view c.in_ok-items.items.now.items) = search rules in
-    let other : (length c.in_ok-items.items.now.items == 2) ≡ false = search rules in
-    sym (ap (option_and_then span_of_items) is ∙ no_pair c.in_ok-items.items.now.items other)
+pub returns-then-items-ne2 : goal.returns-then-items-ne2
+returns-then-items-ne2 c =
+    let is : as_array (borrowed_view c.args.value.now) ≡ Some (items_view c.in_ok-items.items.now) = search rules in
+    let other : (length c.in_ok-items.items.now == 2) ≡ false = search rules in
+    sym (ap (option_and_then span_of_items) is ∙ no_pair c.in_ok-items.items.now other)

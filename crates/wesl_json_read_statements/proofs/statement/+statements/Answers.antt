@@ -2,7 +2,7 @@ use Rattle.wesl_json_read_statements.proofs.Exits.{condition-place, no_list, non
 use Rattle.serde_json.specs.Data.{depth, items_depth}
 use Rattle.serde_json.specs.Find.{as_array}
 use Rattle.wesl_json_form.specs.View.{borrowed_view, items_view}
-use Rattle.std.proofs.Common.{Some, ap, ◌∙◌, arith, codes, false, inl, inr, refl, subst, sym, true, ◌<◌, ◌≡◌, ◌≤◌}
+use Rattle.std.proofs.Common.{Some, arith, codes, false, inl, inr, refl, subst, sym, true, ◌<◌, ◌≡◌, ◌≤◌}
 use Rattle.wesl_json_form.specs.Nodes.{attrs, body_row, condition_row}
 use Rattle.wesl_json_form.specs.Reading.{known_keys}
 use Rattle.wesl_json_form.specs.Keys.{has_only}
@@ -61,9 +61,9 @@ statements_member-returns-clause-place t c =
 
 pub read_statements-read_statement-requires : goal.read_statements-read_statement-requires
 read_statements-read_statement-requires t c =
-    let vs = c.deref-item-items.result.now in
-    let is : as_array (borrowed_view c.args.value.now) ≡ Some (items_view vs) = sym c.in-Some.ensures ∙ ap (λ l. Some (items_view l)) (sym c.deref-item-items.ensures.value) in
-    let below : depth (borrowed_view c.item-item.result) ≤ items_depth (items_view vs) = item-depth vs c.loop-index.index c.item-item.result c.loop-index-test.true c.item-item.is in
+    let vs = c.in-Some.items.now in
+    let is : as_array (borrowed_view c.args.value.now) ≡ Some (items_view vs) = sym c.in-Some.ensures in
+    let below : depth (borrowed_view c.index-items-index.result) ≤ items_depth (items_view vs) = item-depth vs c.loop-index.index c.index-items-index.result c.loop-index-test.true c.index-items-index.is in
     let deep : items_depth (items_view vs) < depth (borrowed_view c.args.value.now) = array-depth _ _ is in
     (omega arith, tt)
 
@@ -99,9 +99,9 @@ elifs_member-returns-clause-place t c =
 
 pub read_elifs-read_elif-requires : goal.read_elifs-read_elif-requires
 read_elifs-read_elif-requires t c =
-    let vs = c.deref-item-items.result.now in
-    let is : as_array (borrowed_view c.args.value.now) ≡ Some (items_view vs) = sym c.in-Some.ensures ∙ ap (λ l. Some (items_view l)) (sym c.deref-item-items.ensures.value) in
-    let below : depth (borrowed_view c.item-item.result) ≤ items_depth (items_view vs) = item-depth vs c.loop-index.index c.item-item.result c.loop-index-test.true c.item-item.is in
+    let vs = c.in-Some.items.now in
+    let is : as_array (borrowed_view c.args.value.now) ≡ Some (items_view vs) = sym c.in-Some.ensures in
+    let below : depth (borrowed_view c.index-items-index.result) ≤ items_depth (items_view vs) = item-depth vs c.loop-index.index c.index-items-index.result c.loop-index-test.true c.index-items-index.is in
     let deep : items_depth (items_view vs) < depth (borrowed_view c.args.value.now) = array-depth _ _ is in
     (omega arith, tt)
 
@@ -135,9 +135,9 @@ clauses_member-returns-clause-place t c =
 
 pub read_clauses-read_clause-requires : goal.read_clauses-read_clause-requires
 read_clauses-read_clause-requires t c =
-    let vs = c.deref-item-items.result.now in
-    let is : as_array (borrowed_view c.args.value.now) ≡ Some (items_view vs) = sym c.in-Some.ensures ∙ ap (λ l. Some (items_view l)) (sym c.deref-item-items.ensures.value) in
-    let below : depth (borrowed_view c.item-item.result) ≤ items_depth (items_view vs) = item-depth vs c.loop-index.index c.item-item.result c.loop-index-test.true c.item-item.is in
+    let vs = c.in-Some.items.now in
+    let is : as_array (borrowed_view c.args.value.now) ≡ Some (items_view vs) = sym c.in-Some.ensures in
+    let below : depth (borrowed_view c.index-items-index.result) ≤ items_depth (items_view vs) = item-depth vs c.loop-index.index c.index-items-index.result c.loop-index-test.true c.index-items-index.is in
     let deep : items_depth (items_view vs) < depth (borrowed_view c.args.value.now) = array-depth _ _ is in
     (omega arith, tt)
 
@@ -605,18 +605,18 @@ read_continuing-returns-in-Ok-optional_break_if-clause-ok t c =
 
 pub read_statements-loop-index-init : goal.read_statements-loop-index-init
 read_statements-loop-index-init t c =
-    list-none c.args.spans statement_tree statements a_statement (borrowed_view c.args.value.now) c.deref-item-items.result.now c.args.numbering.now c.room-statements.result c.room-statements.ensures.ok c.room-statements.ensures.refused
+    list-none c.args.spans statement_tree statements a_statement (borrowed_view c.args.value.now) c.in-Some.items.now c.args.numbering.now c.room-statements.result c.room-statements.ensures.ok c.room-statements.ensures.refused
 
 pub read_statements-loop-index-preserved : goal.read_statements-loop-index-preserved
 read_statements-loop-index-preserved t c =
-    let vs = c.deref-item-items.result.now in
-    let is : as_array (borrowed_view c.args.value.now) ≡ Some (items_view vs) = sym c.in-Some.ensures ∙ ap (λ l. Some (items_view l)) (sym c.deref-item-items.ensures.value) in
-    list-turn c.args.spans statement_tree statements a_statement (borrowed_view c.args.value.now) vs is c.loop-index.index c.item-item.result c.args.numbering.now c.loop-index.numbering c.read_statement.new.numbering c.loop-index.statements c.read_statement.result c.loop-index-test.true c.item-item.is c.loop-index.invariant c.with_item-statements.result c.read_statement.ensures.ok c.read_statement.ensures.place c.with_item-statements.ensures.ok c.with_item-statements.ensures.place
+    let vs = c.in-Some.items.now in
+    let is : as_array (borrowed_view c.args.value.now) ≡ Some (items_view vs) = sym c.in-Some.ensures in
+    list-turn c.args.spans statement_tree statements a_statement (borrowed_view c.args.value.now) vs is c.loop-index.index c.index-items-index.result c.args.numbering.now c.loop-index.numbering c.read_statement.new.numbering c.loop-index.statements c.read_statement.result c.loop-index-test.true c.index-items-index.is c.loop-index.invariant c.with_item-statements.result c.read_statement.ensures.ok c.read_statement.ensures.place c.with_item-statements.ensures.ok c.with_item-statements.ensures.place
 
 pub read_statements-returns-clause-ok : goal.read_statements-returns-clause-ok
 read_statements-returns-clause-ok t c =
-    let vs = c.deref-item-items.result.now in
-    let is : as_array (borrowed_view c.args.value.now) ≡ Some (items_view vs) = sym c.in-Some.ensures ∙ ap (λ l. Some (items_view l)) (sym c.deref-item-items.ensures.value) in
+    let vs = c.in-Some.items.now in
+    let is : as_array (borrowed_view c.args.value.now) ≡ Some (items_view vs) = sym c.in-Some.ensures in
     list-whole c.args.spans statement_tree statements a_statement (borrowed_view c.args.value.now) vs is c.loop-index.index _ _ c.loop-index.statements c.loop-index-test.false c.loop-index.invariant
 
 pub read_statements-returns-clause-place : goal.read_statements-returns-clause-place
@@ -624,18 +624,18 @@ read_statements-returns-clause-place t c = c.loop-index.invariant.1
 
 pub read_elifs-loop-index-init : goal.read_elifs-loop-index-init
 read_elifs-loop-index-init t c =
-    list-none c.args.spans else_if_view list an_elif (borrowed_view c.args.value.now) c.deref-item-items.result.now c.args.numbering.now c.room-clauses.result c.room-clauses.ensures.ok c.room-clauses.ensures.refused
+    list-none c.args.spans else_if_view list an_elif (borrowed_view c.args.value.now) c.in-Some.items.now c.args.numbering.now c.room-clauses.result c.room-clauses.ensures.ok c.room-clauses.ensures.refused
 
 pub read_elifs-loop-index-preserved : goal.read_elifs-loop-index-preserved
 read_elifs-loop-index-preserved t c =
-    let vs = c.deref-item-items.result.now in
-    let is : as_array (borrowed_view c.args.value.now) ≡ Some (items_view vs) = sym c.in-Some.ensures ∙ ap (λ l. Some (items_view l)) (sym c.deref-item-items.ensures.value) in
-    list-turn c.args.spans else_if_view list an_elif (borrowed_view c.args.value.now) vs is c.loop-index.index c.item-item.result c.args.numbering.now c.loop-index.numbering c.read_elif.new.numbering c.loop-index.clauses c.read_elif.result c.loop-index-test.true c.item-item.is c.loop-index.invariant c.with_item-clauses.result c.read_elif.ensures.ok c.read_elif.ensures.place c.with_item-clauses.ensures.ok c.with_item-clauses.ensures.place
+    let vs = c.in-Some.items.now in
+    let is : as_array (borrowed_view c.args.value.now) ≡ Some (items_view vs) = sym c.in-Some.ensures in
+    list-turn c.args.spans else_if_view list an_elif (borrowed_view c.args.value.now) vs is c.loop-index.index c.index-items-index.result c.args.numbering.now c.loop-index.numbering c.read_elif.new.numbering c.loop-index.clauses c.read_elif.result c.loop-index-test.true c.index-items-index.is c.loop-index.invariant c.with_item-clauses.result c.read_elif.ensures.ok c.read_elif.ensures.place c.with_item-clauses.ensures.ok c.with_item-clauses.ensures.place
 
 pub read_elifs-returns-clause-ok : goal.read_elifs-returns-clause-ok
 read_elifs-returns-clause-ok t c =
-    let vs = c.deref-item-items.result.now in
-    let is : as_array (borrowed_view c.args.value.now) ≡ Some (items_view vs) = sym c.in-Some.ensures ∙ ap (λ l. Some (items_view l)) (sym c.deref-item-items.ensures.value) in
+    let vs = c.in-Some.items.now in
+    let is : as_array (borrowed_view c.args.value.now) ≡ Some (items_view vs) = sym c.in-Some.ensures in
     list-whole c.args.spans else_if_view list an_elif (borrowed_view c.args.value.now) vs is c.loop-index.index _ _ c.loop-index.clauses c.loop-index-test.false c.loop-index.invariant
 
 pub read_elifs-returns-clause-place : goal.read_elifs-returns-clause-place
@@ -643,18 +643,18 @@ read_elifs-returns-clause-place t c = c.loop-index.invariant.1
 
 pub read_clauses-loop-index-init : goal.read_clauses-loop-index-init
 read_clauses-loop-index-init t c =
-    list-none c.args.spans clause_view clauses a_clause (borrowed_view c.args.value.now) c.deref-item-items.result.now c.args.numbering.now c.room-clauses.result c.room-clauses.ensures.ok c.room-clauses.ensures.refused
+    list-none c.args.spans clause_view clauses a_clause (borrowed_view c.args.value.now) c.in-Some.items.now c.args.numbering.now c.room-clauses.result c.room-clauses.ensures.ok c.room-clauses.ensures.refused
 
 pub read_clauses-loop-index-preserved : goal.read_clauses-loop-index-preserved
 read_clauses-loop-index-preserved t c =
-    let vs = c.deref-item-items.result.now in
-    let is : as_array (borrowed_view c.args.value.now) ≡ Some (items_view vs) = sym c.in-Some.ensures ∙ ap (λ l. Some (items_view l)) (sym c.deref-item-items.ensures.value) in
-    list-turn c.args.spans clause_view clauses a_clause (borrowed_view c.args.value.now) vs is c.loop-index.index c.item-item.result c.args.numbering.now c.loop-index.numbering c.read_clause.new.numbering c.loop-index.clauses c.read_clause.result c.loop-index-test.true c.item-item.is c.loop-index.invariant c.with_item-clauses.result c.read_clause.ensures.ok c.read_clause.ensures.place c.with_item-clauses.ensures.ok c.with_item-clauses.ensures.place
+    let vs = c.in-Some.items.now in
+    let is : as_array (borrowed_view c.args.value.now) ≡ Some (items_view vs) = sym c.in-Some.ensures in
+    list-turn c.args.spans clause_view clauses a_clause (borrowed_view c.args.value.now) vs is c.loop-index.index c.index-items-index.result c.args.numbering.now c.loop-index.numbering c.read_clause.new.numbering c.loop-index.clauses c.read_clause.result c.loop-index-test.true c.index-items-index.is c.loop-index.invariant c.with_item-clauses.result c.read_clause.ensures.ok c.read_clause.ensures.place c.with_item-clauses.ensures.ok c.with_item-clauses.ensures.place
 
 pub read_clauses-returns-clause-ok : goal.read_clauses-returns-clause-ok
 read_clauses-returns-clause-ok t c =
-    let vs = c.deref-item-items.result.now in
-    let is : as_array (borrowed_view c.args.value.now) ≡ Some (items_view vs) = sym c.in-Some.ensures ∙ ap (λ l. Some (items_view l)) (sym c.deref-item-items.ensures.value) in
+    let vs = c.in-Some.items.now in
+    let is : as_array (borrowed_view c.args.value.now) ≡ Some (items_view vs) = sym c.in-Some.ensures in
     list-whole c.args.spans clause_view clauses a_clause (borrowed_view c.args.value.now) vs is c.loop-index.index _ _ c.loop-index.clauses c.loop-index-test.false c.loop-index.invariant
 
 pub read_clauses-returns-clause-place : goal.read_clauses-returns-clause-place

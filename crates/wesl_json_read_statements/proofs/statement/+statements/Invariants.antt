@@ -83,10 +83,10 @@ abbrev pub decreases-read_clauses : goal.decreases-read_clauses
 decreases-read_clauses l = 10 * depth (borrowed_view l.value.now) + 2
 
 abbrev pub invariant-read_statements-loop-index : goal.invariant-read_statements-loop-index
-invariant-read_statements-loop-index l = IsListRead l.spans statement_tree statements a_statement (borrowed_view l.value) l.item-items l.index l.initial.numbering l.numbering l.statements
+invariant-read_statements-loop-index l = IsListRead l.spans statement_tree statements a_statement (borrowed_view l.value) l.items l.index l.initial.numbering l.numbering l.statements
 
 abbrev pub invariant-read_elifs-loop-index : goal.invariant-read_elifs-loop-index
-invariant-read_elifs-loop-index l = IsListRead l.spans else_if_view list an_elif (borrowed_view l.value) l.item-items l.index l.initial.numbering l.numbering l.clauses
+invariant-read_elifs-loop-index l = IsListRead l.spans else_if_view list an_elif (borrowed_view l.value) l.items l.index l.initial.numbering l.numbering l.clauses
 
 abbrev pub invariant-read_clauses-loop-index : goal.invariant-read_clauses-loop-index
-invariant-read_clauses-loop-index l = IsListRead l.spans clause_view clauses a_clause (borrowed_view l.value) l.item-items l.index l.initial.numbering l.numbering l.clauses
+invariant-read_clauses-loop-index l = IsListRead l.spans clause_view clauses a_clause (borrowed_view l.value) l.items l.index l.initial.numbering l.numbering l.clauses

@@ -2,7 +2,7 @@ use Rattle.std.specs.Option.{is_some}
 use Rattle.serde_json.specs.Find.{get}
 use Rattle.serde_json.specs.Data.{array, depth, items_depth}
 use Rattle.wesl_json_form.specs.View.{borrowed_view, items_view}
-use Rattle.std.proofs.Common.{Some, ap, arith, codes, refl, rules, sym, true, ◌≡◌, ◌<◌, ◌≤◌, ◌∙◌}
+use Rattle.std.proofs.Common.{Some, arith, codes, refl, rules, sym, true, ◌≡◌, ◌<◌, ◌≤◌, ◌∙◌}
 use Rattle.wesl_json_form.specs.Schema.{an_entry}
 use Rattle.wesl_json_read.proofs.Depths.{array-depth, get-depth, item-depth}
 use Rattle.wesl_tree_syntax.specs.Tree.{list}
@@ -19,9 +19,9 @@ content_member-content-content-requires t c =
 
 pub entries-entry-entry-requires : goal.entries-entry-entry-requires
 entries-entry-entry-requires t c =
-    let vs = c.deref-item-items.result.now in
-    let below : depth (borrowed_view c.item-item.result) ≤ items_depth (items_view vs) = item-depth vs c.loop-index.index c.item-item.result c.loop-index-test.true c.item-item.is in
-    let found : get (codes "list") (borrowed_view c.args.value.now) ≡ Some (array (items_view vs)) = c.in-Some.ensures.there.found ∙ ap (λ l. Some (array (items_view l))) (sym c.deref-item-items.ensures.value) in
+    let vs = c.in-Some.items.now in
+    let below : depth (borrowed_view c.index-items-index.result) ≤ items_depth (items_view vs) = item-depth vs c.loop-index.index c.index-items-index.result c.loop-index-test.true c.index-items-index.is in
+    let found : get (codes "list") (borrowed_view c.args.value.now) ≡ Some (array (items_view vs)) = c.in-Some.ensures.there.found in
     let deep : items_depth (items_view vs) < depth (array (items_view vs)) = array-depth (array (items_view vs)) (items_view vs) refl in
     let low : depth (array (items_view vs)) < depth (borrowed_view c.args.value.now) = get-depth (codes "list") (borrowed_view c.args.value.now) (array (items_view vs)) found in
     (omega arith, tt)
@@ -38,12 +38,12 @@ entries-loop-index-init t c = no_items entry_view list an_entry c.in-Some.ensure
 pub entries-loop-index-preserved : goal.entries-loop-index-preserved
 entries-loop-index-preserved t c =
     elim c.if-not-is_stopped.branch [
-      | entries-then-not-is_stopped w ↦ rw (w.self-is, w.entries-is) (one_item entry_view list an_entry c.loop-index-test.true c.item-item.is c.loop-index.invariant (is_clear _ (sym c.is_stopped.ensures ∙ w.if-not-is_stopped.true)) w.entry-entry.ensures w.put.ensures.put w.put.ensures.noted)
+      | entries-then-not-is_stopped w ↦ rw (w.self-is, w.entries-is) (one_item entry_view list an_entry c.loop-index-test.true c.index-items-index.is c.loop-index.invariant (is_clear _ (sym c.is_stopped.ensures ∙ w.if-not-is_stopped.true)) w.entry-entry.ensures w.put.ensures.put w.put.ensures.noted)
       | entries-else-not-is_stopped w ↦ rw (w.self-is, w.entries-is) (stopped entry_view list an_entry (sym c.is_stopped.ensures ∙ w.if-not-is_stopped.false) c.loop-index.invariant)
     ]
 
 pub entries-returns : goal.entries-returns
-entries-returns t c = all_items entry_view list an_entry c.deref-item-items.ensures.value c.in-Some.ensures.there c.loop-index-test.false c.loop-index.invariant c.within.ensures
+entries-returns t c = all_items entry_view list an_entry refl c.in-Some.ensures.there c.loop-index-test.false c.loop-index.invariant c.within.ensures
 
 pub entries-returns-in_default : goal.entries-returns-in_default
 entries-returns-in_default t c = no_list entry_view list an_entry c.new.ensures.items c.in_default.ensures.lacks

@@ -20,4 +20,4 @@ abbrev pub decreases-entry : goal.decreases-entry
 decreases-entry l = 10 * depth (borrowed_view l.value.now) + 7
 
 abbrev pub invariant-entries-loop-index : goal.invariant-entries-loop-index
-invariant-entries-loop-index l = NotesItems entry_view list an_entry l.item-items l.index l.entries.items l.fn.self l.self
+invariant-entries-loop-index l = NotesItems entry_view list an_entry l.items l.index l.entries.items l.fn.self l.self

@@ -5,4 +5,4 @@ use Rattle.wesl_json_read_unit.proofs.Noting.{NotesItems}
 use Rattle.wesl_json_read_unit.proofs.reader.Reader.declarations.Given as goal
 
 abbrev pub invariant-loop-index : goal.invariant-loop-index
-invariant-loop-index l = NotesItems (placed global_view declaration_node) declarations a_declaration l.item-items l.index l.declarations.items l.fn.self l.self
+invariant-loop-index l = NotesItems (placed global_view declaration_node) declarations a_declaration l.items l.index l.declarations.items l.fn.self l.self

@@ -5,4 +5,4 @@ use Rattle.wesl_json_read_unit.proofs.Noting.{NotesItems}
 use Rattle.wesl_json_read_unit.proofs.reader.Reader.imports.Given as goal
 
 abbrev pub invariant-loop-index : goal.invariant-loop-index
-invariant-loop-index l = NotesItems (placed import_view import_node) imports an_import l.item-items l.index l.imports.items l.fn.self l.self
+invariant-loop-index l = NotesItems (placed import_view import_node) imports an_import l.items l.index l.imports.items l.fn.self l.self

@@ -5,4 +5,4 @@ use Rattle.wesl_json_read_unit.proofs.Noting.{NotesItems}
 use Rattle.wesl_json_read_unit.proofs.reader.Reader.members.Given as goal
 
 abbrev pub invariant-loop-index : goal.invariant-loop-index
-invariant-loop-index l = NotesItems (placed member_view member_node) members a_member l.item-items l.index l.members.items l.fn.self l.self
+invariant-loop-index l = NotesItems (placed member_view member_node) members a_member l.items l.index l.members.items l.fn.self l.self
