@@ -10,6 +10,7 @@ ghost use Rattle.wesl_json.specs.UnitTexts.{IsUnreadable, PrintsAs, ReadsAs, cho
 use crate::places::shows_span;
 use crate::unit::unit_of_borrowed;
 use crate::value_text::{borrowed_of_text, text_of_value};
+use bumpalo::Bump;
 use json::Scratch;
 use std::alloc::Global;
 use wesl_json_light::{law_of_units, law_of_whole_values};
@@ -48,7 +49,8 @@ fn unit_of_text(alloc: Global, text: &str) -> Result<TranslationUnit, Error>
     ensures refused { IfErr result (λ e. (e ≡ error.Memory) ⊎ IsUnreadable text.now e) }
 {
     let mut scratch = Scratch::new(alloc);
-    let value = borrowed_of_text(alloc, text, &mut scratch)?;
+    let arena = Bump::new(alloc);
+    let value = borrowed_of_text(alloc, text, &mut scratch, &arena)?;
     unit_of_borrowed(alloc, &value)
 }
 

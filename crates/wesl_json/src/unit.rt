@@ -11,6 +11,7 @@ ghost use Rattle.wesl_json_light.specs.Readable.{IsReadable};
 ghost use Rattle.wesl_json_read.specs.Faults.{IfPlace};
 ghost use Rattle.wesl_json.specs.ReadAgain.{OfWritten};
 
+use bumpalo::Bump;
 use serde_json::Value;
 use std::alloc::Global;
 use wesl_json_form::BorrowedValue;
@@ -40,7 +41,8 @@ pub fn unit_of_value(alloc: Global, value: &Value) -> Result<TranslationUnit, Er
     ensures only_readable { IfOk result (λ _. OfWritten (view value.now) IsReadable) }
     ensures is_read { IfErr result (λ e. OfWritten (view value.now) (λ u. IsReadable u → e ≡ error.Memory)) }
 {
-    let light = borrowed_of_value(alloc, value)?;
+    let arena = Bump::new(alloc);
+    let light = borrowed_of_value(alloc, value, &arena)?;
     unit_of_borrowed(alloc, &light)
 }
 

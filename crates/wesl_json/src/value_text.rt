@@ -7,6 +7,7 @@ ghost use Rattle.wesl_json_form.specs.View.{borrowed_view};
 ghost use Rattle.wesl_tree_names.specs.declared.errors.Error as error;
 ghost use Rattle.wesl_json.specs.Texts.{IsNoJson, IsTextOf};
 
+use bumpalo::Bump;
 use json::Scratch;
 use serde_json::Value;
 use std::alloc::Global;
@@ -27,18 +28,20 @@ pub fn value_of_text(alloc: Global, text: &str) -> Result<Value, Error>
     }
 }
 
-/// The same value in its light form: its texts stand in the text, or, where they have escapes, in the scratch.
+/// The same value in its light form: its texts stand in the text, or, where they have escapes, in the scratch; its
+/// lists stand in the arena.
 ///
 /// Refused as `value_of_text` refuses.
 pub fn borrowed_of_text<'a>(
     alloc: Global,
     text: &'a str,
     scratch: &'a mut Scratch,
+    arena: &'a Bump,
 ) -> Result<BorrowedValue<'a>, Error>
     ensures value { IfOk result (λ v. read text.now ≡ Some (borrowed_view v)) }
     ensures refused { IfErr result (IsNoJson text.now) }
 {
-    match read_borrowed(alloc, text, scratch) {
+    match read_borrowed(alloc, text, scratch, arena) {
         Ok(value) => Ok(value),
         Err(ReadFault::Memory) => Err(Error::Memory),
         Err(ReadFault::NotJson) => Err(Error::NotJson),

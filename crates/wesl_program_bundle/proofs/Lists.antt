@@ -57,8 +57,8 @@ no-list f k d v inner outer found none here under =
     LocatesMember-under (optional k (a_list_of f)) d v inner outer found (Locates-here (a_list_of f) v inner here none) under
 
 -- the items of the list that is there
-pub items-there : (o : Option Data) (v : Data) (vs ws : List BorrowedValue) → o ≡ Some v → as_array v ≡ Some (items_view vs) → ws ≡ vs → AreItems o ws
-items-there o v vs ws found is same = subst (λ x. AreItems x ws) (sym found) (is ∙ ap (λ l. Some (items_view l)) (sym same))
+pub items-there : (o : Option Data) (v : Data) (vs : List BorrowedValue) → o ≡ Some v → as_array v ≡ Some (items_view vs) → AreItems o vs
+items-there o v vs found is = subst (λ x. AreItems x vs) (sym found) is
 
 -- ---- the items before i are read, or there is a fault
 

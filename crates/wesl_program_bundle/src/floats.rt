@@ -42,8 +42,8 @@ fn is_whole(value: &BorrowedValue<'_>) -> bool
 }
 
 #[cycle(whole)]
-fn are_whole(items: &Vec<BorrowedValue<'_>>) -> bool
-    ensures { result ≡ true → items_have_float (borrowed_items_view items.now.items) ≡ false }
+fn are_whole(items: &[BorrowedValue<'_>]) -> bool
+    ensures { result ≡ true → items_have_float (borrowed_items_view items.now) ≡ false }
 {
     for item in items {
         if !is_whole(item) {
@@ -54,8 +54,8 @@ fn are_whole(items: &Vec<BorrowedValue<'_>>) -> bool
 }
 
 #[cycle(whole)]
-fn have_whole(members: &Members<'_>) -> bool
-    ensures { result ≡ true → members_have_float (borrowed_members_view members.now.items) ≡ false }
+fn have_whole(members: Members<'_>) -> bool
+    ensures { result ≡ true → members_have_float (borrowed_members_view members.now) ≡ false }
 {
     for member in members {
         if !is_whole(&member.1) {

@@ -160,7 +160,7 @@ pub(crate) fn name_member(
     }
 }
 
-// A copy of what is at the key, which has to be there.
+// What is at the key, which has to be there.
 pub(crate) fn unit_member<'t>(
     alloc: Global,
     value: &BorrowedValue<'t>,
@@ -170,10 +170,7 @@ pub(crate) fn unit_member<'t>(
     ensures place { IfErr result (LocatesMember (required key.now a_unit) (borrowed_view value.now)) }
 {
     match value.get(key) {
-        Some(unit) => match unit.try_clone(alloc) {
-            Ok(unit) => Ok(unit),
-            Err(_) => Err(BundleError::Memory),
-        },
+        Some(unit) => Ok(*unit),
         None => Err(wrong(alloc)),
     }
 }

@@ -8,24 +8,24 @@ use Rattle.wesl_program_bundle.proofs.Lists.{AreItems, all-read, items-there, li
 use Rattle.wesl_program_bundle.proofs.bundle.modules_member.Goals as goal
 
 pub loop-index-init : goal.loop-index-init
-loop-index-init c = none-read module_view module_in a_module c.args.key.now (borrowed_view c.args.value.now) c.deref-item-items.result.now c.new-2.result (search rules)
+loop-index-init c = none-read module_view module_in a_module c.args.key.now (borrowed_view c.args.value.now) c.in-Some-as_array.items.now c.new-2.result (search rules)
 
 pub loop-index-preserved : goal.loop-index-preserved
 loop-index-preserved c =
-    let vs = c.deref-item-items.result.now in
-    let are : AreItems (get c.args.key.now (borrowed_view c.args.value.now)) c.deref-item-items.result.now = items-there _ (borrowed_view c.in-Some.list.now) c.in-Some-as_array.items.now.items c.deref-item-items.result.now (sym c.in-Some.ensures) (sym c.in-Some-as_array.ensures) c.deref-item-items.ensures.value in
-    one-read module_view module_in a_module c.args.key.now (borrowed_view c.args.value.now) vs are c.loop-index.index c.loop-index.modules c.loop-index.invariant c.item-item.result c.loop-index-test.true c.item-item.is c.module_of-module.result c.module_of-module.ensures.ok c.module_of-module.ensures.place c.with_item-modules.result c.with_item-modules.ensures.ok c.with_item-modules.ensures.place
+    let vs = c.in-Some-as_array.items.now in
+    let are : AreItems (get c.args.key.now (borrowed_view c.args.value.now)) c.in-Some-as_array.items.now = items-there _ (borrowed_view c.in-Some.list.now) c.in-Some-as_array.items.now (sym c.in-Some.ensures) (sym c.in-Some-as_array.ensures) in
+    one-read module_view module_in a_module c.args.key.now (borrowed_view c.args.value.now) vs are c.loop-index.index c.loop-index.modules c.loop-index.invariant c.index-items-index.result c.loop-index-test.true c.index-items-index.is c.module_of-module.result c.module_of-module.ensures.ok c.module_of-module.ensures.place c.with_item-modules.result c.with_item-modules.ensures.ok c.with_item-modules.ensures.place
 
 pub returns-clause-ok : goal.returns-clause-ok
 returns-clause-ok c =
-    let vs = c.deref-item-items.result.now in
-    let are : AreItems (get c.args.key.now (borrowed_view c.args.value.now)) c.deref-item-items.result.now = items-there _ (borrowed_view c.in-Some.list.now) c.in-Some-as_array.items.now.items c.deref-item-items.result.now (sym c.in-Some.ensures) (sym c.in-Some-as_array.ensures) c.deref-item-items.ensures.value in
+    let vs = c.in-Some-as_array.items.now in
+    let are : AreItems (get c.args.key.now (borrowed_view c.args.value.now)) c.in-Some-as_array.items.now = items-there _ (borrowed_view c.in-Some.list.now) c.in-Some-as_array.items.now (sym c.in-Some.ensures) (sym c.in-Some-as_array.ensures) in
     all-read module_view module_in a_module c.args.key.now (borrowed_view c.args.value.now) vs are c.loop-index.index c.loop-index.modules c.loop-index.invariant c.loop-index-test.false c.inside.result c.inside.ensures.ok
 
 pub returns-clause-place : goal.returns-clause-place
 returns-clause-place c =
-    let vs = c.deref-item-items.result.now in
-    let are : AreItems (get c.args.key.now (borrowed_view c.args.value.now)) c.deref-item-items.result.now = items-there _ (borrowed_view c.in-Some.list.now) c.in-Some-as_array.items.now.items c.deref-item-items.result.now (sym c.in-Some.ensures) (sym c.in-Some-as_array.ensures) c.deref-item-items.ensures.value in
+    let vs = c.in-Some-as_array.items.now in
+    let are : AreItems (get c.args.key.now (borrowed_view c.args.value.now)) c.in-Some-as_array.items.now = items-there _ (borrowed_view c.in-Some.list.now) c.in-Some-as_array.items.now (sym c.in-Some.ensures) (sym c.in-Some-as_array.ensures) in
     list-fault module_view module_in a_module c.args.key.now (borrowed_view c.args.value.now) vs are c.loop-index.index c.loop-index.modules c.loop-index.invariant c.inside.result c.inside.ensures.place
 
 pub returns-in_default-as_array-clause-place : goal.returns-in_default-as_array-clause-place

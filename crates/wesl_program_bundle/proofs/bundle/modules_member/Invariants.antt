@@ -6,4 +6,4 @@ use Rattle.wesl_program_bundle.proofs.Lists.{AreRead}
 use Rattle.wesl_program_bundle.proofs.bundle.modules_member.Given as goal
 
 abbrev pub invariant-loop-index : goal.invariant-loop-index
-invariant-loop-index l = AreRead module_view module_in a_module l.key (borrowed_view l.value) l.item-items l.index l.modules
+invariant-loop-index l = AreRead module_view module_in a_module l.key (borrowed_view l.value) l.items l.index l.modules

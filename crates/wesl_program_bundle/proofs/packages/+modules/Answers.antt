@@ -18,24 +18,24 @@ use Rattle.wesl_program_bundle.proofs.Places.{IfPlace-more, Locates-here, module
 use Rattle.wesl_program_bundle.proofs.packages.+modules.Goals as goal
 
 pub modules_member-loop-index-init : goal.modules_member-loop-index-init
-modules_member-loop-index-init t c = none-read package_module_view package_module_in a_package_module c.args.key.now (borrowed_view c.args.value.now) c.deref-item-items.result.now c.new-2.result (search rules)
+modules_member-loop-index-init t c = none-read package_module_view package_module_in a_package_module c.args.key.now (borrowed_view c.args.value.now) c.in-Some-as_array.items.now c.new-2.result (search rules)
 
 pub modules_member-loop-index-preserved : goal.modules_member-loop-index-preserved
 modules_member-loop-index-preserved t c =
-    let vs = c.deref-item-items.result.now in
-    let are : AreItems (get c.args.key.now (borrowed_view c.args.value.now)) c.deref-item-items.result.now = items-there _ (borrowed_view c.in-Some.list.now) c.in-Some-as_array.items.now.items c.deref-item-items.result.now (sym c.in-Some.ensures) (sym c.in-Some-as_array.ensures) c.deref-item-items.ensures.value in
-    one-read package_module_view package_module_in a_package_module c.args.key.now (borrowed_view c.args.value.now) vs are c.loop-index.index c.loop-index.modules c.loop-index.invariant c.item-item.result c.loop-index-test.true c.item-item.is c.module_of-module.result c.module_of-module.ensures.ok c.module_of-module.ensures.place c.with_item-modules.result c.with_item-modules.ensures.ok c.with_item-modules.ensures.place
+    let vs = c.in-Some-as_array.items.now in
+    let are : AreItems (get c.args.key.now (borrowed_view c.args.value.now)) c.in-Some-as_array.items.now = items-there _ (borrowed_view c.in-Some.list.now) c.in-Some-as_array.items.now (sym c.in-Some.ensures) (sym c.in-Some-as_array.ensures) in
+    one-read package_module_view package_module_in a_package_module c.args.key.now (borrowed_view c.args.value.now) vs are c.loop-index.index c.loop-index.modules c.loop-index.invariant c.index-items-index.result c.loop-index-test.true c.index-items-index.is c.module_of-module.result c.module_of-module.ensures.ok c.module_of-module.ensures.place c.with_item-modules.result c.with_item-modules.ensures.ok c.with_item-modules.ensures.place
 
 pub modules_member-returns-clause-ok : goal.modules_member-returns-clause-ok
 modules_member-returns-clause-ok t c =
-    let vs = c.deref-item-items.result.now in
-    let are : AreItems (get c.args.key.now (borrowed_view c.args.value.now)) c.deref-item-items.result.now = items-there _ (borrowed_view c.in-Some.list.now) c.in-Some-as_array.items.now.items c.deref-item-items.result.now (sym c.in-Some.ensures) (sym c.in-Some-as_array.ensures) c.deref-item-items.ensures.value in
+    let vs = c.in-Some-as_array.items.now in
+    let are : AreItems (get c.args.key.now (borrowed_view c.args.value.now)) c.in-Some-as_array.items.now = items-there _ (borrowed_view c.in-Some.list.now) c.in-Some-as_array.items.now (sym c.in-Some.ensures) (sym c.in-Some-as_array.ensures) in
     IfOk-weaker c.inside.result _ _ (λ xs h. modules-of-list (get c.args.key.now (borrowed_view c.args.value.now)) (map package_module_view xs.items) h) (all-read package_module_view package_module_in a_package_module c.args.key.now (borrowed_view c.args.value.now) vs are c.loop-index.index c.loop-index.modules c.loop-index.invariant c.loop-index-test.false c.inside.result c.inside.ensures.ok)
 
 pub modules_member-returns-clause-place : goal.modules_member-returns-clause-place
 modules_member-returns-clause-place t c =
-    let vs = c.deref-item-items.result.now in
-    let are : AreItems (get c.args.key.now (borrowed_view c.args.value.now)) c.deref-item-items.result.now = items-there _ (borrowed_view c.in-Some.list.now) c.in-Some-as_array.items.now.items c.deref-item-items.result.now (sym c.in-Some.ensures) (sym c.in-Some-as_array.ensures) c.deref-item-items.ensures.value in
+    let vs = c.in-Some-as_array.items.now in
+    let are : AreItems (get c.args.key.now (borrowed_view c.args.value.now)) c.in-Some-as_array.items.now = items-there _ (borrowed_view c.in-Some.list.now) c.in-Some-as_array.items.now (sym c.in-Some.ensures) (sym c.in-Some-as_array.ensures) in
     list-fault package_module_view package_module_in a_package_module c.args.key.now (borrowed_view c.args.value.now) vs are c.loop-index.index c.loop-index.modules c.loop-index.invariant c.inside.result c.inside.ensures.place
 
 pub modules_member-returns-in_default-as_array-clause-place : goal.modules_member-returns-in_default-as_array-clause-place
@@ -43,9 +43,9 @@ modules_member-returns-in_default-as_array-clause-place t c = no-list a_package_
 
 pub modules_member-module_of-module-requires : goal.modules_member-module_of-module-requires
 modules_member-module_of-module-requires t c =
-    let are : AreItems (get c.args.key.now (borrowed_view c.args.value.now)) c.deref-item-items.result.now = items-there _ (borrowed_view c.in-Some.list.now) c.in-Some-as_array.items.now.items c.deref-item-items.result.now (sym c.in-Some.ensures) (sym c.in-Some-as_array.ensures) c.deref-item-items.ensures.value in
-    let low : depth (borrowed_view c.item-item.result) < depth (borrowed_view c.args.value.now) =
-    item-deep c.args.key.now (borrowed_view c.args.value.now) c.deref-item-items.result.now c.loop-index.index c.item-item.result are c.loop-index-test.true c.item-item.is in
+    let are : AreItems (get c.args.key.now (borrowed_view c.args.value.now)) c.in-Some-as_array.items.now = items-there _ (borrowed_view c.in-Some.list.now) c.in-Some-as_array.items.now (sym c.in-Some.ensures) (sym c.in-Some-as_array.ensures) in
+    let low : depth (borrowed_view c.index-items-index.result) < depth (borrowed_view c.args.value.now) =
+    item-deep c.args.key.now (borrowed_view c.args.value.now) c.in-Some-as_array.items.now c.loop-index.index c.index-items-index.result are c.loop-index-test.true c.index-items-index.is in
     (omega arith, tt)
 
 pub module_of-returns-clause-ok : goal.module_of-returns-clause-ok

@@ -17,4 +17,4 @@ abbrev pub decreases-module_of : goal.decreases-module_of
 decreases-module_of l = 3 * depth (borrowed_view l.value.now) + 2
 
 abbrev pub invariant-modules_member-loop-index : goal.invariant-modules_member-loop-index
-invariant-modules_member-loop-index l = AreRead package_module_view package_module_in a_package_module l.key (borrowed_view l.value) l.item-items l.index l.modules
+invariant-modules_member-loop-index l = AreRead package_module_view package_module_in a_package_module l.key (borrowed_view l.value) l.items l.index l.modules

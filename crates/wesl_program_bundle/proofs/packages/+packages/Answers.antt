@@ -18,24 +18,24 @@ use Rattle.wesl_program_bundle.proofs.Places.{Locates-here, package-fault}
 use Rattle.wesl_program_bundle.proofs.packages.+packages.Goals as goal
 
 pub packages_member-loop-index-init : goal.packages_member-loop-index-init
-packages_member-loop-index-init t c = none-read package_view package_in a_package c.args.key.now (borrowed_view c.args.value.now) c.deref-item-items.result.now c.new-2.result (search rules)
+packages_member-loop-index-init t c = none-read package_view package_in a_package c.args.key.now (borrowed_view c.args.value.now) c.in-Some-as_array.items.now c.new-2.result (search rules)
 
 pub packages_member-loop-index-preserved : goal.packages_member-loop-index-preserved
 packages_member-loop-index-preserved t c =
-    let vs = c.deref-item-items.result.now in
-    let are : AreItems (get c.args.key.now (borrowed_view c.args.value.now)) c.deref-item-items.result.now = items-there _ (borrowed_view c.in-Some.list.now) c.in-Some-as_array.items.now.items c.deref-item-items.result.now (sym c.in-Some.ensures) (sym c.in-Some-as_array.ensures) c.deref-item-items.ensures.value in
-    one-read package_view package_in a_package c.args.key.now (borrowed_view c.args.value.now) vs are c.loop-index.index c.loop-index.packages c.loop-index.invariant c.item-item.result c.loop-index-test.true c.item-item.is c.package_of-package.result c.package_of-package.ensures.ok c.package_of-package.ensures.place c.with_item-packages.result c.with_item-packages.ensures.ok c.with_item-packages.ensures.place
+    let vs = c.in-Some-as_array.items.now in
+    let are : AreItems (get c.args.key.now (borrowed_view c.args.value.now)) c.in-Some-as_array.items.now = items-there _ (borrowed_view c.in-Some.list.now) c.in-Some-as_array.items.now (sym c.in-Some.ensures) (sym c.in-Some-as_array.ensures) in
+    one-read package_view package_in a_package c.args.key.now (borrowed_view c.args.value.now) vs are c.loop-index.index c.loop-index.packages c.loop-index.invariant c.index-items-index.result c.loop-index-test.true c.index-items-index.is c.package_of-package.result c.package_of-package.ensures.ok c.package_of-package.ensures.place c.with_item-packages.result c.with_item-packages.ensures.ok c.with_item-packages.ensures.place
 
 pub packages_member-returns-clause-ok : goal.packages_member-returns-clause-ok
 packages_member-returns-clause-ok t c =
-    let vs = c.deref-item-items.result.now in
-    let are : AreItems (get c.args.key.now (borrowed_view c.args.value.now)) c.deref-item-items.result.now = items-there _ (borrowed_view c.in-Some.list.now) c.in-Some-as_array.items.now.items c.deref-item-items.result.now (sym c.in-Some.ensures) (sym c.in-Some-as_array.ensures) c.deref-item-items.ensures.value in
+    let vs = c.in-Some-as_array.items.now in
+    let are : AreItems (get c.args.key.now (borrowed_view c.args.value.now)) c.in-Some-as_array.items.now = items-there _ (borrowed_view c.in-Some.list.now) c.in-Some-as_array.items.now (sym c.in-Some.ensures) (sym c.in-Some-as_array.ensures) in
     IfOk-weaker c.inside.result _ _ (λ xs h. packages-of-list (get c.args.key.now (borrowed_view c.args.value.now)) (map package_view xs.items) h) (all-read package_view package_in a_package c.args.key.now (borrowed_view c.args.value.now) vs are c.loop-index.index c.loop-index.packages c.loop-index.invariant c.loop-index-test.false c.inside.result c.inside.ensures.ok)
 
 pub packages_member-returns-clause-place : goal.packages_member-returns-clause-place
 packages_member-returns-clause-place t c =
-    let vs = c.deref-item-items.result.now in
-    let are : AreItems (get c.args.key.now (borrowed_view c.args.value.now)) c.deref-item-items.result.now = items-there _ (borrowed_view c.in-Some.list.now) c.in-Some-as_array.items.now.items c.deref-item-items.result.now (sym c.in-Some.ensures) (sym c.in-Some-as_array.ensures) c.deref-item-items.ensures.value in
+    let vs = c.in-Some-as_array.items.now in
+    let are : AreItems (get c.args.key.now (borrowed_view c.args.value.now)) c.in-Some-as_array.items.now = items-there _ (borrowed_view c.in-Some.list.now) c.in-Some-as_array.items.now (sym c.in-Some.ensures) (sym c.in-Some-as_array.ensures) in
     list-fault package_view package_in a_package c.args.key.now (borrowed_view c.args.value.now) vs are c.loop-index.index c.loop-index.packages c.loop-index.invariant c.inside.result c.inside.ensures.place
 
 pub packages_member-returns-in_default-as_array-clause-place : goal.packages_member-returns-in_default-as_array-clause-place
@@ -43,9 +43,9 @@ packages_member-returns-in_default-as_array-clause-place t c = no-list a_package
 
 pub packages_member-package_of-package-requires : goal.packages_member-package_of-package-requires
 packages_member-package_of-package-requires t c =
-    let are : AreItems (get c.args.key.now (borrowed_view c.args.value.now)) c.deref-item-items.result.now = items-there _ (borrowed_view c.in-Some.list.now) c.in-Some-as_array.items.now.items c.deref-item-items.result.now (sym c.in-Some.ensures) (sym c.in-Some-as_array.ensures) c.deref-item-items.ensures.value in
-    let low : depth (borrowed_view c.item-item.result) < depth (borrowed_view c.args.value.now) =
-    item-deep c.args.key.now (borrowed_view c.args.value.now) c.deref-item-items.result.now c.loop-index.index c.item-item.result are c.loop-index-test.true c.item-item.is in
+    let are : AreItems (get c.args.key.now (borrowed_view c.args.value.now)) c.in-Some-as_array.items.now = items-there _ (borrowed_view c.in-Some.list.now) c.in-Some-as_array.items.now (sym c.in-Some.ensures) (sym c.in-Some-as_array.ensures) in
+    let low : depth (borrowed_view c.index-items-index.result) < depth (borrowed_view c.args.value.now) =
+    item-deep c.args.key.now (borrowed_view c.args.value.now) c.in-Some-as_array.items.now c.loop-index.index c.index-items-index.result are c.loop-index-test.true c.index-items-index.is in
     (omega arith, tt)
 
 pub package_of-returns-in-Ok-clause-ok : goal.package_of-returns-in-Ok-clause-ok

@@ -14,4 +14,4 @@ abbrev pub decreases-package_of : goal.decreases-package_of
 decreases-package_of l = 2 * depth (borrowed_view l.value.now) + 1
 
 abbrev pub invariant-packages_member-loop-index : goal.invariant-packages_member-loop-index
-invariant-packages_member-loop-index l = AreRead package_view package_in a_package l.key (borrowed_view l.value) l.item-items l.index l.packages
+invariant-packages_member-loop-index l = AreRead package_view package_in a_package l.key (borrowed_view l.value) l.items l.index l.packages
