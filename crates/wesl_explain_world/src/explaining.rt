@@ -12,6 +12,7 @@ use crate::loading::TableLoader;
 use crate::sources::Sources;
 use crate::texts::Texts;
 use crate::world::{World, world_of};
+use bumpalo::Bump;
 use json::Scratch;
 use std::alloc::{AllocError, Global};
 use wesl_link::{LinkRequest, Resolutions, link_at};
@@ -26,7 +27,8 @@ use wesl_validate_builtins::Builtins;
 /// What is told of the bundle that the bytes are.
 pub fn explained(alloc: Global, bytes: &[u8]) -> Result<Explanation, AllocError> {
     let mut scratch = Scratch::new(alloc);
-    match bundle_of_bytes(alloc, bytes, &mut scratch) {
+    let arena = Bump::new(alloc);
+    match bundle_of_bytes(alloc, bytes, &mut scratch, &arena) {
         Ok(bundle) => explain(alloc, bundle),
         Err(error) => {
             let mut told = Explanation::nothing(alloc);

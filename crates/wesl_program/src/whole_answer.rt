@@ -11,6 +11,7 @@ use crate::answer::{Answer, answer_line};
 use crate::bundle_value::bundle_of_bytes;
 use crate::linking::linked;
 use crate::refusal::Refusal;
+use bumpalo::Bump;
 use json::Scratch;
 use std::alloc::Global;
 use wesl_program_bundle::Bundle;
@@ -39,7 +40,8 @@ fn linked_of_bytes(alloc: Global, bytes: &[u8]) -> Result<Answer, Refusal>
     ensures placed { IfErr result (λ r. r.is_placed ≡ true → AsksForPlaces bytes.now) }
 {
     let mut scratch = Scratch::new(alloc);
-    match bundle_of_bytes(alloc, bytes, &mut scratch) {
+    let arena = Bump::new(alloc);
+    match bundle_of_bytes(alloc, bytes, &mut scratch, &arena) {
         Ok(bundle) => answer_of(alloc, bundle),
         Err(error) => Err(Refusal::of(error)),
     }
