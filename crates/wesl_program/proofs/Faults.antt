@@ -1,10 +1,10 @@
 -- The fault of a module that is refused is none of the bundle that holds it.
 use Rattle.std.specs.Option.{option_map}
 use Rattle.std.specs.Prelude.{string_bytes}
-use Rattle.std.proofs.Common.{◌≡◌, ◌⊎◌, ℕ, List, [], Bool, true, false, true≢false, Option, Some, None, bytes_eq, codes, refl, sym, ap, ◌∙◌, subst, inl, inr}
+use Rattle.std.proofs.Common.{◌≡◌, ◌⊎◌, ℕ, List, [], Bool, true, false, true≢false, Option, Some, None, Result, Ok, Err, bytes_eq, codes, refl, sym, ap, ◌∙◌, subst, inl, inr}
 use Rattle.serde_json.specs.Data.{Data}
 use Rattle.wesl_tree_syntax.specs.Unit.{UnitOf}
-use Rattle.wesl_tree_names.specs.Path.{Text, Origin, absolute, relative, from_package, Path}
+use Rattle.wesl_tree_names.specs.Path.{Text, Path}
 use Rattle.wesl_tree_names.specs.Errors.{IsModuleNotFound, IsRefusedWith, OrMemory, error_of_resolve}
 use Rattle.wesl_tree_names.specs.declared.errors.Error as error
 use Rattle.wesl_tree_base.specs.declared.faults.CondCompError.{CondCompError}
@@ -15,9 +15,6 @@ use Rattle.wesl_cond_chains.specs.FormulaFaults.{Fault, Tells}
 use Rattle.wesl_cond_features.specs.declared.features.Features.{Features}
 use Rattle.wesl_tree.specs.Translation.{unit_view}
 use Rattle.wesl_tree.specs.declared.unit.TranslationUnit.{TranslationUnit}
-use Rattle.wesl_resolve.specs.ByOrigin.{AtOrigin, ByOrigin}
-use Rattle.wesl_resolve_base.specs.Packages.{IsRefusedIn}
-use Rattle.wesl_resolve_base.specs.declared.packages.CodegenPkg.{CodegenPkg}
 use Rattle.wesl_json.specs.UnitTexts.{IsTreeFault}
 use Rattle.wesl_json_read.specs.Faults.{place_of}
 use Rattle.wesl_cond.specs.Conditioned.{IsHandedOn, IsRefusedBy}
@@ -25,8 +22,8 @@ use Rattle.wesl_link.specs.Conditions.{RefusesLeft}
 use Rattle.wesl_link.specs.Linking.{RefusesLink, hands_left, refuses_left}
 use Rattle.wesl_program.specs.Fault as told
 use Rattle.wesl_program.specs.Fault.{fault_of, fault_of_condition, fault_of_resolver, fault_of_validation}
-use Rattle.wesl_program.specs.Hands.{IsRefusedAt, virtual_module}
-use Rattle.wesl_program.specs.Linking.{Kept, LinksTo, handed, refused, handed_left, refused_left}
+use Rattle.wesl_program.specs.Hands.{IsRefused, found}
+use Rattle.wesl_program.specs.Linking.{AreFeatures, LinksTo, handed, refused, handed_left, refused_left}
 use Rattle.wesl_program.specs.Validity.{RefusesUnit, built_in}
 use Rattle.wesl_validate_rules.specs.Faults as valid
 use Rattle.wesl_tree_syntax.specs.Unit.{UnitView}
@@ -36,7 +33,6 @@ use Rattle.wesl_program_bundle.specs.Builtins as said
 use Rattle.wesl_program_bundle.specs.Bundle.{Bundle}
 use Rattle.wesl_program.specs.Line.{memory, IsOfModules}
 use Rattle.wesl_program.specs.Refused.{IsLinkFault}
-use Rattle.wesl_program.specs.StoredTexts.{IsUnreadable}
 use Rattle.wesl_link_reach.specs.World.{Task}
 use Rattle.wesl_link_reach.specs.Faults as standing
 use Rattle.wesl_link_engine.specs.Refusal.{TellsOfImport, TellsOf}
@@ -78,17 +74,10 @@ bad_tree error.NotJson place is = cc
 bad_tree (error.BadBundle s) place is = cc
 bad_tree error.Memory place is = cc
 
-refused_at : (p : Path) (u : Option Data) (e : resolve_error.ResolveError) → IsRefusedAt p u e → IsOfModules (fault_of_resolver e)
-refused_at p None e h = not_found p virtual_module e h
-refused_at p (Some d) e h = refused-with (IsTreeFault d) (λ fault f. bad_tree fault f.0 f.1) e h
-
-unreadable : (text : Text) (e : error.Error) → IsUnreadable text e → IsOfModules (fault_of e)
-unreadable text e (inl h) = bad_tree e [] h.0
-unreadable text e (inr h) = bad_tree e h.2.0 h.2.1
-
-refused_in : (packages : List CodegenPkg) (p : Path) (e : resolve_error.ResolveError) → IsRefusedIn IsUnreadable packages p e → IsOfModules (fault_of_resolver e)
-refused_in packages p e (inl h) = not_found p h.0 e h.2
-refused_in packages p e (inr h) = refused-with _ (λ fault f. unreadable _ fault f.0) e h.2
+-- what the modules and packages of a bundle refuse
+refused_found : (p : Path) (found : Result Data Text) (e : resolve_error.ResolveError) → IsRefused p found e → IsOfModules (fault_of_resolver e)
+refused_found p (Ok d) e h = refused-with (IsTreeFault d) (λ fault f. bad_tree fault f.0 f.1) e h
+refused_found p (Err message) e h = not_found p message e h
 
 of-condition : (c : CondCompError) → IsOfModules (fault_of_condition c)
 of-condition (cond.InvalidFeatureFlag name) = of_modules (fault_of_condition (cond.InvalidFeatureFlag name)) refl refl
@@ -122,15 +111,6 @@ handed-on features given e (fault, by, inr held) other =
 
 left : (features : Option Features) (hands : UnitOf Text → Type 0) (e : resolve_error.ResolveError) → RefusesLeft features hands e → IsOfModules (fault_of_resolver e)
 left features hands e h = refused-with _ (λ fault f. handed-on features h.0 fault f.0 f.1) e h.2
-
-at-origin : (o : Origin) (P Q R : Type 0) → (P → R) → (Q → R) → AtOrigin o P Q → R
-at-origin (from_package name) P Q R f g h = f h
-at-origin absolute P Q R f g h = g h
-at-origin (relative n) P Q R f g h = g h
-
--- what the modules and packages of a bundle refuse
-sources-are-of-modules : (units : Path → Option Data) (packages : List CodegenPkg) (p : Path) (e : resolve_error.ResolveError) → ByOrigin p (IsRefusedIn IsUnreadable packages p e) (IsRefusedAt p (units p) e) → IsOfModules (fault_of_resolver e)
-sources-are-of-modules units packages p e = at-origin p.origin (IsRefusedIn IsUnreadable packages p e) (IsRefusedAt p (units p) e) (IsOfModules (fault_of_resolver e)) (refused_in packages p e) (refused_at p (units p) e)
 
 wrapped : (e : resolve_error.ResolveError) → IsOfModules (fault_of_resolver e) → IsModuleFault (error_of_resolve e)
 wrapped (resolve_error.Error' at inner declaration place display span source) h = inr h
@@ -178,12 +158,14 @@ module _ (hands : Path → UnitOf Text → Type 0) (refuses : Path → resolve_e
   link-is-of-modules p keep is_eager limit e (inr h) = standing-is-of-modules _ _ either h.0 _ limit e h.2
 
 -- a fault of a link of a bundle
-pub bundle-fault : (b : Bundle) (k : Kept b) (e : error.Error) → RefusesLink (handed_left b k) (refused_left b k) b.root b.keep b.options.eager b.options.max_modules e → IsLinkFault b e
-bundle-fault b k e h = by (link-is-of-modules (handed b k) (refused b k) k.features (sources-are-of-modules k.units k.packages) b.root b.keep b.options.eager b.options.max_modules e h)
+pub bundle-fault : (b : Bundle) (features : Option Features) → AreFeatures b features → (e : error.Error)
+    → RefusesLink (handed_left b features) (refused_left b features) b.root b.keep b.options.eager b.options.max_modules e → IsLinkFault b e
+bundle-fault b features are e h =
+    by (link-is-of-modules (handed b) (refused b) features (λ p x. refused_found p (found b.packages b.modules p) x) b.root b.keep b.options.eager b.options.max_modules e h)
   where
     by : IsModuleFault e → IsLinkFault b e
     by (inl is) = inl is
-    by (inr of) = inr (of, (e, inl (k, h), refl))
+    by (inr of) = inr (of, (e, inl (features, are, h), refl))
 
 -- ---- faults of a unit
 

@@ -6,6 +6,5 @@ pub mod Faults
 pub mod FaultLines
 pub mod Mapped
 pub mod Maps
-pub mod PackageTexts
-pub mod StoredTexts
 pub mod TreeFaults
+pub mod Found

@@ -1,5 +1,6 @@
 -- What a link through a mapper finds, told by the parts that the mapper was made of.
-use Rattle.std.proofs.Common.{◌≡◌, ℕ, Bool, List, Option, None, subst}
+use Rattle.std.proofs.Common.{◌≡◌, ℕ, Bool, List, Option, None, Result, subst}
+use Rattle.serde_json.specs.Data.{Data}
 use Rattle.wesl_tree_names.specs.Path.{Text, Path}
 use Rattle.wesl_tree_names.specs.declared.errors.Error as error
 use Rattle.wesl_tree_names.specs.declared.errors.ResolveError.{ResolveError}
@@ -10,8 +11,9 @@ use Rattle.wesl_program_bundle.specs.Bundle.{Bundle}
 use Rattle.wesl_link_engine.specs.Worlds.{Module}
 use Rattle.wesl_source_map_entries.specs.Records.{SameItems}
 use Rattle.wesl_link.specs.Linking.{RefusesLink, hands_left, refuses_left}
-use Rattle.wesl_link.specs.Mapping.{MapsLink}
-use Rattle.wesl_program.specs.Linking.{Kept, LinksTo, handed_left, refused_left, recorded_for}
+use Rattle.wesl_link.specs.Mapping.{MapsLink, MapsLinkLeft}
+use Rattle.wesl_program.specs.Hands.{IsHanded, IsRefused, found}
+use Rattle.wesl_program.specs.Linking.{AreFeatures, LinksTo, handed_left, refused_left, recorded_for}
 use Rattle.wesl_program.specs.Naming.{named_by}
 use Rattle.wesl_program.specs.Refused.{IsLinkFault}
 use Rattle.wesl_program.proofs.Faults.{bundle-fault}
@@ -43,18 +45,33 @@ module _ {S : Type 0} (hands_of : S → Path → UnitOf Text → Type 0) (refuse
       (subst (λ x. RefusesLink (hands x) (refuses x) root keep is_eager limit e) same
       (subst (λ p. RefusesLink (hands s) (refuses s) p keep is_eager limit e) path h))
 
--- a link of a bundle's modules with nothing recorded before, of the names that are kept
-pub linked-from : (b : Bundle) (k : Kept b) (keep : List Text) → keep ≡ b.keep → (after : Record) (u : UnitView)
-    → MapsLink (handed_left b k) (refused_left b k) (named_by b.options.mangler) b.root keep b.options.eager b.options.mangle_root b.options.max_modules (λ name. None) after u
-    → (w : List Module) × LinksTo b w u × SameItems (recorded_for b w) after
-linked-from b k keep is after u h =
-    found (subst (λ ks. MapsLink (handed_left b k) (refused_left b k) (named_by b.options.mangler) b.root ks b.options.eager b.options.mangle_root b.options.max_modules (λ name. None) after u) is h)
-  where
-    found : MapsLink (handed_left b k) (refused_left b k) (named_by b.options.mangler) b.root b.keep b.options.eager b.options.mangle_root b.options.max_modules (λ name. None) after u
-        → (w : List Module) × LinksTo b w u × SameItems (recorded_for b w) after
-    found (turns, w, names, links, agree, assembled, recorded) = (w, (k, turns, names, links, agree, assembled), recorded)
+module _ (b : Bundle) (features : Option Features) (are : AreFeatures b features) (at : Path → Result Data Text) (same : (p : Path) → at p ≡ found b.packages b.modules p) (keep : List Text) (is : keep ≡ b.keep) where
+  here : at ≡ found b.packages b.modules
+  here = λ i p. same p i
 
--- the fault of such a link
-pub fault-from : (b : Bundle) (k : Kept b) (keep : List Text) → keep ≡ b.keep → (e : error.Error)
-    → RefusesLink (handed_left b k) (refused_left b k) b.root keep b.options.eager b.options.max_modules e → IsLinkFault b e
-fault-from b k keep is e h = bundle-fault b k e (subst (λ ks. RefusesLink (handed_left b k) (refused_left b k) b.root ks b.options.eager b.options.max_modules e) is h)
+  abbrev hands_of : (Path → Result Data Text) → Path → UnitOf Text → Type 0
+  hands_of f p u = IsHanded (f p) u
+
+  abbrev refuses_of : (Path → Result Data Text) → Path → ResolveError → Type 0
+  refuses_of f p e = IsRefused p (f p) e
+
+  -- a link of what is found in a bundle with nothing recorded before, of the names that are kept
+  pub linked-from : (after : Record) (u : UnitView)
+      → MapsLinkLeft (hands_of at) (refuses_of at) features (named_by b.options.mangler) b.root keep b.options.eager b.options.mangle_root b.options.max_modules (λ name. None) after u
+      → (w : List Module) × LinksTo b w u × SameItems (recorded_for b w) after
+  linked-from after u h =
+      told
+      (subst (λ f. MapsLinkLeft (hands_of f) (refuses_of f) features (named_by b.options.mangler) b.root b.keep b.options.eager b.options.mangle_root b.options.max_modules (λ name. None) after u) here
+      (subst (λ ks. MapsLinkLeft (hands_of at) (refuses_of at) features (named_by b.options.mangler) b.root ks b.options.eager b.options.mangle_root b.options.max_modules (λ name. None) after u) is h))
+    where
+      told : MapsLink (handed_left b features) (refused_left b features) (named_by b.options.mangler) b.root b.keep b.options.eager b.options.mangle_root b.options.max_modules (λ name. None) after u
+          → (w : List Module) × LinksTo b w u × SameItems (recorded_for b w) after
+      told (turns, w, names, links, agree, assembled, recorded) = (w, (features, turns, names, are, links, agree, assembled), recorded)
+
+  -- the fault of such a link
+  pub fault-from : (e : error.Error)
+      → RefusesLink (hands_left (hands_of at) (refuses_of at) features) (refuses_left (hands_of at) (refuses_of at) features) b.root keep b.options.eager b.options.max_modules e → IsLinkFault b e
+  fault-from e h =
+      bundle-fault b features are e
+      (subst (λ f. RefusesLink (hands_left (hands_of f) (refuses_of f) features) (refuses_left (hands_of f) (refuses_of f) features) b.root b.keep b.options.eager b.options.max_modules e) here
+      (subst (λ ks. RefusesLink (hands_left (hands_of at) (refuses_of at) features) (refuses_left (hands_of at) (refuses_of at) features) b.root ks b.options.eager b.options.max_modules e) is h))

@@ -5,8 +5,6 @@ pub mod Places
 pub mod Told
 pub mod Holds
 pub mod Hands
-pub mod PackageTexts
-pub mod StoredTexts
 pub mod Linking
 pub mod Validity
 pub mod Line

@@ -1,6 +1,5 @@
 -- What is linked of a bundle.
 use Rattle.std.specs.Prelude.{◌≡◌, ℕ, List, Option, None, true, option_map}
-use Rattle.serde_json.specs.Data.{Data}
 use Rattle.wesl_tree_names.specs.Path.{Text, Path}
 use Rattle.wesl_tree_names.specs.declared.errors.Error as error
 use Rattle.wesl_tree_names.specs.declared.errors.ResolveError.{ResolveError}
@@ -8,10 +7,6 @@ use Rattle.wesl_tree_syntax.specs.Unit.{UnitOf, UnitView}
 use Rattle.wesl_cond_features.specs.declared.features.Features.{Features}
 use Rattle.wesl_program_bundle.specs.Bundle.{Bundle}
 use Rattle.wesl_program_bundle.specs.Views.{features_view}
-use Rattle.wesl_resolve.specs.ByOrigin.{ByOrigin}
-use Rattle.wesl_resolve_base.specs.Packages.{IsReadIn, IsRefusedIn}
-use Rattle.wesl_resolve_base.specs.declared.packages.CodegenPkg.{CodegenPkg}
-use Rattle.wesl_json.specs.UnitTexts.{ReadsAs}
 use Rattle.wesl_link.specs.Linking.{Links, RefusesLink, hands_left, refuses_left}
 use Rattle.wesl_link.specs.Mapping.{task_at}
 use Rattle.wesl_link_engine.specs.Recorded.{Record, all_written}
@@ -19,37 +14,28 @@ use Rattle.wesl_link_engine.specs.Worlds as worlds
 use Rattle.wesl_link_engine.specs.Linked.{IsAssembled}
 use Rattle.wesl_link_engine.specs.Resolved.{mangled, NamesAgree, writes}
 use Rattle.wesl_link_reach.specs.World.{Task}
-use Rattle.wesl_program.specs.Bundle.{unit_at}
-use Rattle.wesl_program.specs.Hands.{IsHandedAt, IsRefusedAt}
+use Rattle.wesl_program.specs.Hands.{IsHanded, IsRefused, found}
 use Rattle.wesl_program.specs.Naming.{named_by}
-use Rattle.wesl_program.specs.PackageTexts.{ArePackagesOf}
-use Rattle.wesl_program.specs.StoredTexts.{IsUnreadable}
 
--- What is kept of a bundle: the values of its modules by their paths, of a path that stands twice the last; its packages; and
--- its features.
-pub record Kept (b : Bundle) : Type 0 where
-  pub units : Path → Option Data
-  pub packages : List CodegenPkg
-  pub features : Option Features
-  pub are_units : (p : Path) → units p ≡ unit_at p b.modules
-  pub are_packages : ArePackagesOf b.packages packages
-  pub are_features : option_map features_view features ≡ b.features
-
-module _ (b : Bundle) (k : Kept b) where
-  -- the unit at a path: in a named package that of its module, else that of the bundle's module there
+module _ (b : Bundle) where
+  -- the unit at a path: in a named package that of its module, else that of the bundle's own module there
   abbrev pub handed : Path → UnitOf Text → Type 0
-  handed p u = ByOrigin p (IsReadIn ReadsAs k.packages p u) (IsHandedAt (k.units p) u)
+  handed p u = IsHanded (found b.packages b.modules p) u
 
   -- no module is at the path, or it is no unit
   abbrev pub refused : Path → ResolveError → Type 0
-  refused p e = ByOrigin p (IsRefusedIn IsUnreadable k.packages p e) (IsRefusedAt p (k.units p) e)
+  refused p e = IsRefused p (found b.packages b.modules p) e
 
   -- the same, as the features leave it
-  abbrev pub handed_left : Path → UnitOf Text → Type 0
-  handed_left = hands_left handed refused k.features
+  abbrev pub handed_left : Option Features → Path → UnitOf Text → Type 0
+  handed_left = hands_left handed refused
 
-  abbrev pub refused_left : Path → ResolveError → Type 0
-  refused_left = refuses_left handed refused k.features
+  abbrev pub refused_left : Option Features → Path → ResolveError → Type 0
+  refused_left = refuses_left handed refused
+
+  -- these are the bundle's answers for feature flags
+  abbrev pub AreFeatures : Option Features → Type 0
+  AreFeatures features = option_map features_view features ≡ b.features
 
 -- the names that are printed for what a bundle declares: those of its mangler, and the root's own unless it says otherwise
 abbrev pub names_for : Bundle → Path → Text → Text
@@ -64,8 +50,9 @@ task_for b = task_at b.root b.keep b.options.eager
 -- names that the bundle asks for.
 abbrev pub LinksTo : Bundle → List worlds.Module → UnitView → Type 0
 LinksTo b w u =
-    (k : Kept b) × (turns : ℕ) × (names : Path → Text → Text)
-    × Links (handed_left b k) (refused_left b k) b.root b.keep b.options.eager b.options.max_modules turns w
+    (features : Option Features) × (turns : ℕ) × (names : Path → Text → Text)
+    × AreFeatures b features
+    × Links (handed_left b features) (refused_left b features) b.root b.keep b.options.eager b.options.max_modules turns w
     × NamesAgree w names (names_for b)
     × IsAssembled w (task_for b) names u
 
@@ -76,4 +63,6 @@ recorded_for b w = all_written true (writes (named_by b.options.mangler) b.optio
 
 -- such a link is refused with the error, which stands
 abbrev pub IsLinkRefused : Bundle → error.Error → Type 0
-IsLinkRefused b e = (k : Kept b) × RefusesLink (handed_left b k) (refused_left b k) b.root b.keep b.options.eager b.options.max_modules e
+IsLinkRefused b e =
+    (features : Option Features) × AreFeatures b features
+    × RefusesLink (handed_left b features) (refused_left b features) b.root b.keep b.options.eager b.options.max_modules e

@@ -1,5 +1,5 @@
-//! The modules of a bundle, as a resolver: the unit at a path is read only when it is asked for.
-ghost use Rattle.std.specs.Prelude.{◌≡◌, ◌⊎◌, None, IfOk, IfErr};
+//! The modules of a bundle and its packages, as a resolver: the unit at a path is read only when it is asked for.
+ghost use Rattle.std.specs.Prelude.{◌≡◌, ◌⊎◌, None, Ok, IfOk, IfErr};
 ghost use Rattle.wesl_tree_names.specs.declared.errors.Error as error;
 ghost use Rattle.wesl_tree_names.specs.Path.{path_view};
 ghost use Rattle.wesl_tree_names.specs.Errors.{IsModuleNotFound, IsRefusedWith, OrMemory};
@@ -7,30 +7,35 @@ ghost use Rattle.wesl_json_form.specs.View.{borrowed_view};
 ghost use Rattle.wesl_tree_syntax.specs.Unit.{spelled};
 ghost use Rattle.wesl_tree.specs.Translation.{unit_view};
 ghost use Rattle.wesl_json.specs.UnitTexts.{IsSpelled, IsTreeFault};
-ghost use Rattle.wesl_program.specs.Hands.{IsHandedAt, IsRefusedAt, unit_in, virtual_module};
+ghost use Rattle.wesl_resolve_base.specs.Packages.{IsSaid};
+ghost use Rattle.wesl_program.specs.Hands.{IsHanded, IsRefused, found_in, own_found, unit_in, virtual_module};
 
 use crate::modules::BundleUnits;
 use std::alloc::Global;
 use wesl_json::unit_of_borrowed;
 use wesl_json_form::BorrowedValue;
+use wesl_program_packages::HeldPackages;
 use wesl_resolve_base::{Resolver, refused};
-use wesl_tree::{Error, ModulePath, ResolveError, TranslationUnit};
+use wesl_tree::{Error, ModulePath, PathOrigin, ResolveError, TranslationUnit};
 
-/// The modules of a bundle, each read when it is asked for. They are virtual: a module of a bundle has no source.
+/// The modules of a bundle, and its packages: a path that begins in a named package leads to a module of that, and each
+/// other to one of the bundle's own. A unit is read when it is asked for. The modules are virtual: none has a source, or a
+/// name by which it is shown.
 #[derive(Drop)]
-pub struct BundleResolver<'t> {
+pub struct BundleSources<'t> {
     pub(crate) modules: BundleUnits<'t>,
+    pub(crate) packages: HeldPackages<'t>,
 }
 
-impl Resolver for BundleResolver<'_> {
+impl Resolver for BundleSources<'_> {
     ghost use Rattle.wesl_tree_names.specs.Errors.{IsModuleNotFound};
-    ghost use Rattle.wesl_program.specs.Hands.{IsHandedAt, IsRefusedAt, unit_in, virtual_module};
+    ghost use Rattle.wesl_program.specs.Hands.{IsHanded, IsRefused, found_in, virtual_module};
 
     ghost ready = { λ _. Unit {0} };
 
-    ghost hands = { λ r p u. IsHandedAt (unit_in r.modules p) u };
+    ghost hands = { λ s p u. IsHanded (found_in s p) u };
 
-    ghost refuses = { λ r p e. IsRefusedAt p (unit_in r.modules p) e };
+    ghost refuses = { λ s p e. IsRefused p (found_in s p) e };
 
     ghost source = { λ _ p text. ⊥ };
 
@@ -47,7 +52,7 @@ impl Resolver for BundleResolver<'_> {
         alloc: Global,
         path: &ModulePath,
     ) -> Result<TranslationUnit, ResolveError> {
-        unit_of_module(alloc, &self.modules, path)
+        self.unit_at(alloc, path)
     }
 
     fn display_name(
@@ -59,17 +64,41 @@ impl Resolver for BundleResolver<'_> {
     }
 }
 
-/// The unit of the module at a path.
-fn unit_of_module(
+impl<'t> BundleSources<'t> {
+    // The value of the unit at a path.
+    fn value_at(&self, alloc: Global, path: &ModulePath) -> Result<&BorrowedValue<'t>, ResolveError>
+        ensures found { IfOk result (λ v. found_in self.now (path_view path.now) ≡ Ok (borrowed_view v.now)) }
+        ensures missing { IfErr result (OrMemory (IsSaid (path_view path.now) (found_in self.now (path_view path.now)))) }
+    {
+        match &path.origin {
+            PathOrigin::Package(name) => self.packages.unit_at(alloc, path, name.as_str()),
+            _ => own_value(alloc, &self.modules, path),
+        }
+    }
+
+    // The unit at a path.
+    fn unit_at(&self, alloc: Global, path: &ModulePath) -> Result<TranslationUnit, ResolveError>
+        ensures handed { IfOk result (λ u. IsHanded (found_in self.now (path_view path.now)) (spelled (unit_view u))) }
+        ensures refused { IfErr result (OrMemory (IsRefused (path_view path.now) (found_in self.now (path_view path.now)))) }
+    {
+        match self.value_at(alloc, path) {
+            Ok(value) => read_unit(alloc, path, value),
+            Err(refusal) => Err(refusal),
+        }
+    }
+}
+
+// That of the bundle's own module there.
+fn own_value<'s, 't>(
     alloc: Global,
-    modules: &BundleUnits,
+    modules: &'s BundleUnits<'t>,
     path: &ModulePath,
-) -> Result<TranslationUnit, ResolveError>
-    ensures handed { IfOk result (λ u. IsHandedAt (unit_in modules.now (path_view path.now)) (spelled (unit_view u))) }
-    ensures refused { IfErr result (OrMemory (IsRefusedAt (path_view path.now) (unit_in modules.now (path_view path.now)))) }
+) -> Result<&'s BorrowedValue<'t>, ResolveError>
+    ensures found { IfOk result (λ v. own_found (unit_in modules.now) (path_view path.now) ≡ Ok (borrowed_view v.now)) }
+    ensures missing { IfErr result (OrMemory (IsSaid (path_view path.now) (own_found (unit_in modules.now) (path_view path.now)))) }
 {
     match modules.unit_at(path) {
-        Some(value) => read_unit(alloc, path, value),
+        Some(value) => Ok(value),
         None => Err(not_found(alloc, path)),
     }
 }

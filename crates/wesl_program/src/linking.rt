@@ -7,29 +7,24 @@ ghost use Rattle.wesl_program_bundle.specs.PackageViews.{packages_view};
 ghost use Rattle.wesl_program_bundle.specs.Views.{bundle_view, module_view};
 ghost use Rattle.wesl_program.specs.Answers.{AnswersBundle, LinksBundle};
 ghost use Rattle.wesl_program.specs.Recording.{RecordsLink, RefusesToRecord};
-ghost use Rattle.wesl_program.specs.PackageTexts.{ArePackagesOf};
+ghost use Rattle.wesl_program.specs.Hands.{HoldsBundle};
 ghost use Rattle.wesl_program.specs.Holds.{Holds};
 ghost use Rattle.wesl_program.specs.Refused.{IsLinkFault};
 
 use crate::answer::Answer;
-use crate::bundle_resolver::BundleResolver;
+use crate::bundle_resolver::BundleSources;
 use crate::modules::BundleUnits;
 use crate::naming::BundleMangler;
-use crate::packages::package_of;
-use crate::stored_text::StoredText;
 use crate::validity::check_valid;
 use std::alloc::{AllocError, Global};
 use wesl_cond_features::Features;
 use wesl_link::{Mapped, link_mapped};
 use wesl_program_bundle::{BuiltinNames, Bundle, BundleModule, Options, Package};
-use wesl_resolve::StandardResolver;
+use wesl_program_packages::HeldPackages;
 use wesl_resolve_base::Resolver;
 use wesl_scope::names_clash;
 use wesl_source_map::SourceMapper;
 use wesl_tree::{Diagnostic, ModulePath};
-
-/// The modules of a bundle, and its packages.
-pub type BundleSources<'t> = StandardResolver<BundleResolver<'t>, StoredText>;
 
 /// The unit that is linked of a bundle's modules, whether its names clash, and what they stand for. Where the
 /// bundle has built-in names, the unit is validated by them, and refused with the validator's fault.
@@ -128,18 +123,11 @@ pub fn sources_of<'t>(
     listed: Vec<BundleModule<'t>>,
     packages: Vec<Package<'t>>,
 ) -> Result<BundleSources<'t>, AllocError>
-    ensures local { IfOk result (λ s. Holds (map module_view listed.entry.items) s.local.modules) }
-    ensures packages { IfOk result (λ s. ArePackagesOf (packages_view packages.entry.items) s.packages.packages.items) }
+    ensures held { IfOk result (HoldsBundle (packages_view packages.entry.items) (map module_view listed.entry.items)) }
 {
     let modules = modules_of(alloc, listed)?;
-    let mut sources = StandardResolver::new(alloc, BundleResolver { modules }, StoredText);
-    for package in packages {
-        let package = package_of(alloc, package)?;
-        if sources.add_package(package).ok().is_none() {
-            return Err(AllocError);
-        }
-    }
-    Ok(sources)
+    let packages = HeldPackages::new(alloc, packages)?;
+    Ok(BundleSources { modules, packages })
 }
 
 fn names<'b>(alloc: Global, keep: &'b [String]) -> Result<Vec<&'b str>, AllocError>

@@ -27,4 +27,4 @@ links_found hands refuses features p keep is_eager limit turns w (root, is_root,
 }
 
 pub bundles_found : BundlesAreFound
-bundles_found b w u (k, turns, names, links, agree, assembled) = links_found (handed b k) (refused b k) k.features b.root b.keep b.options.eager b.options.max_modules turns w links
+bundles_found b w u (features, turns, names, are, links, agree, assembled) = links_found (handed b) (refused b) features b.root b.keep b.options.eager b.options.max_modules turns w links

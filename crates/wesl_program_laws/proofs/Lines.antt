@@ -27,8 +27,8 @@ escape_names b asks p n = named_so b.options.mangler b.options.mangle_root (same
 
 module _ (found : BundlesAreFound) (faithful : EscapedIsFaithful) (b : Bundle) (asks : AsksForEscapes b) (leaves : (w : List Module) (u : UnitView) → LinksTo b w u → HasApartEscapes b w u) where
   no_clash : (clash : Bool) (map unit : Data) → IsAnswerOf b clash map unit → clash ≡ false
-  no_clash clash map unit (w, u, (k, turns, names, links, agree, assembled), valid, says, mapped, e) =
-      let link : LinksTo b w u = (k, turns, names, links, agree, assembled) in
+  no_clash clash map unit (w, u, (features, turns, names, are, links, agree, assembled), valid, says, mapped, e) =
+      let link : LinksTo b w u = (features, turns, names, are, links, agree, assembled) in
       let left = leaves w u link in
       says.1
       (faithful w (task_for b) names u (found b w u link) assembled (λ m n inside declares. agree m n inside declares ∙ escape_names b asks m.path n) left.0 left.1)

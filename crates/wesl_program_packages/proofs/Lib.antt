@@ -1,0 +1,3 @@
+mod Added
+mod Ways
+mod ByName
