@@ -4,7 +4,7 @@ ghost use Rattle.json.specs.Tree.{items_tokens};
 ghost use Rattle.serde_json.specs.Data.{Items};
 ghost use Rattle.serde_json.specs.Written.{items_outline};
 ghost use Rattle.wesl_json_light.specs.View.{items_view};
-ghost use Rattle.wesl_json_print_nodes.specs.Printing.{Adds, PrintsList};
+ghost use Rattle.wesl_json_print_nodes.specs.Printing.{PrintsTokens, PrintsList};
 ghost use Rattle.wesl_json_write.specs.Values.{AreWritten};
 
 use std::alloc::AllocError;
@@ -42,7 +42,7 @@ pub(crate) fn print_list(out: &mut Printer, key: &str, list: WrittenList<'_>)
 
 // Prints the items of a list, and its end.
 fn print_pieces(out: &mut Printer, pieces: &Vec<Piece<'_>>)
-    ensures { Adds out.old out.new (items_tokens (items_outline (items_view pieces.now.items))) }
+    ensures { PrintsTokens out.old out.new (items_tokens (items_outline (items_view pieces.now.items))) }
 {
     let done = write_items(&mut out.out, pieces);
     out.note(done);

@@ -7,11 +7,11 @@ use Rattle.json.specs.Written.{Writes, Written}
 use Rattle.serde_json.specs.Data.{Data, string, Members}
 use Rattle.serde_json.specs.Written.{outline}
 use Rattle.wesl_tree_names.specs.Path.{Text}
-use Rattle.wesl_json_print_nodes.specs.Printing.{Adds, Prints, PrintsMember, PrintsMembers, inside}
+use Rattle.wesl_json_print_nodes.specs.Printing.{PrintsTokens, Prints, PrintsMember, PrintsMembers, inside}
 use Rattle.wesl_json_print_nodes.specs.declared.printer.Printer.{Printer}
 
 -- two steps
-pub then : {a b c : Printer} {ts us : List Token} → Adds a b ts → Adds b c us → Adds a c (ts ++ us)
+pub then : {a b c : Printer} {ts us : List Token} → PrintsTokens a b ts → PrintsTokens b c us → PrintsTokens a c (ts ++ us)
 then {a} {b} {c} {ts} {us} h k = record {
   tokens = λ kept. k.tokens kept ∙ ap (λ r. r ++ us) (h.tokens (k.noted kept)) ∙ append_assoc a.out.tokens ts us;
   before = λ kept. k.before kept ∙ h.before (k.noted kept);
@@ -19,15 +19,15 @@ then {a} {b} {c} {ts} {us} h k = record {
 }
 
 -- the same tokens, told otherwise
-pub told : {a b : Printer} {ts us : List Token} → ts ≡ us → Adds a b ts → Adds a b us
+pub told : {a b : Printer} {ts us : List Token} → ts ≡ us → PrintsTokens a b ts → PrintsTokens a b us
 told {a} {b} {ts} {us} same h = record { tokens = λ kept. h.tokens kept ∙ ap (λ r. a.out.tokens ++ r) same; before = h.before; noted = h.noted }
 
 -- no step
-pub none : (a : Printer) → Adds a a []
+pub none : (a : Printer) → PrintsTokens a a []
 none a = record { tokens = λ kept. sym (append-nil a.out.tokens); before = λ kept. refl; noted = λ kept. kept }
 
 -- a key, and the tokens of the value at it
-pub keyed : {a b c : Printer} {k : Text} {ts : List Token} → Adds a b (key k ∷ []) → Adds b c ts → Adds a c (key k ∷ (ts ++ []))
+pub keyed : {a b c : Printer} {k : Text} {ts : List Token} → PrintsTokens a b (key k ∷ []) → PrintsTokens b c ts → PrintsTokens a c (key k ∷ (ts ++ []))
 keyed {a} {b} {c} {k} {ts} h i =
     let both = then h i in
     told (ap (λ us. key k ∷ us) (sym (append-nil ts))) both
@@ -45,18 +45,18 @@ ok_at (Ok x) P is h = h
 ok_at (Err e) P is h = absurd (true≢false (sym is))
 
 -- tokens that are written, and then a note whether they were
-pub written : {E : Type 0} {old new : Printer} {out : Written} {ts : List Token} (r : Result (Unit {0}) E) → OnOk r (out.tokens ≡ old.out.tokens ++ ts) → out.before ≡ old.out.before → new.out ≡ out → (new.is_refused ≡ false → IsOk r) → (new.is_refused ≡ false → old.is_refused ≡ false) → Adds old new ts
+pub written : {E : Type 0} {old new : Printer} {out : Written} {ts : List Token} (r : Result (Unit {0}) E) → OnOk r (out.tokens ≡ old.out.tokens ++ ts) → out.before ≡ old.out.before → new.out ≡ out → (new.is_refused ≡ false → IsOk r) → (new.is_refused ≡ false → old.is_refused ≡ false) → PrintsTokens old new ts
 written {E} {old} {new} {out} {ts} r tokens before is done noted = record {
   tokens = λ kept. ap (λ w. w.tokens) is ∙ ok_at r _ (done kept) tokens;
   before = λ kept. ap (λ w. w.before) is ∙ before;
   noted = noted;
 }
 
-pub token : {E : Type 0} {old new : Printer} {out : Written} {t : Token} (r : Result (Unit {0}) E) → Writes r old.out out t → new.out ≡ out → (new.is_refused ≡ false → IsOk r) → (new.is_refused ≡ false → old.is_refused ≡ false) → Adds old new (t ∷ [])
+pub token : {E : Type 0} {old new : Printer} {out : Written} {t : Token} (r : Result (Unit {0}) E) → Writes r old.out out t → new.out ≡ out → (new.is_refused ≡ false → IsOk r) → (new.is_refused ≡ false → old.is_refused ≡ false) → PrintsTokens old new (t ∷ [])
 token r w is done noted = written r w.ok w.room.0 is done noted
 
 -- nothing is promised where memory was wanting
-pub refused : (a b : Printer) (ts : List Token) → (b.is_refused ≡ false → ⊥) → Adds a b ts
+pub refused : (a b : Printer) (ts : List Token) → (b.is_refused ≡ false → ⊥) → PrintsTokens a b ts
 refused a b ts never = record { tokens = λ kept. absurd (never kept); before = λ kept. absurd (never kept); noted = λ kept. absurd (never kept) }
 
 -- the same members, told otherwise

@@ -6,7 +6,7 @@ use Rattle.serde_json.specs.Data.{Data, array, object, string, Items, no_members
 use Rattle.serde_json.specs.Written.{outline}
 use Rattle.wesl_json_form.specs.Schema.{SpelledLabel, node, an_expression}
 use Rattle.wesl_json_form.specs.Writing.{is_placed}
-use Rattle.wesl_json_print_nodes.specs.Printing.{Adds, Prints, at_place, custom_tree, diagnosed}
+use Rattle.wesl_json_print_nodes.specs.Printing.{PrintsTokens, Prints, at_place, custom_tree, diagnosed}
 use Rattle.wesl_json_print_nodes.specs.declared.printer.Printer.{Printer}
 use Rattle.wesl_json_print_nodes.proofs.Adding.{told}
 use Rattle.wesl_json_print_nodes.proofs.Parts.{Part, part, are_apart, arranged, list_part, option_part, option_put, placed_tokens, put_part, puts, puts_before, span_part, tokens_of}
@@ -34,10 +34,10 @@ module _ (spans : Bool) (s : Span) where
   abbrev pub with_span : List Part → List Part
   with_span ps = arranged (span_part spans attribute_node s ∷ ps)
 
-  by_parts : {a z : Printer} (ps : List Part) (d : Data) → are_apart (span_part spans attribute_node s ∷ ps) ≡ true → object (puts ps) ≡ d → Adds a z (begin_object ∷ tokens_of (with_span ps)) → Prints a z (at_place spans attribute_node s d)
+  by_parts : {a z : Printer} (ps : List Part) (d : Data) → are_apart (span_part spans attribute_node s ∷ ps) ≡ true → object (puts ps) ≡ d → PrintsTokens a z (begin_object ∷ tokens_of (with_span ps)) → Prints a z (at_place spans attribute_node s d)
   by_parts ps d apart is h = told (placed_tokens spans attribute_node s (codes "k") ps apart ∙ ap (λ e. json_tokens (outline (at_place spans attribute_node s e))) is) h
 
-  pub named_printed : {a z : Printer} (w t : Text) → Adds a z (begin_object ∷ tokens_of (with_span (word w ∷ name t ∷ []))) → Prints a z (at_place spans attribute_node s (worded w (with_member (codes "name") (string t) no_members)))
+  pub named_printed : {a z : Printer} (w t : Text) → PrintsTokens a z (begin_object ∷ tokens_of (with_span (word w ∷ name t ∷ []))) → Prints a z (at_place spans attribute_node s (worded w (with_member (codes "name") (string t) no_members)))
   unfolding with_member
   named_printed w t h = by_parts (word w ∷ name t ∷ []) _ refl refl h
 
@@ -45,7 +45,7 @@ module _ (spans : Bool) (s : Span) where
   unfolding with_place placed_data
   turned w is = rw is refl
 
-  pub placed_word : {a z : Printer} (w : Text) → is_placed spans label ≡ true → Adds a z (begin_object ∷ tokens_of (with_span (word w ∷ []))) → Prints a z (at_place spans attribute_node s (string w))
+  pub placed_word : {a z : Printer} (w : Text) → is_placed spans label ≡ true → PrintsTokens a z (begin_object ∷ tokens_of (with_span (word w ∷ []))) → Prints a z (at_place spans attribute_node s (string w))
   placed_word w is h = told (placed_tokens spans attribute_node s (codes "k") (word w ∷ []) refl ∙ ap (λ d. json_tokens (outline d)) (turned w is)) h
 
   no_place : (w : Text) → is_placed spans label ≡ false → string w ≡ at_place spans attribute_node s (string w)
@@ -58,11 +58,11 @@ module _ (spans : Bool) (s : Span) where
   abbrev pub diagnostic_parts : Text → Text → List Part
   diagnostic_parts severity rule = word (codes "diagnostic") ∷ part (codes "severity") false (string severity) ∷ part (codes "rule") false (string rule) ∷ []
 
-  pub diagnostic_printed : {a z : Printer} (severity rule : Text) → Adds a z (begin_object ∷ tokens_of (with_span (diagnostic_parts severity rule))) → Prints a z (at_place spans attribute_node s (diagnosed severity rule))
+  pub diagnostic_printed : {a z : Printer} (severity rule : Text) → PrintsTokens a z (begin_object ∷ tokens_of (with_span (diagnostic_parts severity rule))) → Prints a z (at_place spans attribute_node s (diagnosed severity rule))
   unfolding with_member
   diagnostic_printed severity rule h = by_parts (diagnostic_parts severity rule) _ refl refl h
 
-  pub interpolate_printed : {a z : Printer} (ds : Items) → Adds a z (begin_object ∷ tokens_of (with_span (word (codes "interpolate") ∷ list_part (codes "names") ds ∷ []))) → Prints a z (at_place spans attribute_node s (worded (codes "interpolate") (with_list (codes "names") ds no_members)))
+  pub interpolate_printed : {a z : Printer} (ds : Items) → PrintsTokens a z (begin_object ∷ tokens_of (with_span (word (codes "interpolate") ∷ list_part (codes "names") ds ∷ []))) → Prints a z (at_place spans attribute_node s (worded (codes "interpolate") (with_list (codes "names") ds no_members)))
   unfolding with_member with_list
   interpolate_printed ds h = by_parts (word (codes "interpolate") ∷ list_part (codes "names") ds ∷ []) _ refl refl h
 
@@ -73,14 +73,14 @@ module _ (spans : Bool) (s : Span) where
     abbrev option_at : Text → Option (Spanned Expression) → Part
     option_at k o = option_part spans names k (node an_expression) expression_tree o
 
-    pub operand_printed : {a z : Printer} (w : Text) (e : Spanned Expression) → Adds a z (begin_object ∷ tokens_of (with_span (word w ∷ at_key (codes "expr") e ∷ []))) → Prints a z (at_place spans attribute_node s (worded w (with_member (codes "expr") (expression_data spans names e) no_members)))
+    pub operand_printed : {a z : Printer} (w : Text) (e : Spanned Expression) → PrintsTokens a z (begin_object ∷ tokens_of (with_span (word w ∷ at_key (codes "expr") e ∷ []))) → Prints a z (at_place spans attribute_node s (worded w (with_member (codes "expr") (expression_data spans names e) no_members)))
     unfolding with_member
     operand_printed w e h = by_parts (word w ∷ at_key (codes "expr") e ∷ []) _ refl refl h
 
     abbrev pub workgroup_parts : Spanned Expression → Option (Spanned Expression) → Option (Spanned Expression) → List Part
     workgroup_parts x y z = word (codes "workgroup_size") ∷ at_key (codes "x") x ∷ option_at (codes "y") y ∷ option_at (codes "z") z ∷ []
 
-    pub workgroup_printed : {p q : Printer} (x : Spanned Expression) (y z : Option (Spanned Expression)) → Adds p q (begin_object ∷ tokens_of (with_span (workgroup_parts x y z))) → Prints p q (at_place spans attribute_node s (workgroup_size spans names x (optional expression_tree y) (optional expression_tree z)))
+    pub workgroup_printed : {p q : Printer} (x : Spanned Expression) (y z : Option (Spanned Expression)) → PrintsTokens p q (begin_object ∷ tokens_of (with_span (workgroup_parts x y z))) → Prints p q (at_place spans attribute_node s (workgroup_size spans names x (optional expression_tree y) (optional expression_tree z)))
     unfolding with_member
     workgroup_printed x y z h =
         by_parts (workgroup_parts x y z) _ refl
@@ -95,7 +95,7 @@ module _ (spans : Bool) (s : Span) where
     abbrev pub custom_parts : Text → Items → List Part
     custom_parts t ds = word (codes "custom") ∷ name t ∷ part (codes "args") false (array ds) ∷ []
 
-    pub custom_printed : {a z : Printer} (t : Text) (o : Option (Vec (Spanned Expression) Global)) (es : Vec (Spanned Expression) Global) → o ≡ Some es → Adds a z (begin_object ∷ tokens_of (with_span (custom_parts t (items_in spans names an_expression (listed expression_tree list es).children))))
+    pub custom_printed : {a z : Printer} (t : Text) (o : Option (Vec (Spanned Expression) Global)) (es : Vec (Spanned Expression) Global) → o ≡ Some es → PrintsTokens a z (begin_object ∷ tokens_of (with_span (custom_parts t (items_in spans names an_expression (listed expression_tree list es).children))))
         → Prints a z (at_place spans attribute_node s (attribute_in spans names (custom_tree t o)))
     unfolding with_member
     custom_printed t o es is h =

@@ -9,7 +9,7 @@ use Rattle.serde_json.specs.Written.{outline}
 use Rattle.wesl_json_form.specs.Schema.{SpelledLabel, node, leaf, a_type, an_expression, a_path, a_template_argument}
 use Rattle.wesl_json_form.specs.Words.{binary_words, unary_words}
 use Rattle.wesl_json_form.specs.Writing.{is_placed, text_or_null, word_of}
-use Rattle.wesl_json_print_nodes.specs.Printing.{Adds, Prints, named_at, plain_type_tree}
+use Rattle.wesl_json_print_nodes.specs.Printing.{PrintsTokens, Prints, named_at, plain_type_tree}
 use Rattle.wesl_json_print_nodes.specs.declared.printer.Printer.{Printer}
 use Rattle.wesl_json_print_nodes.proofs.Adding.{told}
 use Rattle.wesl_json_print_nodes.proofs.Parts.{Part, part, are_apart, arranged, list_part, object_tokens, option_part, option_put, placed_tokens, puts, span_part, tokens_of}
@@ -42,7 +42,7 @@ module _ (spans : Bool) (names : List Text) (s : Span) (x : Expression) where
   with_span ps = arranged (span_part spans expression_node s ∷ ps)
 
   -- an object with its span
-  by_object : {a z : Printer} (ps : List Part) → are_apart (span_part spans expression_node s ∷ ps) ≡ true → object (puts ps) ≡ expression_in spans names (expression_view x) → Adds a z (begin_object ∷ tokens_of (with_span ps)) → Printed a z
+  by_object : {a z : Printer} (ps : List Part) → are_apart (span_part spans expression_node s ∷ ps) ≡ true → object (puts ps) ≡ expression_in spans names (expression_view x) → PrintsTokens a z (begin_object ∷ tokens_of (with_span ps)) → Printed a z
   by_object ps apart is h =
       told (placed_tokens spans expression_node s (codes "name") ps apart ∙ ap (λ d. json_tokens (outline d)) (ap (with_place spans (place_label spans expression_node s) (codes "name")) is ∙ sym (placed-expression spans names s x))) h
 
@@ -55,28 +55,28 @@ module _ (spans : Bool) (names : List Text) (s : Span) (x : Expression) where
   abbrev pub parenthesized : Box (Spanned Expression) → List Part
   parenthesized e = word (codes "paren") ∷ at_key (codes "expr") e ∷ []
 
-  pub parenthesized_printed : {a z : Printer} (e : Box (Spanned Expression)) → x ≡ Parenthesized e → Adds a z (begin_object ∷ tokens_of (with_span (parenthesized e))) → Printed a z
+  pub parenthesized_printed : {a z : Printer} (e : Box (Spanned Expression)) → x ≡ Parenthesized e → PrintsTokens a z (begin_object ∷ tokens_of (with_span (parenthesized e))) → Printed a z
   unfolding with_member
   parenthesized_printed e is h = by_object (parenthesized e) refl (as-parenthesized spans names x e _ _ is refl refl) h
 
   abbrev pub component : Box (Spanned Expression) → String Global → List Part
   component e n = word (codes "field") ∷ at_key (codes "base") e ∷ part (codes "name") false (string (string_bytes n)) ∷ []
 
-  pub component_printed : {a z : Printer} (e : Box (Spanned Expression)) (n : String Global) → x ≡ NamedComponent e n → Adds a z (begin_object ∷ tokens_of (with_span (component e n))) → Printed a z
+  pub component_printed : {a z : Printer} (e : Box (Spanned Expression)) (n : String Global) → x ≡ NamedComponent e n → PrintsTokens a z (begin_object ∷ tokens_of (with_span (component e n))) → Printed a z
   unfolding with_member
   component_printed e n is h = by_object (component e n) refl (as-component spans names x e n _ _ is refl refl) h
 
   abbrev pub indexing : Box (Spanned Expression) → Box (Spanned Expression) → List Part
   indexing b i = word (codes "index") ∷ at_key (codes "base") b ∷ at_key (codes "index") i ∷ []
 
-  pub indexing_printed : {a z : Printer} (b i : Box (Spanned Expression)) → x ≡ Indexing b i → Adds a z (begin_object ∷ tokens_of (with_span (indexing b i))) → Printed a z
+  pub indexing_printed : {a z : Printer} (b i : Box (Spanned Expression)) → x ≡ Indexing b i → PrintsTokens a z (begin_object ∷ tokens_of (with_span (indexing b i))) → Printed a z
   unfolding with_member
   indexing_printed b i is h = by_object (indexing b i) refl (as-indexing spans names x b i _ _ _ is refl refl refl) h
 
   abbrev pub unary_parts : Text → Box (Spanned Expression) → List Part
   unary_parts w e = word (codes "unary") ∷ part (codes "op") false (string w) ∷ at_key (codes "expr") e ∷ []
 
-  pub unary_printed : {a z : Printer} (o : UnaryOperator) (e : Box (Spanned Expression)) (w : Text) → x ≡ Unary o e → word_of unary_words (unary o) ≡ Some w → Adds a z (begin_object ∷ tokens_of (with_span (unary_parts w e))) → Printed a z
+  pub unary_printed : {a z : Printer} (o : UnaryOperator) (e : Box (Spanned Expression)) (w : Text) → x ≡ Unary o e → word_of unary_words (unary o) ≡ Some w → PrintsTokens a z (begin_object ∷ tokens_of (with_span (unary_parts w e))) → Printed a z
   unfolding with_member
   unary_printed o e w is told_word h =
       by_object (unary_parts w e) refl (ap (λ d. object (puts (word (codes "unary") ∷ part (codes "op") false d ∷ at_key (codes "expr") e ∷ []))) (sym (ap text_or_null told_word)) ∙ as-unary spans names x o e _ _ is refl refl) h
@@ -84,7 +84,7 @@ module _ (spans : Bool) (names : List Text) (s : Span) (x : Expression) where
   abbrev pub binary_parts : Text → Box (Spanned Expression) → Box (Spanned Expression) → List Part
   binary_parts w l r = word (codes "binary") ∷ part (codes "op") false (string w) ∷ at_key (codes "left") l ∷ at_key (codes "right") r ∷ []
 
-  pub binary_printed : {a z : Printer} (o : BinaryOperator) (l r : Box (Spanned Expression)) (w : Text) → x ≡ Binary o l r → word_of binary_words (binary o) ≡ Some w → Adds a z (begin_object ∷ tokens_of (with_span (binary_parts w l r))) → Printed a z
+  pub binary_printed : {a z : Printer} (o : BinaryOperator) (l r : Box (Spanned Expression)) (w : Text) → x ≡ Binary o l r → word_of binary_words (binary o) ≡ Some w → PrintsTokens a z (begin_object ∷ tokens_of (with_span (binary_parts w l r))) → Printed a z
   unfolding with_member
   binary_printed o l r w is told_word h =
       by_object (binary_parts w l r) refl (ap (λ d. object (puts (word (codes "binary") ∷ part (codes "op") false d ∷ at_key (codes "left") l ∷ at_key (codes "right") r ∷ []))) (sym (ap text_or_null told_word)) ∙ as-binary spans names x o l r _ _ _ is refl refl refl) h
@@ -92,7 +92,7 @@ module _ (spans : Bool) (names : List Text) (s : Span) (x : Expression) where
   abbrev pub called : Data → Items → List Part
   called d ds = part (codes "ty") false d ∷ list_part (codes "args") ds ∷ []
 
-  pub call_printed : {a z : Printer} (c : FunctionCall) (d : Data) (ds : Items) → x ≡ Call c → d ≡ value_in spans names (node a_type) (type_view (out-FunctionCall c).ty) → ds ≡ items_in spans names an_expression (listed expression_tree list (out-FunctionCall c).arguments).children → Adds a z (begin_object ∷ tokens_of (with_span (word (codes "call") ∷ called d ds))) → Printed a z
+  pub call_printed : {a z : Printer} (c : FunctionCall) (d : Data) (ds : Items) → x ≡ Call c → d ≡ value_in spans names (node a_type) (type_view (out-FunctionCall c).ty) → ds ≡ items_in spans names an_expression (listed expression_tree list (out-FunctionCall c).arguments).children → PrintsTokens a z (begin_object ∷ tokens_of (with_span (word (codes "call") ∷ called d ds))) → Printed a z
   unfolding with_member with_list
   call_printed c d ds is first second h = by_object (word (codes "call") ∷ called d ds) refl (as-call spans names x c (puts (called d ds)) _ is (as-call-members spans names c d ds _ first second refl) refl) h
 
@@ -123,14 +123,14 @@ module _ (spans : Bool) (s : Span) where
   unfolding with_place placed_data
   turned_text t is = rw is refl
 
-  pub placed_name : {a z : Printer} (t : Text) → is_placed spans label ≡ true → Adds a z (begin_object ∷ tokens_of (span_and (part (codes "name") false (string t) ∷ []))) → Prints a z (named_at spans s (string t))
+  pub placed_name : {a z : Printer} (t : Text) → is_placed spans label ≡ true → PrintsTokens a z (begin_object ∷ tokens_of (span_and (part (codes "name") false (string t) ∷ []))) → Prints a z (named_at spans s (string t))
   placed_name t is h = told (placed_tokens spans expression_node s (codes "name") (part (codes "name") false (string t) ∷ []) refl ∙ ap (λ d. json_tokens (outline d)) (turned_text t is)) h
 
   turned_truth : (b : Bool) → is_placed spans label ≡ true → named_at spans s (object (puts (part (codes "k") false (string (truth_text b)) ∷ []))) ≡ named_at spans s (boolean b)
   unfolding with_place placed_data
   turned_truth b is = rw is refl
 
-  pub placed_truth : {a z : Printer} (b : Bool) (w : Text) → w ≡ truth_text b → is_placed spans label ≡ true → Adds a z (begin_object ∷ tokens_of (span_and (part (codes "k") false (string w) ∷ []))) → Prints a z (named_at spans s (boolean b))
+  pub placed_truth : {a z : Printer} (b : Bool) (w : Text) → w ≡ truth_text b → is_placed spans label ≡ true → PrintsTokens a z (begin_object ∷ tokens_of (span_and (part (codes "k") false (string w) ∷ []))) → Prints a z (named_at spans s (boolean b))
   placed_truth b w same is h = told (placed_tokens spans expression_node s (codes "name") (part (codes "k") false (string w) ∷ []) refl ∙ ap (λ d. json_tokens (outline d)) (ap (λ v. named_at spans s (object (puts (part (codes "k") false (string v) ∷ [])))) same ∙ turned_truth b is)) h
 
 module _ (spans : Bool) (names : List Text) (s : Span) where
@@ -148,7 +148,7 @@ module _ (spans : Bool) (names : List Text) (s : Span) where
   abbrev pub lit : String Global → List Part
   lit t = part (codes "k") false (string (codes "lit")) ∷ part (codes "text") false (string (string_bytes t)) ∷ []
 
-  pub text_literal : {a z : Printer} (l : Literal_) (t : String Global) → l ≡ literals.Text t → Adds a z (begin_object ∷ tokens_of (span_and spans s (lit t))) → Prints a z (expression_at spans names s (branch literal (literal_tree l ∷ [])))
+  pub text_literal : {a z : Printer} (l : Literal_) (t : String Global) → l ≡ literals.Text t → PrintsTokens a z (begin_object ∷ tokens_of (span_and spans s (lit t))) → Prints a z (expression_at spans names s (branch literal (literal_tree l ∷ [])))
   unfolding with_member
   text_literal l t is h = told (placed_tokens spans expression_node s (codes "name") (lit t) refl ∙ ap (λ d. json_tokens (outline d)) (ap (named_at spans s) (as-literal spans names l t _ is refl) ∙ literal_at l)) h
 
@@ -160,7 +160,7 @@ module _ (spans : Bool) (names : List Text) (s : Span) where
   abbrev pub pathed : Text → ModulePath → List Part
   pathed t q = part (codes "path") false (string (to_text (path_view q))) ∷ part (codes "name") false (string t) ∷ []
 
-  pub pathed_name : {a z : Printer} (p : Option ModulePath) (q : ModulePath) (i : Ident) (t : Text) → p ≡ Some q → t ≡ name_in names i.0 → Adds a z (begin_object ∷ tokens_of (span_and spans s (pathed t q))) → Prints a z (named_at spans s (value_in spans names (node a_type) (plain_type_tree p i)))
+  pub pathed_name : {a z : Printer} (p : Option ModulePath) (q : ModulePath) (i : Ident) (t : Text) → p ≡ Some q → t ≡ name_in names i.0 → PrintsTokens a z (begin_object ∷ tokens_of (span_and spans s (pathed t q))) → Prints a z (named_at spans s (value_in spans names (node a_type) (plain_type_tree p i)))
   unfolding with_member
   pathed_name p q i t is name h =
       told (placed_tokens spans expression_node s (codes "name") (pathed t q) refl ∙ ap (λ d. json_tokens (outline (named_at spans s d))) (ap (λ v. object (puts (pathed v q))) name ∙ as-pathed-name spans names p q i _ is refl)) h
@@ -172,7 +172,7 @@ module _ (spans : Bool) (names : List Text) (s : Span) where
   argued_parts p t ds = option_part spans names (codes "path") (leaf a_path) path_tree p ∷ part (codes "name") false (string t) ∷ part (codes "args") false (array ds) ∷ []
 
   pub argued_type : {a z : Printer} (t : TypeExpression) (v : Vec TemplateArg Global) (w : Text) → (out-TypeExpression t).template_args ≡ Some v → w ≡ name_in names (out-TypeExpression t).ident.0
-      → Adds a z (begin_object ∷ tokens_of (span_and spans s (argued_parts (out-TypeExpression t).path w (items_in spans names a_template_argument (listed argument_view list v).children)))) → Prints a z (named_at spans s (value_in spans names (node a_type) (type_view t)))
+      → PrintsTokens a z (begin_object ∷ tokens_of (span_and spans s (argued_parts (out-TypeExpression t).path w (items_in spans names a_template_argument (listed argument_view list v).children)))) → Prints a z (named_at spans s (value_in spans names (node a_type) (type_view t)))
   unfolding with_member
   argued_type t v w is name h =
       let ds = items_in spans names a_template_argument (listed argument_view list v).children in
@@ -188,7 +188,7 @@ module _ (spans : Bool) (names : List Text) (s : Span) where
 
 module _ (spans : Bool) (names : List Text) where
   pub call_object : {a z : Printer} (c : FunctionCall) (d : Data) (ds : Items) → d ≡ value_in spans names (node a_type) (type_view (out-FunctionCall c).ty) → ds ≡ items_in spans names an_expression (listed expression_tree list (out-FunctionCall c).arguments).children
-      → Adds a z (begin_object ∷ tokens_of (arranged (part (codes "ty") false d ∷ list_part (codes "args") ds ∷ []))) → Prints a z (bare (call_members spans names (call_view c)))
+      → PrintsTokens a z (begin_object ∷ tokens_of (arranged (part (codes "ty") false d ∷ list_part (codes "args") ds ∷ []))) → Prints a z (bare (call_members spans names (call_view c)))
   unfolding with_member with_list
   call_object c d ds first second h =
       let ps = part (codes "ty") false d ∷ list_part (codes "args") ds ∷ [] in

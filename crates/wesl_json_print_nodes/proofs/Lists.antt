@@ -7,7 +7,7 @@ use Rattle.serde_json.specs.Data.{Data, array, string, Items, no_items, item, no
 use Rattle.serde_json.specs.Written.{items_outline, outline}
 use Rattle.wesl_json_form.specs.Schema.{Name, node}
 use Rattle.wesl_json_form.specs.Writing.{put_list, texts_value}
-use Rattle.wesl_json_print_nodes.specs.Printing.{Adds, Prints, PrintsList, inside}
+use Rattle.wesl_json_print_nodes.specs.Printing.{PrintsTokens, Prints, PrintsList, inside}
 use Rattle.wesl_json_print_nodes.specs.declared.printer.Printer.{Printer}
 use Rattle.wesl_json_print_nodes.proofs.Adding.{keyed, none, then, told}
 use Rattle.wesl_json_write.specs.Values.{items_in, value_in}
@@ -27,7 +27,7 @@ module _ {A : Type 0} (value : A → Data) where
 
     -- what was printed before the i-th
     abbrev pub AreBefore : Printer → Printer → ℕ → Type 0
-    AreBefore start now i = (ts : List Token) × Adds start now ts × (ts ++ left i ≡ left 0)
+    AreBefore start now i = (ts : List Token) × PrintsTokens start now ts × (ts ++ left i ≡ left 0)
 
     pub none_before : (a : Printer) → AreBefore a a 0
     none_before a = ([], none a, refl)
@@ -40,7 +40,7 @@ module _ {A : Type 0} (value : A → Data) where
         let this = json_tokens (outline (value x)) in
         (so_far.0 ++ this, then so_far.1 h, append_assoc so_far.0 this (left (i + 1)) ∙ ap (λ r. so_far.0 ++ r) (sym (left_more i x within here)) ∙ so_far.2)
 
-    pub all_before : {o a b c : Printer} (ys : List A) (i : ℕ) → xs ≡ ys → length xs ≤ i → Adds o a (begin_array ∷ []) → AreBefore a b i → Adds b c (end_array ∷ []) → Prints o c (array (items_by ys))
+    pub all_before : {o a b c : Printer} (ys : List A) (i : ℕ) → xs ≡ ys → length xs ≤ i → PrintsTokens o a (begin_array ∷ []) → AreBefore a b i → PrintsTokens b c (end_array ∷ []) → Prints o c (array (items_by ys))
     all_before ys i same all first so_far h =
         let inside_it = then so_far.1 h in
         let both = then first inside_it in
@@ -50,7 +50,7 @@ module _ {A : Type 0} (value : A → Data) where
   pub no_list : (xs : List A) (k : Text) (a : Printer) → xs ≡ [] → PrintsList a a k (items_by xs)
   no_list xs k a is = rw is (none a)
 
-  pub some_list : {a b c : Printer} (xs : List A) (k : Text) → 0 < length xs → Adds a b (key k ∷ []) → Prints b c (array (items_by xs)) → PrintsList a c k (items_by xs)
+  pub some_list : {a b c : Printer} (xs : List A) (k : Text) → 0 < length xs → PrintsTokens a b (key k ∷ []) → Prints b c (array (items_by xs)) → PrintsList a c k (items_by xs)
   some_list [] k some h i = absurd (omega arith)
   some_list (x ∷ xs) k some h i = let both = keyed h i in both
 
@@ -78,14 +78,14 @@ module _ (spans : Bool) (names : List Text) (m : Name) {A : Type 0} (f : A → T
   pub one_node_more : {a b c : Printer} (xs : List A) (i : ℕ) (x : A) (d : Data) → i < length xs → x ≡ get_or xs i x → d ≡ value_in spans names (node m) (f x) → AreNodesBefore xs a b i → Prints b c d → AreNodesBefore xs a c (i + 1)
   one_node_more xs i x d within here is so_far h = one_more value_of xs i x within here so_far (told (ap (λ e. json_tokens (outline e)) is) h)
 
-  pub all_nodes_before : {o a b c : Printer} (xs ys : List A) (i : ℕ) → xs ≡ ys → length xs ≤ i → Adds o a (begin_array ∷ []) → AreNodesBefore xs a b i → Adds b c (end_array ∷ []) → Prints o c (array (items_in spans names m (forest_of (map f ys))))
+  pub all_nodes_before : {o a b c : Printer} (xs ys : List A) (i : ℕ) → xs ≡ ys → length xs ≤ i → PrintsTokens o a (begin_array ∷ []) → AreNodesBefore xs a b i → PrintsTokens b c (end_array ∷ []) → Prints o c (array (items_in spans names m (forest_of (map f ys))))
   all_nodes_before xs ys i same all first so_far h = told (ap (λ ds. json_tokens (outline (array ds))) (items_same ys)) (all_before value_of xs ys i same all first so_far h)
 
   -- a member that is a list of nodes, where it is empty and where it is not
   pub no_nodes : (xs : List A) (k : Text) (a : Printer) → xs ≡ [] → PrintsList a a k (items_in spans names m (forest_of (map f xs)))
   no_nodes xs k a is = told (ap (λ ds. inside (put_list k (array ds) no_members)) (items_same xs)) (no_list value_of xs k a is)
 
-  pub some_nodes : {a b c : Printer} (xs : List A) (k : Text) → 0 < length xs → Adds a b (key k ∷ []) → Prints b c (array (items_in spans names m (forest_of (map f xs)))) → PrintsList a c k (items_in spans names m (forest_of (map f xs)))
+  pub some_nodes : {a b c : Printer} (xs : List A) (k : Text) → 0 < length xs → PrintsTokens a b (key k ∷ []) → Prints b c (array (items_in spans names m (forest_of (map f xs)))) → PrintsList a c k (items_in spans names m (forest_of (map f xs)))
   some_nodes xs k some h i =
       told (ap (λ ds. inside (put_list k (array ds) no_members)) (items_same xs)) (some_list value_of xs k some h (told (ap (λ ds. json_tokens (outline (array ds))) (sym (items_same xs))) i))
 
@@ -107,12 +107,12 @@ no_texts_before xs a = none_before text_value xs a
 pub one_text_more : {a b c : Printer} (xs : List (String Global)) (i : ℕ) (x : String Global) (t : Text) → i < length xs → x ≡ get_or xs i x → t ≡ string_bytes x → AreTextsBefore xs a b i → Prints b c (string t) → AreTextsBefore xs a c (i + 1)
 one_text_more xs i x t within here is so_far h = one_more text_value xs i x within here so_far (told (ap (λ u. json_tokens (outline (string u))) is) h)
 
-pub all_texts_before : {o a b c : Printer} (xs ys : List (String Global)) (i : ℕ) → xs ≡ ys → length xs ≤ i → Adds o a (begin_array ∷ []) → AreTextsBefore xs a b i → Adds b c (end_array ∷ []) → Prints o c (array (texts_value (map string_bytes ys)))
+pub all_texts_before : {o a b c : Printer} (xs ys : List (String Global)) (i : ℕ) → xs ≡ ys → length xs ≤ i → PrintsTokens o a (begin_array ∷ []) → AreTextsBefore xs a b i → PrintsTokens b c (end_array ∷ []) → Prints o c (array (texts_value (map string_bytes ys)))
 all_texts_before xs ys i same all first so_far h = told (ap (λ ds. json_tokens (outline (array ds))) (texts_same ys)) (all_before text_value xs ys i same all first so_far h)
 
 pub no_texts : (xs : List (String Global)) (k : Text) (a : Printer) → xs ≡ [] → PrintsList a a k (texts_value (map string_bytes xs))
 no_texts xs k a is = told (ap (λ ds. inside (put_list k (array ds) no_members)) (texts_same xs)) (no_list text_value xs k a is)
 
-pub some_texts : {a b c : Printer} (xs : List (String Global)) (k : Text) → 0 < length xs → Adds a b (key k ∷ []) → Prints b c (array (texts_value (map string_bytes xs))) → PrintsList a c k (texts_value (map string_bytes xs))
+pub some_texts : {a b c : Printer} (xs : List (String Global)) (k : Text) → 0 < length xs → PrintsTokens a b (key k ∷ []) → Prints b c (array (texts_value (map string_bytes xs))) → PrintsList a c k (texts_value (map string_bytes xs))
 some_texts xs k some h i =
     told (ap (λ ds. inside (put_list k (array ds) no_members)) (texts_same xs)) (some_list text_value xs k some h (told (ap (λ ds. json_tokens (outline (array ds))) (sym (texts_same xs))) i))

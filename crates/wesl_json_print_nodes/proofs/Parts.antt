@@ -9,7 +9,7 @@ use Rattle.serde_json.specs.Data.{Data, array, null, object, Items, Members, no_
 use Rattle.serde_json.specs.Written.{members_outline, outline}
 use Rattle.wesl_json_form.specs.Schema.{Form, SpelledLabel}
 use Rattle.wesl_json_form.specs.Writing.{is_empty_array, is_placed, put_span, span_value}
-use Rattle.wesl_json_print_nodes.specs.Printing.{Adds, PrintsMember, PrintsMembers, inside}
+use Rattle.wesl_json_print_nodes.specs.Printing.{PrintsTokens, PrintsMember, PrintsMembers, inside}
 use Rattle.wesl_json_print_nodes.specs.declared.printer.Printer.{Printer}
 use Rattle.wesl_json_print_nodes.proofs.Adding.{none, told}
 use Rattle.wesl_json_write.proofs.Expressions.{option-none, option-some}
@@ -142,7 +142,7 @@ module _ (spans : Bool) (k : Kind) (s : Span) where
   unless_not true xs ms = refl
   unless_not false xs ms = refl
 
-  pub span_added : {a b : Printer} → Adds a b (inside (put_span spans label no_members)) → Adds a b (inside (put_part span_part no_members))
+  pub span_added : {a b : Printer} → PrintsTokens a b (inside (put_span spans label no_members)) → PrintsTokens a b (inside (put_part span_part no_members))
   span_added h =
       told (ap inside (span_by spans k (start_of label) (end_of label) no_members (is_placed spans label) refl ∙ unless_not (is_placed spans label) (put (codes "span") (span_value (start_of label) (end_of label)) no_members) no_members)) h
 
@@ -180,7 +180,7 @@ module _ (spans : Bool) (names : List Text) (k : Text) (f : Form) {A : Type 0} (
   option_put None ms = option-none spans names k f g None ms refl
   option_put (Some x) ms = option-some spans names k f g (Some x) x (value_in spans names f (g x)) ms (put k (value_in spans names f (g x)) ms) refl refl refl
 
-  pub option_added : {a b : Printer} (o : Option A) → Adds a b (inside (with_option k spans names f (optional g o) no_members)) → Adds a b (inside (put_part (option_part o) no_members))
+  pub option_added : {a b : Printer} (o : Option A) → PrintsTokens a b (inside (with_option k spans names f (optional g o) no_members)) → PrintsTokens a b (inside (put_part (option_part o) no_members))
   option_added o h = told (ap inside (sym (option_put o no_members))) h
 
   pub no_option : (a : Printer) (o : Option A) → o ≡ None → PrintsMembers a a (with_option k spans names f (optional g o) no_members)
@@ -191,6 +191,6 @@ module _ (spans : Bool) (names : List Text) (k : Text) (f : Form) {A : Type 0} (
   some_option o x d is this h = told (ap inside (option-some spans names k f g o x d no_members (member k d no_members) is this refl)) h
 
 pub span_shown : {a b : Printer} (spans : Bool) (k : Kind) (s : Span) → is_placed spans (place_label spans k s) ≡ true
-    → Adds a b (key (codes "span") ∷ begin_array ∷ number (decimal s.start) ∷ number (decimal s.end) ∷ end_array ∷ []) → PrintsMembers a b (put_span spans (place_label spans k s) no_members)
+    → PrintsTokens a b (key (codes "span") ∷ begin_array ∷ number (decimal s.start) ∷ number (decimal s.end) ∷ end_array ∷ []) → PrintsMembers a b (put_span spans (place_label spans k s) no_members)
 span_shown true k s is h = told (ap inside (sym (span_by true k s.start s.end no_members true is))) h
 span_shown false k s is h = absurd (true≢false (sym is))

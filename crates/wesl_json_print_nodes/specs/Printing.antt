@@ -24,14 +24,14 @@ use Rattle.wesl_json_write.specs.Values.{bare, call_members, expression_data, pl
 use Rattle.wesl_json_print_nodes.specs.declared.printer.Printer.{Printer}
 
 -- Unless memory was wanting by then: the tokens are those before and these, behind the same text, and memory was not wanting before either.
-pub record Adds (old new : Printer) (ts : List Token) : Type 0 where
+pub record PrintsTokens (old new : Printer) (ts : List Token) : Type 0 where
   pub tokens : new.is_refused ≡ false → new.out.tokens ≡ old.out.tokens ++ ts
   pub before : new.is_refused ≡ false → new.out.before ≡ old.out.before
   pub noted : new.is_refused ≡ false → old.is_refused ≡ false
 
 -- a value is printed
 abbrev pub Prints : Printer → Printer → Data → Type 0
-Prints old new d = Adds old new (json_tokens (outline d))
+Prints old new d = PrintsTokens old new (json_tokens (outline d))
 
 -- what a node at a place is written as, by what it is where it has none; a text in it stands at `k`
 abbrev pub at_place : Bool → Kind → Span → Data → Data
@@ -48,7 +48,7 @@ inside (member k d ms) = key k ∷ (json_tokens (outline d) ++ inside ms)
 
 -- members of an object are printed
 abbrev pub PrintsMembers : Printer → Printer → Members → Type 0
-PrintsMembers old new ms = Adds old new (inside ms)
+PrintsMembers old new ms = PrintsTokens old new (inside ms)
 
 -- a value at a key
 abbrev pub PrintsMember : Printer → Printer → Text → Data → Type 0

@@ -25,7 +25,7 @@ pub struct Printer {
 }
 
 impl Printer {
-    ghost use Rattle.wesl_json_print_nodes.specs.Printing.{Adds, Prints, PrintsList, PrintsMember, PrintsMembers};
+    ghost use Rattle.wesl_json_print_nodes.specs.Printing.{PrintsTokens, Prints, PrintsList, PrintsMember, PrintsMembers};
 
     /// A printer behind what a writer holds.
     pub fn new(alloc: Global, out: Writer) -> Printer
@@ -64,7 +64,7 @@ impl Printer {
 
     /// Begins an object.
     pub fn begin(&mut self)
-        ensures { Adds self.old self.new (begin_object ∷ []) }
+        ensures { PrintsTokens self.old self.new (begin_object ∷ []) }
     {
         let done = self.out.begin_object();
         self.note(done);
@@ -72,7 +72,7 @@ impl Printer {
 
     /// Ends an object.
     pub fn close(&mut self)
-        ensures { Adds self.old self.new (end_object ∷ []) }
+        ensures { PrintsTokens self.old self.new (end_object ∷ []) }
     {
         let done = self.out.end_object();
         self.note(done);
@@ -80,7 +80,7 @@ impl Printer {
 
     /// Begins a list.
     pub fn begin_list(&mut self)
-        ensures { Adds self.old self.new (begin_array ∷ []) }
+        ensures { PrintsTokens self.old self.new (begin_array ∷ []) }
     {
         let done = self.out.begin_array();
         self.note(done);
@@ -88,7 +88,7 @@ impl Printer {
 
     /// Ends a list.
     pub(crate) fn close_list(&mut self)
-        ensures { Adds self.old self.new (end_array ∷ []) }
+        ensures { PrintsTokens self.old self.new (end_array ∷ []) }
     {
         let done = self.out.end_array();
         self.note(done);
@@ -96,7 +96,7 @@ impl Printer {
 
     /// Prints a key.
     pub fn key(&mut self, key: &str)
-        ensures { Adds self.old self.new (key_token key.now ∷ []) }
+        ensures { PrintsTokens self.old self.new (key_token key.now ∷ []) }
     {
         let done = self.out.key(key);
         self.note(done);

@@ -32,7 +32,7 @@ use Rattle.wesl_link_engine.specs.Linked.{Placed, placed, is_assert, IsHeldAs}
 use Rattle.wesl_link_engine.specs.Worlds.{table, tables}
 use Rattle.wesl_link_engine.specs.Tabled.{IsMarked}
 use Rattle.wesl_link_engine.specs.Keeping.{module_of, all_loaded, modules_in, task_in, IsLinkOf}
-use Rattle.wesl_link_engine.specs.Holding.{declaration_tree, IsMeant, IsHeldHere, RefersToAll, AreClear, AddsOne, is_added, is_not_held, Adds}
+use Rattle.wesl_link_engine.specs.Holding.{declaration_tree, IsMeant, IsHeldHere, RefersToAll, AreClear, AddsOne, is_added, is_not_held, AddsPlaced}
 use Rattle.wesl_link_engine.specs.declared.loaded.LoadedModule.{LoadedModule}
 use Rattle.wesl_link_engine.specs.declared.link.Link.{Link}
 use Rattle.wesl_link_engine.specs.declared.assemble.Parts.{Parts}
@@ -196,14 +196,14 @@ module _ (l : Link) (sound : IsLinkOf (task_in l) l) where
     next : take (i + 1) (placed (module_of m)) ≡ done ++ d ∷ []
     next = take_at (placed (module_of m)) i d one.stands
 
-    pub adds_next : Adds l (take i (placed (module_of m))) p q → AddsOne (numbering l.numbers) l.linked t g row.name ms q r → Adds l (take (i + 1) (placed (module_of m))) p r
+    pub adds_next : AddsPlaced l (take i (placed (module_of m))) p q → AddsOne (numbering l.numbers) l.linked t g row.name ms q r → AddsPlaced l (take (i + 1) (placed (module_of m))) p r
     adds_next s (is_added here a) =
         let (told, named) = meanings_told (numbering l.numbers) l.numbers.paths.different l.numbers.names.different l.linked (modules_in l) covers t (path_view m.path) same.path ms one.uses a.meant one.marked a.means in
-        subst (λ (all : List Placed). Adds l all p r) (sym next)
+        subst (λ (all : List Placed). AddsPlaced l all p r) (sym next)
         (adds_one l done p q d s r (declaration_tree g) a.meant (held_text row.name (name_of (spelled_in m g)) one.same.name here) (sym (shape_replaced f (before (declaration_tree g) end))) a.declarations a.denotations told named)
     adds_next s (is_not_held out e) =
-        subst (λ (all : List Placed). Adds l all p r) (sym next)
-        (subst (λ (x : Parts). Adds l (done ++ d ∷ []) p x) (sym e) (adds_not l done p q d s (λ h. out (held_number row.name (name_of (spelled_in m g)) one.same.name h))))
+        subst (λ (all : List Placed). AddsPlaced l all p r) (sym next)
+        (subst (λ (x : Parts). AddsPlaced l (done ++ d ∷ []) p x) (sym e) (adds_not l done p q d s (λ h. out (held_number row.name (name_of (spelled_in m g)) one.same.name h))))
 
 -- ---- one identifier
 

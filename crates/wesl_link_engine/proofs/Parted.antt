@@ -13,7 +13,7 @@ use Rattle.wesl_link_engine.specs.Linked.{Denotation, Selects, Joins, IsHeld, Ar
 use Rattle.wesl_link_engine.specs.Linked.{Selects as selects, Joins as joins}
 use Rattle.wesl_link_engine.specs.Worlds.{Module, tables}
 use Rattle.wesl_link_engine.specs.Keeping.{denotation_text, module_of, loaded_modules, modules_in, task_in}
-use Rattle.wesl_link_engine.specs.Holding.{declaration_tree, nodes, meanings, IsNamed, AreAlike, Adds, AddsModule, AreParts}
+use Rattle.wesl_link_engine.specs.Holding.{declaration_tree, nodes, meanings, IsNamed, AreAlike, AddsPlaced, AddsModule, AreParts}
 use Rattle.wesl_link_engine.specs.declared.loaded.LoadedModule.{LoadedModule}
 use Rattle.wesl_link_engine.specs.declared.link.Link.{Link}
 use Rattle.wesl_link_engine.specs.declared.assemble.Parts.{Parts}
@@ -51,7 +51,7 @@ module _ (l : Link) where
   abbrev texts_of : Meaning → Denotation
   texts_of = denotation_text (numbering l.numbers)
 
-  pub adds_none : (p : Parts) → Adds l [] p p
+  pub adds_none : (p : Parts) → AddsPlaced l [] p p
   adds_none p = record {
     added = [];
     held = [];
@@ -64,8 +64,8 @@ module _ (l : Link) where
     alike = refl;
   }
 
-  module _ (all : List Placed) (p q : Parts) (d : Placed) (s : Adds l all p q) where
-    pub adds_not : (IsHeld (tables (modules_in l)) (task_in l) d → ⊥) → Adds l (all ++ d ∷ []) p q
+  module _ (all : List Placed) (p q : Parts) (d : Placed) (s : AddsPlaced l all p q) where
+    pub adds_not : (IsHeld (tables (modules_in l)) (task_in l) d → ⊥) → AddsPlaced l (all ++ d ∷ []) p q
     adds_not out = record {
       added = s.added;
       held = s.held;
@@ -79,7 +79,7 @@ module _ (l : Link) where
     }
 
     pub adds_one : (r : Parts) (t : Tree) (ms : List Meaning) → IsHeld (tables (modules_in l)) (task_in l) d → AreAlike (t ∷ []) (d ∷ []) → nodes r ≡ nodes q ++ t ∷ [] → meanings r ≡ meanings q ++ ms
-        → AreMeanings (tables (modules_in l)) d (map (denotation_text (numbering l.numbers)) ms) → ((m : Meaning) → Contains ms m → IsNamed (numbering l.numbers) m) → Adds l (all ++ d ∷ []) p r
+        → AreMeanings (tables (modules_in l)) d (map (denotation_text (numbering l.numbers)) ms) → ((m : Meaning) → Contains ms m → IsNamed (numbering l.numbers) m) → AddsPlaced l (all ++ d ∷ []) p r
     adds_one r t ms held alike decls denots meant named = record {
       added = s.added ++ t ∷ [];
       held = s.held ++ d ∷ [];

@@ -15,7 +15,7 @@ use Rattle.wesl_link_tables.proofs.Lists.{related_more}
 use Rattle.wesl_link_tables.proofs.Related.{name_later, table_later}
 use Rattle.wesl_link_engine.specs.Handing.{HaveOne, IsHandedTable, IsRefusedPath}
 use Rattle.wesl_link_engine.specs.Worlds.{Module, table, task_of, IsLinked, IsRefused}
-use Rattle.wesl_link_engine.specs.Refusal.{TellsOf, HasNumbers, Tells}
+use Rattle.wesl_link_engine.specs.Refusal.{TellsOf, HasNumbers, TellsLinkError}
 use Rattle.wesl_link_engine.specs.declared.loaded.Held.{Held}
 use Rattle.wesl_link_engine.proofs.Built.{modules, linked_world, paths_one}
 use Rattle.wesl_link_engine.proofs.Refusing.{has_numbers, refusal_told}
@@ -41,6 +41,6 @@ module _ (first nb : Numbering) (g : Grows first nb) (hands : Path → UnitOf Te
   pub reach_numbers : (f : LinkError resolve_error.ResolveError) → IsExplained (IsHandedTable hands nb units) (IsRefusedPath refuses nb) rt (linking.task_of rt kept is_eager) limit f → HasNumbers nb f
   reach_numbers f x = has_numbers nb hands units one rt rm root_now different_paths different_names asked kept keep kept_now is_eager refuses (IsRefusedPath refuses nb) to limit f x
 
-  pub reach_refused : (f : LinkError resolve_error.ResolveError) (e : error.Error) → IsExplained (IsHandedTable hands nb units) (IsRefusedPath refuses nb) rt (linking.task_of rt kept is_eager) limit f → Tells nb f e
+  pub reach_refused : (f : LinkError resolve_error.ResolveError) (e : error.Error) → IsExplained (IsHandedTable hands nb units) (IsRefusedPath refuses nb) rt (linking.task_of rt kept is_eager) limit f → TellsLinkError nb f e
       → TellsOf (IsRefused hands refuses rm (task_of rm keep is_eager) limit) e
   reach_refused f e x t = refusal_told nb hands units one rt rm root_now different_paths different_names asked kept keep kept_now is_eager refuses (IsRefusedPath refuses nb) to limit f e x t

@@ -18,14 +18,14 @@ use Rattle.wesl_link_reach.specs.Refusal.{IsExplained}
 use Rattle.wesl_link_tables.specs.Numbering.{AreRelated, SameTable, Numbering, NameAt, PathAt, AreDifferent}
 use Rattle.wesl_link_engine.specs.Handing.{HaveOne, IsHandedTable}
 use Rattle.wesl_link_engine.specs.Worlds.{Module, table, task_of, IsRefused}
-use Rattle.wesl_link_engine.specs.Refusal.{TellsOf, HasNumbers, Tells, IsToldBy}
+use Rattle.wesl_link_engine.specs.Refusal.{TellsOf, HasNumbers, TellsLinkError, IsToldBy}
 use Rattle.wesl_link_engine.specs.declared.loaded.Held.{Held}
 use Rattle.wesl_link_engine.proofs.Carried.{SameFault}
 use Rattle.wesl_link_engine.proofs.Built.{modules, unit_world, refused_world, paths_one, names_one}
 
 -- a diagnostic that says what a fault tells, unless it is want of memory
 pub told_by : (P : Fault Path Text resolve_error.ResolveError → Type 0) (nb : Numbering) (f : LinkError resolve_error.ResolveError) (d : Diagnostic) → IsToldBy nb f d
-    → (Tells nb f (out-Diagnostic d).error → TellsOf P (out-Diagnostic d).error) → TellsOf P (out-Diagnostic d).error
+    → (TellsLinkError nb f (out-Diagnostic d).error → TellsOf P (out-Diagnostic d).error) → TellsOf P (out-Diagnostic d).error
 told_by P nb f d (inl short) to = subst (λ (x : error.Error). TellsOf P x) (sym short) tt
 told_by P nb f d (inr (told, at)) to = to told
 
@@ -140,7 +140,7 @@ module _ (nb : Numbering) (hands : Path → UnitOf Text → Type 0) (units : Lis
   path_one : (p : PathId) (q r : Path) → PathAt nb p q → PathAt nb p r → q ≡ r
   path_one = (paths_one nb different_paths).one
 
-  pub refusal_told : (f : LinkError resolve_error.ResolveError) (e : error.Error) → IsExplained (IsHandedTable hands nb units) refuses_id rt (linking.task_of rt kept is_eager) limit f → Tells nb f e → Told e
+  pub refusal_told : (f : LinkError resolve_error.ResolveError) (e : error.Error) → IsExplained (IsHandedTable hands nb units) refuses_id rt (linking.task_of rt kept is_eager) limit f → TellsLinkError nb f e → Told e
   refusal_told (faults.DuplicateSymbol p n) e x (y, is, named) =
       let (g, same, there) = stands_there (duplicate n) x in
       let (m, kind, named2) = duplicate_so nb n g same in

@@ -16,7 +16,7 @@ use Rattle.wesl_link_engine.specs.Linked.{placed}
 use Rattle.wesl_link_engine.specs.Worlds.{table}
 use Rattle.wesl_link_engine.specs.Tabled.{module_of, IsMarked}
 use Rattle.wesl_link_engine.specs.Keeping.{all_loaded, task_in, IsLinkOf}
-use Rattle.wesl_link_engine.specs.Holding.{IsHeldHere, RefersToAll, AreClear, AddsOne, Adds, AreModulesOf, IsModuleOf}
+use Rattle.wesl_link_engine.specs.Holding.{IsHeldHere, RefersToAll, AreClear, AddsOne, AddsPlaced, AreModulesOf, IsModuleOf}
 use Rattle.wesl_link_engine.specs.declared.loaded.LoadedModule.{LoadedModule}
 use Rattle.wesl_link_engine.specs.declared.link.Link.{Link}
 use Rattle.wesl_link_engine.specs.declared.assemble.Parts.{Parts}
@@ -64,7 +64,7 @@ module _ (l : Link) (numbers : NumberTexts) (k : Linking PathId NameId) (m : Loa
           let t_in = at_has l.linked.tables m.place t (ap (λ (x : Linking PathId NameId). slice_get x.tables m.place) of.linked_is ∙ at) in
           marks_clear l of.sound m i g row ms one t g.node t_in row_inside (subst (λ (x : Linking PathId NameId). IsHeldHere x t.path g.node row.name) (sym of.linked_is) held)
 
-      pub next : (p q r : Parts) → Adds l (take i (placed (module_of m))) p q → AddsOne (numbering numbers) k t g row.name ms q r → Adds l (take (i + 1) (placed (module_of m))) p r
+      pub next : (p q r : Parts) → AddsPlaced l (take i (placed (module_of m))) p q → AddsOne (numbering numbers) k t g row.name ms q r → AddsPlaced l (take (i + 1) (placed (module_of m))) p r
       next p q r so adds =
           let in_numbers = subst (λ (n : NumberTexts). AddsOne (numbering n) k t g row.name ms q r) (sym of.numbers_are) adds in
           let in_link = subst (λ (x : Linking PathId NameId). AddsOne (numbering l.numbers) x t g row.name ms q r) (sym of.linked_is) in_numbers in

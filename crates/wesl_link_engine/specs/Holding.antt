@@ -129,7 +129,7 @@ abbrev pub AreAlike : List Tree → List Placed → Type 0
 AreAlike ts held = shape (forest_of ts) ≡ shape (forest_of (map (λ d. d.declaration) held))
 
 -- of these declarations those that are held are added, with what their identifiers stand for
-pub record Adds (l : Link) (all : List Placed) (before after : Parts) : Type 0 where
+pub record AddsPlaced (l : Link) (all : List Placed) (before after : Parts) : Type 0 where
   pub added : List Tree
   pub held : List Placed
   pub meant : List Meaning
@@ -141,7 +141,7 @@ pub record Adds (l : Link) (all : List Placed) (before after : Parts) : Type 0 w
   pub alike : AreAlike added held
 
 abbrev pub AddsModule : Link → LoadedModule → Parts → Parts → Type 0
-AddsModule l m before after = Adds l (placed (module_of m)) before after
+AddsModule l m before after = AddsPlaced l (placed (module_of m)) before after
 
 -- The parts that were added of these modules, after these words.
 pub record AreParts (l : Link) (ms : List LoadedModule) (words : List Meaning) (p : Parts) : Type 0 where

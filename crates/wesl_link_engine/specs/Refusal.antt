@@ -42,17 +42,17 @@ HasNumbers numbering (faults.ModuleLimit k) = Unit {0}
 HasNumbers numbering faults.Memory = Unit {0}
 
 -- the error tells the fault: that of a resolver as it is, any other with the names and paths of its numbers
-abbrev pub Tells : Numbering → LinkError resolve_error.ResolveError → error.Error → Type 0
-Tells numbering (faults.DuplicateSymbol p n) e = (x : String Global) × (e ≡ error.Import (import_error.DuplicateSymbol x)) × NameAt numbering n (string_bytes x)
-Tells numbering (faults.Refused r) e = e ≡ error_of_resolve r
-Tells numbering (faults.MissingDecl p n) e =
+abbrev pub TellsLinkError : Numbering → LinkError resolve_error.ResolveError → error.Error → Type 0
+TellsLinkError numbering (faults.DuplicateSymbol p n) e = (x : String Global) × (e ≡ error.Import (import_error.DuplicateSymbol x)) × NameAt numbering n (string_bytes x)
+TellsLinkError numbering (faults.Refused r) e = e ≡ error_of_resolve r
+TellsLinkError numbering (faults.MissingDecl p n) e =
     (q : ModulePath) × (x : String Global) × (e ≡ error.Import (import_error.MissingDecl q x)) × PathAt numbering p (path_view q) × NameAt numbering n (string_bytes x)
-Tells numbering (faults.Private n p) e =
+TellsLinkError numbering (faults.Private n p) e =
     (x : String Global) × (q : ModulePath) × (e ≡ error.Import (import_error.Private x q)) × NameAt numbering n (string_bytes x) × PathAt numbering p (path_view q)
-Tells numbering (faults.AmbiguousSymbol n) e = (x : String Global) × (e ≡ error.Import (import_error.AmbiguousSymbol x)) × NameAt numbering n (string_bytes x)
-Tells numbering (faults.TooManyFlags p) e = (q : ModulePath) × (e ≡ error.Import (import_error.TooManyFlags q)) × PathAt numbering p (path_view q)
-Tells numbering (faults.ModuleLimit k) e = e ≡ error.ModuleLimit k
-Tells numbering faults.Memory e = e ≡ error.Memory
+TellsLinkError numbering (faults.AmbiguousSymbol n) e = (x : String Global) × (e ≡ error.Import (import_error.AmbiguousSymbol x)) × NameAt numbering n (string_bytes x)
+TellsLinkError numbering (faults.TooManyFlags p) e = (q : ModulePath) × (e ≡ error.Import (import_error.TooManyFlags q)) × PathAt numbering p (path_view q)
+TellsLinkError numbering (faults.ModuleLimit k) e = e ≡ error.ModuleLimit k
+TellsLinkError numbering faults.Memory e = e ≡ error.Memory
 
 -- the module that holds the fault, where one does: it has the two targets, or it lacks the name or hides it
 abbrev pub holder_of : LinkError resolve_error.ResolveError → Option PathId
@@ -70,7 +70,7 @@ IsModuleAt numbering (Some p) (Some m) = PathAt numbering p (path_view m)
 -- the diagnostic tells the fault and the module that holds it, or want of memory
 abbrev pub IsToldBy : Numbering → LinkError resolve_error.ResolveError → Diagnostic → Type 0
 IsToldBy numbering fault d =
-    ((out-Diagnostic d).error ≡ error.Memory) ⊎ (Tells numbering fault (out-Diagnostic d).error × IsModuleAt numbering (holder_of fault) (out-Diagnostic d).«module»)
+    ((out-Diagnostic d).error ≡ error.Memory) ⊎ (TellsLinkError numbering fault (out-Diagnostic d).error × IsModuleAt numbering (holder_of fault) (out-Diagnostic d).«module»)
 
 -- the diagnostic has the error and the path of the number, or tells want of memory
 abbrev pub TellsAt : Numbering → Option PathId → error.Error → Diagnostic → Type 0

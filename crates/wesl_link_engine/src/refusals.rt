@@ -3,7 +3,7 @@ ghost use Rattle.std.specs.Prelude.{◌≡◌, IfOk, string_bytes};
 ghost use Rattle.wesl_tree_names.specs.Path.{Text, Path, path_view};
 ghost use Rattle.wesl_link_tables.specs.Numbering.{NameAt, PathAt};
 ghost use Rattle.wesl_link_tables.specs.NumbersView.{numbering};
-ghost use Rattle.wesl_link_engine.specs.Refusal.{HasNumbers, Tells, IsModuleAt, TellsAt, IsToldBy};
+ghost use Rattle.wesl_link_engine.specs.Refusal.{HasNumbers, TellsLinkError, IsModuleAt, TellsAt, IsToldBy};
 ghost use Rattle.wesl_link_engine.specs.Refusal as refusal;
 
 use std::alloc::{AllocError, Global};
@@ -41,7 +41,7 @@ fn told(
     fault: LinkError<ResolveError>,
 ) -> Result<Error, AllocError>
     requires { HasNumbers (numbering numbers.now) fault }
-    ensures { IfOk result (Tells (numbering numbers.now) fault) }
+    ensures { IfOk result (TellsLinkError (numbering numbers.now) fault) }
 {
     match fault {
         LinkError::DuplicateSymbol(_, name) => {

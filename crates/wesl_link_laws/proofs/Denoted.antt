@@ -8,7 +8,7 @@ use Rattle.wesl_link_symbols.specs.Tables.{Table}
 use Rattle.wesl_link_symbols.proofs.Lists.{contains_nil}
 use Rattle.wesl_scope_occurrences.specs.Occurrences.{Block, Standing, module_name, parameter, local as local_name, reference, word, Occurrence}
 use Rattle.wesl_scope_meanings.specs.Scopes.{Key, bound, binder_of, meaning, key_as}
-use Rattle.wesl_link_tables.specs.Uses.{Use, refers, asked, said, package_name, or_else, plain_use, path_use, meant, use_as}
+use Rattle.wesl_link_tables.specs.Uses.{Use, refers, asked, said, package_name, or_itself, plain_use, path_use, meant, use_as}
 use Rattle.wesl_link_tables.specs.Tables.{scope_of}
 use Rattle.wesl_link_assembly.specs.Denotations.{symbol, local, free_name}
 use Rattle.wesl_link_engine.specs.Worlds.{Module}
@@ -39,7 +39,7 @@ module _ (w : List (Table Path Text)) (own : Path) where
   said_refers n x true asks d h = absurd h
   said_refers n x false asks d h = refl
 
-aims_some : (f : Path → Reference Path Text) (xs : List Path) (p : Path) → map f (or_else xs p) ≡ [] → ⊥
+aims_some : (f : Path → Reference Path Text) (xs : List Path) (p : Path) → map f (or_itself xs p) ≡ [] → ⊥
 aims_some f [] p e = let z : ⊥ = cc in z
 aims_some f (q ∷ qs) p e = let z : ⊥ = cc in z
 

@@ -15,7 +15,7 @@ use Rattle.wesl_link_reasons.specs.declared.map.Map.{Map}
 use Rattle.wesl_link_reasons.specs.declared.node.Node.{Node}
 use Rattle.wesl_link_reasons.specs.declared.node.Node.TheVariants.{Item as ItemOf}
 use Rattle.wesl_link_reasons.specs.Reasons.{IsHeld}
-use Rattle.wesl_link_reasons.specs.Found.{IsFoundAt, IsFound, AreIndexed, Adds, IsNamed, IsGiven, StaysFound}
+use Rattle.wesl_link_reasons.specs.Found.{IsFoundAt, IsFound, AreIndexed, AddsFound, IsNamed, IsGiven, StaysFound}
 use Rattle.wesl_link_reasons.specs.Searching.{world_in, task_in, IsSound}
 use Rattle.wesl_link_reasons.proofs.Holding.{holds_on, first_held}
 
@@ -36,13 +36,13 @@ stays_length {a} {b} stays = elim (cases_lt (length b) (length a)) [
 
 -- ---- added nodes
 
-pub adds_none : (a : List Found) (o : Option ℕ) (Q : Item → Type 0) → ((x : Item) → Q x → IsFound a x) → Adds a a o Q
+pub adds_none : (a : List Found) (o : Option ℕ) (Q : Item → Type 0) → ((x : Item) → Q x → IsFound a x) → AddsFound a a o Q
 adds_none a o Q all = record { kept = record { at = λ k f e. e }; only = λ k f at. inl at; all = all }
 
-pub adds_found : (a : List Found) (x : Item) (o : Option ℕ) (k : ℕ) → IsFoundAt a x k → Adds a a o (λ y. y ≡ x)
+pub adds_found : (a : List Found) (x : Item) (o : Option ℕ) (k : ℕ) → IsFoundAt a x k → AddsFound a a o (λ y. y ≡ x)
 adds_found a x o k here = adds_none a o (λ y. y ≡ x) (λ y e. (k, subst (λ (z : Item). IsFoundAt a z k) (sym e) here))
 
-pub adds_one : (a b : List Found) (x : Item) (o : Option ℕ) → b ≡ a ++ record { node = x; asker = o } ∷ [] → Adds a b o (λ y. y ≡ x)
+pub adds_one : (a b : List Found) (x : Item) (o : Option ℕ) → b ≡ a ++ record { node = x; asker = o } ∷ [] → AddsFound a b o (λ y. y ≡ x)
 adds_one a b x o e = record {
   kept = record { at = λ k f at. subst (λ (xs : List Found). slice_get xs k ≡ Some f) (sym e) (place_kept a (record { node = x; asker = o }) k f at) };
   only = λ k f at. elim (at_push a (record { node = x; asker = o }) k f (subst (λ (xs : List Found). slice_get xs k ≡ Some f) e at)) [
@@ -52,8 +52,8 @@ adds_one a b x o e = record {
   all = λ y is. (length a, (record { node = x; asker = o }, subst (λ (xs : List Found). slice_get xs (length a) ≡ Some (record { node = x; asker = o })) (sym e) (last_place a (record { node = x; asker = o })), sym is));
 }
 
-pub adds_both : {a b c : List Found} {o : Option ℕ} (Q R S : Item → Type 0) → Adds a b o Q → Adds b c o R → ((x : Item) → Q x → S x) → ((x : Item) → R x → S x)
-    → ((x : Item) → S x → Q x ⊎ R x) → Adds a c o S
+pub adds_both : {a b c : List Found} {o : Option ℕ} (Q R S : Item → Type 0) → AddsFound a b o Q → AddsFound b c o R → ((x : Item) → Q x → S x) → ((x : Item) → R x → S x)
+    → ((x : Item) → S x → Q x ⊎ R x) → AddsFound a c o S
 adds_both {a} {b} {c} Q R S first second from_q from_r cases = record {
   kept = stays_trans first.kept second.kept;
   only = λ k f at. elim (second.only k f at) [
@@ -69,7 +69,7 @@ adds_both {a} {b} {c} Q R S first second from_q from_r cases = record {
   ];
 }
 
-pub adds_as : {a b : List Found} {o : Option ℕ} (Q R : Item → Type 0) → Adds a b o Q → ((x : Item) → Q x → R x) → ((x : Item) → R x → Q x) → Adds a b o R
+pub adds_as : {a b : List Found} {o : Option ℕ} (Q R : Item → Type 0) → AddsFound a b o Q → ((x : Item) → Q x → R x) → ((x : Item) → R x → Q x) → AddsFound a b o R
 adds_as Q R adds to from = record {
   kept = adds.kept;
   only = λ k f at. elim (adds.only k f at) [
@@ -83,11 +83,11 @@ adds_as Q R adds to from = record {
 abbrev pub OfOne : {X : Type 0} → (X → Item → Type 0) → List X → Item → Type 0
 OfOne {X} F xs x = (e : X) × Contains xs e × F e x
 
-pub adds_start : {X : Type 0} (F : X → Item → Type 0) (xs : List X) (a : List Found) (o : Option ℕ) → Adds a a o (OfOne F (take 0 xs))
+pub adds_start : {X : Type 0} (F : X → Item → Type 0) (xs : List X) (a : List Found) (o : Option ℕ) → AddsFound a a o (OfOne F (take 0 xs))
 adds_start F xs a o = adds_none a o (OfOne F (take 0 xs)) (λ x (e, held, f). absurd (contains_nil e held))
 
 adds_step : {X : Type 0} (F : X → Item → Type 0) (seen more : List X) (e : X) {a b c : List Found} {o : Option ℕ} → more ≡ seen ++ e ∷ []
-    → Adds a b o (OfOne F seen) → Adds b c o (F e) → Adds a c o (OfOne F more)
+    → AddsFound a b o (OfOne F seen) → AddsFound b c o (F e) → AddsFound a c o (OfOne F more)
 adds_step {X} F seen more e is first second = adds_both (OfOne F seen) (F e) (OfOne F more) first second
     (λ x (y, held, f). (y, subst (λ (ys : List X). Contains ys y) (sym is) (Contains-append_left seen (e ∷ []) y held), f))
     (λ x f. (e, subst (λ (ys : List X). Contains ys e) (sym is) (Contains-push seen e), f))
@@ -97,21 +97,21 @@ adds_step {X} F seen more e is first second = adds_both (OfOne F seen) (F e) (Of
     ])
 
 pub adds_next : {X : Type 0} (F : X → Item → Type 0) (xs : List X) (i : ℕ) (d : X) {a b c : List Found} {o : Option ℕ} → i < length xs
-    → Adds a b o (OfOne F (take i xs)) → Adds b c o (F (slice_index_or xs i d)) → Adds a c o (OfOne F (take (i + 1) xs))
+    → AddsFound a b o (OfOne F (take i xs)) → AddsFound b c o (F (slice_index_or xs i d)) → AddsFound a c o (OfOne F (take (i + 1) xs))
 adds_next F xs i d less = adds_step F (take i xs) (take (i + 1) xs) (slice_index_or xs i d) (take_more xs i d less)
 
-pub adds_all : {X : Type 0} (F : X → Item → Type 0) (xs ys : List X) (i : ℕ) {a b : List Found} {o : Option ℕ} → xs ≡ ys → length xs ≤ i → Adds a b o (OfOne F (take i xs)) → Adds a b o (OfOne F ys)
-adds_all {X} F xs ys i {a} {b} {o} e past adds = subst (λ (zs : List X). Adds a b o (OfOne F zs)) (take_all i xs past ∙ e) adds
+pub adds_all : {X : Type 0} (F : X → Item → Type 0) (xs ys : List X) (i : ℕ) {a b : List Found} {o : Option ℕ} → xs ≡ ys → length xs ≤ i → AddsFound a b o (OfOne F (take i xs)) → AddsFound a b o (OfOne F ys)
+adds_all {X} F xs ys i {a} {b} {o} e past adds = subst (λ (zs : List X). AddsFound a b o (OfOne F zs)) (take_all i xs past ∙ e) adds
 
 -- the same where the loop has the element by a name of its own
 pub adds_item : {X : Type 0} (F : X → Item → Type 0) (xs : List X) (i : ℕ) (e : X) {a b c : List Found} {o : Option ℕ} → i < length xs → e ≡ slice_index_or xs i e
-    → Adds a b o (OfOne F (take i xs)) → Adds b c o (F e) → Adds a c o (OfOne F (take (i + 1) xs))
-adds_item {X} F xs i e {a} {b} {c} {o} less is first second = adds_next F xs i e less first (subst (λ (y : X). Adds b c o (F y)) is second)
+    → AddsFound a b o (OfOne F (take i xs)) → AddsFound b c o (F e) → AddsFound a c o (OfOne F (take (i + 1) xs))
+adds_item {X} F xs i e {a} {b} {c} {o} less is first second = adds_next F xs i e less first (subst (λ (y : X). AddsFound b c o (F y)) is second)
 
 some_name : (n k : NameId) (o : Option NameId) → o ≡ Some n → o ≡ Some k → k ≡ n
 some_name n k o e f = let g : Some n ≡ Some k = sym e ∙ f in cc
 
-pub adds_name : {a b : List Found} {o : Option ℕ} (p : PathId) (n : NameId) (name : Option NameId) → name ≡ Some n → Adds a b o (λ x. x ≡ ItemOf (record { path = p; name = n })) → Adds a b o (IsNamed p name)
+pub adds_name : {a b : List Found} {o : Option ℕ} (p : PathId) (n : NameId) (name : Option NameId) → name ≡ Some n → AddsFound a b o (λ x. x ≡ ItemOf (record { path = p; name = n })) → AddsFound a b o (IsNamed p name)
 adds_name p n name is adds = adds_as (λ (x : Item). x ≡ ItemOf (record { path = p; name = n })) (IsNamed p name) adds
     (λ x e. (n, is, e))
     (λ x (k, is2, e). e ∙ ap (λ (j : NameId). ItemOf (record { path = p; name = j })) (some_name n k name is is2))
@@ -119,11 +119,11 @@ adds_name p n name is adds = adds_as (λ (x : Item). x ≡ ItemOf (record { path
 no_name : (n : NameId) (name : Option NameId) → name ≡ None → name ≡ Some n → ⊥
 no_name n name e f = let g : None ≡ Some n = sym e ∙ f in absurd cc
 
-pub adds_no_name : (a : List Found) (o : Option ℕ) (p : PathId) (name : Option NameId) → name ≡ None → Adds a a o (IsNamed p name)
+pub adds_no_name : (a : List Found) (o : Option ℕ) (p : PathId) (name : Option NameId) → name ≡ None → AddsFound a a o (IsNamed p name)
 adds_no_name a o p name e = adds_none a o (IsNamed p name) (λ x (n, is, f). absurd (no_name n name e is))
 
-pub adds_named : {a b : List Found} {o : Option ℕ} (p q : PathId) (m n : Option NameId) → p ≡ q → m ≡ n → Adds a b o (IsNamed p m) → Adds a b o (IsNamed q n)
-adds_named {a} {b} {o} p q m n e f adds = subst (λ (r : PathId). Adds a b o (IsNamed r n)) e (subst (λ (k : Option NameId). Adds a b o (IsNamed p k)) f adds)
+pub adds_named : {a b : List Found} {o : Option ℕ} (p q : PathId) (m n : Option NameId) → p ≡ q → m ≡ n → AddsFound a b o (IsNamed p m) → AddsFound a b o (IsNamed q n)
+adds_named {a} {b} {o} p q m n e f adds = subst (λ (r : PathId). AddsFound a b o (IsNamed r n)) e (subst (λ (k : Option NameId). AddsFound a b o (IsNamed p k)) f adds)
 
 -- ---- where nodes stand
 
@@ -139,7 +139,7 @@ indexed_start fs places e f = record {
 
 pub indexed_more : (a b : List Found) (x : Item) (o : Option ℕ) (old fresh : List (Item × ℕ)) → AreIndexed a old → Puts old x (length a) fresh → b ≡ a ++ record { node = x; asker = o } ∷ [] → AreIndexed b fresh
 indexed_more a b x o old fresh indexed put e =
-    let adds : Adds a b o (λ y. y ≡ x) = adds_one a b x o e in
+    let adds : AddsFound a b o (λ y. y ≡ x) = adds_one a b x o e in
     let here : IsFoundAt b x (length a) = (record { node = x; asker = o }, subst (λ (xs : List Found). slice_get xs (length a) ≡ Some (record { node = x; asker = o })) (sym e) (last_place a (record { node = x; asker = o })), refl) in
     record {
       found = λ y k h. elim (put.only y k h) [
@@ -173,7 +173,7 @@ given_before : (m : Map) (a : List Found) (x : Item) (o : Option ℕ) (j : ℕ) 
 given_before m a x None j e given = absurd cc
 given_before m a x (Some i) j e (g, at, asks) = let b : i < length a = slice_get_within a i g at in let same : i ≡ j = cc in omega arith
 
-pub sound_adds : (m : Map) (a b : Findings) (o : Option ℕ) (Q : Item → Type 0) → IsSound m a → AreIndexed b.nodes.items b.places.entries → Adds a.nodes.items b.nodes.items o Q
+pub sound_adds : (m : Map) (a b : Findings) (o : Option ℕ) (Q : Item → Type 0) → IsSound m a → AreIndexed b.nodes.items b.places.entries → AddsFound a.nodes.items b.nodes.items o Q
     → ((x : Item) → Q x → IsGiven (world_in m) (task_in m) a.nodes.items x o) → IsSound m b
 sound_adds m a b o Q sound indexed adds give = record {
   indexed = indexed;

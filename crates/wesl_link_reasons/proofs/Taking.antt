@@ -16,7 +16,7 @@ use Rattle.wesl_link_reasons.specs.declared.search.Search.{Search}
 use Rattle.wesl_link_reasons.specs.declared.node.Node.{Node}
 use Rattle.wesl_link_reasons.specs.declared.node.Node.TheVariants.{KeptName, Module, Item}
 use Rattle.wesl_link_reasons.specs.Reasons.{IsFirst}
-use Rattle.wesl_link_reasons.specs.Found.{IsFoundAt, IsFound, AreIndexed, Adds, StaysFound, IsGiven, IsImported, IsDeclared, IsKeptIn}
+use Rattle.wesl_link_reasons.specs.Found.{IsFoundAt, IsFound, AreIndexed, AddsFound, StaysFound, IsGiven, IsImported, IsDeclared, IsKeptIn}
 use Rattle.wesl_link_reasons.specs.Searching.{AsksAt, world_in, task_in, IsReady, IsSound, Grows, IsOnWay, IsDone, IsDoneAt, AreDone, TakesAll, HasFirsts}
 use Rattle.wesl_link_reasons.proofs.Adding.{found_on, stays_trans, sound_adds}
 use Rattle.wesl_link_reasons.proofs.Passing.{way_module, way_item}
@@ -100,12 +100,12 @@ module _ (m : Map) where
   -- ---- what is noted on the way of a look-up
 
   pub noted_module : (a b : Findings) (k : ℕ) (l : LookUp PathId NameId) → IsSound m a → IsOnWay (world_in m) (task_in m) a.nodes.items k l → AreIndexed b.nodes.items b.places.entries
-      → Adds a.nodes.items b.nodes.items (Some k) (λ x. x ≡ Module l.path) → IsSound m b
+      → AddsFound a.nodes.items b.nodes.items (Some k) (λ x. x ≡ Module l.path) → IsSound m b
   noted_module a b k l sound way indexed adds = sound_adds m a b (Some k) (λ x. x ≡ Module l.path) sound indexed adds
       (λ x e. subst (λ (y : Node PathId NameId). IsGiven (world_in m) (task_in m) a.nodes.items y (Some k)) (sym e) (way_module (world_in m) (task_in m) a.nodes.items k l way))
 
   pub noted_item : (a b : Findings) (k : ℕ) (l : LookUp PathId NameId) → IsReady m → IsSound m a → IsOnWay (world_in m) (task_in m) a.nodes.items k l → Finds (world_in m) l (symbol_of l)
-      → AreIndexed b.nodes.items b.places.entries → Adds a.nodes.items b.nodes.items (Some k) (λ x. x ≡ Item (symbol_of l)) → IsSound m b
+      → AreIndexed b.nodes.items b.places.entries → AddsFound a.nodes.items b.nodes.items (Some k) (λ x. x ≡ Item (symbol_of l)) → IsSound m b
   noted_item a b k l ready sound way finds indexed adds = sound_adds m a b (Some k) (λ x. x ≡ Item (symbol_of l)) sound indexed adds
       (λ x e. subst (λ (y : Node PathId NameId). IsGiven (world_in m) (task_in m) a.nodes.items y (Some k)) (sym e)
       (way_item (world_in m) (task_in m) ready.unbroken a.nodes.items k l sound.held way finds))

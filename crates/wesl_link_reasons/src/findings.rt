@@ -2,7 +2,7 @@
 ghost use Rattle.std.specs.Prelude.{◌≡◌, [], Some, None, IfSome, IfNone, OnOk, Contains};
 ghost use Rattle.wesl_link_symbols.specs.declared.ids.PathId.{PathId};
 ghost use Rattle.wesl_tree_base.specs.declared.ids.NameId.{NameId};
-ghost use Rattle.wesl_link_reasons.specs.Found.{Adds, AreIndexed, IsDeclared, IsFound, IsFoundAt, IsImported, IsKeptIn, IsNamed};
+ghost use Rattle.wesl_link_reasons.specs.Found.{AddsFound, AreIndexed, IsDeclared, IsFound, IsFoundAt, IsImported, IsKeptIn, IsNamed};
 
 use crate::found::Found;
 use crate::node::Node;
@@ -45,7 +45,7 @@ impl Findings {
     fn add(&mut self, node: Node<PathId, NameId>, asker: Option<usize>) -> Result<(), AllocError>
         requires indexed { AreIndexed self.old.nodes.items self.old.places.entries }
         ensures indexed { OnOk result (AreIndexed self.new.nodes.items self.new.places.entries) }
-        ensures adds { OnOk result (Adds self.old.nodes.items self.new.nodes.items asker (λ x. x ≡ node)) }
+        ensures adds { OnOk result (AddsFound self.old.nodes.items self.new.nodes.items asker (λ x. x ≡ node)) }
     {
         keyed::put(&mut self.places, node, self.nodes.len())?;
         self.nodes.push(Found { node, asker })?;
@@ -60,7 +60,7 @@ impl Findings {
     ) -> Result<(), AllocError>
         requires indexed { AreIndexed self.old.nodes.items self.old.places.entries }
         ensures indexed { OnOk result (AreIndexed self.new.nodes.items self.new.places.entries) }
-        ensures adds { OnOk result (Adds self.old.nodes.items self.new.nodes.items asker (λ x. x ≡ node)) }
+        ensures adds { OnOk result (AddsFound self.old.nodes.items self.new.nodes.items asker (λ x. x ≡ node)) }
     {
         match self.place_of(node) {
             Some(_) => Ok(()),
@@ -72,7 +72,7 @@ impl Findings {
     pub fn note_kept(&mut self, kept: &[NameId]) -> Result<(), AllocError>
         requires indexed { AreIndexed self.old.nodes.items self.old.places.entries }
         ensures indexed { OnOk result (AreIndexed self.new.nodes.items self.new.places.entries) }
-        ensures adds { OnOk result (Adds self.old.nodes.items self.new.nodes.items None (IsKeptIn kept.now)) }
+        ensures adds { OnOk result (AddsFound self.old.nodes.items self.new.nodes.items None (IsKeptIn kept.now)) }
     {
         for name in kept {
             self.note(Node::KeptName(*name), None)?;
@@ -84,7 +84,7 @@ impl Findings {
     pub fn note_imports(&mut self, table: &Table, asker: usize) -> Result<(), AllocError>
         requires indexed { AreIndexed self.old.nodes.items self.old.places.entries }
         ensures indexed { OnOk result (AreIndexed self.new.nodes.items self.new.places.entries) }
-        ensures adds { OnOk result (Adds self.old.nodes.items self.new.nodes.items (Some asker) (IsImported table.now.imports)) }
+        ensures adds { OnOk result (AddsFound self.old.nodes.items self.new.nodes.items (Some asker) (IsImported table.now.imports)) }
     {
         for import in table.imports() {
             self.note(Node::Module(import.path), Some(asker))?;
@@ -101,7 +101,7 @@ impl Findings {
     ) -> Result<(), AllocError>
         requires indexed { AreIndexed self.old.nodes.items self.old.places.entries }
         ensures indexed { OnOk result (AreIndexed self.new.nodes.items self.new.places.entries) }
-        ensures adds { OnOk result (Adds self.old.nodes.items self.new.nodes.items (Some asker) (IsNamed path name)) }
+        ensures adds { OnOk result (AddsFound self.old.nodes.items self.new.nodes.items (Some asker) (IsNamed path name)) }
     {
         match name {
             Some(name) => {
@@ -116,7 +116,7 @@ impl Findings {
     pub fn note_declared(&mut self, table: &Table, asker: usize) -> Result<(), AllocError>
         requires indexed { AreIndexed self.old.nodes.items self.old.places.entries }
         ensures indexed { OnOk result (AreIndexed self.new.nodes.items self.new.places.entries) }
-        ensures adds { OnOk result (Adds self.old.nodes.items self.new.nodes.items (Some asker) (IsDeclared table.now.path table.now.declarations)) }
+        ensures adds { OnOk result (AddsFound self.old.nodes.items self.new.nodes.items (Some asker) (IsDeclared table.now.path table.now.declarations)) }
     {
         for declaration in table.declarations() {
             self.note_named(table.path(), declaration.name(), asker)?;

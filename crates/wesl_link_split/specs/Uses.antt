@@ -35,14 +35,14 @@ package_name _ = []
 abbrev pub module_in_place : Path → Binder Path Text → Path
 module_in_place p i = extend (push i.path i.item) p.components
 
-abbrev pub or_else : List Path → Path → List Path
-or_else [] p = p ∷ []
-or_else (q ∷ qs) p = q ∷ qs
+abbrev pub or_itself : List Path → Path → List Path
+or_itself [] p = p ∷ []
+or_itself (q ∷ qs) p = q ∷ qs
 
 -- The module that a path aims at in the module at `own`: the item of the first import of the name that it begins with in
 -- place of this name, since all its imports aim at one, and where there is none, the path joined to that of the module.
 abbrev pub aims : Path → List (Binder Path Text) → Path → List Path
-aims own imports p = or_else (take 1 (map (module_in_place p) imports)) (join own p)
+aims own imports p = or_itself (take 1 (map (module_in_place p) imports)) (join own p)
 
 -- ---- what a name asks for that is used at `here`
 

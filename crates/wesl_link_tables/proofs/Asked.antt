@@ -15,7 +15,7 @@ use Rattle.wesl_tree_base.specs.declared.ids.NameId.{NameId}
 use Rattle.wesl_link_split.specs.declared.binders.Binder.{Binder}
 use Rattle.wesl_link_tables.specs.Aims.{IsKnown, spelled_binder}
 use Rattle.wesl_link_tables.specs.Numbering.{Numbering}
-use Rattle.wesl_link_tables.specs.Uses.{module_in_place, or_else, aims}
+use Rattle.wesl_link_tables.specs.Uses.{module_in_place, or_itself, aims}
 use Rattle.wesl_link_tables.specs.Walks.{import_view}
 
 pub if_ok : {X E : Type 0} {P Q : X → Type 0} (r : Result X E) → ((x : X) → P x → Q x) → IfOk r P → IfOk r Q
@@ -53,7 +53,7 @@ join_origin_asked (from_package a) (from_package b) h = refl
 pub join_asked : (own s : Path) → Asked own → Asked (join own s)
 join_asked own s h = join_origin_asked own.origin s.origin h
 
-or_else_asked : (ps : List Path) (q : Path) → All Asked ps → Asked q → All Asked (or_else ps q)
+or_else_asked : (ps : List Path) (q : Path) → All Asked ps → Asked q → All Asked (or_itself ps q)
 or_else_asked [] q h k = all_one Asked q k
 or_else_asked (p ∷ ps) q h k = h
 

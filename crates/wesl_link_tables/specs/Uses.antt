@@ -7,7 +7,7 @@ use Rattle.wesl_link_symbols.specs.declared.symbols.Reference.{Reference}
 use Rattle.wesl_scope_occurrences.specs.Occurrences.{Standing, module_name, word, Occurrence}
 use Rattle.wesl_scope_meanings.specs.Scopes.{Key, bound, free, qualified, key_of}
 use Rattle.wesl_link_split.specs.Split.{Scope}
-pub use Rattle.wesl_link_split.specs.Uses.{Use, declares, refers, unclear, local, said, texts, package_name, module_in_place, or_else, aims, through, plain_use, path_use}
+pub use Rattle.wesl_link_split.specs.Uses.{Use, declares, refers, unclear, local, said, texts, package_name, module_in_place, or_itself, aims, through, plain_use, path_use}
 
 module _ {P I : Type 0} where
   -- the identifier itself

@@ -54,7 +54,7 @@ fn add_joined(
     found: &mut Vec<ModulePath>,
     path: &ModulePath,
 ) -> Result<(), AllocError>
-    ensures { OnOk result (paths_of found.new ≡ uses.or_else (paths_of found.old) (join (path_view own.now) (path_view path.now))) }
+    ensures { OnOk result (paths_of found.new ≡ uses.or_itself (paths_of found.old) (join (path_view own.now) (path_view path.now))) }
 {
     if found.is_empty() {
         found.push(memory(own.join_path(alloc, path))?)?;

@@ -3,7 +3,7 @@ use Rattle.std.proofs.Common.{◌≡◌, ℕ, List, Bool, true, false, refl, ap,
 use Rattle.wesl_tree_names.specs.Path.{Text}
 use Rattle.wesl_tree_names.specs.declared.errors.Error as error
 use Rattle.wesl_program.specs.Fault.{Fault, fault_of}
-use Rattle.wesl_program.specs.Line.{AsksForPlaces, IsFaultLine, IsRefusal, Tells, fault_line, line_of, memory, told_value}
+use Rattle.wesl_program.specs.Line.{AsksForPlaces, IsFaultLine, IsRefusal, TellsFault, fault_line, line_of, memory, told_value}
 use Rattle.wesl_program.specs.Places.{IsPlaceOf, MayStand, Where, has_home, has_span, nowhere}
 
 -- a fault that has no module and no place tells none
@@ -22,7 +22,7 @@ memory-line is_placed f p line is stands told =
     let none : p ≡ nowhere = memory-nowhere is_placed p (subst (λ g. MayStand is_placed g p) is stands) in
     told ∙ ap (λ g. line_of (told_value g p)) is ∙ ap (λ q. line_of (told_value memory q)) none
 
-pub fault-line-told : (bytes : List ℕ) (e : error.Error) (is_placed : Bool) (line : Text) → IsRefusal bytes e → (is_placed ≡ true → AsksForPlaces bytes) → Tells is_placed (fault_of e) line → IsFaultLine bytes line
+pub fault-line-told : (bytes : List ℕ) (e : error.Error) (is_placed : Bool) (line : Text) → IsRefusal bytes e → (is_placed ≡ true → AsksForPlaces bytes) → TellsFault is_placed (fault_of e) line → IsFaultLine bytes line
 fault-line-told bytes e is_placed line may asks (inl memory) = inl memory
 fault-line-told bytes e is_placed line (inl is) asks (inr (p, stands, told)) = inl (memory-line is_placed (fault_of e) p line is stands told)
 fault-line-told bytes e is_placed line (inr may) asks (inr (p, inl none, told)) = inr (fault_of e, p, may, inl none, told)

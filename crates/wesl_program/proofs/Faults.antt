@@ -177,7 +177,7 @@ of-validation (invalid.Duplicate n) = of_modules (fault_of_validation (invalid.D
 of-validation (invalid.Cycle n via) = of_modules (fault_of_validation (invalid.Cycle n via)) refl refl
 
 -- what a validator tells
-tells-validation : (IsFault : Option Text → ValidateError → Type 0) (within : Option Text) (e : error.Error) → valid.Tells IsFault within e → IsModuleFault e
+tells-validation : (IsFault : Option Text → ValidateError → Type 0) (within : Option Text) (e : error.Error) → valid.TellsAsError IsFault within e → IsModuleFault e
 tells-validation IsFault within (error.Validate v) h = inr (of-validation v)
 tells-validation IsFault within error.Memory h = inl refl
 tells-validation IsFault within (error.CondComp c) h = absurd h

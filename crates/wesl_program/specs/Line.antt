@@ -93,8 +93,8 @@ abbrev pub IsRefusal : List ℕ → error.Error → Type 0
 IsRefusal bytes e = (fault_of e ≡ memory) ⊎ MayRefuse bytes (fault_of e)
 
 -- the line of the fault, with a place only where places are told, or the one for want of memory
-abbrev pub Tells : Bool → Fault → Text → Type 0
-Tells is_placed f line = (line ≡ fault_line memory) ⊎ ((p : Where) × MayStand is_placed f p × (line ≡ line_of (told_value f p)))
+abbrev pub TellsFault : Bool → Fault → Text → Type 0
+TellsFault is_placed f line = (line ≡ fault_line memory) ⊎ ((p : Where) × MayStand is_placed f p × (line ≡ line_of (told_value f p)))
 
 -- the bytes are a bundle that asks for form 2
 abbrev pub AsksForPlaces : List ℕ → Type 0

@@ -2,7 +2,7 @@
 ghost use Rattle.std.specs.Prelude.{◌≡◌};
 ghost use Rattle.wesl_tree_names.specs.declared.errors.Diagnostic.{out-Diagnostic};
 ghost use Rattle.wesl_program.specs.Fault.{fault_of};
-ghost use Rattle.wesl_program.specs.Line.{Tells, fault_line, memory};
+ghost use Rattle.wesl_program.specs.Line.{TellsFault, fault_line, memory};
 ghost use Rattle.wesl_program.specs.Made.{bytes_of};
 
 use crate::fault_line::fault_line;
@@ -41,7 +41,7 @@ pub fn memory_line() -> Line
 /// The line of a refusal, or the one for want of memory. It tells where the fault stands where the refusal says so: the
 /// module of a fault of a condition, a tree or a name, and the place of a condition in its source.
 pub fn refusal_line(alloc: Global, refusal: Refusal) -> Line
-    ensures { Tells refusal.is_placed (fault_of (out-Diagnostic refusal.diagnostic).error) (bytes_of result) }
+    ensures { TellsFault refusal.is_placed (fault_of (out-Diagnostic refusal.diagnostic).error) (bytes_of result) }
 {
     let place = place_told(&refusal);
     let line = match fault_line(alloc, &refusal.diagnostic.error, place).ok() {

@@ -29,8 +29,8 @@ abbrev pub FindsAs : Look → Look → Type 0
 FindsAs f g = (k p : ℕ) (x : Option ℕ) → f k p x ≡ g k p x
 
 -- the first of these, or else of those
-abbrev pub or_else : Look → Look → Look
-or_else f g k p x = option_or (f k p x) (g k p x)
+abbrev pub or_else_found : Look → Look → Look
+or_else_found f g k p x = option_or (f k p x) (g k p x)
 
 -- one sighting of the meaning n
 abbrev pub found_at : ℕ → Sighting → Look

@@ -59,7 +59,7 @@ impl Drop for Binders {
 
 impl Binders {
     ghost use Rattle.wesl_scope_clashes.specs.Sightings.{is_seen, is_declared, first_met};
-    ghost use Rattle.wesl_scope_clashes.specs.Finding.{look, FindsAs, or_else, found_at, seen_at, declared_at};
+    ghost use Rattle.wesl_scope_clashes.specs.Finding.{look, FindsAs, or_else_found, found_at, seen_at, declared_at};
 
     /// Adds meanings without binders until there is one of this number.
     fn grow(&mut self, alloc: Global, meaning: usize) -> Result<(), AllocError>
@@ -74,7 +74,7 @@ impl Binders {
 
     /// One more binder.
     fn add(&mut self, alloc: Global, meaning: usize, next: Sighting) -> Result<(), AllocError>
-        ensures { OnOk result (FindsAs (look self.new) (or_else (look self.old) (found_at meaning next))) }
+        ensures { OnOk result (FindsAs (look self.new) (or_else_found (look self.old) (found_at meaning next))) }
     {
         self.grow(alloc, meaning)?;
         add(&mut self.of[meaning], next)?;
@@ -99,7 +99,7 @@ impl Binders {
         meaning: usize,
         occurrence: &Occurrence<'_>,
     ) -> Result<(), AllocError>
-        ensures { OnOk result (FindsAs (look self.new) (or_else (look self.old) (seen_at meaning (occurrence_view occurrence.now)))) }
+        ensures { OnOk result (FindsAs (look self.new) (or_else_found (look self.old) (seen_at meaning (occurrence_view occurrence.now)))) }
     {
         match visible_from(&occurrence.standing) {
             Some(from) => {
@@ -135,7 +135,7 @@ impl Binders {
         meaning: usize,
         occurrence: &Occurrence<'_>,
     ) -> Result<(), AllocError>
-        ensures { OnOk result (FindsAs (look self.new) (or_else (look self.old) (declared_at meaning (occurrence_view occurrence.now)))) }
+        ensures { OnOk result (FindsAs (look self.new) (or_else_found (look self.old) (declared_at meaning (occurrence_view occurrence.now)))) }
     {
         if is_in_module(occurrence) {
             self.add(alloc, meaning, sighting(occurrence, occurrence.place))?;

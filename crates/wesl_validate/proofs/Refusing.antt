@@ -7,7 +7,7 @@ use Rattle.wesl_tree_names.specs.declared.errors.Error as error
 use Rattle.wesl_tree_names.specs.declared.errors.Diagnostic.{Diagnostic}
 use Rattle.wesl_tree_syntax.specs.Unit.{UnitView}
 use Rattle.wesl_validate_builtins.specs.Builtins.{BuiltinNames}
-use Rattle.wesl_validate_rules.specs.Faults.{IsWeslFault, IsWgslFault, RefusesWesl, RefusesWgsl, Tells as Said}
+use Rattle.wesl_validate_rules.specs.Faults.{IsWeslFault, IsWgslFault, RefusesWesl, RefusesWgsl, TellsAsError as Said}
 
 -- what `validate_wesl` answers is also a refusal here
 module _ (u : UnitView) (b : BuiltinNames) where

@@ -3,7 +3,7 @@ use Rattle.std.proofs.Common.{◌≡◌, ◌⊎◌, ◌↔◌, ℕ, ◌<◌, ◌
 use Rattle.std.specs.Prelude.{Option, Some, None, IfSome, IfNone, if◌then◌else◌}
 use Rattle.std.specs.List.{Contains, list_any}
 use Rattle.std.specs.List.Sorted.{IsNonDecreasing}
-use Rattle.std.specs.Option.{option_map}
+use Rattle.std.specs.Option.{option_map, option_or}
 use Rattle.wesl_tree_syntax.specs.Unit.{UnitView, name_in}
 use Rattle.wesl_scope_strip.specs.Marks.{mark_at}
 use Rattle.wesl_validate_rules.specs.Graphs.{edges_at}
@@ -14,7 +14,7 @@ use Rattle.wesl_validate_rules.specs.Faults.{Counts}
 use Rattle.wesl_validate_calls.specs.Reached as reached
 use Rattle.wesl_validate_calls.specs.Reached.{ReachedFrom}
 use Rattle.wesl_validate_calls.specs.Tables.{Tables, AreTables, shape_at, declarers}
-use Rattle.wesl_validate_calls.specs.Judged.{or_else, first_some, is_empty, count_of, takes_at, count_at, ends_at, miscounted_at, not_callable_at, accepts_at, judged}
+use Rattle.wesl_validate_calls.specs.Judged.{first_some, is_empty, count_of, takes_at, count_at, ends_at, miscounted_at, not_callable_at, accepts_at, judged}
 use Rattle.wesl_validate_calls.specs.Misfits.{Misses, Passes}
 use Rattle.wesl_validate_calls.specs.Verdicts.{first_count, IsFirstEnd, IsVerdict}
 use Rattle.wesl_validate_calls.specs.declared.misfit.Misfit.{Misfit}
@@ -183,22 +183,22 @@ module _ (u : UnitView) (t : Tables) (a : AreTables u t) where
       pub misses : (x : Misfit) → judged t u.names b c ns ≡ Some x → Misses u b call x
       misses x h = by (list_any (accepts_at t u.names b c) ns) refl h
         where
-          at : (Fits u b call → ⊥) → (o : Option Misfit) → first_some (miscounted_at t c) ns ≡ o → or_else o (first_some (not_callable_at t) ns) ≡ Some x → Misses u b call x
+          at : (Fits u b call → ⊥) → (o : Option Misfit) → first_some (miscounted_at t c) ns ≡ o → option_or o (first_some (not_callable_at t) ns) ≡ Some x → Misses u b call x
           at f None q g = not_callable x f q g
           at f (Some y) q g = miscounted x f (q ∙ g)
 
-          by : (z : Bool) → list_any (accepts_at t u.names b c) ns ≡ z → (if z then None else or_else (first_some (miscounted_at t c) ns) (first_some (not_callable_at t) ns)) ≡ Some x → Misses u b call x
+          by : (z : Bool) → list_any (accepts_at t u.names b c) ns ≡ z → (if z then None else option_or (first_some (miscounted_at t c) ns) (first_some (not_callable_at t) ns)) ≡ Some x → Misses u b call x
           by true q g = absurd (let z : None ≡ Some x = g in cc)
           by false q g = at (fits_none q) (first_some (miscounted_at t c) ns) refl g
 
       pub passes : judged t u.names b c ns ≡ None → Passes u b call
       passes h e r i = by (list_any (accepts_at t u.names b c) ns) refl h
         where
-          at : (o : Option Misfit) → or_else o (first_some (not_callable_at t) ns) ≡ None → Fits u b call
+          at : (o : Option Misfit) → option_or o (first_some (not_callable_at t) ns) ≡ None → Fits u b call
           at None g = absurd (nowhere g e r i)
           at (Some y) g = absurd (let z : Some y ≡ None = g in cc)
 
-          by : (z : Bool) → list_any (accepts_at t u.names b c) ns ≡ z → (if z then None else or_else (first_some (miscounted_at t c) ns) (first_some (not_callable_at t) ns)) ≡ None → Fits u b call
+          by : (z : Bool) → list_any (accepts_at t u.names b c) ns ≡ z → (if z then None else option_or (first_some (miscounted_at t c) ns) (first_some (not_callable_at t) ns)) ≡ None → Fits u b call
           by true q g = fits_from q
           by false q g = at (first_some (miscounted_at t c) ns) g
 
@@ -222,11 +222,11 @@ module _ (u : UnitView) (t : Tables) (a : AreTables u t) where
         first_end : (x : Misfit) → judged t u.names b c ns ≡ Some x → IsFirstEnd u m x
         first_end x h = by (list_any (accepts_at t u.names b c) ns) h
           where
-            at : (o : Option Misfit) → first_some (miscounted_at t c) ns ≡ o → or_else o (first_some (not_callable_at t) ns) ≡ Some x → IsFirstEnd u m x
+            at : (o : Option Misfit) → first_some (miscounted_at t c) ns ≡ o → option_or o (first_some (not_callable_at t) ns) ≡ Some x → IsFirstEnd u m x
             at None q g = end_first x g
             at (Some y) q g = counted_first x (q ∙ g)
 
-            by : (z : Bool) → (if z then None else or_else (first_some (miscounted_at t c) ns) (first_some (not_callable_at t) ns)) ≡ Some x → IsFirstEnd u m x
+            by : (z : Bool) → (if z then None else option_or (first_some (miscounted_at t c) ns) (first_some (not_callable_at t) ns)) ≡ Some x → IsFirstEnd u m x
             by true g = absurd (let z : None ≡ Some x = g in cc)
             by false g = at (first_some (miscounted_at t c) ns) refl g
 

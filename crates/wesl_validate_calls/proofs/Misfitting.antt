@@ -13,13 +13,13 @@ use Rattle.wesl_validate_rules.specs.Faults.{name_of, Counts, IsMisfit, IsWgslFa
 use Rattle.wesl_validate_calls.specs.Misfits.{MissesIn}
 use Rattle.wesl_validate_calls.specs.declared.misfit.Misfit.{Misfit}
 use Rattle.wesl_validate_calls.specs.declared.misfit.Misfit.TheVariants as misfit
-use Rattle.wesl_validate_calls.specs.CallFaults.{Tells}
+use Rattle.wesl_validate_calls.specs.CallFaults.{TellsMisfit}
 
 module _ (u : UnitView) (b : BuiltinNames) (within : Option Text) (j : ℕ) (round : name_of u j ≡ within) where
   misfit_of : (c : CallOf ℕ) → Contains (calls_of u j) c → (Fits u b c → ⊥) → IsMisfit u b within c
   misfit_of c there none = record { declaration = j; there = there; fits_none = none; round = round }
 
-  pub is_fault : (m : Misfit) (e : ValidateError) → MissesIn u b j m → Tells u.names m e → IsWgslFault u b within e
+  pub is_fault : (m : Misfit) (e : ValidateError) → MissesIn u b j m → TellsMisfit u.names m e → IsWgslFault u b within e
   is_fault (misfit.ParamCount i k g) (fault.ParamCount n x y) (c, there, (none, ends, counts, got)) (name, expected, given) = record {
     callee = c.callee;
     misfit = subst (λ a. IsMisfit u b within (record { callee = c.callee; arguments = a })) (got ∙ sym given) (misfit_of c there none);

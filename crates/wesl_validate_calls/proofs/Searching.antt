@@ -3,7 +3,7 @@ use Rattle.std.proofs.Common.{◌≡◌, ◌⊎◌, inl, inr, ◌+◌, ◌<◌, 
 use Rattle.std.specs.List.{Contains, list_any}
 use Rattle.std.specs.List.Sorted.{IsNonDecreasing}
 use Rattle.std.proofs.lemmas.List.{drop_all}
-use Rattle.wesl_validate_calls.specs.Judged.{or_else, first_some}
+use Rattle.wesl_validate_calls.specs.Judged.{first_some}
 use Rattle.wesl_validate_calls.proofs.Members.{contains_none, contains_here, contains_later, contains_cases}
 
 module _ (p : ℕ → Bool) where
@@ -41,12 +41,12 @@ module _ (p : ℕ → Bool) where
 module _ {Y : Type 0} (f : ℕ → Option Y) where
   pub some_here : (xs : List ℕ) (i : ℕ) (y : Y) → i < length xs → f (get_or xs i 0) ≡ Some y → first_some f (drop i xs) ≡ Some y
   some_here [] i y h e = absurd (omega (arith, h))
-  some_here (x ∷ xs) zero y h e = ap (λ o. or_else o (first_some f xs)) e
+  some_here (x ∷ xs) zero y h e = ap (λ o. option_or o (first_some f xs)) e
   some_here (x ∷ xs) (suc i) y h e = some_here xs i y (omega (arith, h)) e
 
   none_suc : (xs : List ℕ) (i : ℕ) → i < length xs → f (get_or xs i 0) ≡ None → first_some f (drop i xs) ≡ first_some f (drop (suc i) xs)
   none_suc [] i h e = absurd (omega (arith, h))
-  none_suc (x ∷ xs) zero h e = ap (λ o. or_else o (first_some f xs)) e
+  none_suc (x ∷ xs) zero h e = ap (λ o. option_or o (first_some f xs)) e
   none_suc (x ∷ xs) (suc i) h e = none_suc xs i (omega (arith, h)) e
 
   pub some_next : (xs : List ℕ) (i : ℕ) → i < length xs → f (get_or xs i 0) ≡ None → first_some f (drop i xs) ≡ first_some f (drop (i + 1) xs)
@@ -56,7 +56,7 @@ module _ {Y : Type 0} (f : ℕ → Option Y) where
   some_from [] y e = absurd (let g : None ≡ Some y = e in cc)
   some_from (x ∷ xs) y e = by (f x) refl e (some_from xs y)
     where
-      by : (o : Option Y) → f x ≡ o → or_else o (first_some f xs) ≡ Some y → (first_some f xs ≡ Some y → (z : ℕ) × Contains xs z × (f z ≡ Some y)) → (z : ℕ) × Contains (x ∷ xs) z × (f z ≡ Some y)
+      by : (o : Option Y) → f x ≡ o → option_or o (first_some f xs) ≡ Some y → (first_some f xs ≡ Some y → (z : ℕ) × Contains xs z × (f z ≡ Some y)) → (z : ℕ) × Contains (x ∷ xs) z × (f z ≡ Some y)
       by (Some v) q h r = (x, contains_here x xs, q ∙ h)
       by None q h r = let s = r h in (s.0, contains_later x s.0 xs s.1, s.2)
 
@@ -64,14 +64,14 @@ module _ {Y : Type 0} (f : ℕ → Option Y) where
   none_from [] e x c = absurd (contains_none x c)
   none_from (y ∷ xs) e x c = by (f y) refl e (contains_cases y x xs c) (λ h d. none_from xs h x d)
     where
-      by : (o : Option Y) → f y ≡ o → or_else o (first_some f xs) ≡ None → (y ≡ x) ⊎ Contains xs x → (first_some f xs ≡ None → Contains xs x → f x ≡ None) → f x ≡ None
+      by : (o : Option Y) → f y ≡ o → option_or o (first_some f xs) ≡ None → (y ≡ x) ⊎ Contains xs x → (first_some f xs ≡ None → Contains xs x → f x ≡ None) → f x ≡ None
       by (Some v) q h s r = absurd (let g : Some v ≡ None = h in cc)
       by None q h (inl s) r = subst (λ z. f z ≡ None) s q
       by None q h (inr d) r = r h d
 
 pub same_first : {Y : Type 0} (f g : ℕ → Option Y) → ((x : ℕ) → f x ≡ g x) → (xs : List ℕ) → first_some f xs ≡ first_some g xs
 same_first f g same [] = refl
-same_first f g same (x ∷ xs) = ap (λ o. or_else o (first_some f xs)) (same x) ∙ ap (or_else (g x)) (same_first f g same xs)
+same_first f g same (x ∷ xs) = ap (λ o. option_or o (first_some f xs)) (same x) ∙ ap (option_or (g x)) (same_first f g same xs)
 
 -- where numbers ascend, the first is the least
 module _ (x : ℕ) (xs : List ℕ) (up : IsNonDecreasing (x ∷ xs)) where
@@ -92,7 +92,7 @@ first_least {Y} f (x ∷ xs) y up e = by (f x) refl e (first_least f xs y (still
     below v q less z l (inl i) = subst (λ w. f w ≡ None) i q
     below v q less z l (inr d) = less z l d
 
-    by : (o : Option Y) → f x ≡ o → or_else o (first_some f xs) ≡ Some y → (first_some f xs ≡ Some y → Found xs) → Found (x ∷ xs)
+    by : (o : Option Y) → f x ≡ o → option_or o (first_some f xs) ≡ Some y → (first_some f xs ≡ Some y → Found xs) → Found (x ∷ xs)
     by (Some v) q h r = (x, contains_here x xs, q ∙ h, λ z l c. let m = least x xs up z c in absurd (omega (arith, l, m)))
     by None q h r = let s = r h in (s.0, contains_later x s.0 xs s.1, s.2, λ z l c. below s.0 q s.3 z l (contains_cases x z xs c))
 

@@ -12,10 +12,10 @@ use Rattle.wesl_validate_calls.specs.declared.misfit.Misfit.TheVariants as misfi
 use Rattle.wesl_validate_calls.specs.declared.fault.Fault.{Fault}
 
 -- the error tells the misfit, by the name of its number
-abbrev pub Tells : List Text → Misfit → ValidateError → Type 0
-Tells names (misfit.ParamCount e k g) (fault.ParamCount n x y) = (string_bytes n ≡ name_in names e) × (x ≡ k) × (y ≡ g)
-Tells names (misfit.NotCallable e) (fault.NotCallable n) = string_bytes n ≡ name_in names e
-Tells names _ _ = ⊥
+abbrev pub TellsMisfit : List Text → Misfit → ValidateError → Type 0
+TellsMisfit names (misfit.ParamCount e k g) (fault.ParamCount n x y) = (string_bytes n ≡ name_in names e) × (x ≡ k) × (y ≡ g)
+TellsMisfit names (misfit.NotCallable e) (fault.NotCallable n) = string_bytes n ≡ name_in names e
+TellsMisfit names _ _ = ⊥
 
 abbrev pub IsCallFault : UnitView → BuiltinNames → Fault → Type 0
 IsCallFault u b f = IsWgslFault u b (option_map string_bytes f.declaration) f.error

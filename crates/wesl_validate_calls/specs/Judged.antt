@@ -1,7 +1,7 @@
 -- What tables say of the numbers in which the aliases of a call end.
 use Rattle.std.specs.Prelude.{ℕ, Bool, true, false, not, ◌&&◌, ◌||◌, Option, Some, None, List, [], ◌∷◌, if◌then◌else◌}
 use Rattle.std.specs.List.{list_any}
-use Rattle.std.specs.Option.{option_map}
+use Rattle.std.specs.Option.{option_map, option_or}
 use Rattle.wesl_tree_names.specs.Path.{Text}
 use Rattle.wesl_tree_syntax.specs.Unit.{name_in}
 use Rattle.wesl_scope_strip.specs.Marks.{mark_at}
@@ -12,14 +12,10 @@ use Rattle.wesl_validate_calls.specs.Tables.{Tables, shape_at}
 use Rattle.wesl_validate_calls.specs.declared.misfit.Misfit.{Misfit}
 use Rattle.wesl_validate_calls.specs.declared.misfit.Misfit.TheVariants as misfit
 
-abbrev pub or_else : {Y : Type 0} → Option Y → Option Y → Option Y
-or_else None o = o
-or_else (Some y) o = Some y
-
 -- what a function answers of the first of a list for which it answers anything
 abbrev pub first_some : {X Y : Type 0} → (X → Option Y) → List X → Option Y
 first_some f [] = None
-first_some f (x ∷ xs) = or_else (f x) (first_some f xs)
+first_some f (x ∷ xs) = option_or (f x) (first_some f xs)
 
 abbrev pub is_empty : List ℕ → Bool
 is_empty [] = true
@@ -56,4 +52,4 @@ module _ (t : Tables) (names : List Text) (b : BuiltinNames) where
   abbrev pub judged : ℕ → List ℕ → Option Misfit
   judged c nodes =
       if list_any (accepts_at c) nodes then None
-      else or_else (first_some (miscounted_at t c) nodes) (first_some (not_callable_at t) nodes)
+      else option_or (first_some (miscounted_at t c) nodes) (first_some (not_callable_at t) nodes)

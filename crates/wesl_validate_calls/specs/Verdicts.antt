@@ -1,9 +1,10 @@
 -- All calls of a module that fit nothing, each with what is told of it.
 use Rattle.std.specs.Prelude.{◌≡◌, ℕ, zero, suc, ◌<◌, Option, Some, None, List, [], ◌∷◌, ◌++◌, map}
+use Rattle.wesl_tree_syntax.specs.Tree.{Tree, before, end}
 use Rattle.wesl_tree_syntax.specs.Unit.{UnitView}
 use Rattle.wesl_scope_strip.specs.Declarations.{count}
 use Rattle.wesl_validate_builtins.specs.Builtins.{BuiltinNames}
-use Rattle.wesl_validate_rules.specs.Calls.{CallOf}
+use Rattle.wesl_validate_rules.specs.Calls.{CallOf, calls_in}
 use Rattle.wesl_validate_rules.specs.Valid.{shape_of, calls_of, AliasesTo, IsEnd}
 use Rattle.wesl_validate_rules.specs.Faults.{Counts}
 use Rattle.wesl_validate_calls.specs.Judged.{first_some, count_of}
@@ -15,6 +16,10 @@ use Rattle.wesl_validate_calls.specs.declared.misfit.Misfit.TheVariants as misfi
 -- calls of that declaration
 abbrev pub numbered : ℕ → List (CallOf ℕ) → List (ℕ × CallOf ℕ)
 numbered j cs = map (λ c. (j, c)) cs
+
+-- the calls in the tree of that declaration
+abbrev pub calls_there : ℕ → Tree → List (ℕ × CallOf ℕ)
+calls_there j t = numbered j (calls_in (before t end))
 
 module _ (u : UnitView) where
   -- the count of parameters or members of the first declaration of the number that is a function or a struct

@@ -6,7 +6,7 @@ ghost use Rattle.wesl_scope_occurrences.specs.Identified.{identified};
 ghost use Rattle.wesl_scope_strip.specs.Declarations.{all};
 ghost use Rattle.wesl_validate_builtins.specs.Builtins.{builtins_view};
 ghost use Rattle.wesl_validate_rules.specs.Valid.{IsFitting};
-ghost use Rattle.wesl_validate_calls.specs.CallFaults.{Tells, IsCallFault};
+ghost use Rattle.wesl_validate_calls.specs.CallFaults.{TellsMisfit, IsCallFault};
 
 use crate::fault::Fault;
 use crate::fitting::first_misfit;
@@ -20,7 +20,7 @@ use wesl_validate_builtins::Builtins;
 
 /// What a misfit is told as.
 fn error_of(alloc: Global, names: &Names, misfit: Misfit) -> Result<ValidateError, AllocError>
-    ensures { IfOk result (Tells names.now misfit) }
+    ensures { IfOk result (TellsMisfit names.now misfit) }
 {
     match misfit {
         Misfit::ParamCount {

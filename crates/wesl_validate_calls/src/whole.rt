@@ -1,17 +1,15 @@
 //! All calls that fit nothing.
 ghost use Rattle.std.specs.Prelude.{◌≡◌, ◌++◌, map, IfOk, IfErr};
 ghost use Rattle.wesl_tree_names.specs.declared.errors.Error as error;
-ghost use Rattle.wesl_tree_syntax.specs.Tree.{before, end};
 ghost use Rattle.wesl_tree_syntax.specs.View.{global_view};
 ghost use Rattle.wesl_tree.specs.Translation.{unit_view};
 ghost use Rattle.wesl_scope_occurrences.specs.Identified.{identified};
 ghost use Rattle.wesl_scope_strip.specs.Declarations.{all};
 ghost use Rattle.wesl_validate_builtins.specs.Builtins.{builtins_view};
-ghost use Rattle.wesl_validate_rules.specs.Calls.{calls_in};
 ghost use Rattle.wesl_validate_calls.specs.Made.{call_told};
 ghost use Rattle.wesl_validate_calls.specs.Reached.{IsClear};
 ghost use Rattle.wesl_validate_calls.specs.Tables.{AreTables};
-ghost use Rattle.wesl_validate_calls.specs.Verdicts.{IsVerdict, AreMisfits, AddsMisfits, numbered, misfit_in};
+ghost use Rattle.wesl_validate_calls.specs.Verdicts.{IsVerdict, AreMisfits, AddsMisfits, calls_there, numbered, misfit_in};
 ghost use Rattle.wesl_validate_calls.specs.Views.{tables_view};
 
 use crate::callables::Callables;
@@ -103,7 +101,7 @@ fn add_misfits_in(
 ) -> Result<(), Error>
     requires tables { AreTables (unit_view unit.now) (tables_view tables.now) }
     requires clear { IsClear (tables_view tables.now).aliases marks.old }
-    ensures added { IfOk result (λ _. AddsMisfits (unit_view unit.now) (builtins_view callables.now.builtins.now) (numbered number (calls_in (before (global_view declaration.now) end))) misfits.old.items misfits.new.items) }
+    ensures added { IfOk result (λ _. AddsMisfits (unit_view unit.now) (builtins_view callables.now.builtins.now) (calls_there number (global_view declaration.now)) misfits.old.items misfits.new.items) }
     ensures clear { IfOk result (λ _. IsClear (tables_view tables.now).aliases marks.new) }
     ensures refused { IfErr result (λ e. e ≡ error.Memory) }
 {

@@ -9,7 +9,7 @@ use Rattle.wesl_tree_names.specs.declared.errors.Diagnostic.{Diagnostic}
 use Rattle.wesl_tree_names.specs.declared.errors.Error as error
 use Rattle.wesl_tree_syntax.specs.Unit.{UnitView}
 use Rattle.wesl_validate_builtins.specs.Builtins.{BuiltinNames}
-use Rattle.wesl_validate_rules.specs.Faults.{IsUndefined, IsDuplicate, IsCycle, IsMiscounted, IsNotCallable, IsWeslFault, IsWgslFault, Tells}
+use Rattle.wesl_validate_rules.specs.Faults.{IsUndefined, IsDuplicate, IsCycle, IsMiscounted, IsNotCallable, IsWeslFault, IsWgslFault, TellsAsError}
 use Rattle.wesl_validate_faults.specs.Findings.{Finding, undefined, duplicate, cycle, miscounted, not_callable, holder, IsFound, IsFoundWgsl}
 use Rattle.wesl_validate_faults.specs.Gathered.{finding_view, findings_view}
 use Rattle.wesl_validate_faults.specs.Laws.{TellsRefusals, TellsRefusalsWgsl}
@@ -60,7 +60,7 @@ module _ (u : UnitView) (b : BuiltinNames) where
   faulted_wgsl (not_callable d n) within (fault.Duplicate m) h w e = absurd e
   faulted_wgsl (not_callable d n) within (fault.Cycle m k) h w e = absurd e
 
-refused : (F : Option Text → ValidateError → Type 0) (f : Finding) (within : Option Text) (e : error.Error) → ((v : ValidateError) → IsErrorOf f v → F within v) → Says f e → Tells F within e
+refused : (F : Option Text → ValidateError → Type 0) (f : Finding) (within : Option Text) (e : error.Error) → ((v : ValidateError) → IsErrorOf f v → F within v) → Says f e → TellsAsError F within e
 refused F f within (error.Validate e) h s = h e s
 refused F f within error.Memory h s = absurd s
 refused F f within (error.CondComp e) h s = absurd s

@@ -96,13 +96,13 @@ module _ (u : UnitView) (builtins : BuiltinNames) where
   IsWgslFault within e = IsWeslFault within e
 
 -- a refusal tells a fault and the declaration that holds it and nothing else, or that memory was refused
-abbrev pub Tells : (Option Text → ValidateError → Type 0) → Option Text → error.Error → Type 0
-Tells IsFault within (error.Validate e) = IsFault within e
-Tells IsFault within error.Memory = Unit {0}
-Tells IsFault within _ = ⊥
+abbrev pub TellsAsError : (Option Text → ValidateError → Type 0) → Option Text → error.Error → Type 0
+TellsAsError IsFault within (error.Validate e) = IsFault within e
+TellsAsError IsFault within error.Memory = Unit {0}
+TellsAsError IsFault within _ = ⊥
 
 pub record IsRefusal (IsFault : Option Text → ValidateError → Type 0) (d : Diagnostic) : Type 0 where
-  pub tells : Tells IsFault (option_map string_bytes d.declaration) d.error
+  pub tells : TellsAsError IsFault (option_map string_bytes d.declaration) d.error
   pub no_module : d.«module» ≡ None
   pub no_display : d.display ≡ None
   pub no_span : d.span ≡ None

@@ -1,6 +1,6 @@
 use Rattle.std.proofs.Common.{◌<◌, List, subst, sym}
 use Rattle.wesl_link_engine.specs.Linked.{Placed}
-use Rattle.wesl_link_engine.specs.Holding.{Adds}
+use Rattle.wesl_link_engine.specs.Holding.{AddsPlaced}
 use Rattle.wesl_link_engine.proofs.Parted.{adds_none}
 use Rattle.wesl_link_engine.proofs.Adding.{declarations_are}
 use Rattle.wesl_link_engine.proofs.Turns.{whole, table_stands, row_there, marks_there, all_taken, row_inside, refers, clear, next}
@@ -69,7 +69,7 @@ returns-clause-added c = λ e.
     let of = whole c.args.link.now m c.requires.sound c.requires.inside in
     let xs = c.deref-declaration-items.result.now in
     let all = declarations_are m c.global_declarations-nodes.result.now xs c.global_declarations-nodes.ensures.declarations c.deref-declaration-items.ensures.value in
-    subst (λ (ds : List Placed). Adds c.args.link.now ds c.args.parts.now c.loop-index.parts) (all_taken c.args.link.now c.args.link.now.numbers c.args.link.now.linked m of c.table_at-table.result.now c.table_at-table.ensures xs all c.declarations-rows.result.now c.declarations-rows.ensures c.loop-index.index c.loop-index-test.false) (c.loop-index.invariant.0 e)
+    subst (λ (ds : List Placed). AddsPlaced c.args.link.now ds c.args.parts.now c.loop-index.parts) (all_taken c.args.link.now c.args.link.now.numbers c.args.link.now.linked m of c.table_at-table.result.now c.table_at-table.ensures xs all c.declarations-rows.result.now c.declarations-rows.ensures c.loop-index.index c.loop-index-test.false) (c.loop-index.invariant.0 e)
 
 pub returns-clause-noted : goal.returns-clause-noted
 returns-clause-noted c = c.loop-index.invariant.1

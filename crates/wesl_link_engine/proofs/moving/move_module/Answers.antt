@@ -7,7 +7,7 @@ use Rattle.std.proofs.lemmas.Iterator.Adapters.{YieldsList-from_vec}
 use Rattle.std.proofs.lemmas.Iterator.Consumers.{YieldsList-from_enumerate, YieldsList-turn, YieldsList-end}
 use Rattle.wesl_link_engine.specs.Linked.{Placed, placed}
 use Rattle.wesl_link_engine.specs.Keeping.{module_of}
-use Rattle.wesl_link_engine.specs.Holding.{Adds, IsModuleOf}
+use Rattle.wesl_link_engine.specs.Holding.{AddsPlaced, IsModuleOf}
 use Rattle.wesl_link_engine.specs.declared.link.Link.{Link}
 use Rattle.wesl_link_engine.proofs.Lists.{at_has}
 use Rattle.wesl_link_engine.proofs.Parted.{adds_none}
@@ -131,7 +131,7 @@ loop-index-preserved c =
     let place : i ≡ n = omega (arith, from) in
     let all = declarations_are m c.into_parts-declarations.result.3 xs (ap (λ u. u.declarations) c.into_parts-declarations.ensures.parts) refl in
     let (adds, noted) = c.loop-index.invariant in (
-      λ e k of_k. subst (λ j. Adds k (take j (placed (module_of m))) c.args.parts.now c.move_declaration.new.parts) (sym (length_push c.loop-index.yielded (i, d)))
+      λ e k of_k. subst (λ j. AddsPlaced k (take j (placed (module_of m))) c.args.parts.now c.move_declaration.new.parts) (sym (length_push c.loop-index.yielded (i, d)))
           (next k c.args.numbers.now c.args.linked.now m of_k c.table_at-table.result.now c.table_at-table.ensures xs all c.declarations-rows.result.now c.declarations-rows.ensures n d c.index-rows-index.result c.index-marks.result.now c.deref.result.now b item (c.index-rows-index.is ∙ ap (λ j. get_or c.declarations-rows.result.now j c.index-rows-index.result) place) (c.index-marks.ensures ∙ ap (λ j. get_or m.marks.items j c.index-marks.result.now) place) c.deref.ensures.value c.args.parts.now c.loop-index.parts c.move_declaration.new.parts (adds (c.move_declaration.ensures.noted e) k of_k) (c.move_declaration.ensures.added e)),
       λ e. noted (c.move_declaration.ensures.noted e),
     )
@@ -148,7 +148,7 @@ returns-clause-added c = λ e l of.
     let all = declarations_are m c.into_parts-declarations.result.3 xs (ap (λ u. u.declarations) c.into_parts-declarations.ensures.parts) refl in
     let end = YieldsList-end road c.loop-index.yielded c.loop-index.index-iterator c.loop-index.yielded_by c.next.result c.next.new.self c.in-None.is c.next.ensures.steps in
     let many : length xs ≡ n = sym (length-enumerate_from 0 xs) ∙ sym end.1 in
-    subst (λ (ds : List Placed). Adds l ds c.args.parts.now c.loop-index.parts) (all_taken l c.args.numbers.now c.args.linked.now m of c.table_at-table.result.now c.table_at-table.ensures xs all c.declarations-rows.result.now c.declarations-rows.ensures n (omega (arith, many))) (c.loop-index.invariant.0 e l of)
+    subst (λ (ds : List Placed). AddsPlaced l ds c.args.parts.now c.loop-index.parts) (all_taken l c.args.numbers.now c.args.linked.now m of c.table_at-table.result.now c.table_at-table.ensures xs all c.declarations-rows.result.now c.declarations-rows.ensures n (omega (arith, many))) (c.loop-index.invariant.0 e l of)
 
 pub returns-clause-noted : goal.returns-clause-noted
 returns-clause-noted c = c.loop-index.invariant.1
