@@ -4,9 +4,13 @@
 //! `main` is kept of it.
 #![tactic(auto)]
 
+mod faults;
 mod mapped;
+mod together;
 
+pub use faults::{condition_faults, unit_faults};
 pub use mapped::{MappedLink, link_by, name_all};
+pub use together::are_together;
 use serde_json::Value;
 use std::alloc::Global;
 use wesl_cond::{Feature, Features};
@@ -118,7 +122,7 @@ pub fn warnings(
     alloc: Global,
     unit: &TranslationUnit,
     builtins: &Builtins,
-) -> Result<String, anyhow::Error> {
+) -> Result<String, Error> {
     let mut text = String::new(alloc);
     for clash in clashes(alloc, unit)?.as_slice() {
         let what = match clash.reading {

@@ -24,6 +24,20 @@ pub fn answered(row: Row<'_>) -> Value {
             let builtins = Builtins::new(names, Vec::new(alloc), Vec::new(alloc));
             row.printed(wesl_example::warnings(alloc, &row.tree(), &builtins))
         }
+        "wesl_example::are_together" => {
+            let (first, second) = (row.number("first", 0), row.number("second", 0));
+            let together = wesl_example::are_together(alloc, &row.tree(), first, second);
+            row.or(together, None).map_or(Value::Null, Value::Bool)
+        }
+        "wesl_example::condition_faults" => {
+            let features = features(row, "features");
+            row.printed(wesl_example::condition_faults(alloc, &row.tree(), &features))
+        }
+        "wesl_example::unit_faults" => {
+            let names = row.owned_texts("names");
+            let builtins = Builtins::new(names, Vec::new(alloc), Vec::new(alloc));
+            row.printed(wesl_example::unit_faults(alloc, &row.tree(), &builtins))
+        }
         "BuiltinType::Mat, builtin_ident" => {
             let matrix = BuiltinType::Mat(size(row, "columns"), size(row, "rows"));
             row.found_text(matrix.builtin_ident())
