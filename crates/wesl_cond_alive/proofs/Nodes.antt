@@ -1,9 +1,9 @@
 -- The walk over nodes.
 use Rattle.std.proofs.Common.{◌≡◌, ℕ, zero, suc, ◌+◌, add-one, append-nil, Bool, true, false, ◌&&◌, cond, List, [], ◌∷◌, ◌++◌, length, map, drop, refl, ap, ◌∙◌, sym}
 use Rattle.std.specs.Prelude.{Some, None, Option}
-use Rattle.std.specs.Global.{Vec}
+use Rattle.std.specs.Global.{Box, Vec}
 use Rattle.wesl_tree_syntax.specs.Tree.{Tree, Forest, Kind, branch, leaf as leaf_tree, kind, absent, present, list, reference, type_expression, binder, declaration, before, end, tree, at, attribute_node, forest_of, compound, statements, loop, continuing}
-use Rattle.wesl_tree_syntax.specs.View.{attributes_tree, expression_tree, ident_tree, kind_tree, optional, path_tree, type_view}
+use Rattle.wesl_tree_syntax.specs.View.{attributes_tree, boxed_path, expression_tree, ident_tree, kind_tree, optional, type_view}
 use Rattle.wesl_tree_syntax.specs.declared.attribute.Attribute.{Attribute}
 use Rattle.wesl_tree_syntax.specs.declared.declaration.DeclarationKind.{DeclarationKind}
 use Rattle.wesl_tree_syntax.specs.declared.declaration.DeclarationKind.TheVariants as kinds
@@ -27,13 +27,13 @@ use Rattle.wesl_cond_alive.proofs.Steps.{walked_as}
 use Rattle.wesl_cond_alive.proofs.Views.{view_type}
 
 -- a type, which names itself
-pub plain_type_joined : (here : Here) (s : State ℕ) (p : Option ModulePath) (i : Ident)
-    → marked here i.0 s ≡ walked_as leaf here s (branch type_expression (optional path_tree p ∷ ident_tree reference i ∷ leaf_tree (kind absent) ∷ []))
+pub plain_type_joined : (here : Here) (s : State ℕ) (p : Option (Box ModulePath)) (i : Ident)
+    → marked here i.0 s ≡ walked_as leaf here s (branch type_expression (optional boxed_path p ∷ ident_tree reference i ∷ leaf_tree (kind absent) ∷ []))
 plain_type_joined here s None i = refl
 plain_type_joined here s (Some p) i = refl
 
-pub type_joined : (here : Here) (s : State ℕ) (p : Option ModulePath) (i : Ident) (ts : List Tree)
-    → walked_as leaf (whole_here here) (marked here i.0 s) (branch list ts) ≡ walked_as leaf here s (branch type_expression (optional path_tree p ∷ ident_tree reference i ∷ branch present (branch list ts ∷ []) ∷ []))
+pub type_joined : (here : Here) (s : State ℕ) (p : Option (Box ModulePath)) (i : Ident) (ts : List Tree)
+    → walked_as leaf (whole_here here) (marked here i.0 s) (branch list ts) ≡ walked_as leaf here s (branch type_expression (optional boxed_path p ∷ ident_tree reference i ∷ branch present (branch list ts ∷ []) ∷ []))
 type_joined here s None i ts = refl
 type_joined here s (Some p) i ts = refl
 

@@ -1,5 +1,6 @@
 -- Expressions and types fit their form.
 use Rattle.std.proofs.Common.{◌≡◌, ◌⊎◌, ℕ, List, [], ◌∷◌, map, Bool, true, false, ◌&&◌, Option, Some, None, option_map, option_and_then, codes, string_bytes, refl, sym, ap, ◌∙◌, subst, inl, inr, Vec, Global}
+use Rattle.std.specs.Global.{Box}
 use Rattle.serde_json.specs.Data.{Data, object, string, boolean, Members}
 use Rattle.serde_json.specs.Find.{get_member, as_str, as_object}
 use Rattle.wesl_tree_names.specs.Path.{Text}
@@ -458,7 +459,7 @@ module _ (spans : Bool) (f : ℕ → Text) where
   arguments_each [] = no_more
   arguments_each (x ∷ xs) = one_more (x.1 (kind list)) (arguments_each xs)
 
-  type_each : (q : Option ModulePath) (i : Ident) (o : Option (Vec OfArgument Global))
+  type_each : (q : Option (Box ModulePath)) (i : Ident) (o : Option (Vec OfArgument Global))
       → FitsType spans (spelled_as (type_seen (map-TypeExpression OfExpression OfCall OfArgument OfType Expression FunctionCall TemplateArg TypeExpression (λ e. e.0) (λ e. e.0) (λ e. e.0) (λ e. e.0) (record { path = q; ident = i; template_args = o }))))
   type_each None i None = type_short spans (f i.0)
   type_each (Some q) i None = type_long spans _ _ (f i.0) refl (put_in (a_leaf path_text) (needed (a_leaf an_identifier) (left_out all_there)))

@@ -23,7 +23,7 @@ use Rattle.wesl_tree_names.specs.declared.names.Ident.{Ident}
 use Rattle.wesl_tree_names.specs.declared.path.ModulePath.{ModulePath}
 use Rattle.wesl_tree_syntax.specs.Tree.{Tree, absent, binary, branch, expression_node, kind, leaf as leaf_tree, list, literal, reference, type_expression, unary}
 use Rattle.wesl_tree_syntax.specs.Unit.{name_in}
-use Rattle.wesl_tree_syntax.specs.View.{argument_view, call_view, expression_tree, expression_view, ident_tree, listed, literal_tree, optional, path_tree, type_view}
+use Rattle.wesl_tree_syntax.specs.View.{argument_view, boxed_path, call_view, expression_tree, expression_view, ident_tree, listed, literal_tree, optional, type_view}
 use Rattle.wesl_tree_syntax.specs.declared.span.Spanned.{Spanned}
 use Rattle.wesl_tree_syntax.specs.declared.expression.UnaryOperator.{UnaryOperator}
 use Rattle.wesl_tree_syntax.specs.declared.expression.BinaryOperator.{BinaryOperator}
@@ -154,13 +154,13 @@ module _ (spans : Bool) (names : List Text) (s : Span) where
 
   -- ---- types
 
-  pub plain_name : {a z : Printer} (p : Option ModulePath) (i : Ident) (t : Text) → p ≡ None → t ≡ name_in names i.0 → Prints a z (named_at spans s (string t)) → Prints a z (named_at spans s (value_in spans names (node a_type) (plain_type_tree p i)))
+  pub plain_name : {a z : Printer} (p : Option (Box ModulePath)) (i : Ident) (t : Text) → p ≡ None → t ≡ name_in names i.0 → Prints a z (named_at spans s (string t)) → Prints a z (named_at spans s (value_in spans names (node a_type) (plain_type_tree p i)))
   plain_name p i t is name h = told (ap (λ d. json_tokens (outline (named_at spans s d))) (ap string name ∙ as-plain-name spans names p i _ is refl)) h
 
-  abbrev pub pathed : Text → ModulePath → List Part
-  pathed t q = part (codes "path") false (string (to_text (path_view q))) ∷ part (codes "name") false (string t) ∷ []
+  abbrev pub pathed : Text → Box ModulePath → List Part
+  pathed t q = part (codes "path") false (string (to_text (path_view (box_value q)))) ∷ part (codes "name") false (string t) ∷ []
 
-  pub pathed_name : {a z : Printer} (p : Option ModulePath) (q : ModulePath) (i : Ident) (t : Text) → p ≡ Some q → t ≡ name_in names i.0 → PrintsTokens a z (begin_object ∷ tokens_of (span_and spans s (pathed t q))) → Prints a z (named_at spans s (value_in spans names (node a_type) (plain_type_tree p i)))
+  pub pathed_name : {a z : Printer} (p : Option (Box ModulePath)) (q : Box ModulePath) (i : Ident) (t : Text) → p ≡ Some q → t ≡ name_in names i.0 → PrintsTokens a z (begin_object ∷ tokens_of (span_and spans s (pathed t q))) → Prints a z (named_at spans s (value_in spans names (node a_type) (plain_type_tree p i)))
   unfolding with_member
   pathed_name p q i t is name h =
       told (placed_tokens spans expression_node s (codes "name") (pathed t q) refl ∙ ap (λ d. json_tokens (outline (named_at spans s d))) (ap (λ v. object (puts (pathed v q))) name ∙ as-pathed-name spans names p q i _ is refl)) h
@@ -168,8 +168,8 @@ module _ (spans : Bool) (names : List Text) (s : Span) where
   pub plain_type : {a z : Printer} (t : TypeExpression) → (out-TypeExpression t).template_args ≡ None → Prints a z (named_at spans s (value_in spans names (node a_type) (plain_type_tree (out-TypeExpression t).path (out-TypeExpression t).ident))) → Prints a z (named_at spans s (value_in spans names (node a_type) (type_view t)))
   plain_type t is h = told (ap (λ d. json_tokens (outline (named_at spans s d))) (as-plain spans names t _ is refl)) h
 
-  abbrev pub argued_parts : Option ModulePath → Text → Items → List Part
-  argued_parts p t ds = option_part spans names (codes "path") (leaf a_path) path_tree p ∷ part (codes "name") false (string t) ∷ part (codes "args") false (array ds) ∷ []
+  abbrev pub argued_parts : Option (Box ModulePath) → Text → Items → List Part
+  argued_parts p t ds = option_part spans names (codes "path") (leaf a_path) boxed_path p ∷ part (codes "name") false (string t) ∷ part (codes "args") false (array ds) ∷ []
 
   pub argued_type : {a z : Printer} (t : TypeExpression) (v : Vec TemplateArg Global) (w : Text) → (out-TypeExpression t).template_args ≡ Some v → w ≡ name_in names (out-TypeExpression t).ident.0
       → PrintsTokens a z (begin_object ∷ tokens_of (span_and spans s (argued_parts (out-TypeExpression t).path w (items_in spans names a_template_argument (listed argument_view list v).children)))) → Prints a z (named_at spans s (value_in spans names (node a_type) (type_view t)))
@@ -180,7 +180,7 @@ module _ (spans : Bool) (names : List Text) (s : Span) where
       told (placed_tokens spans expression_node s (codes "name") (argued_parts p w ds) refl
       ∙ ap (λ d. json_tokens (outline (named_at spans s d)))
       (ap (λ u. object (puts (argued_parts p u ds))) name
-      ∙ ap object (option_put spans names (codes "path") (leaf a_path) path_tree p (puts (part (codes "name") false (string (name_in names (out-TypeExpression t).ident.0)) ∷ part (codes "args") false (array ds) ∷ [])))
+      ∙ ap object (option_put spans names (codes "path") (leaf a_path) boxed_path p (puts (part (codes "name") false (string (name_in names (out-TypeExpression t).ident.0)) ∷ part (codes "args") false (array ds) ∷ [])))
       ∙ as-argued spans names t v ds _ is refl refl))
       h
 

@@ -1,5 +1,6 @@
 -- What a printer that notes want of memory says of what it printed.
 use Rattle.std.specs.Prelude.{◌≡◌, List, [], ◌∷◌, ◌++◌, Bool, false, None, Option, Some, Vec, codes}
+use Rattle.std.specs.Global.{Box}
 use Rattle.std.specs.declared.alloc.Global.{Global}
 use Rattle.json.specs.Token.{Token, key}
 use Rattle.json.specs.Tree.{json_tokens}
@@ -10,7 +11,7 @@ use Rattle.wesl_tree_names.specs.Path.{Text}
 use Rattle.wesl_tree_names.specs.declared.names.Ident.{Ident}
 use Rattle.wesl_tree_names.specs.declared.path.ModulePath.{ModulePath}
 use Rattle.wesl_tree_syntax.specs.Tree.{Kind, Tree, absent, access, branch, custom, expression_node, kind, leaf, list, reference, space, text, type_expression}
-use Rattle.wesl_tree_syntax.specs.View.{expression_tree, ident_tree, listed, optional, path_tree}
+use Rattle.wesl_tree_syntax.specs.View.{boxed_path, expression_tree, ident_tree, listed, optional}
 use Rattle.wesl_tree_syntax.specs.declared.expression.Expression.{Expression}
 use Rattle.wesl_tree_syntax.specs.declared.attribute.Attribute.{Attribute}
 use Rattle.wesl_tree_syntax.specs.declared.span.Spanned.{Spanned}
@@ -59,8 +60,8 @@ abbrev pub PrintsList : Printer → Printer → Text → Items → Type 0
 PrintsList old new k ds = PrintsMembers old new (put_list k (array ds) no_members)
 
 -- a type without arguments
-abbrev pub plain_type_tree : Option ModulePath → Ident → Tree
-plain_type_tree p i = branch type_expression (optional path_tree p ∷ ident_tree reference i ∷ leaf (kind absent) ∷ [])
+abbrev pub plain_type_tree : Option (Box ModulePath) → Ident → Tree
+plain_type_tree p i = branch type_expression (optional boxed_path p ∷ ident_tree reference i ∷ leaf (kind absent) ∷ [])
 
 -- an attribute of another name, from its name and its arguments, an option
 abbrev pub custom_tree : Text → Option (Vec (Spanned Expression) Global) → Tree

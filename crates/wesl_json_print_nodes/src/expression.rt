@@ -5,7 +5,7 @@ ghost use Rattle.wesl_json_form.specs.Schema.{a_path, a_template_argument, a_typ
 ghost use Rattle.wesl_json_print_nodes.specs.Printing.{Prints, PrintsList, PrintsMember, PrintsMembers, named_at, plain_type_tree};
 ghost use Rattle.wesl_json_write.specs.Values.{bare, call_members, expression_at, items_in, value_in, with_option};
 ghost use Rattle.wesl_tree_syntax.specs.Tree.{branch, list, literal as literal_kind};
-ghost use Rattle.wesl_tree_syntax.specs.View.{argument_view, call_view, expression_tree, expression_view, listed, literal_tree, optional, path_tree, type_view};
+ghost use Rattle.wesl_tree_syntax.specs.View.{argument_view, boxed_path, call_view, expression_tree, expression_view, listed, literal_tree, optional, type_view};
 
 use crate::printer::Printer;
 use wesl_json_write::{binary_word, is_shown, spelling, truth_word, unary_word};
@@ -220,7 +220,7 @@ fn print_plain_type(
     out: &mut Printer,
     spans: bool,
     names: &Names,
-    path: &Option<ModulePath>,
+    path: &Option<Box<ModulePath>>,
     ident: Ident,
     span: Span,
 )
@@ -286,8 +286,13 @@ pub(crate) fn print_optional_type(
 }
 
 // Prints the path of a type, an option.
-fn print_optional_path(out: &mut Printer, spans: bool, names: &Names, path: &Option<ModulePath>)
-    ensures { PrintsMembers out.old out.new (with_option (codes "path") spans names.now (leaf a_path) (optional path_tree path.now) no_members) }
+fn print_optional_path(
+    out: &mut Printer,
+    spans: bool,
+    names: &Names,
+    path: &Option<Box<ModulePath>>,
+)
+    ensures { PrintsMembers out.old out.new (with_option (codes "path") spans names.now (leaf a_path) (optional boxed_path path.now) no_members) }
 {
     match path {
         Some(path) => {

@@ -10,7 +10,7 @@ use Rattle.wesl_tree_names.specs.declared.names.Ident.{Ident}
 use Rattle.wesl_tree_names.specs.declared.path.ModulePath.{ModulePath}
 use Rattle.wesl_tree_syntax.specs.Tree.{Tree, kind, unary, binary, truth, text, leaf as leaf_tree, forest_of, branch, reference, absent, literal, parenthesized, named_component, indexing, call_expression, call, type_or_identifier, type_expression, list, template_argument}
 use Rattle.wesl_tree_syntax.specs.Unit.{name_in}
-use Rattle.wesl_tree_syntax.specs.View.{expression_tree, expression_view, call_view, type_view, argument_view, listed, optional, path_tree, ident_tree, text_tree, literal_tree, expression_step, call_step, argument_step, type_step}
+use Rattle.wesl_tree_syntax.specs.View.{expression_tree, expression_view, call_view, type_view, argument_view, listed, optional, boxed_path, path_tree, ident_tree, text_tree, literal_tree, expression_step, call_step, argument_step, type_step}
 use Rattle.wesl_tree_syntax.specs.declared.span.Spanned.{Spanned}
 use Rattle.wesl_tree_syntax.specs.declared.expression.UnaryOperator.{UnaryOperator}
 use Rattle.wesl_tree_syntax.specs.declared.expression.UnaryOperator.TheVariants as unaries
@@ -56,14 +56,14 @@ view-type x t is = search (rules, the_lemmas)
 pub call-parts : (c : FunctionCall) → call_view c ≡ branch call (type_view (out-FunctionCall c).ty ∷ listed expression_tree list (out-FunctionCall c).arguments ∷ [])
 call-parts c = fold_out-FunctionCall Tree Tree Tree Tree expression_step call_step argument_step type_step c ∙ simp map-map
 
-mapped-type : (p : Option ModulePath) (i : Ident) (o : Option (Vec TemplateArg Global)) → type_step (map-TypeExpression Expression FunctionCall TemplateArg TypeExpression Tree Tree Tree Tree expression_view call_view argument_view type_view (record { path = p; ident = i; template_args = o })) ≡ branch type_expression (optional path_tree p ∷ ident_tree reference i ∷ optional (listed argument_view list) o ∷ [])
+mapped-type : (p : Option (Box ModulePath)) (i : Ident) (o : Option (Vec TemplateArg Global)) → type_step (map-TypeExpression Expression FunctionCall TemplateArg TypeExpression Tree Tree Tree Tree expression_view call_view argument_view type_view (record { path = p; ident = i; template_args = o })) ≡ branch type_expression (optional boxed_path p ∷ ident_tree reference i ∷ optional (listed argument_view list) o ∷ [])
 mapped-type p i None = refl
 mapped-type p i (Some v) = simp map-map
 
 pub argument-parts : (a : TemplateArg) → argument_view a ≡ branch template_argument (expression_tree (out-TemplateArg a).expression ∷ [])
 argument-parts a = fold_out-TemplateArg Tree Tree Tree Tree expression_step call_step argument_step type_step a
 
-pub type-parts : (t : TypeExpression) → type_view t ≡ branch type_expression (optional path_tree (out-TypeExpression t).path ∷ ident_tree reference (out-TypeExpression t).ident ∷ optional (listed argument_view list) (out-TypeExpression t).template_args ∷ [])
+pub type-parts : (t : TypeExpression) → type_view t ≡ branch type_expression (optional boxed_path (out-TypeExpression t).path ∷ ident_tree reference (out-TypeExpression t).ident ∷ optional (listed argument_view list) (out-TypeExpression t).template_args ∷ [])
 type-parts t = fold_out-TypeExpression Tree Tree Tree Tree expression_step call_step argument_step type_step t ∙ mapped-type (out-TypeExpression t).path (out-TypeExpression t).ident (out-TypeExpression t).template_args
 
 -- ---- written forms
@@ -127,22 +127,22 @@ module _ (spans : Bool) (names : List Text) where
   written-call-expression t u = refl
 
   -- a type is written as the expression that it is
-  pub written-type : (p : Option ModulePath) (i : Ident) (a : Option (Vec TemplateArg Global)) → expression_in spans names (branch type_or_identifier (branch type_expression (optional path_tree p ∷ ident_tree reference i ∷ optional (listed argument_view list) a ∷ []) ∷ [])) ≡ value_in spans names (node a_type) (branch type_expression (optional path_tree p ∷ ident_tree reference i ∷ optional (listed argument_view list) a ∷ []))
+  pub written-type : (p : Option (Box ModulePath)) (i : Ident) (a : Option (Vec TemplateArg Global)) → expression_in spans names (branch type_or_identifier (branch type_expression (optional boxed_path p ∷ ident_tree reference i ∷ optional (listed argument_view list) a ∷ []) ∷ [])) ≡ value_in spans names (node a_type) (branch type_expression (optional boxed_path p ∷ ident_tree reference i ∷ optional (listed argument_view list) a ∷ []))
   unfolding placed_in placed_at value_in
   written-type None i None = refl
   written-type (Some p) i None = refl
   written-type None i (Some v) = refl
   written-type (Some p) i (Some v) = refl
 
-  pub written-plain : (i : Ident) → value_in spans names (node a_type) (branch type_expression (optional path_tree None ∷ ident_tree reference i ∷ leaf_tree (kind absent) ∷ [])) ≡ string (name_in names i.0)
+  pub written-plain : (i : Ident) → value_in spans names (node a_type) (branch type_expression (optional boxed_path None ∷ ident_tree reference i ∷ leaf_tree (kind absent) ∷ [])) ≡ string (name_in names i.0)
   unfolding value_in placed_at
   written-plain i = refl
 
-  pub written-pathed : (p : ModulePath) (i : Ident) → value_in spans names (node a_type) (branch type_expression (optional path_tree (Some p) ∷ ident_tree reference i ∷ leaf_tree (kind absent) ∷ [])) ≡ bare (with_member (codes "path") (string (to_text (path_view p))) (with_member (codes "name") (string (name_in names i.0)) no_members))
+  pub written-pathed : (p : Box ModulePath) (i : Ident) → value_in spans names (node a_type) (branch type_expression (optional boxed_path (Some p) ∷ ident_tree reference i ∷ leaf_tree (kind absent) ∷ [])) ≡ bare (with_member (codes "path") (string (to_text (path_view (box_value p)))) (with_member (codes "name") (string (name_in names i.0)) no_members))
   unfolding value_in placed_at with_member
   written-pathed p i = refl
 
-  pub written-argued : (p : Option ModulePath) (i : Ident) (v : Vec TemplateArg Global) → value_in spans names (node a_type) (branch type_expression (optional path_tree p ∷ ident_tree reference i ∷ optional (listed argument_view list) (Some v) ∷ [])) ≡ bare (with_option (codes "path") spans names (leaf a_path) (optional path_tree p) (with_member (codes "name") (string (name_in names i.0)) (with_member (codes "args") (array (items_in spans names a_template_argument (listed argument_view list v).children)) no_members)))
+  pub written-argued : (p : Option (Box ModulePath)) (i : Ident) (v : Vec TemplateArg Global) → value_in spans names (node a_type) (branch type_expression (optional boxed_path p ∷ ident_tree reference i ∷ optional (listed argument_view list) (Some v) ∷ [])) ≡ bare (with_option (codes "path") spans names (leaf a_path) (optional boxed_path p) (with_member (codes "name") (string (name_in names i.0)) (with_member (codes "args") (array (items_in spans names a_template_argument (listed argument_view list v).children)) no_members)))
   unfolding value_in placed_at with_member with_option items_in
   written-argued None i v = refl
   written-argued (Some p) i v = refl
@@ -189,15 +189,15 @@ module _ (spans : Bool) (names : List Text) where
       made ∙ ap (λ z. with_member (codes "ty") z (with_list (codes "args") ds no_members)) first ∙ ap (λ z. with_member (codes "ty") (value_in spans names (node a_type) (type_view (out-FunctionCall c).ty)) (with_list (codes "args") z no_members)) second
       ∙ sym (ap (call_members spans names) (call-parts c) ∙ written-call (type_view (out-FunctionCall c).ty) (out-FunctionCall c).arguments)
 
-  pub as-plain : (t : TypeExpression) (v : Data) → (out-TypeExpression t).template_args ≡ None → v ≡ value_in spans names (node a_type) (branch type_expression (optional path_tree (out-TypeExpression t).path ∷ ident_tree reference (out-TypeExpression t).ident ∷ leaf_tree (kind absent) ∷ [])) → v ≡ value_in spans names (node a_type) (type_view t)
-  as-plain t v is made = made ∙ sym (ap (λ u. value_in spans names (node a_type) u) (type-parts t) ∙ ap (λ a. value_in spans names (node a_type) (branch type_expression (optional path_tree (out-TypeExpression t).path ∷ ident_tree reference (out-TypeExpression t).ident ∷ optional (listed argument_view list) a ∷ []))) is)
+  pub as-plain : (t : TypeExpression) (v : Data) → (out-TypeExpression t).template_args ≡ None → v ≡ value_in spans names (node a_type) (branch type_expression (optional boxed_path (out-TypeExpression t).path ∷ ident_tree reference (out-TypeExpression t).ident ∷ leaf_tree (kind absent) ∷ [])) → v ≡ value_in spans names (node a_type) (type_view t)
+  as-plain t v is made = made ∙ sym (ap (λ u. value_in spans names (node a_type) u) (type-parts t) ∙ ap (λ a. value_in spans names (node a_type) (branch type_expression (optional boxed_path (out-TypeExpression t).path ∷ ident_tree reference (out-TypeExpression t).ident ∷ optional (listed argument_view list) a ∷ []))) is)
 
-  pub as-argued : (t : TypeExpression) (a : Vec TemplateArg Global) (ds : Items) (v : Data) → (out-TypeExpression t).template_args ≡ Some a → ds ≡ items_in spans names a_template_argument (listed argument_view list a).children → v ≡ bare (with_option (codes "path") spans names (leaf a_path) (optional path_tree (out-TypeExpression t).path) (with_member (codes "name") (string (name_in names (out-TypeExpression t).ident.0)) (with_member (codes "args") (array ds) no_members))) → v ≡ value_in spans names (node a_type) (type_view t)
+  pub as-argued : (t : TypeExpression) (a : Vec TemplateArg Global) (ds : Items) (v : Data) → (out-TypeExpression t).template_args ≡ Some a → ds ≡ items_in spans names a_template_argument (listed argument_view list a).children → v ≡ bare (with_option (codes "path") spans names (leaf a_path) (optional boxed_path (out-TypeExpression t).path) (with_member (codes "name") (string (name_in names (out-TypeExpression t).ident.0)) (with_member (codes "args") (array ds) no_members))) → v ≡ value_in spans names (node a_type) (type_view t)
   as-argued t a ds v is inside made =
       let p = (out-TypeExpression t).path in
       let i = (out-TypeExpression t).ident in
-      made ∙ ap (λ z. bare (with_option (codes "path") spans names (leaf a_path) (optional path_tree p) (with_member (codes "name") (string (name_in names i.0)) (with_member (codes "args") (array z) no_members)))) inside
-      ∙ sym (ap (λ u. value_in spans names (node a_type) u) (type-parts t) ∙ ap (λ o. value_in spans names (node a_type) (branch type_expression (optional path_tree p ∷ ident_tree reference i ∷ optional (listed argument_view list) o ∷ []))) is ∙ written-argued p i a)
+      made ∙ ap (λ z. bare (with_option (codes "path") spans names (leaf a_path) (optional boxed_path p) (with_member (codes "name") (string (name_in names i.0)) (with_member (codes "args") (array z) no_members)))) inside
+      ∙ sym (ap (λ u. value_in spans names (node a_type) u) (type-parts t) ∙ ap (λ o. value_in spans names (node a_type) (branch type_expression (optional boxed_path p ∷ ident_tree reference i ∷ optional (listed argument_view list) o ∷ []))) is ∙ written-argued p i a)
 
   -- ---- options
 
@@ -213,8 +213,8 @@ module _ (spans : Bool) (names : List Text) where
   unfolding value_in placed_at
   path-value p = refl
 
-  pub as-plain-name : (p : Option ModulePath) (i : Ident) (v : Data) → p ≡ None → v ≡ string (name_in names i.0) → v ≡ value_in spans names (node a_type) (branch type_expression (optional path_tree p ∷ ident_tree reference i ∷ leaf_tree (kind absent) ∷ []))
-  as-plain-name p i v is made = made ∙ sym (ap (λ o. value_in spans names (node a_type) (branch type_expression (optional path_tree o ∷ ident_tree reference i ∷ leaf_tree (kind absent) ∷ []))) is ∙ written-plain i)
+  pub as-plain-name : (p : Option (Box ModulePath)) (i : Ident) (v : Data) → p ≡ None → v ≡ string (name_in names i.0) → v ≡ value_in spans names (node a_type) (branch type_expression (optional boxed_path p ∷ ident_tree reference i ∷ leaf_tree (kind absent) ∷ []))
+  as-plain-name p i v is made = made ∙ sym (ap (λ o. value_in spans names (node a_type) (branch type_expression (optional boxed_path o ∷ ident_tree reference i ∷ leaf_tree (kind absent) ∷ []))) is ∙ written-plain i)
 
-  pub as-pathed-name : (p : Option ModulePath) (q : ModulePath) (i : Ident) (v : Data) → p ≡ Some q → v ≡ bare (with_member (codes "path") (string (to_text (path_view q))) (with_member (codes "name") (string (name_in names i.0)) no_members)) → v ≡ value_in spans names (node a_type) (branch type_expression (optional path_tree p ∷ ident_tree reference i ∷ leaf_tree (kind absent) ∷ []))
-  as-pathed-name p q i v is made = made ∙ sym (ap (λ o. value_in spans names (node a_type) (branch type_expression (optional path_tree o ∷ ident_tree reference i ∷ leaf_tree (kind absent) ∷ []))) is ∙ written-pathed q i)
+  pub as-pathed-name : (p : Option (Box ModulePath)) (q : Box ModulePath) (i : Ident) (v : Data) → p ≡ Some q → v ≡ bare (with_member (codes "path") (string (to_text (path_view (box_value q)))) (with_member (codes "name") (string (name_in names i.0)) no_members)) → v ≡ value_in spans names (node a_type) (branch type_expression (optional boxed_path p ∷ ident_tree reference i ∷ leaf_tree (kind absent) ∷ []))
+  as-pathed-name p q i v is made = made ∙ sym (ap (λ o. value_in spans names (node a_type) (branch type_expression (optional boxed_path o ∷ ident_tree reference i ∷ leaf_tree (kind absent) ∷ []))) is ∙ written-pathed q i)

@@ -1,5 +1,6 @@
 -- What an expression or an attribute is written as at a place: no short form, but an object.
 use Rattle.std.proofs.Common.{◌≡◌, ℕ, List, [], ◌∷◌, Bool, true, false, if◌then◌else◌, Option, Some, None, option_map, option_and_then, codes, map, refl, sym, ap, ◌∙◌, subst, Vec, Global}
+use Rattle.std.specs.Global.{Box}
 use Rattle.serde_json.specs.Data.{Data, boolean, string, object, put, no_members}
 use Rattle.wesl_tree_base.specs.declared.span.Span.{Span}
 use Rattle.wesl_tree_names.specs.Path.{Text}
@@ -8,7 +9,7 @@ use Rattle.wesl_tree_names.specs.declared.names.Ident.{Ident}
 use Rattle.wesl_tree_syntax.specs.Shown.{shown_forest}
 use Rattle.wesl_tree_syntax.specs.Tree.{Tree, Kind, at, end, before, branch, reference, list, type_expression, type_or_identifier, expression_node, attribute_node}
 use Rattle.wesl_tree_syntax.specs.Unit.{name_in}
-use Rattle.wesl_tree_syntax.specs.View.{expression_view, call_view, argument_view, type_view, attribute_view, path_tree, ident_tree, optional, listed, expression_step, call_step, argument_step, type_step}
+use Rattle.wesl_tree_syntax.specs.View.{expression_view, call_view, argument_view, type_view, attribute_view, boxed_path, ident_tree, optional, listed, expression_step, call_step, argument_step, type_step}
 use Rattle.wesl_tree_syntax.specs.declared.attribute.Attribute.{Attribute}
 use Rattle.wesl_tree_syntax.specs.declared.attribute.Attribute.TheVariants as attr
 use Rattle.wesl_tree_syntax.specs.declared.expression.Literal.TheVariants as literals
@@ -68,7 +69,7 @@ module _ (spans : Bool) (names : List Text) (s e : ℕ) where
   abbrev expression_seen : Expression-F Expression FunctionCall TemplateArg TypeExpression → Tree
   expression_seen x = expression_step (map-Expression Expression FunctionCall TemplateArg TypeExpression Tree Tree Tree Tree expression_view call_view argument_view type_view x)
 
-  named_type : (p : Option ModulePath) (i : Ident) (a : Option (Vec TemplateArg Global)) → IsRight (branch type_or_identifier (branch type_expression (optional path_tree p ∷ ident_tree reference i ∷ optional (listed argument_view list) a ∷ []) ∷ []))
+  named_type : (p : Option (Box ModulePath)) (i : Ident) (a : Option (Vec TemplateArg Global)) → IsRight (branch type_or_identifier (branch type_expression (optional boxed_path p ∷ ident_tree reference i ∷ optional (listed argument_view list) a ∷ []) ∷ []))
   named_type None i None d is shown = text_turned spans expression_node s e (codes "name") (name_in names i.0) shown ∙ ap (with_place spans (at expression_node s e) (codes "name")) (some_same (string (name_in names i.0)) d is)
   named_type (Some p) i None d is shown = absurd (none_some d is)
   named_type None i (Some v) d is shown = absurd (none_some d is)

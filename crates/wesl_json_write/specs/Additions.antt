@@ -10,7 +10,7 @@ use Rattle.wesl_tree_names.specs.declared.names.Ident.{Ident}
 use Rattle.wesl_tree_names.specs.declared.path.ModulePath.{ModulePath}
 use Rattle.wesl_tree_syntax.specs.Tree.{Kind, Tree, absent, assignment, branch, custom, kind, leaf as leaf_tree, list, member_node, members, reference, text, type_expression, unary}
 use Rattle.wesl_tree_syntax.specs.Unit.{name_in}
-use Rattle.wesl_tree_syntax.specs.View.{access_tree, attributes_tree, break_if_view, call_view, continuing_view, else_view, expression_tree, ident_tree, listed, member_view, optional, path_tree, placed, statement_tree, texts_of, type_view}
+use Rattle.wesl_tree_syntax.specs.View.{access_tree, attributes_tree, boxed_path, break_if_view, call_view, continuing_view, else_view, expression_tree, ident_tree, listed, member_view, optional, placed, statement_tree, texts_of, type_view}
 use Rattle.wesl_tree_syntax.specs.declared.attribute.Attribute.{Attribute}
 use Rattle.wesl_tree_syntax.specs.declared.declaration.AccessMode.{AccessMode}
 use Rattle.wesl_tree_syntax.specs.declared.declaration.StructMember.{StructMember}
@@ -105,12 +105,12 @@ module _ (spans : Bool) (names : List Text) where
   workgroup_object x y z = workgroup_size spans names x (optional expression_tree y) (optional expression_tree z)
 
   -- a type without arguments, and one with them
-  abbrev pub plain_type_data : Option ModulePath → Ident → Data
+  abbrev pub plain_type_data : Option (Box ModulePath) → Ident → Data
   plain_type_data path ident =
-      value_in spans names (node a_type) (branch type_expression (optional path_tree path ∷ ident_tree reference ident ∷ leaf_tree (kind absent) ∷ []))
+      value_in spans names (node a_type) (branch type_expression (optional boxed_path path ∷ ident_tree reference ident ∷ leaf_tree (kind absent) ∷ []))
 
-  abbrev pub argued_data : Option ModulePath → Ident → Items → Data
-  argued_data path ident ds = argued spans names (optional path_tree path) (name_in names ident.0) ds
+  abbrev pub argued_data : Option (Box ModulePath) → Ident → Items → Data
+  argued_data path ident ds = argued spans names (optional boxed_path path) (name_in names ident.0) ds
 
 -- an operator and its operand
 abbrev pub unary_object : UnaryOperator → Data → Data

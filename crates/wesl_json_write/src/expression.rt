@@ -5,7 +5,7 @@ ghost use Rattle.wesl_tree_names.specs.Path.{Text, path_view};
 ghost use Rattle.wesl_tree_names.specs.PathText.{to_text};
 ghost use Rattle.wesl_json_form.specs.Schema.{a_path, a_template_argument, a_type, an_expression, leaf, node as node_form};
 ghost use Rattle.wesl_tree_syntax.specs.Tree.{binary, branch, list, literal as literal_kind};
-ghost use Rattle.wesl_tree_syntax.specs.View.{argument_view, call_view, expression_tree, expression_view, listed, literal_tree, optional, path_tree, type_view};
+ghost use Rattle.wesl_tree_syntax.specs.View.{argument_view, boxed_path, call_view, expression_tree, expression_view, listed, literal_tree, optional, path_tree, type_view};
 ghost use Rattle.wesl_json_write.specs.Objects.{Extends, Holds};
 ghost use Rattle.wesl_json_write.specs.Values.{AreWritten, IsWritten, expression_at, binary_object, call_members, expression_in, items_in, value_in, with_option};
 ghost use Rattle.wesl_json_write.specs.Additions.{argued_data, argued_members, if_expression, plain_type_data, unary_object};
@@ -178,7 +178,7 @@ fn plain_type_value<'a>(
     alloc: Global,
     spans: bool,
     names: &'a Names,
-    path: &'a Option<ModulePath>,
+    path: &'a Option<Box<ModulePath>>,
     ident: Ident,
 ) -> Written<'a>
     ensures { IsWritten result (plain_type_data spans names.now path.now ident) }
@@ -208,14 +208,14 @@ fn argued_type_value<'a>(
     alloc: Global,
     spans: bool,
     names: &'a Names,
-    path: &'a Option<ModulePath>,
+    path: &'a Option<Box<ModulePath>>,
     ident: Ident,
     arguments: WrittenList<'a>,
 ) -> Written<'a>
     ensures { (ds : Items) → AreWritten arguments.entry ds → IsWritten result (argued_data spans names.now path.now ident ds) }
 {
     let object = applied_object(alloc, spelling(names, ident), arguments);
-    with_optional_path(alloc, spans, object, names, path).finish()
+    with_type_path(alloc, spans, object, names, path).finish()
 }
 
 /// A name with arguments, which are written also where there are none.
@@ -229,6 +229,22 @@ pub(crate) fn applied_object<'a>(
     Object::new(alloc)
         .array("args", arguments)
         .text("name", name)
+}
+
+// The object with the path of a type at `path`, an option.
+fn with_type_path<'a>(
+    alloc: Global,
+    spans: bool,
+    object: Object<'a>,
+    names: &'a Names,
+    path: &'a Option<Box<ModulePath>>,
+) -> Object<'a>
+    ensures { Extends object.entry result (with_option (codes "path") spans names.now (leaf a_path) (optional boxed_path path.now)) }
+{
+    match path {
+        Some(path) => object.value("path", path_value(alloc, path)),
+        None => object,
+    }
 }
 
 /// The object with the path at `path`, an option.

@@ -1,5 +1,6 @@
 -- The trees of modules are as the grammar has them.
 use Rattle.std.proofs.Common.{◌≡◌, Bool, true, false, not, ◌&&◌, ◌||◌, List, [], ◌∷◌, map, refl, sym, subst, Vec, Global, Option, None, Some}
+use Rattle.std.specs.Global.{Box}
 use Rattle.wesl_tree_names.specs.declared.path.ModulePath.{ModulePath}
 use Rattle.wesl_tree_names.specs.declared.Ident.{Ident}
 use Rattle.wesl_tree_syntax.specs.Tree.{Forest, Tree, end, tree, before, forest_of, kind, at, ident, binder, attributes, statements as statements_kind, parameters as parameters_kind, compound, expression_node, statement_node, declaration_node, attribute_node, member_node}
@@ -147,7 +148,7 @@ arguments_each : (xs : List Sober_argument) → sober (forest_of (map (λ t. t) 
 arguments_each [] = refl
 arguments_each (x ∷ xs) = rw (x.1, arguments_each xs) refl
 
-type_each : (p : Option ModulePath) (i : Ident) (o : Option (Vec Sober_argument Global))
+type_each : (p : Option (Box ModulePath)) (i : Ident) (o : Option (Vec Sober_argument Global))
     → IsSober (type_seen (map-TypeExpression Sober_expression Sober_call Sober_argument Sober_type Expression FunctionCall TemplateArg TypeExpression (λ e. e.0) (λ e. e.0) (λ e. e.0) (λ e. e.0) (record { path = p; ident = i; template_args = o })))
 type_each None i None = refl
 type_each (Some p) i None = refl

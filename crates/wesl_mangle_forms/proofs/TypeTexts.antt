@@ -5,12 +5,12 @@ use Rattle.std.proofs.lemmas.Bool.{false≢true}
 use Rattle.std.proofs.lemmas.List.{take_all, take_more, map-append, append-nil, length-map, length-take}
 use Rattle.std.proofs.lemmas.List.Concat.{flat_map-append}
 use Rattle.std.specs.List.{join_by, flat_map, list_all}
-use Rattle.std.specs.Global.{Vec}
+use Rattle.std.specs.Global.{Box, Vec}
 use Rattle.wesl_tree_names.specs.Path.{Text}
 use Rattle.wesl_tree_names.specs.declared.names.Ident.{Ident}
 use Rattle.wesl_tree_names.specs.declared.path.ModulePath.{ModulePath}
 use Rattle.wesl_tree_syntax.specs.Tree.{Label, Forest, Tree, end, tree, kind, at, ident, text, texts, truth, unary, binary, assignment, space, access, path, list, literal, type_or_identifier, reference, type_expression, branch, before, template_argument, forest_of, forest_below, tree_below}
-use Rattle.wesl_tree_syntax.specs.View.{argument_view, type_view, listed, optional, path_tree, ident_tree, literal_tree, expression_view, expression_tree, expression_step, call_step, argument_step, type_step}
+use Rattle.wesl_tree_syntax.specs.View.{argument_view, type_view, listed, optional, boxed_path, ident_tree, literal_tree, expression_view, expression_tree, expression_step, call_step, argument_step, type_step}
 use Rattle.wesl_tree_syntax.specs.declared.expression.Expression.{Expression, the_lemmas}
 use Rattle.wesl_tree_syntax.specs.declared.expression.Expression as made
 use Rattle.wesl_tree_syntax.specs.declared.expression.Literal.{Literal}
@@ -103,33 +103,33 @@ all_next view p xs i x d h is = rw (drop-cons xs i d h, ← is, add-one) refl
 
 -- One type.
 
-abbrev type_tree : Option ModulePath → Ident → Option (Vec TemplateArg) → Tree
-type_tree p i o = branch type_expression (optional path_tree p ∷ ident_tree reference i ∷ optional (listed argument_view list) o ∷ [])
+abbrev type_tree : Option (Box ModulePath) → Ident → Option (Vec TemplateArg) → Tree
+type_tree p i o = branch type_expression (optional boxed_path p ∷ ident_tree reference i ∷ optional (listed argument_view list) o ∷ [])
 
-view_type_of : (p : Option ModulePath) (i : Ident) (o : Option (Vec TemplateArg)) → type_view (roll-TypeExpression (record { path = p; ident = i; template_args = o })) ≡ type_tree p i o
+view_type_of : (p : Option (Box ModulePath)) (i : Ident) (o : Option (Vec TemplateArg)) → type_view (roll-TypeExpression (record { path = p; ident = i; template_args = o })) ≡ type_tree p i o
 view_type_of p i None = fold-roll-TypeExpression Tree Tree Tree Tree expression_step call_step argument_step type_step (record { path = p; ident = i; template_args = None })
 view_type_of p i (Some v) = fold-roll-TypeExpression Tree Tree Tree Tree expression_step call_step argument_step type_step (record { path = p; ident = i; template_args = Some v }) ∙ simp map-map
 
 pub view_type : (t : TypeExpression) → type_view t ≡ type_tree (out-TypeExpression t).path (out-TypeExpression t).ident (out-TypeExpression t).template_args
 view_type t = ap type_view (sym (roll-out-TypeExpression t)) ∙ view_type_of (out-TypeExpression t).path (out-TypeExpression t).ident (out-TypeExpression t).template_args
 
-below-ident : (n : ℕ) (p : Option ModulePath) (i : Ident) (o : Option (Vec TemplateArg)) → tree_below n (type_tree p i o) ≡ true → nat_lt i.0 n ≡ true
+below-ident : (n : ℕ) (p : Option (Box ModulePath)) (i : Ident) (o : Option (Vec TemplateArg)) → tree_below n (type_tree p i o) ≡ true → nat_lt i.0 n ≡ true
 below-ident n None i o h = (and-both _ _ (and-both _ _ h).0).0
 below-ident n (Some p) i o h = (and-both _ _ (and-both _ _ h).0).0
 
-below-arguments : (n : ℕ) (p : Option ModulePath) (i : Ident) (v : Vec TemplateArg) → tree_below n (type_tree p i (Some v)) ≡ true → tree_below n (listed argument_view list v) ≡ true
+below-arguments : (n : ℕ) (p : Option (Box ModulePath)) (i : Ident) (v : Vec TemplateArg) → tree_below n (type_tree p i (Some v)) ≡ true → tree_below n (listed argument_view list v) ≡ true
 below-arguments n None i v h = (and-both _ _ (and-both _ _ (and-both _ _ h).1).0).0
 below-arguments n (Some p) i v h = (and-both _ _ (and-both _ _ (and-both _ _ h).1).0).0
 
-normal-arguments : (p : Option ModulePath) (i : Ident) (v : Vec TemplateArg) → is_normal_type (type_tree p i (Some v)) ≡ true → is_normal_type (listed argument_view list v) ≡ true
+normal-arguments : (p : Option (Box ModulePath)) (i : Ident) (v : Vec TemplateArg) → is_normal_type (type_tree p i (Some v)) ≡ true → is_normal_type (listed argument_view list v) ≡ true
 normal-arguments None i v h = (and-both _ _ (and-both _ _ h).0).0
 normal-arguments (Some p) i v h = (and-both _ _ (and-both _ _ h).0).0
 
-text-alone : (names : List Text) (p : Option ModulePath) (i : Ident) → get_or names i.0 [] ≡ tree_text names (type_tree p i None)
+text-alone : (names : List Text) (p : Option (Box ModulePath)) (i : Ident) → get_or names i.0 [] ≡ tree_text names (type_tree p i None)
 text-alone names None i = sym (append-nil _)
 text-alone names (Some p) i = sym (append-nil _)
 
-text-with : (names : List Text) (p : Option ModulePath) (i : Ident) (v : Vec TemplateArg) → get_or names i.0 [] ++ tree_text names (listed argument_view list v) ≡ tree_text names (type_tree p i (Some v))
+text-with : (names : List Text) (p : Option (Box ModulePath)) (i : Ident) (v : Vec TemplateArg) → get_or names i.0 [] ++ tree_text names (listed argument_view list v) ≡ tree_text names (type_tree p i (Some v))
 text-with names None i v = refl
 text-with names (Some p) i v = refl
 
@@ -221,11 +221,11 @@ and-end : (b : Bool) → b ≡ (b && true)
 and-end true = refl
 and-end false = refl
 
-alone : (p : Option ModulePath) (i : Ident) → true ≡ is_normal_type (type_tree p i None)
+alone : (p : Option (Box ModulePath)) (i : Ident) → true ≡ is_normal_type (type_tree p i None)
 alone None i = refl
 alone (Some p) i = refl
 
-with-arguments : (p : Option ModulePath) (i : Ident) (v : Vec TemplateArg) → is_normal_type (listed argument_view list v) ≡ is_normal_type (type_tree p i (Some v))
+with-arguments : (p : Option (Box ModulePath)) (i : Ident) (v : Vec TemplateArg) → is_normal_type (listed argument_view list v) ≡ is_normal_type (type_tree p i (Some v))
 with-arguments None i v = and-end _ ∙ and-end _
 with-arguments (Some p) i v = and-end _ ∙ and-end _
 

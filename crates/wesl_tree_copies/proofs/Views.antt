@@ -7,7 +7,7 @@ use Rattle.wesl_tree_names.specs.declared.names.Ident.{Ident}
 use Rattle.wesl_tree_names.specs.declared.path.ModulePath.{ModulePath}
 use Rattle.wesl_tree_copies.proofs.Parts.{labelled}
 use Rattle.wesl_tree_syntax.specs.Tree.{assignment, branch, break, call, call_statement, clauses, compound, compound_statement, continue, continuing, decrement, discard, else_clause, else_if_clause, for_loop, if_clause, if_statement, increment, list, loop, reference, return, statements, switch, switch_clause, Tree, type_expression, while_loop}
-use Rattle.wesl_tree_syntax.specs.View.{argument_step, argument_view, assert_view, attributes_tree, break_if_view, call_step, call_view, clause_step, clause_view, compound_step, compound_view, continuing_step, continuing_view, declaration_view, else_if_step, else_if_view, else_step, else_view, expression_step, expression_tree, ident_tree, if_step, if_view, listed, optional, path_tree, selector_view, statement_step, statement_tree, statement_view, type_step, type_view}
+use Rattle.wesl_tree_syntax.specs.View.{argument_step, argument_view, assert_view, attributes_tree, boxed_path, break_if_view, call_step, call_view, clause_step, clause_view, compound_step, compound_view, continuing_step, continuing_view, declaration_view, else_if_step, else_if_view, else_step, else_view, expression_step, expression_tree, ident_tree, if_step, if_view, listed, optional, selector_view, statement_step, statement_tree, statement_view, type_step, type_view}
 use Rattle.wesl_tree_syntax.specs.declared.attribute.Attribute.{Attribute}
 use Rattle.wesl_tree_syntax.specs.declared.declaration.ConstAssert.{ConstAssert}
 use Rattle.wesl_tree_syntax.specs.declared.declaration.Declaration.{Declaration}
@@ -37,12 +37,12 @@ view_call c = fold_out-FunctionCall Tree Tree Tree Tree expression_step call_ste
 pub view_call_of : (t : TypeExpression) (v : Vec (Spanned Expression)) → call_view (roll-FunctionCall (record { ty = t; arguments = v })) ≡ branch call (type_view t ∷ listed expression_tree list v ∷ [])
 view_call_of t v = fold-roll-FunctionCall Tree Tree Tree Tree expression_step call_step argument_step type_step (record { ty = t; arguments = v }) ∙ simp map-map
 
-pub view_type_of : (p : Option ModulePath) (i : Ident) (o : Option (Vec TemplateArg)) → type_view (roll-TypeExpression (record { path = p; ident = i; template_args = o }))
-    ≡ branch type_expression (optional path_tree p ∷ ident_tree reference i ∷ optional (listed argument_view list) o ∷ [])
+pub view_type_of : (p : Option (Box ModulePath)) (i : Ident) (o : Option (Vec TemplateArg)) → type_view (roll-TypeExpression (record { path = p; ident = i; template_args = o }))
+    ≡ branch type_expression (optional boxed_path p ∷ ident_tree reference i ∷ optional (listed argument_view list) o ∷ [])
 view_type_of p i None = fold-roll-TypeExpression Tree Tree Tree Tree expression_step call_step argument_step type_step (record { path = p; ident = i; template_args = None })
 view_type_of p i (Some v) = fold-roll-TypeExpression Tree Tree Tree Tree expression_step call_step argument_step type_step (record { path = p; ident = i; template_args = Some v }) ∙ simp map-map
 
-pub view_type : (t : TypeExpression) → type_view t ≡ branch type_expression (optional path_tree (out-TypeExpression t).path ∷ ident_tree reference (out-TypeExpression t).ident ∷ optional (listed argument_view list) (out-TypeExpression t).template_args ∷ [])
+pub view_type : (t : TypeExpression) → type_view t ≡ branch type_expression (optional boxed_path (out-TypeExpression t).path ∷ ident_tree reference (out-TypeExpression t).ident ∷ optional (listed argument_view list) (out-TypeExpression t).template_args ∷ [])
 view_type t = ap type_view (sym (roll-out-TypeExpression t)) ∙ view_type_of (out-TypeExpression t).path (out-TypeExpression t).ident (out-TypeExpression t).template_args
 
 pub view_compound : (b : CompoundStatement) → compound_view b ≡ branch compound (attributes_tree (out-CompoundStatement b).attributes ∷ listed statement_tree statements (out-CompoundStatement b).statements ∷ [])

@@ -2,7 +2,7 @@
 ghost use Rattle.std.specs.Prelude.{◌≡◌, ◌++◌, ◌∷◌, [], false, true, IfErr, IfNone, IfOk, IfSome, Ok, OnOk, OnSome};
 ghost use Rattle.wesl_tree_names.specs.declared.errors.Error as error;
 ghost use Rattle.wesl_tree_syntax.specs.Tree.{Role};
-ghost use Rattle.wesl_tree_syntax.specs.View.{ident_tree, literal_tree, names_tree, optional, path_tree, text_tree};
+ghost use Rattle.wesl_tree_syntax.specs.View.{boxed_path, ident_tree, literal_tree, names_tree, optional, path_tree, text_tree};
 
 use std::alloc::Global;
 use wesl_tree_names::{Error, Ident, ModulePath};
@@ -133,6 +133,19 @@ impl<'a> Copying<'a> {
         match path {
             None => None,
             Some(path) => self.made(path.try_clone(self.alloc)),
+        }
+    }
+
+    /// A copy of the path before the name of a type, if one stands there.
+    pub(crate) fn boxed_path(&mut self, path: &Option<Box<ModulePath>>) -> Option<Box<ModulePath>>
+        ensures { Copies self.old self.new (optional boxed_path) path.now result }
+    {
+        match path {
+            None => None,
+            Some(path) => match self.made(path.try_clone(self.alloc)) {
+                None => None,
+                Some(copy) => self.made(Box::new(self.alloc, copy)),
+            },
         }
     }
 

@@ -120,7 +120,7 @@ impl<'a> Copying<'a> {
         ensures { Copies self.old self.new type_view ty.now result }
     {
         TypeExpression {
-            path: self.path(&ty.path),
+            path: self.boxed_path(&ty.path),
             ident: self.number(ty.ident),
             template_args: match &ty.template_args {
                 None => None,

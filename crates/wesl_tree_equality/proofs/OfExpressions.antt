@@ -1,6 +1,7 @@
 -- Equality of expressions and types.
 use Rattle.std.proofs.Common.{◌≡◌, subst, ℕ, Bool, true, false, ◌&&◌, List, [], ◌∷◌, map, Option, Some, None, refl, ap, ◌∙◌, rules, string_bytes, Vec, Global}
 use Rattle.std.specs.Bool.{Decides}
+use Rattle.std.specs.Global.{Box}
 use Rattle.std.specs.Option.{option_eq}
 use Rattle.std.specs.Cmp.{unsigned_Decides}
 use Rattle.std.specs.Cmp.Lexicographic.{pointwise}
@@ -16,7 +17,7 @@ use Rattle.wesl_tree_names.specs.declared.path.ModulePath.{ModulePath}
 use Rattle.wesl_tree_names.specs.declared.names.Ident.{Ident}
 use Rattle.wesl_tree_names.proofs.Order.{path_eq-decides}
 use Rattle.wesl_tree_syntax.specs.Tree.{Label, Tree, ident, path, unary, binary, reference, forest_of, respell_forest, expression_node}
-use Rattle.wesl_tree_syntax.specs.View.{expression_view, call_view, argument_view, type_view, expression_step, call_step, argument_step, type_step, placed, path_tree}
+use Rattle.wesl_tree_syntax.specs.View.{expression_view, call_view, argument_view, type_view, expression_step, call_step, argument_step, type_step, placed, path_tree, boxed_path}
 use Rattle.wesl_tree_syntax.specs.declared.span.Spanned.{Spanned}
 use Rattle.wesl_tree_syntax.specs.declared.expression.UnaryOperator.{UnaryOperator}
 use Rattle.wesl_tree_syntax.specs.declared.expression.BinaryOperator.{BinaryOperator}
@@ -87,6 +88,13 @@ one_ident x y = along (unsigned_Decides x y) (λ e. ap (λ k. let l : Label = id
 pub one_path : (p q : ModulePath) → Decides (path_eq p q) (numbered (path_tree p) ≡ numbered (path_tree q))
 one_path p q = alone (along (path_eq-decides p q) (λ e. ap (λ k. let l : Label = path k in l) e) (λ e. let h : path_view p ≡ path_view q = cc in h))
 
+-- two paths in boxes are equal where the paths are
+abbrev same_boxed_path : Box ModulePath → Box ModulePath → Bool
+same_boxed_path p q = path_eq p.value q.value
+
+one_boxed_path : (p q : Box ModulePath) → Decides (same_boxed_path p q) (numbered (boxed_path p) ≡ numbered (boxed_path q))
+one_boxed_path p q = one_path p.value q.value
+
 module _ (F : Family) where
   abbrev same_node : Spanned Expression → Spanned Expression → Bool
   same_node a b = F member-Expression a.node b.node
@@ -121,7 +129,7 @@ module _ (F : Family) where
   same_argument x w = F member-Expression x.expression.node w.expression.node
 
   abbrev same_type : TypeLayer → TypeLayer → Bool
-  same_type x w = option_eq path_eq x.path w.path && (nat_eq x.ident.0 w.ident.0 && option_eq (λ a b. pointwise (F member-TemplateArg) a.items b.items) x.template_args w.template_args)
+  same_type x w = option_eq same_boxed_path x.path w.path && (nat_eq x.ident.0 w.ident.0 && option_eq (λ a b. pointwise (F member-TemplateArg) a.items b.items) x.template_args w.template_args)
 
 -- each test is one level over the tests of what is held
 pub record IsLevel (F : Family) : Type 0 where
@@ -234,13 +242,13 @@ module _ (F : Family) where
   arguments_each (x ∷ xs) [] = (λ e. cc, λ e. cc)
   arguments_each (x ∷ xs) (y ∷ ys) = then (both _ _ (x.1 y) (arguments_each xs ys))
 
-  type_each : (p : Option ModulePath) (i : Ident) (o : Option (Vec OfArgument Global)) (q : Option ModulePath) (j : Ident) (w : Option (Vec TemplateArg Global))
+  type_each : (p : Option (Box ModulePath)) (i : Ident) (o : Option (Vec OfArgument Global)) (q : Option (Box ModulePath)) (j : Ident) (w : Option (Vec TemplateArg Global))
       → Decides (same_type F (plain_type (record { path = p; ident = i; template_args = o })) (record { path = q; ident = j; template_args = w }))
       (numbered (type_seen (plain_type (record { path = p; ident = i; template_args = o }))) ≡ numbered (type_seen (record { path = q; ident = j; template_args = w })))
-  type_each p i None q j None = under (then (both _ _ (one_optional path_tree path_eq one_path p q) (then (both _ _ (alone (one_ident i.0 j.0)) (last itself)))))
-  type_each p i None q j (Some b) = under (then (both _ _ (one_optional path_tree path_eq one_path p q) (then (both _ _ (alone (one_ident i.0 j.0)) (last (apart (λ e. cc)))))))
-  type_each p i (Some a) q j None = under (then (both _ _ (one_optional path_tree path_eq one_path p q) (then (both _ _ (alone (one_ident i.0 j.0)) (last (apart (λ e. cc)))))))
-  type_each p i (Some a) q j (Some b) = under (then (both _ _ (one_optional path_tree path_eq one_path p q) (then (both _ _ (alone (one_ident i.0 j.0)) (last (under (last (under (arguments_each a.items b.items)))))))))
+  type_each p i None q j None = under (then (both _ _ (one_optional boxed_path same_boxed_path one_boxed_path p q) (then (both _ _ (alone (one_ident i.0 j.0)) (last itself)))))
+  type_each p i None q j (Some b) = under (then (both _ _ (one_optional boxed_path same_boxed_path one_boxed_path p q) (then (both _ _ (alone (one_ident i.0 j.0)) (last (apart (λ e. cc)))))))
+  type_each p i (Some a) q j None = under (then (both _ _ (one_optional boxed_path same_boxed_path one_boxed_path p q) (then (both _ _ (alone (one_ident i.0 j.0)) (last (apart (λ e. cc)))))))
+  type_each p i (Some a) q j (Some b) = under (then (both _ _ (one_optional boxed_path same_boxed_path one_boxed_path p q) (then (both _ _ (alone (one_ident i.0 j.0)) (last (under (last (under (arguments_each a.items b.items)))))))))
 
 module _ (F : Family) (level : IsLevel F) where
   expression_level_up : (x : Layer) (y : Expression-F (OfExpression F) (OfCall F) (OfArgument F) (OfType F)) → plain_expression F y ≡ x → AtExpression F (roll-Expression x)

@@ -4,7 +4,7 @@ use mathlib.Core.List.{map-map}
 use Rattle.std.specs.Box.{box_value}
 use Rattle.std.specs.Global.{Box}
 use Rattle.wesl_tree_syntax.specs.Tree.{assignment, binary, branch, break, call, call_expression, call_statement, clauses, compound, compound_statement, continue, continuing, decrement, discard, else_clause, else_if_clause, for_loop, forest_of, if_clause, if_statement, import_entry, increment, indexing, list, literal, loop, named_component, parenthesized, reference, return, statements, switch, switch_clause, template_argument, Tree, type_expression, type_or_identifier, while_loop}
-use Rattle.wesl_tree_syntax.specs.View.{argument_step, argument_view, assert_view, attributes_tree, break_if_view, call_step, call_view, clause_step, clause_view, compound_step, compound_view, content_step, content_view, continuing_step, continuing_view, declaration_view, else_if_step, else_if_view, else_step, else_view, entry_step, entry_view, expression_step, expression_tree, expression_view, ident_tree, if_step, if_view, listed, literal_tree, names_tree, optional, path_tree, selector_view, statement_step, statement_tree, statement_view, text_tree, type_step, type_view}
+use Rattle.wesl_tree_syntax.specs.View.{argument_step, argument_view, assert_view, attributes_tree, boxed_path, break_if_view, call_step, call_view, clause_step, clause_view, compound_step, compound_view, content_step, content_view, continuing_step, continuing_view, declaration_view, else_if_step, else_if_view, else_step, else_view, entry_step, entry_view, expression_step, expression_tree, expression_view, ident_tree, if_step, if_view, listed, literal_tree, names_tree, optional, selector_view, statement_step, statement_tree, statement_view, text_tree, type_step, type_view}
 use Rattle.wesl_tree_syntax.specs.declared.attribute.Attribute.{Attribute}
 use Rattle.wesl_tree_syntax.specs.declared.declaration.ConstAssert.{ConstAssert}
 use Rattle.wesl_tree_syntax.specs.declared.declaration.Declaration.{Declaration}
@@ -58,11 +58,11 @@ pub view_argument : (a : TemplateArg) → argument_view a ≡ branch template_ar
 view_argument a = fold_out-TemplateArg Tree Tree Tree Tree expression_step call_step argument_step type_step a
 
 pub type_of : (t : TypeExpression) (o : Option (Vec TemplateArg Global)) → (out-TypeExpression t).template_args ≡ o
-    → type_view t ≡ branch type_expression (optional path_tree (out-TypeExpression t).path ∷ ident_tree reference (out-TypeExpression t).ident ∷ optional (listed argument_view list) o ∷ [])
+    → type_view t ≡ branch type_expression (optional boxed_path (out-TypeExpression t).path ∷ ident_tree reference (out-TypeExpression t).ident ∷ optional (listed argument_view list) o ∷ [])
 type_of t None is = fold_out-TypeExpression Tree Tree Tree Tree expression_step call_step argument_step type_step t ∙ rw is refl
 type_of t (Some v) is = fold_out-TypeExpression Tree Tree Tree Tree expression_step call_step argument_step type_step t ∙ rw is (simp map-map)
 
-pub view_type : (t : TypeExpression) → type_view t ≡ branch type_expression (optional path_tree (out-TypeExpression t).path ∷ ident_tree reference (out-TypeExpression t).ident ∷ optional (listed argument_view list) (out-TypeExpression t).template_args ∷ [])
+pub view_type : (t : TypeExpression) → type_view t ≡ branch type_expression (optional boxed_path (out-TypeExpression t).path ∷ ident_tree reference (out-TypeExpression t).ident ∷ optional (listed argument_view list) (out-TypeExpression t).template_args ∷ [])
 view_type t = type_of t (out-TypeExpression t).template_args refl
 
 pub view_compound : (b : CompoundStatement) → compound_view b ≡ branch compound (attributes_tree (out-CompoundStatement b).attributes ∷ listed statement_tree statements (out-CompoundStatement b).statements ∷ [])

@@ -126,7 +126,7 @@ impl Tables<'_> {
     pub(crate) fn same_type(&self, left: &TypeExpression, right: &TypeExpression) -> bool
         ensures { result ≡ same_in self.now (type_view left.now) (type_view right.now) }
     {
-        self.same_path(&left.path, &right.path)
+        self.same_boxed_path(&left.path, &right.path)
             && (self.same_ident(left.ident, right.ident)
                 && match (&left.template_args, &right.template_args) {
                     (None, None) => true,

@@ -2,7 +2,7 @@
 ghost use Rattle.std.specs.Prelude.{◌≡◌, [], get_or, bytes_eq};
 ghost use Rattle.wesl_tree_names.specs.Path.{path_view, same_origin, origin_view};
 ghost use Rattle.wesl_tree_spelling.specs.Same.{same_texts as texts_agree, same_span as spans_agree};
-ghost use Rattle.wesl_tree_syntax.specs.View.{optional, path_tree, texts_of};
+ghost use Rattle.wesl_tree_syntax.specs.View.{boxed_path, optional, path_tree, texts_of};
 
 use wesl_tree_names::{Ident, ModulePath, Names, PathOrigin, Span};
 
@@ -73,6 +73,24 @@ impl Tables<'_> {
     #[tactic(auto, using(crate::proofs::Bools::steps))]
     pub(crate) fn same_path(&self, left: &Option<ModulePath>, right: &Option<ModulePath>) -> bool
         ensures { result ≡ same_in self.now (optional path_tree left.now) (optional path_tree right.now) }
+    {
+        match (left, right) {
+            (None, None) => true,
+            (Some(left), Some(right)) => {
+                same_origin(&left.origin, &right.origin)
+                    && same_texts(&left.components, &right.components)
+            }
+            _ => false,
+        }
+    }
+
+    #[tactic(auto, using(crate::proofs::Bools::steps))]
+    pub(crate) fn same_boxed_path(
+        &self,
+        left: &Option<Box<ModulePath>>,
+        right: &Option<Box<ModulePath>>,
+    ) -> bool
+        ensures { result ≡ same_in self.now (optional boxed_path left.now) (optional boxed_path right.now) }
     {
         match (left, right) {
             (None, None) => true,

@@ -1,6 +1,7 @@
 -- The tree that each node type stands for: its fields in document order, attributes first.
 use Rattle.std.specs.Prelude.{List, [], ◌∷◌, map, String, string_bytes, Vec, Option, Some, None}
 use Rattle.std.specs.Box.{box_value}
+use Rattle.std.specs.Global.{Box}
 use Rattle.std.specs.declared.alloc.Global.{Global}
 use Rattle.wesl_tree_syntax.specs.Tree.{Kind, Role, Tree, leaf, forest_of, branch, binder, reference, word, kind, at, ident, text, texts, truth, unary, binary, assignment, space, access, path, expression_node, statement_node, attribute_node, member_node, import_node, directive_node, declaration_node, literal, parenthesized, named_component, indexing, call_expression, call, type_or_identifier, type_expression, template_argument, list, present, absent, attributes, statements, clauses, members, parameters, align, binding, blend_src, builtin, const_attribute, diagnostic, group, id, interpolate, invariant_attribute, location, must_use, size, workgroup_size, vertex, fragment, compute, publish, if_attribute, elif_attribute, else_attribute, custom, void, compound_statement, compound, increment, decrement, if_statement, if_clause, else_if_clause, else_clause, switch, switch_clause, default_case, expression_case, loop, continuing, break_if, for_loop, while_loop, break, continue, return, discard, call_statement, const_assert, import_statement, import_item, import_collection, import_entry, diagnostic_directive, enable_directive, requires_directive, type_alias, struct, member, function, parameter, declaration, const_kind, override_kind, let_kind, var_kind, imports, directive_list, declarations}
 use Rattle.wesl_tree_names.specs.Path.{Text, path_view}
@@ -71,6 +72,10 @@ texts_of v = map string_bytes v.items
 abbrev pub path_tree : ModulePath → Tree
 path_tree p = leaf (path (path_view p))
 
+-- a path in a box is seen as the path
+abbrev pub boxed_path : Box ModulePath → Tree
+boxed_path p = path_tree (box_value p)
+
 abbrev pub text_tree : String Global → Tree
 text_tree s = leaf (text (string_bytes s))
 
@@ -99,7 +104,7 @@ abbrev pub argument_step : TemplateArg-F Tree Tree Tree Tree → Tree
 argument_step a = branch template_argument (placed (λ t. t) expression_node a.expression ∷ [])
 
 abbrev pub type_step : TypeExpression-F Tree Tree Tree Tree → Tree
-type_step t = branch type_expression (optional path_tree t.path ∷ ident_tree reference t.ident ∷ optional (listed (λ t. t) list) t.template_args ∷ [])
+type_step t = branch type_expression (optional boxed_path t.path ∷ ident_tree reference t.ident ∷ optional (listed (λ t. t) list) t.template_args ∷ [])
 
 abbrev pub expression_view : Expression → Tree
 expression_view = fold-Expression Tree Tree Tree Tree expression_step call_step argument_step type_step

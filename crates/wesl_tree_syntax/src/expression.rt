@@ -133,7 +133,7 @@ pub struct FunctionCall {
 #[derive(PartialEq)]
 pub struct TypeExpression {
     /// the path of the module that declares it, where the name is qualified
-    pub path: Option<ModulePath>,
+    pub path: Option<Box<ModulePath>>,
     /// the name
     pub ident: Ident,
     /// the template list after the name, if there is one, also an empty one

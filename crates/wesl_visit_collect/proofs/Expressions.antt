@@ -4,7 +4,7 @@ use mathlib.Core.List.{map-map}
 use Rattle.std.specs.Box.{box_value}
 use Rattle.std.specs.Global.{Box}
 use Rattle.wesl_tree_syntax.specs.Tree.{binary, branch, call, call_expression, forest_of, indexing, list, literal, named_component, parenthesized, reference, template_argument, Tree, type_expression, type_or_identifier, unary}
-use Rattle.wesl_tree_syntax.specs.View.{argument_step, argument_view, call_step, call_view, expression_step, expression_tree, expression_view, listed, literal_tree, ident_tree, optional, path_tree, text_tree, type_step, type_view}
+use Rattle.wesl_tree_syntax.specs.View.{argument_step, argument_view, call_step, call_view, expression_step, expression_tree, expression_view, listed, literal_tree, ident_tree, optional, boxed_path, text_tree, type_step, type_view}
 use Rattle.wesl_tree_syntax.specs.declared.span.Spanned.{Spanned}
 use Rattle.wesl_tree_syntax.specs.declared.expression.BinaryOperator.{BinaryOperator}
 use Rattle.wesl_tree_syntax.specs.declared.expression.UnaryOperator.{UnaryOperator}
@@ -47,9 +47,9 @@ pub view_argument : (a : TemplateArg) → argument_view a ≡ branch template_ar
 view_argument a = fold_out-TemplateArg Tree Tree Tree Tree expression_step call_step argument_step type_step a
 
 type_of : (t : TypeExpression) (o : Option (Vec TemplateArg Global)) → (out-TypeExpression t).template_args ≡ o
-    → type_view t ≡ branch type_expression (optional path_tree (out-TypeExpression t).path ∷ ident_tree reference (out-TypeExpression t).ident ∷ optional (listed argument_view list) o ∷ [])
+    → type_view t ≡ branch type_expression (optional boxed_path (out-TypeExpression t).path ∷ ident_tree reference (out-TypeExpression t).ident ∷ optional (listed argument_view list) o ∷ [])
 type_of t None is = fold_out-TypeExpression Tree Tree Tree Tree expression_step call_step argument_step type_step t ∙ rw is refl
 type_of t (Some v) is = fold_out-TypeExpression Tree Tree Tree Tree expression_step call_step argument_step type_step t ∙ rw is (simp map-map)
 
-pub view_type : (t : TypeExpression) → type_view t ≡ branch type_expression (optional path_tree (out-TypeExpression t).path ∷ ident_tree reference (out-TypeExpression t).ident ∷ optional (listed argument_view list) (out-TypeExpression t).template_args ∷ [])
+pub view_type : (t : TypeExpression) → type_view t ≡ branch type_expression (optional boxed_path (out-TypeExpression t).path ∷ ident_tree reference (out-TypeExpression t).ident ∷ optional (listed argument_view list) (out-TypeExpression t).template_args ∷ [])
 view_type t = type_of t (out-TypeExpression t).template_args refl

@@ -1,8 +1,9 @@
 -- What is added for types, with template arguments and without; and what holds no node of any kind.
 use Rattle.std.proofs.Common.{◌≡◌, true, refl, sym, subst, map, Vec, Global, [], ◌∷◌, Option, None, Some}
+use Rattle.std.specs.Global.{Box}
 use Rattle.wesl_tree_names.specs.declared.path.ModulePath.{ModulePath}
 use Rattle.wesl_tree_syntax.specs.Tree.{Forest, Tree, absent, before, branch, end, forest_of, kind, leaf, list, literal, present, reference}
-use Rattle.wesl_tree_syntax.specs.View.{argument_view, ident_tree, kind_tree, listed, literal_tree, optional, path_tree, type_view}
+use Rattle.wesl_tree_syntax.specs.View.{argument_view, boxed_path, ident_tree, kind_tree, listed, literal_tree, optional, type_view}
 use Rattle.wesl_tree_syntax.specs.declared.declaration.DeclarationKind.{DeclarationKind}
 use Rattle.wesl_tree_syntax.specs.declared.declaration.DeclarationKind.TheVariants as kinds
 use Rattle.wesl_tree_syntax.specs.declared.expression.Literal.{Literal}
@@ -16,7 +17,7 @@ use Rattle.wesl_visit_collect.specs.declared.collected.Collected.{Collected}
 use Rattle.wesl_visit_collect.proofs.Adds.{beside, hollow, inside}
 use Rattle.wesl_visit_collect.proofs.Expressions.{view_type}
 
-path_hollow : (p : Option ModulePath) (f : Forest) → all_of hollow_label f ≡ true → all_of hollow_label (before (optional path_tree p) f) ≡ true
+path_hollow : (p : Option (Box ModulePath)) (f : Forest) → all_of hollow_label f ≡ true → all_of hollow_label (before (optional boxed_path p) f) ≡ true
 path_hollow None f h = h
 path_hollow (Some p) f h = h
 
@@ -35,7 +36,7 @@ literal_hollow (literals.Text s) = refl
 module _ {T : Type 0} {k : Sought} {view : T → Tree} {a b : Collected T} where
   of_type : (t : TypeExpression) (o : Option (Vec TemplateArg Global)) → (out-TypeExpression t).template_args ≡ o → Adds k view a (before (optional (listed argument_view list) o) end) b → Adds k view a (type_view t).children b
   of_type t o is w =
-      subst (λ x. Adds k view a x.children b) (sym (view_type t)) (beside (hollow (before (optional path_tree (out-TypeExpression t).path) end) (path_hollow _ end refl))
+      subst (λ x. Adds k view a x.children b) (sym (view_type t)) (beside (hollow (before (optional boxed_path (out-TypeExpression t).path) end) (path_hollow _ end refl))
       (beside (hollow (before (ident_tree reference (out-TypeExpression t).ident) end) refl) (subst (λ x. Adds k view a (before (optional (listed argument_view list) x) end) b) (sym is) w)))
 
   pub type_some : (t : TypeExpression) (v : Vec TemplateArg Global) → (out-TypeExpression t).template_args ≡ Some v → Adds k view a (forest_of (map argument_view v.items)) b → Adds k view a (type_view t).children b

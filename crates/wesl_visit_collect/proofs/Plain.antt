@@ -1,5 +1,6 @@
 -- Expressions and types hold no words, no statements and no attributes.
 use Rattle.std.proofs.Common.{◌≡◌, Bool, true, false, ◌&&◌, List, [], ◌∷◌, map, refl, sym, subst, Vec, Global, Option, None, Some}
+use Rattle.std.specs.Global.{Box}
 use Rattle.wesl_tree_names.specs.declared.path.ModulePath.{ModulePath}
 use Rattle.wesl_tree_names.specs.declared.Ident.{Ident}
 use Rattle.wesl_tree_syntax.specs.Tree.{Label, Forest, Tree, end, tree, forest_of, kind, at, attributes, expression_node, statement_node}
@@ -75,7 +76,7 @@ arguments_each : (xs : List Plain_argument) → plain (forest_of (map (λ t. t) 
 arguments_each [] = refl
 arguments_each (x ∷ xs) = rw (x.1, arguments_each xs) refl
 
-type_each : (p : Option ModulePath) (i : Ident) (o : Option (Vec Plain_argument Global))
+type_each : (p : Option (Box ModulePath)) (i : Ident) (o : Option (Vec Plain_argument Global))
     → IsPlain (type_seen (map-TypeExpression Plain_expression Plain_call Plain_argument Plain_type Expression FunctionCall TemplateArg TypeExpression (λ e. e.0) (λ e. e.0) (λ e. e.0) (λ e. e.0) (record { path = p; ident = i; template_args = o })))
 type_each None i None = refl
 type_each (Some p) i None = refl

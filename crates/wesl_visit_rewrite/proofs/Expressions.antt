@@ -6,7 +6,7 @@ use Rattle.std.specs.Global.{Box}
 use Rattle.wesl_tree_names.specs.declared.path.ModulePath.{ModulePath}
 use Rattle.wesl_tree_names.specs.declared.names.Ident.{Ident}
 use Rattle.wesl_tree_syntax.specs.Tree.{absent, before, end, Forest, leaf, present, tree, binary, branch, call, call_expression, forest_of, indexing, kind, list, literal, named_component, parenthesized, reference, template_argument, Tree, type_expression, type_or_identifier, unary}
-use Rattle.wesl_tree_syntax.specs.View.{argument_step, argument_view, call_step, call_view, expression_step, expression_tree, expression_view, ident_tree, listed, literal_tree, optional, path_tree, text_tree, type_step, type_view}
+use Rattle.wesl_tree_syntax.specs.View.{argument_step, argument_view, boxed_path, call_step, call_view, expression_step, expression_tree, expression_view, ident_tree, listed, literal_tree, optional, text_tree, type_step, type_view}
 use Rattle.wesl_tree_syntax.specs.declared.span.Spanned.{Spanned}
 use Rattle.wesl_tree_syntax.specs.declared.expression.BinaryOperator.{BinaryOperator}
 use Rattle.wesl_tree_syntax.specs.declared.expression.UnaryOperator.{UnaryOperator}
@@ -65,12 +65,12 @@ view_argument a = fold_out-TemplateArg Tree Tree Tree Tree expression_step call_
 pub view_argument_of : (e : Spanned Expression) → argument_view (roll-TemplateArg (record { expression = e })) ≡ branch template_argument (expression_tree e ∷ [])
 view_argument_of e = fold-roll-TemplateArg Tree Tree Tree Tree expression_step call_step argument_step type_step (record { expression = e })
 
-pub view_type_of : (p : Option ModulePath) (i : Ident) (o : Option (Vec TemplateArg Global)) → type_view (roll-TypeExpression (record { path = p; ident = i; template_args = o }))
-    ≡ branch type_expression (optional path_tree p ∷ ident_tree reference i ∷ optional (listed argument_view list) o ∷ [])
+pub view_type_of : (p : Option (Box ModulePath)) (i : Ident) (o : Option (Vec TemplateArg Global)) → type_view (roll-TypeExpression (record { path = p; ident = i; template_args = o }))
+    ≡ branch type_expression (optional boxed_path p ∷ ident_tree reference i ∷ optional (listed argument_view list) o ∷ [])
 view_type_of p i None = fold-roll-TypeExpression Tree Tree Tree Tree expression_step call_step argument_step type_step (record { path = p; ident = i; template_args = None })
 view_type_of p i (Some v) = fold-roll-TypeExpression Tree Tree Tree Tree expression_step call_step argument_step type_step (record { path = p; ident = i; template_args = Some v }) ∙ simp map-map
 
-pub view_type : (t : TypeExpression) → type_view t ≡ branch type_expression (optional path_tree (out-TypeExpression t).path ∷ ident_tree reference (out-TypeExpression t).ident ∷ optional (listed argument_view list) (out-TypeExpression t).template_args ∷ [])
+pub view_type : (t : TypeExpression) → type_view t ≡ branch type_expression (optional boxed_path (out-TypeExpression t).path ∷ ident_tree reference (out-TypeExpression t).ident ∷ optional (listed argument_view list) (out-TypeExpression t).template_args ∷ [])
 view_type t = ap type_view (sym (roll-out-TypeExpression t)) ∙ view_type_of (out-TypeExpression t).path (out-TypeExpression t).ident (out-TypeExpression t).template_args
 
 pub literal_hollow : (l : Literal) → all_of hollow_label (before (branch literal (literal_tree l ∷ [])) end) ≡ true
@@ -78,9 +78,9 @@ literal_hollow (literals.Bool b) = refl
 literal_hollow (literals.Text s) = refl
 
 abbrev type_of : TypeExpression → Option (Vec TemplateArg Global) → Tree
-type_of t o = branch type_expression (optional path_tree (out-TypeExpression t).path ∷ ident_tree reference (out-TypeExpression t).ident ∷ optional (listed argument_view list) o ∷ [])
+type_of t o = branch type_expression (optional boxed_path (out-TypeExpression t).path ∷ ident_tree reference (out-TypeExpression t).ident ∷ optional (listed argument_view list) o ∷ [])
 
-path_hollow : (p : Option ModulePath) (f : Forest) → all_of hollow_label f ≡ true → all_of hollow_label (before (optional path_tree p) f) ≡ true
+path_hollow : (p : Option (Box ModulePath)) (f : Forest) → all_of hollow_label f ≡ true → all_of hollow_label (before (optional boxed_path p) f) ≡ true
 path_hollow None f h = h
 path_hollow (Some p) f h = h
 

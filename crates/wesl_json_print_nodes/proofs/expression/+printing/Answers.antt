@@ -4,7 +4,7 @@ use Rattle.std.specs.Box.{box_value}
 use Rattle.std.proofs.Common.{ap, codes, refl, rules, sym, ◌∙◌}
 use Rattle.std.proofs.lemmas.Grind.{common_steps}
 use Rattle.wesl_tree_syntax.specs.Tree.{expression_node}
-use Rattle.wesl_tree_syntax.specs.View.{argument_view, expression_tree, expression_view, path_tree, type_view}
+use Rattle.wesl_tree_syntax.specs.View.{argument_view, boxed_path, expression_tree, expression_view, type_view}
 use Rattle.wesl_json_form.specs.Schema.{a_path, a_template_argument, a_type, an_expression, leaf, node}
 use Rattle.wesl_json_write.proofs.Lists.{placed-value}
 use Rattle.wesl_json_write.proofs.Within.{written-argument}
@@ -96,7 +96,7 @@ print_type-returns-in-None t c = plain_type c.args.spans c.args.names.now c.args
 
 pub print_type-returns-in-Some : goal.print_type-returns-in-Some
 print_type-returns-in-Some t c =
-    let steps = then c.begin.ensures (then (keyed c.key.ensures c.print_type_arguments.ensures) (then c.text_at.ensures (then (option_added c.args.spans c.args.names.now (codes "path") (leaf a_path) path_tree _ c.print_optional_path.ensures) (then (span_added c.args.spans expression_node c.args.span (c.span.ensures expression_node)) c.close.ensures)))) in
+    let steps = then c.begin.ensures (then (keyed c.key.ensures c.print_type_arguments.ensures) (then c.text_at.ensures (then (option_added c.args.spans c.args.names.now (codes "path") (leaf a_path) boxed_path _ c.print_optional_path.ensures) (then (span_added c.args.spans expression_node c.args.span (c.span.ensures expression_node)) c.close.ensures)))) in
     argued_type c.args.spans c.args.names.now c.args.span c.args.ty.now c.in-Some.arguments _ (search rules) c.spelling.ensures steps
 
 pub print_type_at-returns : goal.print_type_at-returns

@@ -1,6 +1,11 @@
-use Rattle.std.proofs.Common.{rules}
+use Rattle.std.proofs.Common.{ap, rules}
+use Rattle.json.specs.Tree.{json_tokens}
+use Rattle.serde_json.specs.Data.{string}
+use Rattle.serde_json.specs.Written.{outline}
+use Rattle.wesl_tree_names.specs.Path.{path_view}
+use Rattle.wesl_tree_names.specs.PathText.{to_text}
 use Rattle.wesl_tree_syntax.specs.Tree.{expression_node}
-use Rattle.wesl_json_print_nodes.proofs.Adding.{keyed, then}
+use Rattle.wesl_json_print_nodes.proofs.Adding.{keyed, then, told}
 use Rattle.wesl_json_print_nodes.proofs.Parts.{span_added}
 use Rattle.wesl_json_print_nodes.proofs.Expressions.{pathed_name, plain_name}
 use Rattle.wesl_json_print_nodes.proofs.expression.print_plain_type.Goals as goal
@@ -10,5 +15,5 @@ returns-in-None c = plain_name c.args.spans c.args.names.now c.args.span c.args.
 
 pub returns-in-Some : goal.returns-in-Some
 returns-in-Some c =
-    let steps = then c.begin.ensures (then c.text_at.ensures (then (keyed c.key.ensures c.path.ensures) (then (span_added c.args.spans expression_node c.args.span (c.span.ensures expression_node)) c.close.ensures))) in
+    let steps = then c.begin.ensures (then c.text_at.ensures (then (keyed c.key.ensures (told (ap (λ p. json_tokens (outline (string (to_text (path_view p))))) c.deref.ensures) c.path.ensures)) (then (span_added c.args.spans expression_node c.args.span (c.span.ensures expression_node)) c.close.ensures))) in
     pathed_name c.args.spans c.args.names.now c.args.span c.args.path.now c.in-Some.path c.args.ident _ (search rules) c.spelling-name.ensures steps

@@ -41,7 +41,7 @@ type_expression-returns t c =
       | type_expression-in-None w ↦ rw (w.result-is, w.self-is, w.in-None.is) (of_kind absent nothing)
       | type_expression-in-Some w ↦ rw (w.result-is, w.self-is, w.in-Some.is) (of_kind present (then w.arguments.ensures nothing))
     ] in
-    seen (view_type c.args.ty.now) (view_type_of _ _ _) (of_kind type_expression (then c.path.ensures (then (c.number.ensures reference) (then inside nothing))))
+    seen (view_type c.args.ty.now) (view_type_of _ _ _) (of_kind type_expression (then c.boxed_path.ensures (then (c.number.ensures reference) (then inside nothing))))
 
 pub node-returns : goal.node-returns
 node-returns t c = of_place expression_view expression_node c.args.node.now c.expression.result c.expression.ensures

@@ -67,19 +67,19 @@ same_call-returns-else-same_type t c = seen c.args.self.now (view_call c.args.le
 pub same_type-returns-in-None-None : goal.same_type-returns-in-None-None
 same_type-returns-in-None-None t c =
     seen c.args.self.now (type_of c.args.left.now None c.in-None-None.is-0) (type_of c.args.right.now None c.in-None-None.is-1)
-    (of_kind type_expression refl (then c.same_path.ensures c.if-same_path.true (then (c.same_ident.ensures ∙ sym (and_true _)) c.if-same_ident.true (last refl))))
+    (of_kind type_expression refl (then c.same_boxed_path.ensures c.if-same_boxed_path.true (then (c.same_ident.ensures ∙ sym (and_true _)) c.if-same_ident.true (last refl))))
 
 pub same_type-returns-in-Some-Some : goal.same_type-returns-in-Some-Some
 same_type-returns-in-Some-Some t c =
     seen c.args.self.now (type_of c.args.left.now (Some c.in-Some-Some.left) c.in-Some-Some.is-0) (type_of c.args.right.now (Some c.in-Some-Some.right) c.in-Some-Some.is-1)
-    (of_kind type_expression refl (then c.same_path.ensures c.if-same_path.true (then (c.same_ident.ensures ∙ sym (and_true _)) c.if-same_ident.true (last (c.same_arguments.ensures ∙ sym (and_true _))))))
+    (of_kind type_expression refl (then c.same_boxed_path.ensures c.if-same_boxed_path.true (then (c.same_ident.ensures ∙ sym (and_true _)) c.if-same_ident.true (last (c.same_arguments.ensures ∙ sym (and_true _))))))
 
 pub same_type-returns-else-same_ident : goal.same_type-returns-else-same_ident
 same_type-returns-else-same_ident t c =
-    seen c.args.self.now (view_type c.args.left.now) (view_type c.args.right.now) (of_kind type_expression refl (then c.same_path.ensures c.if-same_path.true (stop (c.same_ident.ensures ∙ sym (and_true _)) c.if-same_ident.false)))
+    seen c.args.self.now (view_type c.args.left.now) (view_type c.args.right.now) (of_kind type_expression refl (then c.same_boxed_path.ensures c.if-same_boxed_path.true (stop (c.same_ident.ensures ∙ sym (and_true _)) c.if-same_ident.false)))
 
-pub same_type-returns-else-same_path : goal.same_type-returns-else-same_path
-same_type-returns-else-same_path t c = seen c.args.self.now (view_type c.args.left.now) (view_type c.args.right.now) (of_kind type_expression refl (stop c.same_path.ensures c.if-same_path.false))
+pub same_type-returns-else-same_boxed_path : goal.same_type-returns-else-same_boxed_path
+same_type-returns-else-same_boxed_path t c = seen c.args.self.now (view_type c.args.left.now) (view_type c.args.right.now) (of_kind type_expression refl (stop c.same_boxed_path.ensures c.if-same_boxed_path.false))
 
 pub same_expression-returns-in-Literal-Literal : goal.same_expression-returns-in-Literal-Literal
 same_expression-returns-in-Literal-Literal t c =
