@@ -10,7 +10,7 @@ use Rattle.wesl_link_symbols.specs.declared.symbols.Reference.{Reference}
 use Rattle.wesl_link_tables.specs.Marks.{IsMark}
 use Rattle.wesl_link_split.specs.ScopeView.{scope_view}
 use Rattle.wesl_link_tables.specs.Numbering.{Numbering, AreRelated, SameReference, Grows, NameAt, PathAt, AreNumberedNames, AreNumberedReferences}
-use Rattle.wesl_link_tables.specs.Reading.{mark_of, Adds, AddsNames, Marks, IsNumberedBy, scope_in, view_in}
+use Rattle.wesl_link_tables.specs.Reading.{mark_of, AddsReferences, AddsNames, Marks, IsNumberedBy, scope_in, view_in}
 use Rattle.wesl_link_tables.specs.Uses.{Use, declares, refers, unclear, local, said, asked, unclear_in}
 use Rattle.wesl_link_tables.specs.declared.marks.Asked.{Asked}
 use Rattle.wesl_link_tables.specs.declared.marks.Mark.{Mark}
@@ -19,7 +19,7 @@ use Rattle.wesl_link_tables.specs.declared.marks.Mark.TheVariants as marks
 use Rattle.wesl_link_tables.proofs.Lists.{related_more, related_append}
 use Rattle.wesl_link_tables.proofs.Related.{name_later, reference_later, references_one, scope_later}
 
-pub adds_none : (nb : Numbering) (rs : List (Reference PathId NameId)) → Adds nb rs rs []
+pub adds_none : (nb : Numbering) (rs : List (Reference PathId NameId)) → AddsReferences nb rs rs []
 adds_none nb rs = ([], sym (append-nil rs), tt)
 
 pub names_none : (nb : Numbering) (old new : List NameId) → new ≡ old → AddsNames nb old new []
@@ -73,8 +73,8 @@ module _ (nb : Numbering) (n : NameId) (x : Text) (old : Asked) (at : NameAt nb 
 -- ---- one more
 
 -- a reference more that says this
-pub adds_next : (a b : Numbering) → Grows a b → (r : Reference PathId NameId) (s : Reference Path Text) (from found : List (Reference PathId NameId)) (so_far : List (Reference Path Text)) → Adds a from found so_far
-    → SameReference (PathAt b) (NameAt b) r s → Adds b from (found ++ r ∷ []) (so_far ++ s ∷ [])
+pub adds_next : (a b : Numbering) → Grows a b → (r : Reference PathId NameId) (s : Reference Path Text) (from found : List (Reference PathId NameId)) (so_far : List (Reference Path Text)) → AddsReferences a from found so_far
+    → SameReference (PathAt b) (NameAt b) r s → AddsReferences b from (found ++ r ∷ []) (so_far ++ s ∷ [])
 adds_next a b g r s from found so_far (added, e, k) same =
     (added ++ r ∷ [], ap (λ l. l ++ r ∷ []) e ∙ append_assoc from added (r ∷ []), references_one a b g added so_far r s k same)
 
@@ -87,7 +87,7 @@ module _ {X Y U : Type 0} (R S : X → Y → Type 0) (later : (x : X) (y : Y) �
 
 module _ (a b : Numbering) (g : Grows a b) (us : List (Use Path Text)) (u : Use Path Text) where
   -- what one identifier more asks for
-  pub asked_next : (old new : List (Reference PathId NameId)) → AreNumberedReferences a old (flat_map asked us) → Adds b old new (asked u) → AreNumberedReferences b new (flat_map asked (us ++ u ∷ []))
+  pub asked_next : (old new : List (Reference PathId NameId)) → AreNumberedReferences a old (flat_map asked us) → AddsReferences b old new (asked u) → AreNumberedReferences b new (flat_map asked (us ++ u ∷ []))
   asked_next old new h k = related_flat (SameReference (PathAt a) (NameAt a)) (SameReference (PathAt b) (NameAt b)) (reference_later a b g) asked old new us u h k
 
   -- and the name that stands for two things

@@ -16,3 +16,4 @@ pub mod Marking
 pub mod Scoping
 pub mod Tabling
 pub mod Looked
+pub mod Placed

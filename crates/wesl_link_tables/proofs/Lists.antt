@@ -53,3 +53,9 @@ module _ {X Y : Type 0} (R S : X → Y → Type 0) (more : (x : X) (y : Y) → R
   related_append (x ∷ xs) us (y ∷ ys) vs h k = (more x y h.0, related_append xs us ys vs h.1 k)
   related_append [] us (y ∷ ys) vs h k = absurd h
   related_append (x ∷ xs) us [] vs h k = absurd h
+
+-- an element of what is made of each
+pub get_mapped : {X Y : Type 0} (f : X → Y) (xs : List X) (i : ℕ) (d : X) → i < length xs → (e : Y) → get_or (map f xs) i e ≡ f (get_or xs i d)
+get_mapped f [] i d h e = absurd (omega (arith, h))
+get_mapped f (x ∷ xs) zero d h e = refl
+get_mapped f (x ∷ xs) (suc i) d h e = get_mapped f xs i d (omega (arith, h)) e

@@ -19,7 +19,7 @@ use Rattle.wesl_link_split.proofs.Agreed.{ask_alike, differ_alike}
 use Rattle.wesl_link_split.proofs.Alike.{first_alike}
 use Rattle.wesl_link_tables.specs.Aims.{spelled_binder}
 use Rattle.wesl_link_tables.specs.Numbering.{Numbering, AreDifferent, Grows, SameBinder, NameAt, PathAt, IsNumberedReference, AreNumberedReferences, AreNumberedBinders}
-use Rattle.wesl_link_tables.specs.Reading.{IsNumberedBy, Adds, Marks, mark_of, own_path, scope_in, plain_in, aimed_in, under_in}
+use Rattle.wesl_link_tables.specs.Reading.{IsNumberedBy, AddsReferences, Marks, mark_of, own_path, scope_in, plain_in, aimed_in, under_in}
 use Rattle.wesl_link_tables.specs.Uses.{Use, unclear, said, texts, package_name, aims, through}
 use Rattle.wesl_link_tables.specs.declared.marks.Asked.{Asked}
 use Rattle.wesl_link_tables.specs.declared.marks.Mark.{Mark}
@@ -86,17 +86,17 @@ module _ (r : Reading) (nb : Numbering) (names : AreDifferent nb.names) (paths :
 
 -- a name under one module more
 pub under_next : (r : Reading) (a b c : Numbering) → AreDifferent c.names → AreDifferent c.paths → Grows a b → Grows b c → IsNumberedBy a r → (here : Place) (n : NameId) (x : Text) → NameAt a n x → (p : PathId)
-    (ms : List ModulePath) (i : ℕ) (m : ModulePath) (from found new : List (Reference PathId NameId)) → Adds b from found (map (λ q. under texts (scope_in r) x here (path_view q)) (take i ms)) → PathAt c p (path_view m) → i < length ms → m ≡ get_or ms i m
+    (ms : List ModulePath) (i : ℕ) (m : ModulePath) (from found new : List (Reference PathId NameId)) → AddsReferences b from found (map (λ q. under texts (scope_in r) x here (path_view q)) (take i ms)) → PathAt c p (path_view m) → i < length ms → m ≡ get_or ms i m
     → (asked : Place) → asked ≡ split.asked_at ids (scope_view r.scope.now) p n here → new ≡ found ++ record { path = p; name = n; from = asked } ∷ []
-    → Adds c from new (map (λ q. under texts (scope_in r) x here (path_view q)) (take (i + 1) ms))
+    → AddsReferences c from new (map (λ q. under texts (scope_in r) x here (path_view q)) (take (i + 1) ms))
 under_next r a b c names paths g h q here n x at p ms i m from found new k held bound is asked asked_is new_is =
     let f : ModulePath → Reference Path Text = λ z. under texts (scope_in r) x here (path_view z) in
     let there : NameAt c n x = name_later b c h n x (name_later a b g n x at) in
     let one : Reference PathId NameId = split.under ids (scope_view r.scope.now) n here p in
     let same : IsNumberedReference c one (f m) = ((alike r c names paths (numbered_later a c (grows_trans a b c g h) r q)).names n x here there).under p (path_view m) held in
     let made : new ≡ found ++ one ∷ [] = new_is ∙ ap (λ z. found ++ record { path = p; name = n; from = z } ∷ []) asked_is in
-    subst (λ rs. Adds c from rs (map f (take (i + 1) ms))) (sym made)
-    (subst (λ ss. Adds c from (found ++ one ∷ []) ss) (sym (map_next f ms i m bound is)) (adds_next b c h one (f m) from found (map f (take i ms)) k same))
+    subst (λ rs. AddsReferences c from rs (map f (take (i + 1) ms))) (sym made)
+    (subst (λ ss. AddsReferences c from (found ++ one ∷ []) ss) (sym (map_next f ms i m bound is)) (adds_next b c h one (f m) from found (map f (take i ms)) k same))
 
 -- a name under modules that stand for a path
 pub under_marked : (r : Reading) (a b : Numbering) → Grows a b → (here : Place) (n : NameId) (x : Text) → NameAt a n x → (is : List (Binder PathId NameId)) (bs : List (Binder Path Text)) → AreNumberedBinders a is bs → (path : ModulePath)

@@ -1,61 +1,39 @@
 -- What an identifier is among all of its module, as the code sees it.
-use Rattle.std.proofs.Common.{◌≡◌, ℕ, zero, suc, ◌+◌, ◌<◌, ◌≤◌, List, [], ◌∷◌, map, length, get_or, arith, refl, sym, subst, ap, ◌∙◌}
-use Rattle.std.proofs.lemmas.List.{length-map}
+use Rattle.std.proofs.Common.{◌≡◌, ℕ, zero, suc, ◌+◌, ◌<◌, ◌≤◌, Bool, true, false, None, List, [], ◌∷◌, map, length, get_or, arith, refl, sym, subst, ap, ◌∙◌}
+use Rattle.std.proofs.lemmas.List.{length-map, drop_all}
 use denote.Ref.{Bor}
-use Rattle.wesl_tree_names.specs.Path.{Text, Path}
+use Rattle.wesl_tree_names.specs.Path.{Text, Path, path_view}
+use Rattle.wesl_tree_names.specs.declared.names.Ident.{Ident}
 use Rattle.wesl_tree_names.specs.declared.path.ModulePath.{ModulePath}
+use Rattle.wesl_tree_syntax.specs.Tree.{TreeOf}
 use Rattle.wesl_tree_syntax.specs.Unit.{name_in}
 use Rattle.wesl_cond_choices.specs.declared.place.Place.{Place}
 use Rattle.wesl_cond_choices.specs.declared.place.Place.TheVariants.{Name}
 use Rattle.wesl_tree_base.specs.declared.ids.NameId.{NameId}
-use Rattle.wesl_scope_occurrences.specs.Laws.{renamed, SpellingKeepsOccurrences}
 use Rattle.wesl_scope_occurrences.specs.Occurrences as spec
-use Rattle.wesl_scope_occurrences.specs.Occurrences.{occurrences}
-use Rattle.wesl_scope_occurrences.specs.Views.{occurrence_view, standing_view}
-use Rattle.wesl_scope_occurrences.specs.Ways.{way, told}
-use Rattle.wesl_scope_occurrences.specs.declared.occurrence.Occurrence.{Occurrence}
-use Rattle.wesl_scope_occurrences.specs.declared.occurrence.Standing.{Standing}
-use Rattle.wesl_scope_occurrences.specs.declared.occurrence.Standing.TheVariants as standings
-use Rattle.wesl_scope_meanings.specs.Keys.{key_view, IsKeyBelow}
-use Rattle.wesl_scope_meanings.specs.Scopes as scopes
-use Rattle.wesl_scope_meanings.specs.Scopes.{key_of}
-use Rattle.wesl_scope_meanings.specs.declared.keys.Key.{Key}
-use Rattle.wesl_scope_meanings.specs.declared.keys.Key.TheVariants as made
-use Rattle.wesl_link_tables.specs.Numbering.{Numbering, NameAt}
-use Rattle.wesl_link_tables.specs.Reading.{IsRead, IsNumberedBy, Marks, view_in, unit_in, scope_in, all_uses, use_at, plain_in, aimed_in, meant_by}
-use Rattle.wesl_tree_syntax.specs.Tree.{TreeOf}
+use Rattle.wesl_scope_occurrences.specs.Occurrences.{Standing, module_name, parameter, local as local_name, reference, word, occurrences}
+use Rattle.wesl_scope_occurrences.specs.Ways.{way}
+use Rattle.wesl_scope_occurrences.proofs.Joined.{way_module, way_unfolds}
+use Rattle.wesl_scope_meanings.specs.Scopes.{Key, bound, key_of}
+use Rattle.wesl_scope_meanings.specs.Sensed as read_as
+use Rattle.wesl_scope_meanings.specs.Sensed.{of_module, number_in}
+use Rattle.wesl_scope_meanings.specs.Senses.{IsSenseBelow, sense_view, key_in, by_name, first_path, manner_as, manner_of, manner_in}
+use Rattle.wesl_scope_meanings.specs.Read.{senses_in, paths_in, name_read, told_by, is_declared_in, means}
+use Rattle.wesl_scope_meanings.specs.declared.sense.Sense.{Sense}
+use Rattle.wesl_scope_meanings.specs.declared.sense.Sense.TheVariants as made
+use Rattle.wesl_scope_meanings.proofs.Keyed.{first_at}
 use Rattle.wesl_link_symbols.specs.Tables.{Declaration}
 use Rattle.wesl_link_split.specs.Split.{Scope}
-use Rattle.wesl_link_tables.specs.Tables.{paired, declaration_of, declarations_from}
-use Rattle.wesl_link_tables.specs.Uses.{Use, local, meant, use_as}
+use Rattle.wesl_link_tables.specs.Numbering.{Numbering, NameAt}
+use Rattle.wesl_link_tables.specs.Reading.{IsRead, IsNumberedBy, Marks, view_in, unit_in, scope_in, all_uses, use_at, plain_in, aimed_in, use_read, used_as}
+use Rattle.wesl_link_tables.specs.Tables.{declaration_of, declarations_from}
+use Rattle.wesl_link_tables.specs.Uses.{Use, local, meant, use_as, use_of}
 use Rattle.wesl_link_tables.specs.declared.marks.Asked.{Asked}
 use Rattle.wesl_link_tables.specs.declared.marks.Mark.{Mark}
 use Rattle.wesl_link_tables.specs.declared.reading.Reading.{Reading}
+use Rattle.wesl_link_tables.proofs.Lists.{get_mapped}
 use Rattle.wesl_link_tables.proofs.Naming.{related_length, related_at}
-use Rattle.wesl_scope_occurrences.proofs.Joined.{way_module}
-
--- ---- one element of each of two lists
-
-module _ {X Y Z : Type 0} where
-  paired_itself : (g : X → Y → Z) (h : X → Y) (xs : List X) → map (λ x. g x (h x)) xs ≡ paired g xs (map h xs)
-  paired_itself g h [] = refl
-  paired_itself g h (x ∷ xs) = ap (λ zs. g x (h x) ∷ zs) (paired_itself g h xs)
-
-  paired_left : {U : Type 0} (g : X → Y → Z) (f : U → X) (us : List U) (ys : List Y) → paired g (map f us) ys ≡ paired (λ u y. g (f u) y) us ys
-  paired_left g f [] ys = refl
-  paired_left g f (u ∷ us) [] = refl
-  paired_left g f (u ∷ us) (y ∷ ys) = ap (λ zs. g (f u) y ∷ zs) (paired_left g f us ys)
-
-  paired_right : {V : Type 0} (g : X → Y → Z) (f : V → Y) (xs : List X) (vs : List V) → paired g xs (map f vs) ≡ paired (λ x v. g x (f v)) xs vs
-  paired_right g f [] vs = refl
-  paired_right g f (x ∷ xs) [] = refl
-  paired_right g f (x ∷ xs) (v ∷ vs) = ap (λ zs. g x (f v) ∷ zs) (paired_right g f xs vs)
-
-  paired_at : (g : X → Y → Z) (xs : List X) (ys : List Y) (i : ℕ) (x : X) (y : Y) (z : Z) → i < length xs → i < length ys → x ≡ get_or xs i x → y ≡ get_or ys i y → get_or (paired g xs ys) i z ≡ g x y
-  paired_at g [] ys i x y z h k e f = absurd (omega (arith, h))
-  paired_at g (a ∷ xs) [] i x y z h k e f = absurd (omega (arith, k))
-  paired_at g (a ∷ xs) (b ∷ ys) zero x y z h k e f = ap (λ u. g u b) (sym e) ∙ ap (g x) (sym f)
-  paired_at g (a ∷ xs) (b ∷ ys) (suc i) x y z h k e f = paired_at g xs ys i x y z (omega (arith, h)) (omega (arith, k)) e f
+use Rattle.wesl_link_tables.proofs.Placed.{place_there}
 
 -- ---- the declarations of a table
 
@@ -75,97 +53,111 @@ module _ (s : Scope Path Text) where
 
 -- ---- the identifiers of a module that is read
 
-module _ (r : Reading) (read : IsRead r) (law : SpellingKeepsOccurrences) where
-  abbrev all : List Occurrence
-  all = r.meanings.now.found.all.items
+use_manner : (s : Scope Path Text) (here : Place) (r : Standing) (x : Text) (k : Key) → use_as s here r x k ≡ use_read s here (manner_as r) x k
+use_manner s here module_name x k = refl
+use_manner s here parameter x k = refl
+use_manner s here (local_name e) x k = refl
+use_manner s here (reference p) x k = refl
+use_manner s here word x k = refl
 
-  abbrev all_keys : List Key
-  all_keys = r.meanings.now.keys.items
+any_one : spec.Occurrence Text
+any_one = record { role = word; name = []; place = 0; block = []; declaration = None; excused = false }
 
-  abbrev block_way : ℕ → spec.Block
-  block_way = way r.meanings.now.found.outer.items
+module _ (r : Reading) (read : IsRead r) where
+  abbrev all : List Sense
+  all = r.senses.now.all.items
 
-  abbrev used : Place → spec.Standing → Text → scopes.Key → Use Path Text
-  used here s x k = use_as (scope_in r) here s x k
+  abbrev os : List (spec.Occurrence Text)
+  os = occurrences (unit_in r)
 
-  abbrev pub use_seen : Occurrence → Key → Use Path Text
-  use_seen o k = used (Name o.place) (standing_view o.standing) (name_in (view_in r).names o.ident.0) (key_view block_way k)
-
-  occurrences_are : occurrences (unit_in r) ≡ map (renamed (name_in (view_in r).names)) (map (told block_way) (map occurrence_view all))
-  occurrences_are = law (view_in r) ∙ ap (map (renamed (name_in (view_in r).names))) (sym read.found)
-
-  abbrev by_key : spec.Occurrence Text → scopes.Key → Use Path Text
-  by_key o k = used (Name o.place) o.role o.name k
-
-  uses_seen : all_uses r ≡ paired use_seen all all_keys
-  uses_seen =
-      let os : List (spec.Occurrence Text) = occurrences (unit_in r) in
-      let renamed_here : spec.Occurrence ℕ → spec.Occurrence Text = renamed (name_in (view_in r).names) in
-      paired_itself by_key (key_of os) os
-      ∙ (ap (λ ks. paired by_key os ks) (sym read.keys)
-      ∙ (paired_right by_key (key_view block_way) os all_keys
-      ∙ (ap (λ l. paired (λ o k. by_key o (key_view block_way k)) l all_keys) occurrences_are
-      ∙ (paired_left (λ o k. by_key o (key_view block_way k)) renamed_here (map (told block_way) (map occurrence_view all)) all_keys
-      ∙ (paired_left (λ o k. by_key (renamed_here o) (key_view block_way k)) (told block_way) (map occurrence_view all) all_keys
-      ∙ paired_left (λ o k. by_key (renamed_here (told block_way o)) (key_view block_way k)) occurrence_view all all_keys)))))
-
-  count_is : length (occurrences (unit_in r)) ≡ length all
-  count_is = ap length occurrences_are ∙ (length-map _ _ ∙ (length-map _ _ ∙ length-map all occurrence_view))
-
-  pub keys_length : length all_keys ≡ length all
-  keys_length = sym (length-map all_keys (key_view block_way)) ∙ (ap length read.keys ∙ (length-map (occurrences (unit_in r)) (key_of (occurrences (unit_in r))) ∙ count_is))
+  count_is : length os ≡ length all
+  count_is = sym (length-map os manner_of) ∙ (ap length (sym read.senses.manners) ∙ (length-map (senses_in r.senses.now) manner_in ∙ length-map all sense_view))
 
   pub uses_length : length (all_uses r) ≡ length all
-  uses_length = length-map (occurrences (unit_in r)) _ ∙ count_is
+  uses_length = length-map os _ ∙ count_is
 
-  pub use_there : (i : ℕ) (o : Occurrence) (k : Key) → i < length all → o ≡ get_or all i o → k ≡ get_or all_keys i k → use_at r i ≡ use_seen o k
-  use_there i o k h e f =
-      ap (λ us. get_or us i (local 0 [])) uses_seen ∙ paired_at use_seen all all_keys i o k (local 0 []) h (omega (arith, h, keys_length)) e f
+  module _ (i : ℕ) (s : Sense) (bound_i : i < length all) (at : s ≡ get_or all i s) where
+    abbrev o : spec.Occurrence Text
+    o = get_or os i any_one
 
-  -- the mark of an identifier that stands so is its mark among all
-  pub mark_there : (nb : Numbering) (m : Mark) (old new : Asked) (i : ℕ) (o : Occurrence) (k : Key) (s : Standing) → i < length all → o ≡ get_or all i o → k ≡ get_or all_keys i k → o.standing ≡ s
-      → Marks nb m old new (used (Name o.place) (standing_view s) (name_in (view_in r).names o.ident.0) (key_view block_way k)) → Marks nb m old new (use_at r i)
-  mark_there nb m old new i o k s h e f at marked =
-      subst (Marks nb m old new) (sym (use_there i o k h e f ∙ ap (λ t. used (Name o.place) (standing_view t) (name_in (view_in r).names o.ident.0) (key_view block_way k)) at)) marked
+    view_there : get_or (senses_in r.senses.now) i (sense_view s) ≡ sense_view s
+    view_there = get_mapped sense_view all i s bound_i (sense_view s) ∙ ap sense_view (sym at)
 
-  -- and so is that of a parameter, a local declaration or a reference, which is what the name means
-  pub mark_meant : (nb : Numbering) (m : Mark) (old new : Asked) (i : ℕ) (o : Occurrence) (k : Key) → i < length all → o ≡ get_or all i o → k ≡ get_or all_keys i k → (o.standing ≡ standings.ModuleName → ⊥)
-      → (o.standing ≡ standings.Word → ⊥) → Marks nb m old new (meant_by r (Name o.place) k (name_in (view_in r).names o.ident.0)) → Marks nb m old new (use_at r i)
-  mark_meant nb m old new i o k h e f no_name no_word marked = by o.standing refl
+    -- what is the same for each is the same for this one
+    same_at : {X : Type 0} (f : read_as.Sense → X) (g : spec.Occurrence Text → X) → map f (senses_in r.senses.now) ≡ map g os → f (sense_view s) ≡ g o
+    same_at f g e =
+        let d = f (sense_view s) in
+        let read_bound : i < length (senses_in r.senses.now) = omega (arith, bound_i, length-map all sense_view) in
+        ap f (sym view_there) ∙ (sym (get_mapped f (senses_in r.senses.now) i (sense_view s) read_bound d) ∙ (ap (λ l. get_or l i d) e ∙ get_mapped g os i any_one (omega (arith, bound_i, count_is)) d))
+
+    pub use_there : use_at r i ≡ used_as r (Name i) (sense_view s) (name_read (view_in r) (sense_view s))
+    use_there =
+        let sc = scope_in r in
+        let x = name_read (view_in r) (sense_view s) in
+        let m = manner_in (sense_view s) in
+        let one : use_at r i ≡ use_read sc (Name o.place) (manner_of o) o.name (key_of os o) = get_mapped (use_of sc os) os i any_one (omega (arith, bound_i, count_is)) (local 0 []) ∙ use_manner sc (Name o.place) o.role o.name (key_of os o) in
+        one
+        ∙ (ap (λ p. use_read sc (Name p) (manner_of o) o.name (key_of os o)) (place_there (view_in r) i any_one (omega (arith, bound_i, count_is)))
+        ∙ (ap (λ n. use_read sc (Name i) n o.name (key_of os o)) (sym (same_at manner_in manner_of read.senses.manners))
+        ∙ (ap (λ n. use_read sc (Name i) m n (key_of os o)) (sym (same_at (name_read (view_in r)) (λ u. u.name) read.senses.names))
+        ∙ ap (λ k. use_read sc (Name i) m x k) (sym (same_at (means (view_in r) r.senses.now) (key_of os) read.senses.keys)))))
+
+    -- the mark of an identifier that is read so is its mark among all
+    pub mark_there : (nb : Numbering) (m : Mark) (old new : Asked) → Marks nb m old new (used_as r (Name i) (sense_view s) (name_read (view_in r) (sense_view s))) → Marks nb m old new (use_at r i)
+    mark_there nb m old new marked = subst (Marks nb m old new) (sym use_there) marked
+
+    pub number_there : number_in (sense_view s) < length (view_in r).names
+    number_there = subst (λ x. number_in x < length (view_in r).names) view_there (read.senses.named i (sense_view s) (omega (arith, bound_i, length-map all sense_view)))
+
+    pub below_there : IsSenseBelow (length r.senses.now.outer.items) (sense_view s)
+    below_there = subst (IsSenseBelow (length r.senses.now.outer.items)) view_there (read.senses.below i (sense_view s) (omega (arith, bound_i, length-map all sense_view)))
+
+    module _ (nb : Numbering) (q : IsNumberedBy nb r) where
+      pub id_there : number_in (sense_view s) < length r.ids.now
+      id_there = omega (arith, number_there, related_length (NameAt nb) r.ids.now (view_in r).names q.ids)
+
+      pub name_there : (n : ℕ) (id : NameId) → n ≡ number_in (sense_view s) → id ≡ get_or r.ids.now n id → NameAt nb id (name_read (view_in r) (sense_view s))
+      name_there n id e f = related_at (NameAt nb) r.ids.now (view_in r).names (number_in (sense_view s)) id [] q.ids id_there (f ∙ ap (λ k. get_or r.ids.now k id) e)
+
+-- ---- what names ask for, by how they are read
+
+module _ (r : Reading) (here : Place) (x : Text) (s : Sense) where
+  abbrev block_way : ℕ → spec.Block
+  block_way = way r.senses.now.outer.items
+
+  way_first : (outer : List ℕ) → way outer 0 ≡ []
+  way_first [] = refl
+  way_first (b ∷ outer) = way_module (b ∷ outer) (omega arith)
+
+  pub read_module : (i : Ident) → s ≡ made.OfModule i → used_as r here (sense_view s) x ≡ plain_in r here x
+  read_module i e = ap (λ k. used_as r here (sense_view k) x) e ∙ by (is_declared_in (view_in r) i.0)
     where
-      by : (s : Standing) → o.standing ≡ s → Marks nb m old new (use_at r i)
-      by standings.ModuleName at = absurd (no_name at)
-      by standings.Word at = absurd (no_word at)
-      by standings.Parameter at = mark_there nb m old new i o k standings.Parameter h e f at marked
-      by (standings.Local n) at = mark_there nb m old new i o k (standings.Local n) h e f at marked
-      by (standings.Reference p) at = mark_there nb m old new i o k (standings.Reference p) h e f at marked
+      by : (known : Bool) → meant (scope_in r) here x (told_by block_way (key_in (λ k. known) (view_in r).names (paths_in r.senses.now) (of_module i.0))) ≡ plain_in r here x
+      by true = ap (λ w. meant (scope_in r) here x (bound w (name_in (view_in r).names i.0))) (way_first r.senses.now.outer.items)
+      by false = refl
 
-  pub ident_there : (i : ℕ) (o : Occurrence) → i < length all → o ≡ get_or all i o → o.ident.0 < length (view_in r).names
-  ident_there i o h e = subst (λ p. p.ident.0 < length (view_in r).names) (sym e) (read.named i o h)
-
-  pub key_there : (i : ℕ) (k : Key) → i < length all → k ≡ get_or all_keys i k → IsKeyBelow (length r.meanings.now.found.outer.items) k
-  key_there i k h e = subst (IsKeyBelow (length r.meanings.now.found.outer.items)) (sym e) (read.below i k (omega (arith, h, keys_length)))
-
-  pub id_there : (nb : Numbering) → IsNumberedBy nb r → (i : ℕ) (o : Occurrence) → i < length all → o ≡ get_or all i o → o.ident.0 < length r.ids.now
-  id_there nb n i o h e = omega (arith, ident_there i o h e, related_length (NameAt nb) r.ids.now (view_in r).names n.ids)
-
-  pub name_there : (nb : Numbering) → IsNumberedBy nb r → (i : ℕ) (o : Occurrence) (id : NameId) → i < length all → o ≡ get_or all i o → id ≡ get_or r.ids.now o.ident.0 id → NameAt nb id (name_in (view_in r).names o.ident.0)
-  name_there nb n i o id h e f = related_at (NameAt nb) r.ids.now (view_in r).names o.ident.0 id [] n.ids (id_there nb n i o h e) f
-
--- ---- what names ask for, by what they mean
-
-module _ (r : Reading) (here : Place) (x : Text) (k : Key) where
-  pub meant_module : (b : ℕ) (y : Bor (List ℕ)) → k ≡ made.Bound b y → b ≤ 0 → IsKeyBelow (length r.meanings.now.found.outer.items) k → meant_by r here k x ≡ plain_in r here x
-  meant_module b y e h below =
-      let w : ℕ → spec.Block = way r.meanings.now.found.outer.items in
+  pub read_outer : (i : Ident) (b : ℕ) → s ≡ made.OfBlock i b → b ≤ 0 → used_as r here (sense_view s) x ≡ plain_in r here x
+  read_outer i b e h =
       let z : b ≡ 0 = omega (arith, h) in
-      let some : b < length r.meanings.now.found.outer.items = subst (IsKeyBelow (length r.meanings.now.found.outer.items)) e below in
-      ap (λ k. meant_by r here k x) e
-      ∙ (ap (λ b. meant (scope_in r) here x (scopes.bound (w b) y.now)) z
-      ∙ ap (λ ws. meant (scope_in r) here x (scopes.bound ws y.now)) (way_module r.meanings.now.found.outer.items (omega (arith, some))))
+      ap (λ k. used_as r here (sense_view k) x) e
+      ∙ (ap (λ k. meant (scope_in r) here x (bound (block_way k) (name_in (view_in r).names i.0))) z
+      ∙ ap (λ w. meant (scope_in r) here x (bound w (name_in (view_in r).names i.0))) (way_first r.senses.now.outer.items))
 
-  pub meant_free : (y : Bor (List ℕ)) → k ≡ made.Free y → meant_by r here k x ≡ plain_in r here x
-  meant_free y e = ap (λ k. meant_by r here k x) e
+  pub read_local : IsRead r → (i : Ident) (b : ℕ) → s ≡ made.OfBlock i b → 0 < b → IsSenseBelow (length r.senses.now.outer.items) (sense_view s) → used_as r here (sense_view s) x ≡ local b x
+  read_local read i b e h below =
+      let some : b < length r.senses.now.outer.items = subst (λ k. IsSenseBelow (length r.senses.now.outer.items) (sense_view k)) e below in
+      ap (λ k. used_as r here (sense_view k) x) e
+      ∙ ap (λ w. meant (scope_in r) here x (bound w (name_in (view_in r).names i.0))) (way_unfolds r.senses.now.outer.items b read.senses.nested h some)
 
-  pub meant_aimed : (p : Bor ModulePath) (y : Bor (List ℕ)) → k ≡ made.Qualified p y → meant_by r here k x ≡ aimed_in r here p.now x
-  meant_aimed p y e = ap (λ k. meant_by r here k x) e
+  abbrev by_path_at : ℕ → List Path → Use Path Text
+  by_path_at i qs = meant (scope_in r) here x (told_by block_way (by_name (name_in (view_in r).names i) (first_path qs)))
+
+  pub read_aimed : (i : Ident) (n : ℕ) (p : Bor ModulePath) → s ≡ made.ByPath i n → n < length r.senses.now.paths.items → p ≡ get_or r.senses.now.paths.items n p → used_as r here (sense_view s) x ≡ aimed_in r here p.now x
+  read_aimed i n p e h at =
+      ap (λ k. used_as r here (sense_view k) x) e
+      ∙ ap (λ o. meant (scope_in r) here x (told_by block_way (by_name (name_in (view_in r).names i.0) o))) (first_at (λ q. path_view q.now) r.senses.now.paths.items n p h at)
+
+  pub read_past : (i : Ident) (n : ℕ) → s ≡ made.ByPath i n → length r.senses.now.paths.items ≤ n → used_as r here (sense_view s) x ≡ plain_in r here x
+  read_past i n e h =
+      ap (λ k. used_as r here (sense_view k) x) e
+      ∙ ap (by_path_at i.0) (drop_all n (paths_in r.senses.now) (omega (arith, h, length-map r.senses.now.paths.items (λ q. path_view q.now))))

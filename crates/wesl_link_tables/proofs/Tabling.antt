@@ -1,5 +1,5 @@
 -- The declarations of a table, one after the other.
-use Rattle.std.proofs.Common.{◌≡◌, ℕ, zero, suc, ◌+◌, ◌<◌, ◌≤◌, Option, None, List, [], ◌∷◌, ◌++◌, map, length, get_or, take, arith, refl, sym, subst, ap, ◌∙◌}
+use Rattle.std.proofs.Common.{◌≡◌, ℕ, suc, ◌+◌, ◌<◌, ◌≤◌, Option, None, List, [], ◌∷◌, ◌++◌, map, length, get_or, take, arith, sym, subst, ap, ◌∙◌}
 use Rattle.std.specs.Prelude.{flat_map}
 use Rattle.std.specs.Global.{Vec}
 use Rattle.std.proofs.lemmas.List.{length-map}
@@ -10,7 +10,6 @@ use Rattle.wesl_cond_choices.specs.declared.place.Place.TheVariants as places
 use Rattle.wesl_link_symbols.specs.declared.ids.PathId.{PathId}
 use Rattle.wesl_tree_base.specs.declared.ids.NameId.{NameId}
 use Rattle.wesl_link_symbols.specs.Tables.{Declaration}
-use Rattle.wesl_scope_occurrences.specs.Laws.{SpellingKeepsOccurrences}
 use Rattle.wesl_scope_occurrences.specs.Occurrences.{occurrences}
 use Rattle.wesl_scope_occurrences.specs.Pieces.{declarations_in, starts_from}
 use Rattle.wesl_scope_occurrences.proofs.Cutting.{total, whole_length}
@@ -30,7 +29,7 @@ use Rattle.wesl_link_tables.specs.declared.reading.Reading.{Reading}
 use Rattle.wesl_link_tables.proofs.Added.{mark_later}
 use Rattle.wesl_link_tables.proofs.Alike.{place_alike}
 use Rattle.wesl_link_tables.proofs.Holding.{get_itself}
-use Rattle.wesl_link_tables.proofs.Lists.{related_more, related_append}
+use Rattle.wesl_link_tables.proofs.Lists.{get_mapped, related_more, related_append}
 use Rattle.wesl_link_tables.proofs.Naming.{related_length, related_at}
 use Rattle.wesl_link_tables.proofs.Pieced.{first_in, take_one, cut_length, starts_length, piece_at, piece_inside, starts_spelled, uses_cut}
 use Rattle.wesl_link_tables.proofs.Related.{declarations_more, name_option_later}
@@ -43,11 +42,6 @@ marks_more a b g ms vs us ws h k =
 
 any_tree : TreeOf Text
 any_tree = record { label = kind void; children = end }
-
-get_mapped : {X Y : Type 0} (f : X → Y) (xs : List X) (i : ℕ) (d : X) → i < length xs → (e : Y) → get_or (map f xs) i e ≡ f (get_or xs i d)
-get_mapped f [] i d h e = absurd (omega (arith, h))
-get_mapped f (x ∷ xs) zero d h e = refl
-get_mapped f (x ∷ xs) (suc i) d h e = get_mapped f xs i d (omega (arith, h)) e
 
 -- names for numbers leave the label
 label_kept : (r : Reading) → IsRead r → (unit_in r).declarations.label ≡ kind declarations
@@ -69,7 +63,7 @@ names_length r nb names h = related_length (IsRelatedOption (NameAt nb)) names (
 pub names_more : (a b : Numbering) → Grows a b → (names : List (Option NameId)) (os : List (Option Text)) → AreRelated (IsRelatedOption (NameAt a)) names os → AreRelated (IsRelatedOption (NameAt b)) names os
 names_more a b g names os h = related_more (IsRelatedOption (NameAt a)) (IsRelatedOption (NameAt b)) (name_option_later a b g) names os h
 
-module _ (r : Reading) (read : IsRead r) (law : SpellingKeepsOccurrences) where
+module _ (r : Reading) (read : IsRead r) where
   abbrev nodes : List (TreeOf Text)
   nodes = declarations_in (unit_in r)
 
@@ -77,19 +71,19 @@ module _ (r : Reading) (read : IsRead r) (law : SpellingKeepsOccurrences) where
   pieces_used = uses (own_path r) (unit_in r)
 
   abbrev first_places : List ℕ
-  first_places = r.meanings.now.found.starts.items
+  first_places = r.senses.now.starts.items
 
   abbrev whole : ℕ
-  whole = length r.meanings.now.found.all.items
+  whole = length r.senses.now.all.items
 
   places_are : first_places ≡ starts_from (first_in r) nodes
-  places_are = read.starts ∙ sym (starts_spelled (view_in r))
+  places_are = read.senses.starts ∙ sym (starts_spelled (view_in r))
 
   pub places_length : length first_places ≡ length nodes
   places_length = ap length places_are ∙ starts_length (first_in r) nodes
 
   whole_is : whole ≡ first_in r + total nodes
-  whole_is = sym (uses_length r read law) ∙ (length-map (occurrences (unit_in r)) _ ∙ whole_length (unit_in r) (label_kept r read))
+  whole_is = sym (uses_length r read) ∙ (length-map (occurrences (unit_in r)) _ ∙ whole_length (unit_in r) (label_kept r read))
 
   module _ (k from to : ℕ) (bound : k < length nodes) (at : from ≡ get_or first_places k from) (until : to ≡ get_or first_places (suc k) whole) where
     here : from ≡ get_or (starts_from (first_in r) nodes) k from

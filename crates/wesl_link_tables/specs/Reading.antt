@@ -1,11 +1,10 @@
 -- What is known of a module while its identifiers are marked.
-use Rattle.std.specs.Prelude.{◌≡◌, ℕ, ◌<◌, false, Option, List, [], ◌∷◌, ◌++◌, length, map, flat_map, take, drop, get_or, Vec}
+use Rattle.std.specs.Prelude.{◌≡◌, ℕ, false, Option, List, [], ◌∷◌, ◌++◌, map, flat_map, take, drop, get_or, Vec}
 use Rattle.std.specs.declared.alloc.Global.{Global}
-use Rattle.std.specs.List.{All}
 use Rattle.wesl_tree_names.specs.Path.{Text, Origin, from_package, Path, path_view, is_relative}
 use Rattle.wesl_tree_names.specs.declared.path.ModulePath.{ModulePath}
 use Rattle.wesl_tree_syntax.specs.Tree.{TreeOf, kind, declarations, trees, respell}
-use Rattle.wesl_tree_syntax.specs.Unit.{UnitOf, UnitView, spelled, trees_of, name_in}
+use Rattle.wesl_tree_syntax.specs.Unit.{UnitOf, UnitView, spelled, name_in}
 use Rattle.wesl_tree_syntax.specs.View.{declarations_tree}
 use Rattle.wesl_tree_syntax.specs.declared.declaration.GlobalDeclaration.{GlobalDeclaration}
 use Rattle.wesl_tree_syntax.specs.declared.span.Spanned.{Spanned}
@@ -15,12 +14,10 @@ use Rattle.wesl_link_symbols.specs.declared.ids.PathId.{PathId}
 use Rattle.wesl_tree_base.specs.declared.ids.NameId.{NameId}
 use Rattle.wesl_link_symbols.specs.declared.symbols.Reference.{Reference}
 use Rattle.wesl_scope_occurrences.specs.Occurrences.{occurrences}
-use Rattle.wesl_scope_occurrences.specs.Identified.{identified}
-use Rattle.wesl_scope_occurrences.specs.Pieces.{starts}
-use Rattle.wesl_scope_occurrences.specs.Ways.{AreNested, way}
-use Rattle.wesl_scope_meanings.specs.Scopes.{keys}
-use Rattle.wesl_scope_meanings.specs.Keys.{key_view, IsKeyBelow}
-use Rattle.wesl_scope_meanings.specs.declared.keys.Key as keyed
+use Rattle.wesl_scope_meanings.specs.Scopes.{Key}
+use Rattle.wesl_scope_meanings.specs.Sensed.{Sense}
+use Rattle.wesl_scope_meanings.specs.Senses.{Manner, of_declaration, of_word, of_meaning, manner_in}
+use Rattle.wesl_scope_meanings.specs.Read.{AreRead, means}
 use Rattle.wesl_link_tables.specs.Marks.{IsMark}
 use Rattle.wesl_link_tables.specs.Numbering.{Numbering, AreRelated, IsRelatedOption, AreNumberedNames, AreNumberedReferences, AreNumberedBinders, IsNumberedScope, NameAt}
 use Rattle.wesl_link_tables.specs.NumbersView.{numbering}
@@ -28,7 +25,7 @@ use Rattle.wesl_link_split.specs.ScopeView.{scope_view}
 use Rattle.wesl_link_split.specs.Split.{Scope, under}
 use Rattle.wesl_link_split.specs.declared.binders.Binder.{Binder}
 use Rattle.wesl_link_tables.specs.Tables.{name_of, scope_of}
-use Rattle.wesl_link_tables.specs.Uses.{Use, refers, local, texts, aims, asked, unclear_in, plain_use, path_use, meant, use_of}
+use Rattle.wesl_link_tables.specs.Uses.{Use, declares, refers, local, texts, aims, asked, unclear_in, plain_use, path_use, meant, use_of}
 use Rattle.wesl_link_tables.specs.declared.marks.Asked.{Asked}
 use Rattle.wesl_link_tables.specs.declared.marks.Mark.{Mark}
 use Rattle.wesl_link_tables.specs.declared.marks.Mark.TheVariants as marks
@@ -49,9 +46,14 @@ own_path r = path_view r.path.now
 abbrev pub scope_in : Reading → Scope Path Text
 scope_in r = scope_of (own_path r) (unit_in r)
 
--- what a name is at a place of it that means this by plain scoping
-abbrev pub meant_by : Reading → Place → keyed.Key → Text → Use Path Text
-meant_by r here key x = meant (scope_in r) here x (key_view (way r.meanings.now.found.outer.items) key)
+-- what a name is at a place of it whose identifier is read so
+abbrev pub use_read : Scope Path Text → Place → Manner → Text → Key → Use Path Text
+use_read s here of_declaration x key = declares x
+use_read s here of_word x key = refers x []
+use_read s here of_meaning x key = meant s here x key
+
+abbrev pub used_as : Reading → Place → Sense → Text → Use Path Text
+used_as r here s x = use_read (scope_in r) here (manner_in s) x (means (view_in r) r.senses.now s)
 
 -- a name without a path, a name under a path, and one under a path that begins with the name of these imports
 abbrev pub plain_in : Reading → Place → Text → Use Path Text
@@ -85,12 +87,7 @@ unclear_names r from to = flat_map unclear_in (span from to (all_uses r))
 pub record IsRead (r : Reading) : Type 0 where
   pub own : is_relative (own_path r) ≡ false
   pub label : (view_in r).declarations.label ≡ kind declarations
-  pub found : identified r.meanings.now.found ≡ occurrences (trees_of (view_in r))
-  pub keys : map (key_view (way r.meanings.now.found.outer.items)) r.meanings.now.keys.items ≡ keys (occurrences (unit_in r))
-  pub starts : r.meanings.now.found.starts.items ≡ starts (trees_of (view_in r))
-  pub named : All (λ o. o.ident.0 < length (view_in r).names) r.meanings.now.found.all.items
-  pub nested : AreNested r.meanings.now.found.outer.items
-  pub below : All (IsKeyBelow (length r.meanings.now.found.outer.items)) r.meanings.now.keys.items
+  pub senses : AreRead (view_in r) r.senses.now
 
 -- of each of these declarations the number of the name that it binds, if it binds one
 abbrev pub AreNumbersOfNames : Numbering → List (Option NameId) → List (TreeOf Text) → Type 0
@@ -109,8 +106,8 @@ mark_of n [] = marks.Free n
 mark_of n (r ∷ rs) = marks.Asks r
 
 -- references are added that say this by numbers, and names
-abbrev pub Adds : Numbering → List (Reference PathId NameId) → List (Reference PathId NameId) → List (Reference Path Text) → Type 0
-Adds nb old new more = (added : List (Reference PathId NameId)) × (new ≡ old ++ added) × AreNumberedReferences nb added more
+abbrev pub AddsReferences : Numbering → List (Reference PathId NameId) → List (Reference PathId NameId) → List (Reference Path Text) → Type 0
+AddsReferences nb old new more = (added : List (Reference PathId NameId)) × (new ≡ old ++ added) × AreNumberedReferences nb added more
 
 abbrev pub AddsNames : Numbering → List NameId → List NameId → List Text → Type 0
 AddsNames nb old new more = (added : List NameId) × (new ≡ old ++ added) × AreNumberedNames nb added more
@@ -118,7 +115,7 @@ AddsNames nb old new more = (added : List NameId) × (new ≡ old ++ added) × A
 -- the mark says what an identifier is, and what it asks for is added, or the name that stands for two things
 pub record Marks (nb : Numbering) (m : Mark) (old new : Asked) (u : Use Path Text) : Type 0 where
   pub mark : IsMark nb m u
-  pub added : Adds nb old.references.items new.references.items (asked u)
+  pub added : AddsReferences nb old.references.items new.references.items (asked u)
   pub unclear : AddsNames nb old.unclear.items new.unclear.items (unclear_in u)
 
 -- the mark says what the name of that number is, in these texts, and what it asks for is added
@@ -138,7 +135,7 @@ MarksUnder before after r here path imports name m old new =
 -- the name of that number is asked for under each of these modules
 abbrev pub AddsUnder : Numbers → Numbers → Reading → Place → NameId → List ModulePath → List (Reference PathId NameId) → List (Reference PathId NameId) → Type 0
 AddsUnder before after r here name modules old new =
-    (x : Text) → NameAt (numbering before) name x → Adds (numbering after) old new (map (λ m. under texts (scope_in r) x here (path_view m)) modules)
+    (x : Text) → NameAt (numbering before) name x → AddsReferences (numbering after) old new (map (λ m. under texts (scope_in r) x here (path_view m)) modules)
 
 -- of each of these declarations the number of the name that it binds by a table of names, if it binds one
 abbrev pub NumbersNames : Numbering → List Text → Vec (Spanned GlobalDeclaration) Global → List (Option NameId) → Type 0

@@ -1,12 +1,12 @@
 //! What the identifiers of a module are to a link.
 ghost use Rattle.std.specs.Prelude.{◌≡◌, ◌<◌, ◌≤◌, ◌++◌, ◌∷◌, [], false, All, length, get_or, drop, IfOk, OnOk};
 ghost use Rattle.wesl_tree_names.specs.Path.{path_view, is_relative};
-ghost use Rattle.wesl_scope_meanings.specs.Keys.{IsKeyBelow};
+ghost use Rattle.wesl_scope_meanings.specs.Senses.{IsSenseBelow, sense_view};
 ghost use Rattle.wesl_link_tables.specs.Aims.{IsKnown};
 ghost use Rattle.wesl_link_tables.specs.Marks.{IsMark};
 ghost use Rattle.wesl_link_tables.specs.Numbering.{AreRelated, AreNumberedNames, AreNumberedReferences, Grows};
 ghost use Rattle.wesl_link_tables.specs.NumbersView.{numbering};
-ghost use Rattle.wesl_link_tables.specs.Reading.{IsRead, IsNumberedBy, IsPackage, Marks, MarksName, MarksUnder, AddsUnder, plain_in, mark_of, aimed_in, meant_by, use_at, all_uses, references_in, unclear_names, span};
+ghost use Rattle.wesl_link_tables.specs.Reading.{IsRead, IsNumberedBy, IsPackage, Marks, MarksName, MarksUnder, AddsUnder, plain_in, mark_of, aimed_in, used_as, use_at, all_uses, references_in, unclear_names, span};
 ghost use Rattle.wesl_link_tables.specs.declared.marks.Mark.TheVariants as marks;
 
 use crate::aims::aims;
@@ -17,8 +17,7 @@ use wesl_cond_choices::place::Place;
 use wesl_link_split::binders::{Binder, Start};
 use wesl_link_symbols::ids::{NameId, PathId};
 use wesl_link_symbols::symbols::Reference;
-use wesl_scope_meanings::Key;
-use wesl_scope_occurrences::{Standing, law_of_ways};
+use wesl_scope_meanings::Sense;
 use wesl_tree_names::{Ident, ModulePath, PathOrigin};
 
 /// What an identifier of a declaration is to a link, by numbers.
@@ -210,33 +209,41 @@ fn mark_aimed(
     }
 }
 
-/// The mark of a name that is no word and that its declaration does not bind, by what it means.
-fn mark_reference(
+/// The mark of the name of an identifier that is read so.
+fn mark_read(
     alloc: Global,
     numbers: &mut Numbers,
     reading: &Reading<'_, '_>,
     found: &mut Asked,
     name: NameId,
     here: Place,
-    key: Key<'_>,
+    sense: Sense,
 ) -> Result<Mark, AllocError>
     requires read { IsRead reading.now }
     requires numbered { IsNumberedBy (numbering numbers.now) reading.now }
-    requires below { IsKeyBelow (length reading.now.meanings.now.found.outer.items) key }
-    ensures marked { IfOk result (λ m. MarksName numbers.old numbers.new name (meant_by reading.now here key.entry) m found.old found.new) }
+    requires below { IsSenseBelow (length reading.now.senses.now.outer.items) (sense_view sense) }
+    ensures marked { IfOk result (λ m. MarksName numbers.old numbers.new name (used_as reading.now here (sense_view sense)) m found.old found.new) }
     ensures grows { Grows (numbering numbers.old) (numbering numbers.new) }
 {
-    law_of_ways();
-    match key {
-        Key::Bound(block, _) => {
+    match sense {
+        Sense::Declares(_, _) => Ok(Mark::Declares(name)),
+        Sense::OfBlock(_, block) => {
             if block > 0 {
                 Ok(Mark::Local(block, name))
             } else {
                 mark_plain(alloc, numbers, reading, found, name, here)
             }
         }
-        Key::Free(_) => mark_plain(alloc, numbers, reading, found, name, here),
-        Key::Qualified(path, _) => mark_aimed(alloc, numbers, reading, found, name, here, path),
+        Sense::OfModule(_) => mark_plain(alloc, numbers, reading, found, name, here),
+        Sense::OfNone(_) => Ok(Mark::Free(name)),
+        Sense::ByPath(_, number) => {
+            if number < reading.senses.paths.len() {
+                let path = reading.senses.paths[number];
+                mark_aimed(alloc, numbers, reading, found, name, here, path)
+            } else {
+                mark_plain(alloc, numbers, reading, found, name, here)
+            }
+        }
     }
 }
 
@@ -258,20 +265,14 @@ fn mark_at(
 ) -> Result<Mark, AllocError>
     requires read { IsRead reading.now }
     requires numbered { IsNumberedBy (numbering numbers.now) reading.now }
-    requires inside { index < length reading.now.meanings.now.found.all.items }
+    requires inside { index < length reading.now.senses.now.all.items }
     ensures marked { IfOk result (λ m. Marks (numbering numbers.new) m found.old found.new (use_at reading.now index)) }
     ensures grows { Grows (numbering numbers.old) (numbering numbers.new) }
 {
-    let occurrence = reading.meanings.found.all[index];
-    let name = id_of(reading.ids, occurrence.ident);
-    let key = reading.meanings.keys[index];
-    let here = Place::Name(occurrence.place);
-    match occurrence.standing {
-        Standing::ModuleName => Ok(Mark::Declares(name)),
-        Standing::Word => Ok(Mark::Free(name)),
-        // parameters and local declarations too, by what their names mean
-        _ => mark_reference(alloc, numbers, reading, found, name, here, key),
-    }
+    let sense = reading.senses.all[index];
+    let name = id_of(reading.ids, sense.ident());
+    let here = Place::Name(index);
+    mark_read(alloc, numbers, reading, found, name, here, sense)
 }
 
 /// What the identifiers of a declaration are, and what they ask for.
@@ -293,7 +294,7 @@ fn mark_span(
     requires read { IsRead reading.now }
     requires numbered { IsNumberedBy (numbering numbers.now) reading.now }
     requires ordered { from ≤ to }
-    requires inside { to ≤ length reading.now.meanings.now.found.all.items }
+    requires inside { to ≤ length reading.now.senses.now.all.items }
     requires unmarked { marked.old.marks.items ≡ [] }
     requires unasked { marked.old.asked.references.items ≡ [] }
     requires clear { marked.old.asked.unclear.items ≡ [] }
@@ -321,7 +322,7 @@ pub fn mark_piece(
     requires read { IsRead reading.now }
     requires numbered { IsNumberedBy (numbering numbers.now) reading.now }
     requires ordered { from ≤ to }
-    requires inside { to ≤ length reading.now.meanings.now.found.all.items }
+    requires inside { to ≤ length reading.now.senses.now.all.items }
     ensures marks { IfOk result (λ m. AreRelated (IsMark (numbering numbers.new)) m.marks.items (span from to (all_uses reading.now))) }
     ensures references { IfOk result (λ m. AreNumberedReferences (numbering numbers.new) m.asked.references.items (references_in reading.now from to)) }
     ensures unclear { IfOk result (λ m. AreNumberedNames (numbering numbers.new) m.asked.unclear.items (unclear_names reading.now from to)) }

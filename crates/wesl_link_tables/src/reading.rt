@@ -11,7 +11,7 @@ use crate::numbers::{Numbers, spelling};
 use std::alloc::AllocError;
 use wesl_link_split::split::Scope;
 use wesl_link_symbols::ids::NameId;
-use wesl_scope_meanings::Meanings;
+use wesl_scope_meanings::Senses;
 use wesl_tree::TranslationUnit;
 use wesl_tree_names::{Ident, ModulePath, Names};
 use wesl_tree_syntax::{GlobalDeclaration, GlobalDeclarationNode};
@@ -22,8 +22,8 @@ pub struct Reading<'a, 'b> {
     /// where it stands
     pub path: &'a ModulePath,
     pub unit: &'a TranslationUnit,
-    /// its identifiers, and what they mean by plain scoping
-    pub meanings: &'a Meanings<'b>,
+    /// how its identifiers are read by plain scoping
+    pub senses: &'a Senses<'b>,
     /// what its names stand for, by numbers
     pub scope: &'a Scope,
     /// of each of its names the number

@@ -29,7 +29,7 @@ use wesl_link_split::split::Scope;
 use wesl_link_symbols::ids::{NameId, PathId};
 use wesl_link_symbols::symbols::Import;
 use wesl_link_symbols::table::{Declaration, Table};
-use wesl_scope_meanings::meanings_of;
+use wesl_scope_meanings::senses_of;
 use wesl_tree::TranslationUnit;
 use wesl_tree_names::{Ident, ModulePath, Names};
 
@@ -165,11 +165,11 @@ fn add_declarations(
     ensures declared { OnOk result (IsDeclared (numbering numbers.new) (own_path reading.now) (unit_in reading.now) declared.new) }
     ensures grows { Grows (numbering numbers.old) (numbering numbers.new) }
 {
-    let found = &reading.meanings.found;
+    let senses = reading.senses;
     declared.reserve(names.len())?;
     for i in 0..names.len() {
-        let end = end_of(&found.starts, i, found.all.len());
-        let one = mark_piece(alloc, numbers, reading, found.starts[i], end)?;
+        let end = end_of(&senses.starts, i, senses.all.len());
+        let one = mark_piece(alloc, numbers, reading, senses.starts[i], end)?;
         let place = reading.scope.place_of(names[i], Place::Declaration(i));
         declared.add(names[i], place, one)?;
     }
@@ -425,11 +425,11 @@ fn mark_unit(
     ensures declared { OnOk result (IsDeclared (numbering numbers.new) (path_view path.now) (spelled (unit_view unit.now)) declared.new) }
     ensures grows { Grows (numbering numbers.old) (numbering numbers.new) }
 {
-    let meanings = meanings_of(alloc, unit)?;
+    let senses = senses_of(alloc, unit)?;
     let reading = Reading {
         path,
         unit,
-        meanings: &meanings,
+        senses: &senses,
         scope,
         ids: &numbered.ids,
     };

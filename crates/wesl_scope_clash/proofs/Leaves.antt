@@ -2,6 +2,7 @@
 use Rattle.std.proofs.Common.{◌≡◌, true, ◌&&◌, List, [], ◌∷◌, map, refl, sym, subst}
 use Rattle.std.specs.Prelude.{Option, Some, None, Vec}
 use Rattle.std.specs.declared.alloc.Global.{Global}
+use Rattle.std.specs.Global.{Box}
 use Rattle.wesl_tree_names.specs.declared.path.ModulePath.{ModulePath}
 use Rattle.wesl_tree_names.specs.declared.names.Ident.{Ident}
 use Rattle.wesl_tree_syntax.specs.Tree.{Kind, Tree, forest_of, expression_node, statement_node, attribute_node, member_node, import_node, directive_node, declaration_node}
@@ -121,7 +122,7 @@ arguments_each : (xs : List Leafy_argument) → are_leaves (forest_of (map (λ t
 arguments_each [] = refl
 arguments_each (x ∷ xs) = rw (x.1, arguments_each xs) refl
 
-type_each : (p : Option ModulePath) (i : Ident) (o : Option (Vec Leafy_argument Global)) → IsLeafy (type_seen (map-TypeExpression Leafy_expression Leafy_call Leafy_argument Leafy_type Expression FunctionCall TemplateArg TypeExpression (λ e. e.0) (λ e. e.0) (λ e. e.0) (λ e. e.0) (record { path = p; ident = i; template_args = o })))
+type_each : (p : Option (Box ModulePath)) (i : Ident) (o : Option (Vec Leafy_argument Global)) → IsLeafy (type_seen (map-TypeExpression Leafy_expression Leafy_call Leafy_argument Leafy_type Expression FunctionCall TemplateArg TypeExpression (λ e. e.0) (λ e. e.0) (λ e. e.0) (λ e. e.0) (record { path = p; ident = i; template_args = o })))
 type_each None i None = refl
 type_each (Some p) i None = refl
 type_each None i (Some v) = rw (arguments_each v.items) refl

@@ -7,3 +7,4 @@ pub mod Walked
 pub mod Within
 pub mod Meant
 pub mod Keyed
+pub mod Read

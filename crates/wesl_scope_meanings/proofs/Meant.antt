@@ -20,8 +20,8 @@ use Rattle.wesl_scope_open.proofs.Matched.{events_matched, events_below}
 use Rattle.wesl_scope_open.proofs.Named.{events_spelled}
 use Rattle.wesl_scope_open.proofs.Runs.{Every}
 use Rattle.wesl_scope_open.proofs.Told.{back, keys_back}
-use Rattle.wesl_scope_meanings.specs.Sensed.{Sensed, unsensed, sensed}
-use Rattle.wesl_scope_meanings.specs.Senses.{sense_view, number_in, keys_in}
+use Rattle.wesl_scope_meanings.specs.Sensed.{Sensed, number_in, unsensed, sensed}
+use Rattle.wesl_scope_meanings.specs.Senses.{sense_view, keys_in}
 use Rattle.wesl_scope_meanings.specs.Reads.{IsKept, Shows, Reads}
 use Rattle.wesl_scope_meanings.specs.Known.{is_known}
 use Rattle.wesl_scope_meanings.specs.Starts.{IsUnread}
@@ -35,19 +35,19 @@ use Rattle.wesl_scope_meanings.proofs.Walked.{AllBelow, more, senses_more, more_
 use Rattle.wesl_scope_meanings.proofs.Within.{all_of, keys_within, keys_seen, told_by_way, within_outer}
 
 module _ (v : UnitView) (start reader : Reader) (unread : IsUnread v.names start) (reads : Reads (events (trees_of v)) start reader) (kept : IsKept reader) (named : forest_below (length v.names) (forest_of_unit (trees_of v)) ≡ true) where
-  abbrev met : List Event
+  abbrev pub met : List Event
   met = events (trees_of v)
 
-  abbrev last : Sensed
+  abbrev pub last : Sensed
   last = sensed v.names unsensed met
 
-  below : AreMetBelow (length v.names) met
+  pub below : AreMetBelow (length v.names) met
   below = events_below (length v.names) (trees_of v) named
 
-  shows : Shows unread.texts reader last
+  pub shows : Shows unread.texts reader last
   shows = reads.shown kept v.names unread.texts unread.spelled below unsensed (events_matched (trees_of v)) unread.shows
 
-  senses_are : map sense_view reader.senses.items ≡ more v.names unsensed met
+  pub senses_are : map sense_view reader.senses.items ≡ more v.names unsensed met
   senses_are = shows.senses ∙ senses_more v.names unsensed met
 
   each_below : (n : ℕ) (ss : List Sense) → AllBelow v.names n (map sense_view ss) → All (λ s. number_in (sense_view s) < n) ss
@@ -77,10 +77,10 @@ module _ (v : UnitView) (start reader : Reader) (unread : IsUnread v.names start
         ∙ (shows.known (get_or start.alike.items i 0) (spelled_below v.names unread.texts start.alike.items unread.spelled i h)
         ∙ (ap last.known (spelled_so v.names unread.texts start.alike.items unread.spelled i h) ∙ known_so (name_in v.names i)))
 
-    pub flat_keys : (paths : List Path) (ks : List Key) → paths ≡ paths_met met → map flat ks ≡ keys_in (is_known reader) v.names (map sense_view reader.senses.items) paths → map flat ks ≡ keys_met declared unopened (events (spelled v))
+    pub flat_keys : (paths : List Path) (ks : List Key) → paths ≡ paths_met met → map flat ks ≡ keys_in (is_known reader) v.names paths (map sense_view reader.senses.items) → map flat ks ≡ keys_met declared unopened (events (spelled v))
     flat_keys paths ks p e =
-        e ∙ (ap₂ (keys_in (is_known reader) v.names) senses_are p
-        ∙ (keys_more v.names (length v.names) declared (is_known reader) agree unsensed met below ∙ ap (keys_met declared unopened) (events_spelled v)))
+        e ∙ (ap₂ (λ ps ss. keys_in (is_known reader) v.names ps ss) p senses_are
+        ∙ (keys_more v.names (length v.names) declared (is_known reader) (paths_met met) agree unsensed met below refl ∙ ap (keys_met declared unopened) (events_spelled v)))
 
 -- ---- by the ways of blocks
 module _ (ways : WaysLeadOutwards) (spelling : SpellingKeepsOccurrences) (v : UnitView) (outer : List ℕ) (items : List FoundOccurrence) (ns : AreNested outer) (blocks : All (λ o. o.block < length outer) items)
@@ -106,12 +106,12 @@ pub meant : WaysLeadOutwards → SpellingKeepsOccurrences → EventsAreOccurrenc
     → keys_met (is_declared_by (occurrences (spelled v))) unopened (events (spelled v)) ≡ map by_number (keys (occurrences (spelled v)))
     → n1 ≡ v.names → IsUnread n1 start → Reads (events (trees_of v)) start reader → reader.is_refused ≡ false → reader.binders.is_refused ≡ false → forest_below (length v.names) (forest_of_unit (trees_of v)) ≡ true
     → AreNested outer → All (λ o. o.block < length outer) items → map (told (way outer)) (map occurrence_view items) ≡ occurrences (trees_of v) → paths ≡ paths_met (events (trees_of v))
-    → n2 ≡ v.names → map flat ks ≡ keys_in (is_known reader) n2 (map sense_view reader.senses.items) paths → Meant v outer ks
+    → n2 ≡ v.names → map flat ks ≡ keys_in (is_known reader) n2 paths (map sense_view reader.senses.items) → Meant v outer ks
 meant ways spelling collects v outer items start reader paths ks n1 n2 law e1 unread reads k1 k2 named ns blocks found p e2 e =
     let kept : IsKept reader = record { senses = k1; binders = k2 } in
     let first : IsUnread v.names start = subst (λ x. IsUnread x start) e1 unread in
     let flat_are : map flat ks ≡ map by_number (keys (occurrences (spelled v))) =
-    flat_keys v start reader first reads kept named spelling collects paths ks p (e ∙ ap (λ x. keys_in (is_known reader) x (map sense_view reader.senses.items) paths) e2) ∙ law in
+    flat_keys v start reader first reads kept named spelling collects paths ks p (e ∙ ap (λ x. keys_in (is_known reader) x paths (map sense_view reader.senses.items)) e2) ∙ law in
     record { are = keys_by_way ways spelling v outer items ns blocks found ks flat_are; below = keys_below ways spelling v outer items ns blocks found ks flat_are }
 
 pub senses_named : (v : UnitView) (start reader : Reader) (n1 n2 : List Text) → n1 ≡ v.names → IsUnread n1 start → Reads (events (trees_of v)) start reader → reader.is_refused ≡ false → reader.binders.is_refused ≡ false

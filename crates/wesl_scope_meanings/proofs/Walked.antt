@@ -1,5 +1,5 @@
 -- The keys that the reader's senses make are what one walk finds.
-use Rattle.std.proofs.Common.{◌≡◌, ℕ, zero, suc, ◌<◌, Bool, true, false, ◌&&◌, ◌||◌, Option, Some, None, List, [], ◌∷◌, ◌++◌, length, map, refl, sym, ◌∙◌, ap, subst, append_assoc}
+use Rattle.std.proofs.Common.{◌≡◌, ℕ, zero, suc, ◌+◌, ◌<◌, ◌≤◌, Bool, true, false, ◌&&◌, ◌||◌, Option, Some, None, List, [], ◌∷◌, ◌++◌, length, map, drop, refl, sym, ◌∙◌, ap, subst, arith, append_assoc}
 use Rattle.std.specs.Prelude.{bytes_eq, if◌then◌else◌}
 use Rattle.std.specs.List.{list_any}
 use Rattle.std.proofs.lemmas.List.Folds.{list_any-append}
@@ -14,16 +14,47 @@ use Rattle.wesl_scope_occurrences.specs.Ways.{told}
 use Rattle.wesl_scope_open.specs.Open.{read_in, or_module, keys_met, declares, is_declared_by}
 use Rattle.wesl_scope_open.specs.Named.{event_as}
 use Rattle.wesl_scope_open.specs.Matched.{AreMetBelow}
-use Rattle.wesl_scope_meanings.specs.Sensed.{Sense, of_block, reading, sense_by, Sensed, with_known, sensing, sensed}
-use Rattle.wesl_scope_meanings.specs.Senses.{number_in, first_path, paths_after, key_in, keys_in}
+use Rattle.wesl_scope_open.specs.Scopes.{Key}
+use Rattle.wesl_scope_meanings.specs.Sensed.{Sense, declared_in, of_block, of_module, of_none, by_path, number_in, path_count, path_total, reading, sense_by, sense_met, Sensed, with_known, sensing, sensed}
+use Rattle.wesl_scope_meanings.specs.Senses.{first_path, by_name, key_in, keys_in}
+
+-- ---- paths
+drop_more : {X : Type 0} (m n : ℕ) (xs : List X) → drop (m + n) xs ≡ drop n (drop m xs)
+drop_more zero n xs = let e : zero + n ≡ n = omega arith in ap (λ k. drop k xs) e
+drop_more (suc m) n [] = let e : suc m + n ≡ suc (m + n) = omega arith in ap (λ k. drop k []) e ∙ sym (none n)
+  where
+    none : {X : Type 0} (k : ℕ) → drop {A = X} k [] ≡ []
+    none zero = refl
+    none (suc k) = refl
+drop_more (suc m) n (x ∷ xs) = let e : suc m + n ≡ suc (m + n) = omega arith in ap (λ k. drop k (x ∷ xs)) e ∙ drop_more m n xs
+
+pub total_one : (ss : List Sense) (x : Sense) → path_total (ss ++ x ∷ []) ≡ path_total ss + path_count x
+total_one [] x = omega arith
+total_one (s ∷ ss) x = omega (arith, total_one ss x)
+
+path_few : (s : Sense) → path_count s ≤ 1
+path_few (declared_in b i) = omega arith
+path_few (of_block b i) = omega arith
+path_few (of_module i) = omega arith
+path_few (of_none i) = omega arith
+path_few (by_path n i) = omega arith
+
+-- paths are no more than identifiers
+pub total_few : (ss : List Sense) → path_total ss ≤ length ss
+total_few [] = omega arith
+total_few (s ∷ ss) = omega (arith, path_few s, total_few ss)
+
+-- those that are left after one more
+paths_then : (ps qs : List Path) (ss : List Sense) (x : Sense) → drop (path_total ss) ps ≡ qs → drop (path_total (ss ++ x ∷ [])) ps ≡ drop (path_count x) qs
+paths_then ps qs ss x h = ap (λ k. drop k ps) (total_one ss x) ∙ (drop_more (path_total ss) (path_count x) ps ∙ ap (drop (path_count x)) h)
 
 -- ---- senses
 module _ (names : List Text) where
   -- those that the events add
   abbrev pub more : Sensed → List Event → List Sense
   more s [] = []
-  more s (begins ∷ es) = more s es
-  more s (meets here r i ∷ es) = sense_by (s.binders.reads (name_in names i)) here r i ∷ more (sensing names s (meets here r i)) es
+  more s (begins ∷ es) = more (sensing names s begins) es
+  more s (meets here r i ∷ es) = sense_met names s here r i ∷ more (sensing names s (meets here r i)) es
   more s (opens ∷ es) = more (sensing names s opens) es
   more s (closes ∷ es) = more (sensing names s closes) es
   more s (ends here i ∷ es) = more (sensing names s (ends here i)) es
@@ -34,25 +65,24 @@ module _ (names : List Text) where
       end : {X : Type 0} (xs : List X) → xs ++ [] ≡ xs
       end [] = refl
       end (x ∷ xs) = ap (λ ys. x ∷ ys) (end xs)
-  senses_more s (begins ∷ es) = senses_more s es
-  senses_more s (meets here r i ∷ es) =
-      senses_more (sensing names s (meets here r i)) es ∙ append_assoc s.senses (sense_by (s.binders.reads (name_in names i)) here r i ∷ []) (more (sensing names s (meets here r i)) es)
+  senses_more s (begins ∷ es) = senses_more (sensing names s begins) es
+  senses_more s (meets here r i ∷ es) = senses_more (sensing names s (meets here r i)) es ∙ append_assoc s.senses (sense_met names s here r i ∷ []) (more (sensing names s (meets here r i)) es)
   senses_more s (opens ∷ es) = senses_more (sensing names s opens) es
   senses_more s (closes ∷ es) = senses_more (sensing names s closes) es
   senses_more s (ends here i ∷ es) = senses_more (sensing names s (ends here i)) es
 
   -- their numbers are those that are met
-  number_sensed : (read : Option ℕ) (here : Here) (r : Standing) (i : ℕ) → number_in (sense_by read here r i) ≡ i
-  number_sensed read here module_name i = refl
-  number_sensed read here parameter i = refl
-  number_sensed read here (local e) i = refl
-  number_sensed read here (reference (Some p)) i = refl
-  number_sensed read here (reference None) i = by (read_in here read)
+  pub number_sensed : (n : ℕ) (read : Option ℕ) (here : Here) (r : Standing) (i : ℕ) → number_in (sense_by n read here r i) ≡ i
+  number_sensed n read here module_name i = refl
+  number_sensed n read here parameter i = refl
+  number_sensed n read here (local e) i = refl
+  number_sensed n read here (reference (Some p)) i = refl
+  number_sensed n read here (reference None) i = by (read_in here read)
     where
       by : (o : Option ℕ) → number_in (reading i o) ≡ i
       by (Some b) = refl
       by None = refl
-  number_sensed read here word i = refl
+  number_sensed n read here word i = refl
 
   abbrev pub AllBelow : ℕ → List Sense → Type 0
   AllBelow n [] = Unit {0}
@@ -60,41 +90,49 @@ module _ (names : List Text) where
 
   pub more_below : (n : ℕ) (s : Sensed) (es : List Event) → AreMetBelow n es → AllBelow n (more s es)
   more_below n s [] h = tt
-  more_below n s (begins ∷ es) h = more_below n s es h.1
+  more_below n s (begins ∷ es) h = more_below n (sensing names s begins) es h.1
   more_below n s (meets here r i ∷ es) h =
-      (subst (λ x. x < n) (sym (number_sensed (s.binders.reads (name_in names i)) here r i)) h.0, more_below n (sensing names s (meets here r i)) es h.1)
+      (subst (λ x. x < n) (sym (number_sensed (path_total s.senses) (s.binders.reads (name_in names i)) here r i)) h.0, more_below n (sensing names s (meets here r i)) es h.1)
   more_below n s (opens ∷ es) h = more_below n (sensing names s opens) es h.1
   more_below n s (closes ∷ es) h = more_below n (sensing names s closes) es h.1
   more_below n s (ends here i ∷ es) h = more_below n (sensing names s (ends here i)) es h.1
 
   -- ---- keys
-  module _ (n : ℕ) (known : Text → Bool) (test : ℕ → Bool) (agree : (i : ℕ) → i < n → test i ≡ known (name_in names i)) where
-    read_key : (i : ℕ) (o : Option ℕ) (p : Option Path) → i < n → key_in test names (reading i o) p ≡ or_module (known (name_in names i)) (name_in names i) o
-    read_key i (Some b) p h = refl
-    read_key i None p h = ap (λ b. or_module b (name_in names i) None) (agree i h)
+  module _ (n : ℕ) (known : Text → Bool) (test : ℕ → Bool) (ps : List Path) (agree : (i : ℕ) → i < n → test i ≡ known (name_in names i)) where
+    read_key : (i : ℕ) (o : Option ℕ) → i < n → key_in test names ps (reading i o) ≡ or_module (known (name_in names i)) (name_in names i) o
+    read_key i (Some b) h = refl
+    read_key i None h = ap (λ b. or_module b (name_in names i) None) (agree i h)
 
-    read_paths : (i : ℕ) (o : Option ℕ) (ps : List Path) → paths_after (reading i o) ps ≡ ps
-    read_paths i (Some b) ps = refl
-    read_paths i None ps = refl
+    read_paths : (i : ℕ) (o : Option ℕ) (qs : List Path) → drop (path_count (reading i o)) qs ≡ qs
+    read_paths i (Some b) qs = refl
+    read_paths i None qs = refl
 
-    pub keys_more : (s : Sensed) (es : List Event) → AreMetBelow n es → keys_in test names (more s es) (paths_met es) ≡ keys_met known s.binders (map (event_as (name_in names)) es)
-    keys_more s [] h = refl
-    keys_more s (begins ∷ es) h = keys_more s es h.1
-    keys_more s (meets here module_name i ∷ es) h = ap (λ ks. key_in test names (of_block here.block i) None ∷ ks) (keys_more (sensing names s (meets here module_name i)) es h.1)
-    keys_more s (meets here parameter i ∷ es) h = ap (λ ks. key_in test names (of_block here.block i) None ∷ ks) (keys_more (sensing names s (meets here parameter i)) es h.1)
-    keys_more s (meets here (local e) i ∷ es) h = ap (λ ks. key_in test names (of_block here.block i) None ∷ ks) (keys_more (sensing names s (meets here (local e) i)) es h.1)
-    keys_more s (meets here (reference (Some p)) i ∷ es) h =
-        ap (λ ks. key_in test names (sense_by (s.binders.reads (name_in names i)) here (reference (Some p)) i) (Some p) ∷ ks) (keys_more (sensing names s (meets here (reference (Some p)) i)) es h.1)
-    keys_more s (meets here (reference None) i ∷ es) h =
+    -- the keys of one identifier and those after it
+    key_then : (s : Sensed) (here : Here) (r : Standing) (i : ℕ) (es : List Event) (k : Key) (ks : List Key) → key_in test names ps (sense_met names s here r i) ≡ k → keys_in test names ps (more (sensing names s (meets here r i)) es) ≡ ks
+        → keys_in test names ps (more s (meets here r i ∷ es)) ≡ k ∷ ks
+    key_then s here r i es k ks e f = ap (λ x. x ∷ keys_in test names ps (more (sensing names s (meets here r i)) es)) e ∙ ap (λ xs. k ∷ xs) f
+
+    pub keys_more : (s : Sensed) (es : List Event) → AreMetBelow n es → drop (path_total s.senses) ps ≡ paths_met es → keys_in test names ps (more s es) ≡ keys_met known s.binders (map (event_as (name_in names)) es)
+    keys_more s [] h p = refl
+    keys_more s (begins ∷ es) h p = keys_more (sensing names s begins) es h.1 p
+    keys_more s (meets here module_name i ∷ es) h p =
+        key_then s here module_name i es _ _ refl (keys_more (sensing names s (meets here module_name i)) es h.1 (paths_then ps (paths_met es) s.senses (sense_met names s here module_name i) p))
+    keys_more s (meets here parameter i ∷ es) h p =
+        key_then s here parameter i es _ _ refl (keys_more (sensing names s (meets here parameter i)) es h.1 (paths_then ps (paths_met es) s.senses (sense_met names s here parameter i) p))
+    keys_more s (meets here (local e) i ∷ es) h p =
+        key_then s here (local e) i es _ _ refl (keys_more (sensing names s (meets here (local e) i)) es h.1 (paths_then ps (paths_met es) s.senses (sense_met names s here (local e) i) p))
+    keys_more s (meets here (reference (Some q)) i ∷ es) h p =
+        key_then s here (reference (Some q)) i es _ _ (ap (λ qs. by_name (name_in names i) (first_path qs)) p)
+        (keys_more (sensing names s (meets here (reference (Some q)) i)) es h.1 (paths_then ps (q ∷ paths_met es) s.senses (sense_met names s here (reference (Some q)) i) p))
+    keys_more s (meets here (reference None) i ∷ es) h p =
         let o = read_in here (s.binders.reads (name_in names i)) in
-        let rest = more (sensing names s (meets here (reference None) i)) es in
-        ap (λ k. k ∷ keys_in test names rest (paths_after (reading i o) (paths_met es))) (read_key i o (first_path (paths_met es)) h.0)
-        ∙ ap (λ ks. or_module (known (name_in names i)) (name_in names i) o ∷ ks) (ap (keys_in test names rest) (read_paths i o (paths_met es)) ∙ keys_more (sensing names s (meets here (reference None) i)) es h.1)
-    keys_more s (meets here word i ∷ es) h =
-        ap (λ ks. key_in test names (sense_by (s.binders.reads (name_in names i)) here word i) None ∷ ks) (keys_more (sensing names s (meets here word i)) es h.1)
-    keys_more s (opens ∷ es) h = keys_more (sensing names s opens) es h.1
-    keys_more s (closes ∷ es) h = keys_more (sensing names s closes) es h.1
-    keys_more s (ends here i ∷ es) h = keys_more (sensing names s (ends here i)) es h.1
+        key_then s here (reference None) i es _ _ (read_key i o h.0)
+        (keys_more (sensing names s (meets here (reference None) i)) es h.1 (paths_then ps (paths_met es) s.senses (reading i o) p ∙ read_paths i o (paths_met es)))
+    keys_more s (meets here word i ∷ es) h p =
+        key_then s here word i es _ _ refl (keys_more (sensing names s (meets here word i)) es h.1 (paths_then ps (paths_met es) s.senses (sense_met names s here word i) p))
+    keys_more s (opens ∷ es) h p = keys_more (sensing names s opens) es h.1 p
+    keys_more s (closes ∷ es) h p = keys_more (sensing names s closes) es h.1 p
+    keys_more s (ends here i ∷ es) h p = keys_more (sensing names s (ends here i)) es h.1 p
 
   -- ---- the names that the module declares
   module _ (n : Text) where
@@ -148,7 +186,7 @@ module _ (names : List Text) where
 
     pub known_by : (s : Sensed) (c : Collected) (es : List Event) → s.known n ≡ list_any declares_in c.found → (sensed names s es).known n ≡ list_any declares_in (collected c es).found
     known_by s c [] h = h
-    known_by s c (begins ∷ es) h = known_by s (collecting c begins) es h
+    known_by s c (begins ∷ es) h = known_by (sensing names s begins) (collecting c begins) es h
     known_by s c (meets here r i ∷ es) h =
         known_by (sensing names s (meets here r i)) (collecting c (meets here r i)) es
         (one_known r (name_in names i) s.known

@@ -29,7 +29,7 @@ module _ (n : ℕ) where
   abbrev IsWithin : Found → Type 0
   IsWithin o = number_of o.block < n
 
-  abbrev IsBelow : Key → Type 0
+  abbrev pub IsBelow : Key → Type 0
   IsBelow (bound b x) = number_of b < n
   IsBelow _ = Unit {0}
 
@@ -45,7 +45,7 @@ module _ (n : ℕ) where
   key_below all h o t (reference (Some p)) = tt
   key_below all h o t word = tt
 
-  keys_from : (all os : List Found) → Every IsWithin all → Every IsWithin os → Every IsBelow (map by_number (map (key_of all) os))
+  pub keys_from : (all os : List Found) → Every IsWithin all → Every IsWithin os → Every IsBelow (map by_number (map (key_of all) os))
   keys_from all [] h g = tt
   keys_from all (o ∷ os) h g = (key_below all h o g.0 o.role, keys_from all os h g.1)
 

@@ -11,7 +11,7 @@ use Rattle.wesl_scope_open.specs.Table.{row, outer_rows, Declares}
 use Rattle.wesl_scope_open.specs.Named.{AreDistinct, StandsOpen}
 use Rattle.wesl_scope_open.specs.Matched.{AreMatched, AreMetBelow}
 use Rattle.wesl_scope_open.proofs.Matched.{matched_first, still_open}
-use Rattle.wesl_scope_meanings.specs.Sensed.{Sensed, with_known, sensing, sensed}
+use Rattle.wesl_scope_meanings.specs.Sensed.{Sensed, path_total, with_known, sensing, sensed}
 use Rattle.wesl_scope_meanings.specs.Senses.{sense_view}
 use Rattle.wesl_scope_meanings.specs.Spellings.{AreSpellings}
 use Rattle.wesl_scope_meanings.specs.declared.reader.Reader.{Reader}
@@ -27,6 +27,8 @@ pub record Shows (texts : List Text) (r : Reader) (s : Sensed) : Type 0 where
   pub as_wide : length r.declared.items ≡ length texts
   pub known : (k : ℕ) → k < length texts → get_or r.declared.items k false ≡ s.known (name_in texts k)
   pub senses : map sense_view r.senses.items ≡ s.senses
+  pub paths : r.paths ≡ path_total s.senses
+  pub starts : r.starts.items ≡ s.starts
 
 -- what these events make of it, unless memory was wanting
 pub record Reads (es : List Event) (old new : Reader) : Type 0 where
@@ -42,6 +44,8 @@ pub record MakesVisible (old new : Reader) (name block : ℕ) : Type 0 where
   pub alike : new.alike ≡ old.alike
   pub declared : new.declared ≡ old.declared
   pub senses : new.senses ≡ old.senses
+  pub paths : new.paths ≡ old.paths
+  pub starts : new.starts ≡ old.starts
   pub is_refused : new.is_refused ≡ old.is_refused
 
 -- the name is one that the module declares, and nothing else changed
@@ -50,6 +54,8 @@ pub record MakesKnown (old new : Reader) (name : ℕ) : Type 0 where
   pub binders : new.binders ≡ old.binders
   pub alike : new.alike ≡ old.alike
   pub senses : new.senses ≡ old.senses
+  pub paths : new.paths ≡ old.paths
+  pub starts : new.starts ≡ old.starts
   pub is_refused : new.is_refused ≡ old.is_refused
 
 -- what the name declares that stands so is noted
@@ -57,7 +63,7 @@ pub record NotesName (old new : Reader) (here : Here) (r : Standing) (name : ℕ
   pub noted : IsKept new → IsKept old
   pub alike : new.alike ≡ old.alike
   pub shown : IsKept new → (texts : List Text) → AreDistinct texts → name < length texts → (s : Sensed) → Shows texts old s
-      → Shows texts new (record { binders = declaring r here.block (name_in texts name) s.binders; known = with_known r (name_in texts name) s.known; senses = s.senses })
+      → Shows texts new (record { binders = declaring r here.block (name_in texts name) s.binders; known = with_known r (name_in texts name) s.known; senses = s.senses; starts = s.starts })
 
 -- ---- laws
 
@@ -75,7 +81,7 @@ met_then n (e ∷ es) fs h = met_then n es fs h.1
 
 matched_sensed : (names : List Text) (es fs : List Event) (s : Sensed) → AreMatched (length s.binders.outer) (es ++ fs) → AreMatched (length (sensed names s es).binders.outer) fs
 matched_sensed names [] fs s h = h
-matched_sensed names (begins ∷ es) fs s h = matched_sensed names es fs s h
+matched_sensed names (begins ∷ es) fs s h = matched_sensed names es fs (sensing names s begins) h
 matched_sensed names (meets here r i ∷ es) fs s h =
     matched_sensed names es fs (sensing names s (meets here r i)) (subst (λ os. AreMatched (length os) (es ++ fs)) (sym (still_open r here.block (name_in names i) s.binders)) h)
 matched_sensed names (opens ∷ es) fs s h = matched_sensed names es fs (sensing names s opens) h

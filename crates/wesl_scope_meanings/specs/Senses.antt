@@ -1,59 +1,67 @@
 -- What the values of the code that tell how identifiers are read stand for.
-use Rattle.std.specs.Prelude.{ℕ, Bool, Option, Some, None, List, [], ◌∷◌}
+use Rattle.std.specs.Prelude.{ℕ, ◌<◌, Bool, Option, Some, None, List, [], ◌∷◌, map, drop}
 use Rattle.wesl_tree_names.specs.Path.{Text, Path}
 use Rattle.wesl_tree_syntax.specs.Unit.{name_in}
+use Rattle.wesl_scope_occurrences.specs.Occurrences.{Standing, module_name, word, OccurrenceIn}
 use Rattle.wesl_scope_open.specs.Scopes.{Key, free, qualified}
 use Rattle.wesl_scope_open.specs.Open.{of_block as key_of_block, or_module}
 use Rattle.wesl_scope_meanings.specs.Sensed as spec
-use Rattle.wesl_scope_meanings.specs.Sensed.{of_block, of_module, of_none, by_path}
+use Rattle.wesl_scope_meanings.specs.Sensed.{declared_in, of_block, of_module, of_none, by_path}
 use Rattle.wesl_scope_meanings.specs.declared.sense.Sense.{Sense}
 use Rattle.wesl_scope_meanings.specs.declared.sense.Sense.TheVariants as made
 
 abbrev pub sense_view : Sense → spec.Sense
-sense_view (made.OfBlock b i) = of_block b i.0
+sense_view (made.Declares i b) = declared_in b i.0
+sense_view (made.OfBlock i b) = of_block b i.0
 sense_view (made.OfModule i) = of_module i.0
 sense_view (made.OfNone i) = of_none i.0
-sense_view (made.ByPath i) = by_path i.0
+sense_view (made.ByPath i n) = by_path n i.0
 
--- the number of the identifier that is read so
-abbrev pub number_in : spec.Sense → ℕ
-number_in (of_block b i) = i
-number_in (of_module i) = i
-number_in (of_none i) = i
-number_in (by_path i) = i
+-- its block, if it has one, is among the first n
+abbrev pub IsSenseBelow : ℕ → spec.Sense → Type 0
+IsSenseBelow n (declared_in b i) = b < n
+IsSenseBelow n (of_block b i) = b < n
+IsSenseBelow n _ = Unit {0}
 
 abbrev pub first_path : List Path → Option Path
 first_path [] = None
 first_path (p ∷ ps) = Some p
 
-abbrev pub other_paths : List Path → List Path
-other_paths [] = []
-other_paths (p ∷ ps) = ps
-
--- how many paths belong to what is read so
-abbrev pub path_count : spec.Sense → ℕ
-path_count (by_path i) = 1
-path_count _ = 0
-
--- the paths that are left after what is read so, which takes one if it is read by its path
-abbrev pub paths_after : spec.Sense → List Path → List Path
-paths_after (by_path i) ps = other_paths ps
-paths_after _ ps = ps
-
 abbrev pub by_name : Text → Option Path → Key
 by_name x (Some p) = qualified p x
 by_name x None = free x
 
-module _ (known : ℕ → Bool) (names : List Text) where
-  -- what an identifier means that is read so, where a test tells the numbers of names that the module declares, and this
-  -- is the next path
-  abbrev pub key_in : spec.Sense → Option Path → Key
-  key_in (of_block b i) p = key_of_block b (name_in names i)
-  key_in (of_module i) p = or_module (known i) (name_in names i) None
-  key_in (of_none i) p = free (name_in names i)
-  key_in (by_path i) p = by_name (name_in names i) p
+module _ (known : ℕ → Bool) (names : List Text) (paths : List Path) where
+  -- what an identifier means that is read so, where a test tells the numbers of names that the module declares, and these
+  -- are the paths of its identifiers that have one
+  abbrev pub key_in : spec.Sense → Key
+  key_in (declared_in b i) = key_of_block b (name_in names i)
+  key_in (of_block b i) = key_of_block b (name_in names i)
+  key_in (of_module i) = or_module (known i) (name_in names i) None
+  key_in (of_none i) = free (name_in names i)
+  key_in (by_path n i) = by_name (name_in names i) (first_path (drop n paths))
 
-  -- what those mean that are read so, where these are the paths of those that have one
-  abbrev pub keys_in : List spec.Sense → List Path → List Key
-  keys_in [] ps = []
-  keys_in (s ∷ ss) ps = key_in s (first_path ps) ∷ keys_in ss (paths_after s ps)
+  -- what those mean that are read so
+  abbrev pub keys_in : List spec.Sense → List Key
+  keys_in ss = map key_in ss
+
+-- ---- what an identifier is, apart from what it means
+pub data Manner : Type 0 where
+  -- the name of an import or of a global declaration
+  of_declaration : Manner
+  of_word : Manner
+  -- a parameter, a local name or a reference: what its name means
+  of_meaning : Manner
+
+abbrev pub manner_as : Standing → Manner
+manner_as module_name = of_declaration
+manner_as word = of_word
+manner_as _ = of_meaning
+
+abbrev pub manner_of : {I B : Type 0} → OccurrenceIn I B → Manner
+manner_of o = manner_as o.role
+
+abbrev pub manner_in : spec.Sense → Manner
+manner_in (declared_in b i) = of_declaration
+manner_in (of_none i) = of_word
+manner_in _ = of_meaning

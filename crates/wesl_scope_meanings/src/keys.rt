@@ -1,9 +1,10 @@
 //! What identifiers mean.
-ghost use Rattle.std.specs.Prelude.{◌≡◌, ◌<◌, ℕ, length, map, drop, IfOk};
+ghost use Rattle.std.specs.Prelude.{◌≡◌, ◌<◌, length, map, IfOk};
 ghost use Rattle.std.specs.List.{All};
 ghost use Rattle.wesl_tree_names.specs.Path.{path_view};
 ghost use Rattle.wesl_scope_meanings.specs.Keys.{flat, key_name};
-ghost use Rattle.wesl_scope_meanings.specs.Senses.{sense_view, number_in, path_count, first_path, key_in, keys_in};
+ghost use Rattle.wesl_scope_meanings.specs.Sensed.{number_in};
+ghost use Rattle.wesl_scope_meanings.specs.Senses.{sense_view, key_in, keys_in};
 ghost use Rattle.wesl_scope_meanings.specs.Known.{is_known};
 
 use crate::reader::Reader;
@@ -35,16 +36,6 @@ impl<'a> Key<'a> {
     }
 }
 
-/// How many paths belong to an identifier that is read so.
-fn path_count(sense: &Sense) -> usize
-    ensures { result ≡ path_count (sense_view sense.now) }
-{
-    match sense {
-        Sense::ByPath(_) => 1,
-        _ => 0,
-    }
-}
-
 impl Reader {
     /// Whether an import or a global declaration declares the name of an identifier.
     fn is_known(&self, ident: Ident) -> bool
@@ -58,19 +49,14 @@ impl Reader {
         }
     }
 
-    /// What an identifier means that is read so, where the path at `next` is the next one.
-    fn key<'a>(
-        &self,
-        names: &'a Names,
-        sense: &Sense,
-        paths: &[&'a ModulePath],
-        next: usize,
-    ) -> Key<'a>
+    /// What an identifier means that is read so, where these are the paths of those that have one.
+    fn key<'a>(&self, names: &'a Names, sense: &Sense, paths: &[&'a ModulePath]) -> Key<'a>
         requires { number_in (sense_view sense.now) < length names.now }
-        ensures { flat result ≡ key_in (is_known self.now) names.now (sense_view sense.now) (first_path (drop next (map (λ p. path_view p.now) paths.now))) }
+        ensures { flat result ≡ key_in (is_known self.now) names.now (map (λ p. path_view p.now) paths.now) (sense_view sense.now) }
     {
         match *sense {
-            Sense::OfBlock(block, ident) => Key::Bound(block, names.name(ident)),
+            Sense::Declares(ident, block) => Key::Bound(block, names.name(ident)),
+            Sense::OfBlock(ident, block) => Key::Bound(block, names.name(ident)),
             Sense::OfModule(ident) => {
                 if self.is_known(ident) {
                     Key::Bound(0, names.name(ident))
@@ -79,9 +65,9 @@ impl Reader {
                 }
             }
             Sense::OfNone(ident) => Key::Free(names.name(ident)),
-            Sense::ByPath(ident) => {
-                if next < paths.len() {
-                    Key::Qualified(paths[next], names.name(ident))
+            Sense::ByPath(ident, number) => {
+                if number < paths.len() {
+                    Key::Qualified(paths[number], names.name(ident))
                 } else {
                     Key::Free(names.name(ident))
                 }
@@ -97,13 +83,11 @@ impl Reader {
         paths: &[&'a ModulePath],
     ) -> Result<Vec<Key<'a>>, AllocError>
         requires { All (λ s. number_in (sense_view s) < length names.now) self.now.senses.items }
-        ensures { IfOk result (λ keys. map flat keys.items ≡ keys_in (is_known self.now) names.now (map sense_view self.now.senses.items) (map (λ p. path_view p.now) paths.now)) }
+        ensures { IfOk result (λ keys. map flat keys.items ≡ keys_in (is_known self.now) names.now (map (λ p. path_view p.now) paths.now) (map sense_view self.now.senses.items)) }
     {
         let mut keys = Vec::with_capacity(alloc, self.senses.len())?;
-        let mut next = 0;
         for sense in &self.senses {
-            keys.push(self.key(names, sense, paths, next))?;
-            next += path_count(sense);
+            keys.push(self.key(names, sense, paths))?;
         }
         Ok(keys)
     }

@@ -6,8 +6,11 @@ mod alike;
 mod keys;
 mod reader;
 mod sense;
+mod senses;
 mod whole;
 
 pub use alike::spellings;
 pub use keys::Key;
+pub use sense::Sense;
+pub use senses::{Senses, senses_of};
 pub use whole::{Meanings, meanings_of};

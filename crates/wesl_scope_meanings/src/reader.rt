@@ -20,6 +20,10 @@ pub struct Reader {
     pub binders: OpenBinders<usize>,
     /// how each identifier is read, in document order
     pub senses: Vec<Sense>,
+    /// how many of them are read by their paths
+    pub paths: usize,
+    /// of each global declaration how many identifiers come before it
+    pub starts: Vec<usize>,
     /// whether memory was wanting, so that some of what there is was not taken down
     pub is_refused: bool,
 }
@@ -86,12 +90,15 @@ impl Handler for Reader {
 
     ghost after = { Reads };
 
-    fn begin(&mut self) {}
+    fn begin(&mut self) {
+        self.is_refused |= self.starts.push(self.senses.len()).is_err();
+    }
 
     fn meet(&mut self, here: &Here, standing: Standing<'_>, ident: Ident) {
         let name = self.name(ident);
-        let sense = Sense::new(self.read(name), here, &standing, ident);
+        let sense = Sense::new(self.paths, self.read(name), here, &standing, ident);
         self.is_refused |= self.senses.push(sense).is_err();
+        self.paths = sense.paths_with(self.paths);
         self.note(here, &standing, name);
     }
 

@@ -35,8 +35,8 @@ pub struct Meanings<'a> {
     pub spellings: usize,
 }
 
-/// A reader of identifiers with these names, which has read none.
-fn unread(alloc: Global, names: &Names) -> Result<Reader, AllocError>
+/// A reader of identifiers with these names, which has read none, with room for so many global declarations.
+pub(crate) fn unread(alloc: Global, names: &Names, room: usize) -> Result<Reader, AllocError>
     ensures { IfOk result (IsUnread names.now) }
 {
     let (alike, count) = spellings(alloc, names)?;
@@ -45,6 +45,8 @@ fn unread(alloc: Global, names: &Names) -> Result<Reader, AllocError>
         declared: vec![in alloc; false; count]?,
         binders: OpenBinders::new(alloc, count)?,
         senses: Vec::with_capacity(alloc, names.len().saturating_mul(6))?,
+        paths: 0,
+        starts: Vec::with_capacity(alloc, room)?,
         is_refused: false,
     })
 }
@@ -63,7 +65,7 @@ pub fn meanings_of<'a>(alloc: Global, unit: &'a TranslationUnit) -> Result<Meani
     law_of_occurrences();
     law_of_events();
     law_of_open_binders();
-    let reader = unread(alloc, unit.names())?;
+    let reader = unread(alloc, unit.names(), 0)?;
     let read = occurrences_beside(alloc, unit, reader)?;
     let reader = read.handler;
     if reader.is_refused {

@@ -1,11 +1,10 @@
 -- What is told of the nodes whose fields stand in several blocks, and of declarations.
 use Rattle.std.proofs.Common.{◌≡◌, ◌⊎◌, inl, inr, ℕ, suc, true, false, List, [], ◌∷◌, ◌++◌, length, refl, sym, ap, ◌∙◌, arith, length-append}
 use Rattle.std.specs.Prelude.{Some, None, Option}
-use Rattle.std.specs.Option.{option_map}
 use Rattle.std.specs.Box.{box_value}
 use Rattle.std.specs.Global.{Box, Vec}
 use Rattle.wesl_tree_syntax.specs.Tree.{Kind, Tree, parameter as parameter_kind, import_statement, if_attribute, forest_of, branch, statements, loop, continuing, for_loop, compound, declaration, function, literal, binder, leaf, kind, absent, present, list, parameters, reference, type_expression}
-use Rattle.wesl_tree_syntax.specs.View.{kind_tree, literal_tree, attributes_tree, ident_tree, optional, listed, type_view, parameter_view, expression_tree, statement_tree, statement_view, path_tree}
+use Rattle.wesl_tree_syntax.specs.View.{kind_tree, literal_tree, attributes_tree, ident_tree, optional, listed, type_view, parameter_view, expression_tree, statement_tree, statement_view, path_tree, boxed_path}
 use Rattle.wesl_tree_syntax.specs.declared.attribute.Attribute.{Attribute}
 use Rattle.wesl_tree_syntax.specs.declared.expression.Expression.{Expression}
 use Rattle.wesl_tree_syntax.specs.declared.expression.TypeExpression.{TypeExpression}
@@ -16,10 +15,10 @@ use Rattle.wesl_tree_syntax.specs.declared.statement.Statement.{Statement}
 use Rattle.wesl_tree_syntax.specs.declared.declaration.FormalParameter.{FormalParameter}
 use Rattle.wesl_tree_syntax.specs.declared.declaration.DeclarationKind.{DeclarationKind}
 use Rattle.wesl_tree_syntax.specs.declared.declaration.DeclarationKind.TheVariants as kinds
-use Rattle.wesl_tree_names.specs.Path.{path_view}
 use Rattle.wesl_tree_names.specs.declared.names.Ident.{Ident}
 use Rattle.wesl_tree_names.specs.declared.path.ModulePath.{ModulePath}
 use Rattle.wesl_scope_occurrences.specs.Occurrences.{module_name, parameter as parameter_name, standing_in, declared, a_value, shape_of, of_holder, referring}
+use Rattle.wesl_scope_occurrences.specs.Views.{leading_path}
 use Rattle.wesl_scope_occurrences.specs.Walk.{Here}
 use Rattle.wesl_scope_occurrences.specs.Events.{meets, opens, closes, ending, plain_level}
 use Rattle.wesl_tree_syntax.specs.declared.statement.Statement as made
@@ -51,13 +50,13 @@ pub body_joined : (here inside : Here) (s : Told) (a : Vec (Spanned Attribute)) 
 body_joined here inside s a bs e = rw e refl
 
 -- a type, which refers by its path
-pub plain_type_joined : (here : Here) (s : Told) (p : Option ModulePath) (i : Ident)
-    → say (meets here (referring here.words (option_map path_view p)) i.0 ∷ []) s ≡ told_by here s (branch type_expression (optional path_tree p ∷ ident_tree reference i ∷ leaf (kind absent) ∷ []))
+pub plain_type_joined : (here : Here) (s : Told) (p : Option (Box ModulePath)) (i : Ident)
+    → say (meets here (referring here.words (leading_path p)) i.0 ∷ []) s ≡ told_by here s (branch type_expression (optional boxed_path p ∷ ident_tree reference i ∷ leaf (kind absent) ∷ []))
 plain_type_joined here s None i = refl
 plain_type_joined here s (Some p) i = refl
 
-pub type_joined : (here : Here) (s : Told) (p : Option ModulePath) (i : Ident) (ts : List Tree)
-    → told_by here (say (meets here (referring here.words (option_map path_view p)) i.0 ∷ []) s) (branch list ts) ≡ told_by here s (branch type_expression (optional path_tree p ∷ ident_tree reference i ∷ branch present (branch list ts ∷ []) ∷ []))
+pub type_joined : (here : Here) (s : Told) (p : Option (Box ModulePath)) (i : Ident) (ts : List Tree)
+    → told_by here (say (meets here (referring here.words (leading_path p)) i.0 ∷ []) s) (branch list ts) ≡ told_by here s (branch type_expression (optional boxed_path p ∷ ident_tree reference i ∷ branch present (branch list ts ∷ []) ∷ []))
 type_joined here s None i ts = refl
 type_joined here s (Some p) i ts = refl
 

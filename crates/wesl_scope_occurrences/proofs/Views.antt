@@ -5,7 +5,7 @@ use Rattle.std.specs.Prelude.{Option, Some, None}
 use Rattle.std.specs.Box.{box_value}
 use Rattle.std.specs.Global.{Box, Vec}
 use Rattle.wesl_tree_syntax.specs.Tree.{assignment, binary, branch, call, call_expression, call_statement, clauses, compound, compound_statement, continuing, else_clause, else_if_clause, for_loop, forest_of, if_clause, if_statement, indexing, list, literal, loop, named_component, parenthesized, return, statements, switch, switch_clause, Tree, type_or_identifier, unary, while_loop, template_argument, binder, word, leaf, kind, absent, present, import_item, import_collection, void, increment, decrement, import_entry, reference, type_expression}
-use Rattle.wesl_tree_syntax.specs.View.{item_view, literal_tree, text_tree, break_if_view, continuing_view, expression_view, selector_view, argument_step, attributes_tree, call_step, call_view, clause_step, clause_view, compound_step, compound_view, continuing_step, else_if_step, else_if_view, else_step, else_view, expression_step, expression_tree, if_step, if_view, listed, optional, statement_step, statement_tree, statement_view, type_step, type_view, argument_view, entry_view, content_view, content_step, entry_step, names_tree, path_tree, ident_tree, declaration_view, assert_view}
+use Rattle.wesl_tree_syntax.specs.View.{item_view, literal_tree, text_tree, break_if_view, continuing_view, expression_view, selector_view, argument_step, attributes_tree, call_step, call_view, clause_step, clause_view, compound_step, compound_view, continuing_step, else_if_step, else_if_view, else_step, else_view, expression_step, expression_tree, if_step, if_view, listed, optional, statement_step, statement_tree, statement_view, type_step, type_view, argument_view, entry_view, content_view, content_step, entry_step, names_tree, boxed_path, ident_tree, declaration_view, assert_view}
 use Rattle.wesl_tree_syntax.specs.declared.attribute.Attribute.{Attribute}
 use Rattle.wesl_tree_syntax.specs.declared.expression.Expression.{Expression}
 use Rattle.wesl_tree_syntax.specs.declared.expression.Literal.{Literal}
@@ -127,12 +127,12 @@ view_continuing c = fold_out-ContinuingStatement Tree Tree Tree Tree Tree Tree T
 
 -- a type whose template arguments are known
 pub view_type : (t : TypeExpression) (o : Option (Vec TemplateArg)) → (out-TypeExpression t).template_args ≡ o
-    → type_view t ≡ branch type_expression (optional path_tree (out-TypeExpression t).path ∷ ident_tree reference (out-TypeExpression t).ident ∷ optional (listed argument_view list) o ∷ [])
+    → type_view t ≡ branch type_expression (optional boxed_path (out-TypeExpression t).path ∷ ident_tree reference (out-TypeExpression t).ident ∷ optional (listed argument_view list) o ∷ [])
 view_type t None is = fold_out-TypeExpression Tree Tree Tree Tree expression_step call_step argument_step type_step t ∙ rw is refl
 view_type t (Some v) is = fold_out-TypeExpression Tree Tree Tree Tree expression_step call_step argument_step type_step t ∙ rw is (simp map-map)
 
 abbrev pub type_fields : TypeExpression → List Tree
-type_fields t = optional path_tree (out-TypeExpression t).path ∷ ident_tree reference (out-TypeExpression t).ident ∷ optional (listed argument_view list) (out-TypeExpression t).template_args ∷ []
+type_fields t = optional boxed_path (out-TypeExpression t).path ∷ ident_tree reference (out-TypeExpression t).ident ∷ optional (listed argument_view list) (out-TypeExpression t).template_args ∷ []
 
 pub view_any_type : (t : TypeExpression) → type_view t ≡ branch type_expression (type_fields t)
 view_any_type t = view_type t (out-TypeExpression t).template_args refl

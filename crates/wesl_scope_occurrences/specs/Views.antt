@@ -1,7 +1,10 @@
 -- What the walk's values stand for.
-use Rattle.std.specs.Prelude.{ℕ}
+use Rattle.std.specs.Prelude.{ℕ, Option}
+use Rattle.std.specs.Box.{box_value}
+use Rattle.std.specs.Global.{Box}
 use Rattle.std.specs.Option.{option_map}
-use Rattle.wesl_tree_names.specs.Path.{path_view}
+use Rattle.wesl_tree_names.specs.Path.{Path, path_view}
+use Rattle.wesl_tree_names.specs.declared.path.ModulePath.{ModulePath}
 use Rattle.wesl_scope_occurrences.specs.Occurrences as spec
 use Rattle.wesl_scope_occurrences.specs.Occurrences.{Surroundings}
 use Rattle.wesl_scope_occurrences.specs.Walk.{Found}
@@ -9,6 +12,10 @@ use Rattle.wesl_scope_occurrences.specs.declared.occurrence.Standing.{Standing}
 use Rattle.wesl_scope_occurrences.specs.declared.occurrence.Standing.TheVariants as standings
 use Rattle.wesl_scope_occurrences.specs.declared.occurrence.Occurrence.{Occurrence}
 use Rattle.wesl_scope_occurrences.specs.declared.here.Here.{Here}
+
+-- the path before a name, if one stands there
+abbrev pub leading_path : Option (Box ModulePath) → Option Path
+leading_path = option_map (λ p. path_view (box_value p))
 
 abbrev pub standing_view : Standing → spec.Standing
 standing_view standings.ModuleName = spec.module_name

@@ -1,12 +1,10 @@
 //! The identifiers of expressions and types.
 ghost use Rattle.std.specs.Prelude.{◌∷◌, []};
-ghost use Rattle.std.specs.Option.{option_map};
-ghost use Rattle.wesl_tree_names.specs.Path.{path_view};
 ghost use Rattle.wesl_scope_occurrences.specs.Occurrences.{referring};
 ghost use Rattle.wesl_tree_syntax.specs.Tree.{list};
 ghost use Rattle.wesl_tree_syntax.specs.View.{expression_view, type_view, argument_view, call_view, expression_tree, listed};
 ghost use Rattle.wesl_scope_occurrences.specs.Events.{meets};
-ghost use Rattle.wesl_scope_occurrences.specs.Views.{here_view};
+ghost use Rattle.wesl_scope_occurrences.specs.Views.{here_view, leading_path};
 ghost use Rattle.wesl_scope_occurrences.specs.Noted.{Walks, Steps};
 
 use crate::handler::Handler;
@@ -98,8 +96,8 @@ impl<'a, H: Handler> Walk<'a, H> {
     }
 
     /// A reference, or a word where names are words.
-    fn reference(&mut self, here: &Here, path: &'a Option<ModulePath>, ident: Ident)
-        ensures { Steps H.after self.old self.new (meets (here_view here.now) (referring here.now.words (option_map path_view path.now)) ident.0 ∷ []) [] }
+    fn reference(&mut self, here: &Here, path: &'a Option<Box<ModulePath>>, ident: Ident)
+        ensures { Steps H.after self.old self.new (meets (here_view here.now) (referring here.now.words (leading_path path.now)) ident.0 ∷ []) [] }
     {
         self.meet(here, here.referring(path), ident);
     }

@@ -4,7 +4,7 @@ ghost use Rattle.std.specs.Option.{option_map};
 ghost use Rattle.wesl_tree_names.specs.Path.{path_view};
 ghost use Rattle.wesl_scope_occurrences.specs.Occurrences.{standing_in, declared, a_value, referring};
 ghost use Rattle.wesl_scope_occurrences.specs.Walk.{outermost};
-ghost use Rattle.wesl_scope_occurrences.specs.Views.{here_view, standing_view};
+ghost use Rattle.wesl_scope_occurrences.specs.Views.{here_view, leading_path, standing_view};
 
 use crate::occurrence::Standing;
 use wesl_tree::ModulePath;
@@ -24,6 +24,16 @@ pub struct Here {
     pub words: bool,
     /// whether it lies in the arguments of a custom attribute
     pub excused: bool,
+}
+
+/// The path that stands in a box.
+fn unboxed(path: &Option<Box<ModulePath>>) -> Option<&ModulePath>
+    ensures { option_map (λ p. path_view p.now) result ≡ leading_path path.now }
+{
+    match path {
+        None => None,
+        Some(path) => Some(path.as_ref()),
+    }
 }
 
 impl Here {
@@ -64,13 +74,13 @@ impl Here {
     }
 
     /// How a name stands that refers here, by its path where it has one: where names are words it is a word.
-    pub fn referring<'a>(&self, path: &'a Option<ModulePath>) -> Standing<'a>
-        ensures { standing_view result ≡ referring self.now.words (option_map path_view path.now) }
+    pub fn referring<'a>(&self, path: &'a Option<Box<ModulePath>>) -> Standing<'a>
+        ensures { standing_view result ≡ referring self.now.words (leading_path path.now) }
     {
         if self.words {
             Standing::Word
         } else {
-            Standing::Reference(path.as_ref())
+            Standing::Reference(unboxed(path))
         }
     }
 

@@ -1,5 +1,6 @@
 -- The trees of modules are such that references read what plain scoping finds.
 use Rattle.std.proofs.Common.{◌≡◌, Bool, true, false, ◌&&◌, List, [], ◌∷◌, map, refl, sym, ap₂, subst, Vec, Global, Option, None, Some}
+use Rattle.std.specs.Global.{Box}
 use Rattle.wesl_tree_names.specs.declared.path.ModulePath.{ModulePath}
 use Rattle.wesl_tree_names.specs.declared.Ident.{Ident}
 use Rattle.wesl_scope_occurrences.specs.Occurrences.{Shape, of_words, of_custom, of_type, of_other, of_value, of_globals, shape_of}
@@ -115,7 +116,7 @@ arguments_each : (xs : List Still_argument) → calm (forest_of (map (λ t. t) (
 arguments_each [] = refl
 arguments_each (x ∷ xs) = rw (allowed (argument_view x.0) x.1, arguments_each xs) refl
 
-type_each : (p : Option ModulePath) (i : Ident) (o : Option (Vec Still_argument Global))
+type_each : (p : Option (Box ModulePath)) (i : Ident) (o : Option (Vec Still_argument Global))
     → IsStill (type_seen (map-TypeExpression Still_expression Still_call Still_argument Still_type Expression FunctionCall TemplateArg TypeExpression (λ e. e.0) (λ e. e.0) (λ e. e.0) (λ e. e.0) (record { path = p; ident = i; template_args = o })))
 type_each None i None = refl
 type_each (Some p) i None = refl

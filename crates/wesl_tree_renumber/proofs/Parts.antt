@@ -1,11 +1,11 @@
 -- Nodes whose parts take numbers one after the other.
 use Rattle.std.proofs.Common.{◌≡◌, List, [], ◌∷◌, ◌∙◌, ap, refl, sym}
 use Rattle.std.specs.Prelude.{None, Option, Some, String}
-use Rattle.std.specs.Global.{Vec}
+use Rattle.std.specs.Global.{Box, Vec}
 use Rattle.std.specs.declared.alloc.Global.{Global}
 use Rattle.wesl_tree_names.specs.declared.path.ModulePath.{ModulePath}
 use Rattle.wesl_tree_syntax.specs.Tree.{Kind, Tree, absent, assignment, binary, branch, forest_of, import_entry, kind, const_kind, let_kind, override_kind, template_argument, unary}
-use Rattle.wesl_tree_syntax.specs.View.{argument_view, content_view, entry_view, expression_tree, kind_tree, literal_tree, names_tree, optional, path_tree, placed, text_tree}
+use Rattle.wesl_tree_syntax.specs.View.{argument_view, boxed_path, content_view, entry_view, expression_tree, kind_tree, literal_tree, names_tree, optional, placed, text_tree}
 use Rattle.wesl_tree_syntax.specs.declared.expression.Expression.{Expression}
 use Rattle.wesl_tree_syntax.specs.declared.expression.Literal.{Literal}
 use Rattle.wesl_tree_syntax.specs.declared.expression.Literal.TheVariants as literals
@@ -73,7 +73,7 @@ untouched_kind (kinds.Var (Some (a, None))) = record { tree = refl; rest = refl 
 untouched_kind (kinds.Var (Some (a, Some m))) = record { tree = refl; rest = refl }
 
 -- what holds no identifier
-pub untouched_path : {s : Renumbering} (p : Option ModulePath) → Renumbered s s (optional path_tree p) (optional path_tree p)
+pub untouched_path : {s : Renumbering} (p : Option (Box ModulePath)) → Renumbered s s (optional boxed_path p) (optional boxed_path p)
 untouched_path None = of_kind absent nothing
 untouched_path (Some p) = record { tree = refl; rest = refl }
 

@@ -2,7 +2,7 @@ use Rattle.std.proofs.Common.{◌≡◌, false, map, subst, sym}
 use Rattle.wesl_tree_names.specs.Path.{path_view, is_relative}
 use Rattle.wesl_link_split.specs.Split.{under}
 use Rattle.wesl_link_tables.specs.NumbersView.{numbering}
-use Rattle.wesl_link_tables.specs.Reading.{Adds, scope_in}
+use Rattle.wesl_link_tables.specs.Reading.{AddsReferences, scope_in}
 use Rattle.wesl_link_tables.specs.Uses.{texts}
 use Rattle.wesl_link_tables.proofs.Lists.{taken_all}
 use Rattle.wesl_link_tables.proofs.Added.{adds_none}
@@ -39,5 +39,5 @@ returns-clause-grows c = c.loop-module.invariant.grows
 
 pub returns-clause-added : goal.returns-clause-added
 returns-clause-added c = λ x n.
-    subst (λ ms. Adds (numbering c.loop-module.numbers) c.args.found.now.items c.loop-module.found.items (map (λ m. under texts (scope_in c.args.reading.now) x c.args.here (path_view m)) ms))
+    subst (λ ms. AddsReferences (numbering c.loop-module.numbers) c.args.found.now.items c.loop-module.found.items (map (λ m. under texts (scope_in c.args.reading.now) x c.args.here (path_view m)) ms))
     (taken_all c.args.modules.now c.loop-module.module-index c.loop-module-test.false) (c.loop-module.invariant.added x n)

@@ -1,6 +1,5 @@
 use Rattle.std.proofs.Common.{◌∙◌, ◌≡◌, ◌+◌, ◌<◌, ◌≤◌, ◌++◌, ◌∷◌, [], sym, subst, arith, length}
 use Rattle.std.specs.Prelude.{flat_map}
-use Rattle.wesl_scope_occurrences.proofs.Respelled.{spelled_occurrences}
 use Rattle.wesl_link_tables.specs.Marks.{IsMark}
 use Rattle.wesl_link_tables.specs.Numbering.{AreRelated, AreNumberedNames, AreNumberedReferences}
 use Rattle.wesl_link_tables.specs.NumbersView.{numbering}
@@ -37,7 +36,7 @@ loop-index-preserved c =
     let uses = all_uses r in
     let i = c.loop-index.index in
     let so_far = span c.args.from i uses in
-    let inside : i < length uses = omega (arith, c.loop-index-test.true, c.requires.inside, uses_length r c.requires.read spelled_occurrences) in
+    let inside : i < length uses = omega (arith, c.loop-index-test.true, c.requires.inside, uses_length r c.requires.read) in
     let low : c.args.from ≤ i = omega (arith, c.loop-index.auto.index) in
     let next : span c.args.from (i + 1) uses ≡ so_far ++ use_at r i ∷ [] = span_next c.args.from i uses (local 0 []) low inside in
     let m = c.in_ok-mark.mark in

@@ -1,5 +1,4 @@
 use Rattle.std.proofs.Common.{◌≡◌, ◌<◌, ◌≤◌, ◌+◌, ◌∙◌, ap, sym, subst, arith, length, suc, get_or, take, None, []}
-use Rattle.wesl_scope_occurrences.proofs.Respelled.{spelled_occurrences}
 use Rattle.wesl_scope_occurrences.specs.Pieces.{declarations_in}
 use Rattle.wesl_link_tables.specs.Marks.{AreMarked}
 use Rattle.wesl_link_tables.specs.Numbering.{AreNumberedDeclarations}
@@ -27,13 +26,13 @@ loop-i-init c =
 pub end_of-end-requires : goal.end_of-end-requires
 end_of-end-requires c =
     let r = c.args.reading.now in
-    let starts : length c.deref.result.now ≡ length r.meanings.now.found.starts.items = ap length c.deref.ensures.value in
-    omega (arith, c.loop-i-test.true, starts, places_length r c.requires.read spelled_occurrences, names_length r (numbering c.args.numbers.now) c.args.names.now c.requires.named)
+    let starts : length c.deref.result.now ≡ length r.senses.now.starts.items = ap length c.deref.ensures.value in
+    omega (arith, c.loop-i-test.true, starts, places_length r c.requires.read, names_length r (numbering c.args.numbers.now) c.args.names.now c.requires.named)
 
 pub index-requires : goal.index-requires
 index-requires c =
     let r = c.args.reading.now in
-    omega (arith, c.loop-i-test.true, r.meanings.now.found.starts.ok.0, places_length r c.requires.read spelled_occurrences, names_length r (numbering c.args.numbers.now) c.args.names.now c.requires.named)
+    omega (arith, c.loop-i-test.true, r.senses.now.starts.ok.0, places_length r c.requires.read, names_length r (numbering c.args.numbers.now) c.args.names.now c.requires.named)
 
 pub mark_piece-requires-clause-numbered : goal.mark_piece-requires-clause-numbered
 mark_piece-requires-clause-numbered c = numbered_later (numbering c.args.numbers.now) (numbering c.loop-i.numbers) c.loop-i.invariant.grows c.args.reading.now c.requires.numbered
@@ -42,17 +41,17 @@ pub mark_piece-requires-clause-ordered : goal.mark_piece-requires-clause-ordered
 mark_piece-requires-clause-ordered c =
     let r = c.args.reading.now in
     let bound : c.loop-i.i < length (declarations_in (unit_in r)) = omega (arith, c.loop-i-test.true, names_length r (numbering c.args.numbers.now) c.args.names.now c.requires.named) in
-    let until : c.end_of-end.result ≡ get_or r.meanings.now.found.starts.items (suc c.loop-i.i) (length r.meanings.now.found.all.items) =
-    c.end_of-end.ensures ∙ (ap (λ l. get_or l (suc c.loop-i.i) c.len.result) c.deref.ensures.value ∙ ap (get_or r.meanings.now.found.starts.items (suc c.loop-i.i)) (c.len.ensures ∙ r.meanings.now.found.all.ok.0)) in
-    (piece_bounds r c.requires.read spelled_occurrences c.loop-i.i c.index.result.now c.end_of-end.result bound c.index.ensures until).0
+    let until : c.end_of-end.result ≡ get_or r.senses.now.starts.items (suc c.loop-i.i) (length r.senses.now.all.items) =
+    c.end_of-end.ensures ∙ (ap (λ l. get_or l (suc c.loop-i.i) c.len.result) c.deref.ensures.value ∙ ap (get_or r.senses.now.starts.items (suc c.loop-i.i)) (c.len.ensures ∙ r.senses.now.all.ok.0)) in
+    (piece_bounds r c.requires.read c.loop-i.i c.index.result.now c.end_of-end.result bound c.index.ensures until).0
 
 pub mark_piece-requires-clause-inside : goal.mark_piece-requires-clause-inside
 mark_piece-requires-clause-inside c =
     let r = c.args.reading.now in
     let bound : c.loop-i.i < length (declarations_in (unit_in r)) = omega (arith, c.loop-i-test.true, names_length r (numbering c.args.numbers.now) c.args.names.now c.requires.named) in
-    let until : c.end_of-end.result ≡ get_or r.meanings.now.found.starts.items (suc c.loop-i.i) (length r.meanings.now.found.all.items) =
-    c.end_of-end.ensures ∙ (ap (λ l. get_or l (suc c.loop-i.i) c.len.result) c.deref.ensures.value ∙ ap (get_or r.meanings.now.found.starts.items (suc c.loop-i.i)) (c.len.ensures ∙ r.meanings.now.found.all.ok.0)) in
-    (piece_bounds r c.requires.read spelled_occurrences c.loop-i.i c.index.result.now c.end_of-end.result bound c.index.ensures until).1
+    let until : c.end_of-end.result ≡ get_or r.senses.now.starts.items (suc c.loop-i.i) (length r.senses.now.all.items) =
+    c.end_of-end.ensures ∙ (ap (λ l. get_or l (suc c.loop-i.i) c.len.result) c.deref.ensures.value ∙ ap (get_or r.senses.now.starts.items (suc c.loop-i.i)) (c.len.ensures ∙ r.senses.now.all.ok.0)) in
+    (piece_bounds r c.requires.read c.loop-i.i c.index.result.now c.end_of-end.result bound c.index.ensures until).1
 
 pub loop-i-preserved : goal.loop-i-preserved
 loop-i-preserved c =
@@ -63,17 +62,17 @@ loop-i-preserved c =
     let g = c.mark_piece.ensures.grows in
     let all = grows_trans (numbering c.args.numbers.now) a b c.loop-i.invariant.grows g in
     let bound : k < length (declarations_in (unit_in r)) = omega (arith, c.loop-i-test.true, names_length r (numbering c.args.numbers.now) c.args.names.now c.requires.named) in
-    let until : c.end_of-end.result ≡ get_or r.meanings.now.found.starts.items (suc k) (length r.meanings.now.found.all.items) =
-    c.end_of-end.ensures ∙ (ap (λ l. get_or l (suc k) c.len.result) c.deref.ensures.value ∙ ap (get_or r.meanings.now.found.starts.items (suc k)) (c.len.ensures ∙ r.meanings.now.found.all.ok.0)) in
+    let until : c.end_of-end.result ≡ get_or r.senses.now.starts.items (suc k) (length r.senses.now.all.items) =
+    c.end_of-end.ensures ∙ (ap (λ l. get_or l (suc k) c.len.result) c.deref.ensures.value ∙ ap (get_or r.senses.now.starts.items (suc k)) (c.len.ensures ∙ r.senses.now.all.ok.0)) in
     let one = c.in_ok-one.one in
     record {
       declared = subst (λ ds. AreNumberedDeclarations b ds (take (k + 1) (made_in r))) (sym c.in_ok-add.ensures.declarations)
-          (declared_next r c.requires.read spelled_occurrences k c.index.result.now c.end_of-end.result bound c.index.ensures until a b g
+          (declared_next r c.requires.read k c.index.result.now c.end_of-end.result bound c.index.ensures until a b g
           (alike r b c.mark_piece.new.numbers.names.different c.mark_piece.new.numbers.paths.different (numbered_later (numbering c.args.numbers.now) b all r c.requires.numbered)) c.args.names.now (get_or c.args.names.now k None)
           (names_more (numbering c.args.numbers.now) b all c.args.names.now _ c.requires.named) (get_itself c.args.names.now k None c.loop-i-test.true)
           one.asked c.in_ok-one.ensures.references c.in_ok-one.ensures.unclear _ (ap (λ p. declared_as (get_or c.args.names.now k None) p one) c.place_of-place.ensures) c.loop-i.declared.declarations.items c.loop-i.invariant.declared);
       marked = subst (λ ms. AreMarked b ms (take (k + 1) (uses (own_path r) (unit_in r)))) (sym c.in_ok-add.ensures.marks)
-          (marked_next r c.requires.read spelled_occurrences k c.index.result.now c.end_of-end.result bound c.index.ensures until a b g one.marks c.in_ok-one.ensures.marks c.loop-i.declared.marks.items c.loop-i.invariant.marked);
+          (marked_next r c.requires.read k c.index.result.now c.end_of-end.result bound c.index.ensures until a b g one.marks c.in_ok-one.ensures.marks c.loop-i.declared.marks.items c.loop-i.invariant.marked);
       grows = all;
     }
 

@@ -9,17 +9,7 @@ use Rattle.wesl_link_tables.proofs.table.mark_unit.Goals as goal
 
 pub add_declarations-requires-clause-read : goal.add_declarations-requires-clause-read
 add_declarations-requires-clause-read c =
-    let m = c.in_ok-meanings.ensures in
-    record {
-      own = c.requires.asked;
-      label = refl;
-      found = m.found;
-      keys = m.keys;
-      starts = m.starts;
-      named = m.names;
-      nested = m.nested;
-      below = m.below;
-    }
+    record { own = c.requires.asked; label = refl; senses = c.in_ok-senses.ensures }
 
 pub add_declarations-requires-clause-numbered : goal.add_declarations-requires-clause-numbered
 add_declarations-requires-clause-numbered c =

@@ -7,5 +7,5 @@ use Rattle.wesl_scope_meanings.proofs.reader.ReaderHandler.meet.Goals as goal
 pub returns : goal.returns
 returns c =
     reads_meeting c.args.self.now _ _ (here_view c.args.here.now) (standing_view c.args.standing) c.args.ident.0 c.name-name.result c.read.result c.new-sense.result c.is_err.result
-    c.name-name.ensures c.read.ensures c.new-sense.ensures refl refl refl refl
-    (λ k. pushed c.push.result c.args.self.now.is_refused c.is_err.result _ _ _ c.is_err.ensures.value c.push.ensures.items k) c.note.ensures
+    c.name-name.ensures c.read.ensures c.new-sense.ensures refl refl refl refl refl
+    (λ k. pushed c.push.result c.args.self.now.is_refused c.is_err.result _ _ _ c.is_err.ensures.value c.push.ensures.items k) c.paths_with-self.ensures c.note.ensures
