@@ -1,36 +1,27 @@
 -- What is read of each expression's object.
-use Rattle.std.proofs.Common.{◌≡◌, List, [], ◌∷◌, Bool, true, false, Option, Some, None, Result, ℕ, option_and_then, codes, refl, sym, ap, ◌∙◌, subst}
+use Rattle.std.proofs.Common.{◌≡◌, List, [], ◌∷◌, Bool, true, false, Option, Some, None, ℕ, option_and_then, codes, refl, sym, ap, ◌∙◌, subst}
 use Rattle.std.specs.Option.{is_some}
-use Rattle.std.specs.Prelude.{IfOk}
-use Rattle.wesl_tree_syntax.specs.declared.expression.Expression.{Expression}
-use Rattle.wesl_tree_syntax.specs.View.{expression_view}
 use Rattle.serde_json.specs.Data.{Data}
 use Rattle.serde_json.specs.Find.{get, as_object, as_str}
 use Rattle.wesl_tree_names.specs.Path.{Text}
 use Rattle.wesl_tree_names.specs.declared.errors.Error as error
-use Rattle.wesl_tree_syntax.specs.Tree.{Kind, Tree, Forest, kind, at, before, end, branch, forest_of, list, reference, expression_node, call, type_or_identifier, type_expression}
-use Rattle.wesl_json_form.specs.Schema.{look, node, leaf, list_of, Name, a_call, an_expression, a_type, a_path, a_template_argument, an_ident, fixed, Row, Node, node_of_kind}
-use Rattle.wesl_json_form.specs.Nodes.{nodes_of, shorts_of, all_expression_words, type_or_identifier_node, type_row, call_row}
+use Rattle.wesl_tree_syntax.specs.Tree.{Kind, Tree, Forest, kind, at, before, end, branch, expression_node, type_or_identifier, type_expression}
+use Rattle.wesl_json_form.specs.Schema.{look, node, Name, an_expression, a_type, fixed, Row, Node, node_of_kind}
+use Rattle.wesl_json_form.specs.Nodes.{nodes_of, shorts_of, all_expression_words, type_or_identifier_node, type_row}
 use Rattle.wesl_json_form.specs.Reading.{known_keys, span_in}
 use Rattle.wesl_json_form.specs.Keys.{has_only}
 use Rattle.wesl_json_read.specs.Faults.{IsAtRoot, Locates, LocatesRow, LocatesSpan}
 use Rattle.wesl_json_read.specs.Forms.{HasExpressionWord, ReadsBare, ReadsExpressionOf, expression_of, expression_text, expression_head, expression_row, row_of_expression}
 use Rattle.wesl_json_read.specs.declared.words.ExpressionWord.{ExpressionWord}
-use Rattle.wesl_json_read.specs.Numbers.{Reads, ReadsNeeded, ReadsMay, ReadsMany, ReadsRows, ReadsType}
+use Rattle.wesl_json_read.specs.Numbers.{Reads, ReadsRows, ReadsType}
 use Rattle.wesl_json_read.proofs.Places.{keys-place, node-row, span-place}
 use Rattle.wesl_json_read.proofs.Rows.{plain-kind}
 use Rattle.wesl_json_read.proofs.Members.{node-of-row, form-of-node}
-use Rattle.wesl_json_read.proofs.Steps.{none-then, needs-then, may-then, many-then, inner-then, known-object}
+use Rattle.wesl_json_read.proofs.Steps.{none-then, inner-then, known-object}
 use Rattle.wesl_json_read.proofs.Worded.{node-reads, placed-reads}
 
 module _ (spans : Bool) where
   module _ (d : Data) where
-    pub call-rows : (t u : Tree) (a b c : List Text) → ReadsNeeded spans (codes "ty") (node a_type) d t a b → ReadsMany spans (codes "args") (list_of list an_expression) d u b c → ReadsRows spans call_row d (forest_of (t ∷ u ∷ [])) a c
-    call-rows t u a b c ty arguments = needs-then ty (many-then arguments (none-then d c))
-
-    pub type-rows : (p i t : Tree) (a b c e : List Text) → ReadsMay spans (codes "path") (leaf a_path) d p a b → ReadsNeeded spans (codes "name") (leaf (an_ident reference)) d i b c → ReadsMay spans (codes "args") (list_of list a_template_argument) d t c e → ReadsRows spans type_row d (forest_of (p ∷ i ∷ t ∷ [])) a e
-    type-rows p i t a b c e path name arguments = may-then path (needs-then name (may-then arguments (none-then d e)))
-
     abbrev type_node : Node
     type_node = record { head = fixed (kind type_expression); row = type_row }
 
@@ -65,10 +56,6 @@ module _ (spans : Bool) where
     expression-span None e none h = span-place spans an_expression (type_or_identifier_node spans) _ d e (unmarked-node d none) refl h
     expression-span (Some w) e h bad = span-place spans an_expression (expression_of spans w) _ d e h.1 refl bad
 
--- what is read by one word is read by the word that is the same
-pub same-expression : (spans : Bool) (w v : Option ExpressionWord) (r : Result Expression error.Error) (d : Data) (a b : List Text) → w ≡ v → IfOk r (λ e. ReadsExpressionOf spans v d (expression_view e) a b) → IfOk r (λ e. ReadsExpressionOf spans w d (expression_view e) a b)
-same-expression spans w v r d a b is h = subst (λ x. IfOk r (λ e. ReadsExpressionOf spans x d (expression_view e) a b)) (sym is) h
-
 module _ {spans : Bool} where
   -- an object that is a type, as an expression
   pub bare-type : (d : Data) (t : Tree) (a b : List Text) → ReadsType spans spans d t a b → ReadsBare spans d (branch type_or_identifier (t ∷ [])) a b
@@ -92,13 +79,3 @@ module _ (spans : Bool) where
 
     pub bare-keys : (e : error.Error) → shorts_of m d ≡ None → has_only (known_keys row d) d ≡ false → IsAtRoot e → Locates spans (node m) d e
     bare-keys e short wrong at_root = keys-place spans m (node_of_kind k row) d e is short wrong at_root
-
-  module _ (d : Data) where
-    pub bare-call-reads : (ts : Forest) (a b : List Text) → has_only (known_keys call_row d) d ≡ true → ReadsRows spans call_row d ts a b → Reads spans (node a_call) d (record { label = kind call; children = ts }) a b
-    bare-call-reads = bare-reads a_call call call_row d refl
-
-    pub bare-call-place : (e : error.Error) → has_only (known_keys call_row d) d ≡ true → LocatesRow spans call_row d e → Locates spans (node a_call) d e
-    bare-call-place = bare-place a_call call call_row d refl
-
-    pub bare-call-keys : (e : error.Error) → has_only (known_keys call_row d) d ≡ false → IsAtRoot e → Locates spans (node a_call) d e
-    bare-call-keys e wrong at_root = bare-keys a_call call call_row d refl e refl wrong at_root

@@ -19,3 +19,8 @@ pub mod NameLists
 pub mod Attributes
 pub mod Keyed
 pub mod Pairs
+pub mod Noting
+pub mod Texts
+pub mod Boxes
+pub mod Given
+pub mod Operators

@@ -4,7 +4,6 @@ use Rattle.std.specs.Option.{is_some}
 use Rattle.serde_json.specs.Data.{Data, null, boolean, number, string, array, object}
 use Rattle.serde_json.specs.Find.{get, as_bool, as_object, as_str}
 use Rattle.wesl_tree_names.specs.Path.{Text}
-use Rattle.wesl_tree_names.specs.declared.errors.Error as error
 use Rattle.wesl_tree_syntax.specs.Tree.{Kind, Role, Label, Tree, Forest, kind, ident, end, tree, before, leaf as leaf_tree, present, absent, branch, truth, literal, type_or_identifier}
 use Rattle.wesl_json_form.specs.Schema.{SpelledLabel, leaf_of, look, Form, a_type, an_expression, node, leaf, list_of, Leaf, an_ident, Name, Head, Row, nothing, needs, may, many, inner, Node}
 use Rattle.wesl_json_form.specs.Nodes.{whole_form, by_word, NodeWords}

@@ -15,7 +15,7 @@ present-step : (o : Option Spelled) (us : SpelledForest) → option_map (λ u. b
 present-step None us h = cc
 present-step (Some u) us h = let same : before u end ≡ us = cc in ap (λ cs. Some (record { label = kind present; children = cs })) same
 
-present-of : (read : ℕ → Option Spelled) (least : ℕ) (t : Tree) (a b : List Text) → IsReadAs read least t a b → IsReadAs (λ n. option_map (λ u. present_tree u) (read n)) least (branch present (t ∷ [])) a b
+pub present-of : (read : ℕ → Option Spelled) (least : ℕ) (t : Tree) (a b : List Text) → IsReadAs read least t a b → IsReadAs (λ n. option_map (λ u. present_tree u) (read n)) least (branch present (t ∷ [])) a b
 present-of read least t a b h =
     let children : AreReadAs (λ n. option_map (λ u. before u end) (read n)) least (before t end) a b = record {
       spelled = λ n names low later. ap (option_map (λ u. before u end)) (h.spelled n names low later);

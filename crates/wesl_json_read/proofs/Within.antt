@@ -62,13 +62,6 @@ module _ {A : Type 0} (k : Text) (d v : Data) (found : get k d ≡ Some v) (r : 
     plain : {x : A} → r ≡ Ok x → (spans : Bool) (names : List Text) → Reads spans f v (view x) names names
     plain is = IfOk-at_ok (λ y. (spans : Bool) (names : List Text) → Reads spans f v (view y) names names) is good
 
-    pub many-each : (s : Result A error.Error) → IfOk s (λ x. r ≡ Ok x) → IfOk s (λ x. (spans : Bool) (names : List Text) → ReadsMany spans k f d (view x) names names)
-    many-each s ok = IfOk-weaker s (λ x. r ≡ Ok x) (λ x. (spans : Bool) (names : List Text) → ReadsMany spans k f d (view x) names names) (λ x is spans names. many-there k f d v (view x) names names found (plain is spans names)) ok
-
     pub may-each : (s : Result (Option A) error.Error) → IfOk s (IsThere r) → IfOk s (λ o. (spans : Bool) (names : List Text) → ReadsMay spans k f d (option_view view o) names names)
     may-each s ok =
         IfOk-weaker s (IsThere r) (λ o. (spans : Bool) (names : List Text) → ReadsMay spans k f d (option_view view o) names names) (λ o h spans names. subst (λ p. ReadsMay spans k f d (option_view view p) names names) (sym h.2) (may-there k f d v (view h.0) names names found (plain h.1 spans names))) ok
-
-  pub fault-each : {B : Type 0} (f : Form) (s : Result B error.Error) → IfErr r (λ e. (spans : Bool) → Locates spans f v e) → IfErr s (IsFaultUnder k r) → IfErr s (λ e. (spans : Bool) → LocatesInside spans k f d e)
-  fault-each f s bad told =
-      IfErr-weaker s (IsFaultUnder k r) (λ e. (spans : Bool) → LocatesInside spans k f d e) (λ e h spans. inside-under spans k f d v h.0 e found (IfErr-at_err (λ x. (spans : Bool) → Locates spans f v x) h.1 bad spans) h.2) told

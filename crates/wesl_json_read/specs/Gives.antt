@@ -1,16 +1,15 @@
 -- What a result says of a value of JSON, where it is no fault: the part that is read, as a tree, and the names that are numbered by then.
-use Rattle.std.specs.Prelude.{◌≡◌, ◌∷◌, [], Bool, List, Option, Result, Ok, IfOk}
+use Rattle.std.specs.Prelude.{Bool, List, Option, Result, IfOk}
 use Rattle.std.specs.Box.{box_value}
 use Rattle.std.specs.Global.{Box}
 use Rattle.serde_json.specs.Data.{Data}
 use Rattle.wesl_tree_names.specs.Path.{Text}
 use Rattle.wesl_tree_names.specs.declared.errors.Error as error
 use Rattle.wesl_tree_names.specs.declared.names.Ident.{Ident}
-use Rattle.wesl_tree_syntax.specs.Tree.{Forest, Role, Tree, attribute_node, branch, template_argument}
-use Rattle.wesl_tree_syntax.specs.View.{argument_view, attribute_view, expression_tree, ident_tree, optional, placed}
+use Rattle.wesl_tree_syntax.specs.Tree.{Forest, Role, Tree, attribute_node}
+use Rattle.wesl_tree_syntax.specs.View.{attribute_view, expression_tree, ident_tree, optional, placed}
 use Rattle.wesl_tree_syntax.specs.declared.attribute.Attribute.{Attribute}
 use Rattle.wesl_tree_syntax.specs.declared.expression.Expression.{Expression}
-use Rattle.wesl_tree_syntax.specs.declared.expression.TemplateArg.{TemplateArg}
 use Rattle.wesl_tree_syntax.specs.declared.span.Spanned.{Spanned}
 use Rattle.wesl_json_form.specs.Schema.{Form, Row, an_ident, leaf}
 use Rattle.wesl_json_form.specs.View.{borrowed_view}
@@ -23,10 +22,6 @@ placed_attribute = placed attribute_view attribute_node
 
 abbrev pub boxed_expression : Box (Spanned Expression) → Tree
 boxed_expression b = expression_tree (box_value b)
-
--- what is read is an expression, and this is the template argument that it is
-abbrev pub IsArgumentOf : Result (Spanned Expression) error.Error → TemplateArg → Type 0
-IsArgumentOf read a = (e : Spanned Expression) × (read ≡ Ok e) × (argument_view a ≡ branch template_argument (expression_tree e ∷ []))
 
 module _ {A : Type 0} (r : Result A error.Error) (view : A → Tree) where
   -- the relation reads the value as the part
@@ -56,9 +51,6 @@ module _ {A : Type 0} (r : Result A error.Error) (view : A → Tree) where
 
   abbrev pub GivesNeededAlways : Text → Form → BorrowedValue → Type 0
   GivesNeededAlways k f v = IfOk r (λ e. (spans : Bool) (names : List Text) → ReadsNeeded spans k f (borrowed_view v) (view e) names names)
-
-  abbrev pub GivesManyAlways : Text → Form → BorrowedValue → Type 0
-  GivesManyAlways k f v = IfOk r (λ e. (spans : Bool) (names : List Text) → ReadsMany spans k f (borrowed_view v) (view e) names names)
 
 -- its member k, if it is there
 abbrev pub GivesIf : {A : Type 0} → Result (Option A) error.Error → (A → Tree) → Bool → Text → Form → BorrowedValue → List Text → List Text → Type 0

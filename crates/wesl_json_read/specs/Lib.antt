@@ -5,3 +5,6 @@ pub mod Forms
 pub mod Parts
 pub mod Keyed
 pub mod Gives
+pub mod Noted
+pub mod Texts
+pub mod NotedNodes

@@ -1,31 +1,26 @@
-//! Reading expressions and types.
-ghost use Rattle.std.specs.Prelude.{◌≡◌, None, Err, IfOk, IfErr, codes, is_some, true};
+//! Reading expressions.
+ghost use Rattle.std.specs.Prelude.{◌≡◌, None, Some, IfNone, IfSome, codes, is_some, true};
+ghost use Rattle.std.specs.Box.{box_value};
 ghost use Rattle.serde_json.specs.Find.{as_object};
 ghost use Rattle.wesl_json_form.specs.View.{borrowed_view};
-ghost use Rattle.wesl_tree_syntax.specs.Tree.{list, reference};
-ghost use Rattle.wesl_json_form.specs.Nodes.{type_row};
-ghost use Rattle.wesl_json_form.specs.Reading.{name_in};
-ghost use Rattle.wesl_tree_syntax.specs.View.{argument_view, call_view, expression_tree, expression_view, listed, path_tree, type_view};
-ghost use Rattle.wesl_json_form.specs.Schema.{a_call, a_path, a_span, a_type, an_expression, beside, leaf, node as node_form};
-ghost use Rattle.wesl_json_read.specs.Faults.{Locates, LocatesHere, LocatesInside, LocatesInsideAlways, LocatesMember, LocatesPlain, LocatesRow, LocatesText};
-ghost use Rattle.wesl_json_read.specs.Forms.{HasExpressionWord, ReadsExpression, ReadsExpressionOf, expression_worded, row_of_expression, some_arguments, some_expressions};
+ghost use Rattle.wesl_json_form.specs.Words.{binary_words, unary_words};
+ghost use Rattle.wesl_json_form.specs.Schema.{a_call, a_type, an_expression, node as node_form};
+ghost use Rattle.wesl_tree_names.specs.declared.errors.Error as error;
+ghost use Rattle.wesl_tree_syntax.specs.Tree.{binary, list, unary};
+ghost use Rattle.wesl_tree_syntax.specs.View.{argument_view, call_view, expression_tree, expression_view, listed, optional as option_view, type_view};
+ghost use Rattle.wesl_json_read.specs.Forms.{some_arguments, some_expressions};
+ghost use Rattle.wesl_json_read.specs.Noted.{Never, Notes, NotesForm, NotesMany, NotesMay, NotesNeeded};
+ghost use Rattle.wesl_json_read.specs.NotedNodes.{NotesExpression, NotesExpressionWord, NotesOperator, NotesPlain, NotesType, held};
 ghost use Rattle.wesl_json_read.specs.declared.words.ExpressionWord.TheVariants as words;
-ghost use Rattle.wesl_json_read.specs.Numbers.{IsNameNumbered, ReadsPlain, ReadsType};
-ghost use Rattle.wesl_json_read.specs.Gives.{Gives, GivesForm, GivesIdent, GivesIf, GivesIfAlways, GivesMany, GivesNeeded, GivesPlain, IsArgumentOf, boxed_expression};
 
-use crate::fields::{
-    name_member, name_of, own_literal, own_name, path_of, read_span, under, wrong,
-};
-use crate::joined::{boxed, inside, inside_option, room, with_item};
-use crate::numbering::Numbering;
-use crate::words::{
-    ExpressionWord, binary_operator_member, expression_word_in, unary_operator_member,
-};
-use std::alloc::Global;
+use crate::leaves::TextKind;
+use crate::reader::{Fault, Reader};
+use crate::words::{ExpressionWord, binary_operator, expression_word_in, unary_operator};
 use wesl_json_form::BorrowedValue;
-use wesl_tree_names::{Error, Ident, ModulePath, Span};
+use wesl_tree_names::{Ident, Span};
 use wesl_tree_syntax::{
-    Expression, ExpressionNode, FunctionCall, Literal, Spanned, TemplateArg, TypeExpression,
+    BinaryOperator, Expression, ExpressionNode, FunctionCall, Literal, Spanned, TemplateArg,
+    TypeExpression, UnaryOperator,
 };
 
 /// A node that stands in no source text.
@@ -38,609 +33,388 @@ pub(crate) fn unplaced<T>(node: T) -> Spanned<T>
     }
 }
 
-/// The expression that a value is: a truth value, an object, or the name of a type or an identifier.
-#[cycle(expressions)]
-pub fn read_expression(
-    alloc: Global,
-    spans: bool,
-    numbering: &mut Numbering,
-    value: &BorrowedValue<'_>,
-) -> Result<ExpressionNode, Error>
-    ensures ok { GivesForm result expression_tree spans (node_form an_expression) value.now numbering.old numbering.new }
-    ensures place { IfErr result (Locates spans (node_form an_expression) (borrowed_view value.now)) }
-{
-    if let Some(truth) = value.as_bool() {
-        return Ok(unplaced(Expression::Literal(Literal::Bool(truth))));
-    }
-    if value.is_object() {
-        return read_expression_object(alloc, spans, numbering, value);
-    }
-    match read_plain_type(alloc, numbering, value) {
-        Ok(ty) => Ok(unplaced(Expression::TypeOrIdentifier(ty))),
-        Err(error) => Err(error),
+// An expression that takes no memory, in the place of one that is not read.
+fn no_expression() -> Expression {
+    Expression::Literal(Literal::Bool(false))
+}
+
+// A type in the place of one that is not read.
+fn no_type() -> TypeExpression {
+    TypeExpression {
+        path: None,
+        ident: Ident(0),
+        template_args: None,
     }
 }
 
-#[cycle(expressions)]
-fn read_expression_object(
-    alloc: Global,
-    spans: bool,
-    numbering: &mut Numbering,
-    value: &BorrowedValue<'_>,
-) -> Result<ExpressionNode, Error>
-    requires { is_some (as_object (borrowed_view value.now)) ≡ true }
-    ensures ok { GivesForm result expression_tree spans (node_form an_expression) value.now numbering.old numbering.new }
-    ensures place { IfErr result (Locates spans (node_form an_expression) (borrowed_view value.now)) }
-{
-    match expression_word_of(alloc, spans, value) {
-        Ok(word) => match read_span(alloc, spans, value) {
-            Ok(span) => match read_worded_expression(alloc, spans, numbering, value, word) {
-                Ok(node) => Ok(Spanned { node, span }),
-                Err(error) => Err(error),
+impl Reader {
+    /// The expression that a value is: a truth value, an object, or the name of a type or an identifier.
+    #[cycle(expressions)]
+    pub fn expression(&mut self, value: &BorrowedValue<'_>) -> ExpressionNode
+        ensures { NotesForm (node_form an_expression) (borrowed_view value.now) (expression_tree result) self.old self.new }
+    {
+        if let Some(truth) = value.as_bool() {
+            return unplaced(Expression::Literal(Literal::Bool(truth)));
+        }
+        if value.is_object() {
+            return self.expression_object(value);
+        }
+        unplaced(Expression::TypeOrIdentifier(self.plain_type(value)))
+    }
+
+    #[cycle(expressions)]
+    fn expression_object(&mut self, value: &BorrowedValue<'_>) -> ExpressionNode
+        requires { is_some (as_object (borrowed_view value.now)) ≡ true }
+        ensures { NotesForm (node_form an_expression) (borrowed_view value.now) (expression_tree result) self.old self.new }
+    {
+        let word = self.expression_word(value);
+        Spanned {
+            span: self.span(value),
+            node: self.worded_expression(value, word),
+        }
+    }
+
+    // The word at `k`; without one the object is a type or an identifier.
+    fn expression_word(&mut self, value: &BorrowedValue<'_>) -> Option<ExpressionWord>
+        requires { is_some (as_object (borrowed_view value.now)) ≡ true }
+        ensures { NotesExpressionWord (borrowed_view value.now) result self.old self.new }
+    {
+        let word = self.optional(value, "k")?;
+        match expression_word_in(self.spans, word) {
+            Some(word) => Some(word),
+            None => {
+                self.wrong();
+                self.within("k");
+                None
+            }
+        }
+    }
+
+    // The expression that an object with this word is, but for its span.
+    #[cycle(expressions)]
+    fn worded_expression(
+        &mut self,
+        value: &BorrowedValue<'_>,
+        word: Option<ExpressionWord>,
+    ) -> Expression
+        ensures { NotesExpression word (borrowed_view value.now) (expression_view result) self.old self.new }
+    {
+        match word {
+            Some(ExpressionWord::Literal) => {
+                self.keys(value, self.spans, &["k", "text"]);
+                let text = self.text(value, "text", TextKind::Literal);
+                Expression::Literal(Literal::Text(text))
+            }
+            Some(ExpressionWord::Truth(truth)) => {
+                self.keys(value, self.spans, &["k"]);
+                Expression::Literal(Literal::Bool(truth))
+            }
+            Some(ExpressionWord::Parenthesized) => self.parenthesized(value),
+            Some(ExpressionWord::NamedComponent) => self.component(value),
+            Some(ExpressionWord::Indexing) => self.indexing(value),
+            Some(ExpressionWord::Unary) => self.unary(value),
+            Some(ExpressionWord::Binary) => self.binary(value),
+            Some(ExpressionWord::FunctionCall) => {
+                self.keys(value, self.spans, &["k", "ty", "args"]);
+                Expression::FunctionCall(FunctionCall {
+                    ty: self.type_at(value, "ty"),
+                    arguments: self.expressions(value, "args"),
+                })
+            }
+            None => Expression::TypeOrIdentifier(self.type_object(value, self.spans)),
+        }
+    }
+
+    #[cycle(expressions)]
+    fn parenthesized(&mut self, value: &BorrowedValue<'_>) -> Expression
+        ensures { NotesExpression (Some words.Parenthesized) (borrowed_view value.now) (expression_view result) self.old self.new }
+    {
+        self.keys(value, self.spans, &["k", "expr"]);
+        match self.boxed_at(value, "expr") {
+            Some(expression) => Expression::Parenthesized { expression },
+            None => no_expression(),
+        }
+    }
+
+    #[cycle(expressions)]
+    fn component(&mut self, value: &BorrowedValue<'_>) -> Expression
+        ensures { NotesExpression (Some words.NamedComponent) (borrowed_view value.now) (expression_view result) self.old self.new }
+    {
+        self.keys(value, self.spans, &["k", "base", "name"]);
+        let base = self.boxed_at(value, "base");
+        let component = self.text(value, "name", TextKind::Name);
+        match base {
+            Some(base) => Expression::NamedComponent { base, component },
+            None => no_expression(),
+        }
+    }
+
+    #[cycle(expressions)]
+    fn indexing(&mut self, value: &BorrowedValue<'_>) -> Expression
+        ensures { NotesExpression (Some words.Indexing) (borrowed_view value.now) (expression_view result) self.old self.new }
+    {
+        self.keys(value, self.spans, &["k", "base", "index"]);
+        let base = self.boxed_at(value, "base");
+        let index = self.boxed_at(value, "index");
+        match base {
+            Some(base) => match index {
+                Some(index) => Expression::Indexing { base, index },
+                None => no_expression(),
             },
-            Err(error) => Err(error),
-        },
-        Err(error) => Err(error),
+            None => no_expression(),
+        }
     }
-}
 
-// The word at `k`; without one the object is a type or an identifier.
-fn expression_word_of(
-    alloc: Global,
-    spans: bool,
-    value: &BorrowedValue<'_>,
-) -> Result<Option<ExpressionWord>, Error>
-    requires { is_some (as_object (borrowed_view value.now)) ≡ true }
-    ensures word { IfOk result (λ w. HasExpressionWord spans w (borrowed_view value.now)) }
-    ensures place { IfErr result (Locates spans (node_form an_expression) (borrowed_view value.now)) }
-{
-    let Some(word) = value.get("k") else {
-        return Ok(None);
-    };
-    match expression_word_in(spans, word) {
-        Some(word) => Ok(Some(word)),
-        None => Err(under(alloc, wrong(alloc), "k")),
+    #[cycle(expressions)]
+    fn unary(&mut self, value: &BorrowedValue<'_>) -> Expression
+        ensures { NotesExpression (Some words.Unary) (borrowed_view value.now) (expression_view result) self.old self.new }
+    {
+        self.keys(value, self.spans, &["k", "op", "expr"]);
+        let operator = self.unary_operator(value);
+        match self.boxed_at(value, "expr") {
+            Some(operand) => Expression::Unary { operator, operand },
+            None => no_expression(),
+        }
     }
-}
 
-// The expression that an object with this word is, but for its span.
-#[cycle(expressions)]
-fn read_worded_expression(
-    alloc: Global,
-    spans: bool,
-    numbering: &mut Numbering,
-    value: &BorrowedValue<'_>,
-    word: Option<ExpressionWord>,
-) -> Result<Expression, Error>
-    ensures ok { Gives result expression_view (ReadsExpressionOf spans word) value.now numbering.old numbering.new }
-    ensures place { IfErr result (LocatesRow spans (row_of_expression spans word) (borrowed_view value.now)) }
-{
-    match word {
-        Some(ExpressionWord::Literal) => read_literal(alloc, spans, value),
-        Some(ExpressionWord::Truth(truth)) => read_truth(alloc, spans, value, truth),
-        Some(ExpressionWord::Parenthesized) => read_parenthesized(alloc, spans, numbering, value),
-        Some(ExpressionWord::NamedComponent) => read_component(alloc, spans, numbering, value),
-        Some(ExpressionWord::Indexing) => read_indexing(alloc, spans, numbering, value),
-        Some(ExpressionWord::Unary) => read_unary(alloc, spans, numbering, value),
-        Some(ExpressionWord::Binary) => read_binary(alloc, spans, numbering, value),
-        Some(ExpressionWord::FunctionCall) => read_call_expression(alloc, spans, numbering, value),
-        None => read_type_or_identifier(alloc, spans, numbering, value),
-    }
-}
-
-fn read_literal(alloc: Global, spans: bool, value: &BorrowedValue<'_>) -> Result<Expression, Error>
-    ensures ok { GivesPlain result expression_view (ReadsExpression spans words.Literal) value.now }
-    ensures place { IfErr result (LocatesRow spans (expression_worded spans words.Literal) (borrowed_view value.now)) }
-{
-    if !wesl_json_form::has_only_beside(value, spans, "span", &["k", "text"]) {
-        return Err(wrong(alloc));
-    }
-    match own_literal(alloc, value, "text") {
-        Ok(text) => Ok(Expression::Literal(Literal::Text(text))),
-        Err(error) => Err(error),
-    }
-}
-
-// A truth value that is an object.
-fn read_truth(
-    alloc: Global,
-    spans: bool,
-    value: &BorrowedValue<'_>,
-    truth: bool,
-) -> Result<Expression, Error>
-    ensures ok { GivesPlain result expression_view (ReadsExpression spans (words.Truth truth)) value.now }
-    ensures place { IfErr result (LocatesRow spans (expression_worded spans (words.Truth truth)) (borrowed_view value.now)) }
-{
-    if !wesl_json_form::has_only_beside(value, spans, "span", &["k"]) {
-        return Err(wrong(alloc));
-    }
-    Ok(Expression::Literal(Literal::Bool(truth)))
-}
-
-#[cycle(expressions)]
-fn read_parenthesized(
-    alloc: Global,
-    spans: bool,
-    numbering: &mut Numbering,
-    value: &BorrowedValue<'_>,
-) -> Result<Expression, Error>
-    ensures ok { Gives result expression_view (ReadsExpression spans words.Parenthesized) value.now numbering.old numbering.new }
-    ensures place { IfErr result (LocatesRow spans (expression_worded spans words.Parenthesized) (borrowed_view value.now)) }
-{
-    if !wesl_json_form::has_only_beside(value, spans, "span", &["k", "expr"]) {
-        return Err(wrong(alloc));
-    }
-    match boxed_member(alloc, spans, numbering, value, "expr") {
-        Ok(expression) => Ok(Expression::Parenthesized { expression }),
-        Err(error) => Err(error),
-    }
-}
-
-#[cycle(expressions)]
-fn read_component(
-    alloc: Global,
-    spans: bool,
-    numbering: &mut Numbering,
-    value: &BorrowedValue<'_>,
-) -> Result<Expression, Error>
-    ensures ok { Gives result expression_view (ReadsExpression spans words.NamedComponent) value.now numbering.old numbering.new }
-    ensures place { IfErr result (LocatesRow spans (expression_worded spans words.NamedComponent) (borrowed_view value.now)) }
-{
-    if !wesl_json_form::has_only_beside(value, spans, "span", &["k", "base", "name"]) {
-        return Err(wrong(alloc));
-    }
-    match boxed_member(alloc, spans, numbering, value, "base") {
-        Ok(base) => match own_name(alloc, value, "name") {
-            Ok(component) => Ok(Expression::NamedComponent { base, component }),
-            Err(error) => Err(error),
-        },
-        Err(error) => Err(error),
-    }
-}
-
-#[cycle(expressions)]
-fn read_indexing(
-    alloc: Global,
-    spans: bool,
-    numbering: &mut Numbering,
-    value: &BorrowedValue<'_>,
-) -> Result<Expression, Error>
-    ensures ok { Gives result expression_view (ReadsExpression spans words.Indexing) value.now numbering.old numbering.new }
-    ensures place { IfErr result (LocatesRow spans (expression_worded spans words.Indexing) (borrowed_view value.now)) }
-{
-    if !wesl_json_form::has_only_beside(value, spans, "span", &["k", "base", "index"]) {
-        return Err(wrong(alloc));
-    }
-    match boxed_member(alloc, spans, numbering, value, "base") {
-        Ok(base) => match boxed_member(alloc, spans, numbering, value, "index") {
-            Ok(index) => Ok(Expression::Indexing { base, index }),
-            Err(error) => Err(error),
-        },
-        Err(error) => Err(error),
-    }
-}
-
-#[cycle(expressions)]
-fn read_unary(
-    alloc: Global,
-    spans: bool,
-    numbering: &mut Numbering,
-    value: &BorrowedValue<'_>,
-) -> Result<Expression, Error>
-    ensures ok { Gives result expression_view (ReadsExpression spans words.Unary) value.now numbering.old numbering.new }
-    ensures place { IfErr result (LocatesRow spans (expression_worded spans words.Unary) (borrowed_view value.now)) }
-{
-    if !wesl_json_form::has_only_beside(value, spans, "span", &["k", "op", "expr"]) {
-        return Err(wrong(alloc));
-    }
-    match unary_operator_member(alloc, value) {
-        Ok(operator) => match boxed_member(alloc, spans, numbering, value, "expr") {
-            Ok(operand) => Ok(Expression::Unary { operator, operand }),
-            Err(error) => Err(error),
-        },
-        Err(error) => Err(error),
-    }
-}
-
-#[cycle(expressions)]
-fn read_binary(
-    alloc: Global,
-    spans: bool,
-    numbering: &mut Numbering,
-    value: &BorrowedValue<'_>,
-) -> Result<Expression, Error>
-    ensures ok { Gives result expression_view (ReadsExpression spans words.Binary) value.now numbering.old numbering.new }
-    ensures place { IfErr result (LocatesRow spans (expression_worded spans words.Binary) (borrowed_view value.now)) }
-{
-    if !wesl_json_form::has_only_beside(value, spans, "span", &["k", "op", "left", "right"]) {
-        return Err(wrong(alloc));
-    }
-    match binary_operator_member(alloc, value) {
-        Ok(operator) => match boxed_member(alloc, spans, numbering, value, "left") {
-            Ok(left) => match boxed_member(alloc, spans, numbering, value, "right") {
-                Ok(right) => Ok(Expression::Binary {
+    #[cycle(expressions)]
+    fn binary(&mut self, value: &BorrowedValue<'_>) -> Expression
+        ensures { NotesExpression (Some words.Binary) (borrowed_view value.now) (expression_view result) self.old self.new }
+    {
+        self.keys(value, self.spans, &["k", "op", "left", "right"]);
+        let operator = self.binary_operator(value);
+        let left = self.boxed_at(value, "left");
+        let right = self.boxed_at(value, "right");
+        match left {
+            Some(left) => match right {
+                Some(right) => Expression::Binary {
                     operator,
                     left,
                     right,
-                }),
-                Err(error) => Err(error),
+                },
+                None => no_expression(),
             },
-            Err(error) => Err(error),
-        },
-        Err(error) => Err(error),
+            None => no_expression(),
+        }
     }
-}
 
-#[cycle(expressions)]
-fn read_call_expression(
-    alloc: Global,
-    spans: bool,
-    numbering: &mut Numbering,
-    value: &BorrowedValue<'_>,
-) -> Result<Expression, Error>
-    ensures ok { Gives result expression_view (ReadsExpression spans words.FunctionCall) value.now numbering.old numbering.new }
-    ensures place { IfErr result (LocatesRow spans (expression_worded spans words.FunctionCall) (borrowed_view value.now)) }
-{
-    if !wesl_json_form::has_only_beside(value, spans, "span", &["k", "ty", "args"]) {
-        return Err(wrong(alloc));
+    // The operator at `op`, of one operand.
+    fn unary_operator(&mut self, value: &BorrowedValue<'_>) -> UnaryOperator
+        ensures { NotesOperator unary_words (borrowed_view value.now) (unary result) self.old self.new }
+    {
+        let Some(word) = self.required(value, "op") else {
+            return UnaryOperator::Negation;
+        };
+        match word.as_str().and_then(unary_operator) {
+            Some(operator) => operator,
+            None => {
+                self.wrong();
+                self.within("op");
+                UnaryOperator::Negation
+            }
+        }
     }
-    match type_member(alloc, spans, numbering, value, "ty") {
-        Ok(ty) => match expressions_member(alloc, spans, numbering, value, "args") {
-            Ok(arguments) => Ok(Expression::FunctionCall(FunctionCall { ty, arguments })),
-            Err(error) => Err(error),
-        },
-        Err(error) => Err(error),
+
+    // The operator at `op`, of two operands.
+    fn binary_operator(&mut self, value: &BorrowedValue<'_>) -> BinaryOperator
+        ensures { NotesOperator binary_words (borrowed_view value.now) (binary result) self.old self.new }
+    {
+        let Some(word) = self.required(value, "op") else {
+            return BinaryOperator::Addition;
+        };
+        match word.as_str().and_then(binary_operator) {
+            Some(operator) => operator,
+            None => {
+                self.wrong();
+                self.within("op");
+                BinaryOperator::Addition
+            }
+        }
     }
-}
 
-#[cycle(expressions)]
-fn read_type_or_identifier(
-    alloc: Global,
-    spans: bool,
-    numbering: &mut Numbering,
-    value: &BorrowedValue<'_>,
-) -> Result<Expression, Error>
-    ensures ok { Gives result expression_view (ReadsExpressionOf spans None) value.now numbering.old numbering.new }
-    ensures place { IfErr result (LocatesRow spans (row_of_expression spans None) (borrowed_view value.now)) }
-{
-    match read_type_object(alloc, spans, numbering, value, spans) {
-        Ok(ty) => Ok(Expression::TypeOrIdentifier(ty)),
-        Err(error) => Err(error),
+    /// The expression at `key`, which must be there.
+    #[cycle(expressions)]
+    pub fn expression_at(&mut self, value: &BorrowedValue<'_>, key: &str) -> ExpressionNode
+        ensures { NotesNeeded key.now (node_form an_expression) (borrowed_view value.now) (expression_tree result) self.old self.new }
+    {
+        let Some(member) = self.required(value, key) else {
+            return unplaced(no_expression());
+        };
+        let expression = self.expression(member);
+        self.within(key);
+        expression
     }
-}
 
-/// The expression at `key`, which must be there.
-#[cycle(expressions)]
-pub fn expression_member(
-    alloc: Global,
-    spans: bool,
-    numbering: &mut Numbering,
-    value: &BorrowedValue<'_>,
-    key: &str,
-) -> Result<ExpressionNode, Error>
-    ensures ok { GivesNeeded result expression_tree spans key.now (node_form an_expression) value.now numbering.old numbering.new }
-    ensures place { IfErr result (LocatesMember spans key.now (node_form an_expression) (borrowed_view value.now)) }
-{
-    let Some(member) = value.get(key) else {
-        return Err(wrong(alloc));
-    };
-    inside(alloc, key, read_expression(alloc, spans, numbering, member))
-}
-
-// The expression at `key`, which must be there, in a box.
-#[cycle(expressions)]
-fn boxed_member(
-    alloc: Global,
-    spans: bool,
-    numbering: &mut Numbering,
-    value: &BorrowedValue<'_>,
-    key: &str,
-) -> Result<Box<ExpressionNode>, Error>
-    ensures ok { GivesNeeded result boxed_expression spans key.now (node_form an_expression) value.now numbering.old numbering.new }
-    ensures place { IfErr result (LocatesMember spans key.now (node_form an_expression) (borrowed_view value.now)) }
-{
-    boxed(
-        alloc,
-        expression_member(alloc, spans, numbering, value, key),
-    )
-}
-
-/// The expressions at `key`, a list.
-#[cycle(expressions)]
-pub fn expressions_member(
-    alloc: Global,
-    spans: bool,
-    numbering: &mut Numbering,
-    value: &BorrowedValue<'_>,
-    key: &str,
-) -> Result<Vec<ExpressionNode>, Error>
-    ensures ok { GivesMany result (listed expression_tree list) spans key.now some_expressions value.now numbering.old numbering.new }
-    ensures place { IfErr result (LocatesInside spans key.now some_expressions (borrowed_view value.now)) }
-{
-    let Some(member) = value.get(key) else {
-        return Ok(Vec::new(alloc));
-    };
-    inside(
-        alloc,
-        key,
-        read_expressions(alloc, spans, numbering, member),
-    )
-}
-
-/// The expressions that a list is.
-#[cycle(expressions)]
-pub fn read_expressions(
-    alloc: Global,
-    spans: bool,
-    numbering: &mut Numbering,
-    value: &BorrowedValue<'_>,
-) -> Result<Vec<ExpressionNode>, Error>
-    ensures ok { GivesForm result (listed expression_tree list) spans some_expressions value.now numbering.old numbering.new }
-    ensures place { IfErr result (Locates spans some_expressions (borrowed_view value.now)) }
-{
-    let Some(items) = value.as_array() else {
-        return Err(wrong(alloc));
-    };
-    let mut expressions = room(alloc, items.len());
-    for (index, item) in items.iter().enumerate() {
-        let expression = read_expression(alloc, spans, numbering, item);
-        expressions = with_item(alloc, expressions, index, expression);
+    // The expression at `key`, in a box; none where memory was refused for it.
+    #[cycle(expressions)]
+    fn boxed_at(&mut self, value: &BorrowedValue<'_>, key: &str) -> Option<Box<ExpressionNode>>
+        ensures noted { NotesNeeded key.now (node_form an_expression) (borrowed_view value.now) (held result) self.old self.new }
+        ensures there { self.new.fault ≡ None → is_some result ≡ true }
+    {
+        let expression = self.expression_at(value, key);
+        self.boxed(expression)
     }
-    expressions
-}
 
-/// The type at `key`, which must be there.
-#[cycle(expressions)]
-pub fn type_member(
-    alloc: Global,
-    spans: bool,
-    numbering: &mut Numbering,
-    value: &BorrowedValue<'_>,
-    key: &str,
-) -> Result<TypeExpression, Error>
-    ensures ok { GivesNeeded result type_view spans key.now (node_form a_type) value.now numbering.old numbering.new }
-    ensures place { IfErr result (LocatesMember spans key.now (node_form a_type) (borrowed_view value.now)) }
-{
-    let Some(member) = value.get(key) else {
-        return Err(wrong(alloc));
-    };
-    inside(alloc, key, read_type(alloc, spans, numbering, member))
-}
-
-/// The type that a value is: its name alone, or an object.
-#[cycle(expressions)]
-pub fn read_type(
-    alloc: Global,
-    spans: bool,
-    numbering: &mut Numbering,
-    value: &BorrowedValue<'_>,
-) -> Result<TypeExpression, Error>
-    ensures ok { GivesForm result type_view spans (node_form a_type) value.now numbering.old numbering.new }
-    ensures place { IfErr result (Locates spans (node_form a_type) (borrowed_view value.now)) }
-{
-    if value.is_object() {
-        read_type_object(alloc, spans, numbering, value, false)
-    } else {
-        read_plain_type(alloc, numbering, value)
+    fn boxed(&mut self, expression: ExpressionNode) -> Option<Box<ExpressionNode>>
+        ensures same { IfSome result (λ b. (box_value b ≡ expression) × (self.new ≡ self.old)) }
+        ensures refused { IfNone result (Notes Never (λ _ e. e ≡ error.Memory) self.old self.new) }
+    {
+        match Box::new(self.alloc, expression) {
+            Ok(held) => Some(held),
+            Err(_) => {
+                self.note(Fault::Memory);
+                None
+            }
+        }
     }
-}
 
-// A type by its name alone.
-fn read_plain_type(
-    alloc: Global,
-    numbering: &mut Numbering,
-    value: &BorrowedValue<'_>,
-) -> Result<TypeExpression, Error>
-    ensures ok { Gives result type_view ReadsPlain value.now numbering.old numbering.new }
-    ensures place { IfErr result (LocatesPlain (borrowed_view value.now)) }
-{
-    match number_of(alloc, numbering, value) {
-        Ok(ident) => Ok(TypeExpression {
+    /// The expression at `key`, an option.
+    pub fn optional_expression(
+        &mut self,
+        value: &BorrowedValue<'_>,
+        key: &str,
+    ) -> Option<ExpressionNode>
+        ensures { NotesMay key.now (node_form an_expression) (borrowed_view value.now) (option_view expression_tree result) self.old self.new }
+    {
+        let Some(member) = self.optional(value, key) else {
+            return None;
+        };
+        let expression = self.expression(member);
+        self.within(key);
+        Some(expression)
+    }
+
+    /// The expressions at `key`, a list.
+    #[cycle(expressions)]
+    pub fn expressions(&mut self, value: &BorrowedValue<'_>, key: &str) -> Vec<ExpressionNode>
+        ensures { NotesMany key.now some_expressions (borrowed_view value.now) (listed expression_tree list result) self.old self.new }
+    {
+        let Some(items) = self.list(value, key) else {
+            return Vec::new(self.alloc);
+        };
+        let mut expressions = self.room(items.len());
+        for (index, item) in items.iter().enumerate() {
+            if !self.is_stopped() {
+                let expression = self.expression(item);
+                self.put(&mut expressions, index, expression);
+            }
+        }
+        self.within(key);
+        expressions
+    }
+
+    /// The expressions at `key`, a list that may be absent.
+    pub fn optional_expressions(
+        &mut self,
+        value: &BorrowedValue<'_>,
+        key: &str,
+    ) -> Option<Vec<ExpressionNode>>
+        ensures { NotesMay key.now some_expressions (borrowed_view value.now) (option_view (listed expression_tree list) result) self.old self.new }
+    {
+        match value.get(key) {
+            Some(_) => Some(self.expressions(value, key)),
+            None => None,
+        }
+    }
+
+    /// The type at `key`, which must be there.
+    #[cycle(expressions)]
+    pub fn type_at(&mut self, value: &BorrowedValue<'_>, key: &str) -> TypeExpression
+        ensures { NotesNeeded key.now (node_form a_type) (borrowed_view value.now) (type_view result) self.old self.new }
+    {
+        let Some(member) = self.required(value, key) else {
+            return no_type();
+        };
+        let ty = self.type_of(member);
+        self.within(key);
+        ty
+    }
+
+    /// The type at `key`, an option.
+    pub fn optional_type(&mut self, value: &BorrowedValue<'_>, key: &str) -> Option<TypeExpression>
+        ensures { NotesMay key.now (node_form a_type) (borrowed_view value.now) (option_view type_view result) self.old self.new }
+    {
+        let Some(member) = self.optional(value, key) else {
+            return None;
+        };
+        let ty = self.type_of(member);
+        self.within(key);
+        Some(ty)
+    }
+
+    // The type that a value is: its name alone, or an object.
+    #[cycle(expressions)]
+    fn type_of(&mut self, value: &BorrowedValue<'_>) -> TypeExpression
+        ensures { NotesForm (node_form a_type) (borrowed_view value.now) (type_view result) self.old self.new }
+    {
+        if value.is_object() {
+            self.type_object(value, false)
+        } else {
+            self.plain_type(value)
+        }
+    }
+
+    // A type by its name alone.
+    fn plain_type(&mut self, value: &BorrowedValue<'_>) -> TypeExpression
+        ensures { NotesPlain (borrowed_view value.now) (type_view result) self.old self.new }
+    {
+        TypeExpression {
             path: None,
-            ident,
+            ident: self.ident(value),
             template_args: None,
-        }),
-        Err(error) => Err(error),
+        }
     }
-}
 
-// The number of the name that a value is.
-fn number_of(
-    alloc: Global,
-    numbering: &mut Numbering,
-    value: &BorrowedValue<'_>,
-) -> Result<Ident, Error>
-    ensures ok { IfOk result (λ i. IsNameNumbered (borrowed_view value.now) i.0 numbering.old numbering.new) }
-    ensures place { IfErr result (LocatesHere (name_in (borrowed_view value.now))) }
-{
-    match name_of(alloc, value) {
-        Ok(name) => numbering.number(alloc, name),
-        Err(error) => Err(error),
+    // The type that an object is, which may have a span where it takes one.
+    #[cycle(expressions)]
+    fn type_object(&mut self, value: &BorrowedValue<'_>, takes_span: bool) -> TypeExpression
+        ensures { NotesType takes_span (borrowed_view value.now) (type_view result) self.old self.new }
+    {
+        self.keys(value, takes_span, &["path", "name", "args"]);
+        TypeExpression {
+            path: self.path(value),
+            ident: self.ident_at(value, "name"),
+            template_args: self.arguments(value),
+        }
     }
-}
 
-// The type that an object is, which may have a span where it takes one.
-#[cycle(expressions)]
-fn read_type_object(
-    alloc: Global,
-    spans: bool,
-    numbering: &mut Numbering,
-    value: &BorrowedValue<'_>,
-    takes_span: bool,
-) -> Result<TypeExpression, Error>
-    ensures ok { Gives result type_view (ReadsType spans takes_span) value.now numbering.old numbering.new }
-    ensures place { IfErr result (LocatesRow spans (beside takes_span a_span type_row) (borrowed_view value.now)) }
-{
-    if !wesl_json_form::has_only_beside(value, takes_span, "span", &["path", "name", "args"]) {
-        return Err(wrong(alloc));
+    // The template arguments at `args`, an option.
+    #[cycle(expressions)]
+    fn arguments(&mut self, value: &BorrowedValue<'_>) -> Option<Vec<TemplateArg>>
+        ensures { NotesMay (codes "args") some_arguments (borrowed_view value.now) (option_view (listed argument_view list) result) self.old self.new }
+    {
+        match value.get("args") {
+            Some(_) => Some(self.argument_list(value)),
+            None => None,
+        }
     }
-    match optional_path(alloc, value) {
-        Ok(path) => match reference_member(alloc, numbering, value) {
-            Ok(ident) => match arguments_member(alloc, spans, numbering, value) {
-                Ok(template_args) => Ok(TypeExpression {
-                    path,
-                    ident,
-                    template_args,
-                }),
-                Err(error) => Err(error),
-            },
-            Err(error) => Err(error),
-        },
-        Err(error) => Err(error),
+
+    #[cycle(expressions)]
+    fn argument_list(&mut self, value: &BorrowedValue<'_>) -> Vec<TemplateArg>
+        ensures { NotesMany (codes "args") some_arguments (borrowed_view value.now) (listed argument_view list result) self.old self.new }
+    {
+        let Some(items) = self.list(value, "args") else {
+            return Vec::new(self.alloc);
+        };
+        let mut arguments = self.room(items.len());
+        for (index, item) in items.iter().enumerate() {
+            if !self.is_stopped() {
+                let expression = self.expression(item);
+                self.put(&mut arguments, index, TemplateArg { expression });
+            }
+        }
+        self.within("args");
+        arguments
     }
-}
 
-// The name at `name`, by its number.
-fn reference_member(
-    alloc: Global,
-    numbering: &mut Numbering,
-    value: &BorrowedValue<'_>,
-) -> Result<Ident, Error>
-    ensures ok { GivesIdent result reference (codes "name") value.now numbering.old numbering.new }
-    ensures place { IfErr result (LocatesText name_in (codes "name") (borrowed_view value.now)) }
-{
-    match name_member(alloc, value, "name") {
-        Ok(name) => numbering.number(alloc, name),
-        Err(error) => Err(error),
+    /// The call that an object is, without a word.
+    pub fn call(&mut self, value: &BorrowedValue<'_>) -> FunctionCall
+        ensures { NotesForm (node_form a_call) (borrowed_view value.now) (call_view result) self.old self.new }
+    {
+        self.keys(value, false, &["ty", "args"]);
+        FunctionCall {
+            ty: self.type_at(value, "ty"),
+            arguments: self.expressions(value, "args"),
+        }
     }
-}
-
-/// The path at `path`, an option.
-pub fn optional_path(alloc: Global, value: &BorrowedValue<'_>) -> Result<Option<ModulePath>, Error>
-    ensures ok { GivesIfAlways result path_tree (codes "path") (leaf a_path) value.now }
-    ensures place { IfErr result (LocatesInsideAlways (codes "path") (leaf a_path) (borrowed_view value.now)) }
-{
-    let Some(member) = value.get("path") else {
-        return Ok(None);
-    };
-    inside_option(alloc, "path", path_of(alloc, member))
-}
-
-// The template arguments at `args`, an option.
-#[cycle(expressions)]
-fn arguments_member(
-    alloc: Global,
-    spans: bool,
-    numbering: &mut Numbering,
-    value: &BorrowedValue<'_>,
-) -> Result<Option<Vec<TemplateArg>>, Error>
-    ensures ok { GivesIf result (listed argument_view list) spans (codes "args") some_arguments value.now numbering.old numbering.new }
-    ensures place { IfErr result (LocatesInside spans (codes "args") some_arguments (borrowed_view value.now)) }
-{
-    let Some(member) = value.get("args") else {
-        return Ok(None);
-    };
-    inside_option(
-        alloc,
-        "args",
-        read_arguments(alloc, spans, numbering, member),
-    )
-}
-
-#[cycle(expressions)]
-fn read_arguments(
-    alloc: Global,
-    spans: bool,
-    numbering: &mut Numbering,
-    value: &BorrowedValue<'_>,
-) -> Result<Vec<TemplateArg>, Error>
-    ensures ok { GivesForm result (listed argument_view list) spans some_arguments value.now numbering.old numbering.new }
-    ensures place { IfErr result (Locates spans some_arguments (borrowed_view value.now)) }
-{
-    let Some(items) = value.as_array() else {
-        return Err(wrong(alloc));
-    };
-    let mut arguments = room(alloc, items.len());
-    for (index, item) in items.iter().enumerate() {
-        let argument = argument_of(read_expression(alloc, spans, numbering, item));
-        arguments = with_item(alloc, arguments, index, argument);
-    }
-    arguments
-}
-
-fn argument_of(read: Result<ExpressionNode, Error>) -> Result<TemplateArg, Error>
-    ensures ok { IfOk result (IsArgumentOf read) }
-    ensures place { IfErr result (λ e. read ≡ Err e) }
-{
-    match read {
-        Ok(expression) => Ok(TemplateArg { expression }),
-        Err(error) => Err(error),
-    }
-}
-
-/// The call that an object is, without a word.
-pub fn read_call(
-    alloc: Global,
-    spans: bool,
-    numbering: &mut Numbering,
-    value: &BorrowedValue<'_>,
-) -> Result<FunctionCall, Error>
-    ensures ok { GivesForm result call_view spans (node_form a_call) value.now numbering.old numbering.new }
-    ensures place { IfErr result (Locates spans (node_form a_call) (borrowed_view value.now)) }
-{
-    if !wesl_json_form::has_only(value, &["ty", "args"]) {
-        return Err(wrong(alloc));
-    }
-    match type_member(alloc, spans, numbering, value, "ty") {
-        Ok(ty) => match expressions_member(alloc, spans, numbering, value, "args") {
-            Ok(arguments) => Ok(FunctionCall { ty, arguments }),
-            Err(error) => Err(error),
-        },
-        Err(error) => Err(error),
-    }
-}
-
-/// The expression at `key`, an option.
-pub fn optional_expression(
-    alloc: Global,
-    spans: bool,
-    numbering: &mut Numbering,
-    value: &BorrowedValue<'_>,
-    key: &str,
-) -> Result<Option<ExpressionNode>, Error>
-    ensures ok { GivesIf result expression_tree spans key.now (node_form an_expression) value.now numbering.old numbering.new }
-    ensures place { IfErr result (LocatesInside spans key.now (node_form an_expression) (borrowed_view value.now)) }
-{
-    let Some(member) = value.get(key) else {
-        return Ok(None);
-    };
-    inside_option(alloc, key, read_expression(alloc, spans, numbering, member))
-}
-
-/// The expressions at `key`, a list that may be absent.
-pub fn optional_expressions(
-    alloc: Global,
-    spans: bool,
-    numbering: &mut Numbering,
-    value: &BorrowedValue<'_>,
-    key: &str,
-) -> Result<Option<Vec<ExpressionNode>>, Error>
-    ensures ok { GivesIf result (listed expression_tree list) spans key.now some_expressions value.now numbering.old numbering.new }
-    ensures place { IfErr result (LocatesInside spans key.now some_expressions (borrowed_view value.now)) }
-{
-    let Some(member) = value.get(key) else {
-        return Ok(None);
-    };
-    inside_option(
-        alloc,
-        key,
-        read_expressions(alloc, spans, numbering, member),
-    )
-}
-
-/// The type at `key`, an option.
-pub fn optional_type(
-    alloc: Global,
-    spans: bool,
-    numbering: &mut Numbering,
-    value: &BorrowedValue<'_>,
-    key: &str,
-) -> Result<Option<TypeExpression>, Error>
-    ensures ok { GivesIf result type_view spans key.now (node_form a_type) value.now numbering.old numbering.new }
-    ensures place { IfErr result (LocatesInside spans key.now (node_form a_type) (borrowed_view value.now)) }
-{
-    let Some(member) = value.get(key) else {
-        return Ok(None);
-    };
-    inside_option(alloc, key, read_type(alloc, spans, numbering, member))
 }

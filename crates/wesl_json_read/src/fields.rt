@@ -2,22 +2,27 @@
 //!
 //! A fault's place is a JSON Pointer (RFC 6901). It begins empty, at the value that is wrong, and grows on the way
 //! out, by the key or the index of each value round it.
-ghost use Rattle.std.specs.Prelude.{◌≡◌, ◌∷◌, ◌++◌, map, true, false, Some, None, IfOk, IfErr, OnOk, OnErr, option_and_then, option_map, string_bytes};
+ghost use Rattle.std.specs.Prelude.{◌≡◌, ◌∷◌, ◌++◌, map, true, false, Some, IfOk, IfErr, OnOk, OnErr, codes, option_and_then, option_map, string_bytes};
 ghost use Rattle.std.specs.List.{list_any};
 ghost use Rattle.std.specs.Str.{bytes_eq};
 ghost use Rattle.serde_json.specs.Find.{as_str, get};
 ghost use Rattle.wesl_json_form.specs.View.{borrowed_view};
 ghost use Rattle.wesl_tree_names.specs.Path.{path_view};
-ghost use Rattle.wesl_json_form.specs.Reading.{name_in, literal_in, ordered, path_in, span_in, span_of};
+ghost use Rattle.wesl_json_form.specs.Reading.{name_in, ordered, path_in, span_in, span_of};
+ghost use Rattle.wesl_json_form.specs.Schema.{a_path, leaf};
+ghost use Rattle.wesl_tree_syntax.specs.View.{path_tree};
+ghost use Rattle.wesl_json_read.specs.Gives.{GivesIfAlways};
+ghost use Rattle.wesl_json_read.specs.Numbers.{IsNameNumbered};
 ghost use Rattle.wesl_json_form.specs.Keys.{all_known, has_only};
 ghost use Rattle.wesl_json_form.specs.Pointer.{escaped};
-ghost use Rattle.wesl_json_read.specs.Faults.{IsAtRoot, IsUnder, IsUnderIndex, LocatesHere, LocatesSpan, LocatesText};
+ghost use Rattle.wesl_json_read.specs.Faults.{IsAtRoot, IsUnder, IsUnderIndex, LocatesHere, LocatesInsideAlways, LocatesSpan, LocatesText};
 ghost use Rattle.wesl_json_read.specs.Parts.{IsMemoryOr, IsTextRead};
 
-use crate::joined::inside;
+use crate::joined::{inside, inside_option};
+use crate::numbering::Numbering;
 use std::alloc::Global;
 use wesl_json_form::BorrowedValue;
-use wesl_tree_names::{Error, ModulePath, Span};
+use wesl_tree_names::{Error, Ident, ModulePath, Span};
 
 /// The value itself is wrong.
 pub fn wrong(alloc: Global) -> Error
@@ -63,19 +68,6 @@ pub fn check_keys(alloc: Global, value: &BorrowedValue<'_>, known: &[&str]) -> R
     } else {
         Err(wrong(alloc))
     }
-}
-
-/// The member `key`, which must be there.
-pub fn required<'s, 'a>(
-    alloc: Global,
-    value: &'s BorrowedValue<'a>,
-    key: &str,
-) -> Result<&'s BorrowedValue<'a>, Error>
-    ensures ok { IfOk result (λ v. get key.now (borrowed_view value.now) ≡ Some (borrowed_view v.now)) }
-    ensures err { OnErr result (get key.now (borrowed_view value.now) ≡ None) }
-    ensures place { IfErr result IsAtRoot }
-{
-    value.get(key).ok_or(wrong(alloc))
 }
 
 /// The span at `span`: of no place where there is none, and where spans are not read.
@@ -152,34 +144,8 @@ pub fn name_member<'a>(
     inside(alloc, key, name_of(alloc, member))
 }
 
-// The text of a literal, which is not empty and no truth value.
-fn literal_of<'a>(alloc: Global, value: &BorrowedValue<'a>) -> Result<&'a str, Error>
-    ensures ok { IfOk result (λ s. literal_in (borrowed_view value.now) ≡ Some s.now) }
-    ensures place { IfErr result (LocatesHere (literal_in (borrowed_view value.now))) }
-{
-    match value.as_str() {
-        Some(text) if !text.is_empty() && text != "true" && text != "false" => Ok(text),
-        _ => Err(wrong(alloc)),
-    }
-}
-
-/// The text of the literal at `key`.
-pub fn literal_member<'a>(
-    alloc: Global,
-    value: &BorrowedValue<'a>,
-    key: &str,
-) -> Result<&'a str, Error>
-    ensures ok { IfOk result (λ s. option_and_then literal_in (get key.now (borrowed_view value.now)) ≡ Some s.now) }
-    ensures place { IfErr result (LocatesText literal_in key.now (borrowed_view value.now)) }
-{
-    let Some(member) = value.get(key) else {
-        return Err(wrong(alloc));
-    };
-    inside(alloc, key, literal_of(alloc, member))
-}
-
-/// The path that a text says.
-pub(crate) fn path_of(alloc: Global, value: &BorrowedValue<'_>) -> Result<ModulePath, Error>
+// The path that a text says.
+fn path_of(alloc: Global, value: &BorrowedValue<'_>) -> Result<ModulePath, Error>
     ensures ok { IfOk result (λ p. path_in (borrowed_view value.now) ≡ Some (path_view p)) }
     ensures place { IfErr result (LocatesHere (path_in (borrowed_view value.now))) }
 {
@@ -190,17 +156,6 @@ pub(crate) fn path_of(alloc: Global, value: &BorrowedValue<'_>) -> Result<Module
         Some(path) => Ok(path),
         None => Err(wrong(alloc)),
     }
-}
-
-/// The path at `key`.
-pub fn path_member(alloc: Global, value: &BorrowedValue<'_>, key: &str) -> Result<ModulePath, Error>
-    ensures ok { IfOk result (λ p. option_and_then path_in (get key.now (borrowed_view value.now)) ≡ Some (path_view p)) }
-    ensures place { IfErr result (LocatesText path_in key.now (borrowed_view value.now)) }
-{
-    let Some(member) = value.get(key) else {
-        return Err(wrong(alloc));
-    };
-    inside(alloc, key, path_of(alloc, member))
 }
 
 // Any text.
@@ -243,38 +198,31 @@ pub fn owned(alloc: Global, read: Result<&str, Error>) -> Result<String, Error>
     }
 }
 
-/// The name that a value is, as a text of its own.
-pub(crate) fn own_name_of(alloc: Global, value: &BorrowedValue<'_>) -> Result<String, Error>
-    ensures ok { IfOk result (λ s. name_in (borrowed_view value.now) ≡ Some (string_bytes s)) }
+/// The number of the name that a value is.
+pub(crate) fn number_of(
+    alloc: Global,
+    numbering: &mut Numbering,
+    value: &BorrowedValue<'_>,
+) -> Result<Ident, Error>
+    ensures ok { IfOk result (λ i. IsNameNumbered (borrowed_view value.now) i.0 numbering.old numbering.new) }
     ensures place { IfErr result (LocatesHere (name_in (borrowed_view value.now))) }
 {
-    owned(alloc, name_of(alloc, value))
+    match name_of(alloc, value) {
+        Ok(name) => numbering.number(alloc, name),
+        Err(error) => Err(error),
+    }
 }
 
-/// The name at `key`, as a text of its own.
-pub(crate) fn own_name(alloc: Global, value: &BorrowedValue<'_>, key: &str) -> Result<String, Error>
-    ensures ok { IfOk result (λ s. option_and_then name_in (get key.now (borrowed_view value.now)) ≡ Some (string_bytes s)) }
-    ensures place { IfErr result (LocatesText name_in key.now (borrowed_view value.now)) }
-{
-    owned(alloc, name_member(alloc, value, key))
-}
-
-/// The text of the literal at `key`, as a text of its own.
-pub(crate) fn own_literal(
+/// The path at `path`, an option.
+pub(crate) fn optional_path(
     alloc: Global,
     value: &BorrowedValue<'_>,
-    key: &str,
-) -> Result<String, Error>
-    ensures ok { IfOk result (λ s. option_and_then literal_in (get key.now (borrowed_view value.now)) ≡ Some (string_bytes s)) }
-    ensures place { IfErr result (LocatesText literal_in key.now (borrowed_view value.now)) }
+) -> Result<Option<ModulePath>, Error>
+    ensures ok { GivesIfAlways result path_tree (codes "path") (leaf a_path) value.now }
+    ensures place { IfErr result (LocatesInsideAlways (codes "path") (leaf a_path) (borrowed_view value.now)) }
 {
-    owned(alloc, literal_member(alloc, value, key))
-}
-
-/// The text at `key`, which may be empty, as a text of its own.
-pub(crate) fn own_text(alloc: Global, value: &BorrowedValue<'_>, key: &str) -> Result<String, Error>
-    ensures ok { IfOk result (λ s. option_and_then as_str (get key.now (borrowed_view value.now)) ≡ Some (string_bytes s)) }
-    ensures place { IfErr result (LocatesText as_str key.now (borrowed_view value.now)) }
-{
-    owned(alloc, text_member(alloc, value, key))
+    let Some(member) = value.get("path") else {
+        return Ok(None);
+    };
+    inside_option(alloc, "path", path_of(alloc, member))
 }

@@ -1,20 +1,14 @@
 //! The words of the form.
-ghost use Rattle.std.specs.Prelude.{◌≡◌, Some, IfOk, IfErr, IfSome, codes, option_map, true};
+ghost use Rattle.std.specs.Prelude.{◌≡◌, Some, IfSome, option_map, true};
 ghost use Rattle.serde_json.specs.Find.{as_str};
 ghost use Rattle.wesl_json_form.specs.View.{borrowed_view};
 ghost use Rattle.wesl_tree_syntax.specs.Tree.{binary, kind, unary};
 ghost use Rattle.wesl_json_form.specs.Schema.{look};
 ghost use Rattle.wesl_json_form.specs.Words.{attribute_words, unary_words, binary_words};
-ghost use Rattle.wesl_json_form.specs.Reading.{word_in};
-ghost use Rattle.wesl_json_read.specs.Faults.{LocatesHere, LocatesText};
 ghost use Rattle.wesl_json_form.specs.Nodes.{all_attribute_words, all_expression_words, plain_words, truth_words};
-ghost use Rattle.wesl_json_read.specs.Forms.{attribute_named, attribute_of, attribute_text, expression_named, expression_of, expression_text, plain_kind, plain_text, word_at};
+ghost use Rattle.wesl_json_read.specs.Forms.{attribute_named, attribute_of, attribute_text, expression_named, expression_of, expression_text, plain_kind, plain_text};
 
-use crate::fields::wrong;
-use crate::joined::inside;
-use std::alloc::Global;
 use wesl_json_form::BorrowedValue;
-use wesl_tree_names::Error;
 use wesl_tree_syntax::{BinaryOperator, UnaryOperator};
 
 /// The words at `k` that tell which expression an object is.
@@ -177,7 +171,8 @@ pub(crate) fn attribute_word_in(spans: bool, value: &BorrowedValue<'_>) -> Optio
     }
 }
 
-fn unary_operator(text: &str) -> Option<UnaryOperator>
+/// The operator of one operand that a text is.
+pub(crate) fn unary_operator(text: &str) -> Option<UnaryOperator>
     ensures { option_map unary result ≡ look unary_words text.now }
 {
     match text {
@@ -190,7 +185,8 @@ fn unary_operator(text: &str) -> Option<UnaryOperator>
     }
 }
 
-fn binary_operator(text: &str) -> Option<BinaryOperator>
+/// The operator of two operands that a text is.
+pub(crate) fn binary_operator(text: &str) -> Option<BinaryOperator>
     ensures { option_map binary result ≡ look binary_words text.now }
 {
     match text {
@@ -214,52 +210,4 @@ fn binary_operator(text: &str) -> Option<BinaryOperator>
         ">>" => Some(BinaryOperator::ShiftRight),
         _ => None,
     }
-}
-
-fn unary_operator_of(alloc: Global, value: &BorrowedValue<'_>) -> Result<UnaryOperator, Error>
-    ensures ok { IfOk result (λ o. word_in unary_words (borrowed_view value.now) ≡ Some (unary o)) }
-    ensures place { IfErr result (LocatesHere (word_in unary_words (borrowed_view value.now))) }
-{
-    match value.as_str().and_then(unary_operator) {
-        Some(operator) => Ok(operator),
-        None => Err(wrong(alloc)),
-    }
-}
-
-fn binary_operator_of(alloc: Global, value: &BorrowedValue<'_>) -> Result<BinaryOperator, Error>
-    ensures ok { IfOk result (λ o. word_in binary_words (borrowed_view value.now) ≡ Some (binary o)) }
-    ensures place { IfErr result (LocatesHere (word_in binary_words (borrowed_view value.now))) }
-{
-    match value.as_str().and_then(binary_operator) {
-        Some(operator) => Ok(operator),
-        None => Err(wrong(alloc)),
-    }
-}
-
-/// The unary operator at `op`.
-pub(crate) fn unary_operator_member(
-    alloc: Global,
-    value: &BorrowedValue<'_>,
-) -> Result<UnaryOperator, Error>
-    ensures ok { IfOk result (λ o. word_at unary_words (codes "op") (borrowed_view value.now) ≡ Some (unary o)) }
-    ensures place { IfErr result (LocatesText (word_in unary_words) (codes "op") (borrowed_view value.now)) }
-{
-    let Some(member) = value.get("op") else {
-        return Err(wrong(alloc));
-    };
-    inside(alloc, "op", unary_operator_of(alloc, member))
-}
-
-/// The binary operator at `op`.
-pub(crate) fn binary_operator_member(
-    alloc: Global,
-    value: &BorrowedValue<'_>,
-) -> Result<BinaryOperator, Error>
-    ensures ok { IfOk result (λ o. word_at binary_words (codes "op") (borrowed_view value.now) ≡ Some (binary o)) }
-    ensures place { IfErr result (LocatesText (word_in binary_words) (codes "op") (borrowed_view value.now)) }
-{
-    let Some(member) = value.get("op") else {
-        return Err(wrong(alloc));
-    };
-    inside(alloc, "op", binary_operator_of(alloc, member))
 }

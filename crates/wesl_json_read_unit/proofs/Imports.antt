@@ -31,13 +31,6 @@ module _ (spans : Bool) where
   pub content-item : (d : Data) → is_some (get (codes "list") d) ≡ false → nodes_of spans a_content d ≡ Some (node_of_kind import_item (item_row d))
   content-item d h = ap (λ b. Some (if b then collection_node else item_node d)) h
 
-pub item-place : (spans : Bool) (d : Data) (e : error.Error) → LocatesText name_in (codes "item") d e → LocatesMember spans (codes "item") (leaf (an_ident (item_role d))) d e
-item-place spans d e h = IfPlace-more (IsTextBroken name_in (codes "item") d) (IsMemberBroken spans (codes "item") (leaf (an_ident (item_role d))) d) e (λ place w. broken place w) h
-  where
-    broken : (place : Text) → IsTextBroken name_in (codes "item") d place → IsMemberBroken spans (codes "item") (leaf (an_ident (item_role d))) d place
-    broken place (inl w) = inl w
-    broken place (inr w) = inr (w.0, [], w.1, w.3, ap (option_map (ident (item_role d))) w.2)
-
 -- ---- trees
 
 pub item-tree : (i : Ident) (r : Option Ident) (b : Bool) → is_some r ≡ b → item_view (record { ident = i; rename = r }) ≡ branch import_item (leaf_tree (ident (if b then word else binder) i.0) ∷ optional (ident_tree binder) r ∷ [])

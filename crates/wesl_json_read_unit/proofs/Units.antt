@@ -22,10 +22,10 @@ use Rattle.wesl_json_read.proofs.Rows.{Begins-same, row-beside}
 use Rattle.wesl_json_read.proofs.Expressions.{bare-reads}
 use Rattle.std.specs.Prelude.{IfSome, IsSomeAnd}
 use Rattle.wesl_json_read_unit.specs.Forms.{LocatesForm, has_its_form}
-use Rattle.wesl_json_read_unit.specs.Noted.{as_error}
-use Rattle.wesl_json_read_unit.specs.declared.reader.Fault.{Fault}
-use Rattle.wesl_json_read_unit.specs.declared.reader.Reader.{Reader}
-use Rattle.wesl_json_read_unit.proofs.Noting.{NotesRow}
+use Rattle.wesl_json_read.specs.Noted.{as_error}
+use Rattle.wesl_json_read.specs.declared.reader.Fault.{Fault}
+use Rattle.wesl_json_read.specs.declared.reader.Reader.{Reader}
+use Rattle.wesl_json_read.proofs.Noting.{NotesRow}
 
 abbrev pub unit_of : Tree → Tree → Tree → Tree
 unit_of i r g = branch unit (i ∷ r ∷ g ∷ [])

@@ -1,4 +1,3 @@
 pub mod Forms
-pub mod Noted
 pub mod Worded
 pub mod UnitLists

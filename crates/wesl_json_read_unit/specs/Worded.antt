@@ -14,8 +14,8 @@ use Rattle.wesl_json_read.specs.Numbers.{IsNumbered, ReadsMay}
 use Rattle.wesl_json_read_statements.specs.Forms.{ReadsDeclared, declared_worded}
 use Rattle.wesl_json_read_statements.specs.declared.words.DeclaredWord.{DeclaredWord}
 use Rattle.wesl_json_read_unit.specs.Forms.{ReadsDeclaration, ReadsDirective, declaration_text, declaration_worded, directive_text, directive_worded}
-use Rattle.wesl_json_read_unit.specs.Noted.{Notes, NotesIdent}
-use Rattle.wesl_json_read_unit.specs.declared.reader.Reader.{Reader}
+use Rattle.wesl_json_read.specs.Noted.{Notes, NotesIdent}
+use Rattle.wesl_json_read.specs.declared.reader.Reader.{Reader}
 use Rattle.wesl_json_read_unit.specs.declared.words.DeclarationWord.{DeclarationWord}
 use Rattle.wesl_json_read_unit.specs.declared.words.DirectiveWord.{DirectiveWord}
 
@@ -36,16 +36,9 @@ NotesDirectiveWord d w = Notes (λ _ old new. (new ≡ old) × HasWord (directiv
 abbrev pub NotesDeclarationWord : Data → DeclarationWord → Reader → Reader → Type 0
 NotesDeclarationWord d w = Notes (λ _ old new. (new ≡ old) × HasWord (declaration_text w) d) (λ spans. Locates spans (node a_declaration) d)
 
--- the object has this span
-abbrev pub NotesSpan : Data → ℕ → ℕ → Reader → Reader → Type 0
-NotesSpan d start end = Notes (λ spans old new. (new ≡ old) × (span_in spans d ≡ Some (start, end))) (λ spans. LocatesSpan spans d)
-
 -- whether the name of an imported item is bound where it is imported, or another one
 abbrev pub item_role : Data → Role
 item_role d = if is_some (get (codes "as") d) then word else binder
-
-abbrev pub NotesItemName : Data → Ident → Reader → Reader → Type 0
-NotesItemName d = NotesIdent (item_role d) (codes "item") d
 
 -- the other name of an imported item, where it has one
 abbrev pub NotesRename : Data → Option Ident → Reader → Reader → Type 0
@@ -55,7 +48,3 @@ NotesRename d o =
 
 abbrev pub IsRename : Data → Option Ident → List Text → List Text → Type 0
 IsRename d o old new = (spans : Bool) → ReadsMay spans (codes "as") (leaf (an_ident binder)) d (optional (ident_tree binder) o) old new
-
--- the name at `item` has this number
-abbrev pub IsItemName : Data → List Text → List Text → Ident → Type 0
-IsItemName d old new i = (name : Text) × (option_and_then name_in (get (codes "item") d) ≡ Some name) × IsNumbered old name i.0 new

@@ -5,7 +5,6 @@ mod declaration;
 mod directive;
 mod import;
 mod members;
-mod reader;
 mod unit;
 mod words;
 

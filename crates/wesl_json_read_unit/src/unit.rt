@@ -10,10 +10,12 @@ ghost use Rattle.wesl_tree.specs.Translation.{unit_view};
 ghost use Rattle.wesl_json_read.specs.Faults.{IfPlace};
 ghost use Rattle.wesl_json_read_unit.specs.Forms.{LocatesForm, has_its_form};
 
-use crate::reader::Reader;
+use crate::declaration::declarations;
+use crate::directive::directives;
+use crate::import::imports;
 use std::alloc::Global;
 use wesl_json_form::BorrowedValue;
-use wesl_json_read::{under, wrong};
+use wesl_json_read::{Reader, under, wrong};
 use wesl_tree::{Error, TranslationUnit};
 
 /// The unit that a value stands for: of form 2 where it has the key `form`, else of form 1.
@@ -85,9 +87,9 @@ fn read_lists(
     ensures place { IfErr result (λ e. IfPlace e (IsBrokenUnit (borrowed_view value.now))) }
 {
     let mut reader = Reader::new(alloc, spans);
-    let imports = reader.imports(value);
-    let directives = reader.directives(value);
-    let declarations = reader.declarations(value);
+    let imports = imports(&mut reader, value);
+    let directives = directives(&mut reader, value);
+    let declarations = declarations(&mut reader, value);
     match reader.end() {
         Ok(names) => {
             match TranslationUnit::from_parts(names, imports, directives, declarations) {

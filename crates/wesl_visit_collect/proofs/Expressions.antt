@@ -4,7 +4,7 @@ use mathlib.Core.List.{map-map}
 use Rattle.std.specs.Box.{box_value}
 use Rattle.std.specs.Global.{Box}
 use Rattle.wesl_tree_syntax.specs.Tree.{binary, branch, call, call_expression, forest_of, indexing, list, literal, named_component, parenthesized, reference, template_argument, Tree, type_expression, type_or_identifier, unary}
-use Rattle.wesl_tree_syntax.specs.View.{argument_step, argument_view, call_step, call_view, expression_step, expression_tree, expression_view, listed, literal_tree, ident_tree, optional, boxed_path, text_tree, type_step, type_view}
+use Rattle.wesl_tree_syntax.specs.View.{argument_step, argument_view, boxed_path, call_step, call_view, expression_step, expression_tree, expression_view, listed, literal_tree, ident_tree, optional, text_tree, type_step, type_view}
 use Rattle.wesl_tree_syntax.specs.declared.span.Spanned.{Spanned}
 use Rattle.wesl_tree_syntax.specs.declared.expression.BinaryOperator.{BinaryOperator}
 use Rattle.wesl_tree_syntax.specs.declared.expression.UnaryOperator.{UnaryOperator}

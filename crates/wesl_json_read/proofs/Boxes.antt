@@ -1,0 +1,40 @@
+-- An expression that is put into a box, or is a template argument.
+use Rattle.std.proofs.Common.{◌≡◌, [], ◌∷◌, Bool, true, Option, Some, None, refl, subst, sym}
+use Rattle.std.specs.Box.{box_value}
+use Rattle.std.specs.Global.{Box}
+use Rattle.std.specs.Option.{is_some}
+use Rattle.std.specs.Prelude.{IfNone, IfSome}
+use Rattle.serde_json.specs.Data.{Data}
+use Rattle.wesl_tree_names.specs.Path.{Text}
+use Rattle.wesl_tree_names.specs.declared.errors.Error as error
+use Rattle.wesl_tree_syntax.specs.View.{argument_view, expression_tree}
+use Rattle.wesl_tree_syntax.specs.Tree.{branch, template_argument}
+use Rattle.wesl_tree_syntax.specs.declared.expression.TemplateArg.{roll-TemplateArg}
+use Rattle.wesl_tree_syntax.specs.declared.expression.Expression.{Expression}
+use Rattle.wesl_tree_syntax.specs.declared.span.Spanned.{Spanned}
+use Rattle.wesl_json_form.specs.Schema.{a_template_argument, an_expression, node}
+use Rattle.wesl_json_read.specs.Faults.{IsMemberBroken, LocatesMember}
+use Rattle.wesl_json_read.specs.Noted.{Never, Notes, NotesForm, NotesNeeded}
+use Rattle.wesl_json_read.specs.NotedNodes.{held}
+use Rattle.wesl_json_read.specs.Numbers.{Reads, ReadsNeeded}
+use Rattle.wesl_json_read.specs.declared.reader.Reader.{Reader}
+use Rattle.wesl_json_read.proofs.Noting.{both, seen, weaker}
+use Rattle.wesl_json_read.proofs.Places.{memory}
+use Rattle.wesl_json_read.proofs.Arguments.{argument-form, argument-place}
+use Rattle.wesl_json_read.proofs.Trees.{made_argument}
+
+pub in_box : {k : Text} {d : Data} (x : Spanned Expression) {s m e : Reader} (o : Option (Box (Spanned Expression))) → NotesNeeded k (node an_expression) d (expression_tree x) s m → IfSome o (λ b. (box_value b ≡ x) × (e ≡ m)) → IfNone o (Notes Never (λ _ y. y ≡ error.Memory) m e) → NotesNeeded k (node an_expression) d (held o) s e
+in_box {k} {d} x {s} {m} {e} None n same refused =
+    both {P = λ spans. ReadsNeeded spans k (node an_expression) d (expression_tree x)} {T = λ spans. LocatesMember spans k (node an_expression) d} {Q = Never} (λ a b c y never. absurd never) n
+    (weaker {Q = Never} (λ a b never. never) (λ y is. memory (IsMemberBroken m.spans k (node an_expression) d) y is) refused)
+in_box {k} {d} x {s} {m} {e} (Some b) n same refused =
+    subst (λ z. NotesNeeded k (node an_expression) d (expression_tree z) s e) (sym same.0) (subst (λ z. NotesNeeded k (node an_expression) d (expression_tree x) s z) (sym same.1) n)
+
+pub box_there : (T : Bool → error.Error → Type 0) (m e : Reader) (o : Option (Box (Spanned Expression))) → IfNone o (Notes Never T m e) → e.fault ≡ None → is_some o ≡ true
+box_there T m e None n h = absurd (n.read h)
+box_there T m e (Some b) n h = refl
+
+-- an expression, as a template argument
+pub as_argument : {d : Data} (x : Spanned Expression) {s e : Reader} → NotesForm (node an_expression) d (expression_tree x) s e → NotesForm (node a_template_argument) d (argument_view (roll-TemplateArg (record { expression = x }))) s e
+as_argument {d} x {s} {e} n =
+    seen (sym (made_argument x)) (weaker {Q = λ spans. Reads spans (node a_template_argument) d (branch template_argument (expression_tree x ∷ []))} (λ a b h. record { form = argument-form s.spans d (expression_tree x) a b h.form }) (λ y h. argument-place s.spans d y h) n)

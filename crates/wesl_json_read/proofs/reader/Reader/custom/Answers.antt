@@ -1,0 +1,6 @@
+use Rattle.std.proofs.Common.{refl}
+use Rattle.wesl_json_read.proofs.Noting.{may_next, needs_next, no_more, of_word}
+use Rattle.wesl_json_read.proofs.reader.Reader.custom.Goals as goal
+
+pub returns : goal.returns
+returns c = of_word _ refl c.keys.ensures (needs_next refl c.text.ensures (may_next refl c.optional_expressions.ensures no_more))

@@ -1,0 +1,10 @@
+use Rattle.std.proofs.Common.{refl}
+use Rattle.wesl_json_read.proofs.Places.{memory}
+use Rattle.wesl_json_read.proofs.Noting.{refused, taken}
+use Rattle.wesl_json_read_unit.proofs.members.body.Goals as goal
+
+pub returns-in-Some : goal.returns-in-Some
+returns-in-Some c = taken _ c.body_member-read.ensures.ok c.in-Some.ensures.read refl refl c.in-Some.ensures.same (λ h. h)
+
+pub returns-in-None : goal.returns-in-None
+returns-in-None c = refused _ c.body_member-read.ensures.place refl refl c.in-None.ensures.noted (λ x h. h) (λ x is. memory _ x is)

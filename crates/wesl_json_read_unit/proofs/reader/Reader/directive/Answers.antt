@@ -1,7 +1,0 @@
-use Rattle.wesl_json_form.specs.View.{borrowed_view}
-use Rattle.wesl_json_read_unit.proofs.Named.{directive-node}
-use Rattle.wesl_json_read_unit.proofs.Noting.{of_placed}
-use Rattle.wesl_json_read_unit.proofs.reader.Reader.directive.Goals as goal
-
-pub returns : goal.returns
-returns c = of_placed (λ spans is. directive-node spans c.directive_word-word.result (borrowed_view c.args.value.now) is) c.directive_word-word.ensures c.span.ensures c.worded_directive.ensures

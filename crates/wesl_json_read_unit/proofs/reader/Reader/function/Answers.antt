@@ -1,6 +1,0 @@
-use Rattle.std.proofs.Common.{refl}
-use Rattle.wesl_json_read_unit.proofs.Noting.{many_next, may_next, needs_next, no_more, of_word}
-use Rattle.wesl_json_read_unit.proofs.reader.Reader.function.Goals as goal
-
-pub returns : goal.returns
-returns c = of_word _ refl c.keys.ensures (many_next refl c.attributes.ensures (needs_next refl c.binder.ensures (many_next refl c.parameters.ensures (many_next refl c.attributes-2.ensures (may_next refl c.return_type.ensures (needs_next refl c.body.ensures no_more))))))
