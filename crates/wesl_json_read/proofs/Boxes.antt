@@ -7,16 +7,17 @@ use Rattle.std.specs.Prelude.{IfNone, IfSome}
 use Rattle.serde_json.specs.Data.{Data}
 use Rattle.wesl_tree_names.specs.Path.{Text}
 use Rattle.wesl_tree_names.specs.declared.errors.Error as error
-use Rattle.wesl_tree_syntax.specs.View.{argument_view, expression_tree}
+use Rattle.wesl_tree_syntax.specs.View.{argument_view, boxed_path, expression_tree, optional, path_tree}
 use Rattle.wesl_tree_syntax.specs.Tree.{branch, template_argument}
+use Rattle.wesl_tree_names.specs.declared.path.ModulePath.{ModulePath}
 use Rattle.wesl_tree_syntax.specs.declared.expression.TemplateArg.{roll-TemplateArg}
 use Rattle.wesl_tree_syntax.specs.declared.expression.Expression.{Expression}
 use Rattle.wesl_tree_syntax.specs.declared.span.Spanned.{Spanned}
-use Rattle.wesl_json_form.specs.Schema.{a_template_argument, an_expression, node}
-use Rattle.wesl_json_read.specs.Faults.{IsMemberBroken, LocatesMember}
-use Rattle.wesl_json_read.specs.Noted.{Never, Notes, NotesForm, NotesNeeded}
+use Rattle.wesl_json_form.specs.Schema.{a_path, a_template_argument, an_expression, leaf, node}
+use Rattle.wesl_json_read.specs.Faults.{IsInside, IsMemberBroken, LocatesInside, LocatesMember}
+use Rattle.wesl_json_read.specs.Noted.{Never, Notes, NotesForm, NotesMay, NotesNeeded}
 use Rattle.wesl_json_read.specs.NotedNodes.{held}
-use Rattle.wesl_json_read.specs.Numbers.{Reads, ReadsNeeded}
+use Rattle.wesl_json_read.specs.Numbers.{Reads, ReadsMay, ReadsNeeded}
 use Rattle.wesl_json_read.specs.declared.reader.Reader.{Reader}
 use Rattle.wesl_json_read.proofs.Noting.{both, seen, weaker}
 use Rattle.wesl_json_read.proofs.Places.{memory}
@@ -29,6 +30,14 @@ in_box {k} {d} x {s} {m} {e} None n same refused =
     (weaker {Q = Never} (λ a b never. never) (λ y is. memory (IsMemberBroken m.spans k (node an_expression) d) y is) refused)
 in_box {k} {d} x {s} {m} {e} (Some b) n same refused =
     subst (λ z. NotesNeeded k (node an_expression) d (expression_tree z) s e) (sym same.0) (subst (λ z. NotesNeeded k (node an_expression) d (expression_tree x) s z) (sym same.1) n)
+
+-- a path, in its box
+pub path_in_box : {k : Text} {d : Data} (p : ModulePath) {s m e : Reader} (o : Option (Box ModulePath)) → NotesMay k (leaf a_path) d (optional path_tree (Some p)) s m → IfSome o (λ b. (box_value b ≡ p) × (e ≡ m)) → IfNone o (Notes Never (λ _ y. y ≡ error.Memory) m e) → NotesMay k (leaf a_path) d (optional boxed_path o) s e
+path_in_box {k} {d} p {s} {m} {e} None n same refused =
+    both {P = λ spans. ReadsMay spans k (leaf a_path) d (optional path_tree (Some p))} {T = λ spans. LocatesInside spans k (leaf a_path) d} {Q = Never} (λ a b c y never. absurd never) n
+    (weaker {Q = Never} (λ a b never. never) (λ y is. memory (IsInside m.spans k (leaf a_path) d) y is) refused)
+path_in_box {k} {d} p {s} {m} {e} (Some b) n same refused =
+    subst (λ z. NotesMay k (leaf a_path) d (optional path_tree (Some z)) s e) (sym same.0) (subst (λ z. NotesMay k (leaf a_path) d (optional path_tree (Some p)) s z) (sym same.1) n)
 
 pub box_there : (T : Bool → error.Error → Type 0) (m e : Reader) (o : Option (Box (Spanned Expression))) → IfNone o (Notes Never T m e) → e.fault ≡ None → is_some o ≡ true
 box_there T m e None n h = absurd (n.read h)

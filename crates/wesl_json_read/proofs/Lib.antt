@@ -7,9 +7,7 @@ pub mod Members
 pub mod Steps
 pub mod Worded
 pub mod Exits
-pub mod Wholes
 pub mod Within
-pub mod ReadLists
 pub mod Expressions
 pub mod Wraps
 pub mod Arguments
@@ -17,10 +15,8 @@ pub mod Trees
 pub mod Wheres
 pub mod NameLists
 pub mod Attributes
-pub mod Keyed
 pub mod Pairs
 pub mod Noting
 pub mod Texts
 pub mod Boxes
-pub mod Given
 pub mod Operators

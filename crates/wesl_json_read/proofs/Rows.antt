@@ -87,18 +87,6 @@ plain-path p = record { spells = λ names. refl; below = λ n. refl; counts = λ
 
 -- ---- trees of children
 
-pub same-tree : {read : ℕ → Option Spelled} {least : ℕ} {t u : Tree} {a b : List Text} → IsReadAs read least t a b → t ≡ u → IsReadAs read least u a b
-same-tree {read} {least} {t} {u} {a} {b} h e = subst (λ x. IsReadAs read least x a b) e h
-
--- fewer levels may be asked
-pub more-levels : (read : ℕ → Option Spelled) (least n : ℕ) (t : Tree) (a b : List Text) → least ≤ n → IsReadAs read least t a b → IsReadAs read n t a b
-more-levels read least n t a b low h = record {
-  spelled = λ m names high later. h.spelled m names (omega arith) later;
-  numbered = h.numbered;
-  closed = h.closed;
-  begins = h.begins;
-}
-
 -- a node over read children
 pub over : (read : ℕ → Option SpelledForest) (outer : ℕ → Option Spelled) (least : ℕ) (l : Label) (s : SpelledLabel) (ts : Forest) (a b : List Text) → IsPlain l s → ((n : ℕ) (us : SpelledForest) → least ≤ n → read n ≡ Some us → outer n ≡ Some (record { label = s; children = us })) → AreReadAs read least ts a b → IsReadAs outer least (record { label = l; children = ts }) a b
 over read outer least l s ts a b plain step h = record {

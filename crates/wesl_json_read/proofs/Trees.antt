@@ -5,7 +5,7 @@ use Rattle.std.specs.Box.{box_value}
 use Rattle.std.specs.Global.{Box}
 use Rattle.wesl_tree_names.specs.declared.names.Ident.{Ident}
 use Rattle.wesl_tree_syntax.specs.Tree.{Tree, unary, binary, truth, text, leaf, forest_of, branch, ident, reference, literal, parenthesized, named_component, indexing, call_expression, call, type_or_identifier, type_expression, list, template_argument}
-use Rattle.wesl_tree_syntax.specs.View.{expression_tree, expression_view, call_view, type_view, argument_view, listed, optional, path_tree, expression_step, call_step, argument_step, type_step}
+use Rattle.wesl_tree_syntax.specs.View.{expression_tree, expression_view, call_view, type_view, argument_view, listed, optional, boxed_path, expression_step, call_step, argument_step, type_step}
 use Rattle.wesl_tree_syntax.specs.declared.span.Spanned.{Spanned}
 use Rattle.wesl_tree_syntax.specs.declared.expression.UnaryOperator.{UnaryOperator}
 use Rattle.wesl_tree_syntax.specs.declared.expression.BinaryOperator.{BinaryOperator}
@@ -20,14 +20,14 @@ use Rattle.wesl_tree_syntax.specs.declared.expression.TemplateArg.{TemplateArg, 
 pub call-parts : (c : FunctionCall) → call_view c ≡ branch call (type_view (out-FunctionCall c).ty ∷ listed expression_tree list (out-FunctionCall c).arguments ∷ [])
 call-parts c = fold_out-FunctionCall Tree Tree Tree Tree expression_step call_step argument_step type_step c ∙ simp map-map
 
-mapped-type : (p : Option ModulePath) (i : Ident) (o : Option (Vec TemplateArg Global)) → type_step (map-TypeExpression Expression FunctionCall TemplateArg TypeExpression Tree Tree Tree Tree expression_view call_view argument_view type_view (record { path = p; ident = i; template_args = o })) ≡ branch type_expression (optional path_tree p ∷ leaf (ident reference i.0) ∷ optional (listed argument_view list) o ∷ [])
+mapped-type : (p : Option (Box ModulePath)) (i : Ident) (o : Option (Vec TemplateArg Global)) → type_step (map-TypeExpression Expression FunctionCall TemplateArg TypeExpression Tree Tree Tree Tree expression_view call_view argument_view type_view (record { path = p; ident = i; template_args = o })) ≡ branch type_expression (optional boxed_path p ∷ leaf (ident reference i.0) ∷ optional (listed argument_view list) o ∷ [])
 mapped-type p i None = refl
 mapped-type p i (Some v) = simp map-map
 
-pub type-parts : (t : TypeExpression) → type_view t ≡ branch type_expression (optional path_tree (out-TypeExpression t).path ∷ leaf (ident reference (out-TypeExpression t).ident.0) ∷ optional (listed argument_view list) (out-TypeExpression t).template_args ∷ [])
+pub type-parts : (t : TypeExpression) → type_view t ≡ branch type_expression (optional boxed_path (out-TypeExpression t).path ∷ leaf (ident reference (out-TypeExpression t).ident.0) ∷ optional (listed argument_view list) (out-TypeExpression t).template_args ∷ [])
 type-parts t = fold_out-TypeExpression Tree Tree Tree Tree expression_step call_step argument_step type_step t ∙ mapped-type (out-TypeExpression t).path (out-TypeExpression t).ident (out-TypeExpression t).template_args
 
-pub made_type : (p : Option ModulePath) (i : Ident) (args : Option (Vec TemplateArg Global)) → type_view (roll-TypeExpression (record { path = p; ident = i; template_args = args })) ≡ branch type_expression (optional path_tree p ∷ leaf (ident reference i.0) ∷ optional (listed argument_view list) args ∷ [])
+pub made_type : (p : Option (Box ModulePath)) (i : Ident) (args : Option (Vec TemplateArg Global)) → type_view (roll-TypeExpression (record { path = p; ident = i; template_args = args })) ≡ branch type_expression (optional boxed_path p ∷ leaf (ident reference i.0) ∷ optional (listed argument_view list) args ∷ [])
 made_type p i None = search (rules, the_lemmas)
 made_type p i (Some v) = search (rules, the_lemmas, map-map)
 

@@ -23,9 +23,6 @@ module _ {spans : Bool} where
   pub worded-reads : {w : Text} {h : Head} {row : Row} {d : Data} {l : Label} {s : SpelledLabel} {ts : Forest} {a b : List Text} → has_only (known_keys (worded_row spans w h row) d) d ≡ true → IsPlain l s → label_in h d ≡ Some s → ReadsRows spans row d ts a b → ReadsWorded spans w h row d (record { label = l; children = ts }) a b
   worded-reads {w} {h} {row} {d} {l} {s} {ts} {a} {b} known plain labelled r = record { known = known; inside = inner-then plain labelled r (none-then d b) }
 
-  pub same-worded : {w : Text} {h : Head} {row : Row} {d : Data} {t u : Tree} {a b : List Text} → ReadsWorded spans w h row d t a b → t ≡ u → ReadsWorded spans w h row d u a b
-  same-worded {w} {h} {row} {d} {t} {u} {a} {b} r e = subst (λ x. ReadsWorded spans w h row d x a b) e r
-
   -- a node, with the span of its object
   pub placed-reads : (m : Name) (outer : Kind) (row : Row) (d : Data) (s e : ℕ) (ts : Forest) (a b : List Text) → is_some (as_object d) ≡ true → nodes_of spans m d ≡ Some (record { head = placed spans outer; row = beside spans a_span row }) → has_only (known_keys (beside spans a_span row) d) d ≡ true → span_in spans d ≡ Some (s, e) → ReadsRow spans row d ts a b → Reads spans (node m) d (record { label = at outer s e; children = ts }) a b
   placed-reads m outer row d s e ts a b object_like is known span r =

@@ -89,6 +89,3 @@ LocatesAlways f d e = (spans : Bool) → Locates spans f d e
 
 abbrev pub LocatesInsideAlways : Text → Form → Data → error.Error → Type 0
 LocatesInsideAlways k f d e = (spans : Bool) → LocatesInside spans k f d e
-
-abbrev pub LocatesMemberAlways : Text → Form → Data → error.Error → Type 0
-LocatesMemberAlways k f d e = (spans : Bool) → LocatesMember spans k f d e

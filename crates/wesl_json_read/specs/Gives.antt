@@ -28,41 +28,9 @@ module _ {A : Type 0} (r : Result A error.Error) (view : A → Tree) where
   abbrev pub Gives : (Data → Tree → List Text → List Text → Type 0) → BorrowedValue → List Text → List Text → Type 0
   Gives reads v old new = IfOk r (λ e. reads (borrowed_view v) (view e) old new)
 
-  -- the same, and no name is numbered
-  abbrev pub GivesPlain : (Data → Tree → List Text → List Text → Type 0) → BorrowedValue → Type 0
-  GivesPlain reads v = IfOk r (λ e. (names : List Text) → reads (borrowed_view v) (view e) names names)
-
-  module _ (spans : Bool) where
-    -- the value is read as the part
-    abbrev pub GivesForm : Form → BorrowedValue → List Text → List Text → Type 0
-    GivesForm f v old new = IfOk r (λ e. Reads spans f (borrowed_view v) (view e) old new)
-
-    -- its member k, which must be there
-    abbrev pub GivesNeeded : Text → Form → BorrowedValue → List Text → List Text → Type 0
-    GivesNeeded k f v old new = IfOk r (λ e. ReadsNeeded spans k f (borrowed_view v) (view e) old new)
-
-    -- its member k, a list
-    abbrev pub GivesMany : Text → Form → BorrowedValue → List Text → List Text → Type 0
-    GivesMany k f v old new = IfOk r (λ e. ReadsMany spans k f (borrowed_view v) (view e) old new)
-
   -- the same whether spans are read or not, and no name is numbered
   abbrev pub GivesFormAlways : Form → BorrowedValue → Type 0
   GivesFormAlways f v = IfOk r (λ e. (spans : Bool) (names : List Text) → Reads spans f (borrowed_view v) (view e) names names)
 
-  abbrev pub GivesNeededAlways : Text → Form → BorrowedValue → Type 0
-  GivesNeededAlways k f v = IfOk r (λ e. (spans : Bool) (names : List Text) → ReadsNeeded spans k f (borrowed_view v) (view e) names names)
-
--- its member k, if it is there
-abbrev pub GivesIf : {A : Type 0} → Result (Option A) error.Error → (A → Tree) → Bool → Text → Form → BorrowedValue → List Text → List Text → Type 0
-GivesIf r view spans k f v old new = IfOk r (λ e. ReadsMay spans k f (borrowed_view v) (optional view e) old new)
-
 abbrev pub GivesIfAlways : {A : Type 0} → Result (Option A) error.Error → (A → Tree) → Text → Form → BorrowedValue → Type 0
 GivesIfAlways r view k f v = IfOk r (λ e. (spans : Bool) (names : List Text) → ReadsMay spans k f (borrowed_view v) (optional view e) names names)
-
--- its member k, a name in this role
-abbrev pub GivesIdent : Result Ident error.Error → Role → Text → BorrowedValue → List Text → List Text → Type 0
-GivesIdent r role k v old new = IfOk r (λ i. (spans : Bool) → ReadsNeeded spans k (leaf (an_ident role)) (borrowed_view v) (ident_tree role i) old new)
-
--- its members, as trees after one another
-abbrev pub GivesRow : {A : Type 0} → Result A error.Error → (A → Forest) → Bool → Row → BorrowedValue → List Text → List Text → Type 0
-GivesRow r view spans row v old new = IfOk r (λ e. ReadsRows spans row (borrowed_view v) (view e) old new)

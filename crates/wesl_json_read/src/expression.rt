@@ -1,20 +1,18 @@
 //! Reading expressions.
-ghost use Rattle.std.specs.Prelude.{◌≡◌, None, Some, IfNone, IfSome, codes, is_some, true};
-ghost use Rattle.std.specs.Box.{box_value};
+ghost use Rattle.std.specs.Prelude.{◌≡◌, None, Some, codes, is_some, true};
 ghost use Rattle.serde_json.specs.Find.{as_object};
 ghost use Rattle.wesl_json_form.specs.View.{borrowed_view};
 ghost use Rattle.wesl_json_form.specs.Words.{binary_words, unary_words};
 ghost use Rattle.wesl_json_form.specs.Schema.{a_call, a_type, an_expression, node as node_form};
-ghost use Rattle.wesl_tree_names.specs.declared.errors.Error as error;
 ghost use Rattle.wesl_tree_syntax.specs.Tree.{binary, list, unary};
 ghost use Rattle.wesl_tree_syntax.specs.View.{argument_view, call_view, expression_tree, expression_view, listed, optional as option_view, type_view};
 ghost use Rattle.wesl_json_read.specs.Forms.{some_arguments, some_expressions};
-ghost use Rattle.wesl_json_read.specs.Noted.{Never, Notes, NotesForm, NotesMany, NotesMay, NotesNeeded};
+ghost use Rattle.wesl_json_read.specs.Noted.{NotesForm, NotesMany, NotesMay, NotesNeeded};
 ghost use Rattle.wesl_json_read.specs.NotedNodes.{NotesExpression, NotesExpressionWord, NotesOperator, NotesPlain, NotesType, held};
 ghost use Rattle.wesl_json_read.specs.declared.words.ExpressionWord.TheVariants as words;
 
 use crate::leaves::TextKind;
-use crate::reader::{Fault, Reader};
+use crate::reader::Reader;
 use crate::words::{ExpressionWord, binary_operator, expression_word_in, unary_operator};
 use wesl_json_form::BorrowedValue;
 use wesl_tree_names::{Ident, Span};
@@ -255,19 +253,6 @@ impl Reader {
         self.boxed(expression)
     }
 
-    fn boxed(&mut self, expression: ExpressionNode) -> Option<Box<ExpressionNode>>
-        ensures same { IfSome result (λ b. (box_value b ≡ expression) × (self.new ≡ self.old)) }
-        ensures refused { IfNone result (Notes Never (λ _ e. e ≡ error.Memory) self.old self.new) }
-    {
-        match Box::new(self.alloc, expression) {
-            Ok(held) => Some(held),
-            Err(_) => {
-                self.note(Fault::Memory);
-                None
-            }
-        }
-    }
-
     /// The expression at `key`, an option.
     pub fn optional_expression(
         &mut self,
@@ -372,7 +357,7 @@ impl Reader {
     {
         self.keys(value, takes_span, &["path", "name", "args"]);
         TypeExpression {
-            path: self.path(value),
+            path: self.boxed_path(value),
             ident: self.ident_at(value, "name"),
             template_args: self.arguments(value),
         }

@@ -2,10 +2,7 @@
 //!
 //! A fault's place is a JSON Pointer (RFC 6901). It begins empty, at the value that is wrong, and grows on the way
 //! out, by the key or the index of each value round it.
-ghost use Rattle.std.specs.Prelude.{◌≡◌, ◌∷◌, ◌++◌, map, true, false, Some, IfOk, IfErr, OnOk, OnErr, codes, option_and_then, option_map, string_bytes};
-ghost use Rattle.std.specs.List.{list_any};
-ghost use Rattle.std.specs.Str.{bytes_eq};
-ghost use Rattle.serde_json.specs.Find.{as_str, get};
+ghost use Rattle.std.specs.Prelude.{◌≡◌, Some, IfOk, IfErr, codes, option_and_then, option_map};
 ghost use Rattle.wesl_json_form.specs.View.{borrowed_view};
 ghost use Rattle.wesl_tree_names.specs.Path.{path_view};
 ghost use Rattle.wesl_json_form.specs.Reading.{name_in, ordered, path_in, span_in, span_of};
@@ -13,12 +10,9 @@ ghost use Rattle.wesl_json_form.specs.Schema.{a_path, leaf};
 ghost use Rattle.wesl_tree_syntax.specs.View.{path_tree};
 ghost use Rattle.wesl_json_read.specs.Gives.{GivesIfAlways};
 ghost use Rattle.wesl_json_read.specs.Numbers.{IsNameNumbered};
-ghost use Rattle.wesl_json_form.specs.Keys.{all_known, has_only};
-ghost use Rattle.wesl_json_form.specs.Pointer.{escaped};
-ghost use Rattle.wesl_json_read.specs.Faults.{IsAtRoot, IsUnder, IsUnderIndex, LocatesHere, LocatesInsideAlways, LocatesSpan, LocatesText};
-ghost use Rattle.wesl_json_read.specs.Parts.{IsMemoryOr, IsTextRead};
+ghost use Rattle.wesl_json_read.specs.Faults.{IsAtRoot, IsUnder, LocatesHere, LocatesInsideAlways, LocatesSpan};
+ghost use Rattle.wesl_json_read.specs.Parts.{IsFaultUnder, IsThere};
 
-use crate::joined::{inside, inside_option};
 use crate::numbering::Numbering;
 use std::alloc::Global;
 use wesl_json_form::BorrowedValue;
@@ -44,38 +38,16 @@ pub fn under(alloc: Global, error: Error, key: &str) -> Error
     }
 }
 
-/// The same fault, told of the list that has the faulty value at `index`.
-pub fn under_index(alloc: Global, error: Error, index: usize) -> Error
-    ensures { IsUnderIndex index error result }
-{
-    match error {
-        Error::BadTree(place) => match wesl_json_form::under_index(alloc, index, place.as_str()) {
-            Ok(place) => Error::BadTree(place),
-            Err(_) => Error::Memory,
-        },
-        other => other,
-    }
-}
-
-/// The object has no keys but these.
-pub fn check_keys(alloc: Global, value: &BorrowedValue<'_>, known: &[&str]) -> Result<(), Error>
-    ensures ok { OnOk result (has_only (map (λ k. k.now) known.now) (borrowed_view value.now) ≡ true) }
-    ensures err { OnErr result (has_only (map (λ k. k.now) known.now) (borrowed_view value.now) ≡ false) }
-    ensures place { IfErr result IsAtRoot }
-{
-    if wesl_json_form::has_only(value, known) {
-        Ok(())
-    } else {
-        Err(wrong(alloc))
-    }
-}
-
 /// The span at `span`: of no place where there is none, and where spans are not read.
 ///
 /// # Errors
 ///
 /// `BadTree` at `span`, where that is no list of just two whole numbers that do not fall and are below 2^32.
-pub fn read_span(alloc: Global, spans: bool, value: &BorrowedValue<'_>) -> Result<Span, Error>
+pub(crate) fn read_span(
+    alloc: Global,
+    spans: bool,
+    value: &BorrowedValue<'_>,
+) -> Result<Span, Error>
     ensures ok { IfOk result (λ s. span_in spans (borrowed_view value.now) ≡ Some (s.start, s.end)) }
     ensures place { IfErr result (LocatesSpan spans (borrowed_view value.now)) }
 {
@@ -119,7 +91,7 @@ fn span_between(start: Option<u64>, end: Option<u64>) -> Option<Span>
 }
 
 /// The text of a name, which is not empty.
-pub fn name_of<'a>(alloc: Global, value: &BorrowedValue<'a>) -> Result<&'a str, Error>
+pub(crate) fn name_of<'a>(alloc: Global, value: &BorrowedValue<'a>) -> Result<&'a str, Error>
     ensures ok { IfOk result (λ s. name_in (borrowed_view value.now) ≡ Some s.now) }
     ensures place { IfErr result (LocatesHere (name_in (borrowed_view value.now))) }
 {
@@ -127,21 +99,6 @@ pub fn name_of<'a>(alloc: Global, value: &BorrowedValue<'a>) -> Result<&'a str, 
         Some(text) if !text.is_empty() => Ok(text),
         _ => Err(wrong(alloc)),
     }
-}
-
-/// The name at `key`.
-pub fn name_member<'a>(
-    alloc: Global,
-    value: &BorrowedValue<'a>,
-    key: &str,
-) -> Result<&'a str, Error>
-    ensures ok { IfOk result (λ s. option_and_then name_in (get key.now (borrowed_view value.now)) ≡ Some s.now) }
-    ensures place { IfErr result (LocatesText name_in key.now (borrowed_view value.now)) }
-{
-    let Some(member) = value.get(key) else {
-        return Err(wrong(alloc));
-    };
-    inside(alloc, key, name_of(alloc, member))
 }
 
 // The path that a text says.
@@ -155,46 +112,6 @@ fn path_of(alloc: Global, value: &BorrowedValue<'_>) -> Result<ModulePath, Error
     match ModulePath::parse(alloc, text)? {
         Some(path) => Ok(path),
         None => Err(wrong(alloc)),
-    }
-}
-
-// Any text.
-fn text_of<'a>(alloc: Global, value: &BorrowedValue<'a>) -> Result<&'a str, Error>
-    ensures ok { IfOk result (λ s. as_str (borrowed_view value.now) ≡ Some s.now) }
-    ensures place { IfErr result (LocatesHere (as_str (borrowed_view value.now))) }
-{
-    match value.as_str() {
-        Some(text) => Ok(text),
-        None => Err(wrong(alloc)),
-    }
-}
-
-/// The text at `key`, which may be empty.
-pub fn text_member<'a>(
-    alloc: Global,
-    value: &BorrowedValue<'a>,
-    key: &str,
-) -> Result<&'a str, Error>
-    ensures ok { IfOk result (λ s. option_and_then as_str (get key.now (borrowed_view value.now)) ≡ Some s.now) }
-    ensures place { IfErr result (LocatesText as_str key.now (borrowed_view value.now)) }
-{
-    let Some(member) = value.get(key) else {
-        return Err(wrong(alloc));
-    };
-    inside(alloc, key, text_of(alloc, member))
-}
-
-/// What is read, as a text of its own.
-pub fn owned(alloc: Global, read: Result<&str, Error>) -> Result<String, Error>
-    ensures text { IfOk result (λ s. IsTextRead (λ t. t.now) read.entry (string_bytes s)) }
-    ensures place { IfErr result (IsMemoryOr read.entry) }
-{
-    match read {
-        Ok(text) => match String::from_str(alloc, text) {
-            Ok(own) => Ok(own),
-            Err(_) => Err(Error::Memory),
-        },
-        Err(error) => Err(error),
     }
 }
 
@@ -225,4 +142,19 @@ pub(crate) fn optional_path(
         return Ok(None);
     };
     inside_option(alloc, "path", path_of(alloc, member))
+}
+
+// What is read of the member `key`, which might have been absent, with its fault told of the object.
+fn inside_option<T: Drop>(
+    alloc: Global,
+    key: &str,
+    read: Result<T, Error>,
+) -> Result<Option<T>, Error>
+    ensures ok { IfOk result (IsThere read) }
+    ensures place { IfErr result (IsFaultUnder key.now read) }
+{
+    match read {
+        Ok(part) => Ok(Some(part)),
+        Err(error) => Err(under(alloc, error, key)),
+    }
 }

@@ -2,7 +2,7 @@
 ghost use Rattle.std.specs.Prelude.{◌≡◌, codes, option_map, string_bytes};
 ghost use Rattle.wesl_tree_names.specs.declared.errors.Error as error;
 ghost use Rattle.wesl_tree_syntax.specs.Tree.{Role};
-ghost use Rattle.wesl_tree_syntax.specs.View.{names_tree, optional as option_view, path_tree, text_tree};
+ghost use Rattle.wesl_tree_syntax.specs.View.{boxed_path, names_tree, optional as option_view, path_tree, text_tree};
 ghost use Rattle.wesl_json_form.specs.View.{borrowed_view};
 ghost use Rattle.wesl_json_form.specs.Schema.{a_path, leaf, some_names};
 ghost use Rattle.wesl_json_read.specs.Noted.{Notes, NotesIdent, NotesMany, NotesMay, NotesName, NotesNeeded, NotesSpan};
@@ -125,6 +125,16 @@ impl Reader {
         let read = optional_path(self.alloc, value);
         match self.noted(read) {
             Some(path) => path,
+            None => None,
+        }
+    }
+
+    /// The path at `path`, an option, in its box.
+    pub(crate) fn boxed_path(&mut self, value: &BorrowedValue<'_>) -> Option<Box<ModulePath>>
+        ensures { NotesMay (codes "path") (leaf a_path) (borrowed_view value.now) (option_view boxed_path result) self.old self.new }
+    {
+        match self.path(value) {
+            Some(path) => self.boxed(path),
             None => None,
         }
     }

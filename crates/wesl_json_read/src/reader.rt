@@ -1,5 +1,6 @@
 //! What reading notes: the names met, and the first fault.
 ghost use Rattle.std.specs.Prelude.{◌≡◌, ◌⊎◌, ◌++◌, ◌∷◌, [], map, Ok, None, IfErr, IfNone, IfOk, IfSome, IsSomeAnd, is_some};
+ghost use Rattle.std.specs.Box.{box_value};
 ghost use Rattle.serde_json.specs.Find.{get};
 ghost use Rattle.wesl_tree_names.specs.declared.errors.Error as error;
 ghost use Rattle.wesl_json_form.specs.View.{borrowed_view, items_view};
@@ -11,7 +12,6 @@ ghost use Rattle.wesl_json_read.specs.Noted.{IsList, IsThere, IsTold, IsToldOrRe
 
 use crate::numbering::Numbering;
 use std::alloc::Global;
-use std::mem::replace;
 use wesl_json_form::BorrowedValue;
 use wesl_tree_names::{Error, Names};
 
@@ -51,41 +51,6 @@ impl Reader {
             spans,
             numbering: Numbering::new(alloc),
             fault: None,
-        }
-    }
-
-    /// A reader with these names, which are given back by what it reads.
-    pub(crate) fn taking(alloc: Global, spans: bool, numbering: &mut Numbering) -> Reader
-        ensures names { result.numbering ≡ numbering.old }
-        ensures fault { result.fault ≡ None }
-        ensures spans { result.spans ≡ spans }
-    {
-        Reader {
-            alloc,
-            spans,
-            numbering: replace(numbering, Numbering::new(alloc)),
-            fault: None,
-        }
-    }
-
-    /// The part that was read, or the first fault. The names go back to where they were taken from.
-    pub(crate) fn give<T: Drop>(self, numbering: &mut Numbering, part: T) -> Result<T, Error>
-        ensures read { IfOk result (λ x. x ≡ part) }
-        ensures noted { IfOk result (λ _. self.fault ≡ None) }
-        ensures names { numbering.new ≡ self.numbering }
-        ensures fault { IfErr result (λ e. IsSomeAnd self.fault (λ f. e ≡ as_error f)) }
-    {
-        let Reader {
-            alloc: _,
-            spans: _,
-            numbering: names,
-            fault,
-        } = self;
-        *numbering = names;
-        match fault {
-            None => Ok(part),
-            Some(Fault::Memory) => Err(Error::Memory),
-            Some(Fault::Place(place)) => Err(Error::BadTree(place)),
         }
     }
 
@@ -198,7 +163,7 @@ impl Reader {
     }
 
     /// The member `key`, if it is there; none where a fault is noted.
-    pub(crate) fn optional<'s, 'a>(
+    pub fn optional<'s, 'a>(
         &self,
         value: &'s BorrowedValue<'a>,
         key: &str,
@@ -255,6 +220,20 @@ impl Reader {
             Err(_) => {
                 self.note(Fault::Memory);
                 Vec::new(self.alloc)
+            }
+        }
+    }
+
+    /// A part in a box; none where memory is refused, which is noted.
+    pub fn boxed<T: Drop>(&mut self, part: T) -> Option<Box<T>>
+        ensures same { IfSome result (λ b. (box_value b ≡ part) × (self.new ≡ self.old)) }
+        ensures refused { IfNone result (Notes Never (λ _ e. e ≡ error.Memory) self.old self.new) }
+    {
+        match Box::new(self.alloc, part) {
+            Ok(held) => Some(held),
+            Err(_) => {
+                self.note(Fault::Memory);
+                None
             }
         }
     }

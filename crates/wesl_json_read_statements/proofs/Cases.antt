@@ -23,6 +23,9 @@ use Rattle.wesl_json_read.proofs.Wraps.{expression_node_in, node-wraps, same-fie
 use Rattle.wesl_json_read.proofs.Members.{form-of-node, node-of-row, word-label}
 use Rattle.wesl_json_read.proofs.Steps.{picked, word-object}
 use Rattle.wesl_json_read_statements.specs.Forms.{has_default}
+use Rattle.wesl_json_read.specs.Noted.{NotesForm, NotesKeys}
+use Rattle.wesl_json_read.specs.declared.reader.Reader.{Reader}
+use Rattle.wesl_json_read.proofs.Noting.{weaker}
 
 abbrev case_words : Bool → NodeWords
 case_words spans = (codes "default", a_default_case) ∷ map (λ p. (p.0, within expression_case p.1)) (all_expression_words spans)
@@ -61,7 +64,7 @@ module _ (spans : Bool) where
   one-step : (n : ℕ) (d : Data) (us : SpelledForest) → has_default d ≡ false → option_map (λ u. before u end) (reading (whole_form spans) n (node an_expression) d) ≡ Some us → reading (whole_form spans) n (node a_case) d ≡ Some (record { label = kind expression_case; children = us })
   one-step n d us other h = one-case n d (reading (whole_form spans) n (node an_expression) d) us other refl h
 
-  pub case-form : (d : Data) (t : Tree) (a b : List Text) → has_default d ≡ false → ReadsForm spans (node an_expression) d t a b → ReadsForm spans (node a_case) d (branch expression_case (t ∷ [])) a b
+  case-form : (d : Data) (t : Tree) (a b : List Text) → has_default d ≡ false → ReadsForm spans (node an_expression) d t a b → ReadsForm spans (node a_case) d (branch expression_case (t ∷ [])) a b
   case-form d t a b other h =
       let one = λ (n : ℕ). option_map (λ u. before u end) (reading (whole_form spans) n (node an_expression) d) in
       let children : AreReadAs one _ (before t end) a b = record {
@@ -89,7 +92,7 @@ module _ (spans : Bool) where
   case-breaks (key k ∷ path) d other (e, found, inr h) = (e, found, inr (h.0, (h.1.0, case-node spans d other ∙ ap (option_map (within expression_case)) h.1.1)))
   case-breaks (index i ∷ path) d other h = h
 
-  pub case-place : (d : Data) (e : error.Error) → has_default d ≡ false → Locates spans (node an_expression) d e → Locates spans (node a_case) d e
+  case-place : (d : Data) (e : error.Error) → has_default d ≡ false → Locates spans (node an_expression) d e → Locates spans (node a_case) d e
   case-place d e other h = IfPlace-more (IsBroken (whole_form spans) (node an_expression) d) (IsBroken (whole_form spans) (node a_case) d) e (λ place w. (w.0, w.1, case-breaks w.0 d other w.2)) h
 
 -- ---- `default`
@@ -106,13 +109,23 @@ module _ (spans : Bool) where
   default-node d word = picked (case_words spans) (Some (within expression_case (type_or_identifier_node spans))) d (codes "default") a_default_case word refl
 
 module _ {spans : Bool} where
-  pub default-reads : (d : Data) (a : List Text) → has_default d ≡ true → has_only (codes "k" ∷ []) d ≡ true → Reads spans (node a_case) d (branch default_case []) a a
+  default-reads : (d : Data) (a : List Text) → has_default d ≡ true → has_only (codes "k" ∷ []) d ≡ true → Reads spans (node a_case) d (branch default_case []) a a
   default-reads d a is known =
       let word = default-word d is in
       record { form = form-of-node spans a_case a_default_case d (branch default_case []) a a (word-object d (codes "default") word) (default-node spans d word) (node-of-row spans a_default_case d (kind default_case) (kind default_case) end a a (plain-kind default_case) refl known (row-marked spans d (codes "k") (codes "default") nothing end a a (word-label (codes "default") d word) (row-nothing spans d a))) }
 
 module _ (spans : Bool) where
-  pub default-keys : (d : Data) (e : error.Error) → has_default d ≡ true → has_only (codes "k" ∷ []) d ≡ false → IsAtRoot e → Locates spans (node a_case) d e
+  default-keys : (d : Data) (e : error.Error) → has_default d ≡ true → has_only (codes "k" ∷ []) d ≡ false → IsAtRoot e → Locates spans (node a_case) d e
   default-keys d e is wrong at_root =
       let word = default-word d is in
       node-row spans a_case d a_default_case e (word-object d (codes "default") word) (default-node spans d word) (row-keys spans a_default_case.row d e wrong at_root)
+
+-- ---- what is noted of them
+
+pub default-noted : {d : Data} {s e : Reader} → has_default d ≡ true → NotesKeys false (codes "k" ∷ []) d s e → NotesForm (node a_case) d (branch default_case []) s e
+default-noted {d} {s} {e} is keys =
+    weaker {Q = λ spans. Reads spans (node a_case) d (branch default_case [])} (λ a b y. subst (λ z. Reads s.spans (node a_case) d (branch default_case []) a z) (sym y.0) (default-reads d a is y.1)) (λ x y. default-keys s.spans d x is y.1 y.0) keys
+
+pub case-noted : {d : Data} {t : Tree} {s e : Reader} → has_default d ≡ false → NotesForm (node an_expression) d t s e → NotesForm (node a_case) d (branch expression_case (t ∷ [])) s e
+case-noted {d} {t} {s} {e} other n =
+    weaker {Q = λ spans. Reads spans (node a_case) d (branch expression_case (t ∷ []))} (λ a b h. record { form = case-form s.spans d t a b other h.form }) (λ x h. case-place s.spans d x other h) n

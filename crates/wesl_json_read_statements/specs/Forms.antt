@@ -1,15 +1,13 @@
 -- What is read of an object by the word at `k`.
-use Rattle.std.specs.Prelude.{◌⊎◌, List, Bool, false, Some, None, codes, option_and_then}
+use Rattle.std.specs.Prelude.{List, Bool, false, Some, None, codes, option_and_then}
 use Rattle.std.specs.Str.{bytes_eq}
 use Rattle.serde_json.specs.Data.{Data}
 use Rattle.serde_json.specs.Find.{get, as_str}
 use Rattle.wesl_tree_names.specs.Path.{Text}
-use Rattle.wesl_tree_names.specs.declared.errors.Error as error
 use Rattle.wesl_tree_syntax.specs.Tree.{Kind, binder, kind, Tree, list, attributes, clauses, statements, statement_node, compound_statement, compound, increment, decrement, if_statement, if_clause, switch, loop, for_loop, while_loop, break, continue, return, discard, call_statement, declaration, const_assert, void, const_kind, override_kind, let_kind, var_kind}
 use Rattle.wesl_json_form.specs.Schema.{Form, Head, fixed, chosen, Row, nothing, needs, may, many, inner, Node, leaf, node, list_of, an_ident, a_type, a_body, a_call, a_case, a_clause, a_continuing, an_elif, an_else, a_statement, an_attribute}
 use Rattle.wesl_json_form.specs.Words.{assignment_words}
 use Rattle.wesl_json_form.specs.Nodes.{expression, one_expression, operand, attrs, body_row, condition_row, declared, space_row}
-use Rattle.wesl_json_read.specs.Faults.{LocatesInside, LocatesMember}
 use Rattle.wesl_json_read.specs.Forms.{ReadsWorded, worded_node, worded_row}
 use Rattle.wesl_json_read_statements.specs.declared.words.ValueWord.{ValueWord}
 use Rattle.wesl_json_read_statements.specs.declared.words.ValueWord.TheVariants as values
@@ -66,15 +64,7 @@ declared_row declareds.Var = declared var_kind space_row
 declared_row declareds.Assert = attrs operand
 declared_row declareds.Void = nothing
 
--- the members of a declaration after its attributes and its address space
-abbrev pub typed_members : Row
-typed_members = needs (codes "name") (leaf (an_ident binder)) (may (codes "ty") (node a_type) (may (codes "init") expression nothing))
-
 module _ (spans : Bool) where
-  -- its name lacks or is broken, or its type, or its initial value
-  abbrev pub LocatesTyped : Data → error.Error → Type 0
-  LocatesTyped d e = LocatesMember spans (codes "name") (leaf (an_ident binder)) d e ⊎ LocatesInside spans (codes "ty") (node a_type) d e ⊎ LocatesInside spans (codes "init") expression d e
-
   abbrev pub declared_of : Kind → DeclaredWord → Node
   declared_of outer w = worded_node spans outer (declared_text w) (fixed (kind (declared_kind w))) (declared_row w)
 
@@ -156,20 +146,6 @@ abbrev pub jump_word : JumpWord → StatementWord
 jump_word jumps.Break = stated.Break
 jump_word jumps.Continue = stated.Continue
 jump_word jumps.Discard = stated.Discard
-
-module _ (spans : Bool) where
-  -- a condition lacks or is broken, or the block that it decides on
-  abbrev pub LocatesCondition : Data → error.Error → Type 0
-  LocatesCondition d e = LocatesMember spans (codes "cond") expression d e ⊎ LocatesMember spans (codes "body") (node a_body) d e
-
--- the members that each turn of a `for` takes
-abbrev pub turn_members : Row
-turn_members = may (codes "cond") expression (may (codes "update") (node a_statement) (needs (codes "body") (node a_body) nothing))
-
-module _ (spans : Bool) where
-  -- its condition is broken, or its update, or its block lacks or is broken
-  abbrev pub LocatesTurn : Data → error.Error → Type 0
-  LocatesTurn d e = LocatesInside spans (codes "cond") expression d e ⊎ LocatesInside spans (codes "update") (node a_statement) d e ⊎ LocatesMember spans (codes "body") (node a_body) d e
 
 -- ---- the values of `case`
 

@@ -24,15 +24,3 @@ statements_tree = listed statement_tree statements
 
 abbrev pub boxed_statement : Box (Spanned Statement) → Tree
 boxed_statement b = statement_tree (box_value b)
-
--- the trees of the name, the type and the initial value of a declaration
-abbrev pub typed_forest : Ident → Option TypeExpression → Option (Spanned Expression) → Forest
-typed_forest i t e = forest_of (ident_tree binder i ∷ optional type_view t ∷ optional expression_tree e ∷ [])
-
--- the trees of a condition and of the block that it decides on
-abbrev pub condition_forest : Spanned Expression → CompoundStatement → Forest
-condition_forest e b = forest_of (expression_tree e ∷ compound_view b ∷ [])
-
--- the trees of the condition, the update and the block of a `for`
-abbrev pub turn_forest : Option (Spanned Expression) → Option (Box (Spanned Statement)) → CompoundStatement → Forest
-turn_forest e u b = forest_of (optional expression_tree e ∷ optional boxed_statement u ∷ compound_view b ∷ [])

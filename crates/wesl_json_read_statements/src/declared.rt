@@ -1,30 +1,22 @@
 //! Reading what stands in modules and in functions: variables, values and assertions (WGSL, "Variable and Value
 //! Declarations" and "Const Assertion Statement").
-ghost use Rattle.std.specs.Prelude.{◌≡◌, [], IfErr, codes, is_some, true, false};
-ghost use Rattle.serde_json.specs.Find.{get};
+ghost use Rattle.std.specs.Prelude.{◌≡◌, [], codes};
 ghost use Rattle.wesl_json_form.specs.View.{borrowed_view};
 ghost use Rattle.wesl_tree_syntax.specs.Tree.{branch};
-ghost use Rattle.wesl_tree_syntax.specs.View.{access_tree, kind_tree, statement_view};
+ghost use Rattle.wesl_tree_syntax.specs.View.{access_tree, declaration_view, kind_tree, optional as option_view, statement_view};
 ghost use Rattle.wesl_json_form.specs.Schema.{leaf, one_of};
 ghost use Rattle.wesl_json_form.specs.Words.{access_words};
-ghost use Rattle.wesl_json_read.specs.Faults.{LocatesInsideAlways, LocatesRow};
+ghost use Rattle.wesl_json_read.specs.Noted.{NotesMay};
 ghost use Rattle.wesl_json_read_statements.specs.declared.words.DeclaredWord.TheVariants as declareds;
-ghost use Rattle.wesl_json_read_statements.specs.Forms.{LocatesTyped, ReadsDeclared, declared_worded, typed_members, value_kind};
-ghost use Rattle.wesl_json_read_statements.specs.Views.{declared_view, typed_forest};
-ghost use Rattle.wesl_json_read.specs.Gives.{Gives, GivesIfAlways, GivesPlain, GivesRow};
+ghost use Rattle.wesl_json_read_statements.specs.Forms.{value_kind};
+ghost use Rattle.wesl_json_read_statements.specs.Noted.{NotesDeclared, NotesSpace};
+ghost use Rattle.wesl_json_read_statements.specs.Views.{declared_view};
 
-use crate::parts::binder_member;
-use crate::words::{DeclaredWord, ValueWord, access_mode_of, space_member};
-use std::alloc::Global;
+use crate::words::{DeclaredWord, ValueWord, access_mode, address_space};
 use wesl_json_form::BorrowedValue;
-use wesl_json_read::{
-    Numbering, expression_member, inside_option, keyed_attributes, optional_expression,
-    optional_type, wrong,
-};
-use wesl_tree_names::{Error, Ident};
+use wesl_json_read::Reader;
 use wesl_tree_syntax::{
-    AccessMode, ConstAssert, Declaration, DeclarationKind, ExpressionNode, Statement,
-    TypeExpression,
+    AccessMode, AddressSpace, ConstAssert, Declaration, DeclarationKind, Statement,
 };
 
 /// What stands in modules and in functions.
@@ -50,38 +42,38 @@ pub(crate) fn statement_of(declared: Declared) -> Statement
 }
 
 /// What an object with the word is.
-pub fn read_declared(
-    alloc: Global,
-    spans: bool,
-    numbering: &mut Numbering,
-    value: &BorrowedValue<'_>,
-    word: DeclaredWord,
-) -> Result<Declared, Error>
-    ensures ok { Gives result declared_view (ReadsDeclared spans word) value.now numbering.old numbering.new }
-    ensures place { IfErr result (LocatesRow spans (declared_worded spans word) (borrowed_view value.now)) }
+pub fn read_declared(reader: &mut Reader, value: &BorrowedValue<'_>, word: DeclaredWord) -> Declared
+    ensures { NotesDeclared word (borrowed_view value.now) (declared_view result) reader.old reader.new }
 {
     match word {
-        DeclaredWord::Value(kind) => read_value(alloc, spans, numbering, value, kind),
-        DeclaredWord::Var => {
-            if value.get("space").is_some() {
-                read_var_in_space(alloc, spans, numbering, value)
-            } else {
-                read_var(alloc, spans, numbering, value)
-            }
+        DeclaredWord::Value(word) => Declared::Declaration(constant(reader, value, word)),
+        DeclaredWord::Var => Declared::Declaration(variable(reader, value)),
+        DeclaredWord::Assert => {
+            reader.keys(value, reader.spans, &["k", "attrs", "expr"]);
+            Declared::Assert(ConstAssert {
+                attributes: reader.attributes(value, "attrs"),
+                expression: reader.expression_at(value, "expr"),
+            })
         }
-        DeclaredWord::Assert => read_assert(alloc, spans, numbering, value),
-        DeclaredWord::Void => read_void(alloc, spans, value),
+        DeclaredWord::Void => {
+            reader.keys(value, reader.spans, &["k"]);
+            Declared::Void
+        }
     }
 }
 
-fn read_void(alloc: Global, spans: bool, value: &BorrowedValue<'_>) -> Result<Declared, Error>
-    ensures ok { GivesPlain result declared_view (ReadsDeclared spans declareds.Void) value.now }
-    ensures place { IfErr result (LocatesRow spans (declared_worded spans declareds.Void) (borrowed_view value.now)) }
+// A value, by its word.
+fn constant(reader: &mut Reader, value: &BorrowedValue<'_>, word: ValueWord) -> Declaration
+    ensures { NotesDeclared (declareds.Value word) (borrowed_view value.now) (declaration_view result) reader.old reader.new }
 {
-    if !wesl_json_form::has_only_beside(value, spans, "span", &["k"]) {
-        return Err(wrong(alloc));
+    reader.keys(value, reader.spans, &["k", "attrs", "name", "ty", "init"]);
+    Declaration {
+        attributes: reader.attributes(value, "attrs"),
+        kind: kind_of(word),
+        ident: reader.ident_at(value, "name"),
+        ty: reader.optional_type(value, "ty"),
+        initializer: reader.optional_expression(value, "init"),
     }
-    Ok(Declared::Void)
 }
 
 fn kind_of(word: ValueWord) -> DeclarationKind
@@ -94,167 +86,65 @@ fn kind_of(word: ValueWord) -> DeclarationKind
     }
 }
 
-// The name, the type and the initial value of a declaration.
-fn typed_parts(
-    alloc: Global,
-    spans: bool,
-    numbering: &mut Numbering,
-    value: &BorrowedValue<'_>,
-) -> Result<(Ident, Option<TypeExpression>, Option<ExpressionNode>), Error>
-    ensures ok { GivesRow result (λ p. typed_forest p.0 p.1 p.2) spans typed_members value.now numbering.old numbering.new }
-    ensures place { IfErr result (LocatesTyped spans (borrowed_view value.now)) }
+// A variable. An access mode stands only with an address space.
+fn variable(reader: &mut Reader, value: &BorrowedValue<'_>) -> Declaration
+    ensures { NotesDeclared declareds.Var (borrowed_view value.now) (declaration_view result) reader.old reader.new }
 {
-    match binder_member(alloc, numbering, value) {
-        Ok(ident) => match optional_type(alloc, spans, numbering, value, "ty") {
-            Ok(ty) => match optional_expression(alloc, spans, numbering, value, "init") {
-                Ok(initializer) => Ok((ident, ty, initializer)),
-                Err(error) => Err(error),
-            },
-            Err(error) => Err(error),
-        },
-        Err(error) => Err(error),
+    if value.get("space").is_some() {
+        let known = &["k", "attrs", "space", "access", "name", "ty", "init"];
+        reader.keys(value, reader.spans, known);
+        let attributes = reader.attributes(value, "attrs");
+        let space = space(reader, value);
+        let access = access(reader, value);
+        Declaration {
+            attributes,
+            kind: DeclarationKind::Var(Some((space, access))),
+            ident: reader.ident_at(value, "name"),
+            ty: reader.optional_type(value, "ty"),
+            initializer: reader.optional_expression(value, "init"),
+        }
+    } else {
+        reader.keys(value, reader.spans, &["k", "attrs", "name", "ty", "init"]);
+        Declaration {
+            attributes: reader.attributes(value, "attrs"),
+            kind: DeclarationKind::Var(None),
+            ident: reader.ident_at(value, "name"),
+            ty: reader.optional_type(value, "ty"),
+            initializer: reader.optional_expression(value, "init"),
+        }
     }
 }
 
-fn read_value(
-    alloc: Global,
-    spans: bool,
-    numbering: &mut Numbering,
-    value: &BorrowedValue<'_>,
-    word: ValueWord,
-) -> Result<Declared, Error>
-    ensures ok { Gives result declared_view (ReadsDeclared spans (declareds.Value word)) value.now numbering.old numbering.new }
-    ensures place { IfErr result (LocatesRow spans (declared_worded spans (declareds.Value word)) (borrowed_view value.now)) }
+// The address space at `space`.
+fn space(reader: &mut Reader, value: &BorrowedValue<'_>) -> AddressSpace
+    ensures { NotesSpace (borrowed_view value.now) result reader.old reader.new }
 {
-    match keyed_attributes(
-        alloc,
-        spans,
-        numbering,
-        value,
-        spans,
-        &["k", "attrs", "name", "ty", "init"],
-    ) {
-        Ok(attributes) => match typed_parts(alloc, spans, numbering, value) {
-            Ok((ident, ty, initializer)) => Ok(Declared::Declaration(Declaration {
-                attributes,
-                kind: kind_of(word),
-                ident,
-                ty,
-                initializer,
-            })),
-            Err(error) => Err(error),
-        },
-        Err(error) => Err(error),
-    }
-}
-
-// A variable with no address space.
-fn read_var(
-    alloc: Global,
-    spans: bool,
-    numbering: &mut Numbering,
-    value: &BorrowedValue<'_>,
-) -> Result<Declared, Error>
-    requires { is_some (get (codes "space") (borrowed_view value.now)) ≡ false }
-    ensures ok { Gives result declared_view (ReadsDeclared spans declareds.Var) value.now numbering.old numbering.new }
-    ensures place { IfErr result (LocatesRow spans (declared_worded spans declareds.Var) (borrowed_view value.now)) }
-{
-    match keyed_attributes(
-        alloc,
-        spans,
-        numbering,
-        value,
-        spans,
-        &["k", "attrs", "name", "ty", "init"],
-    ) {
-        Ok(attributes) => match typed_parts(alloc, spans, numbering, value) {
-            Ok((ident, ty, initializer)) => Ok(Declared::Declaration(Declaration {
-                attributes,
-                kind: DeclarationKind::Var(None),
-                ident,
-                ty,
-                initializer,
-            })),
-            Err(error) => Err(error),
-        },
-        Err(error) => Err(error),
-    }
-}
-
-// A variable with an address space, and perhaps an access mode.
-fn read_var_in_space(
-    alloc: Global,
-    spans: bool,
-    numbering: &mut Numbering,
-    value: &BorrowedValue<'_>,
-) -> Result<Declared, Error>
-    requires { is_some (get (codes "space") (borrowed_view value.now)) ≡ true }
-    ensures ok { Gives result declared_view (ReadsDeclared spans declareds.Var) value.now numbering.old numbering.new }
-    ensures place { IfErr result (LocatesRow spans (declared_worded spans declareds.Var) (borrowed_view value.now)) }
-{
-    match keyed_attributes(
-        alloc,
-        spans,
-        numbering,
-        value,
-        spans,
-        &["k", "attrs", "space", "access", "name", "ty", "init"],
-    ) {
-        Ok(attributes) => match space_member(alloc, value) {
-            Ok(space) => match optional_access(alloc, value) {
-                Ok(access) => match typed_parts(alloc, spans, numbering, value) {
-                    Ok((ident, ty, initializer)) => Ok(Declared::Declaration(Declaration {
-                        attributes,
-                        kind: DeclarationKind::Var(Some((space, access))),
-                        ident,
-                        ty,
-                        initializer,
-                    })),
-                    Err(error) => Err(error),
-                },
-                Err(error) => Err(error),
-            },
-            Err(error) => Err(error),
-        },
-        Err(error) => Err(error),
+    let Some(word) = reader.required(value, "space") else {
+        return AddressSpace::Private;
+    };
+    match word.as_str().and_then(address_space) {
+        Some(space) => space,
+        None => {
+            reader.wrong();
+            reader.within("space");
+            AddressSpace::Private
+        }
     }
 }
 
 // The access mode at `access`, an option.
-fn optional_access(alloc: Global, value: &BorrowedValue<'_>) -> Result<Option<AccessMode>, Error>
-    ensures ok { GivesIfAlways result access_tree (codes "access") (leaf (one_of access_words)) value.now }
-    ensures place { IfErr result (LocatesInsideAlways (codes "access") (leaf (one_of access_words)) (borrowed_view value.now)) }
+fn access(reader: &mut Reader, value: &BorrowedValue<'_>) -> Option<AccessMode>
+    ensures { NotesMay (codes "access") (leaf (one_of access_words)) (borrowed_view value.now) (option_view access_tree result) reader.old reader.new }
 {
-    let Some(member) = value.get("access") else {
-        return Ok(None);
+    let Some(word) = reader.optional(value, "access") else {
+        return None;
     };
-    inside_option(alloc, "access", access_mode_of(alloc, member))
-}
-
-fn read_assert(
-    alloc: Global,
-    spans: bool,
-    numbering: &mut Numbering,
-    value: &BorrowedValue<'_>,
-) -> Result<Declared, Error>
-    ensures ok { Gives result declared_view (ReadsDeclared spans declareds.Assert) value.now numbering.old numbering.new }
-    ensures place { IfErr result (LocatesRow spans (declared_worded spans declareds.Assert) (borrowed_view value.now)) }
-{
-    match keyed_attributes(
-        alloc,
-        spans,
-        numbering,
-        value,
-        spans,
-        &["k", "attrs", "expr"],
-    ) {
-        Ok(attributes) => match expression_member(alloc, spans, numbering, value, "expr") {
-            Ok(expression) => Ok(Declared::Assert(ConstAssert {
-                attributes,
-                expression,
-            })),
-            Err(error) => Err(error),
-        },
-        Err(error) => Err(error),
+    match word.as_str().and_then(access_mode) {
+        Some(mode) => Some(mode),
+        None => {
+            reader.wrong();
+            reader.within("access");
+            None
+        }
     }
 }

@@ -2,13 +2,11 @@
 #![tactic(auto)]
 
 mod declared;
-mod parts;
 mod selector;
 mod simple;
 mod statement;
 mod words;
 
 pub use declared::{Declared, read_declared};
-pub use parts::{binder_member, plain_name_member, plain_text_member};
-pub use statement::body_member;
+pub use statement::body;
 pub use words::{DeclaredWord, ValueWord, declared_word};

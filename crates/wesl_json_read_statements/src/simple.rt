@@ -1,163 +1,122 @@
 //! Reading statements that hold no other statement (WGSL, "Statements").
-ghost use Rattle.std.specs.Prelude.{IfErr};
+ghost use Rattle.std.specs.Prelude.{codes};
 ghost use Rattle.wesl_json_form.specs.View.{borrowed_view};
-ghost use Rattle.wesl_tree_syntax.specs.View.{statement_view};
-ghost use Rattle.wesl_json_read.specs.Faults.{LocatesRow};
+ghost use Rattle.wesl_json_form.specs.Schema.{a_call, node as node_form};
+ghost use Rattle.wesl_json_form.specs.Words.{assignment_words};
+ghost use Rattle.wesl_tree_syntax.specs.Tree.{assignment as assignment_label};
+ghost use Rattle.wesl_tree_syntax.specs.View.{call_view, statement_view};
+ghost use Rattle.wesl_json_read.specs.Noted.{NotesNeeded};
+ghost use Rattle.wesl_json_read.specs.NotedNodes.{NotesOperator};
 ghost use Rattle.wesl_json_read_statements.specs.declared.words.StatementWord.TheVariants as stated;
-ghost use Rattle.wesl_json_read_statements.specs.Forms.{ReadsStatement, jump_word, statement_worded, step_word};
-ghost use Rattle.wesl_json_read.specs.Gives.{Gives};
+ghost use Rattle.wesl_json_read_statements.specs.Forms.{jump_word, step_word};
+ghost use Rattle.wesl_json_read_statements.specs.Noted.{NotesStatement};
 
-use crate::parts::call_member;
-use crate::words::{JumpWord, StepWord, assignment_member};
-use std::alloc::Global;
+use crate::words::{JumpWord, StepWord, assignment_operator};
 use wesl_json_form::BorrowedValue;
-use wesl_json_read::{
-    Numbering, attributes_member, expression_member, keyed_attributes, optional_expression, wrong,
-};
-use wesl_tree_names::Error;
-use wesl_tree_syntax::Statement;
+use wesl_json_read::Reader;
+use wesl_tree_names::Ident;
+use wesl_tree_syntax::{AssignmentOperator, FunctionCall, Statement, TypeExpression};
 
 /// An assignment, by its operator at `op`.
-pub(crate) fn read_assignment(
-    alloc: Global,
-    spans: bool,
-    numbering: &mut Numbering,
-    value: &BorrowedValue<'_>,
-) -> Result<Statement, Error>
-    ensures ok { Gives result statement_view (ReadsStatement spans stated.Assign) value.now numbering.old numbering.new }
-    ensures place { IfErr result (LocatesRow spans (statement_worded spans stated.Assign) (borrowed_view value.now)) }
+pub(crate) fn assignment(reader: &mut Reader, value: &BorrowedValue<'_>) -> Statement
+    ensures { NotesStatement stated.Assign (borrowed_view value.now) (statement_view result) reader.old reader.new }
 {
-    if !wesl_json_form::has_only_beside(value, spans, "span", &["k", "op", "attrs", "lhs", "rhs"]) {
-        return Err(wrong(alloc));
+    reader.keys(value, reader.spans, &["k", "op", "attrs", "lhs", "rhs"]);
+    let operator = operator(reader, value);
+    Statement::Assignment {
+        attributes: reader.attributes(value, "attrs"),
+        operator,
+        lhs: reader.expression_at(value, "lhs"),
+        rhs: reader.expression_at(value, "rhs"),
     }
-    match assignment_member(alloc, value) {
-        Ok(operator) => match attributes_member(alloc, spans, numbering, value, "attrs") {
-            Ok(attributes) => match expression_member(alloc, spans, numbering, value, "lhs") {
-                Ok(lhs) => match expression_member(alloc, spans, numbering, value, "rhs") {
-                    Ok(rhs) => Ok(Statement::Assignment {
-                        attributes,
-                        operator,
-                        lhs,
-                        rhs,
-                    }),
-                    Err(error) => Err(error),
-                },
-                Err(error) => Err(error),
-            },
-            Err(error) => Err(error),
-        },
-        Err(error) => Err(error),
+}
+
+// The operator of an assignment, at `op`.
+fn operator(reader: &mut Reader, value: &BorrowedValue<'_>) -> AssignmentOperator
+    ensures { NotesOperator assignment_words (borrowed_view value.now) (assignment_label result) reader.old reader.new }
+{
+    let Some(word) = reader.required(value, "op") else {
+        return AssignmentOperator::Equal;
+    };
+    match word.as_str().and_then(assignment_operator) {
+        Some(operator) => operator,
+        None => {
+            reader.wrong();
+            reader.within("op");
+            AssignmentOperator::Equal
+        }
     }
 }
 
 /// `expr++;` or `expr--;`, by its word.
-pub(crate) fn read_step(
-    alloc: Global,
-    spans: bool,
-    numbering: &mut Numbering,
-    value: &BorrowedValue<'_>,
-    word: StepWord,
-) -> Result<Statement, Error>
-    ensures ok { Gives result statement_view (ReadsStatement spans (step_word word)) value.now numbering.old numbering.new }
-    ensures place { IfErr result (LocatesRow spans (statement_worded spans (step_word word)) (borrowed_view value.now)) }
+pub(crate) fn step(reader: &mut Reader, value: &BorrowedValue<'_>, word: StepWord) -> Statement
+    ensures { NotesStatement (step_word word) (borrowed_view value.now) (statement_view result) reader.old reader.new }
 {
-    match keyed_attributes(
-        alloc,
-        spans,
-        numbering,
-        value,
-        spans,
-        &["k", "attrs", "expr"],
-    ) {
-        Ok(attributes) => match expression_member(alloc, spans, numbering, value, "expr") {
-            Ok(expression) => match word {
-                StepWord::Increment => Ok(Statement::Increment {
-                    attributes,
-                    expression,
-                }),
-                StepWord::Decrement => Ok(Statement::Decrement {
-                    attributes,
-                    expression,
-                }),
-            },
-            Err(error) => Err(error),
+    reader.keys(value, reader.spans, &["k", "attrs", "expr"]);
+    let attributes = reader.attributes(value, "attrs");
+    let expression = reader.expression_at(value, "expr");
+    match word {
+        StepWord::Increment => Statement::Increment {
+            attributes,
+            expression,
         },
-        Err(error) => Err(error),
+        StepWord::Decrement => Statement::Decrement {
+            attributes,
+            expression,
+        },
     }
 }
 
 /// `break;`, `continue;` or `discard;`, by its word.
-pub(crate) fn read_jump(
-    alloc: Global,
-    spans: bool,
-    numbering: &mut Numbering,
-    value: &BorrowedValue<'_>,
-    word: JumpWord,
-) -> Result<Statement, Error>
-    ensures ok { Gives result statement_view (ReadsStatement spans (jump_word word)) value.now numbering.old numbering.new }
-    ensures place { IfErr result (LocatesRow spans (statement_worded spans (jump_word word)) (borrowed_view value.now)) }
+pub(crate) fn jump(reader: &mut Reader, value: &BorrowedValue<'_>, word: JumpWord) -> Statement
+    ensures { NotesStatement (jump_word word) (borrowed_view value.now) (statement_view result) reader.old reader.new }
 {
-    match keyed_attributes(alloc, spans, numbering, value, spans, &["k", "attrs"]) {
-        Ok(attributes) => match word {
-            JumpWord::Break => Ok(Statement::Break { attributes }),
-            JumpWord::Continue => Ok(Statement::Continue { attributes }),
-            JumpWord::Discard => Ok(Statement::Discard { attributes }),
-        },
-        Err(error) => Err(error),
+    reader.keys(value, reader.spans, &["k", "attrs"]);
+    let attributes = reader.attributes(value, "attrs");
+    match word {
+        JumpWord::Break => Statement::Break { attributes },
+        JumpWord::Continue => Statement::Continue { attributes },
+        JumpWord::Discard => Statement::Discard { attributes },
     }
 }
 
 /// `return;` or `return expr;`
-pub(crate) fn read_return(
-    alloc: Global,
-    spans: bool,
-    numbering: &mut Numbering,
-    value: &BorrowedValue<'_>,
-) -> Result<Statement, Error>
-    ensures ok { Gives result statement_view (ReadsStatement spans stated.Return) value.now numbering.old numbering.new }
-    ensures place { IfErr result (LocatesRow spans (statement_worded spans stated.Return) (borrowed_view value.now)) }
+pub(crate) fn return_statement(reader: &mut Reader, value: &BorrowedValue<'_>) -> Statement
+    ensures { NotesStatement stated.Return (borrowed_view value.now) (statement_view result) reader.old reader.new }
 {
-    match keyed_attributes(
-        alloc,
-        spans,
-        numbering,
-        value,
-        spans,
-        &["k", "attrs", "expr"],
-    ) {
-        Ok(attributes) => match optional_expression(alloc, spans, numbering, value, "expr") {
-            Ok(expression) => Ok(Statement::Return {
-                attributes,
-                expression,
-            }),
-            Err(error) => Err(error),
-        },
-        Err(error) => Err(error),
+    reader.keys(value, reader.spans, &["k", "attrs", "expr"]);
+    Statement::Return {
+        attributes: reader.attributes(value, "attrs"),
+        expression: reader.optional_expression(value, "expr"),
     }
 }
 
 /// `call;`
-pub(crate) fn read_call_statement(
-    alloc: Global,
-    spans: bool,
-    numbering: &mut Numbering,
-    value: &BorrowedValue<'_>,
-) -> Result<Statement, Error>
-    ensures ok { Gives result statement_view (ReadsStatement spans stated.Call) value.now numbering.old numbering.new }
-    ensures place { IfErr result (LocatesRow spans (statement_worded spans stated.Call) (borrowed_view value.now)) }
+pub(crate) fn call_statement(reader: &mut Reader, value: &BorrowedValue<'_>) -> Statement
+    ensures { NotesStatement stated.Call (borrowed_view value.now) (statement_view result) reader.old reader.new }
 {
-    match keyed_attributes(
-        alloc,
-        spans,
-        numbering,
-        value,
-        spans,
-        &["k", "attrs", "call"],
-    ) {
-        Ok(attributes) => match call_member(alloc, spans, numbering, value) {
-            Ok(call) => Ok(Statement::FunctionCall { attributes, call }),
-            Err(error) => Err(error),
-        },
-        Err(error) => Err(error),
+    reader.keys(value, reader.spans, &["k", "attrs", "call"]);
+    Statement::FunctionCall {
+        attributes: reader.attributes(value, "attrs"),
+        call: call(reader, value),
     }
+}
+
+// The call at `call`.
+fn call(reader: &mut Reader, value: &BorrowedValue<'_>) -> FunctionCall
+    ensures { NotesNeeded (codes "call") (node_form a_call) (borrowed_view value.now) (call_view result) reader.old reader.new }
+{
+    let Some(member) = reader.required(value, "call") else {
+        return FunctionCall {
+            ty: TypeExpression {
+                path: None,
+                ident: Ident(0),
+                template_args: None,
+            },
+            arguments: Vec::new(reader.alloc),
+        };
+    };
+    let call = reader.call(member);
+    reader.within("call");
+    call
 }

@@ -1,19 +1,11 @@
 //! The words of statements, and of what stands in modules and in functions.
-ghost use Rattle.std.specs.Prelude.{◌≡◌, Bool, Some, IfOk, IfErr, IfSome, codes, option_map};
-ghost use Rattle.wesl_json_form.specs.View.{borrowed_view};
+ghost use Rattle.std.specs.Prelude.{◌≡◌, Bool, IfSome, option_map};
 ghost use Rattle.wesl_tree_syntax.specs.Tree.{Kind, access, assignment, space};
 ghost use Rattle.wesl_json_form.specs.Nodes.{declared_words, statement_words};
 ghost use Rattle.wesl_json_form.specs.Schema.{look};
 ghost use Rattle.wesl_json_form.specs.Words.{access_words, assignment_words, space_words};
-ghost use Rattle.wesl_json_form.specs.Reading.{word_in};
-ghost use Rattle.wesl_json_read.specs.Faults.{LocatesHere, LocatesText};
-ghost use Rattle.wesl_json_read.specs.Forms.{word_at};
 ghost use Rattle.wesl_json_read_statements.specs.Forms.{declared_of, declared_text, statement_of, statement_text};
 
-use std::alloc::Global;
-use wesl_json_form::BorrowedValue;
-use wesl_json_read::{inside, wrong};
-use wesl_tree_names::Error;
 use wesl_tree_syntax::{AccessMode, AddressSpace, AssignmentOperator};
 
 /// The words at `k` of a declaration that has no address space.
@@ -111,7 +103,8 @@ pub(crate) fn statement_word(text: &str) -> Option<StatementWord>
     }
 }
 
-fn assignment_operator(text: &str) -> Option<AssignmentOperator>
+/// The operator of an assignment that a word names.
+pub(crate) fn assignment_operator(text: &str) -> Option<AssignmentOperator>
     ensures { option_map assignment result ≡ look assignment_words text.now }
 {
     match text {
@@ -130,7 +123,8 @@ fn assignment_operator(text: &str) -> Option<AssignmentOperator>
     }
 }
 
-fn address_space(text: &str) -> Option<AddressSpace>
+/// The address space that a word names.
+pub(crate) fn address_space(text: &str) -> Option<AddressSpace>
     ensures { option_map space result ≡ look space_words text.now }
 {
     match text {
@@ -144,7 +138,8 @@ fn address_space(text: &str) -> Option<AddressSpace>
     }
 }
 
-fn access_mode(text: &str) -> Option<AccessMode>
+/// The access mode that a word names.
+pub(crate) fn access_mode(text: &str) -> Option<AccessMode>
     ensures { option_map access result ≡ look access_words text.now }
 {
     match text {
@@ -153,63 +148,4 @@ fn access_mode(text: &str) -> Option<AccessMode>
         "read_write" => Some(AccessMode::ReadWrite),
         _ => None,
     }
-}
-
-fn assignment_operator_of(
-    alloc: Global,
-    value: &BorrowedValue<'_>,
-) -> Result<AssignmentOperator, Error>
-    ensures ok { IfOk result (λ o. word_in assignment_words (borrowed_view value.now) ≡ Some (assignment o)) }
-    ensures place { IfErr result (LocatesHere (word_in assignment_words (borrowed_view value.now))) }
-{
-    match value.as_str().and_then(assignment_operator) {
-        Some(operator) => Ok(operator),
-        None => Err(wrong(alloc)),
-    }
-}
-
-fn address_space_of(alloc: Global, value: &BorrowedValue<'_>) -> Result<AddressSpace, Error>
-    ensures ok { IfOk result (λ o. word_in space_words (borrowed_view value.now) ≡ Some (space o)) }
-    ensures place { IfErr result (LocatesHere (word_in space_words (borrowed_view value.now))) }
-{
-    match value.as_str().and_then(address_space) {
-        Some(space) => Ok(space),
-        None => Err(wrong(alloc)),
-    }
-}
-
-/// The access mode that a word is.
-pub(crate) fn access_mode_of(alloc: Global, value: &BorrowedValue<'_>) -> Result<AccessMode, Error>
-    ensures ok { IfOk result (λ o. word_in access_words (borrowed_view value.now) ≡ Some (access o)) }
-    ensures place { IfErr result (LocatesHere (word_in access_words (borrowed_view value.now))) }
-{
-    match value.as_str().and_then(access_mode) {
-        Some(mode) => Ok(mode),
-        None => Err(wrong(alloc)),
-    }
-}
-
-/// The operator of an assignment, at `op`.
-pub(crate) fn assignment_member(
-    alloc: Global,
-    value: &BorrowedValue<'_>,
-) -> Result<AssignmentOperator, Error>
-    ensures ok { IfOk result (λ o. word_at assignment_words (codes "op") (borrowed_view value.now) ≡ Some (assignment o)) }
-    ensures place { IfErr result (LocatesText (word_in assignment_words) (codes "op") (borrowed_view value.now)) }
-{
-    let Some(member) = value.get("op") else {
-        return Err(wrong(alloc));
-    };
-    inside(alloc, "op", assignment_operator_of(alloc, member))
-}
-
-/// The address space at `space`.
-pub(crate) fn space_member(alloc: Global, value: &BorrowedValue<'_>) -> Result<AddressSpace, Error>
-    ensures ok { IfOk result (λ o. word_at space_words (codes "space") (borrowed_view value.now) ≡ Some (space o)) }
-    ensures place { IfErr result (LocatesText (word_in space_words) (codes "space") (borrowed_view value.now)) }
-{
-    let Some(member) = value.get("space") else {
-        return Err(wrong(alloc));
-    };
-    inside(alloc, "space", address_space_of(alloc, member))
 }

@@ -1,20 +1,16 @@
--- What reading notes of an object by its word, and of spans and names.
-use Rattle.std.specs.Prelude.{◌≡◌, ℕ, Bool, List, Option, Some, codes, if◌then◌else◌, is_some, option_and_then}
+-- What reading notes of an object by its word, and of names.
+use Rattle.std.specs.Prelude.{◌≡◌, Option, codes, is_some}
 use Rattle.serde_json.specs.Data.{Data}
 use Rattle.serde_json.specs.Find.{get}
-use Rattle.wesl_tree_names.specs.Path.{Text}
 use Rattle.wesl_tree_names.specs.declared.names.Ident.{Ident}
-use Rattle.wesl_tree_syntax.specs.Tree.{Role, Tree, binder, word}
+use Rattle.wesl_tree_syntax.specs.Tree.{Tree, binder}
 use Rattle.wesl_tree_syntax.specs.View.{ident_tree, optional}
-use Rattle.wesl_json_form.specs.Reading.{name_in, span_in}
 use Rattle.wesl_json_form.specs.Schema.{a_declaration, a_directive, an_ident, leaf, node}
-use Rattle.wesl_json_read.specs.Faults.{Locates, LocatesInside, LocatesRow, LocatesSpan}
+use Rattle.wesl_json_read.specs.Faults.{Locates, LocatesInside, LocatesRow}
 use Rattle.wesl_json_read.specs.Forms.{HasWord}
-use Rattle.wesl_json_read.specs.Numbers.{IsNumbered, ReadsMay}
-use Rattle.wesl_json_read_statements.specs.Forms.{ReadsDeclared, declared_worded}
-use Rattle.wesl_json_read_statements.specs.declared.words.DeclaredWord.{DeclaredWord}
+use Rattle.wesl_json_read.specs.Numbers.{ReadsMay}
 use Rattle.wesl_json_read_unit.specs.Forms.{ReadsDeclaration, ReadsDirective, declaration_text, declaration_worded, directive_text, directive_worded}
-use Rattle.wesl_json_read.specs.Noted.{Notes, NotesIdent}
+use Rattle.wesl_json_read.specs.Noted.{Notes}
 use Rattle.wesl_json_read.specs.declared.reader.Reader.{Reader}
 use Rattle.wesl_json_read_unit.specs.declared.words.DeclarationWord.{DeclarationWord}
 use Rattle.wesl_json_read_unit.specs.declared.words.DirectiveWord.{DirectiveWord}
@@ -26,9 +22,6 @@ NotesDirective w d t = Notes (λ spans. ReadsDirective spans w d t) (λ spans. L
 abbrev pub NotesDeclaration : DeclarationWord → Data → Tree → Reader → Reader → Type 0
 NotesDeclaration w d t = Notes (λ spans. ReadsDeclaration spans w d t) (λ spans. LocatesRow spans (declaration_worded spans w) d)
 
-abbrev pub NotesDeclared : DeclaredWord → Data → Tree → Reader → Reader → Type 0
-NotesDeclared w d t = Notes (λ spans. ReadsDeclared spans w d t) (λ spans. LocatesRow spans (declared_worded spans w) d)
-
 -- the object has this word
 abbrev pub NotesDirectiveWord : Data → DirectiveWord → Reader → Reader → Type 0
 NotesDirectiveWord d w = Notes (λ _ old new. (new ≡ old) × HasWord (directive_text w) d) (λ spans. Locates spans (node a_directive) d)
@@ -36,15 +29,8 @@ NotesDirectiveWord d w = Notes (λ _ old new. (new ≡ old) × HasWord (directiv
 abbrev pub NotesDeclarationWord : Data → DeclarationWord → Reader → Reader → Type 0
 NotesDeclarationWord d w = Notes (λ _ old new. (new ≡ old) × HasWord (declaration_text w) d) (λ spans. Locates spans (node a_declaration) d)
 
--- whether the name of an imported item is bound where it is imported, or another one
-abbrev pub item_role : Data → Role
-item_role d = if is_some (get (codes "as") d) then word else binder
-
 -- the other name of an imported item, where it has one
 abbrev pub NotesRename : Data → Option Ident → Reader → Reader → Type 0
 NotesRename d o =
     Notes (λ spans old new. (is_some o ≡ is_some (get (codes "as") d)) × ReadsMay spans (codes "as") (leaf (an_ident binder)) d (optional (ident_tree binder) o) old new)
     (λ spans. LocatesInside spans (codes "as") (leaf (an_ident binder)) d)
-
-abbrev pub IsRename : Data → Option Ident → List Text → List Text → Type 0
-IsRename d o old new = (spans : Bool) → ReadsMay spans (codes "as") (leaf (an_ident binder)) d (optional (ident_tree binder) o) old new

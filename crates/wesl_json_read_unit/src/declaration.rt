@@ -9,11 +9,10 @@ ghost use Rattle.wesl_json_read.specs.Noted.{NotesForm, NotesMany};
 ghost use Rattle.wesl_json_read_unit.specs.Worded.{NotesDeclaration, NotesDeclarationWord};
 ghost use Rattle.wesl_json_read_unit.specs.UnitLists.{global_tree, member_tree, members_tree, parameters_tree, some_globals, some_members, some_parameters};
 
-use crate::members::{body, declared};
 use crate::words::{DeclarationWord, declaration_word};
 use wesl_json_form::BorrowedValue;
 use wesl_json_read::{Reader, TextKind};
-use wesl_json_read_statements::Declared;
+use wesl_json_read_statements::{Declared, body, read_declared};
 use wesl_tree_syntax::{
     FormalParameter, Function, GlobalDeclaration, GlobalDeclarationNode, Spanned, Struct,
     StructMember, StructMemberNode, TypeAlias,
@@ -43,7 +42,7 @@ pub(crate) fn declarations(
 fn declaration(reader: &mut Reader, value: &BorrowedValue<'_>) -> GlobalDeclarationNode
     ensures { NotesForm (node_form a_declaration) (borrowed_view value.now) (global_tree result) reader.old reader.new }
 {
-    let word = declaration_word(reader, value);
+    let word = word_of_declaration(reader, value);
     Spanned {
         span: reader.span(value),
         node: worded_declaration(reader, value, word),
@@ -51,7 +50,7 @@ fn declaration(reader: &mut Reader, value: &BorrowedValue<'_>) -> GlobalDeclarat
 }
 
 // The word at `k`.
-fn declaration_word(reader: &mut Reader, value: &BorrowedValue<'_>) -> DeclarationWord
+fn word_of_declaration(reader: &mut Reader, value: &BorrowedValue<'_>) -> DeclarationWord
     ensures { NotesDeclarationWord (borrowed_view value.now) result reader.old reader.new }
 {
     let Some(word) = reader.required(value, "k") else {
@@ -92,7 +91,7 @@ fn worded_declaration(
             })
         }
         DeclarationWord::Function => GlobalDeclaration::Function(function(reader, value)),
-        DeclarationWord::Declared(word) => global_of(declared(reader, value, word)),
+        DeclarationWord::Declared(word) => global_of(read_declared(reader, value, word)),
     }
 }
 

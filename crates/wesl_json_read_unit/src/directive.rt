@@ -33,7 +33,7 @@ pub(crate) fn directives(reader: &mut Reader, value: &BorrowedValue<'_>) -> Vec<
 fn directive(reader: &mut Reader, value: &BorrowedValue<'_>) -> GlobalDirectiveNode
     ensures { NotesForm (node_form a_directive) (borrowed_view value.now) (directive_tree result) reader.old reader.new }
 {
-    let word = directive_word(reader, value);
+    let word = word_of_directive(reader, value);
     Spanned {
         span: reader.span(value),
         node: worded_directive(reader, value, word),
@@ -41,7 +41,7 @@ fn directive(reader: &mut Reader, value: &BorrowedValue<'_>) -> GlobalDirectiveN
 }
 
 // The word at `k`.
-fn directive_word(reader: &mut Reader, value: &BorrowedValue<'_>) -> DirectiveWord
+fn word_of_directive(reader: &mut Reader, value: &BorrowedValue<'_>) -> DirectiveWord
     ensures { NotesDirectiveWord (borrowed_view value.now) result reader.old reader.new }
 {
     let Some(word) = reader.required(value, "k") else {

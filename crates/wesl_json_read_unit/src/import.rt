@@ -1,19 +1,17 @@
 //! Reading imports (WESL, "Imports").
-ghost use Rattle.std.specs.Prelude.{◌≡◌, IfErr, IfOk, codes, is_some, false};
+ghost use Rattle.std.specs.Prelude.{◌≡◌, codes, is_some, false};
 ghost use Rattle.serde_json.specs.Find.{get};
 ghost use Rattle.wesl_json_form.specs.View.{borrowed_view};
-ghost use Rattle.wesl_tree_syntax.specs.Tree.{binder, list};
+ghost use Rattle.wesl_tree_syntax.specs.Tree.{list};
 ghost use Rattle.wesl_tree_syntax.specs.View.{content_view, entry_view, imports_tree, item_view, listed};
-ghost use Rattle.wesl_json_form.specs.Schema.{a_content, an_entry, an_ident, an_import, leaf, node as node_form};
+ghost use Rattle.wesl_json_form.specs.Schema.{a_content, an_entry, an_import, node as node_form};
 ghost use Rattle.wesl_json_read.specs.Noted.{NotesForm, NotesMany, NotesNeeded};
-ghost use Rattle.wesl_json_read.specs.Faults.{LocatesInsideAlways};
-ghost use Rattle.wesl_json_read_unit.specs.Worded.{IsRename, NotesRename};
+ghost use Rattle.wesl_json_read_unit.specs.Worded.{NotesRename};
 ghost use Rattle.wesl_json_read_unit.specs.UnitLists.{import_tree, some_entries, some_imports};
 
-use std::alloc::Global;
 use wesl_json_form::BorrowedValue;
-use wesl_json_read::{Numbering, Reader, name_of, under};
-use wesl_tree_names::{Error, Ident};
+use wesl_json_read::Reader;
+use wesl_tree_names::Ident;
 use wesl_tree_syntax::{
     Import, ImportContent, ImportItem, ImportStatement, ImportStatementNode, Spanned,
 };
@@ -123,28 +121,8 @@ fn item(reader: &mut Reader, value: &BorrowedValue<'_>) -> ImportItem
 fn rename(reader: &mut Reader, value: &BorrowedValue<'_>) -> Option<Ident>
     ensures { NotesRename (borrowed_view value.now) result reader.old reader.new }
 {
-    let read = optional_rename(reader.alloc, &mut reader.numbering, value);
-    match reader.noted(read) {
-        Some(rename) => rename,
+    match value.get("as") {
+        Some(_) => Some(reader.ident_at(value, "as")),
         None => None,
-    }
-}
-
-// The name at `as`, an option.
-fn optional_rename(
-    alloc: Global,
-    numbering: &mut Numbering,
-    value: &BorrowedValue<'_>,
-) -> Result<Option<Ident>, Error>
-    ensures ok { IfOk result (λ e. IsRename (borrowed_view value.now) e numbering.old numbering.new) }
-    ensures there { IfOk result (λ e. is_some e ≡ is_some (get (codes "as") (borrowed_view value.now))) }
-    ensures place { IfErr result (LocatesInsideAlways (codes "as") (leaf (an_ident binder)) (borrowed_view value.now)) }
-{
-    let Some(member) = value.get("as") else {
-        return Ok(None);
-    };
-    match name_of(alloc, member) {
-        Ok(name) => Ok(Some(numbering.number(alloc, name)?)),
-        Err(error) => Err(under(alloc, error, "as")),
     }
 }

@@ -4,7 +4,6 @@
 mod declaration;
 mod directive;
 mod import;
-mod members;
 mod unit;
 mod words;
 

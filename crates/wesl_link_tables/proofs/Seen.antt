@@ -18,7 +18,7 @@ use Rattle.wesl_scope_meanings.specs.Scopes.{Key, bound, key_of}
 use Rattle.wesl_scope_meanings.specs.Sensed as read_as
 use Rattle.wesl_scope_meanings.specs.Sensed.{of_module, number_in}
 use Rattle.wesl_scope_meanings.specs.Senses.{IsSenseBelow, sense_view, key_in, by_name, first_path, manner_as, manner_of, manner_in}
-use Rattle.wesl_scope_meanings.specs.Read.{senses_in, paths_in, name_read, told_by, is_declared_in, means}
+use Rattle.wesl_scope_meanings.specs.Read.{senses_in, paths_read, name_read, told_by, is_declared_in, meaning_read}
 use Rattle.wesl_scope_meanings.specs.declared.sense.Sense.{Sense}
 use Rattle.wesl_scope_meanings.specs.declared.sense.Sense.TheVariants as made
 use Rattle.wesl_scope_meanings.proofs.Keyed.{first_at}
@@ -100,7 +100,7 @@ module _ (r : Reading) (read : IsRead r) where
         ∙ (ap (λ p. use_read sc (Name p) (manner_of o) o.name (key_of os o)) (place_there (view_in r) i any_one (omega (arith, bound_i, count_is)))
         ∙ (ap (λ n. use_read sc (Name i) n o.name (key_of os o)) (sym (same_at manner_in manner_of read.senses.manners))
         ∙ (ap (λ n. use_read sc (Name i) m n (key_of os o)) (sym (same_at (name_read (view_in r)) (λ u. u.name) read.senses.names))
-        ∙ ap (λ k. use_read sc (Name i) m x k) (sym (same_at (means (view_in r) r.senses.now) (key_of os) read.senses.keys)))))
+        ∙ ap (λ k. use_read sc (Name i) m x k) (sym (same_at (meaning_read (view_in r) r.senses.now) (key_of os) read.senses.keys)))))
 
     -- the mark of an identifier that is read so is its mark among all
     pub mark_there : (nb : Numbering) (m : Mark) (old new : Asked) → Marks nb m old new (used_as r (Name i) (sense_view s) (name_read (view_in r) (sense_view s))) → Marks nb m old new (use_at r i)
@@ -132,7 +132,7 @@ module _ (r : Reading) (here : Place) (x : Text) (s : Sense) where
   pub read_module : (i : Ident) → s ≡ made.OfModule i → used_as r here (sense_view s) x ≡ plain_in r here x
   read_module i e = ap (λ k. used_as r here (sense_view k) x) e ∙ by (is_declared_in (view_in r) i.0)
     where
-      by : (known : Bool) → meant (scope_in r) here x (told_by block_way (key_in (λ k. known) (view_in r).names (paths_in r.senses.now) (of_module i.0))) ≡ plain_in r here x
+      by : (known : Bool) → meant (scope_in r) here x (told_by block_way (key_in (λ k. known) (view_in r).names (paths_read r.senses.now) (of_module i.0))) ≡ plain_in r here x
       by true = ap (λ w. meant (scope_in r) here x (bound w (name_in (view_in r).names i.0))) (way_first r.senses.now.outer.items)
       by false = refl
 
@@ -160,4 +160,4 @@ module _ (r : Reading) (here : Place) (x : Text) (s : Sense) where
   pub read_past : (i : Ident) (n : ℕ) → s ≡ made.ByPath i n → length r.senses.now.paths.items ≤ n → used_as r here (sense_view s) x ≡ plain_in r here x
   read_past i n e h =
       ap (λ k. used_as r here (sense_view k) x) e
-      ∙ ap (by_path_at i.0) (drop_all n (paths_in r.senses.now) (omega (arith, h, length-map r.senses.now.paths.items (λ q. path_view q.now))))
+      ∙ ap (by_path_at i.0) (drop_all n (paths_read r.senses.now) (omega (arith, h, length-map r.senses.now.paths.items (λ q. path_view q.now))))

@@ -17,7 +17,7 @@ use Rattle.wesl_scope_occurrences.specs.Occurrences.{occurrences}
 use Rattle.wesl_scope_meanings.specs.Scopes.{Key}
 use Rattle.wesl_scope_meanings.specs.Sensed.{Sense}
 use Rattle.wesl_scope_meanings.specs.Senses.{Manner, of_declaration, of_word, of_meaning, manner_in}
-use Rattle.wesl_scope_meanings.specs.Read.{AreRead, means}
+use Rattle.wesl_scope_meanings.specs.Read.{AreRead, meaning_read}
 use Rattle.wesl_link_tables.specs.Marks.{IsMark}
 use Rattle.wesl_link_tables.specs.Numbering.{Numbering, AreRelated, IsRelatedOption, AreNumberedNames, AreNumberedReferences, AreNumberedBinders, IsNumberedScope, NameAt}
 use Rattle.wesl_link_tables.specs.NumbersView.{numbering}
@@ -53,7 +53,7 @@ use_read s here of_word x key = refers x []
 use_read s here of_meaning x key = meant s here x key
 
 abbrev pub used_as : Reading → Place → Sense → Text → Use Path Text
-used_as r here s x = use_read (scope_in r) here (manner_in s) x (means (view_in r) r.senses.now s)
+used_as r here s x = use_read (scope_in r) here (manner_in s) x (meaning_read (view_in r) r.senses.now s)
 
 -- a name without a path, a name under a path, and one under a path that begins with the name of these imports
 abbrev pub plain_in : Reading → Place → Text → Use Path Text

@@ -17,8 +17,8 @@ abbrev pub senses_in : Senses → List Sense
 senses_in m = map sense_view m.all.items
 
 -- the paths of those that have one
-abbrev pub paths_in : Senses → List Path
-paths_in m = map (λ p. path_view p.now) m.paths.items
+abbrev pub paths_read : Senses → List Path
+paths_read m = map (λ p. path_view p.now) m.paths.items
 
 -- the name of the one that is read so
 abbrev pub name_read : UnitView → Sense → Text
@@ -36,15 +36,15 @@ abbrev pub is_declared_in : UnitView → ℕ → Bool
 is_declared_in u i = is_declared_by (occurrences (spelled u)) (name_in u.names i)
 
 -- what the one means that is read so
-abbrev pub means : UnitView → Senses → Sense → Key
-means u m s = told_by (way m.outer.items) (key_in (is_declared_in u) u.names (paths_in m) s)
+abbrev pub meaning_read : UnitView → Senses → Sense → Key
+meaning_read u m s = told_by (way m.outer.items) (key_in (is_declared_in u) u.names (paths_read m) s)
 
 -- the identifiers of the module are read so, in document order
 pub record AreRead (u : UnitView) (m : Senses) : Type 0 where
   -- each is what it is in the module, has its name, and means what it means there by plain scoping
   pub manners : map manner_in (senses_in m) ≡ map manner_of (occurrences (spelled u))
   pub names : map (name_read u) (senses_in m) ≡ map (λ o. o.name) (occurrences (spelled u))
-  pub keys : map (means u m) (senses_in m) ≡ keys (occurrences (spelled u))
+  pub keys : map (meaning_read u m) (senses_in m) ≡ keys (occurrences (spelled u))
   -- where the identifiers of each declaration begin among them
   pub starts : m.starts.items ≡ starts (trees_of u)
   -- what their numbers and blocks are numbers of is there, and a block opens after the one round it

@@ -1,11 +1,9 @@
-use Rattle.wesl_json_form.specs.View.{borrowed_view}
-use Rattle.std.proofs.Common.{subst, sym}
-use Rattle.wesl_json_read_statements.specs.Forms.{ReadsDeclared}
-use Rattle.wesl_json_read_statements.specs.Views.{declared_view}
-use Rattle.std.proofs.lemmas.Result.{IfOk-weaker}
+use Rattle.std.proofs.Common.{refl}
+use Rattle.wesl_json_read.proofs.Noting.{many_next, needs_next, no_more, of_word}
 use Rattle.wesl_json_read_statements.proofs.declared.read_declared.Goals as goal
 
-pub returns-in-Void-clause-ok : goal.returns-in-Void-clause-ok
-returns-in-Void-clause-ok c =
-    let names = c.args.numbering.now in
-    IfOk-weaker c.read_void.result _ _ (λ e h. subst (λ w. ReadsDeclared c.args.spans w (borrowed_view c.args.value.now) (declared_view e) names names) (sym c.in-Void.is) (h names)) c.read_void.ensures.ok
+pub returns-in-Assert : goal.returns-in-Assert
+returns-in-Assert c = rw c.in-Assert.is (of_word _ refl c.keys.ensures (many_next refl c.attributes.ensures (needs_next refl c.expression_at.ensures no_more)))
+
+pub returns-in-Void : goal.returns-in-Void
+returns-in-Void c = rw c.in-Void.is (of_word _ refl c.keys-in-Void.ensures no_more)

@@ -4,4 +4,4 @@ use Rattle.wesl_json_read.proofs.Noting.{of_placed}
 use Rattle.wesl_json_read_unit.proofs.directive.directive.Goals as goal
 
 pub returns : goal.returns
-returns c = of_placed (λ spans is. directive-node spans c.directive_word-word.result (borrowed_view c.args.value.now) is) c.directive_word-word.ensures c.span.ensures c.worded_directive.ensures
+returns c = of_placed (λ spans is. directive-node spans c.word_of_directive-word.result (borrowed_view c.args.value.now) is) c.word_of_directive-word.ensures c.span.ensures c.worded_directive.ensures

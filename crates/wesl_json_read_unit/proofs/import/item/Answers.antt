@@ -1,7 +1,6 @@
-use Rattle.wesl_json_read_unit.specs.Worded.{item_role}
 use Rattle.std.proofs.Common.{refl, sym}
 use Rattle.wesl_json_form.specs.View.{borrowed_view}
-use Rattle.wesl_json_read_unit.proofs.Imports.{content-item, item-tree}
+use Rattle.wesl_json_read_unit.proofs.Imports.{content-item, item-tree, item_role}
 use Rattle.wesl_json_read.proofs.Noting.{may_next, needs_next, no_more, of_bare, seen_if, weaker}
 use Rattle.wesl_json_read_unit.proofs.import.item.Goals as goal
 

@@ -1,11 +1,12 @@
-use Rattle.std.proofs.Common.{refl}
-use Rattle.std.proofs.lemmas.Result.{IfOk-at_ok}
-use Rattle.wesl_json_read.proofs.Places.{memory}
-use Rattle.wesl_json_read.proofs.Noting.{refused, taken}
+use Rattle.std.proofs.Common.{Option, ap, sym}
+use Rattle.std.specs.Option.{is_some}
+use Rattle.serde_json.specs.Data.{Data}
+use Rattle.wesl_tree_syntax.specs.Tree.{binder}
+use Rattle.wesl_json_read_unit.proofs.Imports.{not_renamed, renamed}
 use Rattle.wesl_json_read_unit.proofs.import.rename.Goals as goal
 
 pub returns-in-Some : goal.returns-in-Some
-returns-in-Some c = taken _ c.optional_rename-read.ensures.ok c.in-Some.ensures.read refl refl c.in-Some.ensures.same (λ h. (IfOk-at_ok _ c.in-Some.ensures.read c.optional_rename-read.ensures.there, h c.args.reader.now.spans))
+returns-in-Some c = renamed (ap (λ (o : Option Data). is_some o) (sym c.in-Some.ensures)) (c.ident_at.ensures binder)
 
 pub returns-in-None : goal.returns-in-None
-returns-in-None c = refused _ c.optional_rename-read.ensures.place refl refl c.in-None.ensures.noted (λ x h. h c.args.reader.now.spans) (λ x is. memory _ x is)
+returns-in-None c = not_renamed (sym c.in-None.ensures)

@@ -165,4 +165,4 @@ type_of-returns-then-is_object t c =
 
 pub type_object-returns : goal.type_object-returns
 type_object-returns t c =
-    subst (λ z. NotesType c.args.takes_span (borrowed_view c.args.value.now) z c.args.self.now c.arguments.new.self) (sym (made_type _ _ _)) (of_type c.keys.ensures (may_next refl c.path.ensures (needs_next refl (c.ident_at.ensures reference) (may_next refl c.arguments.ensures no_more))))
+    subst (λ z. NotesType c.args.takes_span (borrowed_view c.args.value.now) z c.args.self.now c.arguments.new.self) (sym (made_type _ _ _)) (of_type c.keys.ensures (may_next refl c.boxed_path.ensures (needs_next refl (c.ident_at.ensures reference) (may_next refl c.arguments.ensures no_more))))
