@@ -10,9 +10,9 @@ mod together;
 
 pub use faults::{condition_faults, unit_faults};
 pub use mapped::{MappedLink, link_by, name_all};
-pub use together::are_together;
 use serde_json::Value;
 use std::alloc::Global;
+pub use together::are_together;
 use wesl_cond::{Feature, Features};
 use wesl_json::{unit_of_value, value_of_unit};
 use wesl_link::{Resolver, link_under};

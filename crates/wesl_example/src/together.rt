@@ -13,10 +13,5 @@ pub fn are_together(
     if flag_count(alloc, unit)? > 16 {
         return Ok(None);
     }
-    Ok(Some(alive_together(
-        alloc,
-        unit,
-        &[2, first],
-        &[2, second],
-    )?))
+    Ok(Some(alive_together(alloc, unit, &[2, first], &[2, second])?))
 }

@@ -84,8 +84,5 @@ module _ (spans : Bool) where
   Locates f d e = IfPlace e (IsBroken (whole_form spans) f d)
 
 -- the same whether spans are read or not
-abbrev pub LocatesAlways : Form → Data → error.Error → Type 0
-LocatesAlways f d e = (spans : Bool) → Locates spans f d e
-
 abbrev pub LocatesInsideAlways : Text → Form → Data → error.Error → Type 0
 LocatesInsideAlways k f d e = (spans : Bool) → LocatesInside spans k f d e
