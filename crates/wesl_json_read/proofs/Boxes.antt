@@ -39,10 +39,6 @@ path_in_box {k} {d} p {s} {m} {e} None n same refused =
 path_in_box {k} {d} p {s} {m} {e} (Some b) n same refused =
     subst (λ z. NotesMay k (leaf a_path) d (optional path_tree (Some z)) s e) (sym same.0) (subst (λ z. NotesMay k (leaf a_path) d (optional path_tree (Some p)) s z) (sym same.1) n)
 
-pub box_there : (T : Bool → error.Error → Type 0) (m e : Reader) (o : Option (Box (Spanned Expression))) → IfNone o (Notes Never T m e) → e.fault ≡ None → is_some o ≡ true
-box_there T m e None n h = absurd (n.read h)
-box_there T m e (Some b) n h = refl
-
 -- an expression, as a template argument
 pub as_argument : {d : Data} (x : Spanned Expression) {s e : Reader} → NotesForm (node an_expression) d (expression_tree x) s e → NotesForm (node a_template_argument) d (argument_view (roll-TemplateArg (record { expression = x }))) s e
 as_argument {d} x {s} {e} n =

@@ -16,13 +16,6 @@ use Rattle.wesl_json_read.specs.Numbers.{ReadsMany}
 use Rattle.wesl_tree_syntax.specs.Tree.{Kind, Tree, branch}
 use Rattle.wesl_tree_syntax.specs.View.{listed}
 
--- the measure of a call on the same value, and on a member of it
-pub to_next : (n k j t : ℕ) → 10 * n + j ≡ t → ltb k j ≡ true → 10 * n + k < t
-to_next n k j t is low = omega (arith, ltb-true k j low)
-
-pub to_member : (a b k j t : ℕ) → 10 * b + j ≡ t → a < b → ltb k 10 ≡ true → 10 * a + k < t
-to_member a b k j t is below low = omega (arith, ltb-true k 10 low)
-
 module _ {spans : Bool} where
   -- a list that is not there, and one that is no list
   module _ {A : Type 0} (f : A → Tree) (kd : Kind) (m : Name) (d : Data) (a : List Text) where

@@ -35,13 +35,6 @@ module _ (spans : Bool) where
     pub type-place : (e : error.Error) → is_some (as_object d) ≡ true → LocatesRow spans type_row d e → Locates spans (node a_type) d e
     type-place e object_like h = node-row spans a_type d type_node e object_like refl h
 
-  -- a word that names an expression
-  pub has-expression : (w : ExpressionWord) (d v : Data) → get (codes "k") d ≡ Some v → as_str v ≡ Some (expression_text w) → Some (expression_of spans w) ≡ option_and_then (look (all_expression_words spans)) (as_str v) → HasExpressionWord spans (Some w) d
-  has-expression w d v found text_is picks = (
-    ap (option_and_then as_str) found ∙ text_is,
-    ap (λ o. elim o as (λ _. Option Node) [ None ↦ Some (type_or_identifier_node spans) | Some x ↦ option_and_then (look (all_expression_words spans)) (as_str x) ]) found ∙ sym picks,
-  )
-
   module _ (d : Data) (object_like : is_some (as_object d) ≡ true) where
     -- the expression of an object, with its span
     pub expression-placed : (w : Option ExpressionWord) (s e : ℕ) (t : Tree) (a b : List Text) → HasExpressionWord spans w d → span_in spans d ≡ Some (s, e) → ReadsExpressionOf spans w d t a b → Reads spans (node an_expression) d (record { label = at expression_node s e; children = before t end }) a b

@@ -168,9 +168,6 @@ short-truth d o h = ap (λ x. elim x as (λ _. Option Spelled) [
   | None ↦ option_map (λ t. labelled (at expression_node 0 0) (branch type_or_identifier (t ∷ []) ∷ [])) (short_type d)
 ]) h
 
-pub plain-wrong : (d : Data) → as_bool d ≡ None → short_type d ≡ None → short_expression d ≡ None
-plain-wrong d no_truth none = short-truth d None no_truth ∙ ap (option_map (λ t. labelled (at expression_node 0 0) (branch type_or_identifier (t ∷ []) ∷ []))) none
-
 bool-no-object : (d : Data) (b : Bool) → as_bool d ≡ Some b → is_some (as_object d) ≡ false
 bool-no-object null b h = cc
 bool-no-object (boolean c) b h = refl

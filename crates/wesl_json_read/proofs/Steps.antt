@@ -34,18 +34,11 @@ module _ {spans : Bool} where
   pub inner-then : {h : Head} {ins row : Row} {d : Data} {l : Label} {s : SpelledLabel} {is ts : Forest} {a b c : List Text} → IsPlain l s → label_in h d ≡ Some s → ReadsRows spans ins d is a b → ReadsRows spans row d ts b c → ReadsRows spans (inner h ins row) d (tree l is ts) a c
   inner-then {h} {ins} {row} {d} {l} {s} {is} {ts} {a} {b} {c} plain labelled i r = record { row_is = row-inner spans d h ins row l s is ts a b c plain labelled i.row_is r.row_is }
 
-  -- a text that is no identifier
-  pub text-member : {A : Type 0} (read : Data → Option A) (l : Leaf) (g : A → SpelledLabel) (k : Text) (d : Data) (x : A) (lab : Label) (a : List Text) → ((v : Data) → leaf_label l v ≡ option_map g (read v)) → IsPlain lab (g x) → option_and_then read (get k d) ≡ Some x → ReadsNeeded spans k (leaf l) d (leaf_tree lab) a a
-  text-member read l g k d x lab a agree plain h = record { member = member-leaf spans read l g k d x lab a agree plain h }
-
   -- a leaf by itself
   pub leaf-reads : {A : Type 0} (read : Data → Option A) (l : Leaf) (g : A → SpelledLabel) (v : Data) (x : A) (lab : Label) (a : List Text) → ((u : Data) → leaf_label l u ≡ option_map g (read u)) → IsPlain lab (g x) → read v ≡ Some x → Reads spans (leaf l) v (leaf_tree lab) a a
   leaf-reads read l g v x lab a agree plain h =
       let label : leaf_label l v ≡ Some (g x) = agree v ∙ ap (option_map g) h in
       record { form = one-up spans (leaf l) v (leaf_tree lab) a a (over (λ n. Some end) (λ n. reading (whole_form spans) (suc n) (leaf l) v) _ lab (g x) end a a plain (λ n us low e. ap (option_map leaf_of) label ∙ ap (λ cs. Some (record { label = g x; children = cs })) (cc)) (none-read (λ n. Some end) _ a (λ n. refl))) }
-
-  pub ident-member : (r : Role) (k : Text) (d : Data) (s : Text) (i : ℕ) (old new : List Text) → option_and_then name_of (get k d) ≡ Some s → IsNumbered old s i new → ReadsNeeded spans k (leaf (an_ident r)) d (leaf_tree (ident r i)) old new
-  ident-member r k d s i old new h num = record { member = member-ident spans r k d s i old new h num }
 
   pub needed-there : (k : Text) (f : Form) (d e : Data) (t : Tree) (a b : List Text) → get k d ≡ Some e → Reads spans f e t a b → ReadsNeeded spans k f d t a b
   needed-there k f d e t a b found h = record { member = member-form spans k f d e t a b found h.form }
@@ -64,9 +57,6 @@ module _ {spans : Bool} where
 
   pub same-reads : {f : Form} {d : Data} {t u : Tree} {a b : List Text} → Reads spans f d t a b → t ≡ u → Reads spans f d u a b
   same-reads {f} {d} {t} {u} {a} {b} h e = subst (λ x. Reads spans f d x a b) e h
-
-  pub same-needed : {k : Text} {f : Form} {d : Data} {t u : Tree} {a b : List Text} → ReadsNeeded spans k f d t a b → t ≡ u → ReadsNeeded spans k f d u a b
-  same-needed {k} {f} {d} {t} {u} {a} {b} h e = subst (λ x. ReadsNeeded spans k f d x a b) e h
 
 -- ---- objects with a word
 
@@ -88,14 +78,6 @@ picked words unmarked d w nd h is = picked-case words unmarked w nd (get (codes 
 -- ---- values that are no objects
 
 module _ {spans : Bool} where
-  pub truth-reads : (d : Data) (b : Bool) (a : List Text) → as_bool d ≡ Some b → Reads spans (node an_expression) d (as_expression (branch literal (leaf_tree (truth b) ∷ []))) a a
-  truth-reads d b a h = record { form = truth-read spans d b a h }
-
-  pub plain-reads : (d : Data) (i : ℕ) (a b : List Text) → as_bool d ≡ None → is_some (as_object d) ≡ false → ReadsPlain d (plain_type i) a b → Reads spans (node an_expression) d (as_expression (branch type_or_identifier (plain_type i ∷ []))) a b
-  plain-reads d i a b no_truth no_object h = record { form = plain-expression spans d i a b no_truth no_object h }
-
-  pub plain-type-reads : (d : Data) (t : Tree) (a b : List Text) → is_some (as_object d) ≡ false → ReadsPlain d t a b → Reads spans (node a_type) d t a b
-  plain-type-reads d t a b no_object h = record { form = form-of-short spans a_type d t a b no_object h.plain }
 
 pub known-object : (ks : List Text) (d : Data) → has_only ks d ≡ true → is_some (as_object d) ≡ true
 known-object ks null h = cc

@@ -18,14 +18,6 @@ use Rattle.wesl_json_read.proofs.Places.{inside-under, leaf-under, member-inside
 use Rattle.wesl_json_read.proofs.Steps.{many-there, may-there, needed-there}
 
 module _ {A : Type 0} (k : Text) (d v : Data) (found : get k d ≡ Some v) (r : Result A error.Error) where
-  -- a text
-  pub text-inside : {B : Type 0} (read : Data → Option B) (g : A → B) (s : Result A error.Error) → IfOk r (λ x. read v ≡ Some (g x)) → IfOk s (λ x. r ≡ Ok x) → IfOk s (λ x. option_and_then read (get k d) ≡ Some (g x))
-  text-inside read g s good ok =
-      IfOk-weaker s (λ x. r ≡ Ok x) (λ x. option_and_then read (get k d) ≡ Some (g x)) (λ x is. ap (option_and_then read) found ∙ IfOk-at_ok (λ y. read v ≡ Some (g y)) is good) ok
-
-  pub text-fault : {B : Type 0} (read : Data → Option B) (s : Result A error.Error) → IfErr r (LocatesHere (read v)) → IfErr s (IsFaultUnder k r) → IfErr s (LocatesText read k d)
-  text-fault read s bad told =
-      IfErr-weaker s (IsFaultUnder k r) (LocatesText read k d) (λ e h. text-under read k d v h.0 e found (IfErr-at_err (LocatesHere (read v)) h.1 bad) h.2) told
 
 module _ (spans : Bool) {A : Type 0} (k : Text) (d v : Data) (found : get k d ≡ Some v) (r : Result A error.Error) where
   module _ (f : Form) where

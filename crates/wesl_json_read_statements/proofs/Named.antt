@@ -14,13 +14,6 @@ use Rattle.wesl_json_read_statements.specs.declared.words.StatementWord.{Stateme
 use Rattle.wesl_json_read_statements.specs.declared.words.StatementWord.TheVariants as stated
 
 module _ (spans : Bool) where
-  pub declared-looked : (outer : Kind) (w : DeclaredWord) → look (declared_words spans outer) (declared_text w) ≡ Some (declared_of spans outer w)
-  declared-looked outer (declareds.Value values.Const) = refl
-  declared-looked outer (declareds.Value values.Override) = refl
-  declared-looked outer (declareds.Value values.Let) = refl
-  declared-looked outer declareds.Var = refl
-  declared-looked outer declareds.Assert = refl
-  declared-looked outer declareds.Void = refl
 
   statement-looked : (w : StatementWord) → look (statement_words spans) (statement_text w) ≡ Some (statement_of spans w)
   statement-looked stated.Block = refl

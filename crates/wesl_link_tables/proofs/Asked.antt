@@ -5,6 +5,8 @@ use Rattle.std.proofs.lemmas.List.Elements.{All-append, All-nil}
 use Rattle.wesl_tree_names.specs.Path.{Text, Origin, absolute, relative, from_package, Path, path_view, is_relative, origin_is_relative, join, join_origin, root_path}
 use Rattle.wesl_tree_names.specs.declared.names.Ident.{Ident}
 use Rattle.wesl_tree_names.specs.declared.path.ModulePath.{ModulePath}
+use Rattle.wesl_link_tables.specs.Base.{target_path}
+use Rattle.wesl_link_tables.specs.declared.imports.Target.{Target}
 use Rattle.wesl_tree_syntax.specs.Tree.{ForestOf, TreeOf, end, tree, trees, identifiers}
 use Rattle.wesl_cond_choices.specs.declared.place.Place.{Place}
 use Rattle.wesl_cond_choices.specs.declared.place.Place.TheVariants as places
@@ -130,5 +132,5 @@ statements_asked own j (t ∷ ts) h =
     All-append Imported (imports.statement_imports own stands (imports.below t.children)) (imports.imports_from own (suc j) ts)
     (statement_asked own stands (imports.below t.children) h) (statements_asked own (suc j) ts h)
 
-pub imports_asked : (own : Path) (g : ForestOf ℕ) (found : List (Import ModulePath Ident)) → Asked own → map import_view found ≡ imports.all_imports own g → All (λ i. Asked (path_view i.path)) found
+pub imports_asked : (own : Path) (g : ForestOf ℕ) (found : List (Import Target Ident)) → Asked own → map import_view found ≡ imports.all_imports own g → All (λ i. Asked (target_path i.path)) found
 imports_asked own g found h e = all_unmap import_view Imported found (subst (λ is. All Imported is) (sym e) (statements_asked own 0 (trees g) h))

@@ -5,7 +5,7 @@ use mathlib.Core.List.{map-map}
 use Rattle.std.proofs.lemmas.List.{map-append}
 use Rattle.wesl_tree_names.specs.Path.{Text, Path}
 use Rattle.wesl_tree_names.specs.declared.names.Ident.{Ident}
-use Rattle.wesl_tree_names.specs.declared.path.ModulePath.{ModulePath}
+use Rattle.wesl_link_tables.specs.declared.imports.Target.{Target}
 use Rattle.wesl_tree_syntax.specs.Tree.{LabelOf, kind, at, ident, text, texts, truth, unary, binary, assignment, space, access, path, binder, reference, word, ForestOf, TreeOf, end, tree, trees, identifiers, respell_label, respell_forest, respell}
 use Rattle.wesl_tree_syntax.specs.Unit.{name_in, UnitView, spelled}
 use Rattle.wesl_cond_choices.specs.declared.place.Place.{Place}
@@ -234,7 +234,7 @@ module _ {I J : Type 0} (f : I → J) where
 
 -- ---- the whole module
 
-pub imports_are : (own : Path) (u : UnitView) (is : List (Import ModulePath Ident)) → map import_view is ≡ imports.all_imports own u.imports.children → spelled_imports u.names is ≡ imports.imports own (spelled u)
+pub imports_are : (own : Path) (u : UnitView) (is : List (Import Target Ident)) → map import_view is ≡ imports.all_imports own u.imports.children → spelled_imports u.names is ≡ imports.imports own (spelled u)
 imports_are own u is e =
     let f : ℕ → Text = name_in u.names in
     let apart : spelled_imports u.names is ≡ map (respell_import f) (map import_view is) = simp map-map in

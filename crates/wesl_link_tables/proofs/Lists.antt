@@ -38,9 +38,6 @@ module _ {X Y Z : Type 0} (g : Z → Y) (f : X → Y) (xs : List X) (i : ℕ) wh
       ∙ (map-append g old (z ∷ [])
       ∙ (ap (λ l. l ++ g z ∷ []) so_far ∙ (ap (λ y. map f (take i xs) ++ y ∷ []) e ∙ sym (ap (map f) (take_next xs i x b at) ∙ map-append f (take i xs) (x ∷ [])))))
 
-  pub mapped_all : (ys : List X) (found : List Z) → xs ≡ ys → length xs ≤ i → map g found ≡ map f (take i xs) → map g found ≡ map f ys
-  mapped_all ys found e b h = h ∙ ap (map f) (taken_all xs i b ∙ e)
-
 module _ {X Y : Type 0} (R S : X → Y → Type 0) (more : (x : X) (y : Y) → R x y → S x y) where
   pub related_more : (xs : List X) (ys : List Y) → AreRelated R xs ys → AreRelated S xs ys
   related_more [] [] h = tt

@@ -12,19 +12,7 @@ use Rattle.wesl_tree_interner.proofs.Interning.{get_unmap}
 use Rattle.wesl_link_tables.specs.Numbering.{IsLonger, Puts}
 use Rattle.wesl_link_tables.proofs.Lists.{longer_itself}
 
--- the texts with one more
-pub longer_with : (old new : List Text) (x : Text) → new ≡ with_text old x → IsLonger old new
-longer_with old new x e = by (list_any (bytes_eq x) old) e
-  where
-    by : (b : Bool) → new ≡ (if b then old else old ++ x ∷ []) → IsLonger old new
-    by true e = subst (λ (ks : List Text). IsLonger old ks) (sym e) (longer_itself old)
-    by false e = (x ∷ [], e)
-
 module _ {K X : Type 0} (f : K → X) (eq : K → K → Bool) where
-  pub longer_put : (old : List K) (k : K) (new : List K) → Puts eq old k new → IsLonger (map f old) (map f new)
-  longer_put old k new (inl e) = subst (λ (ks : List K). IsLonger (map f old) (map f ks)) (sym e) (longer_itself (map f old))
-  longer_put old k new (inr (n, e)) = (f k ∷ [], ap (map f) e ∙ map-append f old (k ∷ []))
-
   module _ (equal : (k l : K) → f k ≡ f l → eq k l ≡ true) where
     fresh : (old : List K) (k : K) (i : ℕ) → list_any (eq k) old ≡ false → slice_get (map f old) i ≡ Some (f k) → ⊥
     fresh old k i n h = let (l, g, e) = get_unmap f old i (f k) h in none_passes (eq k) old i l n g (equal k l (sym e))

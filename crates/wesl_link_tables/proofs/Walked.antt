@@ -19,13 +19,6 @@ use Rattle.wesl_link_tables.specs.Tables.{declared_name}
 use Rattle.wesl_link_tables.specs.Walks.{imported}
 use Rattle.wesl_link_tables.proofs.Nodes.{view_entry, view_item, view_collection}
 
--- what kind a declaration is of binds no name
-pub kind_binds : (k : DeclarationKind) (others : Forest) → declared_name (before (kind_tree k) others) ≡ declared_name others
-kind_binds kinds.Const others = refl
-kind_binds kinds.Override others = refl
-kind_binds kinds.Let others = refl
-kind_binds (kinds.Var o) others = refl
-
 taken : {X : Type 0} (i e : Bool) (found items deep deeper some more rest : List X) → deep ≡ found ++ some → deeper ≡ found ++ more
     → (if i then found ++ items else if e then deep else deeper) ≡ found ++ (if i then items else if e then some else more)
 taken true e found items deep deeper some more rest f g = refl

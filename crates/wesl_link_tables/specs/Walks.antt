@@ -9,16 +9,17 @@ use Rattle.wesl_tree_syntax.specs.View.{import_view as statement_view}
 use Rattle.wesl_tree_syntax.specs.declared.import.ImportStatement.{ImportStatement}
 use Rattle.wesl_cond_choices.specs.declared.place.Place.{Place}
 use Rattle.wesl_link_symbols.specs.declared.symbols.Import.{Import}
-use Rattle.wesl_link_tables.specs.Base.{base_view}
+use Rattle.wesl_link_tables.specs.Base.{base_view, target_path}
 use Rattle.wesl_link_tables.specs.Imports as imports
 use Rattle.wesl_link_tables.specs.declared.imports.Base.{Base}
+use Rattle.wesl_link_tables.specs.declared.imports.Target.{Target}
 
 -- an import, as the code keeps it before it is numbered
-abbrev pub import_view : Import ModulePath Ident → Import Path ℕ
-import_view i = record { bound = i.bound.0; path = path_view i.path; item = i.item.0; published = i.published; place = i.place; from = i.from; order = i.order }
+abbrev pub import_view : Import Target Ident → Import Path ℕ
+import_view i = record { bound = i.bound.0; path = target_path i.path; item = i.item.0; published = i.published; place = i.place; from = i.from; order = i.order }
 
 -- the imports that the code has found
-abbrev pub imports_of : Vec (Import ModulePath Ident) Global → List (Import Path ℕ)
+abbrev pub imports_of : Vec (Import Target Ident) Global → List (Import Path ℕ)
 imports_of found = map import_view found.items
 
 -- the paths that the code has found
@@ -35,7 +36,7 @@ imported stands published base found (tree l children others) =
     else imported stands published base found children) others
 
 -- what was found has the imports of this content after those found before
-abbrev pub HasImported : Place → Bool → Base → Forest → Vec (Import ModulePath Ident) Global → Vec (Import ModulePath Ident) Global → Type 0
+abbrev pub HasImported : Place → Bool → Base → Forest → Vec (Import Target Ident) Global → Vec (Import Target Ident) Global → Type 0
 HasImported stands published base content old new = imports_of new ≡ imported stands published (base_view base) (imports_of old) content
 
 -- the imports of a statement of the module at this path

@@ -1,10 +1,10 @@
 //! What the imports of a module bind (WESL, "Imports").
-ghost use Rattle.std.specs.Prelude.{◌≡◌, ◌++◌, false, All, map, option_map, string_bytes, IfOk, OnOk};
-ghost use Rattle.wesl_tree_names.specs.Path.{path_view, is_relative};
+ghost use Rattle.std.specs.Prelude.{◌≡◌, ◌++◌, true, false, All, map, option_map, string_bytes, IfOk, OnOk};
+ghost use Rattle.wesl_tree_names.specs.Path.{path_view, is_relative, join};
 ghost use Rattle.wesl_tree_syntax.specs.Tree.{before, end, forest_of};
 ghost use Rattle.wesl_tree_syntax.specs.View.{attribute_view, attributes_tree, content_view, entry_view, item_view, imports_tree};
 ghost use Rattle.wesl_link_tables.specs.Imports as imports;
-ghost use Rattle.wesl_link_tables.specs.Base.{base_view};
+ghost use Rattle.wesl_link_tables.specs.Base.{base_view, target_path};
 ghost use Rattle.wesl_link_tables.specs.Walks.{HasImported, imports_of, statement_imports};
 
 use crate::memory::{copied, memory};
@@ -17,32 +17,60 @@ use wesl_tree_syntax::{
     ImportStatementNode,
 };
 
+/// The path of the module that an import leads to.
+#[derive(Drop)]
+pub enum Target<'a> {
+    /// That of the import's statement.
+    Written(&'a ModulePath),
+    /// One that was made for the import.
+    Made(ModulePath),
+}
+
+impl<'a> Target<'a> {
+    /// The path.
+    pub fn path(&self) -> &ModulePath
+        ensures { path_view result.now ≡ target_path self.now }
+    {
+        match self {
+            Target::Written(path) => *path,
+            Target::Made(path) => path,
+        }
+    }
+}
+
 /// Where the parts of an import statement lead.
 #[derive(Drop)]
-enum Base {
+enum Base<'a> {
     /// The statement has no path: the first component of an entry names a package.
     Unset,
     /// No module.
     Nowhere,
     /// The module at this path.
-    At(ModulePath),
+    At(Target<'a>),
 }
 
-impl Base {
+impl<'a> Base<'a> {
     /// Where the entry with these components leads.
-    fn entered(&self, alloc: Global, components: &[String]) -> Result<Base, AllocError>
+    fn entered(&self, alloc: Global, components: &[String]) -> Result<Base<'a>, AllocError>
         ensures { IfOk result (λ b. base_view b ≡ imports.entered (base_view self.now) (map string_bytes components.now)) }
     {
         match self {
-            Base::At(path) => Ok(Base::At(memory(path.join(alloc, components))?)),
+            Base::At(target) => Ok(made(memory(target.path().join(alloc, components))?)),
             Base::Nowhere => Ok(Base::Nowhere),
             Base::Unset => in_package(alloc, components),
         }
     }
 }
 
+/// The module at a path that was made.
+fn made<'a>(path: ModulePath) -> Base<'a>
+    ensures { base_view result ≡ imports.to (path_view path) }
+{
+    Base::At(Target::Made(path))
+}
+
 /// The module that these components name, of which the first is a package.
-fn in_package(alloc: Global, components: &[String]) -> Result<Base, AllocError>
+fn in_package<'a>(alloc: Global, components: &[String]) -> Result<Base<'a>, AllocError>
     ensures { IfOk result (λ b. base_view b ≡ imports.entered imports.unset (map string_bytes components.now)) }
 {
     let Some((package, names)) = components.split_first() else {
@@ -50,29 +78,54 @@ fn in_package(alloc: Global, components: &[String]) -> Result<Base, AllocError>
     };
     let origin = PathOrigin::Package(package.clone()?);
     let root = ModulePath::new(origin, Vec::new(alloc));
-    Ok(Base::At(memory(root.join(alloc, names))?))
+    Ok(made(memory(root.join(alloc, names))?))
+}
+
+/// Whether a path means the module at `own` what is written: it is not relative, and `own` is in no named package.
+fn is_as_written(own: &ModulePath, path: &ModulePath) -> bool
+    ensures { result ≡ true → join (path_view own.now) (path_view path.now) ≡ path_view path.now }
+{
+    match (&own.origin, &path.origin) {
+        (PathOrigin::Package(_), _) => false,
+        (_, PathOrigin::Relative(_)) => false,
+        (_, _) => true,
+    }
 }
 
 /// Where a statement with this path leads in the module at `own`.
-fn base_of(alloc: Global, own: &ModulePath, path: &Option<ModulePath>) -> Result<Base, AllocError>
+fn joined<'a>(alloc: Global, own: &ModulePath, path: &'a ModulePath) -> Result<Base<'a>, AllocError>
+    ensures { IfOk result (λ b. base_view b ≡ imports.to (join (path_view own.now) (path_view path.now))) }
+{
+    if is_as_written(own, path) {
+        return Ok(Base::At(Target::Written(path)));
+    }
+    Ok(made(memory(own.join_path(alloc, path))?))
+}
+
+/// Where a statement with this path leads in the module at `own`, where it has one.
+fn base_of<'a>(
+    alloc: Global,
+    own: &ModulePath,
+    path: &'a Option<ModulePath>,
+) -> Result<Base<'a>, AllocError>
     ensures { IfOk result (λ b. base_view b ≡ imports.base_of (path_view own.now) (option_map path_view path.now)) }
 {
     match path {
-        Some(path) => Ok(Base::At(memory(own.join_path(alloc, path))?)),
+        Some(path) => joined(alloc, own, path),
         None => Ok(Base::Unset),
     }
 }
 
 /// The imports with a target of the module at `own`, in the order of the source, each with where its statement stands.
 /// Refused for want of memory alone.
-pub fn imports(
+pub fn imports<'a>(
     alloc: Global,
     own: &ModulePath,
-    statements: &Vec<ImportStatementNode>,
-) -> Result<Vec<Import<ModulePath, Ident>>, AllocError>
+    statements: &'a Vec<ImportStatementNode>,
+) -> Result<Vec<Import<Target<'a>, Ident>>, AllocError>
     requires { is_relative (path_view own.now) ≡ false }
     ensures imports { IfOk result (λ found. imports_of found ≡ imports.all_imports (path_view own.now) (imports_tree statements.now).children) }
-    ensures asked { IfOk result (λ found. All (λ i. is_relative (path_view i.path) ≡ false) found.items) }
+    ensures asked { IfOk result (λ found. All (λ i. is_relative (target_path i.path) ≡ false) found.items) }
 {
     let mut found = Vec::with_capacity(alloc, statements.len())?;
     for i in 0..statements.len() {
@@ -87,12 +140,12 @@ pub fn imports(
     Ok(found)
 }
 
-fn add_statement(
+fn add_statement<'a>(
     alloc: Global,
     own: &ModulePath,
-    found: &mut Vec<Import<ModulePath, Ident>>,
+    found: &mut Vec<Import<Target<'a>, Ident>>,
     stands: Place,
-    statement: &ImportStatement,
+    statement: &'a ImportStatement,
 ) -> Result<(), AllocError>
     ensures { OnOk result (imports_of found.new ≡ imports_of found.old ++ statement_imports own.now stands statement.now) }
 {
@@ -102,15 +155,15 @@ fn add_statement(
 }
 
 #[cycle(imports)]
-fn add_content(
+fn add_content<'a>(
     alloc: Global,
-    found: &mut Vec<Import<ModulePath, Ident>>,
+    found: &mut Vec<Import<Target<'a>, Ident>>,
     stands: Place,
     published: bool,
-    base: Base,
+    base: Base<'a>,
     content: &ImportContent,
 ) -> Result<(), AllocError>
-    ensures { OnOk result (HasImported stands published base (before (content_view content.now) end) found.old found.new) }
+    ensures { OnOk result (HasImported stands published base.entry (before (content_view content.now) end) found.old found.new) }
 {
     match content {
         ImportContent::Item(item) => add_item(alloc, found, stands, published, base, item),
@@ -121,12 +174,12 @@ fn add_content(
 }
 
 #[cycle(imports)]
-fn add_entries(
+fn add_entries<'a>(
     alloc: Global,
-    found: &mut Vec<Import<ModulePath, Ident>>,
+    found: &mut Vec<Import<Target<'a>, Ident>>,
     stands: Place,
     published: bool,
-    base: &Base,
+    base: &Base<'a>,
     entries: &Vec<ImportEntry>,
 ) -> Result<(), AllocError>
     ensures { OnOk result (HasImported stands published base.now (forest_of (map entry_view entries.now.items)) found.old found.new) }
@@ -138,12 +191,12 @@ fn add_entries(
 }
 
 #[cycle(imports)]
-fn add_entry(
+fn add_entry<'a>(
     alloc: Global,
-    found: &mut Vec<Import<ModulePath, Ident>>,
+    found: &mut Vec<Import<Target<'a>, Ident>>,
     stands: Place,
     published: bool,
-    base: &Base,
+    base: &Base<'a>,
     entry: &ImportEntry,
 ) -> Result<(), AllocError>
     ensures { OnOk result (HasImported stands published base.now (before (entry_view entry.now) end) found.old found.new) }
@@ -152,15 +205,15 @@ fn add_entry(
     add_content(alloc, found, stands, published, inner, &entry.content)
 }
 
-fn add_item(
+fn add_item<'a>(
     alloc: Global,
-    found: &mut Vec<Import<ModulePath, Ident>>,
+    found: &mut Vec<Import<Target<'a>, Ident>>,
     stands: Place,
     published: bool,
-    base: Base,
+    base: Base<'a>,
     item: &ImportItem,
 ) -> Result<(), AllocError>
-    ensures { OnOk result (HasImported stands published base (before (item_view item.now) end) found.old found.new) }
+    ensures { OnOk result (HasImported stands published base.entry (before (item_view item.now) end) found.old found.new) }
 {
     let Base::At(path) = base else {
         return Ok(());

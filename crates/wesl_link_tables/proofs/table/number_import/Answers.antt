@@ -1,38 +1,28 @@
 use Rattle.std.proofs.Common.{refl}
-use Rattle.wesl_tree_names.specs.Path.{path_view}
+use Rattle.wesl_link_tables.specs.Base.{target_path}
 use Rattle.wesl_link_tables.specs.NumbersView.{numbering}
 use Rattle.wesl_link_tables.specs.Numbering.{Grows}
 use Rattle.wesl_link_tables.proofs.Related.{grows_trans, name_later, names_later, path_later}
 use Rattle.wesl_link_tables.proofs.table.number_import.Goals as goal
 
 pub number_of-requires-2 : goal.number_of-requires-2
-number_of-requires-2 c =
-    let there = numbering c.number_of.new.numbers in
-    names_later there (numbering c.path.new.self) c.path.ensures.grows c.args.ids.now c.args.names.now
-    (names_later (numbering c.args.numbers.now) there c.number_of.ensures.grows c.args.ids.now c.args.names.now c.requires.ids)
-
-pub returns-in_err-path-clause-grows : goal.returns-in_err-path-clause-grows
-returns-in_err-path-clause-grows c = grows_trans (numbering c.args.numbers.now) (numbering c.number_of.new.numbers) (numbering c.path.new.self) c.number_of.ensures.grows c.path.ensures.grows
+number_of-requires-2 c = names_later (numbering c.args.numbers.now) (numbering c.number_of.new.numbers) c.number_of.ensures.grows c.args.ids.now c.args.names.now c.requires.ids
 
 pub returns-in_err-item-clause-grows : goal.returns-in_err-item-clause-grows
-returns-in_err-item-clause-grows c =
-    grows_trans (numbering c.args.numbers.now) (numbering c.number_of.new.numbers) (numbering c.number_of-2.new.numbers) c.number_of.ensures.grows
-    (grows_trans (numbering c.number_of.new.numbers) (numbering c.path.new.self) (numbering c.number_of-2.new.numbers) c.path.ensures.grows c.number_of-2.ensures.grows)
+returns-in_err-item-clause-grows c = grows_trans (numbering c.args.numbers.now) (numbering c.number_of.new.numbers) (numbering c.number_of-2.new.numbers) c.number_of.ensures.grows c.number_of-2.ensures.grows
 
 pub returns-clause-grows : goal.returns-clause-grows
-returns-clause-grows c =
-    grows_trans (numbering c.args.numbers.now) (numbering c.number_of.new.numbers) (numbering c.number_of-2.new.numbers) c.number_of.ensures.grows
-    (grows_trans (numbering c.number_of.new.numbers) (numbering c.path.new.self) (numbering c.number_of-2.new.numbers) c.path.ensures.grows c.number_of-2.ensures.grows)
+returns-clause-grows c = grows_trans (numbering c.args.numbers.now) (numbering c.number_of.new.numbers) (numbering c.number_of-2.new.numbers) c.number_of.ensures.grows c.number_of-2.ensures.grows
 
 pub returns-clause-numbered : goal.returns-clause-numbered
 returns-clause-numbered c =
+    let given = numbering c.args.numbers.now in
     let bound_there = numbering c.number_of.new.numbers in
-    let path_there = numbering c.path.new.self in
     let there = numbering c.number_of-2.new.numbers in
-    let after : Grows bound_there there = grows_trans bound_there path_there there c.path.ensures.grows c.number_of-2.ensures.grows in
+    let grows : Grows given there = grows_trans given bound_there there c.number_of.ensures.grows c.number_of-2.ensures.grows in
     record {
-      bound = name_later bound_there there after c.in_ok-bound.bound _ c.in_ok-bound.ensures.numbered;
-      path = path_later path_there there c.number_of-2.ensures.grows c.in_ok-path.path (path_view c.args.import.now.path) c.in_ok-path.ensures.numbered;
+      bound = name_later bound_there there c.number_of-2.ensures.grows c.in_ok-bound.bound _ c.in_ok-bound.ensures.numbered;
+      path = path_later given there grows c.args.path (target_path c.args.import.now.path) c.requires.path;
       item = c.in_ok-item.ensures.numbered;
       published = refl;
       place = refl;
