@@ -8,19 +8,20 @@ use Rattle.std.specs.Ordering.{nat_cmp, match_ordering}
 use Rattle.std.specs.Str.{bytes_eq}
 use Rattle.serde_json.specs.Data.{Data, Members, no_members, member, put}
 use Rattle.wesl_tree_names.specs.Path.{Text}
-use Rattle.wesl_json_form.specs.View.{borrowed_view, members_view, put_all}
+use Rattle.wesl_json_form.specs.View.{borrowed_view, key_text, members_view, put_all}
+use Rattle.wesl_json_form.specs.declared.key.Key.{Key}
 use Rattle.wesl_json_form.specs.declared.value.BorrowedValue.{BorrowedValue}
 use Rattle.wesl_json_form.specs.Keys.{all_known, keys_beside}
 
 abbrev pub Entry : Type 0
-Entry = Bor (List ℕ) × BorrowedValue
+Entry = Key × BorrowedValue
 
 abbrev pub is_known : List Text → Text → Bool
 is_known known k = list_any (λ x. bytes_eq x k) known
 
 abbrev pub keys_known : List Text → List Entry → Bool
 keys_known known [] = true
-keys_known known (e ∷ es) = is_known known e.0.now && keys_known known es
+keys_known known (e ∷ es) = is_known known (key_text e.0) && keys_known known es
 
 among-known : (known : List (Bor (List ℕ))) (k : List ℕ) → list_any (λ x. bytes_eq x.now k) known ≡ is_known (map (λ x. x.now) known) k
 among-known [] k = refl
@@ -69,12 +70,12 @@ known-put known k d (member l e ms) = known-put_at (slice_cmp nat_cmp k l) known
 known-put_all : (known : List Text) (es : List Entry) (found : Members) → all_known known (put_all (map (λ m. (m.0, borrowed_view m.1)) es) found) ≡ (keys_known known es && all_known known found)
 known-put_all known [] found = refl
 known-put_all known (e ∷ es) found =
-    known-put_all known es (put e.0.now (borrowed_view e.1) found)
-    ∙ ap (λ r. keys_known known es && r) (known-put known e.0.now (borrowed_view e.1) found)
-    ∙ moved (keys_known known es) (is_known known e.0.now) (all_known known found)
+    known-put_all known es (put (key_text e.0) (borrowed_view e.1) found)
+    ∙ ap (λ r. keys_known known es && r) (known-put known (key_text e.0) (borrowed_view e.1) found)
+    ∙ moved (keys_known known es) (is_known known (key_text e.0)) (all_known known found)
 
 pub known-members : (known : List Text) (es : List Entry) → keys_known known es ≡ all_known known (members_view es)
 known-members known es = sym (known-put_all known es no_members ∙ and_true (keys_known known es))
 
-pub known-next : (known : List Text) (es : List Entry) (i : ℕ) (e : Entry) → i < length es → e ≡ get_or es i e → keys_known known (drop i es) ≡ (is_known known e.0.now && keys_known known (drop (i + 1) es))
+pub known-next : (known : List Text) (es : List Entry) (i : ℕ) (e : Entry) → i < length es → e ≡ get_or es i e → keys_known known (drop i es) ≡ (is_known known (key_text e.0) && keys_known known (drop (i + 1) es))
 known-next known es i e low is = rw (drop-cons es i e low, ← is, add-one) refl

@@ -4,6 +4,7 @@ use Rattle.json.specs.Token.{Token}
 use Rattle.json.specs.Json.{parse_map}
 use Rattle.serde_json.specs.Data.{null, boolean, number, string, array, object, Items, no_items, item}
 use Rattle.wesl_json_form.specs.View.{borrowed_view, items_view, members_view, number_view}
+use Rattle.wesl_json_form.specs.declared.key.Key.{Key}
 use Rattle.wesl_json_form.specs.declared.number.Number.{Number}
 use Rattle.wesl_json_form.specs.declared.value.BorrowedValue as value
 use Rattle.wesl_json_form.specs.declared.value.BorrowedValue.{BorrowedValue, the_lemmas}
@@ -25,7 +26,7 @@ pub ruleset shown = (null_view, truth_view, number_seen, text_view)
 pub array_view : (vs : Bor (List BorrowedValue)) → borrowed_view (value.Array vs) ≡ array (items_view vs.now)
 array_view vs = search (rules, the_lemmas)
 
-pub object_view : (ms : Bor (List (Bor (List ℕ) × BorrowedValue))) → borrowed_view (value.Object ms) ≡ object (members_view ms.now)
+pub object_view : (ms : Bor (List (Key × BorrowedValue))) → borrowed_view (value.Object ms) ≡ object (members_view ms.now)
 object_view ms = search (rules, the_lemmas)
 
 -- ---- items

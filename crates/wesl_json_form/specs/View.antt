@@ -1,9 +1,9 @@
 -- The data that a borrowed value stands for.
 use Rattle.std.specs.Prelude.{ℕ, List, [], ◌∷◌, map}
-use Rattle.std.specs.Borrow.{Bor}
 use Rattle.serde_json.specs.Data.{Num, Data, null, boolean, number, string, array, object, Items, Members, no_members, put}
 use Rattle.serde_json.specs.View.{items_of}
 use Rattle.wesl_json_form.specs.Number.{num_of}
+use Rattle.wesl_json_form.specs.declared.key.Key.{Key}
 use Rattle.wesl_json_form.specs.declared.number.Number.{Number}
 use Rattle.wesl_json_form.specs.declared.value.BorrowedValue.{BorrowedValue, fold-BorrowedValue}
 use Rattle.wesl_json_form.specs.declared.value.BorrowedValue.TheOpen.{BorrowedValue-F}
@@ -12,10 +12,14 @@ use Rattle.wesl_json_form.specs.declared.value.BorrowedValue.TheOpen.{BorrowedVa
 abbrev pub number_view : Number → Num
 number_view n = num_of n.kind
 
+-- the text of a key
+abbrev pub key_text : Key → List ℕ
+key_text k = k.text.now.now
+
 -- the members go in one after another, so the last of a key stays
-abbrev pub put_all : List (Bor (List ℕ) × Data) → Members → Members
+abbrev pub put_all : List (Key × Data) → Members → Members
 put_all [] found = found
-put_all (m ∷ ms) found = put_all ms (put m.0.now m.1 found)
+put_all (m ∷ ms) found = put_all ms (put (key_text m.0) m.1 found)
 
 -- one level, with each value inside already seen as its data
 abbrev pub borrowed_step : BorrowedValue-F Data → Data
@@ -32,5 +36,5 @@ borrowed_view = fold-BorrowedValue Data borrowed_step
 abbrev pub items_view : List BorrowedValue → Items
 items_view vs = items_of (map borrowed_view vs)
 
-abbrev pub members_view : List (Bor (List ℕ) × BorrowedValue) → Members
+abbrev pub members_view : List (Key × BorrowedValue) → Members
 members_view ms = put_all (map (λ m. (m.0, borrowed_view m.1)) ms) no_members

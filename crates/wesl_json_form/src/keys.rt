@@ -28,7 +28,7 @@ fn all_known(members: Members<'_>, beside: bool, extra: &str, known: &[&str]) ->
     ensures { result ≡ all_known (keys_beside beside extra.now (map (λ k. k.now) known.now)) (members_view members.now) }
 {
     for member in members {
-        if !is_among(member.0, beside, extra, known) {
+        if !is_among(member.0.text(), beside, extra, known) {
             return false;
         }
     }

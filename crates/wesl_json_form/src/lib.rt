@@ -4,6 +4,7 @@
 #![tactic(auto)]
 
 mod fault;
+mod key;
 mod keys;
 mod laws;
 mod members;
@@ -16,6 +17,7 @@ mod stacks;
 mod value;
 
 pub use fault::ReadFault;
+pub use key::Key;
 pub use keys::{has_only, has_only_beside};
 pub use laws::law_of_places;
 pub use number::{Number, NumberKind};

@@ -13,7 +13,7 @@ pub(crate) fn last_at<'a>(members: Members<'a>, key: &str) -> Option<&'a Borrowe
     while left > 0 {
         left -= 1;
         let member = &members[left];
-        if member.0 == key {
+        if member.0.text() == key {
             return Some(&member.1);
         }
     }

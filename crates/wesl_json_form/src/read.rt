@@ -110,7 +110,8 @@ fn read_members<'a>(
     ensures members { OnOk result (stacks.new.members.items ≡ stacks.old.members.items) }
 {
     let from = stacks.members.len();
-    'members: while let Some(key) = reader.next_key()? {
+    'members: while let Some(text) = reader.next_key()? {
+        let key = stacks.key(text)?;
         let value = read(stacks, reader, depth)?;
         stacks.members.push((key, value))?;
     }

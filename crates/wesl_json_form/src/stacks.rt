@@ -1,17 +1,23 @@
 //! Values and members whose lists have not ended.
-ghost use Rattle.std.specs.Prelude.{◌≡◌, ◌≤◌, [], length, take, drop, IfOk, OnOk};
+ghost use Rattle.std.specs.Prelude.{◌≡◌, ◌<◌, ◌≤◌, [], length, take, drop, IfOk, OnOk};
+ghost use Rattle.wesl_json_form.specs.View.{key_text};
 
+use crate::key::Key;
 use crate::value::{BorrowedValue, Members};
 use bumpalo::Bump;
 use std::alloc::{AllocError, Global};
 
-/// The items and the members of the lists that have not ended yet, those of the inmost list last, and the arena that a
-/// list goes to when it ends.
+// So many keys that were met are kept.
+const SLOTS: usize = 256;
+
+/// The items and the members of the lists that have not ended yet, those of the inmost list last, the arena that a list
+/// goes to when it ends, and keys that were met, each in the slot of its text.
 #[derive(Drop)]
 pub(crate) struct Stacks<'a> {
     arena: &'a Bump,
     pub(crate) items: Vec<BorrowedValue<'a>>,
-    pub(crate) members: Vec<(&'a str, BorrowedValue<'a>)>,
+    pub(crate) members: Vec<(Key<'a>, BorrowedValue<'a>)>,
+    keys: Vec<Key<'a>>,
 }
 
 impl<'a> Stacks<'a> {
@@ -24,6 +30,7 @@ impl<'a> Stacks<'a> {
             arena,
             items: Vec::new(alloc),
             members: Vec::new(alloc),
+            keys: Vec::new(alloc),
         }
     }
 
@@ -52,4 +59,49 @@ impl<'a> Stacks<'a> {
         self.members.truncate(from);
         Ok(found)
     }
+
+    /// The key with a text: the one that was met last in its slot, if it has this text, or else a new one. Refused for want of
+    /// memory alone.
+    pub(crate) fn key(&mut self, text: &'a str) -> Result<Key<'a>, AllocError>
+        ensures text { IfOk result (λ k. key_text k ≡ text.now) }
+        ensures items { self.new.items.items ≡ self.old.items.items }
+        ensures members { self.new.members.items ≡ self.old.members.items }
+    {
+        let slot = slot_of(text);
+        if let Some(met) = self.keys.get(slot) {
+            if met.text() == text {
+                return Ok(*met);
+            }
+        }
+        let key = Key::new(self.arena, text)?;
+        self.keep(slot, key)?;
+        Ok(key)
+    }
+
+    // Keeps a key in a slot, and the first one in all of them.
+    fn keep(&mut self, slot: usize, key: Key<'a>) -> Result<(), AllocError>
+        ensures items { self.new.items.items ≡ self.old.items.items }
+        ensures members { self.new.members.items ≡ self.old.members.items }
+    {
+        if let Some(met) = self.keys.get_mut(slot) {
+            *met = key;
+            return Ok(());
+        }
+        self.keys.resize(SLOTS, key)
+    }
+}
+
+// The slot of a text. No two of the keys that the form and the bundle have are in one slot.
+fn slot_of(text: &str) -> usize
+    ensures { result < 256 }
+{
+    let bytes = text.as_bytes();
+    let length = bytes.len();
+    if length == 0 {
+        return 0;
+    }
+    let first = bytes[0] as usize;
+    let middle = bytes[length / 2] as usize;
+    let last = bytes[length - 1] as usize;
+    (length % SLOTS * 43 + first + middle * 25 + last) % SLOTS
 }

@@ -3,6 +3,7 @@ ghost use Rattle.std.specs.Prelude.{◌≡◌, is_some, option_map, option_and_t
 ghost use Rattle.serde_json.specs.Find.{as_array, as_bool, as_number, as_object, as_str, as_u64, get};
 ghost use Rattle.wesl_json_form.specs.View.{borrowed_view, items_view, members_view};
 
+use crate::key::Key;
 use crate::members::last_at;
 use crate::number::Number;
 
@@ -25,7 +26,7 @@ pub enum BorrowedValue<'a> {
 }
 
 /// The members of an object in the order in which they came. Of those with one key the last counts.
-pub type Members<'a> = &'a [(&'a str, BorrowedValue<'a>)];
+pub type Members<'a> = &'a [(Key<'a>, BorrowedValue<'a>)];
 
 impl<'a> BorrowedValue<'a> {
     /// The member at a key, of an object.

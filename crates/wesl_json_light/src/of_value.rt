@@ -7,7 +7,7 @@ ghost use Rattle.wesl_json_form.specs.View.{borrowed_view, items_view, members_v
 use bumpalo::Bump;
 use serde_json::{Map, Value};
 use std::alloc::{AllocError, Global};
-use wesl_json_form::{BorrowedValue, Members, Number};
+use wesl_json_form::{BorrowedValue, Key, Members, Number};
 
 /// The same value, its texts borrowed, its lists in the arena. Refused for want of memory alone.
 #[cycle(of_value)]
@@ -54,7 +54,8 @@ fn members_of<'a>(
 {
     let mut members = Vec::with_capacity(alloc, map.len())?;
     for (key, value) in map.iter() {
-        members.push((key.as_str(), borrowed_of_value(alloc, value, arena)?))?;
+        let key = Key::new(arena, key.as_str())?;
+        members.push((key, borrowed_of_value(alloc, value, arena)?))?;
     }
     let kept: Members<'a> = arena.try_alloc_slice_copy(members.as_slice())?;
     Ok(kept)

@@ -42,7 +42,7 @@ fn map_of(alloc: Global, members: Members<'_>) -> Result<Map<String, Value>, All
         serde_json::put(
             &mut map,
             alloc,
-            member.0,
+            member.0.text(),
             value_of_borrowed(alloc, &member.1)?,
         )?;
     }

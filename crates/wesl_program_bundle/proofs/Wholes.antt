@@ -8,7 +8,7 @@ use Rattle.serde_json.specs.Written.{has_float, items_have_float, members_have_f
 use Rattle.serde_json.specs.View.{view, items_view, members_view}
 use Rattle.serde_json.specs.declared.value.Value.{Value}
 use Rattle.serde_json.proofs.Views.{Entry, get_item_within}
-use Rattle.wesl_json_form.specs.View.{borrowed_view, items_view as borrowed_items_view, members_view as borrowed_members_view}
+use Rattle.wesl_json_form.specs.View.{borrowed_view, key_text, items_view as borrowed_items_view, members_view as borrowed_members_view}
 use Rattle.wesl_json_form.specs.declared.value.BorrowedValue.{BorrowedValue}
 use Rattle.wesl_json_form.proofs.Lists.{Entry as BorrowedEntry, members_view-more}
 use Rattle.wesl_tree_names.specs.Path.{Text}
@@ -73,4 +73,4 @@ put-whole k d (member l e ms) here before =
 -- a turn of the loop over members
 pub whole-member : (ms : List BorrowedEntry) (i : ℕ) (m : BorrowedEntry) → i < length ms → m ≡ get_or ms i m → members_have_float (borrowed_members_view (take i ms)) ≡ false → has_float (borrowed_view m.1) ≡ false → members_have_float (borrowed_members_view (take (i + 1) ms)) ≡ false
 whole-member ms i m low e before here =
-    ap members_have_float (members_view-more ms i m low e) ∙ put-whole m.0.now (borrowed_view m.1) (borrowed_members_view (take i ms)) here before
+    ap members_have_float (members_view-more ms i m low e) ∙ put-whole (key_text m.0) (borrowed_view m.1) (borrowed_members_view (take i ms)) here before

@@ -1,9 +1,9 @@
-use Rattle.std.proofs.Common.{◌≡◌, ◌-◌, ◌+◌, ◌<◌, length, get_or, take, Some, bytes_eq, true, false, true≢false, sym, ap, ◌∙◌, subst, arith, rules}
+use Rattle.std.proofs.Common.{◌≡◌, ◌-◌, ◌+◌, ◌<◌, length, get_or, take, Some, bytes_eq, false, true≢false, sym, ap, ◌∙◌, subst, arith, rules}
 use Rattle.std.proofs.lemmas.Slice.Eq.{bytes_eq-Decides}
 use Rattle.serde_json.specs.Data.{put}
 use Rattle.serde_json.specs.Find.{get_member}
 use Rattle.serde_json.proofs.Views.{get_member-put, get_member-put_other}
-use Rattle.wesl_json_form.specs.View.{borrowed_view, members_view}
+use Rattle.wesl_json_form.specs.View.{borrowed_view, key_text, members_view}
 use Rattle.wesl_json_form.proofs.Lists.{Entry, members_view-more}
 use Rattle.wesl_json_form.proofs.members.last_at.Goals as goal
 
@@ -16,9 +16,9 @@ returns-then-eq c =
     let inside : left < length xs = omega (arith, c.loop-left.invariant.0) in
     let here : m ≡ get_or xs left m = search rules in
     let up : left + 1 ≡ c.loop-left.left = omega arith in
-    let same : m.0.now ≡ k = (bytes_eq-Decides m.0.now k).0 (search rules) in
+    let same : key_text m.0 ≡ k = (bytes_eq-Decides (key_text m.0) k).0 (search rules) in
     sym (sym c.loop-left.invariant.1 ∙ ap (λ n. get_member k (members_view (take n xs))) (sym up) ∙ ap (get_member k) (members_view-more xs left m inside here)
-    ∙ subst (λ q. get_member q (put m.0.now (borrowed_view m.1) (members_view (take left xs))) ≡ Some (borrowed_view m.1)) same (get_member-put m.0.now (borrowed_view m.1) (members_view (take left xs))))
+    ∙ subst (λ q. get_member q (put (key_text m.0) (borrowed_view m.1) (members_view (take left xs))) ≡ Some (borrowed_view m.1)) same (get_member-put (key_text m.0) (borrowed_view m.1) (members_view (take left xs))))
 
 pub loop-left-preserved : goal.loop-left-preserved
 loop-left-preserved c =
@@ -29,9 +29,9 @@ loop-left-preserved c =
     let inside : left < length xs = omega (arith, c.loop-left.invariant.0) in
     let here : m ≡ get_or xs left m = search rules in
     let up : left + 1 ≡ c.loop-left.left = omega arith in
-    let not_it : bytes_eq m.0.now k ≡ false = search rules in
-    let other : k ≡ m.0.now → ⊥ = λ h. true≢false (sym ((bytes_eq-Decides m.0.now k).1 (sym h)) ∙ not_it) in (
+    let not_it : bytes_eq (key_text m.0) k ≡ false = search rules in
+    let other : k ≡ key_text m.0 → ⊥ = λ h. true≢false (sym ((bytes_eq-Decides (key_text m.0) k).1 (sym h)) ∙ not_it) in (
       omega (arith, c.loop-left.invariant.0),
-      sym (get_member-put_other k m.0.now (borrowed_view m.1) (members_view (take left xs)) other) ∙ sym (ap (get_member k) (members_view-more xs left m inside here))
+      sym (get_member-put_other k (key_text m.0) (borrowed_view m.1) (members_view (take left xs)) other) ∙ sym (ap (get_member k) (members_view-more xs left m inside here))
           ∙ ap (λ n. get_member k (members_view (take n xs))) up ∙ c.loop-left.invariant.1,
     )

@@ -3,7 +3,7 @@ use Rattle.std.proofs.lemmas.List.{append_assoc, append-nil}
 use Rattle.json.specs.Json.{parse_map, after_end_array, read_key, members, value}
 use Rattle.json.specs.Reads.{token_of}
 use Rattle.json.proofs.Grammar.{value_is, read_key-shorter}
-use Rattle.serde_json.specs.Data.{array, object}
+use Rattle.serde_json.specs.Data.{array, object, put}
 use Rattle.serde_json.specs.Read.{of_json, of_members, converted}
 use Rattle.wesl_json_form.specs.View.{borrowed_view, items_view, members_view}
 use Rattle.wesl_json_form.proofs.Lists.{Entry, lies_above, members_view-then}
@@ -91,15 +91,15 @@ read_items-returns-clause-ok t c =
 pub read_members-members-init : goal.read_members-members-init
 read_members-members-init t c = ([], length c.args.reader.now, omega arith, refl, omega arith, refl, sym (append-nil _))
 
-pub read_members-returns-in_err-key-clause-none : goal.read_members-returns-in_err-key-clause-none
-read_members-returns-in_err-key-clause-none t c refused =
+pub read_members-returns-in_err-text-clause-none : goal.read_members-returns-in_err-text-clause-none
+read_members-returns-in_err-text-clause-none t c refused =
     let l = c.members in
-    l.invariant.3 ∙ key_refused (value c.args.depth) (members_view l.invariant.0) l.invariant.1 l.reader c.in_err-key.ensures.value
+    l.invariant.3 ∙ key_refused (value c.args.depth) (members_view l.invariant.0) l.invariant.1 l.reader c.in_err-text.ensures.value
 
 pub read_members-returns-in_err-value-clause-none : goal.read_members-returns-in_err-value-clause-none
 read_members-returns-in_err-value-clause-none t c refused =
     let l = c.members in
-    let k = c.in-Some.key.now in
+    let k = c.in-Some.text.now in
     let s = c.next_key.new.self in
     let named : read_key l.reader ≡ Some (Some k, s) = grind arith in
     l.invariant.3 ∙ member_refused (value c.args.depth) (members_view l.invariant.0) l.invariant.1 k l.reader s named (c.read.ensures.none (grind arith))
@@ -109,22 +109,24 @@ read_members-members-preserved t c =
     let p = value c.args.depth in
     let l = c.members in
     let n = l.invariant.1 in
-    let k = c.in-Some.key in
+    let k = c.in-Some.text.now in
     let v = c.in_ok-value.value in
     let s = c.next_key.new.self in
     let r = c.read.new.reader in
-    let named : read_key l.reader ≡ Some (Some k.now, s) = grind arith in
-    let less = read_key-shorter l.reader (Some k.now) s named in
+    let named : read_key l.reader ≡ Some (Some k, s) = grind arith in
+    let less = read_key-shorter l.reader (Some k) s named in
     let lesser = c.in_ok-value.ensures.shorter in
-    let m : Entry = (k, v) in (
+    let m : Entry = (c.in_ok-key.key, v) in
+    let kept = c.in_ok-key.ensures in (
       l.invariant.0 ++ m ∷ [],
       n - 1,
       omega (arith, l.invariant.2),
-      l.invariant.3 ∙ member_read p (members_view l.invariant.0) n k.now l.reader s r (borrowed_view v) (omega (arith, l.invariant.2)) named c.in_ok-value.ensures.ok
+      l.invariant.3 ∙ member_read p (members_view l.invariant.0) n k l.reader s r (borrowed_view v) (omega (arith, l.invariant.2)) named c.in_ok-value.ensures.ok
+          ∙ ap (λ t. converted (λ ms. of_members ms (put t (borrowed_view v) (members_view l.invariant.0))) (members p (n - 1) r)) (sym kept.text)
           ∙ ap (λ found. converted (λ ms. of_members ms found) (members p (n - 1) r)) (sym (members_view-then l.invariant.0 m)),
       omega (arith, l.invariant.4),
-      c.in_ok-value.ensures.items ∙ l.invariant.5,
-      c.in_ok-push.ensures.items ∙ ap (λ ms. ms ++ m ∷ []) (c.in_ok-value.ensures.members ∙ l.invariant.6) ∙ append_assoc _ l.invariant.0 (m ∷ []),
+      c.in_ok-value.ensures.items ∙ c.key.ensures.items ∙ l.invariant.5,
+      c.in_ok-push.ensures.items ∙ ap (λ ms. ms ++ m ∷ []) (c.in_ok-value.ensures.members ∙ c.key.ensures.members ∙ l.invariant.6) ∙ append_assoc _ l.invariant.0 (m ∷ []),
     )
 
 pub read_members-returns-clause-ok : goal.read_members-returns-clause-ok

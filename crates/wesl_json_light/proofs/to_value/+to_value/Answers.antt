@@ -1,7 +1,7 @@
 use Rattle.std.proofs.Common.{◌≡◌, ◌<◌, length, get_or, sym, ap, ◌∙◌, rules}
 use Rattle.serde_json.specs.Data.{put}
-use Rattle.serde_json.specs.View.{members_view as map_view}
-use Rattle.wesl_json_form.specs.View.{borrowed_view}
+use Rattle.serde_json.specs.View.{view, members_view as map_view}
+use Rattle.wesl_json_form.specs.View.{borrowed_view, key_text}
 use Rattle.wesl_json_form.proofs.Lists.{Entry, members_view-more}
 use Rattle.wesl_json_light.proofs.Light.{values-turn}
 use Rattle.wesl_json_light.proofs.to_value.+to_value.Goals as goal
@@ -17,5 +17,6 @@ map_of-loop-member-preserved t c =
     let i = c.loop-member.member-index in
     let inside : i < length xs = search rules in
     let here : m ≡ get_or xs i m = search rules in
-    c.in_ok-put.ensures.ok ∙ ap (λ d. put m.0.now d (map_view c.loop-member.map.entries)) c.in_ok-value_of_borrowed.ensures ∙ ap (put m.0.now (borrowed_view m.1)) c.loop-member.invariant
+    c.in_ok-put.ensures.ok ∙ ap (λ k. put k (view c.in_ok-value_of_borrowed.field-0) (map_view c.loop-member.map.entries)) c.text.ensures
+    ∙ ap (λ d. put (key_text m.0) d (map_view c.loop-member.map.entries)) c.in_ok-value_of_borrowed.ensures ∙ ap (put (key_text m.0) (borrowed_view m.1)) c.loop-member.invariant
     ∙ sym (members_view-more xs i m inside here)
