@@ -1,21 +1,15 @@
 -- What is read of each attribute.
-use Rattle.std.proofs.Common.{◌≡◌, List, [], ◌∷◌, Bool, false, Option, Some, None, option_map, option_and_then, codes, refl, sym, ap, ◌∙◌, subst, append-nil}
-use Rattle.std.specs.Option.{is_some}
-use Rattle.serde_json.specs.Data.{Data, Members, null, boolean, number, string, array, object}
+use Rattle.std.proofs.Common.{◌≡◌, [], ◌∷◌, Bool, Option, Some, None, option_map, option_and_then, codes, sym, ap, ◌∙◌, subst}
+use Rattle.serde_json.specs.Data.{Data, Members}
 use Rattle.serde_json.specs.Find.{get, as_object, as_str}
-use Rattle.wesl_tree_names.specs.Path.{Text}
 use Rattle.wesl_tree_names.specs.declared.errors.Error as error
-use Rattle.wesl_tree_syntax.specs.Tree.{Kind, Tree, kind, at, branch, forest_of, attribute_node}
+use Rattle.wesl_tree_syntax.specs.Tree.{at, attribute_node}
 use Rattle.wesl_json_form.specs.Schema.{look, labelled, leaf_of, node, an_attribute, Node}
 use Rattle.wesl_json_form.specs.Words.{attribute_words}
 use Rattle.wesl_json_form.specs.Nodes.{whole_form, nodes_of, shorts_of, all_attribute_words}
 use Rattle.wesl_json_form.specs.Place.{IsWrongNode, IsWrongValue}
 use Rattle.wesl_json_read.specs.Faults.{IsAtRoot, Locates}
-use Rattle.wesl_json_read.specs.Forms.{HasAttributeWord, attribute_of, attribute_text}
-use Rattle.wesl_json_read.specs.declared.words.AttributeWord.{AttributeWord}
-use Rattle.wesl_json_read.specs.Numbers.{Reads}
-use Rattle.wesl_json_read.proofs.Places.{no-object, root-value}
-use Rattle.wesl_json_read.proofs.Members.{form-of-short}
+use Rattle.wesl_json_read.proofs.Places.{root-value}
 
 module _ (spans : Bool) where
   -- a word that names no attribute
@@ -36,7 +30,3 @@ module _ (spans : Bool) where
   -- no text, and no word at `k`
   pub no-word : (d : Data) (e : error.Error) → as_str d ≡ None → get (codes "k") d ≡ None → IsAtRoot e → Locates spans (node an_attribute) d e
   no-word d e no_text none is = root-value spans an_attribute d e (wrong-case spans d (as_object d) none (no-short d no_text)) is
-
-module _ {spans : Bool} where
-
-module _ (spans : Bool) where

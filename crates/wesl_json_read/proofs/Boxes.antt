@@ -1,8 +1,7 @@
 -- An expression that is put into a box, or is a template argument.
-use Rattle.std.proofs.Common.{◌≡◌, [], ◌∷◌, Bool, true, Option, Some, None, refl, subst, sym}
+use Rattle.std.proofs.Common.{◌≡◌, [], ◌∷◌, Option, Some, None, subst, sym}
 use Rattle.std.specs.Box.{box_value}
 use Rattle.std.specs.Global.{Box}
-use Rattle.std.specs.Option.{is_some}
 use Rattle.std.specs.Prelude.{IfNone, IfSome}
 use Rattle.serde_json.specs.Data.{Data}
 use Rattle.wesl_tree_names.specs.Path.{Text}

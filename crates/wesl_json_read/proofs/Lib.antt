@@ -6,7 +6,6 @@ pub mod Lists
 pub mod Members
 pub mod Steps
 pub mod Worded
-pub mod Exits
 pub mod Within
 pub mod Expressions
 pub mod Wraps

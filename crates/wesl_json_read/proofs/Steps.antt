@@ -1,20 +1,20 @@
 -- What is read of an object, step by step.
-use Rattle.std.proofs.Common.{◌≡◌, ℕ, suc, List, [], ◌∷◌, Bool, true, false, Option, Some, None, option_map, option_and_then, codes, refl, ap, ◌∙◌, subst}
+use Rattle.std.proofs.Common.{◌≡◌, suc, List, [], ◌∷◌, Bool, true, Option, Some, None, option_map, option_and_then, codes, refl, ap, ◌∙◌, subst}
 use Rattle.std.specs.Option.{is_some}
 use Rattle.serde_json.specs.Data.{Data, null, boolean, number, string, array, object}
-use Rattle.serde_json.specs.Find.{get, as_bool, as_object, as_str}
+use Rattle.serde_json.specs.Find.{get, as_object, as_str}
 use Rattle.wesl_tree_names.specs.Path.{Text}
-use Rattle.wesl_tree_syntax.specs.Tree.{Kind, Role, Label, Tree, Forest, kind, ident, end, tree, before, leaf as leaf_tree, present, absent, branch, truth, literal, type_or_identifier}
-use Rattle.wesl_json_form.specs.Schema.{SpelledLabel, leaf_of, look, Form, a_type, an_expression, node, leaf, list_of, Leaf, an_ident, Name, Head, Row, nothing, needs, may, many, inner, Node}
+use Rattle.wesl_tree_syntax.specs.Tree.{Kind, Label, Tree, Forest, kind, end, tree, before, leaf as leaf_tree, present, absent, branch}
+use Rattle.wesl_json_form.specs.Schema.{SpelledLabel, leaf_of, look, Form, leaf, list_of, Leaf, Name, Head, Row, nothing, needs, may, many, inner, Node}
 use Rattle.wesl_json_form.specs.Nodes.{whole_form, by_word, NodeWords}
-use Rattle.wesl_json_form.specs.Reading.{reading, leaf_label, name_in as name_of, label_in}
+use Rattle.wesl_json_form.specs.Reading.{reading, leaf_label, label_in}
 use Rattle.wesl_json_form.specs.Keys.{has_only}
 use Rattle.wesl_json_read.specs.Forms.{HasWord}
-use Rattle.wesl_json_read.specs.Numbers.{IsNumbered, Reads, ReadsNeeded, ReadsMay, ReadsMany, ReadsPlain, ReadsRows}
+use Rattle.wesl_json_read.specs.Numbers.{Reads, ReadsNeeded, ReadsMay, ReadsMany, ReadsRows}
 use Rattle.wesl_json_read.proofs.Places.{get-object}
 use Rattle.wesl_json_read.proofs.Lists.{one-up}
 use Rattle.wesl_json_read.proofs.Rows.{IsPlain, row-nothing, row-needs, row-may, row-many, row-inner, over, none-read}
-use Rattle.wesl_json_read.proofs.Members.{member-form, member-present, member-absent, member-ident, member-leaf, form-of-short, list-there, list-absent, as_expression, plain_type, truth-read, plain-expression}
+use Rattle.wesl_json_read.proofs.Members.{member-form, member-present, member-absent, list-there, list-absent}
 
 -- ---- members
 
@@ -76,8 +76,6 @@ pub picked : (words : NodeWords) (unmarked : Option Node) (d : Data) (w : Text) 
 picked words unmarked d w nd h is = picked-case words unmarked w nd (get (codes "k") d) h is
 
 -- ---- values that are no objects
-
-module _ {spans : Bool} where
 
 pub known-object : (ks : List Text) (d : Data) → has_only ks d ≡ true → is_some (as_object d) ≡ true
 known-object ks null h = cc

@@ -1,12 +1,8 @@
 -- What an error tells of an object whose keys are judged before a member of it is read.
-use Rattle.std.specs.Prelude.{◌≡◌, ◌⊎◌, List, Bool, true, false, codes}
+use Rattle.std.specs.Prelude.{◌≡◌, List, Bool, true, codes}
 use Rattle.serde_json.specs.Data.{Data}
 use Rattle.wesl_tree_names.specs.Path.{Text}
-use Rattle.wesl_tree_names.specs.declared.errors.Error as error
-use Rattle.wesl_json_form.specs.Schema.{Form}
 use Rattle.wesl_json_form.specs.Keys.{has_only, keys_beside}
-use Rattle.wesl_json_read.specs.Faults.{IsAtRoot, LocatesInside}
-use Rattle.wesl_json_read.specs.Forms.{some_attributes}
 
 -- the object has no key but these, and `span` where it takes one
 abbrev pub HasKeys : Bool → List Text → Data → Type 0
