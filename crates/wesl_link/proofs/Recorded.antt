@@ -4,6 +4,7 @@ use Rattle.wesl_tree_names.specs.Path.{Text, Path}
 use Rattle.wesl_tree_names.specs.declared.errors.Error as error
 use Rattle.wesl_tree_names.specs.declared.errors.ResolveError.{ResolveError}
 use Rattle.wesl_tree_names.specs.declared.errors.ResolveError as resolve_error
+use Rattle.wesl_tree.specs.Translation.{unit_view}
 use Rattle.wesl_tree_syntax.specs.Unit.{UnitOf, UnitView}
 use Rattle.wesl_link_engine.specs.Recorded.{Record, IsRecordedBy}
 use Rattle.wesl_link.specs.Linking.{Links, RefusesLink, kept_names, task_at}
@@ -12,9 +13,12 @@ use Rattle.wesl_link_engine.specs.Linked.{IsAssembled}
 use Rattle.wesl_link_engine.specs.Resolved.{Resolved, IsMangled, AssemblesTo, IsAssembledOf, NamesAgree, first_path, mangled, writes}
 use Rattle.wesl_source_map_entries.specs.Records.{SameSources}
 use Rattle.wesl_source_map_entries.specs.Held.{source_or}
-use Rattle.wesl_source_map.specs.BasicView.{sources, default_text}
+use Rattle.wesl_source_map.specs.BasicView.{items, sources, default_text}
 use Rattle.wesl_source_map.specs.declared.basic.BasicSourceMap.{BasicSourceMap}
-use Rattle.wesl_link.specs.Mapping.{MapsLink, ShowsRoot}
+use Rattle.wesl_link.specs.Keeping.{resolved}
+use Rattle.wesl_link.specs.Mapping.{MapsLink, ShowsRoot, IsLinkFound, AssemblesFound, RecordsFound}
+use Rattle.wesl_link.specs.declared.mapped.FoundLink.{FoundLink}
+use Rattle.wesl_link.specs.declared.mapped.Mapped.{Mapped}
 
 module _ (hands : Path → UnitOf Text → Type 0) (refuses : Path → ResolveError → Type 0) (at : Path) (keep : List Text) (is_eager : Bool) (limit : ℕ)
     (r : Resolved) (links : Links hands refuses at keep is_eager limit r.turns r.modules) (keeps : r.kept ≡ kept_names is_eager keep) (eager : r.is_eager ≡ is_eager)
@@ -59,6 +63,18 @@ maps_link_as hands refuses at keep is_eager mangle_root limit name_of others bef
     let kept : befores ≡ before = λ i y. records y i in
     subst (λ (f : Path → Text → Text). MapsLink hands refuses f at keep is_eager mangle_root limit before after u) same
     (subst (λ (b : Record). MapsLink hands refuses others at keep is_eager mangle_root limit b after u) kept h)
+
+-- what is found, and then named and assembled, is a link through a mapper
+pub maps_found : {M : Type 0} (named : M → Path → Text → Text) (hands : Path → UnitOf Text → Type 0) (refuses : Path → ResolveError → Type 0) (name_of : Path → Text → Text)
+    (root : Path) (keep : List Text) (is_eager : Bool) (limit : ℕ) (before : Record) (found : FoundLink M) (mangle_root : Bool) (made : Mapped)
+    → IsLinkFound named hands refuses name_of root keep is_eager limit before found → AssemblesFound named mangle_root found made → RecordsFound named mangle_root found made
+    → MapsLink hands refuses name_of root keep is_eager mangle_root limit before (items made.map) (unit_view made.unit)
+maps_found named hands refuses name_of root keep is_eager limit before found mangle_root made is (q, mangled, assembled) recorded =
+    let used = named found.mapper.mangler in
+    let started = items found.mapper.sourcemap in
+    let u = unit_view made.unit in
+    maps_link_as hands refuses root keep is_eager mangle_root limit name_of used before started (items made.map) u is.names is.recorded
+    (maps_link hands refuses root keep is_eager limit (resolved found.resolutions) is.links is.kept is.eager used mangle_root q mangled u assembled started (items made.map) recorded)
 
 -- want of memory is always told
 pub memory_refuses : (hands : Path → UnitOf Text → Type 0) (refuses : Path → ResolveError → Type 0) (at : Path) (keep : List Text) (is_eager : Bool) (limit : ℕ) (e : error.Error) → e ≡ error.Memory → RefusesLink hands refuses at keep is_eager limit e

@@ -12,14 +12,16 @@ use Rattle.wesl_resolve_base.specs.declared.resolver.Resolver as Resolver
 use Rattle.wesl_link_engine.specs.Recorded.{Record, IsRecordedBy}
 use Rattle.wesl_link_engine.specs.Worlds.{Module}
 use Rattle.wesl_link_engine.specs.Linked.{IsAssembled}
-use Rattle.wesl_link_engine.specs.Resolved.{mangled, NamesAgree, writes}
+use Rattle.wesl_link_engine.specs.Resolved.{Resolved, mangled, NamesAgree, IsMangled, AssemblesTo, writes}
 use Rattle.wesl_cond_features.specs.declared.features.Features.{Features}
-use Rattle.wesl_link.specs.Linking.{Links, TellsRefusalLeft, hands_left, refuses_left}
+use Rattle.wesl_link.specs.Linking.{Links, TellsRefusalLeft, kept_names, hands_left, refuses_left}
+use Rattle.wesl_link.specs.Keeping.{resolved, modules_of, turns_of}
 pub use Rattle.wesl_link.specs.Linking.{task_at}
-use Rattle.wesl_source_map_entries.specs.Records.{Source}
+use Rattle.wesl_source_map_entries.specs.Records.{SameItems, Source}
 use Rattle.wesl_source_map.specs.BasicView.{items, sources, default_text}
 use Rattle.wesl_source_map.specs.declared.basic.BasicSourceMap.{BasicSourceMap}
 use Rattle.wesl_source_map.specs.declared.mapper.SourceMapper.{SourceMapper}
+use Rattle.wesl_link.specs.declared.mapped.FoundLink.{FoundLink}
 use Rattle.wesl_link.specs.declared.mapped.Mapped.{Mapped}
 
 -- The modules are linked from the root, and the unit is their linked form under the names of the mangler, the root's own
@@ -56,3 +58,41 @@ module _ {R M : Type 0} (g : Resolver.Ghosts R) (features : Option Features) (ma
 -- where the map has a source of the root, that is its default source
 abbrev pub ShowsRoot : Path → BasicSourceMap → Type 0
 ShowsRoot root map = (source : Source) → sources map root ≡ Some source → default_text map ≡ Some source.1
+
+-- ---- what is found, and the unit that is made of it
+
+-- the root of the link that was found
+abbrev pub root_of : {M : Type 0} → FoundLink M → Path
+root_of found = path_view found.root
+
+-- The modules that are found are linked from the root, of the names that are kept or of all that is declared, and which of these
+-- is kept in mind. The mangler gives these names, and what is recorded is what was before: no name is given yet.
+pub record IsLinkFound {M : Type 0} (named : M → Path → Text → Text) (hands : Path → UnitOf Text → Type 0) (refuses : Path → ResolveError → Type 0)
+    (name_of : Path → Text → Text) (root : Path) (keep : List Text) (is_eager : Bool) (limit : ℕ) (before : Record) (found : FoundLink M) : Type 0 where
+  pub links : Links hands refuses root keep is_eager limit (turns_of found.resolutions) (modules_of found.resolutions)
+  pub kept : (resolved found.resolutions).kept ≡ kept_names is_eager keep
+  pub eager : (resolved found.resolutions).is_eager ≡ is_eager
+  pub names : (p : Path) (item : Text) → named found.mapper.mangler p item ≡ name_of p item
+  pub recorded : SameItems before (items found.mapper.sourcemap)
+  pub rooted : root_of found ≡ root
+
+module _ {R M : Type 0} (g : Resolver.Ghosts R) (m : Mangler.Ghosts M) (features : Option Features) (mapper : SourceMapper R M) (keep : List (Bor Text)) (is_eager : Bool) where
+  -- what is found is a link by the mapper, of the units as the features leave them: its resolver hands them out, and its
+  -- mangler and its record are the mapper's
+  abbrev pub FindsLeft : ℕ → FoundLink M → Type 0
+  FindsLeft limit found =
+      IsLinkFound m.name_of (hands_left (g.hands mapper.resolver) (g.refuses mapper.resolver) features) (refuses_left (g.hands mapper.resolver) (g.refuses mapper.resolver) features)
+      (m.name_of mapper.mangler) (path_view mapper.root) (texts keep) is_eager limit (items mapper.sourcemap) found
+
+module _ {M : Type 0} (name_of : M → Path → Text → Text) (mangle_root : Bool) (found : FoundLink M) where
+  -- the unit is the linked form of the modules that were found, under the names of the mangler, the root's own unless it is
+  -- mangled
+  abbrev pub AssemblesFound : Mapped → Type 0
+  AssemblesFound made =
+      (r : Resolved) × IsMangled (name_of found.mapper.mangler) mangle_root (resolved found.resolutions) r × AssemblesTo r (unit_view made.unit)
+
+  -- the record is what it was before with a write for each name that they declare, in module order, those of the root only
+  -- where it is mangled
+  abbrev pub RecordsFound : Mapped → Type 0
+  RecordsFound made =
+      IsRecordedBy true (writes (name_of found.mapper.mangler) mangle_root (modules_of found.resolutions)) (items found.mapper.sourcemap) (items made.map)

@@ -9,7 +9,7 @@ mod resolutions;
 mod resolve;
 
 pub use conditional::{link_at, link_under};
-pub use mapped::{Mapped, link_mapped};
+pub use mapped::{FoundLink, Mapped, find_mapped, link_mapped};
 pub use resolutions::Resolutions;
 pub use resolve::{resolve_eager, resolve_lazy};
 pub use wesl_cond::condition;

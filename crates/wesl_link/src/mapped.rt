@@ -3,17 +3,14 @@ ghost use Rattle.std.specs.Prelude.{◌≡◌, ◌↔◌, Result, false, true, I
 ghost use Rattle.wesl_tree_names.specs.declared.errors.Error as error;
 ghost use Rattle.wesl_tree_names.specs.declared.errors.Diagnostic.{out-Diagnostic};
 ghost use Rattle.wesl_tree_names.specs.Path.{Text, Path, path_view, is_relative};
-ghost use Rattle.wesl_tree.specs.Translation.{unit_view};
 ghost use Rattle.wesl_tree.specs.declared.unit.TranslationUnit.{TranslationUnit};
 ghost use Rattle.wesl_cond.specs.Conditioned.{IsConditioned};
 ghost use Rattle.wesl_link_engine.specs.Asking.{request_view, kept_of};
 ghost use Rattle.wesl_link.specs.Asking.{FindsLink, TellsRefusal};
-ghost use Rattle.wesl_link.specs.Keeping.{resolved, modules_of};
-ghost use Rattle.wesl_link_engine.specs.Resolved.{Resolved, IsMangled, AssemblesTo, writes};
-ghost use Rattle.wesl_link_engine.specs.Recorded.{IsRecordedBy};
+ghost use Rattle.wesl_link.specs.Keeping.{resolved};
 ghost use Rattle.wesl_source_map_entries.specs.Records.{SameItems};
 ghost use Rattle.wesl_source_map.specs.BasicView.{items};
-ghost use Rattle.wesl_link.specs.Mapping.{MapsLeft, RefusesToMap, ShowsRoot};
+ghost use Rattle.wesl_link.specs.Mapping.{FindsLeft, MapsLeft, RefusesToMap, ShowsRoot, AssemblesFound, RecordsFound, root_of};
 
 use crate::conditional::link_at;
 use crate::resolutions::Resolutions;
@@ -36,6 +33,42 @@ pub struct Mapped {
     pub map: BasicSourceMap,
 }
 
+/// What a link through a mapper found, before its names are given and its unit is made. Nothing of the resolver is left in it.
+#[derive(Drop)]
+pub struct FoundLink<M> {
+    root: ModulePath,
+    resolutions: Resolutions,
+    mapper: SourceMapper<NoResolver, M>,
+}
+
+impl<M: Mangler + Drop> FoundLink<M> {
+    /// Gives the unit of what was found the names of the mapper's mangler (WESL, "NameMangling").
+    ///
+    /// The record has, beside what the mapper had, a name for each declared name of each module of the link, in module order;
+    /// those of the root only with `mangle_root`. Where it has a source of the root, that is the default source. Refused for
+    /// want of memory alone.
+    pub fn finish(self, alloc: Global, mangle_root: bool) -> Result<Mapped, Diagnostic>
+        ensures named { IfOk result (AssemblesFound M.name_of mangle_root self) }
+        ensures recorded { IfOk result (RecordsFound M.name_of mangle_root self) }
+        ensures default { IfOk result (λ made. ShowsRoot (root_of self) made.map) }
+        ensures refused { IfErr result (λ d. (out-Diagnostic d).error ≡ error.Memory) }
+    {
+        let FoundLink {
+            root,
+            mut resolutions,
+            mut mapper,
+        } = self;
+        resolutions.mangle(alloc, &mut mapper, mangle_root)?;
+        let unit = resolutions.into_unit(alloc, true)?;
+        // Told again, since what is generic in the mapper says nothing of the path that it has.
+        mapper.root = root;
+        match mapper.finish(alloc) {
+            Ok(map) => Ok(Mapped { unit, map }),
+            Err(_) => Err(Diagnostic::of(Error::Memory)),
+        }
+    }
+}
+
 /// Links the module at the mapper's root as `link_under` does, and gives its unit the names of the mapper's mangler (WESL,
 /// "NameMangling").
 ///
@@ -46,6 +79,8 @@ pub struct Mapped {
 ///
 /// Refused as `link_under` is: where the resolver refuses a path, where a fault of a condition stands in a unit, where a link
 /// is refused, and for want of memory. The diagnostic tells the place of the fault as far as it is known.
+///
+/// It is `find_mapped`, and `FoundLink::finish` of what that finds.
 pub fn link_mapped<R: Resolver + Drop, M: Mangler + Drop>(
     alloc: Global,
     keep: &[&str],
@@ -61,23 +96,37 @@ pub fn link_mapped<R: Resolver + Drop, M: Mangler + Drop>(
     ensures default { IfOk result (λ made. ShowsRoot (path_view mapper.root) made.map) }
     ensures refused { IfErr result (RefusesToMap R.Resolver features.now mapper keep.now is_eager max_modules) }
 {
+    match find_mapped(alloc, keep, is_eager, mapper, features, max_modules) {
+        Ok(found) => found.finish(alloc, mangle_root),
+        Err(diagnostic) => Err(diagnostic),
+    }
+}
+
+/// Finds the modules of the link that `link_mapped` makes, and gives no names yet. The resolver is let go with all that it
+/// held, so the caller may let go of what that borrowed before the unit is made, which takes memory of its own.
+///
+/// Refused as `link_mapped` is.
+pub fn find_mapped<R: Resolver + Drop, M: Mangler + Drop>(
+    alloc: Global,
+    keep: &[&str],
+    is_eager: bool,
+    mapper: SourceMapper<R, M>,
+    features: &Option<Features>,
+    max_modules: usize,
+) -> Result<FoundLink<M>, Diagnostic>
+    requires ready { R.ready mapper.resolver }
+    requires asked { is_relative (path_view mapper.root) ≡ false }
+    ensures found { IfOk result (FindsLeft R.Resolver M.Mangler features.now mapper keep.now is_eager max_modules) }
+    ensures refused { IfErr result (RefusesToMap R.Resolver features.now mapper keep.now is_eager max_modules) }
+{
     let judge = |unit: TranslationUnit|
         ensures { IsConditioned features.entry.now unit result }
     { condition(alloc, unit, features) };
-    link_judged(
-        alloc,
-        keep,
-        is_eager,
-        mapper,
-        mangle_root,
-        judge,
-        features,
-        max_modules,
-    )
+    find_judged(alloc, keep, is_eager, mapper, judge, features, max_modules)
 }
 
-// Links what a function leaves of the units that are handed out, the root's too, and records the names of the unit.
-fn link_judged<
+// Finds what a link holds of what a function leaves of the units that are handed out, the root's too.
+fn find_judged<
     R: Resolver + Drop,
     M: Mangler + Drop,
     F: Fn(TranslationUnit) -> Result<TranslationUnit, Error> + Drop,
@@ -86,17 +135,15 @@ fn link_judged<
     keep: &[&str],
     is_eager: bool,
     mapper: SourceMapper<R, M>,
-    mangle_root: bool,
     judge: F,
     features: &Option<Features>,
     max_modules: usize,
-) -> Result<Mapped, Diagnostic>
+) -> Result<FoundLink<M>, Diagnostic>
     requires ready { R.ready mapper.resolver }
     requires asked { is_relative (path_view mapper.root) ≡ false }
     requires callable { F.IsAlwaysCallable judge }
     requires judges { (given : TranslationUnit) (answer : Result TranslationUnit error.Error) → F.post judge given answer ↔ IsConditioned features.now given answer }
-    ensures mapped { IfOk result (MapsLeft R.Resolver M.Mangler features.now mapper keep.now is_eager mangle_root max_modules) }
-    ensures default { IfOk result (λ made. ShowsRoot (path_view mapper.root) made.map) }
+    ensures found { IfOk result (FindsLeft R.Resolver M.Mangler features.now mapper keep.now is_eager max_modules) }
     ensures refused { IfErr result (RefusesToMap R.Resolver features.now mapper keep.now is_eager max_modules) }
 {
     let path = mapper.root.try_clone(alloc)?;
@@ -119,7 +166,17 @@ fn link_judged<
         max_modules,
     };
     match found::<Preprocessor<R, F>, M, Brand>(alloc, &request, judged) {
-        Ok(found) => named(alloc, found, path, mangle_root),
+        Ok(found) => {
+            let MapperLink {
+                resolutions,
+                mapper,
+            } = found;
+            Ok(FoundLink {
+                root: path,
+                resolutions,
+                mapper,
+            })
+        }
         Err(diagnostic) => Err(diagnostic),
     }
 }
@@ -177,31 +234,5 @@ fn without_resolver<R: Drop, M>(mapper: SourceMapper<R, M>) -> SourceMapper<NoRe
         resolver: NoResolver,
         mangler,
         sourcemap,
-    }
-}
-
-// The unit of a link under the names of the mapper, which records them. The root is told again: what is generic in the mapper
-// says nothing of the path that it has.
-fn named<M: Mangler + Drop>(
-    alloc: Global,
-    found: MapperLink<M>,
-    root: ModulePath,
-    mangle_root: bool,
-) -> Result<Mapped, Diagnostic>
-    ensures named { IfOk result (λ made. (r : Resolved) × IsMangled (M.name_of found.mapper.mangler) mangle_root (resolved found.resolutions) r × AssemblesTo r (unit_view made.unit)) }
-    ensures recorded { IfOk result (λ made. IsRecordedBy true (writes (M.name_of found.mapper.mangler) mangle_root (modules_of found.resolutions)) (items found.mapper.sourcemap) (items made.map)) }
-    ensures default { IfOk result (λ made. ShowsRoot (path_view root) made.map) }
-    ensures refused { IfErr result (λ d. (out-Diagnostic d).error ≡ error.Memory) }
-{
-    let MapperLink {
-        mut resolutions,
-        mut mapper,
-    } = found;
-    resolutions.mangle(alloc, &mut mapper, mangle_root)?;
-    let unit = resolutions.into_unit(alloc, true)?;
-    mapper.root = root;
-    match mapper.finish(alloc) {
-        Ok(map) => Ok(Mapped { unit, map }),
-        Err(_) => Err(Diagnostic::of(Error::Memory)),
     }
 }

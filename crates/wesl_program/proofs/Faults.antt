@@ -31,7 +31,7 @@ use Rattle.wesl_tree_base.specs.declared.faults.ValidateError.{ValidateError}
 use Rattle.wesl_tree_base.specs.declared.faults.ValidateError.TheVariants as invalid
 use Rattle.wesl_program_bundle.specs.Builtins as said
 use Rattle.wesl_program_bundle.specs.Bundle.{Bundle}
-use Rattle.wesl_program.specs.Line.{memory, IsOfModules}
+use Rattle.wesl_program.specs.Line.{memory, IsBundleOf, IsOfModules, IsRefusal}
 use Rattle.wesl_program.specs.Refused.{IsLinkFault}
 use Rattle.wesl_link_reach.specs.World.{Task}
 use Rattle.wesl_link_reach.specs.Faults as standing
@@ -204,3 +204,8 @@ unit-fault b w u e links h = by (refused-unit b.builtins u e h)
 -- the same, of one of the worlds that a link may find
 pub found-fault : (b : Bundle) (same : List worlds.Module → Type 0) (u : UnitView) (e : error.Error) → (w : List worlds.Module) × LinksTo b w u × same w → RefusesUnit b.builtins u e → IsLinkFault b e
 found-fault b same u e (w, links, is) h = unit-fault b w u e links h
+
+-- a fault of the link of the bundle that bytes are
+pub bundle-refusal : (bytes : List ℕ) (b : Bundle) (e : error.Error) → IsBundleOf bytes b → IsLinkFault b e → IsRefusal bytes e
+bundle-refusal bytes b e is (inl h) = inl h
+bundle-refusal bytes b e is (inr h) = inr (inr (inr (is.0, b, is.1, is.2, h.0, h.1)))

@@ -11,11 +11,8 @@ use Rattle.wesl_tree_names.specs.declared.path.ModulePath.{ModulePath}
 use Rattle.wesl_tree.specs.Translation.{unit_view}
 use Rattle.wesl_source_map.specs.BasicView.{items}
 use Rattle.wesl_source_map.specs.declared.basic.BasicSourceMap.{BasicSourceMap}
-use Rattle.wesl_source_map_entries.specs.Records.{Item, SameItems}
-use Rattle.wesl_link.specs.declared.mapped.Mapped.{Mapped}
-use Rattle.wesl_link_engine.specs.Worlds.{Module}
+use Rattle.wesl_source_map_entries.specs.Records.{Item}
 use Rattle.wesl_program_bundle.specs.Bundle.{Bundle, bundle_of}
-use Rattle.wesl_program.specs.Linking.{LinksTo, recorded_for}
 use Rattle.wesl_program.specs.Line.{IsAnswerOf, IsJsonOf, IsMapOf, answer_value, line_of, map_members}
 use Rattle.wesl_program.specs.declared.answer.Answer.{Answer}
 
@@ -38,10 +35,6 @@ IsLineOf a line = (map : Data) × IsMapOf (items a.map) map × (line ≡ line_of
 -- this is what is answered of the bundle, with its map told as an object
 abbrev pub AnswersBundle : Bundle → Answer → Type 0
 AnswersBundle b a = (map : Data) → IsMapOf (items a.map) map → IsAnswerOf b a.clash map (written_as a.spans (unit_view a.unit))
-
--- what is made is a unit to which the bundle's modules link, and what is recorded of them
-abbrev pub LinksBundle : Bundle → Mapped → Type 0
-LinksBundle b made = (w : List Module) × LinksTo b w (unit_view made.unit) × SameItems (recorded_for b w) (items made.map)
 
 -- the bytes are a bundle's that is linked, and this is what is answered of it
 abbrev pub IsAnswerFor : List ℕ → Answer → Type 0

@@ -13,3 +13,4 @@ pub mod Made
 pub mod Refused
 pub mod Naming
 pub mod Recording
+pub mod FoundBundle

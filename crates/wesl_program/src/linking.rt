@@ -1,12 +1,12 @@
-//! From a bundle to what is answered of its linked unit.
+//! From a bundle to what is found of its link, and from that to what is answered of the linked unit.
 ghost use Rattle.std.specs.Prelude.{◌≡◌, map, false, string_bytes, IfOk, IfErr};
 ghost use Rattle.wesl_tree_base.specs.Borrowed.{texts};
 ghost use Rattle.wesl_tree_names.specs.Path.{path_view, is_relative};
 ghost use Rattle.wesl_tree_names.specs.declared.errors.Diagnostic.{out-Diagnostic};
 ghost use Rattle.wesl_program_bundle.specs.PackageViews.{packages_view};
 ghost use Rattle.wesl_program_bundle.specs.Views.{bundle_view, module_view};
-ghost use Rattle.wesl_program.specs.Answers.{AnswersBundle, LinksBundle};
-ghost use Rattle.wesl_program.specs.Recording.{RecordsLink, RefusesToRecord};
+ghost use Rattle.wesl_program.specs.FoundBundle.{FindsBundle, AnswersFound, RefusesFound};
+ghost use Rattle.wesl_program.specs.Recording.{FindsUnrecorded, RefusesToRecord};
 ghost use Rattle.wesl_program.specs.Hands.{HoldsBundle};
 ghost use Rattle.wesl_program.specs.Holds.{Holds};
 ghost use Rattle.wesl_program.specs.Refused.{IsLinkFault};
@@ -18,7 +18,7 @@ use crate::naming::BundleMangler;
 use crate::validity::check_valid;
 use std::alloc::{AllocError, Global};
 use wesl_cond_features::Features;
-use wesl_link::{Mapped, link_mapped};
+use wesl_link::{FoundLink, find_mapped};
 use wesl_program_bundle::{BuiltinNames, Bundle, BundleModule, Options, Package};
 use wesl_program_packages::HeldPackages;
 use wesl_resolve_base::Resolver;
@@ -26,35 +26,28 @@ use wesl_scope::names_clash;
 use wesl_source_map::SourceMapper;
 use wesl_tree::{Diagnostic, ModulePath};
 
-/// The unit that is linked of a bundle's modules, whether its names clash, and what they stand for. Where the
-/// bundle has built-in names, the unit is validated by them, and refused with the validator's fault.
-pub fn linked(alloc: Global, bundle: Bundle) -> Result<Answer, Diagnostic>
-    requires fixed { is_relative (path_view bundle.root) ≡ false }
-    ensures linked { IfOk result (AnswersBundle (bundle_view bundle.entry)) }
-    ensures refused { IfErr result (λ d. IsLinkFault (bundle_view bundle.entry) (out-Diagnostic d).error) }
-{
-    let spans = bundle.options.spans;
-    let (made, builtins) = linked_unit(alloc, bundle)?;
-    if let Err(diagnostic) = check_valid(alloc, &made.unit, builtins) {
-        return Err(diagnostic);
-    }
-    let clash = names_clash(alloc, &made.unit)?;
-    Ok(Answer {
-        clash,
-        map: made.map,
-        unit: made.unit,
-        spans,
-    })
+/// What was found of a bundle's link before its unit is made, and what the bundle asks of the unit. Nothing that borrows from
+/// the bundle's bytes is left in it.
+#[derive(Drop)]
+pub(crate) struct Found {
+    /// What was found.
+    pub link: FoundLink<BundleMangler>,
+    /// Whether the names of the root's items are given by the mangler too.
+    pub mangle_root: bool,
+    /// Whether the answer's unit is written with spans.
+    pub spans: bool,
+    /// The names that are built in. Without them nothing is validated.
+    pub builtins: Option<BuiltinNames>,
 }
 
+/// Finds what a bundle's modules are linked to, and makes no unit of it yet.
+///
 /// The root is handed out as each other module is, and each is linked as the bundle's features leave it. Of the other
 /// modules those are loaded that are reached from the names that are kept, or from all that is declared, and no more than
-/// the bundle allows; the names of their items are as its mangler gives them, and those of the root's stay where it says
-/// nothing else. What is recorded of these names comes with the unit, and the bundle's built-in names are handed back.
-fn linked_unit(alloc: Global, bundle: Bundle) -> Result<(Mapped, Option<BuiltinNames>), Diagnostic>
+/// the bundle allows.
+pub(crate) fn find(alloc: Global, bundle: Bundle) -> Result<Found, Diagnostic>
     requires fixed { is_relative (path_view bundle.root) ≡ false }
-    ensures linked { IfOk result (λ made. LinksBundle (bundle_view bundle.entry) made.0) }
-    ensures builtins { IfOk result (λ made. made.1 ≡ bundle.entry.builtins) }
+    ensures found { IfOk result (FindsBundle (bundle_view bundle.entry)) }
     ensures refused { IfErr result (λ d. IsLinkFault (bundle_view bundle.entry) (out-Diagnostic d).error) }
 {
     let Bundle {
@@ -67,39 +60,69 @@ fn linked_unit(alloc: Global, bundle: Bundle) -> Result<(Mapped, Option<BuiltinN
         builtins,
     } = bundle;
     let sources = sources_of(alloc, modules, packages)?;
-    match link_recorded(alloc, &keep, root, sources, &features, options) {
-        Ok(made) => Ok((made, builtins)),
+    match find_recorded(alloc, &keep, root, sources, &features, options) {
+        Ok(link) => Ok(Found {
+            link,
+            mangle_root: options.mangle_root,
+            spans: options.spans,
+            builtins,
+        }),
         Err(diagnostic) => Err(diagnostic),
     }
 }
 
-// Links what a resolver hands out, with nothing recorded before.
-fn link_recorded<R: Resolver + Drop>(
+// Finds a link of what a resolver hands out, with nothing recorded before.
+fn find_recorded<R: Resolver + Drop>(
     alloc: Global,
     keep: &[String],
     root: ModulePath,
     resolver: R,
     features: &Option<Features>,
     options: Options,
-) -> Result<Mapped, Diagnostic>
+) -> Result<FoundLink<BundleMangler>, Diagnostic>
     requires ready { R.ready resolver }
     requires asked { is_relative (path_view root) ≡ false }
-    ensures mapped { IfOk result (RecordsLink R.Resolver resolver features.now root (map string_bytes keep.now) options) }
+    ensures found { IfOk result (FindsUnrecorded R.Resolver resolver features.now root (map string_bytes keep.now) options) }
     ensures refused { IfErr result (RefusesToRecord R.Resolver resolver features.now root (map string_bytes keep.now) options) }
 {
     let keep = names(alloc, keep)?;
     let naming = BundleMangler {
         naming: options.mangler,
     };
-    link_mapped(
+    find_mapped(
         alloc,
         &keep,
         options.eager,
         SourceMapper::new(alloc, root, resolver, naming),
-        options.mangle_root,
         features,
         options.max_modules,
     )
+}
+
+/// The unit that is linked of what was found, whether its names clash, and what they stand for: the names of the modules' items
+/// are as the bundle's mangler gives them, and those of the root's stay where it says nothing else. Where the bundle has
+/// built-in names, the unit is validated by them, and refused with the validator's fault.
+pub(crate) fn linked(alloc: Global, found: Found) -> Result<Answer, Diagnostic>
+    ensures linked { IfOk result (AnswersFound found) }
+    ensures refused { IfErr result (λ d. RefusesFound found (out-Diagnostic d).error) }
+{
+    let Found {
+        link,
+        mangle_root,
+        spans,
+        builtins,
+    } = found;
+    let made = link.finish(alloc, mangle_root)?;
+    if let Err(diagnostic) = check_valid(alloc, &made.unit, builtins) {
+        return Err(diagnostic);
+    }
+    let clash = names_clash(alloc, &made.unit)?;
+    Ok(Answer {
+        clash,
+        map: made.map,
+        unit: made.unit,
+        spans,
+    })
 }
 
 // The units of the modules, by their paths.

@@ -1,20 +1,17 @@
-use Rattle.std.proofs.Common.{◌≡◌, ◌↔◌, IfOk, sym, subst, rules}
+use Rattle.std.proofs.Common.{◌≡◌, ◌↔◌, sym, subst, rules}
 use Rattle.std.proofs.lemmas.Result.{IfErr-weaker}
 use Rattle.wesl_tree_base.specs.Borrowed.{texts}
 use Rattle.wesl_tree_names.specs.Path.{path_view}
 use Rattle.wesl_tree_names.specs.declared.errors.Error as error
-use Rattle.wesl_tree.specs.Translation.{unit_view}
 use Rattle.wesl_cond.specs.Conditioned.{IsConditioned}
-use Rattle.wesl_source_map.specs.BasicView.{items}
-use Rattle.wesl_link.specs.Keeping.{resolved, modules_of, turns_of}
-use Rattle.wesl_link.specs.Linking.{RefusesLink, hands_left, refuses_left}
-use Rattle.wesl_link.specs.Mapping.{MapsLink, ShowsRoot}
-use Rattle.wesl_link.proofs.Along.{left-alike, links-over, refuses-over, both-ok}
-use Rattle.wesl_link.proofs.Recorded.{maps_link, maps_link_as, memory_refuses}
-use Rattle.wesl_link.proofs.mapped.link_judged.Goals as goal
+use Rattle.wesl_link.specs.Keeping.{modules_of, turns_of}
+use Rattle.wesl_link.specs.Linking.{Links, RefusesLink, hands_left, refuses_left}
+use Rattle.wesl_link.proofs.Along.{left-alike, links-over, refuses-over}
+use Rattle.wesl_link.proofs.Recorded.{memory_refuses}
+use Rattle.wesl_link.proofs.mapped.find_judged.Goals as goal
 
-pub returns-in-Ok-clause-mapped : goal.returns-in-Ok-clause-mapped
-returns-in-Ok-clause-mapped g c =
+pub returns-in-Ok-clause-found : goal.returns-in-Ok-clause-found
+returns-in-Ok-clause-found g c =
     let mapper = c.args.mapper in
     let inner = c.new.result.resolver in
     let outer = mapper.resolver in
@@ -32,24 +29,15 @@ returns-in-Ok-clause-mapped g c =
     let at = path_view c.in_ok-path.path in
     let path : at ≡ path_view mapper.root = c.in_ok-path.ensures.equal in
     let f = c.in-Ok.found in
-    let given = g.M.Mangler.name_of mapper.mangler in
-    let used = g.M.Mangler.name_of f.mapper.mangler in
-    let links = links-over _ _ _ _ alike at keep c.args.is_eager c.args.max_modules (turns_of f.resolutions) (modules_of f.resolutions) c.in-Ok.ensures.linked in
-    subst (λ q. IfOk c.named.result (λ made. MapsLink hands refuses given q keep c.args.is_eager c.args.mangle_root c.args.max_modules (items mapper.sourcemap) (items made.map) (unit_view made.unit))) path
-    (both-ok c.named.result _ _ _
-    (λ made (q, mangled, assembled) recorded. maps_link_as hands refuses at keep c.args.is_eager c.args.mangle_root c.args.max_modules given used (items mapper.sourcemap) (items f.mapper.sourcemap) (items made.map) (unit_view made.unit) c.in-Ok.ensures.names c.in-Ok.ensures.start
-    (maps_link hands refuses at keep c.args.is_eager c.args.max_modules (resolved f.resolutions) links c.in-Ok.ensures.kept c.in-Ok.ensures.eager used c.args.mangle_root q mangled (unit_view made.unit) assembled (items f.mapper.sourcemap) (items made.map) recorded))
-    c.named.ensures.named c.named.ensures.recorded)
-
-pub returns-in-Ok-clause-default : goal.returns-in-Ok-clause-default
-returns-in-Ok-clause-default g c = subst (λ q. IfOk c.named.result (λ made. ShowsRoot q made.map)) c.in_ok-path.ensures.equal c.named.ensures.default
-
-pub returns-in-Ok-clause-refused : goal.returns-in-Ok-clause-refused
-returns-in-Ok-clause-refused g c =
-    let outer = c.args.mapper.resolver in
-    let hands = hands_left (g.R.Resolver.hands outer) (g.R.Resolver.refuses outer) c.args.features.now in
-    let refuses = refuses_left (g.R.Resolver.hands outer) (g.R.Resolver.refuses outer) c.args.features.now in
-    IfErr-weaker c.named.result (λ d. d.error ≡ error.Memory) _ (λ d is. memory_refuses hands refuses (path_view c.args.mapper.root) (texts c.args.keep.now) c.args.is_eager c.args.max_modules d.error is) c.named.ensures.refused
+    record {
+      links = subst (λ q. Links hands refuses q keep c.args.is_eager c.args.max_modules (turns_of f.resolutions) (modules_of f.resolutions)) path
+          (links-over _ _ _ _ alike at keep c.args.is_eager c.args.max_modules (turns_of f.resolutions) (modules_of f.resolutions) c.in-Ok.ensures.linked);
+      kept = c.in-Ok.ensures.kept;
+      eager = c.in-Ok.ensures.eager;
+      names = c.in-Ok.ensures.names;
+      recorded = c.in-Ok.ensures.start;
+      rooted = path;
+    }
 
 pub returns-in-Err-clause-refused : goal.returns-in-Err-clause-refused
 returns-in-Err-clause-refused g c =

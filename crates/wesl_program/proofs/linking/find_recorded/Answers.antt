@@ -4,32 +4,31 @@ use Rattle.wesl_tree_base.specs.Borrowed.{texts}
 use Rattle.wesl_tree_names.specs.Path.{path_view}
 use Rattle.wesl_tree_names.specs.declared.errors.Error as error
 use Rattle.wesl_tree_names.specs.declared.errors.ResolveError as resolve_error
-use Rattle.wesl_tree.specs.Translation.{unit_view}
 use Rattle.wesl_source_map.specs.BasicView.{items}
-use Rattle.wesl_program.specs.Naming.{named_by}
+use Rattle.wesl_program.specs.Recording.{given_by}
 use Rattle.wesl_program.specs.declared.naming.BundleMangler.{BundleMangler}
-use Rattle.wesl_program.proofs.Mapped.{maps-from, refuses-from}
-use Rattle.wesl_program.proofs.linking.link_recorded.Goals as goal
+use Rattle.wesl_program.proofs.Mapped.{found-from, refuses-from}
+use Rattle.wesl_program.proofs.linking.find_recorded.Goals as goal
 
-pub returns-clause-mapped : goal.returns-clause-mapped
-returns-clause-mapped g c =
+pub returns-clause-found : goal.returns-clause-found
+returns-clause-found g c =
     let a = c.args in
     let keeps : texts c.deref.result.now ≡ map string_bytes a.keep.now = ap texts c.deref.ensures.value ∙ c.in_ok-keep.ensures in
     let mapper = c.new.result in
     let naming : BundleMangler = record { naming = a.options.mangler } in
-    IfOk-weaker c.link_mapped.result _ _
-    (λ made h. maps-from g.R.Resolver.hands g.R.Resolver.refuses a.features.now mapper.resolver a.resolver c.new.ensures.resolver (path_view mapper.root) (path_view a.root) (ap path_view c.new.ensures.root) (texts c.deref.result.now) (map string_bytes a.keep.now) keeps a.options.eager a.options.max_modules
-    (λ (m : BundleMangler). named_by m.naming) mapper.mangler naming c.new.ensures.mangler a.options.mangle_root (items mapper.sourcemap) (items made.map) (unit_view made.unit) c.new.ensures.decls h)
-    c.link_mapped.ensures.mapped
+    IfOk-weaker c.find_mapped.result _ _
+    (λ link h. found-from g.R.Resolver.hands g.R.Resolver.refuses a.features.now mapper.resolver a.resolver c.new.ensures.resolver (path_view mapper.root) (path_view a.root) (ap path_view c.new.ensures.root) (texts c.deref.result.now) (map string_bytes a.keep.now) keeps a.options.eager a.options.max_modules
+    given_by mapper.mangler naming c.new.ensures.mangler (items mapper.sourcemap) link c.new.ensures.decls h)
+    c.find_mapped.ensures.found
 
 pub returns-clause-refused : goal.returns-clause-refused
 returns-clause-refused g c =
     let a = c.args in
     let keeps : texts c.deref.result.now ≡ map string_bytes a.keep.now = ap texts c.deref.ensures.value ∙ c.in_ok-keep.ensures in
     let mapper = c.new.result in
-    IfErr-weaker c.link_mapped.result _ _
+    IfErr-weaker c.find_mapped.result _ _
     (λ d h. refuses-from g.R.Resolver.hands g.R.Resolver.refuses a.features.now mapper.resolver a.resolver c.new.ensures.resolver (path_view mapper.root) (path_view a.root) (ap path_view c.new.ensures.root) (texts c.deref.result.now) (map string_bytes a.keep.now) keeps a.options.eager a.options.max_modules d.error h)
-    c.link_mapped.ensures.refused
+    c.find_mapped.ensures.refused
 
 pub returns-in_err-keep-clause-refused : goal.returns-in_err-keep-clause-refused
 returns-in_err-keep-clause-refused g c =
