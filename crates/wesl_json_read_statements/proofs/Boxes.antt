@@ -1,5 +1,5 @@
 -- A statement that is put into a box.
-use Rattle.std.proofs.Common.{◌≡◌, Bool, Option, Some, None, subst, sym}
+use Rattle.std.proofs.Common.{◌≡◌, Option, Some, None, subst, sym}
 use Rattle.std.specs.Box.{box_value}
 use Rattle.std.specs.Global.{Box}
 use Rattle.std.specs.Prelude.{IfNone, IfSome}

@@ -1,14 +1,12 @@
 -- The node that each word names.
 use Rattle.std.proofs.Common.{◌≡◌, Bool, Some, None, refl}
 use Rattle.serde_json.specs.Data.{Data}
-use Rattle.wesl_tree_syntax.specs.Tree.{Kind}
 use Rattle.wesl_json_form.specs.Schema.{look, a_statement}
-use Rattle.wesl_json_form.specs.Nodes.{declared_words, nodes_of, statement_words}
+use Rattle.wesl_json_form.specs.Nodes.{nodes_of, statement_words}
 use Rattle.wesl_json_read.specs.Forms.{HasWord}
 use Rattle.wesl_json_read.proofs.Steps.{picked}
-use Rattle.wesl_json_read_statements.specs.Forms.{declared_of, declared_text, statement_of, statement_text}
+use Rattle.wesl_json_read_statements.specs.Forms.{statement_of, statement_text}
 use Rattle.wesl_json_read_statements.specs.declared.words.ValueWord.TheVariants as values
-use Rattle.wesl_json_read_statements.specs.declared.words.DeclaredWord.{DeclaredWord}
 use Rattle.wesl_json_read_statements.specs.declared.words.DeclaredWord.TheVariants as declareds
 use Rattle.wesl_json_read_statements.specs.declared.words.StatementWord.{StatementWord}
 use Rattle.wesl_json_read_statements.specs.declared.words.StatementWord.TheVariants as stated

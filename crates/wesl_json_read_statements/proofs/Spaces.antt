@@ -4,7 +4,6 @@ use Rattle.std.specs.Option.{is_some}
 use Rattle.serde_json.specs.Data.{Data}
 use Rattle.serde_json.specs.Find.{get}
 use Rattle.wesl_tree_names.specs.Path.{Text}
-use Rattle.wesl_tree_names.specs.declared.errors.Error as error
 use Rattle.wesl_tree_syntax.specs.Tree.{Tree, absent, access, attributes, before, binder, branch, declaration, end, kind, leaf as leaf_tree, present, space, var_kind}
 use Rattle.wesl_tree_syntax.specs.View.{access_tree}
 use Rattle.wesl_tree_syntax.specs.declared.declaration.AccessMode.{AccessMode}

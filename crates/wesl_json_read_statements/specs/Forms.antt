@@ -4,8 +4,8 @@ use Rattle.std.specs.Str.{bytes_eq}
 use Rattle.serde_json.specs.Data.{Data}
 use Rattle.serde_json.specs.Find.{get, as_str}
 use Rattle.wesl_tree_names.specs.Path.{Text}
-use Rattle.wesl_tree_syntax.specs.Tree.{Kind, binder, kind, Tree, list, attributes, clauses, statements, statement_node, compound_statement, compound, increment, decrement, if_statement, if_clause, switch, loop, for_loop, while_loop, break, continue, return, discard, call_statement, declaration, const_assert, void, const_kind, override_kind, let_kind, var_kind}
-use Rattle.wesl_json_form.specs.Schema.{Form, Head, fixed, chosen, Row, nothing, needs, may, many, inner, Node, leaf, node, list_of, an_ident, a_type, a_body, a_call, a_case, a_clause, a_continuing, an_elif, an_else, a_statement, an_attribute}
+use Rattle.wesl_tree_syntax.specs.Tree.{Kind, kind, Tree, list, attributes, clauses, statements, statement_node, compound_statement, compound, increment, decrement, if_statement, if_clause, switch, loop, for_loop, while_loop, break, continue, return, discard, call_statement, declaration, const_assert, void, const_kind, override_kind, let_kind, var_kind}
+use Rattle.wesl_json_form.specs.Schema.{Form, Head, fixed, chosen, Row, nothing, needs, may, many, inner, Node, node, list_of, a_body, a_call, a_case, a_clause, a_continuing, an_elif, an_else, a_statement, an_attribute}
 use Rattle.wesl_json_form.specs.Words.{assignment_words}
 use Rattle.wesl_json_form.specs.Nodes.{expression, one_expression, operand, attrs, body_row, condition_row, declared, space_row}
 use Rattle.wesl_json_read.specs.Forms.{ReadsWorded, worded_node, worded_row}

@@ -1,16 +1,13 @@
 -- Keys that are read by what they say, each numbered by its place.
-use Rattle.std.proofs.Common.{◌≡◌, inl, inr, ℕ, zero, suc, Bool, true, false, Some, List, [], ◌∷◌, ◌++◌, map, All, arith, sym, subst, ap, ◌∙◌}
-use Rattle.std.specs.Prelude.{bytes_eq, if◌then◌else◌, slice_get}
+use Rattle.std.proofs.Common.{◌≡◌, inl, inr, ℕ, zero, suc, Bool, true, false, Some, List, [], ◌∷◌, map, All, arith, sym, subst, ap, ◌∙◌}
+use Rattle.std.specs.Prelude.{slice_get}
 use Rattle.std.specs.List.{list_any}
 use Rattle.std.proofs.lemmas.List.{map-append}
 use Rattle.std.proofs.lemmas.List.Elements.{All-append}
-use Rattle.wesl_tree_names.specs.Path.{Text}
 use Rattle.wesl_tree_interner.specs.Different.{AreDifferent}
-use Rattle.wesl_tree_interner.specs.Interned.{with_text}
 use Rattle.wesl_tree_interner.proofs.Different.{none_passes, added}
 use Rattle.wesl_tree_interner.proofs.Interning.{get_unmap}
-use Rattle.wesl_link_tables.specs.Numbering.{IsLonger, Puts}
-use Rattle.wesl_link_tables.proofs.Lists.{longer_itself}
+use Rattle.wesl_link_tables.specs.Numbering.{Puts}
 
 module _ {K X : Type 0} (f : K → X) (eq : K → K → Bool) where
   module _ (equal : (k l : K) → f k ≡ f l → eq k l ≡ true) where

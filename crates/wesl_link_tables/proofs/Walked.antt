@@ -5,17 +5,14 @@ use Rattle.std.specs.Prelude.{if◌then◌else◌, option_map, OnOk, IfOk, Resul
 use Rattle.wesl_tree_names.specs.Path.{Path, path_view}
 use Rattle.wesl_tree_names.specs.declared.path.ModulePath.{ModulePath}
 use Rattle.wesl_tree_syntax.specs.Tree.{Forest, end, tree, before, forest_of, identifiers}
-use Rattle.wesl_tree_syntax.specs.View.{kind_tree, optional, path_tree, content_view, entry_view, item_view, texts_of, attributes_tree, import_view}
+use Rattle.wesl_tree_syntax.specs.View.{optional, path_tree, content_view, entry_view, item_view, texts_of, attributes_tree, import_view}
 use Rattle.wesl_tree_syntax.specs.declared.import.Import.{Import as Entry, out-Import}
 use Rattle.wesl_tree_syntax.specs.declared.import.ImportContent.{ImportContent, Item, Collection}
 use Rattle.wesl_tree_syntax.specs.declared.import.ImportItem.{ImportItem}
 use Rattle.wesl_tree_syntax.specs.declared.import.ImportStatement.{ImportStatement}
-use Rattle.wesl_tree_syntax.specs.declared.declaration.DeclarationKind.{DeclarationKind}
-use Rattle.wesl_tree_syntax.specs.declared.declaration.DeclarationKind.TheVariants as kinds
 use Rattle.wesl_cond_choices.specs.declared.place.Place.{Place}
 use Rattle.wesl_link_symbols.specs.declared.symbols.Import.{Import}
 use Rattle.wesl_link_tables.specs.Imports as imports
-use Rattle.wesl_link_tables.specs.Tables.{declared_name}
 use Rattle.wesl_link_tables.specs.Walks.{imported}
 use Rattle.wesl_link_tables.proofs.Nodes.{view_entry, view_item, view_collection}
 

@@ -1,7 +1,5 @@
-use Rattle.std.proofs.Common.{◌≡◌, None, refl, rules}
-use Rattle.wesl_json_form.specs.Reading.{word_in}
+use Rattle.std.proofs.Common.{rules}
 use Rattle.wesl_json_form.specs.View.{borrowed_view}
-use Rattle.wesl_json_form.specs.Words.{access_words}
 use Rattle.wesl_json_read.proofs.Noting.{may_lacks}
 use Rattle.wesl_json_read_statements.proofs.Spaces.{access_is, unknown_access}
 use Rattle.wesl_json_read_statements.proofs.declared.access.Goals as goal

@@ -1,7 +1,5 @@
-use Rattle.std.proofs.Common.{◌≡◌, None, refl, rules}
-use Rattle.wesl_json_form.specs.Reading.{word_in}
+use Rattle.std.proofs.Common.{rules}
 use Rattle.wesl_json_form.specs.View.{borrowed_view}
-use Rattle.wesl_json_form.specs.Words.{space_words}
 use Rattle.wesl_json_read_statements.proofs.Spaces.{space_is, space_lacks, unknown_space}
 use Rattle.wesl_json_read_statements.proofs.declared.space.Goals as goal
 

@@ -1,5 +1,4 @@
-use Rattle.std.proofs.Common.{◌≡◌, None, refl, rules}
-use Rattle.wesl_json_form.specs.Reading.{word_in}
+use Rattle.std.proofs.Common.{rules}
 use Rattle.wesl_json_form.specs.View.{borrowed_view}
 use Rattle.wesl_json_form.specs.Words.{assignment_words}
 use Rattle.wesl_json_read.proofs.Operators.{no_operator, operator_is, operator_lacks}

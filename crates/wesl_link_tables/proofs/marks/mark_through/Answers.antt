@@ -1,4 +1,4 @@
-use Rattle.std.proofs.Common.{[], ◌∷◌, All, sym, subst, take}
+use Rattle.std.proofs.Common.{[], ◌∷◌, sym, subst, take}
 use Rattle.wesl_tree_names.specs.Path.{path_view}
 use Rattle.wesl_link_split.specs.Split.{seen_imports}
 use Rattle.wesl_link_tables.specs.NumbersView.{numbering}
