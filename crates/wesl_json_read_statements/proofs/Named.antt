@@ -12,7 +12,6 @@ use Rattle.wesl_json_read_statements.specs.declared.words.StatementWord.{Stateme
 use Rattle.wesl_json_read_statements.specs.declared.words.StatementWord.TheVariants as stated
 
 module _ (spans : Bool) where
-
   statement-looked : (w : StatementWord) → look (statement_words spans) (statement_text w) ≡ Some (statement_of spans w)
   statement-looked stated.Block = refl
   statement-looked stated.Assign = refl
