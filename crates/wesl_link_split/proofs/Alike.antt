@@ -169,25 +169,28 @@ module _ {P N Q M : Type 0} (R : P → Q → Type 0) (S : N → M → Type 0) (a
     finds_same (one p n xs) (one p' n' xs') (one q x ys) nothing h k = absurd k
     finds_same (one p n xs) (one p' n' xs') (one q x ys) several h k = absurd k
 
-    sight_of_same : (c : Binder P N) (d : Binder Q M) → Same c d → split.sight_of a s c ≡ split.sight_of b t d
-    sight_of_same c d h =
-        if_equal (not c.declares && split.is_own_split a s c.path c.item) (not d.declares && split.is_own_split b t d.path d.item) (split.sight a s c.item c.stands) [] (split.sight b t d.item d.stands) []
-        (ap₂ (λ x y. not x && y) h.declares (own_split_same c.path d.path h.path c.item d.item h.item)) (sight_same c.item d.item h.item c.stands ∙ ap (split.sight b t d.item) h.stands) refl
+    -- which binders of its target an import sees, where those lead on that `c` and `d` are among
+    sight_if : (e : Binder P N) (f : Binder Q M) → Same e f → (c : Binder P N) (d : Binder Q M) → Same c d
+        → (if split.leads_on a s c then split.sight a s e.item e.stands else []) ≡ (if split.leads_on b t d then split.sight b t f.item f.stands else [])
+    sight_if e f k c d h =
+        if_equal (split.leads_on a s c) (split.leads_on b t d) (split.sight a s e.item e.stands) [] (split.sight b t f.item f.stands) []
+        (ap₂ (λ x y. not x && y) h.declares (own_split_same c.path d.path h.path c.item d.item h.item)) (sight_same e.item f.item k.item e.stands ∙ ap (split.sight b t f.item) k.stands) refl
 
-    found_of_same : (cs : List (Binder P N)) (ds : List (Binder Q M)) → AreSame cs ds → SameFinding (split.found_of a s cs) (split.found_of b t ds)
-    found_of_same [] [] h = tt
-    found_of_same (c ∷ cs) (d ∷ ds) h =
-        if_alike SameFinding (split.has_two_targets a (c ∷ cs)) (split.has_two_targets b (d ∷ ds)) several (one c.path c.item (split.sight_of a s c)) several (one d.path d.item (split.sight_of b t d))
-        (two_same (c ∷ cs) (d ∷ ds) h) tt (h.0.path, h.0.item, sight_of_same c d h.0)
-    found_of_same [] (d ∷ ds) h = absurd h
-    found_of_same (c ∷ cs) [] h = absurd h
+    found_of_same : (e : Binder P N) (f : Binder Q M) → Same e f → (cs : List (Binder P N)) (ds : List (Binder Q M)) → AreSame cs ds → SameFinding (split.found_of a s e cs) (split.found_of b t f ds)
+    found_of_same e f k [] [] h = tt
+    found_of_same e f k (c ∷ cs) (d ∷ ds) h =
+        if_alike SameFinding (split.has_two_targets a (c ∷ cs)) (split.has_two_targets b (d ∷ ds)) several (one c.path c.item (if split.leads_on a s c then split.sight a s e.item e.stands else []))
+        several (one d.path d.item (if split.leads_on b t d then split.sight b t f.item f.stands else []))
+        (two_same (c ∷ cs) (d ∷ ds) h) tt (h.0.path, h.0.item, sight_if e f k c d h.0)
+    found_of_same e f k [] (d ∷ ds) h = absurd h
+    found_of_same e f k (c ∷ cs) [] h = absurd h
 
     finding_same : (c : Binder P N) (d : Binder Q M) → Same c d → SameFinding (split.finding a s c) (split.finding b t d)
     finding_same c d h =
-        if_alike SameFinding (split.is_own_split a s c.path c.item) (split.is_own_split b t d.path d.item) (split.found_of a s (split.seen a s c.item c.stands)) (one c.path c.item [])
-        (split.found_of b t (split.seen b t d.item d.stands)) (one d.path d.item [])
+        if_alike SameFinding (split.is_own_split a s c.path c.item) (split.is_own_split b t d.path d.item) (split.found_of a s c (split.seen a s c.item c.stands)) (one c.path c.item [])
+        (split.found_of b t d (split.seen b t d.item d.stands)) (one d.path d.item [])
         (own_split_same c.path d.path h.path c.item d.item h.item)
-        (found_of_same (split.seen a s c.item c.stands) (split.seen b t d.item d.stands) (seen_from c.stands d.stands h.stands))
+        (found_of_same c d h (split.seen a s c.item c.stands) (split.seen b t d.item d.stands) (seen_from c.stands d.stands h.stands))
         (h.path, h.item, refl)
       where
         seen_from : (x y : Place) → x ≡ y → AreSame (split.seen a s c.item x) (split.seen b t d.item y)

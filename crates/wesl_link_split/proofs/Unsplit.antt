@@ -88,7 +88,7 @@ module _ (s : Scope PathId NameId) (h : split.has_split ids s.binders ≡ false)
   from_always b = ap (λ x. if x then (split.asker_of ids s b).stands else Always) (own_unsplit b.path b.item)
 
   order_two : (b : Ours) → split.order_of ids (split.finding ids s b) ≡ 2
-  order_two b = ap (λ x. split.order_of ids (if x then split.found_of ids s (split.seen ids s b.item b.stands) else split.one b.path b.item [])) (own_unsplit b.path b.item)
+  order_two b = ap (λ x. split.order_of ids (if x then split.found_of ids s b (split.seen ids s b.item b.stands) else split.one b.path b.item [])) (own_unsplit b.path b.item)
 
   all_lowest : (bs : List Ours) → split.lowest ids s bs ≡ bs
   all_lowest bs =

@@ -21,7 +21,7 @@ pub record Equality (P N : Type 0) : Type 0 where
   pub name : N → N → Bool
 
 -- How an import finds what it aims at, where that is a split name of its own module: not at all, with two targets, or with one.
--- Of one target counts which binders of it are seen, where it is again a split name of the module.
+-- Of one target counts which binders of the name are seen, where these lead on to a split name of the module again.
 pub data Finding (P N : Type 0) : Type 0 where
   nothing : Finding P N
   several : Finding P N
@@ -43,6 +43,7 @@ module _ {P N : Type 0} (same : Equality P N) where
   abbrev pub of_name : N → List (Binder P N) → List (Binder P N)
   of_name n bs = filter (λ b. same.name n b.bound) bs
 
+  -- two of these binders have different targets
   abbrev pub has_two_targets : List (Binder P N) → Bool
   has_two_targets bs = list_any (λ b. list_any (λ c. not (same_target b c)) bs) bs
 
@@ -53,6 +54,7 @@ module _ {P N : Type 0} (same : Equality P N) where
   abbrev pub has_split : List (Binder P N) → Bool
   has_split bs = list_any (λ b. is_split bs b.bound) bs
 
+  -- which imports are asked first: those that find nothing, then those that find two targets
   abbrev pub order_of : Finding P N → ℕ
   order_of nothing = 0
   order_of several = 1
@@ -95,15 +97,19 @@ module _ {P N : Type 0} (same : Equality P N) where
 
     -- ---- what an import of the module finds
 
-    abbrev pub sight_of : Binder P N → List Bool
-    sight_of b = if not b.declares && is_own_split b.path b.item then sight b.item b.stands else []
+    -- an import leads on from there to a split name of the module
+    abbrev pub leads_on : Binder P N → Bool
+    leads_on c = not c.declares && is_own_split c.path c.item
 
-    abbrev pub found_of : List (Binder P N) → Finding P N
-    found_of [] = nothing
-    found_of (c ∷ cs) = if has_two_targets (c ∷ cs) then several else one c.path c.item (sight_of c)
+    -- what an import finds of its target, a split name of the module, by the binders of that which it sees from where it stands
+    abbrev pub found_of : Binder P N → List (Binder P N) → Finding P N
+    found_of b [] = nothing
+    found_of b (c ∷ cs) =
+        if has_two_targets (c ∷ cs) then several else one c.path c.item (if leads_on c then sight b.item b.stands else [])
 
+    -- what an import finds of its target
     abbrev pub finding : Binder P N → Finding P N
-    finding b = if is_own_split b.path b.item then found_of (seen b.item b.stands) else one b.path b.item []
+    finding b = if is_own_split b.path b.item then found_of b (seen b.item b.stands) else one b.path b.item []
 
     -- the first import of the name with that target that finds it alike: itself at the latest
     abbrev pub first_or : Binder P N → List (Binder P N) → Binder P N
@@ -113,6 +119,8 @@ module _ {P N : Type 0} (same : Equality P N) where
     abbrev pub asker_of : Binder P N → Binder P N
     asker_of b = first_or b (filter (λ c. not c.declares && (same_target b c && same_finding (finding b) (finding c))) (of_name b.bound s.binders))
 
+    -- where an import asks from: of those that find alike the first asks for all, since a look-up from there is answered as
+    -- from the place of each
     abbrev pub from_of : Binder P N → Place
     from_of b = if is_own_split b.path b.item then (asker_of b).stands else Always
 
@@ -120,6 +128,7 @@ module _ {P N : Type 0} (same : Equality P N) where
     abbrev pub lowest : List (Binder P N) → List (Binder P N)
     lowest bs = filter (λ b. not (list_any (λ c. nat_lt (order_of (finding c)) (order_of (finding b))) bs)) bs
 
+    -- what an import asks for
     abbrev pub aim_of : Binder P N → Reference P N
     aim_of b = record { path = b.path; name = b.item; from = from_of b }
 

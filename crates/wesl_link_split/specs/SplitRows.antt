@@ -17,6 +17,9 @@ f = 102 ∷ []
 abbrev pub g : Text
 g = 103 ∷ []
 
+abbrev pub h : Text
+h = 104 ∷ []
+
 abbrev pub import_at : Text → Path → Text → ℕ → Binder Path Text
 import_at n path item j = record { bound = n; path = path; item = item; declares = false; stands = Import j }
 
@@ -42,6 +45,22 @@ through_f = record { origin = from_package f; components = [] }
 abbrev pub twice : Scope Path Text
 twice = record { own = root_path; binders = import_at f at_p f 0 ∷ import_at f at_p f 1 ∷ []; alive = [] }
 
+-- two imports f of one target, a split name g of their own module whose two imports aim at one split name h of it: the first
+-- sees one of these, the second both. A use 10 sees the second import alone.
+abbrev pub m1 : Binder Path Text
+m1 = import_at f root_path g 0
+
+abbrev pub m2 : Binder Path Text
+m2 = import_at f root_path g 1
+
+abbrev pub onward : Scope Path Text
+onward = record {
+  own = root_path;
+  binders = m1 ∷ m2 ∷ import_at f at_p f 2 ∷ import_at g root_path h 3 ∷ import_at g root_path h 4 ∷ import_at g at_p g 5
+      ∷ import_at h at_p h 6 ∷ import_at h at_q h 7 ∷ [];
+  alive = (Import 4 ∷ Import 7 ∷ []) ∷ (Import 0 ∷ Import 3 ∷ Import 6 ∷ []) ∷ (Import 1 ∷ Import 4 ∷ Import 7 ∷ Name 10 ∷ []) ∷ (Import 1 ∷ Import 3 ∷ Import 6 ∷ []) ∷ [];
+}
+
 pub record SplitRows : Type 0 where
   pub split : is_split texts either.binders f ≡ true
   pub under : plain_use either (Name 10) f ≡ refers f (record { path = at_p; name = f; from = Always } ∷ [])
@@ -56,3 +75,6 @@ pub record SplitRows : Type 0 where
   pub asked_once : plain_use twice (Name 7) f ≡ refers f (record { path = at_p; name = f; from = Always } ∷ [])
   pub path_once : path_use twice (Name 7) through_f g ≡ refers g (record { path = record { origin = root_path.origin; components = (112 ∷ []) ∷ f ∷ [] }; name = g; from = Always } ∷ [])
   pub asked : plain_use through (Name 7) f ≡ refers f (record { path = root_path; name = g; from = Import 1 } ∷ [])
+  pub onward_order : order_of texts (finding texts onward m2) ≡ 2
+  pub onward_from : from_of texts onward m2 ≡ Import 1
+  pub onward_asked : plain_use onward (Name 10) f ≡ refers f (record { path = root_path; name = g; from = Import 1 } ∷ [])

@@ -94,7 +94,7 @@ pub(crate) enum Finding {
     Nothing,
     /// It sees two targets.
     Several,
-    /// It sees one, the item of the module at a path; and which binders of that it sees, where it has several targets too.
+    /// It sees one, the item of the module at a path; and which binders it sees, where that has several targets in the module too.
     One(PathId, NameId, Vec<bool>),
 }
 

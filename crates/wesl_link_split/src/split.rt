@@ -1,6 +1,6 @@
 //! Names with several targets in one module, and what its names ask for, by numbers (WESL, "Imports" and
 //! "ConditionalTranslation").
-ghost use Rattle.std.specs.Prelude.{◌≡◌, ◌++◌, [], length, map, take, IfOk, OnOk, All};
+ghost use Rattle.std.specs.Prelude.{◌≡◌, ◌++◌, [], if◌then◌else◌, length, map, take, IfOk, OnOk, All};
 ghost use Rattle.std.specs.List.{list_any};
 ghost use Rattle.wesl_link_split.specs.Grouped as listed;
 ghost use Rattle.wesl_link_split.specs.Grouped.{ids, finding_view, AreGrouped, GroupsNext, IsStart, AddsUnless};
@@ -300,28 +300,37 @@ impl Scope {
 
     // ---- what the imports of the module find
 
-    /// Which binders of its target a binder sees, where it is an import whose target has several in this module.
-    fn sight_of(
+    /// Whether a binder is an import whose target has several targets in this module.
+    fn leads_on(&self, binder: &Binder<PathId, NameId>) -> bool
+        ensures { result ≡ split.leads_on ids (scope_view self.now) binder.now }
+    {
+        !binder.declares && self.is_own_split(binder.path, binder.item)
+    }
+
+    /// Which binders of its target a binder sees, if that counts.
+    fn sight_if(
         &self,
         alloc: Global,
+        counts: bool,
         binder: &Binder<PathId, NameId>,
     ) -> Result<Vec<bool>, AllocError>
-        ensures { IfOk result (λ v. v.items ≡ split.sight_of ids (scope_view self.now) binder.now) }
+        ensures { IfOk result (λ v. v.items ≡ (if counts then split.sight ids (scope_view self.now) binder.now.item binder.now.stands else [])) }
     {
         let mut sight = Vec::new(alloc);
-        if !binder.declares && self.is_own_split(binder.path, binder.item) {
+        if counts {
             self.add_sight(&mut sight, binder.item, binder.stands)?;
         }
         Ok(sight)
     }
 
-    /// What it is to see these binders of a name.
+    /// What a binder finds that sees these binders of its target.
     fn found_of(
         &self,
         alloc: Global,
+        binder: &Binder<PathId, NameId>,
         seen: &[Binder<PathId, NameId>],
     ) -> Result<Finding, AllocError>
-        ensures { IfOk result (λ f. finding_view f ≡ split.found_of ids (scope_view self.now) seen.now) }
+        ensures { IfOk result (λ f. finding_view f ≡ split.found_of ids (scope_view self.now) binder.now seen.now) }
     {
         let Some(first) = seen.first() else {
             return Ok(Finding::Nothing);
@@ -329,7 +338,7 @@ impl Scope {
         if has_two_targets(seen) {
             return Ok(Finding::Several);
         }
-        let sight = self.sight_of(alloc, first)?;
+        let sight = self.sight_if(alloc, self.leads_on(first), binder)?;
         Ok(Finding::One(first.path, first.item, sight))
     }
 
@@ -341,7 +350,7 @@ impl Scope {
             return Ok(Finding::One(binder.path, binder.item, Vec::new(alloc)));
         }
         let seen = self.seen(alloc, binder.item, binder.stands)?;
-        self.found_of(alloc, &seen)
+        self.found_of(alloc, binder, &seen)
     }
 
     /// Adds how each of these binders finds what it aims at.

@@ -16,4 +16,7 @@ returns c = record {
   asked_once = refl;
   path_once = refl;
   asked = refl;
+  onward_order = refl;
+  onward_from = refl;
+  onward_asked = refl;
 }
