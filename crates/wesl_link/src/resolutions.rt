@@ -124,7 +124,7 @@ impl Resolutions {
     /// for step in resolutions.reason(alloc, &path, "light")?.iter().flatten() {
     ///     match step {
     ///         Step::KeptName(name) => println!(rt; "{name} is kept")?,
-    ///         Step::Module(module) => println!(rt; "a const_assert of {module}")?,
+    ///         Step::Module(module) => println!(rt; "{module}, by a const_assert or as a whole")?,
     ///         Step::Item(module, name) => println!(rt; "{name} of {module}")?,
     ///     }
     /// }

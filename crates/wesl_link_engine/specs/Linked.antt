@@ -27,8 +27,8 @@ abbrev pub AskedLeadsTo : List (Table Path Text) → Path → Reference Path Tex
 AskedLeadsTo w own asked s = LeadsTo w (record { asker = Some own; path = asked.path; name = asked.name; from = asked.from }) s
 
 -- What an identifier of the module at `own` stands for: a declared name for its symbol, a name of a block for itself there,
--- a reference for what one of those that it asks for leads to, and where it asks for nothing, for its name. A name that is
--- unclear stands for nothing.
+-- a reference for what that leads to which it asks for, and where it asks for nothing, for its name. A name that is unclear
+-- stands for nothing.
 abbrev pub StandsFor : List (Table Path Text) → Path → Use Path Text → Denotation → Type 0
 StandsFor w own (declares n) d = d ≡ symbol own n
 StandsFor w own (in_block b n) d = d ≡ local own b n

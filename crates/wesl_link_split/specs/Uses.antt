@@ -9,7 +9,7 @@ use Rattle.wesl_link_split.specs.Split.{Equality, Binder, Scope, has_two_targets
 pub data Use (P I : Type 0) : Type 0 where
   -- the name that a global declaration binds
   declares : I → Use P I
-  -- a name that no block of a function binds, and what it asks for: nothing where it is a word or the module does not bind it
+  -- a name that no block of a function binds, and what it asks for: nothing where it is a word or no binder of it is seen
   refers : I → List (Reference P I) → Use P I
   -- such a name, and the name that stands for two things there: itself, or the package of its path
   unclear : I → I → Use P I

@@ -9,7 +9,7 @@ use Rattle.wesl_link_tables.specs.declared.marks.Mark.{Mark}
 use Rattle.wesl_link_tables.specs.declared.marks.Mark.TheVariants as marks
 
 module _ (nb : Numbering) where
-  -- the mark says by numbers what an identifier is; of several things that it asks for the mark holds one
+  -- the mark says by numbers what an identifier is
   abbrev pub IsMark : Mark → Use Path Text → Type 0
   IsMark (marks.Declares i) (declares x) = NameAt nb i x
   IsMark (marks.Local b i) (local k x) = (b ≡ k) × NameAt nb i x

@@ -39,7 +39,7 @@ module _ {P N Q M : Type 0} (R : P → Q → Type 0) (S : N → M → Type 0) wh
 abbrev pub IsLonger : {X : Type 0} → List X → List X → Type 0
 IsLonger {X} old new = (more : List X) × (new ≡ old ++ more)
 
--- a key that equals none goes last; else the keys stay as they are
+-- the keys stay as they are, as they do where memory is wanting, or a key that equals none of them goes last
 abbrev pub Puts : {K : Type 0} → (K → K → Bool) → List K → K → List K → Type 0
 Puts eq old key new = (new ≡ old) ⊎ ((list_any (eq key) old ≡ false) × (new ≡ old ++ key ∷ []))
 

@@ -1,8 +1,17 @@
 -- The names and paths that numbers stand for, once each that is wanted has one.
-use Rattle.std.specs.Prelude.{map, string_bytes}
-use Rattle.wesl_tree_names.specs.Path.{path_view}
+use Rattle.std.specs.Prelude.{List, map, string_bytes}
+use Rattle.wesl_tree_names.specs.Path.{Text, Path, path_view}
 use Rattle.wesl_link_tables.specs.Numbering.{Numbering}
+use Rattle.wesl_link_tables.specs.declared.texts.NameTexts.{NameTexts}
 use Rattle.wesl_link_tables.specs.declared.texts.NumberTexts.{NumberTexts}
+use Rattle.wesl_link_tables.specs.declared.texts.PathTexts.{PathTexts}
+
+-- the names in the order of their numbers, and the paths
+abbrev pub names_told : NameTexts → List Text
+names_told t = map string_bytes t.texts.items
+
+abbrev pub paths_told : PathTexts → List Path
+paths_told t = map path_view t.paths.items
 
 abbrev pub numbering_of_texts : NumberTexts → Numbering
-numbering_of_texts t = record { names = map string_bytes t.names.texts.items; paths = map path_view t.paths.paths.items }
+numbering_of_texts t = record { names = names_told t.names; paths = paths_told t.paths }

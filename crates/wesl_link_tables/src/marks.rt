@@ -25,7 +25,7 @@ use wesl_tree_names::{Ident, ModulePath, PathOrigin};
 pub enum Mark {
     /// the name that the declaration binds
     Declares(NameId),
-    /// a name that asks for this; of several that it asks for, one
+    /// a name that asks for this
     Asks(Reference<PathId, NameId>),
     /// a name that stands for two things, or whose path does
     Unclear(NameId),

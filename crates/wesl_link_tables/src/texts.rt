@@ -17,6 +17,8 @@ pub struct NameTexts {
 }
 
 impl NameTexts {
+    ghost use Rattle.wesl_link_tables.specs.TextsView.{names_told};
+
     /// These names, no two of which are equal.
     pub(crate) fn new(texts: Vec<String>) -> NameTexts
         requires different { AreDifferent (map string_bytes texts.items) }
@@ -27,8 +29,8 @@ impl NameTexts {
 
     /// The name of a number, if it has one. It takes no memory.
     pub fn name(&self, id: NameId) -> Option<&str>
-        ensures found { IfSome result (λ x. slice_get (map string_bytes self.now.texts.items) id.0 ≡ Some x.now) }
-        ensures none { IfNone result (slice_get (map string_bytes self.now.texts.items) id.0 ≡ None) }
+        ensures found { IfSome result (λ x. slice_get (names_told self.now) id.0 ≡ Some x.now) }
+        ensures none { IfNone result (slice_get (names_told self.now) id.0 ≡ None) }
     {
         match self.texts.get(id.0) {
             Some(name) => Some(name.as_str()),
@@ -38,8 +40,8 @@ impl NameTexts {
 
     /// The number that a name has, if it has one: each name is looked at once. It takes no memory.
     pub fn find(&self, name: &str) -> Option<NameId>
-        ensures found { IfSome result (λ n. slice_get (map string_bytes self.now.texts.items) n.0 ≡ Some name.now) }
-        ensures none { IfNone result ((i : ℕ) → slice_get (map string_bytes self.now.texts.items) i ≡ Some name.now → ⊥) }
+        ensures found { IfSome result (λ n. slice_get (names_told self.now) n.0 ≡ Some name.now) }
+        ensures none { IfNone result ((i : ℕ) → slice_get (names_told self.now) i ≡ Some name.now → ⊥) }
     {
         for (place, text) in self.texts.iter().enumerate() {
             if text.as_str() == name {
@@ -59,6 +61,8 @@ pub struct PathTexts {
 }
 
 impl PathTexts {
+    ghost use Rattle.wesl_link_tables.specs.TextsView.{paths_told};
+
     /// These paths, no two of which are equal.
     pub(crate) fn new(paths: Vec<ModulePath>) -> PathTexts
         requires different { AreDifferent (map path_view paths.items) }
@@ -70,16 +74,16 @@ impl PathTexts {
 
     /// The path of a number, if it has one. It takes no memory.
     pub fn path(&self, id: PathId) -> Option<&ModulePath>
-        ensures found { IfSome result (λ p. slice_get (map path_view self.now.paths.items) id.0 ≡ Some (path_view p.now)) }
-        ensures none { IfNone result (slice_get (map path_view self.now.paths.items) id.0 ≡ None) }
+        ensures found { IfSome result (λ p. slice_get (paths_told self.now) id.0 ≡ Some (path_view p.now)) }
+        ensures none { IfNone result (slice_get (paths_told self.now) id.0 ≡ None) }
     {
         self.paths.get(id.0)
     }
 
     /// The number that a path has, if it has one: each path is looked at once. It takes no memory.
     pub fn find(&self, path: &ModulePath) -> Option<PathId>
-        ensures found { IfSome result (λ p. slice_get (map path_view self.now.paths.items) p.0 ≡ Some (path_view path.now)) }
-        ensures none { IfNone result ((i : ℕ) → slice_get (map path_view self.now.paths.items) i ≡ Some (path_view path.now) → ⊥) }
+        ensures found { IfSome result (λ p. slice_get (paths_told self.now) p.0 ≡ Some (path_view path.now)) }
+        ensures none { IfNone result ((i : ℕ) → slice_get (paths_told self.now) i ≡ Some (path_view path.now) → ⊥) }
     {
         law_of_equality();
         for (place, one) in self.paths.iter().enumerate() {
