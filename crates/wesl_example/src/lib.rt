@@ -6,12 +6,14 @@
 
 mod faults;
 mod mapped;
+mod steps;
 mod together;
 
 pub use faults::{condition_faults, unit_faults};
 pub use mapped::{MappedLink, link_by, name_all};
 use serde_json::Value;
 use std::alloc::Global;
+pub use steps::names_given;
 pub use together::are_together;
 use wesl_cond::{Feature, Features};
 use wesl_json::{unit_of_value, value_of_unit};

@@ -19,6 +19,9 @@ pub fn answered(row: Row<'_>) -> Value {
         "wesl::run on each beginning" => program::refused_beginnings(row),
         "wesl::line_of_bytes" => program::line_of_text(row),
         "wesl_example::told" => row.printed(wesl_example::told(alloc, row.text("text"))),
+        "wesl_example::names_given" => {
+            row.printed(wesl_example::names_given(alloc, row.text("text")))
+        }
         "wesl_example::warnings" => {
             let names = row.owned_texts("names");
             let builtins = Builtins::new(names, Vec::new(alloc), Vec::new(alloc));
