@@ -49,7 +49,7 @@ module _ (s : Scope PathId NameId) (h : split.has_split ids s.binders ≡ false)
           ≡ record i {
             place = if a then i.place else Always;
             from = if b then (split.asker_of ids s (split.binder_of i)).stands else Always;
-            order = split.order_of ids (if b then split.found_of ids s (split.seen ids s i.item i.place) else split.one i.path i.item []);
+            order = split.order_of ids (if b then split.found_of ids s (split.binder_of i) (split.seen ids s i.item i.place) else split.one i.path i.item []);
           }
       by false false e f = refl
       by true b e f = absurd (let z : ⊥ = cc in z)
